@@ -15,12 +15,12 @@ _clim() {
             ;;
         explain)
             # Each line begins with the number of a fault and its name.
-            while read -r line; do COMPREPLY+=("$line"); done < <(compgen -W "$(clim explain 2>/dev/null | cut -d : -f 1) --help" -- "$word")
+            while read -r line; do COMPREPLY+=("$line"); done < <(compgen -W "$(clim explain 2>/dev/null | cut -d : -f 1) --json --help" -- "$word")
             ;;
         *)
             local flags='--bare --help'
             if [ "${COMP_WORDS[1]}" = check ]; then flags="$flags --budget --files-from -0 --quiet --where"; fi
-            case ${COMP_WORDS[1]} in root | check | show | types | outline | token | where | compare) flags="$flags --json" ;; esac
+            case ${COMP_WORDS[1]} in root | check | show | types | outline | strings | token | where | digest | compare) flags="$flags --json" ;; esac
             if [ "${COMP_WORDS[1]}" = show ]; then flags="$flags --names --until-fault"; fi
             if [ "${COMP_WORDS[1]}" = compare ]; then flags="$flags --ignore"; fi
             # A list of files comes from the standard input alone. The budget is a number, and a column a name.

@@ -21,7 +21,7 @@ complete -c clim -n "not __fish_seen_subcommand_from $subcommands" -a explain -d
 complete -c clim -n "not __fish_seen_subcommand_from $subcommands" -a help -d 'Print this message or the help of the given subcommand(s)'
 complete -c clim -n "__fish_seen_subcommand_from $readers" -F
 complete -c clim -n "__fish_seen_subcommand_from $readers" -l bare -d 'FILE is a metadata root, not a PE file'
-complete -c clim -n "__fish_seen_subcommand_from root check show types outline token where compare" -l json -d 'Print a JSON value on each line'
+complete -c clim -n "__fish_seen_subcommand_from root check show types outline strings token where digest compare explain" -l json -d 'Print a JSON value on each line'
 complete -c clim -n "__fish_seen_subcommand_from check" -l budget -x -d 'Check at most N bytes of signatures, or stop with exit status 3'
 complete -c clim -n "__fish_seen_subcommand_from check" -l files-from -x -a - -d 'Read the names of the files from standard input, each ended by a NUL'
 complete -c clim -n "__fish_seen_subcommand_from check" -s 0 -d "The same as '--files-from -'"

@@ -35,6 +35,9 @@ COMMANDS = """
 1 check --where -q FILE
 1 check --where --budget N FILE
 1 check --where --json FILE
+1 check --where --json FILES
+1 check --where --json -0 LIST
+1 check --json --budget N FILES
 3 show FILE
 2 show FILE TABLE
 3 show --names FILE
@@ -47,6 +50,7 @@ COMMANDS = """
 2 show --until-fault --names FILE
 1 show --until-fault --names FILE TABLE
 1 show --until-fault --json FILE
+1 show --until-fault --json FILE TABLE
 3 types FILE
 3 types --json FILE
 4 outline FILE
@@ -64,6 +68,7 @@ COMMANDS = """
 3 digest FILE
 2 digest FILES
 1 digest --json FILE
+1 digest --json FILES
 4 compare FILE OTHER
 3 compare --json FILE OTHER
 2 compare --ignore COLUMN FILE OTHER
@@ -72,13 +77,15 @@ COMMANDS = """
 3 rewrite FILE OUT
 1 explain CODE
 1 explain CODE CODE
+1 explain --json CODE
+1 explain --json CODE CODE
 3 ARGUMENTS
 """
 CHOICES = [tuple(it.split(" ", 1)) for it in COMMANDS.strip().splitlines()]
 # Commands that are run once. The last one is as long as reading 2^30 bytes takes.
 SUBCOMMANDS = ["root", "check", "show", "types", "outline", "strings", "token", "where", "rewrite", "digest", "compare", "explain", "help"]
 ONCE = [
-    [], ["--help"], ["-h"], ["help"], ["--version"], ["-V"], ["explain"], ["help", "help"], ["help", "chekc"], ["help", "root", "x"],
+    [], ["--help"], ["-h"], ["help"], ["--version"], ["-V"], ["explain"], ["help", "help"], ["help", "chekc"], ["help", "root", "x"], ["explain", "--json"],
     *([it, "--help"] for it in SUBCOMMANDS), *([it, "-h"] for it in SUBCOMMANDS), *(["help", it] for it in SUBCOMMANDS),
     *([it] for it in SUBCOMMANDS), *(["explain", str(code)] for code in range(1000)), ["check", "/dev/zero"],
 ]

@@ -1,5 +1,6 @@
 """The rows of a file as text, by ECMA-335 II.22 and II.24.2. It shares no code with the library."""
 
+import json
 import uuid
 
 from walk import CODED, HEAPS, NUMBERS, TABLES, escaped
@@ -9,6 +10,30 @@ LISTS = {"FieldList": "Field", "MethodList": "MethodDef", "ParamList": "Param"}
 LISTS |= {"EventList": "Event", "PropertyList": "Property"}
 # The first tag of a coded index, if it is not 0 (II.24.2.6).
 FIRST_TAGS = {"CustomAttributeType": 2}
+# The kind of each column, by its table and its name.
+KINDS = {(number, it.split()[0]): it.split()[1] for number, (_, columns) in TABLES.items() for it in columns.split(", ")}
+
+
+def cell_text(table, column, value):
+    """The text of a cell, from its JSON value."""
+    kind = KINDS[table, column]
+    if value is None:
+        return "null"
+    if kind == "text":
+        return f'"{escaped(value.encode())}"'
+    if kind == "guid":
+        return f"{{{value}}}"
+    if kind == "blob":
+        return f"<{value['blob'] if isinstance(value, dict) else value}>"
+    return f"+{value}" if column in LISTS else str(value)
+
+
+def row_line(line):
+    """The line of `show --names` that says the same as an object of `show --json`."""
+    value = json.loads(line)
+    table, row, token = NUMBERS[value.pop("table")], value.pop("row"), value.pop("token")
+    cells = " ".join(f"{column}={cell_text(table, column, it)}" for column, it in value.items())
+    return f"{token} {cells}" if token == f"{table:02x}{row:06x}" else None
 
 
 class Rows:

@@ -1,6 +1,7 @@
 """A plain walk over a file, by ECMA-335 II.22 to II.25. It shares no code with the library."""
 
 import bisect
+import json
 
 # The number of cells of a heap entry that have a line.
 MOST_CELLS = 10
@@ -127,6 +128,24 @@ def escaped(name):
 def cell_words(table, row, index, column):
     """What a cell is, in a line."""
     return f"table {table:02X} {TABLES[table][0]} row {row} column {index} {column}"
+
+
+def structure_line(line):
+    """The line of text that says the same as a line of JSON; None if an object has other members than those of its kind."""
+    value = json.loads(line)
+    keys = list(value)
+    what = value["structure"]
+    if keys[3:] == ["stream", "token"]:
+        what = f"{what} {value['token']}" if value["stream"] == "#US" else None
+    elif keys[3:] in (["table", "row", "column"], ["stream", "table", "row", "column"]):
+        table = NUMBERS[value["table"]]
+        columns = [it.split()[0] for it in TABLES[table][1].split(", ")]
+        cell = cell_words(table, value["row"], columns.index(value["column"]), value["column"])
+        heaps = {"string": "#Strings", "guid": "#GUID", "blob": "#Blob"}
+        what = cell if what == "cell" else f"{what} of {cell}" if heaps[what] == value["stream"] else None
+    elif keys[3:]:
+        what = None
+    return f"{value['offset']} {value['size']} {what}" if keys[:3] == ["offset", "size", "structure"] else None
 
 
 class Walk:

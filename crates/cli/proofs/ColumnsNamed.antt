@@ -12,7 +12,7 @@ use Rattle.table_schema.specs.declared.table.TableId.{TableId}
 use Rattle.table_schema.specs.declared.table.TableId.TheVariants.{Module}
 use Rattle.table_schema.specs.CellColumns.{cell_count}
 use Rattle.table_schema.specs.Tables.{table_index_of, table_name, tables}
-use Rattle.cli_reports.specs.Columns.{column_name}
+use Rattle.cli_lines.specs.Names.{column_name}
 use Rattle.comparison.specs.Ignored.{AreOthersSame, is_ignored, no_columns}
 use Rattle.comparison.specs.declared.ignored.IgnoredColumns.{IgnoredColumns}
 use Rattle.cli.specs.Columns.{NamesColumn, NamesIgnored, NamesSome}

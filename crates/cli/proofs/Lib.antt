@@ -1,5 +1,4 @@
 pub mod Explaining
-pub mod Outlining
-pub mod ShowingUntil
 pub mod ColumnsNamed
 pub mod TokensRead
+pub mod RulesNamed

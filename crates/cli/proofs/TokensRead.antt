@@ -1,15 +1,11 @@
 -- The tokens that arguments are, one after another.
-use Rattle.std.proofs.Common.{◌≡◌, ◌∙◌, ◌+◌, ◌<◌, ℕ, List, [], ◌∷◌, ◌++◌, get_or, length, map, take, refl, ap, sym, arith}
+use Rattle.std.proofs.Common.{◌≡◌, ◌∙◌, ◌+◌, ◌<◌, ℕ, List, [], ◌∷◌, ◌++◌, get_or, length, map, take, ap, sym}
 use Rattle.std.specs.Borrow.{Bor}
 use Rattle.std.specs.Str.Parse.{digits_value}
 use Rattle.std.proofs.lemmas.List.{map-append}
 use Rattle.std.proofs.lemmas.List.Elements.{All-nil}
 use Rattle.cli_files.specs.Numbers.{IsHexNumber}
-use Rattle.cli_faults.specs.declared.failure.Failure.{Failure}
-use Rattle.cli_reports.specs.declared.report.Form.{Form}
-use Rattle.cli.specs.Tasks.{AreTokens, IsSeveralTask, IsTokenTask, IsTokensTask}
-use Rattle.cli.specs.declared.task.FileTask.{FileTask}
-use Rattle.std.specs.Prelude.{Result}
+use Rattle.cli.specs.Tasks.{AreTokens}
 use Rattle.cli.proofs.Explaining.{one_more, take_more}
 
 pub none_read : (numbers : List ℕ) → numbers ≡ [] → AreTokens [] numbers
@@ -26,16 +22,3 @@ more_read words k d numbers more number lt before is value pushed = (
       ∙ sym (map-append (λ (word : Bor (List ℕ)). digits_value 16 word.now) (take k words) (get_or words k d ∷ []))
       ∙ ap (λ (ws : List (Bor (List ℕ))). map (λ (word : Bor (List ℕ)). digits_value 16 word.now) ws) (sym (take_more words k d lt)),
 )
-
--- several arguments, or none
-pub several : (form : Form) (words : List (Bor (List ℕ))) (result : Result FileTask Failure) → (length words ≡ 1 → ⊥) → IsSeveralTask form words result → IsTokensTask form words result
-several form [] result other is = is
-several form (word ∷ []) result other is = absurd (other refl)
-several form (word ∷ next ∷ more) result other is = is
-
--- one argument
-pub one : (form : Form) (words : List (Bor (List ℕ))) (d : Bor (List ℕ)) (result : Result FileTask Failure) → length words ≡ 1 → IsTokenTask form (get_or words 0 d).now result
-    → IsTokensTask form words result
-one form [] d result is task = absurd (omega (arith, is))
-one form (word ∷ []) d result is task = task
-one form (word ∷ next ∷ more) d result is task = absurd (omega (arith, is))

@@ -7,7 +7,7 @@ use Rattle.table_schema.specs.CellColumns.{cell_count}
 use Rattle.table_schema.specs.Tables.{table_name}
 use Rattle.comparison.specs.Ignored.{is_ignored}
 use Rattle.comparison.specs.declared.ignored.IgnoredColumns.{IgnoredColumns}
-use Rattle.cli_reports.specs.Columns.{column_name}
+use Rattle.cli_lines.specs.Names.{column_name}
 
 -- the argument names this column: the name of the table, a dot, whose ASCII code is 46, and the name of a column that has
 -- cells

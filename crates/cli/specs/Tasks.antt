@@ -1,5 +1,5 @@
 -- What the arguments ask the program to do.
-use Rattle.std.specs.Prelude.{◌≡◌, ℕ, ◌%◌, ◌^◌, ◌||◌, Bool, true, false, List, [], ◌∷◌, ◌++◌, Option, Some, None, Result, Ok, Err, IsOkAnd, MatchOption, MatchResult, codes, if◌then◌else◌, is_some, map}
+use Rattle.std.specs.Prelude.{◌≡◌, ℕ, ◌%◌, ◌^◌, Bool, true, false, List, [], ◌∷◌, ◌++◌, Option, Some, None, Result, Ok, Err, IsOkAnd, MatchOption, MatchResult, codes, if◌then◌else◌, map}
 use Rattle.std.specs.List.{All}
 use Rattle.std.specs.Borrow.{Bor}
 use Rattle.std.specs.Str.{bytes_eq}
@@ -12,23 +12,86 @@ use Rattle.cli_faults.specs.declared.failure.Failure.{Failure}
 use Rattle.cli_faults.specs.declared.failure.Failure.TheVariants as failed
 use Rattle.cli_faults.specs.declared.usage_error.UsageError.TheVariants as wrong
 use Rattle.table_schema.specs.declared.table.TableId.{TableId}
-use Rattle.cli_reports.specs.declared.report.Report.TheVariants as report
 use Rattle.comparison.specs.declared.ignored.IgnoredColumns.{IgnoredColumns}
-use Rattle.cli.specs.Columns.{AreNamed, NamesSome}
-use Rattle.cli.specs.declared.task.FileTask.{FileTask}
-use Rattle.cli.specs.declared.task.FileTask.TheVariants as work
-use Rattle.cli.specs.declared.task.Task.{Task}
-use Rattle.cli.specs.declared.task.Task.TheVariants as task
+use Rattle.cli_cells.specs.declared.row_lines.Names.{Names}
+use Rattle.cli_cells.specs.declared.row_lines.Names.TheVariants.{Hidden, Shown}
 use Rattle.cli_files.specs.Names.{IsFullName, NamesCode, NamesTable}
 use Rattle.cli_files.specs.Numbers.{IsHexNumber, IsOffset, IsTypeToken}
-use Rattle.cli_prefix.specs.Before.{report_of}
+use Rattle.cli_input.specs.declared.opened.Input.{Input}
+use Rattle.cli_input.specs.declared.opened.Input.TheVariants.{BareRoot, File}
+use Rattle.cli_lines.specs.declared.parts.Form.{Form}
+use Rattle.cli_lines.specs.declared.parts.Form.TheVariants.{JsonLines, Text}
 use Rattle.cli_outline.specs.declared.subject.Subject.{Subject}
 use Rattle.cli_outline.specs.declared.subject.Subject.TheVariants as subject
-use Rattle.cli_commands.specs.Forms.{form_of}
-use Rattle.cli_reports.specs.declared.row_lines.Names.{Names}
-use Rattle.cli_reports.specs.declared.row_lines.Names.TheVariants.{Hidden, Shown}
-use Rattle.cli_reports.specs.declared.report.Form.{Form}
-use Rattle.cli_reports.specs.declared.report.Form.TheVariants.{JsonLines, Text}
+use Rattle.cli_runs.specs.declared.report.Listing.TheVariants as listing
+use Rattle.cli_runs.specs.declared.report.Naming.{Naming}
+use Rattle.cli_runs.specs.declared.report.Naming.TheVariants.{Alone, Named}
+use Rattle.cli_runs.specs.declared.report.Report.{Report}
+use Rattle.cli_runs.specs.declared.report.Report.TheVariants as report
+use Rattle.cli_runs.specs.declared.report.Request.{Request}
+use Rattle.cli_runs.specs.declared.report.Verdict.{Verdict}
+use Rattle.cli_runs.specs.declared.report.Verdict.TheVariants.{Explained, Line, Quiet}
+use Rattle.cli.specs.Columns.{AreNamed, NamesSome}
+use Rattle.cli.specs.declared.task.Task.{Task}
+use Rattle.cli.specs.declared.task.Task.TheVariants as task
+
+-- ---- what is asked of each file
+
+-- the form that the arguments ask for, by whether they have `--json`
+abbrev pub form_of : Bool → Form
+form_of true = JsonLines
+form_of false = Text
+
+-- what the files are, by whether the arguments have `--bare`
+abbrev pub input_of : Bool → Input
+input_of true = BareRoot
+input_of false = File
+
+-- whether files are named: not the only one, unless the arguments have `-q`
+abbrev pub naming_of : Bool → List (Bor (List ℕ)) → Naming
+naming_of false (file ∷ []) = Alone
+naming_of quiet files = Named
+
+-- this report, as the arguments ask for it
+abbrev pub request_of : Ask → Naming → Report → Request
+request_of ask naming of = record { report = of; form = form_of ask.json; naming = naming; input = input_of ask.bare; budget = ask.budget }
+
+-- the task is a report on the files that the arguments name
+abbrev pub files_task : Ask → List (Bor (List ℕ)) → Report → Result Task Failure
+files_task ask [] of = Err (failed.Usage wrong.NoFile)
+files_task ask files of = Ok (task.OnFiles (request_of ask (naming_of ask.quiet files) of))
+
+-- the same; a failure if there is no such report
+abbrev pub report_task : Ask → Result Report Failure → Result Task Failure
+report_task ask (Ok of) = files_task ask ask.files.items of
+report_task ask (Err failure) = Err failure
+
+abbrev pub IsReportTask : Ask → (Result Report Failure → Type 0) → Result Task Failure → Type 0
+IsReportTask ask is_report result = (of : Result Report Failure) × is_report of × (result ≡ report_task ask of)
+
+-- the task is a report on the files of a list, besides which no file may be given
+abbrev pub list_task_with : Ask → List (Bor (List ℕ)) → Report → Result Task Failure
+list_task_with ask [] of = Ok (task.OnList (request_of ask Named of))
+list_task_with ask (file ∷ more) of = Err (failed.Usage wrong.FilesAndList)
+
+abbrev pub list_task : Ask → Report → Result Task Failure
+list_task ask of = list_task_with ask ask.files.items of
+
+-- ---- the reports
+
+-- what `check` prints, by whether the arguments have `-q` and `--where`
+abbrev pub verdict_of : Bool → Bool → Verdict
+verdict_of true locates = Quiet
+verdict_of false true = Explained
+verdict_of false false = Line
+
+-- the task of `check`; a list of files comes from the standard input alone
+abbrev pub check_task_from : Option (Bor (List ℕ)) → Ask → Report → Result Task Failure
+check_task_from None ask of = if ask.null then list_task ask of else report_task ask (Ok of)
+check_task_from (Some word) ask of = if bytes_eq word.now (codes "-") then list_task ask of else Err (failed.Usage (wrong.NoList word))
+
+abbrev pub check_task : Ask → Result Task Failure
+check_task ask = check_task_from ask.files_from ask (report.Check (verdict_of ask.quiet ask.locates))
 
 -- the failure says that this argument is not a token
 abbrev pub IsNoToken : List ℕ → Failure → Type 0
@@ -55,46 +118,10 @@ abbrev pub IsNoOffset : List ℕ → Failure → Type 0
 IsNoOffset given (failed.Usage (wrong.NoOffset word)) = word.now ≡ given
 IsNoOffset given _ = ⊥
 
--- the task is to print what the token names, in this form, if the argument is a token; else the failure says that it is not
-abbrev pub IsTokenTask : Form → List ℕ → Result FileTask Failure → Type 0
-IsTokenTask form hex result =
-    MatchResult result (λ made. IsHexNumber hex × (made ≡ work.Print (report.Token (digits_value 16 hex)) form))
-    (λ failure. IsNoToken hex failure × (¬ IsHexNumber hex))
-
 -- this is the first of the arguments that names nothing
 abbrev pub IsFirstUnknown : (Bor (List ℕ) → Type 0) → List (Bor (List ℕ)) → Bor (List ℕ) → Type 0
 IsFirstUnknown Names words word =
     (before later : List (Bor (List ℕ))) × (words ≡ before ++ word ∷ later) × All Names before × (¬ Names word)
-
--- the arguments are tokens, with these numbers
-abbrev pub AreTokens : List (Bor (List ℕ)) → List ℕ → Type 0
-AreTokens words numbers = All (λ word. IsHexNumber word.now) words × (numbers ≡ map (λ word. digits_value 16 word.now) words)
-
--- the failure says that an argument, the first that is not a token, is not; or memory ran out
-abbrev pub IsFirstNoToken : List (Bor (List ℕ)) → Failure → Type 0
-IsFirstNoToken words failed.OutOfMemory = Unit {0}
-IsFirstNoToken words failure =
-    (word : Bor (List ℕ)) × IsFirstUnknown (λ word. IsHexNumber word.now) words word × IsNoToken word.now failure
-
--- the task is to print what each of these numbers names, in this form
-abbrev pub IsOnTokens : Form → List (Bor (List ℕ)) → FileTask → Type 0
-IsOnTokens form words (work.Tokens numbers asked) = AreTokens words numbers.items × (asked ≡ form)
-IsOnTokens form words _ = ⊥
-
--- the task is to print what each of several tokens names; else the failure says which is not a token
-abbrev pub IsSeveralTask : Form → List (Bor (List ℕ)) → Result FileTask Failure → Type 0
-IsSeveralTask form words result = MatchResult result (IsOnTokens form words) (IsFirstNoToken words)
-
--- the task is to print what one token names, or what each of several names
-abbrev pub IsTokensTask : Form → List (Bor (List ℕ)) → Result FileTask Failure → Type 0
-IsTokensTask form (word ∷ []) result = IsTokenTask form word.now result
-IsTokensTask form words result = IsSeveralTask form words result
-
--- the task is to print what has the byte if the argument is an offset; else the failure says that it is not
-abbrev pub IsWhereTask : Form → Bor (List ℕ) → Result FileTask Failure → Type 0
-IsWhereTask form given result =
-    MatchResult result (λ made. (offset : ℕ) × IsOffset given.now offset × (made ≡ work.Where offset form))
-    (λ failure. IsNoOffset given.now failure × ((offset : ℕ) → ¬ IsOffset given.now offset))
 
 -- whether columns are named, by whether the arguments have `--names`
 abbrev pub names_of : Bool → Names
@@ -109,138 +136,111 @@ IsTableNamed part table = MatchOption part (table ≡ None) (λ given. (named : 
 abbrev pub NamesNoTable : Option (Bor (List ℕ)) → Failure → Type 0
 NamesNoTable part failure = MatchOption part ⊥ (λ given. IsNoTable given.now failure × ((table : TableId) → ¬ NamesTable given.now table))
 
--- the task of the table that the argument names, or of all if there is no argument; else the failure says that it names none
-abbrev pub IsOnTable : (Option TableId → FileTask) → Option (Bor (List ℕ)) → Result FileTask Failure → Type 0
-IsOnTable task_on part result = MatchResult result (λ made. (table : Option TableId) × IsTableNamed part table × (made ≡ task_on table)) (NamesNoTable part)
+-- the report of `show` on a table, or on all, by whether the arguments have `--until-fault`
+abbrev pub show_of : Bool → Names → Option TableId → Report
+show_of true names table = report.ShowUntilFault table names
+show_of false names table = report.Listing (listing.Show table names)
 
--- the task of `show`, by whether the arguments have `--until-fault`, which prints text alone
-abbrev pub IsShowTask : Bool → Form → Names → Option (Bor (List ℕ)) → Result FileTask Failure → Type 0
-IsShowTask false form names part result = IsOnTable (λ table. work.Print (report_of names table) form) part result
-IsShowTask true Text names part result = IsOnTable (λ table. work.ShowUntilFault table names) part result
-IsShowTask true JsonLines names part result = result ≡ Err (failed.Usage wrong.UntilFaultAsJson)
+-- the report of `show`: that of the table that the argument names, or of all if there is no argument; else the failure says
+-- that it names none
+abbrev pub IsShow : Ask → Result Report Failure → Type 0
+IsShow ask result =
+    MatchResult result (λ made. (table : Option TableId) × IsTableNamed ask.part table × (made ≡ show_of ask.until_fault (names_of ask.names) table))
+    (NamesNoTable ask.part)
 
 -- the argument names this type: by its token, or else by its full name
 abbrev pub NamesType : List ℕ → Subject → Type 0
 NamesType word (subject.Row row) = IsTypeToken word × (row ≡ digits_value 16 word % 2 ^ 24)
 NamesType word (subject.Named namespace name) = (¬ IsTypeToken word) × IsFullName word namespace.now name.now
 
--- the task is to print the outline of the type that the argument names, or of all if there is none
-abbrev pub IsOutlineTask : Form → Option (Bor (List ℕ)) → FileTask → Type 0
-IsOutlineTask form part made =
-    MatchOption part (made ≡ work.Outline form) (λ given. (named : Subject) × NamesType given.now named × (made ≡ work.OutlineOf named form))
+-- the report of `outline`: that of the type that the argument names, or of all if there is none
+abbrev pub IsOutline : Option (Bor (List ℕ)) → Report → Type 0
+IsOutline part made =
+    MatchOption part (made ≡ report.Listing listing.Outline) (λ given. (named : Subject) × NamesType given.now named × (made ≡ report.OutlineOf named))
+
+-- the arguments are tokens, with these numbers
+abbrev pub AreTokens : List (Bor (List ℕ)) → List ℕ → Type 0
+AreTokens words numbers = All (λ word. IsHexNumber word.now) words × (numbers ≡ map (λ word. digits_value 16 word.now) words)
+
+-- the failure says that an argument, the first that is not a token, is not; or memory ran out
+abbrev pub IsFirstNoToken : List (Bor (List ℕ)) → Failure → Type 0
+IsFirstNoToken words failed.OutOfMemory = Unit {0}
+IsFirstNoToken words failure =
+    (word : Bor (List ℕ)) × IsFirstUnknown (λ word. IsHexNumber word.now) words word × IsNoToken word.now failure
+
+-- the report is what each of these tokens names
+abbrev pub IsOnTokens : List (Bor (List ℕ)) → Report → Type 0
+IsOnTokens words (report.Tokens numbers) = AreTokens words numbers.items
+IsOnTokens words _ = ⊥
+
+-- the report of `token`: what each of the tokens names; else the failure says which is not a token
+abbrev pub IsTokens : List (Bor (List ℕ)) → Result Report Failure → Type 0
+IsTokens words result = MatchResult result (IsOnTokens words) (IsFirstNoToken words)
+
+-- the report of `where`: what has the byte if the argument is an offset; else the failure says that it is not, or is missing
+abbrev pub IsWhere : Option (Bor (List ℕ)) → Result Report Failure → Type 0
+IsWhere second result =
+    MatchOption second (result ≡ Err (failed.Usage wrong.NoFile))
+    (λ given. MatchResult result (λ made. (offset : ℕ) × IsOffset given.now offset × (made ≡ report.Where offset))
+    (λ failure. IsNoOffset given.now failure × ((offset : ℕ) → ¬ IsOffset given.now offset)))
+
+-- ---- the other tasks
+
+-- the task of `rewrite`, whose OUT may not be `-`
+abbrev pub rewrite_task : Option (Bor (List ℕ)) → Option (Bor (List ℕ)) → Result Task Failure
+rewrite_task file None = Err (failed.Usage wrong.NoFile)
+rewrite_task None (Some out) = Err (failed.Usage (if bytes_eq out.now (codes "-") then wrong.OutputIsDash else wrong.NoFile))
+rewrite_task (Some file) (Some out) = if bytes_eq out.now (codes "-") then Err (failed.Usage wrong.OutputIsDash) else Ok (task.Rewrite file out)
+
+-- the task is to compare these files, besides the columns that the arguments name; else the failure reports the first
+-- argument that names none
+abbrev pub IsComparison : Ask → Bor (List ℕ) → Bor (List ℕ) → Result Task Failure → Type 0
+IsComparison ask file other result =
+    MatchResult result
+    (λ made. (ignored : IgnoredColumns) × AreNamed ask.ignored.items ignored
+    × (made ≡ task.Compare file other (record { input = input_of ask.bare; form = form_of ask.json; ignored = ignored })))
+    (λ failure. (word : Bor (List ℕ)) × IsFirstUnknown NamesSome ask.ignored.items word × IsNoColumn word.now failure)
+
+-- the task of `compare`; a usage error if a file is missing
+abbrev pub IsCompareTask : Ask → Result Task Failure → Type 0
+IsCompareTask ask result =
+    MatchOption ask.file (result ≡ Err (failed.Usage wrong.NoFile))
+    (λ file. MatchOption ask.second (result ≡ Err (failed.Usage wrong.NoFile)) (λ other. IsComparison ask file other result))
 
 -- the argument names a fault
 abbrev pub NamesFault : Bor (List ℕ) → Type 0
 NamesFault word = (code : FaultCode) × NamesCode word.now code
 
--- the task is to explain the faults that these arguments name; all if there is none
+-- the arguments name these rules
+abbrev pub AreRules : List (Bor (List ℕ)) → List FaultCode → Type 0
+AreRules [] rules = rules ≡ []
+AreRules (word ∷ words) rules = (rule : FaultCode) × (more : List FaultCode) × NamesCode word.now rule × AreRules words more × (rules ≡ rule ∷ more)
+
+-- the task is to explain the rules that these arguments name; all if there is none
 abbrev pub IsExplanation : List (Bor (List ℕ)) → Task → Type 0
-IsExplanation words (task.Explain given) = given.now ≡ words
+IsExplanation words (task.Explain rules) = AreRules words rules.items
 IsExplanation words _ = ⊥
 
--- the task is to explain the faults if all arguments name some; else the failure reports the first one that does not
+-- the failure says that an argument, the first that names no rule, does not; or memory ran out
+abbrev pub IsFirstNoCode : List (Bor (List ℕ)) → Failure → Type 0
+IsFirstNoCode words failed.OutOfMemory = Unit {0}
+IsFirstNoCode words failure = (word : Bor (List ℕ)) × IsFirstUnknown NamesFault words word × IsNoCode word.now failure
+
+-- the task of `explain`
 abbrev pub IsExplainTask : List (Bor (List ℕ)) → Result Task Failure → Type 0
-IsExplainTask words result =
-    MatchResult result (λ made. All NamesFault words × IsExplanation words made)
-    (λ failure. (word : Bor (List ℕ)) × IsFirstUnknown NamesFault words word × IsNoCode word.now failure)
-
--- the task of `check` for one file, with or without a budget
-abbrev pub check_task : Option ℕ → FileTask
-check_task None = work.Print report.Check Text
-check_task (Some bytes) = work.CheckWithin bytes
-
--- the task of `check` for these files, which for one file prints what a quiet check does not
-abbrev pub task_on_files : Option ℕ → Bool → List (Bor (List ℕ)) → Result Task Failure
-task_on_files budget quiet [] = Err (failed.Usage wrong.NoFile)
-task_on_files budget quiet (file ∷ []) = Ok (if quiet then task.CheckEach budget else task.OnFile file (check_task budget))
-task_on_files budget quiet (file ∷ next ∷ more) = Ok (task.CheckEach budget)
-
--- the task of `check` for a list of files, besides which no file may be given
-abbrev pub task_on_list : Option ℕ → List (Bor (List ℕ)) → Result Task Failure
-task_on_list budget [] = Ok (task.CheckListed budget)
-task_on_list budget (file ∷ more) = Err (failed.Usage wrong.FilesAndList)
-
--- the task of `check --json` for these files, of which there may be one
-abbrev pub json_task_on_files : List (Bor (List ℕ)) → Result Task Failure
-json_task_on_files [] = Err (failed.Usage wrong.NoFile)
-json_task_on_files (file ∷ []) = Ok (task.OnFile file work.CheckJson)
-json_task_on_files (file ∷ next ∷ more) = Err (failed.Usage wrong.JsonOfOneFile)
-
--- the task of `check --json`, beside which there may be no list of files, no budget and no `-q`
-abbrev pub json_task : Ask → Result Task Failure
-json_task ask =
-    if is_some ask.files_from || ask.null || is_some ask.budget || ask.quiet then Err (failed.Usage wrong.JsonOfOneFile)
-    else json_task_on_files ask.files.items
-
--- the task of `check --where` for these files, of which there may be one
-abbrev pub where_task_on_files : List (Bor (List ℕ)) → Result Task Failure
-where_task_on_files [] = Err (failed.Usage wrong.NoFile)
-where_task_on_files (file ∷ []) = Ok (task.OnFile file work.CheckWhere)
-where_task_on_files (file ∷ next ∷ more) = Err (failed.Usage wrong.WhereOfOneFile)
-
--- the task of `check --where`, beside which there may be no list of files, no budget, no `-q` and no `--json`
-abbrev pub where_task : Ask → Result Task Failure
-where_task ask =
-    if is_some ask.files_from || ask.null || is_some ask.budget || ask.quiet || ask.json then Err (failed.Usage wrong.WhereOfOneFile)
-    else where_task_on_files ask.files.items
-
--- the task of `check` without `--json`; a list of files comes from the standard input alone
-abbrev pub IsTextCheckTask : Ask → Result Task Failure → Type 0
-IsTextCheckTask ask result =
-    MatchOption ask.files_from
-    (result ≡ (if ask.null then task_on_list ask.budget ask.files.items else task_on_files ask.budget ask.quiet ask.files.items))
-    (λ word. result ≡ (if bytes_eq word.now (codes "-") then task_on_list ask.budget ask.files.items else Err (failed.Usage (wrong.NoList word))))
-
--- the task of `check`, by whether the arguments have `--where`
-abbrev pub IsCheckTask : Bool → Form → Ask → Result Task Failure → Type 0
-IsCheckTask true form ask result = result ≡ where_task ask
-IsCheckTask false JsonLines ask result = result ≡ json_task ask
-IsCheckTask false Text ask result = IsTextCheckTask ask result
-
--- the task of `rewrite`, whose OUT may not be `-`
-abbrev pub rewrite_task : Option (Bor (List ℕ)) → Result FileTask Failure
-rewrite_task None = Err (failed.Usage wrong.NoFile)
-rewrite_task (Some out) = if bytes_eq out.now (codes "-") then Err (failed.Usage wrong.OutputIsDash) else Ok (work.Rewrite out)
-
--- the task of `digest` for these files
-abbrev pub digest_task : List (Bor (List ℕ)) → Result Task Failure
-digest_task [] = Err (failed.Usage wrong.NoFile)
-digest_task (file ∷ []) = Ok (task.OnFile file work.Digest)
-digest_task (file ∷ next ∷ more) = Ok task.DigestEach
-
--- the task is to compare with this file, besides the columns that the arguments name, in this form; else the failure
--- reports the first argument that names none
-abbrev pub IsCompareTask : Form → Ask → Bor (List ℕ) → Result FileTask Failure → Type 0
-IsCompareTask form ask other result =
-    MatchResult result
-    (λ made. (ignored : IgnoredColumns) × AreNamed ask.ignored.items ignored
-    × (made ≡ work.Compare other (record { bare = ask.bare; form = form; ignored = ignored })))
-    (λ failure. (word : Bor (List ℕ)) × IsFirstUnknown NamesSome ask.ignored.items word × IsNoColumn word.now failure)
-
--- the task takes the value after the file; a usage error if it is missing
-abbrev pub IsOnSecond : (Bor (List ℕ) → Result FileTask Failure → Type 0) → Option (Bor (List ℕ)) → Result FileTask Failure → Type 0
-IsOnSecond is_task second result = MatchOption second (result ≡ Err (failed.Usage wrong.NoFile)) (λ word. is_task word result)
-
--- the task is this work on the file; a usage error if there is no such work, or no file
-abbrev pub task_on : Option (Bor (List ℕ)) → Result FileTask Failure → Result Task Failure
-task_on file (Err failure) = Err failure
-task_on None (Ok made) = Err (failed.Usage wrong.NoFile)
-task_on (Some file) (Ok made) = Ok (task.OnFile file made)
-
-abbrev pub IsOnFile : Option (Bor (List ℕ)) → (Result FileTask Failure → Type 0) → Result Task Failure → Type 0
-IsOnFile file is_task result = (made : Result FileTask Failure) × is_task made × (result ≡ task_on file made)
+IsExplainTask words result = MatchResult result (IsExplanation words) (IsFirstNoCode words)
 
 -- the task of a subcommand
 abbrev pub IsTask : Subcommand → Ask → Result Task Failure → Type 0
-IsTask word.Root ask result = result ≡ task_on ask.file (Ok (work.Print report.Root (form_of ask.json)))
-IsTask word.Check ask result = IsCheckTask ask.locates (form_of ask.json) ask result
-IsTask word.Show ask result = IsOnFile ask.file (IsShowTask ask.until_fault (form_of ask.json) (names_of ask.names) ask.part) result
-IsTask word.Types ask result = result ≡ task_on ask.file (Ok (work.Print report.Types (form_of ask.json)))
-IsTask word.Outline ask result = IsOnFile ask.file (λ made. IsOkAnd made (IsOutlineTask (form_of ask.json) ask.part)) result
-IsTask word.Strings ask result = result ≡ task_on ask.file (Ok work.Strings)
-IsTask word.Token ask result = IsOnFile ask.file (IsTokensTask (form_of ask.json) ask.tokens.items) result
-IsTask word.Where ask result = IsOnFile ask.file (IsOnSecond (IsWhereTask (form_of ask.json)) ask.second) result
-IsTask word.Rewrite ask result = result ≡ task_on ask.file (rewrite_task ask.second)
-IsTask word.Digest ask result = result ≡ digest_task ask.files.items
-IsTask word.Compare ask result = IsOnFile ask.file (IsOnSecond (IsCompareTask (form_of ask.json) ask) ask.second) result
+IsTask word.Root ask result = result ≡ report_task ask (Ok report.Root)
+IsTask word.Check ask result = result ≡ check_task ask
+IsTask word.Show ask result = IsReportTask ask (IsShow ask) result
+IsTask word.Types ask result = result ≡ report_task ask (Ok (report.Listing listing.Types))
+IsTask word.Outline ask result = IsReportTask ask (λ made. IsOkAnd made (IsOutline ask.part)) result
+IsTask word.Strings ask result = result ≡ report_task ask (Ok report.Strings)
+IsTask word.Token ask result = IsReportTask ask (IsTokens ask.tokens.items) result
+IsTask word.Where ask result = IsReportTask ask (IsWhere ask.second) result
+IsTask word.Rewrite ask result = result ≡ rewrite_task ask.file ask.second
+IsTask word.Digest ask result = result ≡ report_task ask (Ok report.Digest)
+IsTask word.Compare ask result = IsCompareTask ask result
 IsTask word.Explain ask result = IsExplainTask ask.codes.items result

@@ -2,11 +2,11 @@
 ghost use Rattle.std.specs.Prelude.{◌≡◌, ◌≢◌, ◌<◌, ℕ, IfErr, IfNone, IfOk, IfSome};
 ghost use Rattle.table_schema.specs.declared.table.TableId.{TableId as Table};
 ghost use Rattle.table_schema.specs.CellColumns.{cell_count};
-ghost use Rattle.cli_reports.specs.Columns.{column_name};
+ghost use Rattle.cli_lines.specs.Names.{column_name};
 ghost use Rattle.cli.specs.Columns.{AreNamed, NamesColumn, NamesSome};
 ghost use Rattle.cli.specs.Tasks.{IsFirstUnknown};
 
-use cli_reports::column_name;
+use cli_cells::column_name;
 use comparison::IgnoredColumns;
 use table_schema::{TableId, cell_count};
 

@@ -10,13 +10,8 @@
 #![tactic(auto)]
 
 mod columns;
-mod explain_fault;
-mod nearest;
-mod nearest_type;
-mod outline_type;
 mod program;
 mod task;
-mod until_fault;
 mod usage_text;
 
 pub use cli_arguments::{Ask, Subcommand, ask};

@@ -3,10 +3,10 @@ ghost use Rattle.std.specs.Prelude.{◌≡◌, IfOk, map};
 ghost use Rattle.std.specs.String.{string_bytes};
 ghost use Rattle.cli_faults.specs.Escaped.{escaped_text};
 
-use crate::nearest::nearest_command;
 use clap::error::ErrorKind;
 use cli_arguments::ask;
 use cli_faults::Escaped;
+use cli_nearest::nearest_command;
 use std::alloc::{AllocError, Global};
 
 /// The text if `clap` accepts the escaped arguments, although it did not accept the given ones.

@@ -109,20 +109,20 @@ rules_of Show = file ∷ bare ∷ json ∷ value (codes "part") ∷ flag (codes 
 rules_of Types = file ∷ bare ∷ json ∷ []
 -- `outline [--bare] [--json] FILE [NAME]`
 rules_of Outline = file ∷ bare ∷ json ∷ value (codes "part") ∷ []
--- `strings [--bare] FILE`
-rules_of Strings = file ∷ bare ∷ []
+-- `strings [--bare] [--json] FILE`
+rules_of Strings = file ∷ bare ∷ json ∷ []
 -- `token [--bare] [--json] FILE HEX..`
 rules_of Token = file ∷ bare ∷ json ∷ required (values (codes "HEX")) ∷ []
 -- `where [--bare] [--json] FILE OFFSET`
 rules_of Where = file ∷ bare ∷ json ∷ second ∷ []
 -- `rewrite [--bare] FILE OUT`
 rules_of Rewrite = file ∷ bare ∷ second ∷ []
--- `digest [--bare] FILE..`
-rules_of Digest = required (values (codes "FILE")) ∷ bare ∷ []
+-- `digest [--bare] [--json] FILE..`
+rules_of Digest = required (values (codes "FILE")) ∷ bare ∷ json ∷ []
 -- `compare [--bare] [--json] [--ignore TABLE.COLUMN].. FILE OTHER`
 rules_of Compare = file ∷ bare ∷ json ∷ second ∷ record (option (codes "ignore")) { action = Some Append } ∷ []
--- `explain [CODE]..`
-rules_of Explain = values (codes "CODE") ∷ []
+-- `explain [--json] [CODE]..`
+rules_of Explain = values (codes "CODE") ∷ json ∷ []
 
 -- a subcommand
 abbrev pub shape_of : Subcommand → Shape

@@ -12,7 +12,7 @@ use Rattle.cli_faults.specs.declared.failure.Failure.TheVariants.{Fault, NoSuchR
 use Rattle.cli_faults.specs.declared.usage_error.Nearest.{Nearest}
 use Rattle.cli_faults.specs.declared.usage_error.Nearest.TheVariants as nearest
 use Rattle.cli_faults.specs.declared.usage_error.UsageError.{UsageError}
-use Rattle.cli_faults.specs.declared.usage_error.UsageError.TheVariants.{NoToken, NoCode, NoFile, FilesAndList, JsonOfOneFile, WhereOfOneFile, UntilFaultAsJson, OutputIsDash, NoList, NoTable, NoOffset, NoColumn}
+use Rattle.cli_faults.specs.declared.usage_error.UsageError.TheVariants.{NoToken, NoCode, NoFile, FilesAndList, OutputIsDash, NoList, NoTable, NoOffset, NoColumn}
 
 -- the line of a hint, after a line feed; nothing without a name
 abbrev pub nearest_text : Nearest → List ℕ
@@ -45,9 +45,6 @@ usage_text (NoCode word code) =
     codes "error: CODE is the number or the name of a fault, which 'clim explain' lists, not '" ++ escaped_text word.now ++ codes "'" ++ hint_of_code code
 usage_text NoFile = codes "error: FILE is missing, and so is '--files-from -'"
 usage_text FilesAndList = codes "error: '--files-from' and FILE exclude each other"
-usage_text JsonOfOneFile = codes "error: '--json' takes one FILE, and no list, '--budget' or '--quiet'"
-usage_text WhereOfOneFile = codes "error: '--where' takes one FILE, and no list, '--budget', '--quiet' or '--json'"
-usage_text UntilFaultAsJson = codes "error: '--until-fault' and '--json' exclude each other"
 usage_text OutputIsDash = codes "error: OUT is a file, and '-' is none" ++ 10 ∷ codes "  hint: './-' is the file with that name"
 usage_text (NoList word) = codes "error: '--files-from' takes '-', the standard input, not '" ++ escaped_text word.now ++ codes "'"
 usage_text (NoTable word table) =

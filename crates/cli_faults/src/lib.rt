@@ -2,22 +2,21 @@
 //!
 //! A [`Failure`] is the result of a run that failed. Its `Display` is the line for standard error, and
 //! [`Failure::status`] is the exit code. [`explain`] returns the texts of a rule, [`code_of_number`] the rule with a
-//! number, and [`all_codes`] all rules. [`print_explanation`] and [`print_list`] print what faults mean. [`Escaped`] is a
-//! text of a stranger as the program prints it. Nothing here allocates.
+//! number, and [`all_codes`] all rules. [`Escaped`] is a text of a stranger as the program prints it. Nothing here
+//! allocates.
 //!
 //! ```text
 //! let code = code_of_number(501)?;
 //! let explained = explain(code);           // explained.summary is "no NUL ends the text of an index into '#Strings'"
 //! let failure = Failure::from(fault);      // displayed as "fault 7 701 at 2114: BadSignature"
 //! failure.status() == 1
-//! printed(print_list(&mut out))?;          // Failure::CannotWriteOutput if the device is full
+//! printed(out.flush())?;                   // Failure::CannotWriteOutput if the device is full
 //! ```
 #![tactic(auto)]
 
 mod cell_faults;
 mod escaped;
 mod explained;
-mod explanation_lines;
 mod failure;
 mod file_error;
 mod file_faults;
@@ -31,7 +30,6 @@ mod usage_error;
 
 pub use escaped::{Escaped, EscapedBytes, EscapedUnit};
 pub use explained::{Explanation, explain};
-pub use explanation_lines::{print_explanation, print_list};
 pub use failure::{Failure, printed};
 pub use file_error::{FileError, Reason};
 pub use numbered::{all_codes, code_of_number};

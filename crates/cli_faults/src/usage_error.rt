@@ -19,12 +19,6 @@ pub enum UsageError<'a> {
     NoFile,
     /// `check` got both files and a list of files.
     FilesAndList,
-    /// `check` got `--json` with several files, a list of files, a budget or `-q`.
-    JsonOfOneFile,
-    /// `check` got `--where` with several files, a list of files, a budget, `-q` or `--json`.
-    WhereOfOneFile,
-    /// `show` got `--until-fault` and `--json`.
-    UntilFaultAsJson,
     /// `rewrite` got `-` as OUT.
     OutputIsDash,
     /// The argument is not where a list of files can come from.
@@ -118,15 +112,6 @@ impl fmt::Display for UsageError<'_> {
             }
             UsageError::FilesAndList => {
                 f.write_str("error: '--files-from' and FILE exclude each other")
-            }
-            UsageError::JsonOfOneFile => f.write_str(
-                "error: '--json' takes one FILE, and no list, '--budget' or '--quiet'",
-            ),
-            UsageError::WhereOfOneFile => f.write_str(
-                "error: '--where' takes one FILE, and no list, '--budget', '--quiet' or '--json'",
-            ),
-            UsageError::UntilFaultAsJson => {
-                f.write_str("error: '--until-fault' and '--json' exclude each other")
             }
             UsageError::OutputIsDash => f.write_str(
                 "error: OUT is a file, and '-' is none\n  hint: './-' is the file with that name",

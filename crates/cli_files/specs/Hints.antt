@@ -3,6 +3,8 @@ use Rattle.std.specs.Prelude.{◌==◌, ◌&&◌, ℕ, Bool, List, ◌++◌, nat
 use Rattle.std.specs.Str.{bytes_eq}
 use Rattle.packed.specs.Codes.{number_of_code}
 use Rattle.packed.specs.declared.code.FaultCode.TheVariants.{DosHeader, RootSignature}
+use Rattle.cli_input.specs.declared.opened.Input.{Input}
+use Rattle.cli_input.specs.declared.opened.Input.TheVariants.{BareRoot, File}
 use Rattle.cli_faults.specs.declared.failure.Failure.TheVariants.{Fault}
 use Rattle.cli_faults.specs.declared.stop.Stop.{Stop}
 use Rattle.cli_faults.specs.declared.stop.Stop.TheVariants.{Failed, NothingAt}
@@ -14,20 +16,19 @@ abbrev pub begin_with : List ℕ → List ℕ → Bool
 begin_with prefix bytes = bytes_eq prefix (take (length prefix) bytes)
 
 -- a PE file was expected, and the bytes begin like a metadata root (II.24.2.1); or the other way round (II.25.2.1)
-abbrev pub hint_for_fault : Bool → List ℕ → ℕ → Option Hint
-hint_for_fault bare bytes code =
-    if bare then (if (code == number_of_code RootSignature) && begin_with (codes "MZ") bytes then Some DropBare else None)
-    else (if (code == number_of_code DosHeader) && begin_with (codes "BSJB") bytes then Some AddBare else None)
+abbrev pub hint_for_fault : Input → List ℕ → ℕ → Option Hint
+hint_for_fault BareRoot bytes code = if (code == number_of_code RootSignature) && begin_with (codes "MZ") bytes then Some DropBare else None
+hint_for_fault File bytes code = if (code == number_of_code DosHeader) && begin_with (codes "BSJB") bytes then Some AddBare else None
 
 -- for an offset past the end of the file: the length of the file
 abbrev pub hint_for_offset : ℕ → List ℕ → Option Hint
 hint_for_offset offset bytes = if nat_le (length bytes) offset then Some (Length (length bytes)) else None
 
 -- only a fault, and an offset at which there is nothing, can have a hint
-abbrev pub hint_for : Bool → List ℕ → Stop → Option Hint
-hint_for bare bytes (Failed (Fault found)) = hint_for_fault bare bytes found.code
-hint_for bare bytes (NothingAt offset) = hint_for_offset offset bytes
-hint_for bare bytes _ = None
+abbrev pub hint_for : Input → List ℕ → Stop → Option Hint
+hint_for input bytes (Failed (Fault found)) = hint_for_fault input bytes found.code
+hint_for input bytes (NothingAt offset) = hint_for_offset offset bytes
+hint_for input bytes _ = None
 
 -- the line of a hint, without its line feed
 abbrev pub hint_text : Hint → List ℕ

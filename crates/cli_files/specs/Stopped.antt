@@ -1,5 +1,5 @@
 -- The lines that report why a run stopped early.
-use Rattle.std.specs.Prelude.{◌≡◌, ℕ, Bool, true, false, if◌then◌else◌, List, ◌∷◌, [], ◌++◌, codes, IsErrAnd, IsOk, MatchResult, Option, Some, None, Result, Ok, Err}
+use Rattle.std.specs.Prelude.{◌≡◌, ℕ, Bool, true, false, if◌then◌else◌, List, ◌∷◌, [], ◌++◌, codes, Option, Some, None, Result, Ok, Err}
 use Rattle.std.specs.Borrow.{Bor}
 use Rattle.cli_faults.specs.Escaped.{escaped_text}
 use Rattle.cli_faults.specs.declared.failure.Failure.{Failure}
@@ -34,10 +34,6 @@ hint_line None = []
 -- what goes to standard error: the lines of the stop, of the file and of the hint, as far as there are
 abbrev pub stopped_text : Stopped → List ℕ
 stopped_text stopped = stop_line stopped.stop ++ file_line stopped.file ++ hint_line stopped.hint
-
--- the same result, with its failure as why it stopped
-abbrev pub IsStopOf : {T : Type 0} → Result T Failure → Result T Stop → Type 0
-IsStopOf outcome stops = MatchResult outcome (λ _. IsOk stops) (λ failure. IsErrAnd stops (λ stop. stop ≡ Failed failure))
 
 -- how a run ends: it did its task, or it stopped early
 abbrev pub Outcome : Type 0

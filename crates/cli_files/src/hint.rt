@@ -3,6 +3,7 @@ ghost use Rattle.std.specs.Prelude.{◌≡◌, Some};
 ghost use Rattle.cli_files.specs.Hints.{hint_for, hint_for_fault, hint_for_offset, hint_text};
 
 use cli_faults::{Failure, Stop};
+use cli_input::Input;
 use packed::{Fault, FaultCode};
 use std::fmt;
 
@@ -40,28 +41,25 @@ impl fmt::Display for Hint {
 }
 
 /// The hint for a stop on some bytes, if there is one.
-pub fn hint_of(stop: &Stop<'_>, bare: bool, bytes: &[u8]) -> Option<Hint>
-    ensures { result ≡ hint_for bare bytes.now stop.now }
+pub(crate) fn hint_of(stop: &Stop<'_>, input: Input, bytes: &[u8]) -> Option<Hint>
+    ensures { result ≡ hint_for input bytes.now stop.now }
 {
     match stop {
-        Stop::Failed(Failure::Fault(fault)) => hint_of_fault(fault, bare, bytes),
+        Stop::Failed(Failure::Fault(fault)) => hint_of_fault(fault, input, bytes),
         Stop::NothingAt(offset) => hint_of_offset(*offset, bytes),
         _ => None,
     }
 }
 
 /// The hint for a fault in some bytes, if there is one.
-fn hint_of_fault(fault: &Fault, bare: bool, bytes: &[u8]) -> Option<Hint>
-    ensures { result ≡ hint_for_fault bare bytes.now fault.now.code }
+fn hint_of_fault(fault: &Fault, input: Input, bytes: &[u8]) -> Option<Hint>
+    ensures { result ≡ hint_for_fault input bytes.now fault.now.code }
 {
-    if bare {
-        if fault.code == FaultCode::RootSignature.number() && bytes.starts_with(DOS_SIGNATURE) {
-            return Some(Hint::DropBare);
-        }
-    } else if fault.code == FaultCode::DosHeader.number() && bytes.starts_with(ROOT_SIGNATURE) {
-        return Some(Hint::AddBare);
-    }
-    None
+    let (expected, found, hint) = match input {
+        Input::BareRoot => (FaultCode::RootSignature, DOS_SIGNATURE, Hint::DropBare),
+        Input::File => (FaultCode::DosHeader, ROOT_SIGNATURE, Hint::AddBare),
+    };
+    (fault.code == expected.number() && bytes.starts_with(found)).then_some(hint)
 }
 
 /// The hint for an offset at which there is nothing: the length of the file, if the offset is past its end.

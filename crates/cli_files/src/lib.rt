@@ -6,7 +6,7 @@
 //!
 //! ```text
 //! let bytes = read_file(&rt, "one_module.dll")?;
-//! status(rt.alloc(), with_hint(outcome, false, &bytes), &mut err) // 1 if `outcome` is a fault, which `err` then has
+//! status(rt.alloc(), Err(Stopped::at(stop, None, Input::File, &bytes)), &mut err) // 1 if `stop` is a fault, which `err` then has
 //! ```
 #![tactic(auto)]
 
@@ -19,10 +19,10 @@ mod numbers;
 mod output_file;
 mod stopped;
 
-pub use hint::{Hint, hint_of};
+pub use hint::Hint;
 pub use input::{LIMIT, STANDARD_INPUT, read_file, read_into};
 pub use message::send_message;
 pub use names::{code_of, names_of_type, table_of};
 pub use numbers::{offset_of, token_of, type_row_of};
 pub use output_file::{is_standard_output, write_root};
-pub use stopped::{Stopped, out_of_memory, status, stopped_by, with_hint};
+pub use stopped::{Stopped, out_of_memory, status};

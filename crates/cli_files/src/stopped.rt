@@ -1,15 +1,15 @@
 //! Why a run stopped early, and what the user may have meant.
-ghost use Rattle.std.specs.Prelude.{◌≡◌, ◌↔◌, ◌≤◌, ◌++◌, ◌∷◌, [], IfErr, IfOk, IsOk, None, OnOk, Some};
+ghost use Rattle.std.specs.Prelude.{◌≡◌, ◌≤◌, ◌++◌, ◌∷◌, [], IfErr, IfOk, None, OnOk, Some};
 ghost use Rattle.std.specs.Fmt.{WritesOnOk};
 ghost use Rattle.std.specs.Io.KnownBytes.{Appends};
-ghost use Rattle.cli_files.specs.Hints.{hint_for};
-ghost use Rattle.cli_files.specs.Stopped.{IsStopOf, file_line, hint_line, is_printed, status_of_outcome, stop_line, stopped_text};
+ghost use Rattle.cli_files.specs.Stopped.{file_line, hint_line, is_printed, status_of_outcome, stop_line, stopped_text};
 ghost use Rattle.cli_faults.specs.Stops.{status_of_stop};
 ghost use Rattle.cli_faults.specs.declared.stop.Stop.TheVariants.{Failed};
 
 use crate::hint::{Hint, hint_of};
 use crate::message::send_message;
 use cli_faults::{Escaped, Failure, Stop};
+use cli_input::Input;
 use std::alloc::Global;
 use std::io::Write;
 use std::{fmt, io};
@@ -26,38 +26,22 @@ pub struct Stopped<'a> {
     pub hint: Option<Hint>,
 }
 
-/// The result of a run on some bytes, with a hint if there is one.
-///
-/// # Errors
-///
-/// Why the run stopped, as it was given.
-pub fn with_hint<'a>(
-    outcome: Result<(), Stop<'a>>,
-    bare: bool,
-    bytes: &[u8],
-) -> Result<(), Stopped<'a>>
-    ensures ok { IsOk result ↔ IsOk outcome.entry }
-    ensures stopped { IfErr outcome.entry (λ stop. IfErr result (λ stopped. (stopped.stop ≡ stop) × (stopped.hint ≡ hint_for bare bytes.now stop))) }
-{
-    match outcome {
-        Ok(()) => Ok(()),
-        Err(stop) => Err(Stopped {
-            stop,
-            file: None,
-            hint: hint_of(&stop, bare, bytes),
-        }),
-    }
-}
+impl<'a> Stopped<'a> {
+    ghost use Rattle.std.specs.Prelude.{◌≡◌};
+    ghost use Rattle.cli_files.specs.Hints.{hint_for};
 
-/// The result of a run, with its failure as why it stopped.
-///
-/// # Errors
-///
-/// The failure of the outcome.
-pub fn stopped_by<'a>(outcome: Result<(), Failure<'a>>) -> Result<(), Stop<'a>>
-    ensures { IsStopOf outcome.entry result }
-{
-    Ok(outcome?)
+    /// A stop at some bytes, with a hint if there is one. The report of it names the file, if there is a name.
+    pub fn at(stop: Stop<'a>, file: Option<&'a str>, input: Input, bytes: &[u8]) -> Stopped<'a>
+        ensures stop { result.stop ≡ stop.entry }
+        ensures file { result.file ≡ file.entry }
+        ensures hint { result.hint ≡ hint_for input bytes.now stop.entry }
+    {
+        Stopped {
+            stop,
+            file,
+            hint: hint_of(&stop, input, bytes),
+        }
+    }
 }
 
 /// The exit code of a run. If the program stopped early, it reports that first.

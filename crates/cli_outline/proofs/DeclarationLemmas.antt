@@ -1,37 +1,11 @@
--- The line of the value of a declaration, from its members.
-use Rattle.std.proofs.Common.{◌≡◌, ◌∙◌, ◌<◌, ◌≤◌, Bool, true, false, inl, inr, ℕ, List, [], ◌∷◌, ◌++◌, codes, length, take, ltb, lt-ltb, le-ltb, Option, None, Some, refl, ap, sym, arith, append_assoc}
-use Rattle.std.specs.List.{before_first, position, position_or_len}
+-- The first word of a declaration.
+use Rattle.std.proofs.Common.{◌≡◌, ◌<◌, ◌≤◌, get_or, Bool, true, false, inl, inr, ℕ, List, length, ltb, lt-ltb, le-ltb, None, Some, sym, arith}
+use Rattle.std.specs.List.{position, position_or_len}
+use Rattle.std.specs.Str.{IsCharBoundary}
 use Rattle.std.proofs.lemmas.Bool.{cases_lt}
-use Rattle.json.specs.Print.{escape_byte, print, print_from, quoted}
-use Rattle.json.specs.Tree.{json_tokens}
-use Rattle.table_schema.specs.declared.token.Token.{Token}
-use Rattle.table_schema.specs.Tokens.{token_text}
-use Rattle.cli_reports.specs.RowTexts.{line_feed}
-use Rattle.cli_json.specs.Values.{line_of}
-use Rattle.cli_outline.specs.Declarations.{declaration_value, ends_word, type_member_text}
-
-printed_is : (of : Token) (class : Option Token) (text : List ℕ)
-    → print (json_tokens (declaration_value of class text))
-    ≡ codes "{\"token\":" ++ (quoted (token_text of) ++ (type_member_text class ++ (codes ",\"directive\":" ++ (quoted (before_first ends_word text)
-    ++ (codes ",\"text\":" ++ (quoted text ++ codes "}"))))))
-unfolding declaration_value print_from escape_byte
-printed_is of None text = refl
-printed_is of (Some class) text = refl
-
--- the parts of a line, one after another
-joined : (line a b c d e f g h x : List ℕ)
-    → (((((((line ++ a) ++ b) ++ c) ++ d) ++ e) ++ f) ++ g) ++ (h ++ x) ≡ line ++ ((a ++ (b ++ (c ++ (d ++ (e ++ (f ++ (g ++ h))))))) ++ x)
-joined line a b c d e f g h x = simp append_assoc
-
-pub value_is : (line : List ℕ) (of : Token) (class : Option Token) (text : List ℕ)
-    → (((((((line ++ codes "{\"token\":") ++ quoted (token_text of)) ++ type_member_text class) ++ codes ",\"directive\":") ++ quoted (before_first ends_word text))
-    ++ codes ",\"text\":") ++ quoted text) ++ codes "}\n"
-    ≡ line ++ line_of (declaration_value of class text)
-unfolding line_of
-value_is line of class text =
-    joined line (codes "{\"token\":") (quoted (token_text of)) (type_member_text class) (codes ",\"directive\":") (quoted (before_first ends_word text)) (codes ",\"text\":")
-    (quoted text) (codes "}") line_feed
-    ∙ ap (λ (xs : List ℕ). line ++ (xs ++ line_feed)) (sym (printed_is of class text))
+use Rattle.std.proofs.lemmas.Bool.Decides.{nat_tests}
+use Rattle.std.proofs.lemmas.List.Quantifiers.{position-Some}
+use Rattle.cli_outline.specs.Declarations.{ends_word}
 
 -- the length of the first word that a search returns
 module _ (p : ℕ → Bool) (text : List ℕ) where
@@ -58,3 +32,14 @@ module _ (p : ℕ → Bool) (text : List ℕ) where
             cc
         | inr le ↦ le
       ]
+
+-- the byte that ends a word is ASCII
+ends_low : (byte : ℕ) → ends_word byte ≡ true → byte < 128
+ends_low byte ends = grind (arith, nat_tests)
+
+pub word_boundary : (text : List ℕ) (i : ℕ) → Some i ≡ position ends_word text → IsCharBoundary text i
+word_boundary text i e =
+    let found = position-Some ends_word text i 0 (sym e) in
+    let low = ends_low (get_or text i 0) found.1 in
+    let within = found.0 in
+    (omega (arith, within), λ lt high. absurd (omega (arith, low, high)))

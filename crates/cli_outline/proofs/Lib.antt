@@ -1,11 +1,8 @@
 pub mod TextLemmas
-pub mod SentLemmas
 pub mod LayoutLemmas
-pub mod OutlineLemmas
 pub mod PieceLemmas
 pub mod DeclarationLemmas
-pub mod ReferenceLemmas
+pub mod PrintedLemmas
 pub mod RunLemmas
 pub mod SubjectLemmas
 pub mod WriterLemmas
-pub mod Outcomes

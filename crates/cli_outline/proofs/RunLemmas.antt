@@ -1,21 +1,45 @@
--- The run of a type's members (ECMA-335 II.22.37).
-use Rattle.std.proofs.Common.{◌≡◌, ◌≢◌, ◌∙◌, ℕ, zero, suc, ◌+◌, ◌-◌, ◌<◌, ◌≤◌, Bool, cond, subst, sym, ap, arith, ⊎_elim}
+-- The run of an owner's members (ECMA-335 II.22.12, II.22.26, II.22.35 and II.22.37).
+use Rattle.std.proofs.Common.{◌≡◌, ◌≢◌, ◌∙◌, ℕ, zero, suc, ◌+◌, ◌-◌, ◌<◌, ◌≤◌, Bool, Some, cond, refl, subst, sym, ap, arith, ⊎_elim}
 use Rattle.std.proofs.lemmas.Bool.{cases_lt, le-leb, lt-leb}
 use Rattle.table_schema.specs.declared.table.TableId.{TableId}
-use Rattle.table_schema.specs.declared.table.TableId.TheVariants.{TypeDef, Field, MethodDef, EventMap, Event, PropertyMap, Property}
+use Rattle.table_schema.specs.declared.table.TableId.TheVariants.{TypeDef}
+use Rattle.table_schema.specs.declared.column.ColumnKind.{ColumnKind}
 use Rattle.table_schema.specs.declared.column.ColumnKind.TheVariants as kind
-use Rattle.table_schema.specs.CellColumns.{cell_columns}
-use Rattle.metadata.specs.Cell.{Cell, Start}
+use Rattle.table_schema.specs.CellColumns.{cell_columns, cell_count}
+use Rattle.metadata.specs.Cell.{Cell}
 use Rattle.metadata.specs.Lookups.{HasRow, IsRun}
 use Rattle.metadata.specs.Metadata.{Metadata, cell_in, count_in}
-use Rattle.metadata.specs.Valid.{HasOwners, IsValid, IsWithinMembers, start_in}
+use Rattle.metadata.specs.Valid.{HasOwners, IsValid, IsWithinMembers, kind_at, start_in}
 use Rattle.metadata_source.specs.declared.member_lists.MemberList.{MemberList}
 use Rattle.metadata_source.specs.declared.member_lists.MemberList.TheVariants as list
 use Rattle.metadata_source.specs.MemberLists.{cell_of, member_of, owner_of}
-use Rattle.cli_outline.specs.declared.mapped.Mapped.{Mapped}
-use Rattle.cli_outline.specs.declared.mapped.Mapped.TheVariants.{Events, Properties}
-use Rattle.cli_outline.specs.Outline.{list_of, run_start, table_of}
-use Rattle.cli_reports.specs.TypeTexts.{first_member, member_count, start_of}
+use Rattle.navigation.specs.Nesting.{type_token}
+use Rattle.full_names.specs.RowNames.{IsMemberOf}
+use Rattle.cli_outline.specs.Outline.{run_start}
+
+-- what is valid of each list
+owners : (model : Metadata) → IsValid model → (of : MemberList) → HasOwners model (owner_of of) (cell_of of) (member_of of)
+owners model valid list.Fields = valid.fields
+owners model valid list.Methods = valid.methods
+owners model valid list.Params = valid.params
+owners model valid list.Events = valid.events
+owners model valid list.Properties = valid.properties
+
+kind_is : (of : MemberList) → kind_at (owner_of of) (cell_of of) ≡ kind.List (member_of of)
+unfolding cell_columns
+kind_is list.Fields = refl
+kind_is list.Methods = refl
+kind_is list.Params = refl
+kind_is list.Events = refl
+kind_is list.Properties = refl
+
+cell_is : (of : MemberList) → cell_of of < cell_count (owner_of of)
+unfolding cell_columns
+cell_is list.Fields = omega arith
+cell_is list.Methods = omega arith
+cell_is list.Params = omega arith
+cell_is list.Events = omega arith
+cell_is list.Properties = omega arith
 
 -- starts are at least 1
 module _ (model : Metadata) (owner : TableId) (cell : ℕ) (member : TableId) (owned : HasOwners model owner cell member) where
@@ -35,72 +59,28 @@ module _ (model : Metadata) (owner : TableId) (cell : ℕ) (member : TableId) (o
       let up = subst P same step in
       omega (arith, before, up)
 
-  pub first_row : (row first past : ℕ) → 1 ≤ row → row ≤ count_in model owner → IsRun model owner cell member row first past → 1 ≤ first
-  first_row row first past from last run =
+-- a run is within the table of members, and is from the start of its owner to that of the next one
+module _ (model : Metadata) (of : MemberList) (row first past : ℕ) (from : 1 ≤ row) (within : row ≤ count_in model (owner_of of))
+    (run : IsRun model (owner_of of) (cell_of of) (member_of of) row first past) where
+  pub run_from : IsValid model → 1 ≤ first
+  run_from valid =
       let same : row - 1 + 1 ≡ row = omega (arith, from) in
-      let P : ℕ → Type 0 = λ r. 1 ≤ start_in (cell_in model owner r cell) in
-      let here = subst P same (start_from (row - 1) (omega (arith, from, last))) in
+      let P : ℕ → Type 0 = λ r. 1 ≤ start_in (cell_in model (owner_of of) r (cell_of of)) in
+      let here = subst P same (start_from model (owner_of of) (cell_of of) (member_of of) (owners model valid of) (row - 1) (omega (arith, from, within))) in
       let start = ap start_in run.start in
       omega (arith, here, start)
 
--- a run ends at the last member at the latest
-module _ (model : Metadata) (valid : IsValid model) where
-  pub field_run : (row first past : ℕ) → 1 ≤ row → row ≤ count_in model TypeDef → IsRun model TypeDef 4 Field row first past → past ≤ count_in model Field + 1
-  unfolding cell_columns
-  field_run row first past from last run =
+  pub run_to : IsValid model → past ≤ count_in model (member_of of) + 1
+  run_to valid =
       ⊎_elim
-      (λ (more : row < count_in model TypeDef).
-      let there : HasRow model TypeDef (row + 1) = (omega arith, omega (arith, more)) in
-      let P : Cell → Type 0 = λ c. IsWithinMembers model (kind.List Field) c in
-      subst P (run.next more) (valid.cells TypeDef (row + 1) 4 there (omega arith)).within)
-      (λ all. let end = run.last (omega (arith, all, last)) in omega (arith, end))
-      (cases_lt row (count_in model TypeDef))
+      (λ (more : row < count_in model (owner_of of)).
+      let there : HasRow model (owner_of of) (row + 1) = (omega arith, omega (arith, more)) in
+      let members = subst (λ (k : ColumnKind). IsWithinMembers model k (cell_in model (owner_of of) (row + 1) (cell_of of))) (kind_is of)
+      (valid.cells (owner_of of) (row + 1) (cell_of of) there (cell_is of)).within in
+      subst (λ (c : Cell). IsWithinMembers model (kind.List (member_of of)) c) (run.next more) members)
+      (λ all. let end = run.last (omega (arith, all, within)) in omega (arith, end))
+      (cases_lt row (count_in model (owner_of of)))
 
-  pub method_run : (row first past : ℕ) → 1 ≤ row → row ≤ count_in model TypeDef → IsRun model TypeDef 5 MethodDef row first past → past ≤ count_in model MethodDef + 1
-  unfolding cell_columns
-  method_run row first past from last run =
-      ⊎_elim
-      (λ (more : row < count_in model TypeDef).
-      let there : HasRow model TypeDef (row + 1) = (omega arith, omega (arith, more)) in
-      let P : Cell → Type 0 = λ c. IsWithinMembers model (kind.List MethodDef) c in
-      subst P (run.next more) (valid.cells TypeDef (row + 1) 5 there (omega arith)).within)
-      (λ all. let end = run.last (omega (arith, all, last)) in omega (arith, end))
-      (cases_lt row (count_in model TypeDef))
-
--- the same of a row of EventMap and PropertyMap
-module _ (model : Metadata) (valid : IsValid model) where
-  event_run : (row first past : ℕ) → row ≤ count_in model EventMap → IsRun model EventMap 1 Event row first past → past ≤ count_in model Event + 1
-  unfolding cell_columns
-  event_run row first past last run =
-      ⊎_elim
-      (λ (more : row < count_in model EventMap).
-      let there : HasRow model EventMap (row + 1) = (omega arith, omega (arith, more)) in
-      let P : Cell → Type 0 = λ c. IsWithinMembers model (kind.List Event) c in
-      subst P (run.next more) (valid.cells EventMap (row + 1) 1 there (omega arith)).within)
-      (λ all. let end = run.last (omega (arith, all, last)) in omega (arith, end))
-      (cases_lt row (count_in model EventMap))
-
-  property_run : (row first past : ℕ) → row ≤ count_in model PropertyMap → IsRun model PropertyMap 1 Property row first past → past ≤ count_in model Property + 1
-  unfolding cell_columns
-  property_run row first past last run =
-      ⊎_elim
-      (λ (more : row < count_in model PropertyMap).
-      let there : HasRow model PropertyMap (row + 1) = (omega arith, omega (arith, more)) in
-      let P : Cell → Type 0 = λ c. IsWithinMembers model (kind.List Property) c in
-      subst P (run.next more) (valid.cells PropertyMap (row + 1) 1 there (omega arith)).within)
-      (λ all. let end = run.last (omega (arith, all, last)) in omega (arith, end))
-      (cases_lt row (count_in model PropertyMap))
-
-  pub map_bounds : (of : Mapped) (row first past : ℕ) → 1 ≤ row → row ≤ count_in model (owner_of (list_of of))
-      → IsRun model (owner_of (list_of of)) (cell_of (list_of of)) (table_of of) row first past → (1 ≤ first) × (past ≤ count_in model (table_of of) + 1)
-  map_bounds Events row first past from last run =
-      (first_row model EventMap 1 Event valid.events row first past from last run, event_run row first past last run)
-  map_bounds Properties row first past from last run =
-      (first_row model PropertyMap 1 Property valid.properties row first past from last run, property_run row first past last run)
-
--- the run of an owner is from its start to that of the next owner
-module _ (model : Metadata) (of : MemberList) (row first past : ℕ) (within : row ≤ count_in model (owner_of of))
-    (run : IsRun model (owner_of of) (cell_of of) (member_of of) row first past) where
   pub run_begins : first ≡ run_start model of row
   run_begins =
       sym (ap (λ t. cond t (start_in (cell_in model (owner_of of) row (cell_of of))) (count_in model (member_of of) + 1)) (le-leb row (count_in model (owner_of of)) within)
@@ -114,34 +94,13 @@ module _ (model : Metadata) (of : MemberList) (row first past : ℕ) (within : r
       (λ all. ap choice (lt-leb (row + 1) (count_in model (owner_of of)) (omega (arith, within))) ∙ sym (run.last (omega (arith, all, within))))
       (cases_lt row (count_in model (owner_of of))))
 
--- the rows of a type's members are in the table
-pub run_bounds : (model : Metadata) → IsValid model → (of : MemberList) → owner_of of ≡ TypeDef → (row first past : ℕ) → 1 ≤ row → row ≤ count_in model TypeDef
-    → IsRun model (owner_of of) (cell_of of) (member_of of) row first past → (1 ≤ first) × (past ≤ count_in model (member_of of) + 1)
-run_bounds model valid list.Fields types row first past from last run =
-    (first_row model TypeDef 4 Field valid.fields row first past from last run, field_run model valid row first past from last run)
-run_bounds model valid list.Methods types row first past from last run =
-    (first_row model TypeDef 5 MethodDef valid.methods row first past from last run, method_run model valid row first past from last run)
-run_bounds model valid list.Params types row first past from last run = absurd cc
-run_bounds model valid list.Events types row first past from last run = absurd cc
-run_bounds model valid list.Properties types row first past from last run = absurd cc
-
--- the first member of a type and the number of its members are those of its run
-module _ (model : Metadata) (cell_index : ℕ) (member : TableId) (row first past : ℕ) (within : row ≤ count_in model TypeDef)
-    (run : IsRun model TypeDef cell_index member row first past) where
-  pub first_of_run : first_member model cell_index member row ≡ first
-  unfolding first_member
-  first_of_run =
-      ap (λ t. cond t (start_of (cell_in model TypeDef row cell_index)) (count_in model member + 1)) (le-leb row (count_in model TypeDef) within) ∙ ap start_of run.start
-
-  past_of_run : first_member model cell_index member (row + 1) ≡ past
-  unfolding first_member
-  past_of_run =
-      let choice : Bool → ℕ = λ t. cond t (start_of (cell_in model TypeDef (row + 1) cell_index)) (count_in model member + 1) in
-      ⊎_elim
-      (λ more. ap choice (le-leb (row + 1) (count_in model TypeDef) (omega (arith, more))) ∙ ap start_of (run.next more))
-      (λ all. ap choice (lt-leb (row + 1) (count_in model TypeDef) (omega (arith, within))) ∙ sym (run.last (omega (arith, all, within))))
-      (cases_lt row (count_in model TypeDef))
-
-  pub run_counted : past - first ≡ member_count model cell_index member row
-  unfolding member_count
-  run_counted = sym (λ i. past_of_run i - first_of_run i)
+-- a field or a method in the run of a type is a member of it
+pub is_member : (model : Metadata) (of : MemberList) → owner_of of ≡ TypeDef → (class row first past : ℕ) → HasRow model TypeDef class
+    → IsRun model (owner_of of) (cell_of of) (member_of of) class first past → first ≤ row → row < past → IsMemberOf model (member_of of) row (Some (type_token class))
+is_member model list.Fields types class row first past there run from to =
+    (type_token class, (class, record { there = there; first = first; past = past; run = run; from = from; to = to }, refl), refl)
+is_member model list.Methods types class row first past there run from to =
+    (type_token class, (class, record { there = there; first = first; past = past; run = run; from = from; to = to }, refl), refl)
+is_member model list.Params types class row first past there run from to = absurd cc
+is_member model list.Events types class row first past there run from to = absurd cc
+is_member model list.Properties types class row first past there run from to = absurd cc

@@ -1,21 +1,22 @@
 -- The row of a subject.
-use Rattle.std.proofs.Common.{◌≡◌, ℕ, ◌<◌, ◌≤◌, inl, inr, List, [], Option, None, Some, Result, Ok, Err, IfSome, IfNone, arith, sym, ◌∙◌}
-use Rattle.std.specs.Prelude.{IsErr}
+use Rattle.std.proofs.Common.{◌≡◌, ℕ, ◌<◌, ◌≤◌, inl, inr, List, Option, None, Some, IfSome, IfNone, arith, sym, ◌∙◌, ⊎_elim}
 use Rattle.std.proofs.lemmas.Bool.{cases_lt}
 use Rattle.std.proofs.lemmas.Grind.{not_there}
 use Rattle.table_schema.specs.declared.table.TableId.TheVariants.{TypeDef}
-use Rattle.metadata.specs.Lookups.{HasRow, IsFirstType}
+use Rattle.metadata.specs.Lookups.{HasRow}
 use Rattle.metadata.specs.Metadata.{Metadata, count_in}
 use Rattle.metadata.specs.Model.{IsModel}
 use Rattle.opening.specs.Views.{HasModel, row_count}
-use Rattle.cli_reports.specs.declared.report.Form.{Form}
 use Rattle.cli_outline.specs.declared.subject.Subject.{Subject}
 use Rattle.cli_outline.specs.declared.subject.Subject.TheVariants.{Named, Row}
-use Rattle.cli_outline.specs.declared.subject.Outcome.{Outcome}
-use Rattle.cli_outline.specs.Outline.{IsLineIn, class_rows}
-use Rattle.cli_outline.specs.Sent.{SendsFirst}
-use Rattle.cli_outline.specs.Subjects.{IsSubject, PrintsSubject}
-use Rattle.cli_outline.proofs.ReferenceLemmas.{at_most}
+use Rattle.cli_outline.specs.Subjects.{IsSubject}
+
+-- what cannot fail holds
+pub at_most : (a b : ℕ) → ¬ (¬ (a ≤ b)) → a ≤ b
+at_most a b h = ⊎_elim
+    (λ (l : b < a). absurd (h (λ (le : a ≤ b). omega arith)))
+    (λ (le : a ≤ b). le)
+    (cases_lt b a)
 
 pub on_some : {X : Type 0} (P Q : X → Type 0) (o : Option X) → IfSome o P → ((x : X) → P x → Q x) → IfSome o Q
 on_some P Q None is f = tt
@@ -49,9 +50,3 @@ subject_one model (Named namespace name) row other is more = elim (cases_lt row 
     | inr same ↦ omega arith
   ]
 ]
-
--- nothing or a prefix of the first lines went out, if it fails
-pub subject_cut : {E : Type 0} (form : Form) (model : Metadata) (subject : Subject) (before after : Option (List ℕ)) (result : Result Outcome E) → IsErr result
-    → ((row : ℕ) → IsSubject model subject row → SendsFirst (IsLineIn form model) before after (class_rows model row) []) → PrintsSubject form model subject before after result
-subject_cut form model subject before after (Ok outcome) is cut = cc
-subject_cut form model subject before after (Err error) is cut = cut

@@ -1,12 +1,14 @@
 -- Texts one after another, and what a writer that escapes took.
-use Rattle.std.proofs.Common.{◌≡◌, ◌∙◌, ℕ, zero, suc, ◌+◌, ◌-◌, ◌<◌, ◌≤◌, Bool, cond, eqb, ltb, List, [], ◌∷◌, ◌++◌, codes, length, get_or, take, refl, ap, sym, subst, append_assoc, append-nil, length-append, arith, map, ⊎_elim}
+use Rattle.std.proofs.Common.{◌≡◌, ◌∙◌, ℕ, zero, suc, ◌+◌, ◌-◌, ◌/◌, ◌%◌, ◌<◌, ◌≤◌, Bool, true, false, IsTrue, if◌then◌else◌, cond, eqb, ltb, List, [], ◌∷◌, ◌++◌, codes, length, get_or, take, refl, ap, sym, subst, append_assoc, append-nil, length-append, arith, ⊎_elim}
 use Rattle.std.proofs.lemmas.Bool.{cases_lt, eq-eqb, le-ltb, lt-ltb, ne_eqb}
 use Rattle.std.proofs.lemmas.List.{flat_map_more}
 use Rattle.std.proofs.Math.Seq.{take-suc}
 use Rattle.std.specs.List.{flat_map, FoldsTo, concat}
-use Rattle.std.specs.Fmt.{WritesInCalls}
+use Rattle.std.specs.Fmt.{WritesInCalls, digit_glyph}
+use Rattle.std.proofs.lemmas.Fmt.{hex_byte}
+use Rattle.table_schema.specs.Tokens.{hexadecimal}
 use Rattle.std.proofs.lemmas.Grind.{flat_map-append}
-use Rattle.cli_faults.specs.Escaped.{escaped_text}
+use Rattle.cli_faults.specs.Escaped.{escaped_text, is_plain}
 use Rattle.cli_outline.specs.Parts.{cut_text, text_limit}
 use Rattle.cli_outline.specs.Texts.{AreTexts, Gains}
 
@@ -19,15 +21,6 @@ module _ {X : Type 0} (is_text : X → List ℕ → Type 0) where
 
   pub texts_one : (x : X) (a : List ℕ) → is_text x a → AreTexts is_text (x ∷ []) a
   texts_one x a is = (a, is, [], refl, sym (append-nil a))
-
--- the items of a list that is a map
-pub texts_map : {X Y : Type 0} (is_text : Y → List ℕ → Type 0) (f : X → Y) (xs : List X) (a : List ℕ) → AreTexts (λ x. is_text (f x)) xs a → AreTexts is_text (map f xs) a
-texts_map is_text f [] a are = are
-texts_map is_text f (x ∷ xs) a are = (are.0, are.1, are.2, texts_map is_text f xs are.2 are.3, are.4)
-
--- what follows is this text
-pub gains_same : (text before after : List ℕ) → after ≡ before ++ text → Gains (λ (t : List ℕ). t ≡ text) before after
-gains_same text before after is = (text, refl, is)
 
 -- the first items of two lists
 take_nothing : {X : Type 0} (n : ℕ) → take {A = X} n [] ≡ []
@@ -101,12 +94,19 @@ pub items_more : {X : Type 0} (f : X → List ℕ) (line : List ℕ) (xs : List 
     → (line ++ flat_map f (take i xs)) ++ f (get_or xs i d) ≡ line ++ flat_map f (take (i + 1) xs)
 items_more f line xs i d lt = flat_map_more f line (take i xs) (get_or xs i d) ∙ ap (λ ys. line ++ flat_map f ys) (sym (take_more xs i d lt))
 
--- the parts of a line, one after another
-pub two_joined : (line a b : List ℕ) → (line ++ a) ++ b ≡ line ++ (a ++ b)
-two_joined line a b = append_assoc line a b
+-- the two hexadecimal digits of a byte
+pub two_digits : (line : List ℕ) (byte high low : ℕ) → byte < 256 → high ≡ digit_glyph false (byte / 16) → low ≡ digit_glyph false (byte % 16)
+    → (line ++ high ∷ []) ++ low ∷ [] ≡ line ++ hexadecimal 2 byte
+two_digits line byte high low small high_is low_is =
+    append_assoc line (high ∷ []) (low ∷ []) ∙ (λ k. line ++ high_is k ∷ low_is k ∷ []) ∙ ap (λ ys. line ++ ys) (sym (hex_byte false byte small))
 
-pub three_joined : (line a b c : List ℕ) → ((line ++ a) ++ b) ++ c ≡ line ++ (a ++ b ++ c)
-three_joined line a b c = ap (λ xs. xs ++ c) (append_assoc line a b) ∙ append_assoc line (a ++ b) c
+first_of_two : (test : Bool) (xs ys : List ℕ) → IsTrue test → (if test then xs else ys) ≡ xs
+first_of_two true xs ys is = refl
+first_of_two false xs ys is = cc
 
-pub four_joined : (line a b c d : List ℕ) → (((line ++ a) ++ b) ++ c) ++ d ≡ line ++ (a ++ b ++ c ++ d)
-four_joined line a b c d = ap (λ xs. xs ++ d) (three_joined line a b c) ∙ append_assoc line (a ++ b ++ c) d
+-- plain bytes are not escaped
+pub plain_text : (text : List ℕ) → ((k : ℕ) → k < length text → IsTrue (is_plain (get_or text k 0))) → text ≡ escaped_text text
+plain_text [] plain = refl
+plain_text (byte ∷ bytes) plain =
+    ap (λ ys. byte ∷ ys) (plain_text bytes (λ k lt. plain (suc k) (omega arith)))
+    ∙ ap (λ xs. xs ++ escaped_text bytes) (sym (first_of_two (is_plain byte) (byte ∷ []) (92 ∷ 120 ∷ hexadecimal 2 byte) (plain 0 (omega arith))))

@@ -1,26 +1,47 @@
--- A declaration as a JSON value (RFC 8259): its token, the type that has it, its first word, and its text.
-use Rattle.std.specs.Prelude.{◌==◌, ◌||◌, ℕ, Bool, List, [], ◌++◌, codes, Option, None, Some}
-use Rattle.std.specs.List.{before_first}
-use Rattle.json.specs.Json.{Json, string, object, Members, no_members, member}
-use Rattle.json.specs.Print.{quoted}
+-- The line of a declaration: its token, the type that has it, its first word, and its text.
+use Rattle.std.specs.Prelude.{◌==◌, ◌||◌, ℕ, Bool, true, false, not, bit_and, List, [], ◌∷◌, codes, drop, Option, None, Some}
+use Rattle.std.specs.Char.{is_ascii_whitespace}
+use Rattle.std.specs.List.{before_first, prefix_len}
+use Rattle.table_schema.specs.declared.table.TableId.{TableId}
+use Rattle.table_schema.specs.declared.table.TableId.TheVariants.{MethodSemantics}
 use Rattle.table_schema.specs.declared.token.Token.{Token}
-use Rattle.table_schema.specs.Tokens.{token_text}
+use Rattle.metadata.specs.Metadata.{Metadata, cell_in}
+use Rattle.cli_lines.specs.Lines.{Part, member, note, plain, text, token, word}
+use Rattle.cli_lines.specs.declared.names.Name.TheVariants as name
+use Rattle.cli_outline.specs.Parts.{number_of}
 
 -- a space or a parenthesis: the first word ends before it
 abbrev pub ends_word : ℕ → Bool
 ends_word byte = byte == 32 || byte == 40
 
+-- a text without the spaces at its start
+abbrev pub unindented : List ℕ → List ℕ
+unindented whole = drop (prefix_len is_ascii_whitespace whole) whole
+
+-- no part of a line
+abbrev pub no_part : Part
+no_part = word []
+
 -- the member of the type, if there is one
-abbrev pub type_member : Option Token → Members → Members
-type_member None later = later
-type_member (Some class) later = member (codes "type") (string (token_text class)) later
+abbrev pub type_part : Option Token → Part
+type_part None = no_part
+type_part (Some class) = member name.Type (token class)
 
-unfoldable pub declaration_value : Token → Option Token → List ℕ → Json
-declaration_value of class text =
-    object (member (codes "token") (string (token_text of)) (type_member class
-    (member (codes "directive") (string (before_first ends_word text)) (member (codes "text") (string text) no_members))))
+-- whether the first word of a declaration is a directive: not that of an accessor none of whose flags has a word (II.23.1.12)
+abbrev pub is_directive : TableId → ℕ → Bool
+is_directive MethodSemantics flags = not (bit_and flags 0x3F == 0)
+is_directive _ flags = true
 
--- for private clauses: the text of the member of the type
-abbrev pub type_member_text : Option Token → List ℕ
-type_member_text None = []
-type_member_text (Some class) = codes ",\"type\":" ++ quoted (token_text class)
+abbrev pub has_directive : Metadata → Token → Bool
+has_directive model of = is_directive of.table (number_of (cell_in model of.table of.row 0))
+
+-- the member of the first word, if it is a directive
+abbrev pub directive_part : Bool → List ℕ → Part
+directive_part true declared = member name.Directive (text (before_first ends_word declared))
+directive_part false declared = no_part
+
+-- the line; the text of the member has no spaces at its start
+unfoldable pub declaration_line : Token → Option Token → Bool → List ℕ → List Part
+declaration_line of class directive declared =
+    member name.Token (token of) ∷ type_part class ∷ directive_part directive (unindented declared)
+    ∷ note (plain declared) ∷ member name.Text (plain (unindented declared)) ∷ word (codes "  // ") ∷ note (token of) ∷ []

@@ -1,9 +1,12 @@
 -- The line of a row of each table, as a list of parts (ECMA-335 II.6 and II.10). A row of another table has no line.
-use Rattle.std.specs.Prelude.{List, [], ◌∷◌, codes}
+use Rattle.std.specs.Prelude.{ℕ, List, [], ◌∷◌, codes}
 use Rattle.table_schema.specs.declared.table.TableId.{TableId}
 use Rattle.table_schema.specs.declared.table.TableId.TheVariants.{Assembly, AssemblyRef, Module, ModuleRef, File, ManifestResource, TypeDef, Field, MethodDef, InterfaceImpl, GenericParam, GenericParamConstraint, ExportedType, MethodImpl, MethodSemantics, Event, Property, ImplMap, CustomAttribute}
+use Rattle.table_schema.specs.declared.token.Token.{Token}
+use Rattle.metadata.specs.Metadata.{Metadata}
 use Rattle.full_names.specs.declared.flag_words.FlagTable.TheVariants as table
-use Rattle.cli_outline.specs.Parts.{Part, word, flags, text, number, quoted_after, bytes_after, key, hex, dotted, token_after, signature, declaration, own_name, name_after}
+use Rattle.cli_outline.specs.Texts.{AreTexts}
+use Rattle.cli_outline.specs.Parts.{IsPartText, Part, word, flags, text, number, quoted_after, bytes_after, key, hex, dotted, token_after, signature, declaration, own_name, name_after}
 
 abbrev pub parts_of : TableId → List Part
 -- II.6.2, II.22.2
@@ -56,3 +59,7 @@ parts_of ImplMap =
 parts_of CustomAttribute =
     word (codes ".custom") ∷ name_after (codes " ") 1 ∷ word (codes " = (") ∷ hex 2 ∷ word (codes ")") ∷ token_after (codes " of ") 0 ∷ []
 parts_of _ = []
+
+-- the declaration of a row: the texts of its parts
+abbrev pub IsDeclared : Metadata → Token → List ℕ → Type 0
+IsDeclared model of whole = AreTexts (IsPartText model of.table of.row) (parts_of of.table) whole

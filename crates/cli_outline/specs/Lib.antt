@@ -3,6 +3,6 @@ pub mod Parts
 pub mod Layouts
 pub mod Declarations
 pub mod Outline
-pub mod Sent
+pub mod Printed
 pub mod Shown
 pub mod Subjects

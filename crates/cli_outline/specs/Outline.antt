@@ -1,9 +1,8 @@
--- The outline of a model: which rows have a line, in which order, and the texts of the lines (ECMA-335 II.22).
-use Rattle.std.specs.Prelude.{◌≡◌, ℕ, ◌+◌, ◌-◌, nat_le, if◌then◌else◌, List, [], ◌∷◌, ◌++◌, map, Option}
+-- The outline of a model: which rows have a line, and in which order (ECMA-335 II.22).
+use Rattle.std.specs.Prelude.{ℕ, ◌+◌, ◌-◌, nat_le, if◌then◌else◌, List, [], ◌∷◌, ◌++◌}
 use Rattle.std.specs.List.{flat_map, range_with_len}
-use Rattle.std.specs.Str.{IsTrimAsciiStart}
 use Rattle.table_schema.specs.declared.table.TableId.{TableId}
-use Rattle.table_schema.specs.declared.table.TableId.TheVariants.{Assembly, AssemblyRef, Module, ModuleRef, File, ManifestResource, ExportedType, TypeDef, Field, MethodDef, InterfaceImpl, GenericParam, GenericParamConstraint, MethodImpl, MethodSemantics, ImplMap, CustomAttribute}
+use Rattle.table_schema.specs.declared.table.TableId.TheVariants.{Assembly, AssemblyRef, Module, ModuleRef, File, ManifestResource, ExportedType, TypeDef, InterfaceImpl, GenericParam, GenericParamConstraint, MethodImpl, MethodSemantics, ImplMap, CustomAttribute}
 use Rattle.table_schema.specs.declared.token.Token.{Token}
 use Rattle.metadata.specs.Metadata.{Metadata, cell_in, count_in}
 use Rattle.metadata.specs.Valid.{start_in}
@@ -13,48 +12,34 @@ use Rattle.metadata_source.specs.MemberLists.{cell_of, member_of, owner_of}
 use Rattle.navigation.specs.declared.links.Link.{Link}
 use Rattle.navigation.specs.declared.links.Link.TheVariants as linked_by
 use Rattle.navigation.specs.Linked.{in_order, linked}
-use Rattle.full_names.specs.RowNames.{IsMemberOf}
-use Rattle.cli_reports.specs.TypeTexts.{first_member, member_count}
-use Rattle.cli_reports.specs.declared.report.Form.{Form}
-use Rattle.cli_reports.specs.declared.report.Form.TheVariants as form
-use Rattle.cli_json.specs.Values.{line_of}
 use Rattle.cli_outline.specs.declared.mapped.Mapped.{Mapped}
 use Rattle.cli_outline.specs.declared.mapped.Mapped.TheVariants.{Events, Properties}
-use Rattle.cli_outline.specs.Declarations.{declaration_value}
-use Rattle.cli_outline.specs.Layouts.{parts_of}
-use Rattle.cli_outline.specs.Parts.{IsPartText, ending, token_at}
-use Rattle.cli_outline.specs.Texts.{AreTexts}
+use Rattle.cli_outline.specs.Parts.{token_at}
 
--- the declaration of a row: the texts of its parts
-abbrev pub IsDeclared : Metadata → Token → List ℕ → Type 0
-IsDeclared model of text = AreTexts (IsPartText model of.table of.row) (parts_of of.table) text
+-- the rows for each number from one on and before another
+unfoldable pub each_from : (ℕ → List Token) → ℕ → ℕ → List Token
+each_from rows first past = flat_map rows (range_with_len first (past - first))
 
--- the line of a row: its declaration, and its token at the end
-abbrev pub IsLine : Metadata → Token → List ℕ → Type 0
-IsLine model of line = (text : List ℕ) × IsDeclared model of text × (line ≡ text ++ ending of.table of.row)
-
--- the line of a row as JSON: the value of its declaration, without the spaces at its start
-abbrev pub IsJsonLine : Metadata → Token → List ℕ → Type 0
-IsJsonLine model of line =
-    (text : List ℕ) × IsDeclared model of text × (unindented : List ℕ) × IsTrimAsciiStart text unindented
-    × (class : Option Token) × IsMemberOf model of.table of.row class × (line ≡ line_of (declaration_value of class unindented))
-
--- the line of a row in a form
-abbrev pub IsLineIn : Form → Metadata → Token → List ℕ → Type 0
-IsLineIn form.Text model of line = IsLine model of line
-IsLineIn form.JsonLines model of line = IsJsonLine model of line
-
--- rows of a table, from one on, of which there are this many
-unfoldable pub rows_from : TableId → ℕ → ℕ → List Token
-rows_from table first count = map (token_at table) (range_with_len first count)
+-- a row of a table, alone
+abbrev pub row_of : TableId → ℕ → List Token
+row_of table row = token_at table row ∷ []
 
 -- all rows of a table
 abbrev pub all_rows : Metadata → TableId → List Token
-all_rows model table = rows_from table 1 (count_in model table)
+all_rows model table = each_from (row_of table) 1 (count_in model table + 1)
 
--- the members of a type: they end before those of the next type (II.22.37)
-abbrev pub members : Metadata → ℕ → TableId → ℕ → List Token
-members model cell_index member row = rows_from member (first_member model cell_index member row) (member_count model cell_index member row)
+-- the first member of an owner; after the last owner, one more than the last member
+abbrev pub run_start : Metadata → MemberList → ℕ → ℕ
+run_start model list row =
+    if nat_le row (count_in model (owner_of list)) then start_in (cell_in model (owner_of list) row (cell_of list)) else count_in model (member_of list) + 1
+
+-- what there is for each member of an owner: its members end before those of the next owner (II.22.37)
+abbrev pub each_member : Metadata → MemberList → (ℕ → List Token) → ℕ → List Token
+each_member model list rows owner = each_from rows (run_start model list owner) (run_start model list (owner + 1))
+
+-- the members of a type
+abbrev pub members : Metadata → MemberList → ℕ → List Token
+members model list class = each_member model list (row_of (member_of list)) class
 
 -- ---- events and properties
 
@@ -70,19 +55,14 @@ link_of Properties = linked_by.Properties
 abbrev pub table_of : Mapped → TableId
 table_of of = member_of (list_of of)
 
--- the first member of an owner; after the last owner, one more than the last member
-abbrev pub run_start : Metadata → MemberList → ℕ → ℕ
-run_start model list row =
-    if nat_le row (count_in model (owner_of list)) then start_in (cell_in model (owner_of list) row (cell_of list)) else count_in model (member_of list) + 1
-
 -- an event or a property, and its accessors (II.22.28)
 unfoldable pub accessed_rows : Metadata → Mapped → ℕ → List Token
-accessed_rows model of row = token_at (table_of of) row ∷ map (token_at MethodSemantics) (linked model linked_by.Accessors (token_at (table_of of) row))
+accessed_rows model of row =
+    token_at (table_of of) row ∷ flat_map (row_of MethodSemantics) (linked model linked_by.Accessors (token_at (table_of of) row))
 
--- the events or the properties of a row of EventMap or PropertyMap: they end before those of the next row
-unfoldable pub mapped_rows : Metadata → Mapped → ℕ → List Token
-mapped_rows model of row =
-    flat_map (accessed_rows model of) (range_with_len (run_start model (list_of of) row) (run_start model (list_of of) (row + 1) - run_start model (list_of of) row))
+-- the events or the properties of a row of EventMap or PropertyMap
+abbrev pub mapped_rows : Metadata → Mapped → ℕ → List Token
+mapped_rows model of row = each_member model (list_of of) (accessed_rows model of) row
 
 -- the events or the properties of a type: those of the rows of the map that refer to it
 unfoldable pub type_rows : Metadata → Mapped → ℕ → List Token
@@ -90,8 +70,7 @@ type_rows model of class = flat_map (mapped_rows model of) (linked model (link_o
 
 -- all events or properties, if the rows of their map are not in the order of types
 unfoldable pub apart_rows : Metadata → Mapped → List Token
-apart_rows model of =
-    if in_order model (link_of of) then [] else flat_map (accessed_rows model of) (range_with_len 1 (count_in model (table_of of)))
+apart_rows model of = if in_order model (link_of of) then [] else each_from (accessed_rows model of) 1 (count_in model (table_of of) + 1)
 
 -- all accessors, if they are not in the order of events and properties
 unfoldable pub apart_accessors : Metadata → List Token
@@ -102,7 +81,7 @@ apart_accessors model = if in_order model linked_by.Accessors then [] else all_r
 -- a type, its fields, its methods, its events and its properties
 unfoldable pub class_rows : Metadata → ℕ → List Token
 class_rows model row =
-    token_at TypeDef row ∷ (members model 4 Field row ++ (members model 5 MethodDef row ++ (type_rows model Events row ++ type_rows model Properties row)))
+    token_at TypeDef row ∷ (members model list.Fields row ++ (members model list.Methods row ++ (type_rows model Events row ++ type_rows model Properties row)))
 
 -- the tables whose rows come before the types
 unfoldable pub first_tables : List TableId
@@ -120,4 +99,4 @@ apart model = apart_rows model Events ++ (apart_rows model Properties ++ apart_a
 unfoldable pub outline_rows : Metadata → List Token
 outline_rows model =
     flat_map (all_rows model) first_tables
-    ++ (flat_map (class_rows model) (range_with_len 1 (count_in model TypeDef)) ++ (apart model ++ flat_map (all_rows model) last_tables))
+    ++ (each_from (class_rows model) 1 (count_in model TypeDef + 1) ++ (apart model ++ flat_map (all_rows model) last_tables))

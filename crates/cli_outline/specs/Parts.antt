@@ -12,8 +12,7 @@ use Rattle.metadata.specs.Metadata.{Metadata, cell_in}
 use Rattle.full_names.specs.RowNames.{IsRowName}
 use Rattle.full_names.specs.Texts.{ArePiecesText, IsDeclaration, IsFullName, IsPieceText}
 use Rattle.cli_faults.specs.Escaped.{escaped_text}
-use Rattle.cli_reports.specs.Escaped.{escaped_bytes}
-use Rattle.cli_reports.specs.RowTexts.{line_feed}
+use Rattle.cli_lines.specs.Texts.{escaped_bytes}
 use Rattle.full_names.specs.FlagWords.{words_of, words_text}
 use Rattle.full_names.specs.declared.flag_words.FlagTable.{FlagTable}
 use Rattle.full_names.specs.declared.flag_words.FlagTable.TheVariants as table_of
@@ -147,7 +146,3 @@ IsPartText model table row (signature cell) out = IsSignatureOf model (cell_in m
 IsPartText model table row declaration out = IsDeclarationAt model table row out
 IsPartText model table row own_name out = IsNameText model (token_at table row) out
 IsPartText model table row (name_after before cell) out = IsNameAfter model before (reference_of (cell_in model table row cell)) out
-
--- the end of a line: the token of its row, in a comment
-abbrev pub ending : TableId → ℕ → List ℕ
-ending table row = codes "  // " ++ token_text (token_at table row) ++ line_feed

@@ -1,5 +1,5 @@
 //! The value of a cell of a view, by its kind. A cell of another kind has an empty value.
-ghost use Rattle.std.specs.Prelude.{◌≡◌, ◌≤◌, ◌<◌, IfSome};
+ghost use Rattle.std.specs.Prelude.{◌≡◌, ◌≤◌, ◌<◌};
 ghost use Rattle.table_schema.specs.CellColumns.{cell_count};
 ghost use Rattle.metadata.specs.Metadata.{Metadata, cell_in};
 ghost use Rattle.metadata.specs.Model.{IsModel};
@@ -52,13 +52,8 @@ pub(crate) fn reference(view: &View<'_>, table: TableId, row: u32, cell: usize) 
     requires first { 1 ≤ row }
     requires last { row ≤ row_count view.now table }
     requires cell { cell < cell_count table }
-    ensures value { (model : Metadata) → IsModel view.now model → result ≡ reference_of (cell_in model table row cell) }
-    ensures short { IfSome result (λ token. token.row ≤ 0xFFFFFF) }
+    ensures { (model : Metadata) → IsModel view.now model → result ≡ reference_of (cell_in model table row cell) }
 {
-    metadata::laws::models_are_read();
-    metadata::laws::models_of_roots_are_valid();
-    // The root has a model.
-    let _root = view.root();
     match view.cell(table, row, cell) {
         CellRef::Ref(token) => token,
         _ => None,

@@ -1,9 +1,9 @@
 //! The outline of an assembly: its declarations in the notation of ILAsm (ECMA-335 II.5 to II.22), one per line.
 //!
-//! [`print_outline`] prints the outline of a view, [`report_outline`] that of a file, and [`report_outline_of`] that of one
-//! type, as text or as JSON Lines. `specs/Outline.antt` says which rows have a line, and in which order.
-//! `specs/Layouts.antt` says what the line of a row is, as a list of parts, and `specs/Parts.antt` what the text of a part
-//! is. It is proved that these lines go out and nothing else.
+//! [`print_outline`] prints the outline of a view, and [`print_outline_of`] that of one type. `specs/Outline.antt` says which
+//! rows have a line, and in which order. `specs/Layouts.antt` says what the declaration of a row is, as a list of parts,
+//! `specs/Parts.antt` what the text of a part is, and `specs/Declarations.antt` what the line of a declaration is. It is
+//! proved that these lines are printed and nothing else.
 //!
 //! ```text
 //! .assembly Hello { .ver 1:0:0:0 }  // 20000001
@@ -15,16 +15,15 @@
 #![tactic(auto)]
 
 mod cell_values;
+mod declared;
+mod laws;
 mod layouts;
-mod lines;
+mod line;
 mod mapped;
 mod outline;
 mod pieces;
-mod report;
-mod row_line;
 mod signature_sink;
 mod subject;
 
-pub use outline::print_outline;
-pub use report::{report_outline, report_outline_of};
+pub use outline::{print_outline, print_outline_of};
 pub use subject::{Outcome, Subject};

@@ -1,19 +1,18 @@
 //! Prints the events and the properties of types, with their accessors (II.22.12, II.22.28, II.22.35).
-ghost use Rattle.std.specs.Prelude.{◌≡◌, ◌≤◌, ◌+◌, ◌-◌};
-ghost use Rattle.std.specs.List.{flat_map, range_with_len};
+ghost use Rattle.std.specs.Prelude.{◌≡◌, ◌≤◌, ◌+◌};
 ghost use Rattle.metadata.specs.Metadata.{Metadata};
 ghost use Rattle.metadata.specs.Model.{IsModel};
 ghost use Rattle.metadata_source.specs.MemberLists.{owner_of};
 ghost use Rattle.opening.specs.Views.{row_count};
-ghost use Rattle.cli_outline.specs.Outline.{IsLineIn, accessed_rows, apart_rows, list_of, mapped_rows, run_start, table_of, type_rows};
-ghost use Rattle.cli_outline.specs.Sent.{MovesLines};
+ghost use Rattle.cli_outline.specs.Outline.{accessed_rows, apart_rows, each_from, list_of, mapped_rows, table_of, type_rows};
+ghost use Rattle.cli_outline.specs.Printed.{PrintsRows};
 
-use crate::lines::Lines;
-use crate::outline::{print_line, print_rows};
-use crate::row_line::Printing;
+use crate::declared::Declared;
+use crate::laws::{ranges_follow, rows_follow};
+use crate::outline::{print_row, print_rows, run_of};
+use cli_lines::Printer;
 use navigation::{Link, Neighbours};
 use opening::{CellCursor, MemberList, TableId, Token};
-use std::io;
 use std::io::Write;
 use std::ops::Range;
 
@@ -68,124 +67,98 @@ impl Mapped {
 
 /// Prints the line of an event or a property, and those of its accessors.
 fn print_accessed<W: Write>(
-    printing: Printing,
     source: &Neighbours<'_, '_>,
     of: Mapped,
     row: u32,
-    lines: &mut Lines,
-    out: &mut W,
-) -> io::Result<()>
+    declared: &mut Declared,
+    out: &mut Printer<'_, W>,
+)
     requires first { 1 ≤ row }
     requires last { row ≤ row_count source.now.view.now (table_of of) }
     requires limit { row ≤ 0xFFFFFF }
-    ensures { (model : Metadata) → IsModel source.now.view.now model
-        → MovesLines (IsLineIn printing.form model) (W.contents out.old) (W.contents out.new) result (accessed_rows model of row) lines.old.bytes.items lines.new.bytes.items }
+    ensures { (model : Metadata) → IsModel source.now.view.now model → PrintsRows model out.old out.new (accessed_rows model of row) }
 {
+    rows_follow::<W>();
     let table = of.list().member();
-    print_line(printing, source, Token { table, row }, lines, out)?;
+    print_row(source, None, Token { table, row }, declared, out);
     let rows = source.linked(Link::Accessors, of.accessed(row));
-    print_rows(printing, source, TableId::MethodSemantics, rows, lines, out)
+    print_rows(source, None, TableId::MethodSemantics, rows, declared, out);
 }
 
 /// Prints the lines of some events or properties, in ascending order, each with its accessors.
 fn print_all_accessed<W: Write>(
-    printing: Printing,
     source: &Neighbours<'_, '_>,
     of: Mapped,
     rows: Range<u32>,
-    lines: &mut Lines,
-    out: &mut W,
-) -> io::Result<()>
+    declared: &mut Declared,
+    out: &mut Printer<'_, W>,
+)
     requires first { 1 ≤ rows.start }
     requires last { rows.«end» ≤ row_count source.now.view.now (table_of of) + 1 }
-    ensures { (model : Metadata) → IsModel source.now.view.now model
-        → MovesLines (IsLineIn printing.form model) (W.contents out.old) (W.contents out.new) result (flat_map (accessed_rows model of) (range_with_len rows.start (rows.«end» - rows.start)))
-        lines.old.bytes.items lines.new.bytes.items }
+    ensures { (model : Metadata) → IsModel source.now.view.now model → PrintsRows model out.old out.new (each_from (accessed_rows model of) rows.start rows.«end») }
 {
     // The table has at most 0xFFFFFF rows.
     let _count = source.view.count(of.list().member());
+    ranges_follow::<W>();
     let (first, past) = (rows.start, rows.end);
     for row in first..past {
-        print_accessed(printing, source, of, row, lines, out)?;
+        print_accessed(source, of, row, declared, out);
     }
-    Ok(())
-}
-
-/// The events or the properties of a row of their map.
-fn mapped_run(cells: &mut CellCursor<'_, '_>, of: Mapped, map: u32) -> Range<u32>
-    requires first { 1 ≤ map }
-    requires last { map ≤ row_count cells.old (owner_of (list_of of)) }
-    ensures same { cells.new ≡ cells.old }
-    ensures first { 1 ≤ result.start }
-    ensures last { result.«end» ≤ row_count cells.old (table_of of) + 1 }
-    ensures begin { (model : Metadata) → IsModel cells.old model → result.start ≡ run_start model (list_of of) map }
-    ensures past { (model : Metadata) → IsModel cells.old model → result.«end» ≡ run_start model (list_of of) (map + 1) }
-{
-    metadata::laws::models_are_read();
-    metadata::laws::models_of_roots_are_valid();
-    // The root of a view has a model.
-    let _view = cells.view();
-    cells.run(of.list(), map)
 }
 
 /// Prints the lines of the events or the properties of a row of their map.
 fn print_map<W: Write>(
-    printing: Printing,
     source: &Neighbours<'_, '_>,
     cells: &mut CellCursor<'_, '_>,
     of: Mapped,
     map: u32,
-    lines: &mut Lines,
-    out: &mut W,
-) -> io::Result<()>
+    declared: &mut Declared,
+    out: &mut Printer<'_, W>,
+)
     requires first { 1 ≤ map }
     requires last { map ≤ row_count cells.old (owner_of (list_of of)) }
     requires at { cells.old ≡ source.now.view.now }
     ensures same { cells.new ≡ cells.old }
-    ensures lines { (model : Metadata) → IsModel source.now.view.now model
-        → MovesLines (IsLineIn printing.form model) (W.contents out.old) (W.contents out.new) result (mapped_rows model of map) lines.old.bytes.items lines.new.bytes.items }
+    ensures lines { (model : Metadata) → IsModel source.now.view.now model → PrintsRows model out.old out.new (mapped_rows model of map) }
 {
-    let rows = mapped_run(cells, of, map);
-    print_all_accessed(printing, source, of, rows, lines, out)
+    let rows = run_of(cells, of.list(), map);
+    print_all_accessed(source, of, rows, declared, out);
 }
 
 /// Prints the lines of the events or the properties of a type.
 pub(crate) fn print_mapped<W: Write>(
-    printing: Printing,
     source: &Neighbours<'_, '_>,
     cells: &mut CellCursor<'_, '_>,
     of: Mapped,
     class: u32,
-    lines: &mut Lines,
-    out: &mut W,
-) -> io::Result<()>
+    declared: &mut Declared,
+    out: &mut Printer<'_, W>,
+)
     requires at { cells.old ≡ source.now.view.now }
     ensures same { cells.new ≡ cells.old }
-    ensures lines { (model : Metadata) → IsModel source.now.view.now model
-        → MovesLines (IsLineIn printing.form model) (W.contents out.old) (W.contents out.new) result (type_rows model of class) lines.old.bytes.items lines.new.bytes.items }
+    ensures lines { (model : Metadata) → IsModel source.now.view.now model → PrintsRows model out.old out.new (type_rows model of class) }
 {
+    ranges_follow::<W>();
     let maps = source.linked(of.link(), class);
     let (first, past) = (maps.start, maps.end);
     for map in first..past {
-        print_map(printing, source, cells, of, map, lines, out)?;
+        print_map(source, cells, of, map, declared, out);
     }
-    Ok(())
 }
 
 /// Prints the lines of all events or properties, if the rows of their map are not in the order of types.
 pub(crate) fn print_apart<W: Write>(
-    printing: Printing,
     source: &Neighbours<'_, '_>,
     of: Mapped,
-    lines: &mut Lines,
-    out: &mut W,
-) -> io::Result<()>
-    ensures { (model : Metadata) → IsModel source.now.view.now model
-        → MovesLines (IsLineIn printing.form model) (W.contents out.old) (W.contents out.new) result (apart_rows model of) lines.old.bytes.items lines.new.bytes.items }
+    declared: &mut Declared,
+    out: &mut Printer<'_, W>,
+)
+    ensures { (model : Metadata) → IsModel source.now.view.now model → PrintsRows model out.old out.new (apart_rows model of) }
 {
+    rows_follow::<W>();
     if source.in_order(of.link()) {
-        return Ok(());
+        return;
     }
     let count = source.view.count(of.list().member());
-    print_all_accessed(printing, source, of, 1..count + 1, lines, out)
+    print_all_accessed(source, of, 1..count + 1, declared, out);
 }

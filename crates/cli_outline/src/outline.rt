@@ -1,110 +1,110 @@
 //! Prints the outline of a view.
-ghost use Rattle.std.specs.Prelude.{◌≡◌, ◌≤◌, ◌∷◌, [], ◌+◌, ◌-◌, ℕ};
-ghost use Rattle.std.specs.List.{flat_map, range_with_len};
+ghost use Rattle.std.specs.Prelude.{◌≡◌, ◌≤◌, ◌<◌, ◌+◌, ℕ, Some};
+ghost use Rattle.std.specs.List.{flat_map};
 ghost use Rattle.table_schema.specs.declared.table.TableId.TheVariants.{TypeDef};
+ghost use Rattle.table_schema.specs.declared.token.Token.{Token as TheToken};
+ghost use Rattle.metadata.specs.Lookups.{IsRun};
 ghost use Rattle.metadata.specs.Metadata.{Metadata, count_in};
 ghost use Rattle.metadata.specs.Model.{IsModel};
 ghost use Rattle.metadata_source.specs.MemberLists.{cell_of, member_of, owner_of};
+ghost use Rattle.full_names.specs.RowNames.{IsMemberOf};
 ghost use Rattle.opening.specs.Views.{row_count};
-ghost use Rattle.cli_reports.specs.TypeTexts.{first_member, member_count};
-ghost use Rattle.cli_outline.specs.Outline.{IsLineIn, all_rows, apart, apart_accessors, class_rows, first_tables, last_tables, members, outline_rows, rows_from};
-ghost use Rattle.cli_outline.specs.Sent.{MovesLines, PrintsLines};
+ghost use Rattle.cli_outline.specs.Outline.{all_rows, apart, apart_accessors, class_rows, each_from, first_tables, last_tables, members, outline_rows, row_of, run_start};
+ghost use Rattle.cli_outline.specs.Printed.{PrintsRows};
+ghost use Rattle.cli_outline.specs.Subjects.{PrintsNone, PrintsSubject};
 
-use crate::lines::Lines;
+use crate::declared::Declared;
+use crate::laws::{ranges_follow, rows_follow};
+use crate::line::print_line;
 use crate::mapped::{Mapped, print_apart, print_mapped};
-use crate::row_line::{Printing, push_line};
-use cli_reports::{FULL, Form, finish, send_full};
+use crate::subject::{Outcome, Subject, found_row};
+use cli_lines::Printer;
+use full_names::type_of_member;
 use navigation::{Link, Neighbours};
 use opening::{CellCursor, MemberList, TableId, Token, View};
 use std::alloc::Global;
-use std::io;
 use std::io::Write;
 use std::ops::Range;
 
-/// Prints the line of a row.
-pub(crate) fn print_line<W: Write>(
-    printing: Printing,
+/// Prints the line of a row. The type of a member is given, or found by binary search.
+pub(crate) fn print_row<W: Write>(
     source: &Neighbours<'_, '_>,
+    owner: Option<Token>,
     token: Token,
-    lines: &mut Lines,
-    out: &mut W,
-) -> io::Result<()>
+    declared: &mut Declared,
+    out: &mut Printer<'_, W>,
+)
     requires first { 1 ≤ token.row }
     requires last { token.row ≤ row_count source.now.view.now token.table }
-    requires limit { token.row ≤ 0xFFFFFF }
-    ensures { (model : Metadata) → IsModel source.now.view.now model
-        → MovesLines (IsLineIn printing.form model) (W.contents out.old) (W.contents out.new) result (token ∷ []) lines.old.bytes.items lines.new.bytes.items }
+    requires member { (class : TheToken) → owner ≡ Some class → (model : Metadata) → IsModel source.now.view.now model → IsMemberOf model token.table token.row owner }
+    ensures { (model : Metadata) → IsModel source.now.view.now model → PrintsRows model out.old out.new (row_of token.table token.row) }
 {
-    push_line(printing, source, token, lines)?;
-    send_full(&mut lines.bytes, out)
+    match owner {
+        Some(class) => print_line(source, Some(class), token, declared, out),
+        None => print_line(source, type_of_member(source, token), token, declared, out),
+    }
 }
 
-/// Prints the lines of some rows of a table, in ascending order.
+/// Prints the lines of some rows of a table, in ascending order. The type of members is given, or found for each.
 pub(crate) fn print_rows<W: Write>(
-    printing: Printing,
     source: &Neighbours<'_, '_>,
+    owner: Option<Token>,
     table: TableId,
     rows: Range<u32>,
-    lines: &mut Lines,
-    out: &mut W,
-) -> io::Result<()>
+    declared: &mut Declared,
+    out: &mut Printer<'_, W>,
+)
     requires first { 1 ≤ rows.start }
     requires last { rows.«end» ≤ row_count source.now.view.now table + 1 }
-    ensures { (model : Metadata) → IsModel source.now.view.now model
-        → MovesLines (IsLineIn printing.form model) (W.contents out.old) (W.contents out.new) result (rows_from table rows.start (rows.«end» - rows.start)) lines.old.bytes.items lines.new.bytes.items }
+    requires members { (class : TheToken) → owner ≡ Some class → (model : Metadata) → IsModel source.now.view.now model
+        → (row : ℕ) → rows.start ≤ row → row < rows.«end» → IsMemberOf model table row owner }
+    ensures { (model : Metadata) → IsModel source.now.view.now model → PrintsRows model out.old out.new (each_from (row_of table) rows.start rows.«end») }
 {
-    // The table has at most 0xFFFFFF rows.
-    let _count = source.view.count(table);
+    ranges_follow::<W>();
     let (first, past) = (rows.start, rows.end);
     for row in first..past {
-        print_line(printing, source, Token { table, row }, lines, out)?;
+        print_row(source, owner, Token { table, row }, declared, out);
     }
-    Ok(())
 }
 
 /// Prints the lines of all rows of a table.
 fn print_table<W: Write>(
-    printing: Printing,
     source: &Neighbours<'_, '_>,
     table: TableId,
-    lines: &mut Lines,
-    out: &mut W,
-) -> io::Result<()>
-    ensures { (model : Metadata) → IsModel source.now.view.now model
-        → MovesLines (IsLineIn printing.form model) (W.contents out.old) (W.contents out.new) result (all_rows model table) lines.old.bytes.items lines.new.bytes.items }
+    declared: &mut Declared,
+    out: &mut Printer<'_, W>,
+)
+    ensures { (model : Metadata) → IsModel source.now.view.now model → PrintsRows model out.old out.new (all_rows model table) }
 {
     let count = source.view.count(table);
-    print_rows(printing, source, table, 1..count + 1, lines, out)
+    print_rows(source, None, table, 1..count + 1, declared, out);
 }
 
 /// Prints the lines of all rows of some tables.
 fn print_tables<W: Write>(
-    printing: Printing,
     source: &Neighbours<'_, '_>,
     tables: &[TableId],
-    lines: &mut Lines,
-    out: &mut W,
-) -> io::Result<()>
-    ensures { (model : Metadata) → IsModel source.now.view.now model
-        → MovesLines (IsLineIn printing.form model) (W.contents out.old) (W.contents out.new) result (flat_map (all_rows model) tables.now) lines.old.bytes.items lines.new.bytes.items }
+    declared: &mut Declared,
+    out: &mut Printer<'_, W>,
+)
+    ensures { (model : Metadata) → IsModel source.now.view.now model → PrintsRows model out.old out.new (flat_map (all_rows model) tables.now) }
 {
+    rows_follow::<W>();
     for table in tables {
-        print_table(printing, source, *table, lines, out)?;
+        print_table(source, *table, declared, out);
     }
-    Ok(())
 }
 
-/// The run of a type's members of one kind.
-fn run_of(cells: &mut CellCursor<'_, '_>, list: MemberList, row: u32) -> Range<u32>
+/// The members of an owner.
+pub(crate) fn run_of(cells: &mut CellCursor<'_, '_>, list: MemberList, row: u32) -> Range<u32>
     requires first { 1 ≤ row }
-    requires last { row ≤ row_count cells.old TypeDef }
-    requires types { owner_of list ≡ TypeDef }
+    requires last { row ≤ row_count cells.old (owner_of list) }
     ensures same { cells.new ≡ cells.old }
     ensures first { 1 ≤ result.start }
     ensures last { result.«end» ≤ row_count cells.old (member_of list) + 1 }
-    ensures begin { (model : Metadata) → IsModel cells.old model → result.start ≡ first_member model (cell_of list) (member_of list) row }
-    ensures count { (model : Metadata) → IsModel cells.old model
-        → result.«end» - result.start ≡ member_count model (cell_of list) (member_of list) row }
+    ensures run { (model : Metadata) → IsModel cells.old model → IsRun model (owner_of list) (cell_of list) (member_of list) row result.start result.«end» }
+    ensures begin { (model : Metadata) → IsModel cells.old model → result.start ≡ run_start model list row }
+    ensures past { (model : Metadata) → IsModel cells.old model → result.«end» ≡ run_start model list (row + 1) }
 {
     metadata::laws::models_are_read();
     metadata::laws::models_of_roots_are_valid();
@@ -115,78 +115,69 @@ fn run_of(cells: &mut CellCursor<'_, '_>, list: MemberList, row: u32) -> Range<u
 
 /// Prints the lines of a type's members of one kind.
 fn print_members<W: Write>(
-    printing: Printing,
     source: &Neighbours<'_, '_>,
     cells: &mut CellCursor<'_, '_>,
     list: MemberList,
     row: u32,
-    lines: &mut Lines,
-    out: &mut W,
-) -> io::Result<()>
+    declared: &mut Declared,
+    out: &mut Printer<'_, W>,
+)
     requires first { 1 ≤ row }
     requires last { row ≤ row_count cells.old (owner_of list) }
     requires types { owner_of list ≡ TypeDef }
     requires at { cells.old ≡ source.now.view.now }
     ensures same { cells.new ≡ cells.old }
-    ensures lines { (model : Metadata) → IsModel source.now.view.now model
-        → MovesLines (IsLineIn printing.form model) (W.contents out.old) (W.contents out.new) result (members model (cell_of list) (member_of list) row) lines.old.bytes.items lines.new.bytes.items }
+    ensures lines { (model : Metadata) → IsModel source.now.view.now model → PrintsRows model out.old out.new (members model list row) }
 {
+    metadata::laws::models_are_read();
     let rows = run_of(cells, list, row);
-    print_rows(printing, source, list.member(), rows, lines, out)
-}
-
-/// Prints the lines of a type, of its fields, its methods, its events and its properties.
-fn print_class<W: Write>(
-    printing: Printing,
-    source: &Neighbours<'_, '_>,
-    cells: &mut CellCursor<'_, '_>,
-    row: u32,
-    lines: &mut Lines,
-    out: &mut W,
-) -> io::Result<()>
-    requires first { 1 ≤ row }
-    requires last { row ≤ row_count cells.old TypeDef }
-    requires limit { row ≤ 0xFFFFFF }
-    requires at { cells.old ≡ source.now.view.now }
-    ensures same { cells.new ≡ cells.old }
-    ensures lines { (model : Metadata) → IsModel source.now.view.now model
-        → MovesLines (IsLineIn printing.form model) (W.contents out.old) (W.contents out.new) result (class_rows model row) lines.old.bytes.items lines.new.bytes.items }
-{
     let class = Token {
         table: TableId::TypeDef,
         row,
     };
-    print_line(printing, source, class, lines, out)?;
-    print_members(printing, source, cells, MemberList::Fields, row, lines, out)?;
-    print_members(
-        printing,
-        source,
-        cells,
-        MemberList::Methods,
+    print_rows(source, Some(class), list.member(), rows, declared, out);
+}
+
+/// Prints the lines of a type, of its fields, its methods, its events and its properties.
+fn print_class<W: Write>(
+    source: &Neighbours<'_, '_>,
+    cells: &mut CellCursor<'_, '_>,
+    row: u32,
+    declared: &mut Declared,
+    out: &mut Printer<'_, W>,
+)
+    requires first { 1 ≤ row }
+    requires last { row ≤ row_count cells.old TypeDef }
+    requires at { cells.old ≡ source.now.view.now }
+    ensures same { cells.new ≡ cells.old }
+    ensures lines { (model : Metadata) → IsModel source.now.view.now model → PrintsRows model out.old out.new (class_rows model row) }
+{
+    rows_follow::<W>();
+    let class = Token {
+        table: TableId::TypeDef,
         row,
-        lines,
-        out,
-    )?;
-    print_mapped(printing, source, cells, Mapped::Events, row, lines, out)?;
-    print_mapped(printing, source, cells, Mapped::Properties, row, lines, out)
+    };
+    print_row(source, None, class, declared, out);
+    print_members(source, cells, MemberList::Fields, row, declared, out);
+    print_members(source, cells, MemberList::Methods, row, declared, out);
+    print_mapped(source, cells, Mapped::Events, row, declared, out);
+    print_mapped(source, cells, Mapped::Properties, row, declared, out);
 }
 
 /// Prints the lines of all types and their members.
 fn print_classes<W: Write>(
-    printing: Printing,
     source: &Neighbours<'_, '_>,
-    lines: &mut Lines,
-    out: &mut W,
-) -> io::Result<()>
-    ensures { (model : Metadata) → IsModel source.now.view.now model
-        → MovesLines (IsLineIn printing.form model) (W.contents out.old) (W.contents out.new) result (flat_map (class_rows model) (range_with_len 1 (count_in model TypeDef)))
-        lines.old.bytes.items lines.new.bytes.items }
+    declared: &mut Declared,
+    out: &mut Printer<'_, W>,
+)
+    ensures { (model : Metadata) → IsModel source.now.view.now model → PrintsRows model out.old out.new (each_from (class_rows model) 1 (count_in model TypeDef + 1)) }
 {
+    ranges_follow::<W>();
     let mut cells = CellCursor::new(source.view);
-    for earlier in 0..source.view.count(TableId::TypeDef) {
-        print_class(printing, source, &mut cells, earlier + 1, lines, out)?;
+    let count = source.view.count(TableId::TypeDef);
+    for row in 1..count + 1 {
+        print_class(source, &mut cells, row, declared, out);
     }
-    Ok(())
 }
 
 /// The tables whose rows come before the types, in the order of the lines.
@@ -220,49 +211,46 @@ fn last_tables() -> &'static [TableId]
 
 /// Prints the lines of all accessors, if they are not in the order of events and properties.
 fn print_apart_accessors<W: Write>(
-    printing: Printing,
     source: &Neighbours<'_, '_>,
-    lines: &mut Lines,
-    out: &mut W,
-) -> io::Result<()>
-    ensures { (model : Metadata) → IsModel source.now.view.now model
-        → MovesLines (IsLineIn printing.form model) (W.contents out.old) (W.contents out.new) result (apart_accessors model) lines.old.bytes.items lines.new.bytes.items }
+    declared: &mut Declared,
+    out: &mut Printer<'_, W>,
+)
+    ensures { (model : Metadata) → IsModel source.now.view.now model → PrintsRows model out.old out.new (apart_accessors model) }
 {
+    rows_follow::<W>();
     if source.in_order(Link::Accessors) {
-        return Ok(());
+        return;
     }
-    print_table(printing, source, TableId::MethodSemantics, lines, out)
+    print_table(source, TableId::MethodSemantics, declared, out);
 }
 
 /// Prints the lines of events, properties and accessors that are not below types.
 fn print_all_apart<W: Write>(
-    printing: Printing,
     source: &Neighbours<'_, '_>,
-    lines: &mut Lines,
-    out: &mut W,
-) -> io::Result<()>
-    ensures { (model : Metadata) → IsModel source.now.view.now model
-        → MovesLines (IsLineIn printing.form model) (W.contents out.old) (W.contents out.new) result (apart model) lines.old.bytes.items lines.new.bytes.items }
+    declared: &mut Declared,
+    out: &mut Printer<'_, W>,
+)
+    ensures { (model : Metadata) → IsModel source.now.view.now model → PrintsRows model out.old out.new (apart model) }
 {
-    print_apart(printing, source, Mapped::Events, lines, out)?;
-    print_apart(printing, source, Mapped::Properties, lines, out)?;
-    print_apart_accessors(printing, source, lines, out)
+    rows_follow::<W>();
+    print_apart(source, Mapped::Events, declared, out);
+    print_apart(source, Mapped::Properties, declared, out);
+    print_apart_accessors(source, declared, out);
 }
 
 /// Prints all lines of the outline.
 fn print_all<W: Write>(
-    printing: Printing,
     source: &Neighbours<'_, '_>,
-    lines: &mut Lines,
-    out: &mut W,
-) -> io::Result<()>
-    ensures { (model : Metadata) → IsModel source.now.view.now model
-        → MovesLines (IsLineIn printing.form model) (W.contents out.old) (W.contents out.new) result (outline_rows model) lines.old.bytes.items lines.new.bytes.items }
+    declared: &mut Declared,
+    out: &mut Printer<'_, W>,
+)
+    ensures { (model : Metadata) → IsModel source.now.view.now model → PrintsRows model out.old out.new (outline_rows model) }
 {
-    print_tables(printing, source, first_tables(), lines, out)?;
-    print_classes(printing, source, lines, out)?;
-    print_all_apart(printing, source, lines, out)?;
-    print_tables(printing, source, last_tables(), lines, out)
+    rows_follow::<W>();
+    print_tables(source, first_tables(), declared, out);
+    print_classes(source, declared, out);
+    print_all_apart(source, declared, out);
+    print_tables(source, last_tables(), declared, out);
 }
 
 /// Prints the outline of a view: its declarations in the notation of ILAsm (II.5 to II.22), one per line. Each line ends
@@ -283,48 +271,46 @@ fn print_all<W: Write>(
 ///
 /// Its memory is that of the longest line, and of the lines that wait to be sent. If a list of members has a null start,
 /// its starts take four bytes for each owner.
-/// # Errors
-/// Out of memory, or the error of the writer. By then the writer has nothing or a prefix of the lines.
-pub fn print_outline<W: Write>(
-    alloc: Global,
-    form: Form,
-    view: &View<'_>,
-    out: &mut W,
-) -> io::Result<()>
-    ensures { (model : Metadata) → IsModel view.now model
-        → PrintsLines (IsLineIn form model) (W.contents out.old) (W.contents out.new) result (outline_rows model) }
+pub fn print_outline<W: Write>(alloc: Global, view: &View<'_>, out: &mut Printer<'_, W>)
+    ensures { (model : Metadata) → IsModel view.now model → PrintsRows model out.old out.new (outline_rows model) }
 {
-    let mut lines = Lines {
-        bytes: Vec::with_capacity(alloc, FULL)?,
-        left: 0,
-    };
-    let source = Neighbours::new(alloc, view)?;
-    print_all(Printing { alloc, form }, &source, &mut lines, out)?;
-    finish(&lines.bytes, out)
+    match Neighbours::new(alloc, view) {
+        Ok(source) => print_all(&source, &mut Declared::new(alloc), out),
+        Err(_) => out.fail(),
+    }
 }
 
 /// Prints the outline of a type of a view: its line, and those of its fields, methods, events and properties.
-pub(crate) fn print_type<W: Write>(
-    alloc: Global,
-    form: Form,
-    view: &View<'_>,
-    row: u32,
-    out: &mut W,
-) -> io::Result<()>
+fn print_type<W: Write>(alloc: Global, view: &View<'_>, row: u32, out: &mut Printer<'_, W>)
     requires first { 1 ≤ row }
     requires last { row ≤ row_count view.now TypeDef }
-    ensures { (model : Metadata) → IsModel view.now model
-        → PrintsLines (IsLineIn form model) (W.contents out.old) (W.contents out.new) result (class_rows model row) }
+    ensures { (model : Metadata) → IsModel view.now model → PrintsRows model out.old out.new (class_rows model row) }
 {
-    // The table has at most 0xFFFFFF rows.
-    let _count = view.count(TableId::TypeDef);
-    let source = Neighbours::new(alloc, view)?;
-    let mut lines = Lines {
-        bytes: Vec::with_capacity(alloc, FULL)?,
-        left: 0,
-    };
-    let mut cells = CellCursor::new(source.view);
-    let printing = Printing { alloc, form };
-    print_class(printing, &source, &mut cells, row, &mut lines, out)?;
-    finish(&lines.bytes, out)
+    match Neighbours::new(alloc, view) {
+        Ok(source) => {
+            let mut cells = CellCursor::new(source.view);
+            print_class(&source, &mut cells, row, &mut Declared::new(alloc), out);
+        }
+        Err(_) => out.fail(),
+    }
+}
+
+/// Prints the outline of one type of a view: the line of the type, and below it those of its fields, methods, events and
+/// properties, as [`print_outline`] does.
+pub fn print_outline_of<W: Write>(
+    alloc: Global,
+    view: &View<'_>,
+    subject: Subject<'_>,
+    out: &mut Printer<'_, W>,
+) -> Outcome
+    ensures printed { (model : Metadata) → IsModel view.now model → PrintsSubject model subject.entry out.old out.new result }
+    ensures untouched { PrintsNone out.old out.new result }
+{
+    match found_row(view, subject) {
+        Some(row) => {
+            print_type(alloc, view, row, out);
+            Outcome::Printed
+        }
+        None => Outcome::NoSuchType,
+    }
 }

@@ -45,7 +45,7 @@ fn row_in_table(view: &View<'_>, row: u32) -> Option<u32>
 }
 
 /// The row of TypeDef that is a subject; `None` if there is none.
-pub(crate) fn row_of(view: &View<'_>, subject: Subject<'_>) -> Option<u32>
+pub(crate) fn found_row(view: &View<'_>, subject: Subject<'_>) -> Option<u32>
     ensures sound { (model : Metadata) → IsModel view.now model → IfSome result (IsSubject model subject.entry) }
     ensures none { (model : Metadata) → IsModel view.now model → IfNone result ((row : ℕ) → ¬ IsSubject model subject.entry row) }
     ensures first { IfSome result (λ row. 1 ≤ row) }

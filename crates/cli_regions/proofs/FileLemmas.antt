@@ -1,13 +1,12 @@
--- The lines of a file, part by part, and of what its CLI header names.
-use Rattle.std.proofs.Common.{◌≡◌, ◌∙◌, ℕ, ◌+◌, ◌<◌, Bool, true, false, Option, None, Some, List, [], ◌∷◌, ◌++◌, length, map, drop, get_or, refl, ap, sym, cond}
+-- What the CLI header names.
+use Rattle.std.proofs.Common.{◌≡◌, ◌∙◌, ℕ, ◌+◌, ◌<◌, Bool, true, false, Option, None, Some, List, [], ◌∷◌, length, map, drop, get_or, refl, ap, sym, cond}
 use Rattle.std.specs.Prelude.{nat_le}
 use Rattle.std.proofs.lemmas.Bool.{leb-true, le-leb}
 use Rattle.std.proofs.lemmas.List.{drop-map, drop_more}
 use Rattle.pe.specs.Image.{Image}
 use Rattle.pe.specs.Offset.{IsFileOffset, offset_at}
 use Rattle.cli_regions.specs.Files.{Named, named_at, named_regions}
-use Rattle.cli_regions.specs.Regions.{Region, lines_at, region}
-use Rattle.cli_regions.proofs.RegionLemmas.{lines_after}
+use Rattle.cli_regions.specs.Regions.{region}
 
 -- the file has the bytes
 pub named_found : (image : Image) (of : Named) (offset : ℕ) → IsFileOffset image of.directory.rva of.directory.size offset
@@ -41,18 +40,3 @@ mapped_left g items all i none same within =
     ∙ ap (map g) (drop_more items i none within)
     ∙ ap (λ xs. g (get_or items i none) ∷ xs) (sym (drop-map g (i + 1) items))
     ∙ ap (λ xs. g (get_or items i none) ∷ drop (i + 1) xs) same
-
--- the six parts of an image
-pub six_parts : (line : List ℕ) (offset : ℕ) (a b c d e f : List Region)
-    → (((((line ++ lines_at offset a) ++ lines_at offset b) ++ lines_at offset c) ++ lines_at offset d) ++ lines_at offset e) ++ lines_at offset f
-    ≡ line ++ lines_at offset (a ++ b ++ c ++ d ++ e ++ f)
-six_parts line offset a b c d e f =
-    ap (λ xs. (((xs ++ lines_at offset c) ++ lines_at offset d) ++ lines_at offset e) ++ lines_at offset f) (lines_after line offset a b)
-    ∙ ap (λ xs. ((xs ++ lines_at offset d) ++ lines_at offset e) ++ lines_at offset f) (lines_after line offset (a ++ b) c)
-    ∙ ap (λ xs. (xs ++ lines_at offset e) ++ lines_at offset f) (lines_after line offset (a ++ b ++ c) d)
-    ∙ ap (λ xs. xs ++ lines_at offset f) (lines_after line offset (a ++ b ++ c ++ d) e)
-    ∙ lines_after line offset (a ++ b ++ c ++ d ++ e) f
-
-pub three_parts : (line : List ℕ) (offset : ℕ) (a b c : List Region)
-    → ((line ++ lines_at offset a) ++ lines_at offset b) ++ lines_at offset c ≡ line ++ lines_at offset (a ++ b ++ c)
-three_parts line offset a b c = ap (λ xs. xs ++ lines_at offset c) (lines_after line offset a b) ∙ lines_after line offset (a ++ b) c

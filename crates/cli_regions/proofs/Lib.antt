@@ -1,4 +1,4 @@
-pub mod RegionLemmas
+pub mod SearchLemmas
 pub mod LoopLemmas
 pub mod CountLemmas
 pub mod PeLemmas

@@ -1,48 +1,36 @@
--- The lines of structures that a loop goes over.
-use Rattle.std.proofs.Common.{◌≡◌, ◌∙◌, ℕ, ◌+◌, ◌-◌, ◌<◌, ◌≤◌, List, [], ◌∷◌, ◌++◌, length, map, drop, get_or, ap, sym, suc, append-nil, arith}
-use Rattle.std.specs.List.{flat_map, range_with_len}
+-- The structures that a loop looks at.
+use Rattle.std.proofs.Common.{◌≡◌, ◌∙◌, ℕ, ◌+◌, ◌-◌, ◌<◌, ◌≤◌, List, [], ◌∷◌, ◌++◌, length, map, drop, get_or, ap, sym, suc, arith, codes}
+use Rattle.std.specs.List.{range_with_len}
 use Rattle.std.proofs.lemmas.List.{drop_all, drop_more}
-use Rattle.root.specs.Fields.{header_length}
-use Rattle.root.specs.Streams.{Header}
 use Rattle.cli_regions.specs.declared.fields.Field.{Field}
-use Rattle.cli_regions.specs.Fields.{fields_from, seen}
+use Rattle.cli_regions.specs.Fields.{fields_from, seen_field}
+use Rattle.cli_regions.specs.Kept.{Adds, Searched}
 use Rattle.cli_regions.specs.PeHeaders.{directories_from, directory_regions}
-use Rattle.cli_regions.specs.Regions.{Region, line_at, lines_at, region}
-use Rattle.cli_regions.proofs.RegionLemmas.{lines_after, lines_more, lines_of_none}
+use Rattle.cli_regions.specs.Regions.{Region, region}
+use Rattle.cli_regions.proofs.SearchLemmas.{adds_none, and_then, said_as}
 
--- the stream header ends at or before an offset
-abbrev pub EndsBy : ℕ → Header → Type 0
-EndsBy limit header = header.place + header_length header ≤ limit
+-- if what is left is looked at, too, the search has looked at all
+abbrev pub Completes : Searched → Searched → List Region → List Region → Type 0
+Completes old now left all = (later : Searched) → Adds now later left → Adds old later all
 
--- no structure is left
-pub none_left : (line whole : List ℕ) (offset : ℕ) (left : List Region) → left ≡ [] → line ++ lines_at offset left ≡ whole → line ≡ whole
-none_left line whole offset left none is =
-    sym (append-nil line) ∙ ap (λ xs. line ++ xs) (sym (lines_of_none offset)) ∙ ap (λ regions. line ++ lines_at offset regions) (sym none) ∙ is
+-- the first of what is left
+pub more_left : {start old new : Searched} {all first : List Region} (left tail : List Region) → Completes start old left all → left ≡ first ++ tail → Adds old new first
+    → Completes start new tail all
+more_left left tail completes next is = λ later more. completes later (said_as (and_then is more) (sym next))
+
+-- nothing is left
+pub none_left : {start now : Searched} {all : List Region} (left : List Region) → Completes start now left all → left ≡ [] → Adds start now all
+none_left {start} {now} left completes none = completes now (said_as (adds_none now) (sym none))
 
 -- the next field, and those after it
-pub field_more : (word line : List ℕ) (offset next i : ℕ) (fields : List Field) (none : Field) → i < length fields
-    → (line ++ line_at offset (region next (get_or fields i none).size (word ++ (get_or fields i none).name.now)))
-    ++ lines_at offset (fields_from word (next + (get_or fields i none).size) (map seen (drop (i + 1) fields)))
-    ≡ line ++ lines_at offset (fields_from word next (map seen (drop i fields)))
-field_more word line offset next i fields none within =
-    let first = get_or fields i none in
-    lines_more line offset (region next first.size (word ++ first.name.now)) (fields_from word (next + first.size) (map seen (drop (i + 1) fields)))
-    ∙ ap (λ left. line ++ lines_at offset (fields_from word next (map seen left))) (sym (drop_more fields i none within))
+pub fields_left : (word : List ℕ) (next i : ℕ) (fields : List Field) (none : Field) → i < length fields
+    → fields_from word next (map seen_field (drop i fields))
+    ≡ (region next (get_or fields i none).size (word ++ (codes " " ++ (get_or fields i none).name.now)) ∷ [])
+    ++ fields_from word (next + (get_or fields i none).size) (map seen_field (drop (i + 1) fields))
+fields_left word next i fields none within = ap (λ left. fields_from word next (map seen_field left)) (drop_more fields i none within)
 
-pub field_end : (word line whole : List ℕ) (offset next i : ℕ) (fields : List Field) → length fields ≤ i
-    → line ++ lines_at offset (fields_from word next (map seen (drop i fields))) ≡ whole → line ≡ whole
-field_end word line whole offset next i fields all is =
-    none_left line whole offset (fields_from word next (map seen (drop i fields))) (ap (λ left. fields_from word next (map seen left)) (drop_all i fields all)) is
-
--- the structures of the next item, and of those after it
-pub item_more : {X : Type 0} (f : X → List Region) (line : List ℕ) (offset : ℕ) (x : X) (tail left : List X) → left ≡ x ∷ tail
-    → (line ++ lines_at offset (f x)) ++ lines_at offset (flat_map f tail) ≡ line ++ lines_at offset (flat_map f left)
-item_more f line offset x tail left next =
-    lines_after line offset (f x) (flat_map f tail) ∙ ap (λ xs. line ++ lines_at offset (flat_map f xs)) (sym next)
-
-pub item_end : {X : Type 0} (f : X → List Region) (line whole : List ℕ) (offset : ℕ) (left : List X) → left ≡ []
-    → line ++ lines_at offset (flat_map f left) ≡ whole → line ≡ whole
-item_end f line whole offset left none is = none_left line whole offset (flat_map f left) (ap (λ xs. flat_map f xs) none) is
+pub fields_end : (word : List ℕ) (next i : ℕ) (fields : List Field) → length fields ≤ i → fields_from word next (map seen_field (drop i fields)) ≡ []
+fields_end word next i fields all = ap (λ left. fields_from word next (map seen_field left)) (drop_all i fields all)
 
 -- an item is the first that is left
 pub first_left : {X : Type 0} (items all : List X) (i : ℕ) (none : X) → items ≡ all → i < length items → drop i all ≡ get_or items i none ∷ drop (i + 1) all
@@ -50,19 +38,14 @@ first_left items all i none same within =
     ap (λ xs. drop i xs) (sym same) ∙ drop_more items i none within ∙ ap (λ xs. get_or items i none ∷ drop (i + 1) xs) same
 
 -- the next data directory, and those after it
-pub directory_more : (line : List ℕ) (offset next i : ℕ) (directories : List Field) (none : Field) → i < length directories
-    → (line ++ lines_at offset (directory_regions next (seen (get_or directories i none))))
-    ++ lines_at offset (directories_from (next + (get_or directories i none).size) (map seen (drop (i + 1) directories)))
-    ≡ line ++ lines_at offset (directories_from next (map seen (drop i directories)))
-directory_more line offset next i directories none within =
-    let first = get_or directories i none in
-    lines_after line offset (directory_regions next (seen first)) (directories_from (next + first.size) (map seen (drop (i + 1) directories)))
-    ∙ ap (λ left. line ++ lines_at offset (directories_from next (map seen left))) (sym (drop_more directories i none within))
+pub directories_left : (next i : ℕ) (directories : List Field) (none : Field) → i < length directories
+    → directories_from next (map seen_field (drop i directories))
+    ≡ directory_regions next (seen_field (get_or directories i none))
+    ++ directories_from (next + (get_or directories i none).size) (map seen_field (drop (i + 1) directories))
+directories_left next i directories none within = ap (λ left. directories_from next (map seen_field left)) (drop_more directories i none within)
 
-pub directory_end : (line whole : List ℕ) (offset next i : ℕ) (directories : List Field) → length directories ≤ i
-    → line ++ lines_at offset (directories_from next (map seen (drop i directories))) ≡ whole → line ≡ whole
-directory_end line whole offset next i directories all is =
-    none_left line whole offset (directories_from next (map seen (drop i directories))) (ap (λ left. directories_from next (map seen left)) (drop_all i directories all)) is
+pub directories_end : (next i : ℕ) (directories : List Field) → length directories ≤ i → directories_from next (map seen_field (drop i directories)) ≡ []
+directories_end next i directories all = ap (λ left. directories_from next (map seen_field left)) (drop_all i directories all)
 
 -- the numbers that are left
 pub range_next : (i n : ℕ) → i < n → range_with_len i (n - i) ≡ i ∷ range_with_len (i + 1) (n - (i + 1))

@@ -10,8 +10,8 @@ pub record Field : Type 0 where
   pub size : ℕ
 
 -- the field that a program keeps: its name without the address
-abbrev pub seen : KeptField → Field
-seen of = record { name = of.name.now; size = of.size }
+abbrev pub seen_field : KeptField → Field
+seen_field of = record { name = of.name.now; size = of.size }
 
 abbrev pub field : List ℕ → ℕ → Field
 field name size = record { name = name; size = size }
@@ -19,7 +19,11 @@ field name size = record { name = name; size = size }
 -- fields that follow one another, the first at an offset, as structures; each is called by a word and its name
 abbrev pub fields_from : List ℕ → ℕ → List Field → List Region
 fields_from word start [] = []
-fields_from word start (first ∷ fields) = region start first.size (word ++ first.name) ∷ fields_from word (start + first.size) fields
+fields_from word start (first ∷ fields) = region start first.size (word ++ (codes " " ++ first.name)) ∷ fields_from word (start + first.size) fields
+
+-- a header, which a word and a name call, and its fields
+abbrev pub header_regions : List ℕ → List ℕ → ℕ → ℕ → List Field → List Region
+header_regions word name start size fields = region start size (word ++ name) ∷ fields_from word start fields
 
 -- the PE file header (II.25.2.2)
 unfoldable pub file_header_fields : List Field

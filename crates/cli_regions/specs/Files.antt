@@ -1,14 +1,12 @@
--- A file as structures, down to the row counts of its metadata root, outermost first (ECMA-335 II.24.2 and II.25).
+-- The CLI header and what it names as structures, outermost first (ECMA-335 II.25.3.3).
 use Rattle.std.specs.Prelude.{ℕ, ◌+◌, nat_le, if◌then◌else◌, List, [], ◌∷◌, ◌++◌, codes, length, Option, None, Some}
 use Rattle.std.specs.List.{flat_map}
-use Rattle.pe.specs.Headers.{image_of}
 use Rattle.pe.specs.Image.{Image}
 use Rattle.pe.specs.Offset.{offset_at}
 use Rattle.cli_header.specs.declared.header.CliHeader.{CliHeader}
 use Rattle.cli_header.specs.declared.header.DataDirectory.{DataDirectory}
 use Rattle.cli_regions.specs.Regions.{Region, region}
-use Rattle.cli_regions.specs.Headers.{cli_header_regions, root_regions}
-use Rattle.cli_regions.specs.PeHeaders.{image_regions}
+use Rattle.cli_regions.specs.Headers.{cli_header_regions}
 use Rattle.cli_regions.specs.declared.files.Named.{Named as KeptNamed}
 
 -- what the CLI header names: what it is, its address and its size
@@ -47,17 +45,3 @@ named_regions image of = named_at image of (offset_at image of.directory.rva of.
 -- the CLI header, and what it names
 abbrev pub cli_regions : Image → CliHeader → List Region
 cli_regions image header = cli_header_regions header ++ flat_map (named_regions image) (named_by header)
-
--- the PE headers, the sections, the CLI header and what it names; a bare root has none of them
-abbrev pub file_regions : List ℕ → Option CliHeader → List Region
-file_regions file None = []
-file_regions file (Some header) = image_regions file ++ cli_regions (image_of file) header
-
--- the offset of the metadata root in the file: a bare root begins at 0
-abbrev pub root_start : Option CliHeader → ℕ
-root_start None = 0
-root_start (Some header) = header.root.start
-
--- all headers, sections, streams and row counts of a file with this CLI header and root
-abbrev pub header_regions : List ℕ → Option CliHeader → List ℕ → List Region
-header_regions file header root = file_regions file header ++ root_regions (root_start header) root

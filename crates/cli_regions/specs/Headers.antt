@@ -10,21 +10,20 @@ use Rattle.cli_header.specs.declared.header.CliHeader.{CliHeader}
 use Rattle.table_schema.specs.declared.table.TableId.{TableId}
 use Rattle.table_schema.specs.Tables.{tables, table_number, table_name}
 use Rattle.schema.specs.Header.{has_bit, valid_of}
-use Rattle.metadata.specs.SourceAt.{tables_in, tables_offset}
 use Rattle.cli_faults.specs.Escaped.{escaped_text}
-use Rattle.cli_reports.specs.Escaped.{upper_hexadecimal}
+use Rattle.cli_faults.specs.Hexadecimal.{upper_hexadecimal}
 use Rattle.cli_regions.specs.Regions.{Region, region}
-use Rattle.cli_regions.specs.Fields.{Field, field, fields_from, cli_header_fields, root_fields, stream_header_fields, table_stream_fields}
+use Rattle.cli_regions.specs.Fields.{Field, field, fields_from, header_regions, cli_header_fields, root_fields, stream_header_fields, table_stream_fields}
 
 -- the CLI header and its fields: 72 bytes (II.25.3.3)
 unfoldable pub cli_header_regions : CliHeader → List Region
-cli_header_regions header = region header.place 72 (codes "cli header") ∷ fields_from (codes "cli header ") header.place cli_header_fields
+cli_header_regions header = header_regions (codes "cli header") [] header.place 72 cli_header_fields
 
 -- a stream header and its fields (II.24.2.2)
 unfoldable pub stream_header_regions : ℕ → Header → List Region
 stream_header_regions start header =
-    region (start + header.place) (header_length header) (codes "stream header " ++ escaped_text header.name)
-    ∷ fields_from (codes "stream header ") (start + header.place) (stream_header_fields (header_length header - 8))
+    header_regions (codes "stream header") (codes " " ++ escaped_text header.name) (start + header.place) (header_length header)
+    (stream_header_fields (header_length header - 8))
 
 -- the streams of the standard, in the order of the lines: heaps, and then the tables
 unfoldable pub streams : List Kind
@@ -33,14 +32,14 @@ streams = Strings ∷ UserStrings ∷ Guids ∷ Blobs ∷ Tables ∷ []
 -- a stream with this range of a root, if there is one
 abbrev pub ranged : ℕ → Kind → Option (ℕ × ℕ) → List Region
 ranged start kind None = []
-ranged start kind (Some range) = region (start + range.0) (range.1 - range.0) (codes "stream " ++ stream_name kind) ∷ []
+ranged start kind (Some range) = region (start + range.0) (range.1 - range.0) (codes "stream" ++ codes " " ++ stream_name kind) ∷ []
 
 -- a stream of a root, if a header names it (II.24.2.2)
 unfoldable pub stream_regions : ℕ → RootRead → Kind → List Region
 stream_regions start root kind = ranged start kind (range_of root kind)
 
 -- a table by its number and name (II.22)
-unfoldable pub table_words : TableId → List ℕ
+abbrev pub table_words : TableId → List ℕ
 table_words table = upper_hexadecimal (table_number table) ++ codes " " ++ table_name table
 
 -- the row count of a table
@@ -50,17 +49,16 @@ row_count_field table = field (table_words table) 4
 -- the fields of a table stream, and then the row counts of the tables that Valid names (II.24.2.6)
 unfoldable pub table_stream_regions : ℕ → List ℕ → List Region
 table_stream_regions start stream =
-    fields_from (codes "table stream ") start table_stream_fields
-    ++ fields_from (codes "row count ") (start + 24) (map row_count_field (filter (has_bit (valid_of stream)) tables))
+    fields_from (codes "table stream") start table_stream_fields
+    ++ fields_from (codes "row count") (start + 24) (map row_count_field (filter (has_bit (valid_of stream)) tables))
 
--- a metadata root at an offset of the file: its fields, stream headers and streams, and then other structures
-abbrev pub root_regions_with : ℕ → List ℕ → List Region → List Region
-root_regions_with start root tail =
-    (region start (length root) (codes "root") ∷ fields_from (codes "root header ") start (root_fields (version_length root)))
+-- a metadata root at an offset of the file, and its fields before the stream headers (II.24.2.1)
+unfoldable pub root_header_regions : ℕ → List ℕ → List Region
+root_header_regions start root = region start (length root) (codes "root") ∷ fields_from (codes "root header") start (root_fields (version_length root))
+
+-- a metadata root: its header, its stream headers and its streams
+abbrev pub root_regions : ℕ → List ℕ → List Region
+root_regions start root =
+    root_header_regions start root
     ++ flat_map (stream_header_regions start) (root_read root).headers
     ++ flat_map (stream_regions start (root_read root)) streams
-    ++ tail
-
--- all that, and the header of its table stream
-unfoldable pub root_regions : ℕ → List ℕ → List Region
-root_regions start root = root_regions_with start root (table_stream_regions (start + tables_offset root) (tables_in root))

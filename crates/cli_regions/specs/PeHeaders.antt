@@ -7,7 +7,7 @@ use Rattle.root.specs.Fields.{before_nul}
 use Rattle.pe.specs.Headers.{directory_count, lfanew, magic, optional_header_size, section_at, section_count, sections_offset, wider}
 use Rattle.cli_faults.specs.Escaped.{escaped_text}
 use Rattle.cli_regions.specs.Regions.{Region, region}
-use Rattle.cli_regions.specs.Fields.{Field, fields_from, file_header_fields, optional_header_fields, data_directories, directory_fields, section_header_fields}
+use Rattle.cli_regions.specs.Fields.{Field, header_regions, file_header_fields, optional_header_fields, data_directories, directory_fields, section_header_fields}
 
 -- the MS-DOS header, of which the standard names `MZ` and lfanew (II.25.2.1)
 unfoldable pub dos_header_regions : List Region
@@ -18,8 +18,7 @@ dos_header_regions =
 unfoldable pub file_header_regions : ℕ → List Region
 file_header_regions start =
     region start 4 (codes "pe signature")
-    ∷ region (start + 4) 20 (codes "pe file header")
-    ∷ fields_from (codes "pe file header ") (start + 4) file_header_fields
+    ∷ header_regions (codes "pe file header") [] (start + 4) 20 file_header_fields
 
 -- the size of BaseOfData by Magic: PE32+ does not have it
 abbrev pub base_size : ℕ → ℕ
@@ -32,8 +31,8 @@ address_size magic = if magic == 0x20B then 8 else 4
 -- the optional header, and its fields before the data directories (II.25.2.3)
 unfoldable pub optional_header_regions : List ℕ → List Region
 optional_header_regions file =
-    region (lfanew file + 24) (optional_header_size file) (codes "optional header")
-    ∷ fields_from (codes "optional header ") (lfanew file + 24) (optional_header_fields (base_size (magic file)) (address_size (magic file)))
+    header_regions (codes "optional header") [] (lfanew file + 24) (optional_header_size file)
+    (optional_header_fields (base_size (magic file)) (address_size (magic file)))
 
 -- the offset of the first data directory (II.25.2.3.3)
 abbrev pub directories_offset : List ℕ → ℕ
@@ -41,8 +40,7 @@ directories_offset file = lfanew file + 120 + wider file
 
 -- a data directory, and its two fields
 unfoldable pub directory_regions : ℕ → Field → List Region
-directory_regions start directory =
-    region start directory.size (codes "data directory " ++ directory.name) ∷ fields_from (codes "data directory ") start directory_fields
+directory_regions start directory = header_regions (codes "data directory") (codes " " ++ directory.name) start directory.size directory_fields
 
 -- data directories that follow one another, the first at an offset
 abbrev pub directories_from : ℕ → List Field → List Region
@@ -64,15 +62,18 @@ abbrev pub spaced : List ℕ → List ℕ
 spaced [] = []
 spaced (byte ∷ bytes) = codes " " ++ escaped_text (byte ∷ bytes)
 
+-- a number and a name, each after a space
+abbrev pub numbered : ℕ → List ℕ → List ℕ
+numbered number name = codes " " ++ (decimal number ++ spaced name)
+
 -- the number of a section from 1, and its name up to the first NUL (II.25.3)
-unfoldable pub section_words : List ℕ → ℕ → List ℕ
-section_words file index = decimal (index + 1) ++ spaced (before_nul (part file (section_offset file index) 8))
+abbrev pub section_words : List ℕ → ℕ → List ℕ
+section_words file index = numbered (index + 1) (before_nul (part file (section_offset file index) 8))
 
 -- a section header, and its fields (II.25.3)
 unfoldable pub section_header_regions : List ℕ → ℕ → List Region
 section_header_regions file index =
-    region (section_offset file index) 40 (codes "section header " ++ section_words file index)
-    ∷ fields_from (codes "section header ") (section_offset file index) section_header_fields
+    header_regions (codes "section header") (section_words file index) (section_offset file index) 40 section_header_fields
 
 -- the bytes of a section: SizeOfRawData bytes at PointerToRawData, or fewer if the file ends earlier (II.25.3)
 abbrev pub section_bytes : List ℕ → ℕ → List ℕ
@@ -82,7 +83,7 @@ section_bytes file index =
 -- a section
 unfoldable pub section_regions : List ℕ → ℕ → List Region
 section_regions file index =
-    region (section_at file (section_offset file index)).pointer_to_raw_data (length (section_bytes file index)) (codes "section " ++ section_words file index)
+    region (section_at file (section_offset file index)).pointer_to_raw_data (length (section_bytes file index)) (codes "section" ++ section_words file index)
     ∷ []
 
 -- all headers of the image, and then its sections

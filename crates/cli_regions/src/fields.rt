@@ -1,11 +1,10 @@
 //! The fields of headers.
-ghost use Rattle.std.specs.Prelude.{◌≡◌, ◌≤◌, ◌++◌, OnOk, length, map};
-ghost use Rattle.cli_regions.specs.Fields.{cli_header_fields, data_directories, directory_fields, fields_from, file_header_fields, optional_header_fields};
-ghost use Rattle.cli_regions.specs.Fields.{root_fields, section_header_fields, seen, stream_header_fields, table_stream_fields};
-ghost use Rattle.cli_regions.specs.Regions.{lines_at};
+ghost use Rattle.std.specs.Prelude.{◌≡◌, ◌≤◌, length, map};
+ghost use Rattle.cli_regions.specs.Fields.{cli_header_fields, data_directories, directory_fields, fields_from, file_header_fields, header_regions};
+ghost use Rattle.cli_regions.specs.Fields.{optional_header_fields, root_fields, section_header_fields, seen_field, stream_header_fields, table_stream_fields};
+ghost use Rattle.cli_regions.specs.Kept.{Adds, name_text};
 
-use crate::regions::push_region;
-use std::alloc::AllocError;
+use crate::searches::{Name, Search};
 
 /// A field of a header.
 #[derive(Clone, Copy)]
@@ -25,7 +24,7 @@ macro_rules! fields {
 /// The fields of the PE file header (II.25.2.2).
 #[tactic(auto, unfolding(crate::specs::Fields::file_header_fields))]
 pub(crate) fn file_header_fields() -> [Field; 7]
-    ensures { map seen result ≡ file_header_fields }
+    ensures { map seen_field result ≡ file_header_fields }
 {
     fields![
         "Machine" 2;
@@ -42,7 +41,7 @@ pub(crate) fn file_header_fields() -> [Field; 7]
 /// (II.25.2.3.1 and II.25.2.3.2).
 #[tactic(auto, unfolding(crate::specs::Fields::optional_header_fields))]
 pub(crate) fn optional_header_fields(base_size: u32, address_size: u32) -> [Field; 30]
-    ensures { map seen result ≡ optional_header_fields base_size address_size }
+    ensures { map seen_field result ≡ optional_header_fields base_size address_size }
 {
     fields![
         "Magic" 2;
@@ -81,7 +80,7 @@ pub(crate) fn optional_header_fields(base_size: u32, address_size: u32) -> [Fiel
 /// The data directories, by number and name (II.25.2.3.3).
 #[tactic(auto, unfolding(crate::specs::Fields::data_directories))]
 pub(crate) fn data_directories() -> [Field; 16]
-    ensures { map seen result ≡ data_directories }
+    ensures { map seen_field result ≡ data_directories }
 {
     fields![
         "1 Export Table" 8;
@@ -106,7 +105,7 @@ pub(crate) fn data_directories() -> [Field; 16]
 /// The fields of a data directory (II.25.2.3.3).
 #[tactic(auto, unfolding(crate::specs::Fields::directory_fields))]
 pub(crate) fn directory_fields() -> [Field; 2]
-    ensures { map seen result ≡ directory_fields }
+    ensures { map seen_field result ≡ directory_fields }
 {
     fields!["RVA" 4; "Size" 4;]
 }
@@ -114,7 +113,7 @@ pub(crate) fn directory_fields() -> [Field; 2]
 /// The fields of a section header (II.25.3).
 #[tactic(auto, unfolding(crate::specs::Fields::section_header_fields))]
 pub(crate) fn section_header_fields() -> [Field; 10]
-    ensures { map seen result ≡ section_header_fields }
+    ensures { map seen_field result ≡ section_header_fields }
 {
     fields![
         "Name" 8;
@@ -133,7 +132,7 @@ pub(crate) fn section_header_fields() -> [Field; 10]
 /// The fields of the CLI header (II.25.3.3).
 #[tactic(auto, unfolding(crate::specs::Fields::cli_header_fields))]
 pub(crate) fn cli_header_fields() -> [Field; 12]
-    ensures { map seen result ≡ cli_header_fields }
+    ensures { map seen_field result ≡ cli_header_fields }
 {
     fields![
         "Cb" 4;
@@ -154,7 +153,7 @@ pub(crate) fn cli_header_fields() -> [Field; 12]
 /// The fields of a metadata root before its stream headers, with a version of this size (II.24.2.1).
 #[tactic(auto, unfolding(crate::specs::Fields::root_fields))]
 pub(crate) fn root_fields(version_size: u32) -> [Field; 8]
-    ensures { map seen result ≡ root_fields version_size }
+    ensures { map seen_field result ≡ root_fields version_size }
 {
     fields![
         "Signature" 4;
@@ -171,7 +170,7 @@ pub(crate) fn root_fields(version_size: u32) -> [Field; 8]
 /// The fields of a stream header, with a name of this size, its NUL and padding included (II.24.2.2).
 #[tactic(auto, unfolding(crate::specs::Fields::stream_header_fields))]
 pub(crate) fn stream_header_fields(name_size: u32) -> [Field; 3]
-    ensures { map seen result ≡ stream_header_fields name_size }
+    ensures { map seen_field result ≡ stream_header_fields name_size }
 {
     fields!["Offset" 4; "Size" 4; "Name" name_size;]
 }
@@ -179,7 +178,7 @@ pub(crate) fn stream_header_fields(name_size: u32) -> [Field; 3]
 /// The fields of a table stream before its row counts (II.24.2.6).
 #[tactic(auto, unfolding(crate::specs::Fields::table_stream_fields))]
 pub(crate) fn table_stream_fields() -> [Field; 7]
-    ensures { map seen result ≡ table_stream_fields }
+    ensures { map seen_field result ≡ table_stream_fields }
 {
     fields![
         "Reserved" 4;
@@ -192,22 +191,32 @@ pub(crate) fn table_stream_fields() -> [Field; 7]
     ]
 }
 
-/// Appends the lines of the fields that have the byte. The first field is at offset `start`.
-pub(crate) fn push_fields(
-    word: &str,
-    start: u64,
-    fields: &[Field],
-    offset: u64,
-    line: &mut Vec<u8>,
-) -> Result<(), AllocError>
+/// Looks at fields that follow one another, the first at offset `start`.
+pub(crate) fn find_fields(word: &'static str, start: u64, fields: &[Field], found: &mut Search<'_>)
     requires start { start ≤ 0x2000000000 }
     requires few { length fields.now ≤ 32 }
-    ensures { OnOk result (line.new.items ≡ line.old.items ++ lines_at offset (fields_from word.now start (map seen fields.now))) }
+    ensures { Adds found.old found.new (fields_from word.now start (map seen_field fields.now)) }
 {
     let mut next = start;
     for field in fields {
-        push_region(next, u64::from(field.size), word, field.name, offset, line)?;
-        next += u64::from(field.size);
+        found.look(next, field.size as u64, word, Name::Plain(field.name));
+        next += field.size as u64;
     }
-    Ok(())
+}
+
+/// Looks at a header and its fields.
+pub(crate) fn find_header<'a>(
+    word: &'static str,
+    name: Name<'a>,
+    start: u64,
+    size: u64,
+    fields: &[Field],
+    found: &mut Search<'a>,
+)
+    requires start { start ≤ 0x2000000000 }
+    requires few { length fields.now ≤ 32 }
+    ensures { Adds found.old found.new (header_regions word.now (name_text name.entry) start size (map seen_field fields.now)) }
+{
+    found.look(start, size, word, name);
+    find_fields(word, start, fields, found);
 }

@@ -1,25 +1,23 @@
-//! Appends the lines of a file down to its metadata root (II.25).
-ghost use Rattle.std.specs.Prelude.{◌≡◌, ◌≤◌, ◌++◌, OnOk, Some, length, map};
+//! Looks at a file down to its metadata root (II.25).
+ghost use Rattle.std.specs.Prelude.{◌≡◌, ◌≤◌, length, map};
 ghost use Rattle.std.specs.List.{flat_map};
 ghost use Rattle.packed.specs.Rule.{AllHold};
 ghost use Rattle.pe.specs.Headers.{image_of};
 ghost use Rattle.pe.specs.Rules.{rules_of_image};
-ghost use Rattle.cli_regions.specs.Files.{cli_regions, file_regions, named_by, named_regions, seen_named};
-ghost use Rattle.cli_regions.specs.Kept.{HasHeaders};
+ghost use Rattle.cli_regions.specs.Files.{cli_regions, named_by, named_regions, seen_named};
+ghost use Rattle.cli_regions.specs.Kept.{HasHeaders, Adds};
 ghost use Rattle.cli_regions.specs.PeHeaders.{image_regions};
-ghost use Rattle.cli_regions.specs.Regions.{lines_at};
 
-use crate::headers::push_cli_header;
+use crate::headers::find_cli_header;
 use crate::pe_headers::{
-    offsets_of, push_directories, push_dos_header, push_file_header, push_optional_header,
+    find_directories, find_dos_header, find_file_header, find_optional_header, offsets_of,
 };
-use crate::regions::push_region;
-use crate::sections::{push_section_headers, push_sections};
+use crate::searches::{Name, Search};
+use crate::sections::{SectionPart, find_sections};
 use cli_header::{CliHeader, DataDirectory};
 use pe::Pe;
-use std::alloc::AllocError;
 
-/// Bytes that the CLI header names.
+/// Bytes that the CLI header refers to.
 #[derive(Clone, Copy)]
 pub(crate) struct Named {
     /// What they are.
@@ -34,7 +32,7 @@ macro_rules! named {
     };
 }
 
-/// What the CLI header names, except the metadata root (II.25.3.3).
+/// What the CLI header refers to, except the metadata root (II.25.3.3).
 #[tactic(auto, unfolding(crate::specs::Files::named_by))]
 fn named_by(header: &CliHeader) -> [Named; 6]
     ensures { map seen_named result ≡ named_by header.now }
@@ -49,98 +47,59 @@ fn named_by(header: &CliHeader) -> [Named; 6]
     ]
 }
 
-/// Appends the line of bytes that the CLI header names, if the file has them and the byte is one of them.
-fn push_named(pe: &Pe<'_>, named: Named, offset: u64, line: &mut Vec<u8>) -> Result<(), AllocError>
-    requires { length pe.now.bytes ≤ 0x40000000 }
-    ensures { OnOk result (line.new.items ≡ line.old.items ++ lines_at offset (named_regions pe.now (seen_named named))) }
+/// Looks at bytes that the CLI header refers to, if the file has them.
+fn find_named(pe: &Pe<'_>, named: Named, found: &mut Search<'_>)
+    ensures { Adds found.old found.new (named_regions pe.now (seen_named named)) }
 {
     match pe.range(named.directory.rva, named.directory.size) {
         Some(range) => {
-            let size = u64::from(named.directory.size);
-            push_region(range.start as u64, size, named.what, "", offset, line)
+            let size = named.directory.size as u64;
+            found.look(range.start as u64, size, named.what, Name::Empty);
         }
-        None => Ok(()),
+        None => {}
     }
 }
 
-/// Appends the lines of all that the CLI header names that have the byte.
-fn push_all_named(
-    pe: &Pe<'_>,
-    header: &CliHeader,
-    offset: u64,
-    line: &mut Vec<u8>,
-) -> Result<(), AllocError>
-    requires { length pe.now.bytes ≤ 0x40000000 }
-    ensures { OnOk result (line.new.items ≡ line.old.items ++ lines_at offset (flat_map (named_regions pe.now) (named_by header.now))) }
+/// Looks at all that the CLI header refers to.
+fn find_all_named(pe: &Pe<'_>, header: &CliHeader, found: &mut Search<'_>)
+    ensures { Adds found.old found.new (flat_map (named_regions pe.now) (named_by header.now)) }
 {
     for named in named_by(header) {
-        push_named(pe, named, offset, line)?;
+        find_named(pe, named, found);
     }
-    Ok(())
 }
 
-/// Appends the lines of the headers and sections of an image that have the byte.
+/// Looks at the headers and sections of an image.
 #[tactic(auto, unfolding(crate::specs::PeHeaders::image_regions))]
-fn push_image(pe: &Pe<'_>, offset: u64, line: &mut Vec<u8>) -> Result<(), AllocError>
+fn find_image<'a>(pe: &Pe<'a>, found: &mut Search<'a>)
     requires headers { HasHeaders pe.now.bytes }
     requires image { pe.now ≡ image_of pe.now.bytes }
-    ensures { OnOk result (line.new.items ≡ line.old.items ++ lines_at offset (image_regions pe.now.bytes)) }
+    ensures { Adds found.old found.new (image_regions pe.now.bytes) }
 {
     let file = pe.bytes();
     let offsets = offsets_of(file, pe.cli_directory_offset());
-    push_dos_header(offset, line)?;
-    push_file_header(offsets.signature as u64, offset, line)?;
-    push_optional_header(file, offsets, offset, line)?;
-    push_directories(file, offsets, offset, line)?;
-    push_section_headers(file, offsets.signature, offsets.sections, offset, line)?;
-    push_sections(file, offsets.signature, offsets.sections, offset, line)
+    find_dos_header(found);
+    find_file_header(offsets.signature as u64, found);
+    find_optional_header(file, offsets, found);
+    find_directories(file, offsets, found);
+    find_sections(file, SectionPart::Header, offsets, found);
+    find_sections(file, SectionPart::Bytes, offsets, found);
 }
 
-/// Appends the lines of the PE headers and their fields, and of the sections, of those that have the byte (II.25.2, II.25.3).
-/// Its time is linear in the number of sections.
-/// # Errors
-/// Out of memory.
-pub fn push_pe(pe: &Pe<'_>, offset: u64, line: &mut Vec<u8>) -> Result<(), AllocError>
+/// Looks at the PE headers, their fields, and the sections (II.25.2, II.25.3). Its time is linear in the number of sections.
+pub fn find_pe<'a>(pe: &Pe<'a>, found: &mut Search<'a>)
     requires rules { AllHold (rules_of_image pe.now.bytes) }
     requires image { pe.now ≡ image_of pe.now.bytes }
-    ensures { OnOk result (line.new.items ≡ line.old.items ++ lines_at offset (image_regions pe.now.bytes)) }
+    ensures { Adds found.old found.new (image_regions pe.now.bytes) }
 {
-    push_image(pe, offset, line)
+    find_image(pe, found);
 }
 
-/// Appends the lines of the CLI header and its fields, and of what it names, of those that have the byte (II.25.3.3).
-/// # Errors
-/// Out of memory.
-pub fn push_cli(
-    pe: &Pe<'_>,
-    header: &CliHeader,
-    offset: u64,
-    line: &mut Vec<u8>,
-) -> Result<(), AllocError>
-    requires small { length pe.now.bytes ≤ 0x40000000 }
-    requires header { header.now.place ≤ 0x40000000 }
-    ensures { OnOk result (line.new.items ≡ line.old.items ++ lines_at offset (cli_regions pe.now header.now)) }
+/// Looks at the CLI header, its fields, and what it refers to (II.25.3.3).
+pub fn find_cli(pe: &Pe<'_>, header: &CliHeader, found: &mut Search<'_>)
+    requires { header.now.place ≤ 0x40000000 }
+    ensures { Adds found.old found.new (cli_regions pe.now header.now) }
 {
-    push_cli_header(header, offset, line)?;
-    push_all_named(pe, header, offset, line)
-}
-
-/// Appends the lines of the PE headers and their fields, the sections, the CLI header and its fields, and what the CLI
-/// header names, of those that have the byte (II.25.2, II.25.3). Each section has a line at most, so its time is linear in
-/// the number of sections.
-/// # Errors
-/// Out of memory.
-pub fn push_file(
-    pe: &Pe<'_>,
-    header: &CliHeader,
-    offset: u64,
-    line: &mut Vec<u8>,
-) -> Result<(), AllocError>
-    requires rules { AllHold (rules_of_image pe.now.bytes) }
-    requires image { pe.now ≡ image_of pe.now.bytes }
-    requires header { header.now.place ≤ 0x40000000 }
-    ensures { OnOk result (line.new.items ≡ line.old.items ++ lines_at offset (file_regions pe.now.bytes (Some header.now))) }
-{
-    push_pe(pe, offset, line)?;
-    push_cli(pe, header, offset, line)
+    find_cli_header(header, found);
+    find_all_named(pe, header, found);
 }

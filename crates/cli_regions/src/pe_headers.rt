@@ -1,19 +1,17 @@
-//! Appends the lines of the headers of a PE file before its section headers (II.25.2).
-ghost use Rattle.std.specs.Prelude.{◌≡◌, ◌≤◌, ◌++◌, OnOk, length, map};
+//! Looks at the headers of a PE file before its section headers (II.25.2).
+ghost use Rattle.std.specs.Prelude.{◌≡◌, ◌≤◌, length, map};
 ghost use Rattle.pe.specs.Headers.{directory_offset, lfanew, sections_offset};
-ghost use Rattle.cli_regions.specs.Fields.{seen};
-ghost use Rattle.cli_regions.specs.Kept.{HasHeaders};
+ghost use Rattle.cli_regions.specs.Fields.{seen_field};
+ghost use Rattle.cli_regions.specs.Kept.{HasHeaders, Adds};
 ghost use Rattle.cli_regions.specs.PeHeaders.{address_size, base_size, directories_from, directories_offset, directories_regions};
 ghost use Rattle.cli_regions.specs.PeHeaders.{directory_regions, dos_header_regions, file_header_regions, optional_header_regions};
-ghost use Rattle.cli_regions.specs.Regions.{lines_at};
 
 use crate::fields::{
-    Field, data_directories, directory_fields, file_header_fields, optional_header_fields,
-    push_fields,
+    Field, data_directories, directory_fields, file_header_fields, find_header,
+    optional_header_fields,
 };
-use crate::regions::push_region;
+use crate::searches::{Name, Search};
 use packed::{u16_at, u32_at};
-use std::alloc::AllocError;
 
 /// The size of the MS-DOS header, in bytes (II.25.2.1).
 const DOS_HEADER_SIZE: u64 = 64;
@@ -82,50 +80,35 @@ pub(crate) fn offsets_of(file: &[u8], cli_directory: usize) -> Offsets
     }
 }
 
-/// Appends the lines of the MS-DOS header and of its fields that have the byte (II.25.2.1).
+/// Looks at the MS-DOS header and its fields (II.25.2.1).
 #[tactic(auto, unfolding(crate::specs::PeHeaders::dos_header_regions))]
-pub(crate) fn push_dos_header(offset: u64, line: &mut Vec<u8>) -> Result<(), AllocError>
-    ensures { OnOk result (line.new.items ≡ line.old.items ++ lines_at offset dos_header_regions) }
+pub(crate) fn find_dos_header(found: &mut Search<'_>)
+    ensures { Adds found.old found.new dos_header_regions }
 {
-    push_region(0, DOS_HEADER_SIZE, "ms-dos header", "", offset, line)?;
-    push_region(
-        0,
-        DOS_SIGNATURE_SIZE,
-        "ms-dos header ",
-        "Signature",
-        offset,
-        line,
-    )?;
-    push_region(
-        LFANEW as u64,
-        LFANEW_SIZE,
-        "ms-dos header ",
-        "lfanew",
-        offset,
-        line,
-    )
+    let word = "ms-dos header";
+    let lfanew = LFANEW as u64;
+    found.look(0, DOS_HEADER_SIZE, word, Name::Empty);
+    found.look(0, DOS_SIGNATURE_SIZE, word, Name::Plain("Signature"));
+    found.look(lfanew, LFANEW_SIZE, word, Name::Plain("lfanew"));
 }
 
-/// Appends the lines of the PE signature, of the PE file header and of its fields that have the byte (II.25.2.2).
+/// Looks at the PE signature, the PE file header and its fields (II.25.2.2).
 #[tactic(auto, unfolding(crate::specs::PeHeaders::file_header_regions))]
-pub(crate) fn push_file_header(
-    start: u64,
-    offset: u64,
-    line: &mut Vec<u8>,
-) -> Result<(), AllocError>
+pub(crate) fn find_file_header(start: u64, found: &mut Search<'_>)
     requires { start ≤ 0x40000000 }
-    ensures { OnOk result (line.new.items ≡ line.old.items ++ lines_at offset (file_header_regions start)) }
+    ensures { Adds found.old found.new (file_header_regions start) }
 {
-    push_region(start, SIGNATURE_SIZE, "pe signature", "", offset, line)?;
-    let start = start + SIGNATURE_SIZE;
-    push_region(start, FILE_HEADER_SIZE, "pe file header", "", offset, line)?;
-    push_fields(
-        "pe file header ",
-        start,
-        &file_header_fields(),
-        offset,
-        line,
-    )
+    let fields = file_header_fields();
+    let header = start + SIGNATURE_SIZE;
+    found.look(start, SIGNATURE_SIZE, "pe signature", Name::Empty);
+    find_header(
+        "pe file header",
+        Name::Empty,
+        header,
+        FILE_HEADER_SIZE,
+        &fields,
+        found,
+    );
 }
 
 /// The size of BaseOfData, in bytes.
@@ -142,81 +125,66 @@ fn address_size(magic: u16) -> u32
     if magic == PE32_PLUS { 8 } else { 4 }
 }
 
-/// Appends the lines of the optional header, and of its fields before the data directories, that have the byte
-/// (II.25.2.3).
+/// Looks at the optional header, and at its fields before the data directories (II.25.2.3).
 #[tactic(auto, unfolding(crate::specs::PeHeaders::optional_header_regions))]
-pub(crate) fn push_optional_header(
-    file: &[u8],
-    offsets: Offsets,
-    offset: u64,
-    line: &mut Vec<u8>,
-) -> Result<(), AllocError>
+pub(crate) fn find_optional_header(file: &[u8], offsets: Offsets, found: &mut Search<'_>)
     requires headers { HasHeaders file.now }
     requires signature { offsets.signature ≡ lfanew file.now }
     requires sections { offsets.sections ≡ sections_offset file.now }
-    ensures { OnOk result (line.new.items ≡ line.old.items ++ lines_at offset (optional_header_regions file.now)) }
+    ensures { Adds found.old found.new (optional_header_regions file.now) }
 {
     let start = offsets.signature + OPTIONAL_HEADER;
-    let size = (offsets.sections - start) as u64;
-    push_region(start as u64, size, "optional header", "", offset, line)?;
+    let size = offsets.sections - start;
     let magic = u16_at(file, start);
     let fields = optional_header_fields(base_size(magic), address_size(magic));
-    push_fields("optional header ", start as u64, &fields, offset, line)
+    find_header(
+        "optional header",
+        Name::Empty,
+        start as u64,
+        size as u64,
+        &fields,
+        found,
+    );
 }
 
-/// Appends the lines of a data directory and of its fields that have the byte (II.25.2.3.3).
+/// Looks at a data directory and its fields (II.25.2.3.3).
 #[tactic(auto, unfolding(crate::specs::PeHeaders::directory_regions))]
-fn push_directory(
-    directory: Field,
-    start: u64,
-    offset: u64,
-    line: &mut Vec<u8>,
-) -> Result<(), AllocError>
+fn find_directory(directory: Field, start: u64, found: &mut Search<'_>)
     requires { start ≤ 0x2000000000 }
-    ensures { OnOk result (line.new.items ≡ line.old.items ++ lines_at offset (directory_regions start (seen directory))) }
+    ensures { Adds found.old found.new (directory_regions start (seen_field directory)) }
 {
-    push_region(
+    let fields = directory_fields();
+    let name = Name::Plain(directory.name);
+    find_header(
+        "data directory",
+        name,
         start,
-        u64::from(directory.size),
-        "data directory ",
-        directory.name,
-        offset,
-        line,
-    )?;
-    push_fields("data directory ", start, &directory_fields(), offset, line)
+        directory.size as u64,
+        &fields,
+        found,
+    );
 }
 
-/// Appends the lines of data directories, and of their fields, that have the byte. The first one is at offset `start`.
-fn push_directories_from(
-    start: u64,
-    directories: &[Field],
-    offset: u64,
-    line: &mut Vec<u8>,
-) -> Result<(), AllocError>
+/// Looks at data directories and their fields. The first one is at offset `start`.
+fn find_directories_from(start: u64, directories: &[Field], found: &mut Search<'_>)
     requires start { start ≤ 0x100000000 }
     requires few { length directories.now ≤ 16 }
-    ensures { OnOk result (line.new.items ≡ line.old.items ++ lines_at offset (directories_from start (map seen directories.now))) }
+    ensures { Adds found.old found.new (directories_from start (map seen_field directories.now)) }
 {
     let mut next = start;
     for directory in directories {
-        push_directory(*directory, next, offset, line)?;
-        next += u64::from(directory.size);
+        find_directory(*directory, next, found);
+        next += directory.size as u64;
     }
-    Ok(())
 }
 
-/// Appends the lines of the data directories, and of their fields, that have the byte (II.25.2.3.3).
+/// Looks at the data directories and their fields (II.25.2.3.3).
 #[tactic(auto, unfolding(crate::specs::PeHeaders::directories_regions))]
-pub(crate) fn push_directories(
-    file: &[u8],
-    offsets: Offsets,
-    offset: u64,
-    line: &mut Vec<u8>,
-) -> Result<(), AllocError>
+pub(crate) fn find_directories(file: &[u8], offsets: Offsets, found: &mut Search<'_>)
     requires headers { HasHeaders file.now }
     requires directories { offsets.directories ≡ directories_offset file.now }
     requires sections { offsets.sections ≡ sections_offset file.now }
-    ensures { OnOk result (line.new.items ≡ line.old.items ++ lines_at offset (directories_regions file.now)) }
+    ensures { Adds found.old found.new (directories_regions file.now) }
 {
     let start = offsets.directories;
     let counted = u32_at(file, start - DIRECTORY_COUNT_SIZE);
@@ -225,5 +193,5 @@ pub(crate) fn push_directories(
     let named = whole.min(NAMED_DIRECTORIES);
     let directories = data_directories();
     let (directories, _) = directories.split_at(named);
-    push_directories_from(start as u64, directories, offset, line)
+    find_directories_from(start as u64, directories, found);
 }

@@ -1,18 +1,16 @@
-//! Appends the lines of section headers and sections (II.25.3).
-ghost use Rattle.std.specs.Prelude.{◌≡◌, ◌≤◌, ◌+◌, ◌++◌, ◌==◌, OnOk, length, position};
+//! Looks at section headers and sections (II.25.3).
+ghost use Rattle.std.specs.Prelude.{◌≡◌, ◌≤◌, ◌+◌, ◌==◌, length, position};
 ghost use Rattle.std.specs.List.{flat_map, range_with_len};
 ghost use Rattle.packed.specs.Offsets.{part};
 ghost use Rattle.root.specs.Fields.{before_nul};
 ghost use Rattle.pe.specs.Headers.{lfanew, section_at, section_count, sections_offset};
-ghost use Rattle.cli_regions.specs.Kept.{HasHeaders};
-ghost use Rattle.cli_regions.specs.PeHeaders.{section_header_regions, section_offset, section_regions, section_words};
-ghost use Rattle.cli_regions.specs.Regions.{line_at, lines_at, region};
+ghost use Rattle.cli_regions.specs.Kept.{HasHeaders, Adds, part_regions};
+ghost use Rattle.cli_regions.specs.PeHeaders.{section_header_regions, section_offset, section_regions};
 
-use crate::fields::{push_fields, section_header_fields};
-use crate::regions::{has_byte, push_span};
-use cli_reports::{push_decimal, push_escaped};
+use crate::fields::{find_header, section_header_fields};
+use crate::pe_headers::Offsets;
+use crate::searches::{Name, Search};
 use packed::{u16_at, u32_at};
-use std::alloc::AllocError;
 
 /// The offset of NumberOfSections, relative to the PE signature (II.25.2.2).
 const SECTION_COUNT: usize = 6;
@@ -88,144 +86,81 @@ struct Section {
     index: usize,
 }
 
-/// Appends the number of a section, and its name if that is not empty.
-#[tactic(auto, unfolding(crate::specs::PeHeaders::section_words))]
-fn push_section_words(file: &[u8], section: Section, line: &mut Vec<u8>) -> Result<(), AllocError>
-    requires start { section.start ≡ section_offset file.now section.index }
-    requires within { section.start + 40 ≤ length file.now }
-    ensures { OnOk result (line.new.items ≡ line.old.items ++ section_words file.now section.index) }
-{
-    push_decimal(section.index as u64 + 1, line)?;
-    let name = section_name(file, section.start);
-    if name.is_empty() {
-        return Ok(());
-    }
-    line.push(b' ')?;
-    push_escaped(name, line)
+/// What to look at of a section.
+#[derive(Clone, Copy)]
+pub(crate) enum SectionPart {
+    /// Its header.
+    Header,
+    /// Its bytes.
+    Bytes,
 }
 
-/// Appends the line of a section header or section if it has the byte.
-fn push_section_line(
-    file: &[u8],
-    section: Section,
-    start: u64,
-    size: u64,
-    word: &str,
-    offset: u64,
-    line: &mut Vec<u8>,
-) -> Result<(), AllocError>
-    requires header { section.start ≡ section_offset file.now section.index }
-    requires within { section.start + 40 ≤ length file.now }
-    requires start { start ≤ 0x10000000000 }
-    requires size { size ≤ 0x10000000000 }
-    ensures { OnOk result (line.new.items ≡ line.old.items ++ line_at offset (region start size (word.now ++ section_words file.now section.index))) }
-{
-    if !has_byte(start, size, offset) {
-        return Ok(());
-    }
-    push_span(start, size, line)?;
-    line.extend_from_slice(word.as_bytes())?;
-    push_section_words(file, section, line)?;
-    Ok(line.push(b'\n')?)
-}
-
-/// Appends the lines of a section header and of its fields that have the byte.
+/// Looks at a section header and its fields.
 #[tactic(auto, unfolding(crate::specs::PeHeaders::section_header_regions))]
-fn push_section_header(
-    file: &[u8],
-    section: Section,
-    offset: u64,
-    line: &mut Vec<u8>,
-) -> Result<(), AllocError>
+fn find_section_header<'a>(file: &'a [u8], section: Section, found: &mut Search<'a>)
     requires start { section.start ≡ section_offset file.now section.index }
     requires within { section.start + 40 ≤ length file.now }
     requires small { length file.now ≤ 0x40000000 }
-    ensures { OnOk result (line.new.items ≡ line.old.items ++ lines_at offset (section_header_regions file.now section.index)) }
+    ensures { Adds found.old found.new (section_header_regions file.now section.index) }
 {
+    let fields = section_header_fields();
+    let name = Name::Section(section.index as u64 + 1, section_name(file, section.start));
     let start = section.start as u64;
-    let size = SECTION_HEADER_SIZE as u64;
-    push_section_line(file, section, start, size, "section header ", offset, line)?;
-    push_fields(
-        "section header ",
+    find_header(
+        "section header",
+        name,
         start,
-        &section_header_fields(),
-        offset,
-        line,
-    )
+        SECTION_HEADER_SIZE as u64,
+        &fields,
+        found,
+    );
 }
 
-/// Appends the line of a section if it has the byte. The bytes of a section end with the file at the latest.
+/// Looks at a section. The bytes of a section end with the file at the latest.
 #[tactic(auto, unfolding(crate::specs::PeHeaders::section_regions))]
-fn push_section(
-    file: &[u8],
-    section: Section,
-    offset: u64,
-    line: &mut Vec<u8>,
-) -> Result<(), AllocError>
+fn find_section<'a>(file: &'a [u8], section: Section, found: &mut Search<'a>)
     requires start { section.start ≡ section_offset file.now section.index }
     requires within { section.start + 40 ≤ length file.now }
-    requires small { length file.now ≤ 0x40000000 }
-    ensures { OnOk result (line.new.items ≡ line.old.items ++ lines_at offset (section_regions file.now section.index)) }
+    ensures { Adds found.old found.new (section_regions file.now section.index) }
 {
     let size = size_of_raw_data(file, section.start);
     let start = pointer_to_raw_data(file, section.start);
     let left = file.len().saturating_sub(start as usize);
     let count = left.min(size as usize);
-    push_section_line(
-        file,
-        section,
-        u64::from(start),
-        count as u64,
-        "section ",
-        offset,
-        line,
-    )
+    let name = Name::Section(section.index as u64 + 1, section_name(file, section.start));
+    found.look(start as u64, count as u64, "section", name);
 }
 
-/// Appends the lines of all section headers, and of their fields, that have the byte. The first one is at offset `start`.
-pub(crate) fn push_section_headers(
-    file: &[u8],
-    signature: usize,
-    start: usize,
-    offset: u64,
-    line: &mut Vec<u8>,
-) -> Result<(), AllocError>
-    requires headers { HasHeaders file.now }
-    requires signature { signature ≡ lfanew file.now }
-    requires start { start ≡ sections_offset file.now }
-    ensures { OnOk result (line.new.items ≡ line.old.items ++ lines_at offset
-        (flat_map (section_header_regions file.now) (range_with_len 0 (section_count file.now)))) }
+/// Looks at a part of a section.
+fn find_part<'a>(file: &'a [u8], part: SectionPart, section: Section, found: &mut Search<'a>)
+    requires start { section.start ≡ section_offset file.now section.index }
+    requires within { section.start + 40 ≤ length file.now }
+    requires small { length file.now ≤ 0x40000000 }
+    ensures { Adds found.old found.new (part_regions part file.now section.index) }
 {
-    for index in 0..section_count(file, signature) {
-        let section = Section {
-            start: start + SECTION_HEADER_SIZE * index,
-            index,
-        };
-        push_section_header(file, section, offset, line)?;
+    match part {
+        SectionPart::Header => find_section_header(file, section, found),
+        SectionPart::Bytes => find_section(file, section, found),
     }
-    Ok(())
 }
 
-/// Appends the lines of the sections that have the byte. The first section header is at offset `start`.
-pub(crate) fn push_sections(
-    file: &[u8],
-    signature: usize,
-    start: usize,
-    offset: u64,
-    line: &mut Vec<u8>,
-) -> Result<(), AllocError>
+/// Looks at a part of each section.
+pub(crate) fn find_sections<'a>(
+    file: &'a [u8],
+    part: SectionPart,
+    offsets: Offsets,
+    found: &mut Search<'a>,
+)
     requires headers { HasHeaders file.now }
-    requires signature { signature ≡ lfanew file.now }
-    requires start { start ≡ sections_offset file.now }
-    ensures { OnOk result (line.new.items ≡ line.old.items ++ lines_at offset
-        (flat_map (section_regions file.now) (range_with_len 0 (section_count file.now)))) }
+    requires signature { offsets.signature ≡ lfanew file.now }
+    requires start { offsets.sections ≡ sections_offset file.now }
+    ensures { Adds found.old found.new (flat_map (part_regions part file.now) (range_with_len 0 (section_count file.now))) }
 {
-    for index in 0..section_count(file, signature) {
+    for index in 0..section_count(file, offsets.signature) {
         let section = Section {
-            start: start + SECTION_HEADER_SIZE * index,
+            start: offsets.sections + SECTION_HEADER_SIZE * index,
             index,
         };
-        push_section(file, section, offset, line)?;
+        find_part(file, part, section, found);
     }
-    Ok(())
 }

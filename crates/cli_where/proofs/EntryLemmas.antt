@@ -1,7 +1,7 @@
 -- The entries of heaps: where they are, and which of them have a byte.
 use Rattle.std.specs.Prelude.{Option, None, Some, ◌&&◌, ◌||◌, ◌⊎◌, Bool, false, nat_le, nat_lt, suc}
-use Rattle.std.proofs.Common.{◌≡◌, ◌≢◌, ◌∙◌, ℕ, ◌+◌, ◌-◌, ◌*◌, ◌<◌, ◌≤◌, true, List, ◌∷◌, ◌++◌, length, take, drop, slice_index, inl, inr, refl, sym, ap, subst, ⊎_elim, arith, length-append, length-drop}
-use Rattle.std.proofs.lemmas.Bool.{both_ways, cases_lt, leb-true, le-leb}
+use Rattle.std.proofs.Common.{◌≡◌, ◌≢◌, ◌∙◌, ℕ, ◌+◌, ◌-◌, ◌*◌, ◌<◌, ◌≤◌, true, List, ◌∷◌, ◌++◌, length, take, drop, slice_index, inl, inr, refl, sym, ap, subst, arith, length-append, length-drop}
+use Rattle.std.proofs.lemmas.Bool.{both_ways, leb-true, le-leb}
 use Rattle.std.proofs.lemmas.List.{take-append-drop, get_or-take, get_or-drop, drop_more, drop_at, get_or_append_left, get_or_at, length-take-le}
 use Rattle.std.proofs.lemmas.List.Elements.{All-from_get_or}
 use Rattle.heap_entries.specs.Entries.{IsCounted, IsEnded, IsGuidEntry}
@@ -24,12 +24,14 @@ both_so false b a is = cc
 -- a structure has a byte if and only if the byte is from its first one on and before its end
 pub has_from : (start size offset : ℕ) → has_byte start size offset ≡ true → (start ≤ offset) × (offset < start + size)
 has_from start size offset has =
-    let is = both (nat_le start offset) (nat_lt offset (start + size)) has in
-    (leb-true start offset is.0, leb-true (suc offset) (start + size) is.1)
+    let is = both (nat_le start offset) (nat_lt (offset - start) size) has in
+    let from = leb-true start offset is.0 in
+    let before = leb-true (suc (offset - start)) size is.1 in
+    (from, omega (arith, from, before))
 
 pub has_so : (start size offset : ℕ) → start ≤ offset → offset < start + size → has_byte start size offset ≡ true
 has_so start size offset from before =
-    both_so (nat_le start offset) (nat_lt offset (start + size)) (le-leb start offset from) (le-leb (suc offset) (start + size) before)
+    both_so (nat_le start offset) (nat_lt (offset - start) size) (le-leb start offset from) (le-leb (suc (offset - start)) size (omega (arith, from, before)))
 
 module _ (heap : List ℕ) (index : ℕ) (bytes : List ℕ) (e : IsEnded heap index bytes) where
   tail_is : drop index heap ≡ bytes ++ 0 ∷ e.after
@@ -70,15 +72,6 @@ module _ (heap : List ℕ) (byte first ends : ℕ) (run : IsRun heap byte first 
 
   pub run_string_long : first ≤ index → index ≤ byte → length (take (ends - index) (drop index heap)) ≡ ends - index
   run_string_long from upto = length-take-le (ends - index) (drop index heap) (omega (arith, length-drop index heap, run.within, run.upto, upto))
-
-  pub string_to : (text : List ℕ) → first ≤ index → index ≤ byte → IsEnded heap index text → index + length text ≡ ends
-  string_to text from upto e = ⊎_elim
-      (λ (lt : index + length text < ends). absurd (run.clear (index + length text) (omega (arith, from)) lt (nul_after heap index text e)))
-      (λ (ge : ends ≤ index + length text). ⊎_elim
-      (λ (lt : ends < index + length text). absurd (no_nul_in heap index text e ends (omega (arith, upto, run.upto)) lt run.nul))
-      (λ (le : index + length text ≤ ends). let same : index + length text ≡ ends = omega (arith, ge, le) in same)
-      (cases_lt ends (index + length text)))
-      (cases_lt (index + length text) ends)
 
   -- an index before the run names no string that has the byte
   pub before_run : (text : List ℕ) → IsEnded heap index text → index < first → byte < index + (length text + 1) → ⊥

@@ -1,90 +1,101 @@
--- The first entries that have a byte.
-use Rattle.std.proofs.Common.{◌≡◌, ◌∙◌, ℕ, zero, suc, ◌+◌, ◌-◌, ◌<◌, ◌≤◌, true, List, [], ◌∷◌, ◌++◌, take, refl, ap, sym, arith, append_assoc, append-nil}
+-- The first entries that contain a byte.
+use Rattle.std.proofs.Common.{◌≡◌, ℕ, zero, suc, ◌-◌, ◌≢◌, List, [], ◌∷◌, ◌++◌, refl, sym, subst, arith, append_assoc, append-nil, inl, inr}
 use Rattle.std.specs.Prelude.{Option, Some, None}
-use Rattle.std.specs.List.{range_with_len}
-use Rattle.std.proofs.lemmas.Grind.{flat_map-append}
-use Rattle.schema.specs.Sizes.{Sizes}
+use Rattle.rows.specs.Cells.{Stream}
 use Rattle.schema.specs.declared.located_cells.TableCell.{TableCell}
-use Rattle.cli_regions.specs.Regions.{has_byte}
-use Rattle.cli_where.specs.declared.structures.Item.{Item}
-use Rattle.cli_where.specs.declared.structures.Structure.{Structure}
-use Rattle.cli_where.specs.Entries.{Heaps, IsEntryOf, IsNamedBy, entries, entry_structure, listed}
+use Rattle.cli_regions.specs.Kept.{Joins, Searched}
+use Rattle.cli_regions.specs.Regions.{Region}
+use Rattle.cli_regions.proofs.SearchLemmas.{joins_more, joins_none}
+use Rattle.cli_where.specs.Entries.{AreFirst, IsEntryOf, all_cells}
+use Rattle.cli_where.specs.Kept.{FindsEntries, FindsFirst, heaps_of}
+use Rattle.cli_where.specs.declared.entries.Target.{Target}
 
-abbrev structure_at : ℕ → ℕ → Item → Structure
-structure_at start size item = record { start = start; size = size; item = item }
+module _ (IsOf : TableCell → Option Region → Type 0) where
+  none_first : (most : ℕ) (cell : TableCell) (cells : List TableCell) (found : List Region) → IsOf cell None → AreFirst IsOf most cells found → AreFirst IsOf most (cell ∷ cells) found
+  none_first zero cell cells found none are = are
+  none_first (suc most) cell cells [] none are = (none, are)
+  none_first (suc most) cell cells (first ∷ later) none are = inr (none, are)
 
--- no entry is left
-pub none_left : (line : List Structure) (left : ℕ) (tail regions : List Structure) → left ≡ 0 → line ++ take 0 tail ≡ line ++ take left regions
-none_left line left tail regions none = ap (λ (n : ℕ). line ++ take n regions) (sym none)
+  some_first : (most left : ℕ) (cell : TableCell) (cells : List TableCell) (first : Region) (later : List Region) → suc left ≡ most → IsOf cell (Some first)
+      → AreFirst IsOf left cells later → AreFirst IsOf most (cell ∷ cells) (first ∷ later)
+  some_first most left cell cells first later next is are = subst (λ (n : ℕ). AreFirst IsOf n (cell ∷ cells) (first ∷ later)) next (inl (is, are))
 
--- an entry was added
-pub one_more : (line after : List Structure) (most : ℕ) (of : Structure) (tail : List Structure) → 1 ≤ most → after ≡ line ++ of ∷ []
-    → after ++ take (most - 1) tail ≡ line ++ take most (of ∷ tail)
-one_more line after most of tail some is =
-    let next : suc (most - 1) ≡ most = omega (arith, some) in
-    ap (λ xs. xs ++ take (most - 1) tail) is ∙ append_assoc line (of ∷ []) (take (most - 1) tail)
-    ∙ ap (λ (n : ℕ). line ++ take n (of ∷ tail)) next
+  no_cells : (most : ℕ) → AreFirst IsOf most [] []
+  no_cells zero = refl
+  no_cells (suc most) = refl
 
--- the entry that was found of a cell is the one that its number names
-module _ (heaps : Heaps) (stream : List ℕ) (sizes : Sizes) (offset : ℕ) (cell : TableCell) (start size : ℕ) where
-  pub found_is : IsNamedBy heaps stream sizes cell start size → has_byte start size offset ≡ true
-      → ((other more : ℕ) → IsNamedBy heaps stream sizes cell other more → (other ≡ start) × (more ≡ size))
-      → (found : Option Structure) → IsEntryOf heaps stream sizes offset cell found → listed found ≡ entry_structure start size cell ∷ []
-  found_is named has one None none = absurd (none start size named has)
-  found_is named has one (Some entry) is =
-      let same = one entry.start entry.size is.0 in
-      ap (λ (s : ℕ). structure_at s entry.size entry.item ∷ []) same.0
-      ∙ ap (λ (n : ℕ). structure_at start n entry.item ∷ []) same.1
-      ∙ ap (λ (item : Item). structure_at start size item ∷ []) is.2
+  pub nothing_first : ((cell : TableCell) → IsOf cell None) → (most : ℕ) (cells : List TableCell) → AreFirst IsOf most cells []
+  nothing_first none zero cells = refl
+  nothing_first none (suc most) [] = refl
+  nothing_first none (suc most) (cell ∷ cells) = (none cell, nothing_first none (suc most) cells)
 
--- a cell, and those after it
-pub cell_more : (found : TableCell → Option Structure) (line after : List Structure) (most left : ℕ) (cell : TableCell) (later all : List TableCell) (tail : List Structure) → all ≡ cell ∷ later
-    → after ++ take left (entries found later ++ tail) ≡ line ++ take most (listed (found cell) ++ (entries found later ++ tail))
-    → after ++ take left (entries found later ++ tail) ≡ line ++ take most (entries found all ++ tail)
-cell_more found line after most left cell later all tail is step =
-    step ∙ ap (λ regions. line ++ take most regions) (sym (append_assoc (listed (found cell)) (entries found later) tail) ∙ ap (λ cells. entries found cells ++ tail) (sym is))
+module _ {target : Target} {stream : Stream} where
+  -- the entries of some cells, and then those of others
+  pub finds_more : {most left last : ℕ} {first later : List TableCell} {old between new : Searched} → FindsFirst target stream most left first old between
+      → FindsFirst target stream left last later between new → FindsFirst target stream most last (first ++ later) old new
+  finds_more {most} {left} {last} {first} {later} one other = record {
+    found = one.found ++ other.found;
+    first = λ more tail are.
+        subst (λ (cells : List TableCell). AreFirst (IsEntryOf (heaps_of target) stream.bytes stream.sizes target.offset) most cells ((one.found ++ other.found) ++ tail)) (sym (append_assoc first later more))
+        (subst (λ (found : List Region). AreFirst (IsEntryOf (heaps_of target) stream.bytes stream.sizes target.offset) most (first ++ (later ++ more)) found) (sym (append_assoc one.found other.found tail))
+        (one.first (later ++ more) (other.found ++ tail) (other.first more tail are)));
+    joins = joins_more one.joins other.joins;
+  }
 
--- cells, and those after them
-pub cells_more : (found : TableCell → Option Structure) (line after : List Structure) (most left : ℕ) (first later all : List TableCell) (tail : List Structure) → all ≡ first ++ later
-    → after ++ take left (entries found later ++ tail) ≡ line ++ take most (entries found first ++ (entries found later ++ tail))
-    → after ++ take left (entries found later ++ tail) ≡ line ++ take most (entries found all ++ tail)
-cells_more found line after most left first later all tail is step =
-    step ∙ ap (λ regions. line ++ take most regions) (sym (append_assoc (entries found first) (entries found later) tail)
-    ∙ ap (λ regions. regions ++ tail) (sym (flat_map-append (λ cell. listed (found cell)) first later) ∙ ap (entries found) (sym is)))
+  -- no cell is left
+  pub finds_nothing : (most : ℕ) (search : Searched) → FindsFirst target stream most most [] search search
+  finds_nothing most search = record { found = []; first = λ more later are. are; joins = joins_none search }
 
--- no cell is left
-pub cells_end : (found : TableCell → Option Structure) (line whole : List Structure) (left : ℕ) (all : List TableCell) (tail : List Structure) → all ≡ []
-    → line ++ take left (entries found all ++ tail) ≡ whole → line ++ take left tail ≡ whole
-cells_end found line whole left all tail none is = ap (λ cells. line ++ take left (entries found cells ++ tail)) (sym none) ∙ is
+  -- no entry is left
+  pub finds_no_more : (most : ℕ) (cells : List TableCell) (search : Searched) → most ≡ 0 → FindsFirst target stream most 0 cells search search
+  finds_no_more most cells search none =
+      subst (λ (n : ℕ). FindsFirst target stream n 0 cells search search) (sym none) (record { found = []; first = λ more later are. are; joins = joins_none search })
 
--- the numbers from one on up to another one
-pub range_next : (i n : ℕ) → i < n → range_with_len i (n - i) ≡ i ∷ range_with_len (i + 1) (n - (i + 1))
-range_next i n lt =
-    let one_less : n - i ≡ suc (n - (i + 1)) = omega (arith, lt) in
-    ap (λ (k : ℕ). range_with_len i k) one_less
+  -- the same cells by another name
+  pub finds_as : {most left : ℕ} {cells others : List TableCell} {old new : Searched} → FindsFirst target stream most left cells old new → cells ≡ others
+      → FindsFirst target stream most left others old new
+  finds_as {most} {left} {cells} {others} {old} {new} finds is = subst (λ (xs : List TableCell). FindsFirst target stream most left xs old new) is finds
 
-pub range_end : (i n : ℕ) → n ≤ i → range_with_len i (n - i) ≡ []
-range_end i n le = let none : n - i ≡ 0 = omega (arith, le) in ap (λ (k : ℕ). range_with_len i k) none
+  -- a cell names an entry that contains the byte, or none
+  pub finds_one : (most : ℕ) (cell : TableCell) (of : Region) (old new : Searched) → most ≢ 0 → IsEntryOf (heaps_of target) stream.bytes stream.sizes target.offset cell (Some of)
+      → Joins old new (of ∷ []) → FindsFirst target stream most (most - 1) (cell ∷ []) old new
+  finds_one most cell of old new some is joins =
+      let next : suc (most - 1) ≡ most = omega (arith, some) in
+      record {
+        found = of ∷ [];
+        first = λ more later are. some_first (IsEntryOf (heaps_of target) stream.bytes stream.sizes target.offset) most (most - 1) cell more of later next is are;
+        joins = joins;
+      }
 
-none_of : (left : ℕ) → take {A = Structure} left [] ≡ []
-none_of zero = refl
-none_of (suc left) = refl
+  pub finds_none_of : (most : ℕ) (cell : TableCell) (search : Searched) → IsEntryOf (heaps_of target) stream.bytes stream.sizes target.offset cell None
+      → FindsFirst target stream most most (cell ∷ []) search search
+  finds_none_of most cell search none = record {
+    found = [];
+    first = λ more later are. none_first (IsEntryOf (heaps_of target) stream.bytes stream.sizes target.offset) most cell more later none are;
+    joins = joins_none search;
+  }
 
-pub none_of_none : (line : List Structure) (left : ℕ) → line ++ take left [] ≡ line
-none_of_none line left = ap (λ (xs : List Structure). line ++ xs) (none_of left) ∙ append-nil line
+  -- all cells
+  pub finds_all : {left : ℕ} {old new : Searched} → FindsFirst target stream 10 left (all_cells stream.sizes) old new → FindsEntries target stream old new
+  finds_all {left} finds =
+      let all = finds.first [] [] (no_cells (IsEntryOf (heaps_of target) stream.bytes stream.sizes target.offset) left) in
+      record {
+        found = finds.found;
+        are = subst (λ (found : List Region). AreFirst (IsEntryOf (heaps_of target) stream.bytes stream.sizes target.offset) 10 (all_cells stream.sizes) found) (append-nil finds.found)
+            (subst (λ (cells : List TableCell). AreFirst (IsEntryOf (heaps_of target) stream.bytes stream.sizes target.offset) 10 cells (finds.found ++ [])) (append-nil (all_cells stream.sizes)) all);
+        joins = finds.joins;
+      }
 
-pub all_entries : (line : List Structure) (found : TableCell → Option Structure) (cells : List TableCell) → line ++ take 10 (entries found cells ++ []) ≡ line ++ take 10 (entries found cells)
-all_entries line found cells = ap (λ regions. line ++ take 10 regions) (append-nil (entries found cells))
+-- with the entries of the cells that are left, the search has found those of all cells
+abbrev pub CompletesFirst : Target → Stream → ℕ → ℕ → List TableCell → List TableCell → Searched → Searched → Type 0
+CompletesFirst target stream most left tail all old now =
+    (last : ℕ) (later : Searched) → FindsFirst target stream left last tail now later → FindsFirst target stream most last all old later
 
--- no cell names an entry that has the byte
-module _ (heaps : Heaps) (stream : List ℕ) (sizes : Sizes) (offset : ℕ)
-    (none : (cell : TableCell) (start size : ℕ) → IsNamedBy heaps stream sizes cell start size → has_byte start size offset ≡ true → ⊥) where
-  none_listed : (cell : TableCell) (found : Option Structure) → IsEntryOf heaps stream sizes offset cell found → listed found ≡ []
-  none_listed cell None is = refl
-  none_listed cell (Some entry) is = absurd (none cell entry.start entry.size is.0 is.1)
+pub more_cells : {target : Target} {stream : Stream} {most left next : ℕ} {all first : List TableCell} {old now new : Searched} (before tail : List TableCell)
+    → CompletesFirst target stream most left before all old now → before ≡ first ++ tail → FindsFirst target stream left next first now new
+    → CompletesFirst target stream most next tail all old new
+more_cells before tail completes is finds = λ last later remainder. completes last later (finds_as (finds_more finds remainder) (sym is))
 
-  pub none_found : (found : TableCell → Option Structure) → ((cell : TableCell) → IsEntryOf heaps stream sizes offset cell (found cell)) → (cells : List TableCell)
-      → entries found cells ≡ []
-  none_found found is [] = refl
-  none_found found is (cell ∷ cells) =
-      ap (λ (xs : List Structure). xs ++ entries found cells) (none_listed cell (found cell) (is cell)) ∙ none_found found is cells
+pub no_more_cells : {target : Target} {stream : Stream} {most left : ℕ} {all : List TableCell} {old now : Searched} (tail : List TableCell)
+    → CompletesFirst target stream most left tail all old now → tail ≡ [] → FindsFirst target stream most left all old now
+no_more_cells {target} {stream} {most} {left} {all} {old} {now} tail completes none = completes left now (finds_as (finds_nothing left now) (sym none))

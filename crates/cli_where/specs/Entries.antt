@@ -1,5 +1,5 @@
 -- The heap entries that have a byte, and the cells that name them (ECMA-335 II.22 and II.24.2.3 to II.24.2.5).
-use Rattle.std.specs.Prelude.{◌≡◌, ℕ, ◌+◌, ◌-◌, ◌*◌, ◌<◌, true, List, [], ◌∷◌, length, map, take, Option, None, Some, unwrap_or}
+use Rattle.std.specs.Prelude.{◌≡◌, ℕ, zero, suc, ◌+◌, ◌-◌, ◌*◌, ◌<◌, ◌⊎◌, true, List, [], ◌∷◌, length, map, Option, None, Some, unwrap_or}
 use Rattle.std.specs.List.{flat_map, range_with_len}
 use Rattle.std.specs.Option.{option_map}
 use Rattle.root.specs.declared.kind.Kind.{Kind}
@@ -14,9 +14,7 @@ use Rattle.table_schema.specs.Columns.{column_at, columns_of}
 use Rattle.schema.specs.Sizes.{Sizes, count_of}
 use Rattle.schema.specs.Cells.{number_at}
 use Rattle.schema.specs.declared.located_cells.TableCell.{TableCell}
-use Rattle.cli_regions.specs.Regions.{has_byte}
-use Rattle.cli_where.specs.declared.structures.Item.TheVariants.{Entry}
-use Rattle.cli_where.specs.declared.structures.Structure.{Structure}
+use Rattle.cli_regions.specs.Regions.{Region, entry, has_byte}
 
 -- a heap: its bytes, and the offset of the first one in the file
 pub record Heap : Type 0 where
@@ -88,20 +86,15 @@ heap_named _ = Blobs
 abbrev pub kind_of : TableCell → ColumnKind
 kind_of cell = (column_at cell.table cell.column).kind
 
--- an entry that a cell names, as a structure
-abbrev pub entry_structure : ℕ → ℕ → TableCell → Structure
-entry_structure start size cell = record { start = start; size = size; item = Entry (heap_named (kind_of cell)) cell }
-
 -- the number in a cell of a table stream names an entry
 abbrev pub IsNamedBy : Heaps → List ℕ → Sizes → TableCell → ℕ → ℕ → Type 0
 IsNamedBy heaps stream sizes cell start size = IsNamed heaps (kind_of cell) (number_at stream sizes cell.table cell.row cell.column) start size
 
--- the entry that a cell names and that has the byte at an offset of the file; or the cell names no entry that has it
-abbrev pub IsEntryOf : Heaps → List ℕ → Sizes → ℕ → TableCell → Option Structure → Type 0
+-- the entry that a cell names and that contains the byte at an offset of the file; or the cell names no entry that contains it
+abbrev pub IsEntryOf : Heaps → List ℕ → Sizes → ℕ → TableCell → Option Region → Type 0
 IsEntryOf heaps stream sizes offset cell None = (start size : ℕ) → IsNamedBy heaps stream sizes cell start size → has_byte start size offset ≡ true → ⊥
-IsEntryOf heaps stream sizes offset cell (Some entry) =
-    IsNamedBy heaps stream sizes cell entry.start entry.size × (has_byte entry.start entry.size offset ≡ true)
-    × (entry.item ≡ Entry (heap_named (kind_of cell)) cell)
+IsEntryOf heaps stream sizes offset cell (Some of) =
+    IsNamedBy heaps stream sizes cell of.start of.size × (has_byte of.start of.size offset ≡ true) × (of.what ≡ entry (heap_named (kind_of cell)) cell)
 
 -- the cells of a row, column by column
 abbrev pub cell_of : TableId → ℕ → ℕ → TableCell
@@ -118,16 +111,14 @@ table_cells sizes table = flat_map (row_cells table) (range_with_len 1 (count_of
 unfoldable pub all_cells : Sizes → List TableCell
 all_cells sizes = flat_map (table_cells sizes) tables
 
--- the entries that were found, one for each cell at most
-abbrev pub listed : Option Structure → List Structure
-listed None = []
-listed (Some entry) = entry ∷ []
+-- of these cells the first ones that name an entry, at most this number, name these entries
+abbrev pub AreFirst : (TableCell → Option Region → Type 0) → ℕ → List TableCell → List Region → Type 0
+AreFirst IsOf zero cells found = found ≡ []
+AreFirst IsOf (suc most) [] found = found ≡ []
+AreFirst IsOf (suc most) (cell ∷ cells) [] = IsOf cell None × AreFirst IsOf (suc most) cells []
+AreFirst IsOf (suc most) (cell ∷ cells) (first ∷ later) =
+    (IsOf cell (Some first) × AreFirst IsOf most cells later) ⊎ (IsOf cell None × AreFirst IsOf (suc most) cells (first ∷ later))
 
-abbrev pub entries : (TableCell → Option Structure) → List TableCell → List Structure
-entries found cells = flat_map (λ cell. listed (found cell)) cells
-
--- The entries that have the byte at an offset of the file: those of the first ten cells that name one.
-abbrev pub AreEntriesAt : Heaps → List ℕ → Sizes → ℕ → List Structure → Type 0
-AreEntriesAt heaps stream sizes offset structures =
-    (found : TableCell → Option Structure) × ((cell : TableCell) → IsEntryOf heaps stream sizes offset cell (found cell))
-    × (structures ≡ take 10 (entries found (all_cells sizes)))
+-- the entries that contain the byte at an offset of the file: those of the first ten cells that name one
+abbrev pub AreEntriesAt : Heaps → List ℕ → Sizes → ℕ → List Region → Type 0
+AreEntriesAt heaps stream sizes offset found = AreFirst (IsEntryOf heaps stream sizes offset) 10 (all_cells sizes) found

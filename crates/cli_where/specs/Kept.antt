@@ -1,13 +1,13 @@
 -- What a program keeps of the heaps while it looks for the entries that have a byte.
-use Rattle.std.specs.Prelude.{◌≡◌, ◌≢◌, ℕ, ◌+◌, ◌-◌, ◌<◌, ◌≤◌, ◌||◌, Bool, List, length, true, Option, None, Some, slice_index}
+use Rattle.std.specs.Prelude.{◌≡◌, ◌≢◌, ℕ, ◌+◌, ◌-◌, ◌<◌, ◌≤◌, ◌||◌, Bool, List, ◌++◌, length, true, Option, None, Some, slice_index}
 use Rattle.cli_where.specs.declared.entries.Heap.{Heap as KeptHeap}
 use Rattle.cli_where.specs.declared.entries.Run.{Run}
 use Rattle.cli_where.specs.declared.entries.Target.{Target}
 use Rattle.schema.specs.declared.located_cells.TableCell.{TableCell}
 use Rattle.rows.specs.Cells.{Stream}
-use Rattle.cli_where.specs.Entries.{Heap, Heaps, IsEntryOf, IsStringAt}
-use Rattle.cli_where.specs.declared.structures.Structure.{Structure}
-use Rattle.cli_regions.specs.Regions.{has_byte}
+use Rattle.cli_where.specs.Entries.{AreEntriesAt, AreFirst, Heap, Heaps, IsEntryOf, IsStringAt}
+use Rattle.cli_regions.specs.Kept.{Joins, Searched}
+use Rattle.cli_regions.specs.Regions.{Region, has_byte}
 
 abbrev pub heap_of : KeptHeap → Heap
 heap_of heap = record { bytes = heap.bytes.now; start = heap.start }
@@ -55,6 +55,19 @@ pub record AreReady (target : Target) : Type 0 where
   pub blobs : IsLow target.blobs
   pub run : IsRunOf (heap_of target.texts) target.offset target.run
 
--- what was found of each cell
-abbrev pub AreFound : Heaps → Stream → ℕ → (TableCell → Option Structure) → Type 0
-AreFound heaps stream offset found = (cell : TableCell) → IsEntryOf heaps stream.bytes stream.sizes offset cell (found cell)
+-- with the entries of these cells, a number of which is left, the entries of more cells are the first ones of all
+abbrev pub NameFirst : (TableCell → Option Region → Type 0) → ℕ → ℕ → List TableCell → List Region → Type 0
+NameFirst IsOf most left cells found =
+    (more : List TableCell) (later : List Region) → AreFirst IsOf left more later → AreFirst IsOf most (cells ++ more) (found ++ later)
+
+-- the search kept the entries of these cells that contain the byte, at most `most`; of this number some are left
+pub record FindsFirst (target : Target) (stream : Stream) (most left : ℕ) (cells : List TableCell) (old new : Searched) : Type 0 where
+  pub found : List Region
+  pub first : NameFirst (IsEntryOf (heaps_of target) stream.bytes stream.sizes target.offset) most left cells found
+  pub joins : Joins old new found
+
+-- the search kept the entries that contain the byte
+pub record FindsEntries (target : Target) (stream : Stream) (old new : Searched) : Type 0 where
+  pub found : List Region
+  pub are : AreEntriesAt (heaps_of target) stream.bytes stream.sizes target.offset found
+  pub joins : Joins old new found

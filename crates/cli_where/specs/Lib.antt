@@ -1,9 +1,7 @@
-pub mod Strings
-pub mod Structures
-pub mod Cells
 pub mod Entries
-pub mod Kept
 pub mod UserStrings
-pub mod Values
-pub mod JsonTexts
+pub mod Cells
+pub mod Kept
 pub mod Where
+pub mod Lines
+pub mod Located

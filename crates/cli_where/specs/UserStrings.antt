@@ -1,43 +1,38 @@
--- The user string that has a byte, and its token (ECMA-335 II.24.2.4 and III.1.9).
-use Rattle.std.specs.Prelude.{◌≡◌, ℕ, ◌+◌, ◌*◌, ◌^◌, ◌<◌, true, List, [], ◌∷◌, Option, None, Some}
-use Rattle.heap_entries.specs.Entries.{UserText}
-use Rattle.cli_where.specs.Strings.{IsEntry}
-use Rattle.cli_regions.specs.Regions.{has_byte}
-use Rattle.cli_where.specs.declared.structures.Item.TheVariants.{UserString}
-use Rattle.cli_where.specs.declared.structures.Structure.{Structure}
+-- The user strings of a heap, and their tokens (ECMA-335 II.24.2.4 and III.1.9).
+use Rattle.std.specs.Prelude.{◌≡◌, ℕ, ◌+◌, ◌-◌, ◌*◌, ◌^◌, ◌<◌, ◌≤◌, ◌⊎◌, List, [], ◌∷◌, length, map}
+use Rattle.heap_entries.specs.Entries.{EncodesUserText, IsCounted, UserText}
+use Rattle.cli_regions.specs.Regions.{Region, regions_at, user_string}
 use Rattle.cli_where.specs.Entries.{Heap}
 
--- the user string at an index of the heap has this number of bytes, those of its packed length included
-pub record IsUserAt (heap : List ℕ) (index size : ℕ) : Type 0 where
+-- the user string is at this offset of the heap: a packed length, in any of its forms, and its bytes; the next offset
+-- follows them
+pub record IsEntry (heap : List ℕ) (offset : ℕ) (string : UserText) (next : ℕ) : Type 0 where
+  pub blob : List ℕ
+  pub stands : IsCounted heap offset blob
+  pub encodes : EncodesUserText blob string
+  pub follows : next ≡ offset + length stands.count + length blob
+
+-- an entry: its offset, its user string, and the offset after it
+pub record Entry : Type 0 where
+  pub offset : ℕ
   pub string : UserText
-  pub entry : IsEntry heap index string (index + size)
+  pub next : ℕ
 
--- user strings of these sizes follow one another from an index up to another one; each index is one of a token
-abbrev pub AreUsers : List ℕ → ℕ → List ℕ → ℕ → Type 0
-AreUsers heap index [] next = next ≡ index
-AreUsers heap index (size ∷ sizes) next = (index < 2 ^ 24) × IsUserAt heap index size × AreUsers heap (index + size) sizes next
+-- The entries of a heap from an offset on, one after another, up to the first offset that has no entry, or that has more
+-- than the three bytes of a token.
+abbrev pub AreEntries : List ℕ → ℕ → List Entry → Type 0
+AreEntries heap offset [] = (2 ^ 24 ≤ offset) ⊎ ((string : UserText) (next : ℕ) → ¬ IsEntry heap offset string next)
+AreEntries heap offset (entry ∷ more) =
+    (offset < 2 ^ 24) × (entry.offset ≡ offset) × IsEntry heap offset entry.string entry.next × AreEntries heap entry.next more
 
--- the user string is one of those that follow one another from index 1 on, as `clim strings` prints them
-pub record IsListed (heap : List ℕ) (index size : ℕ) : Type 0 where
-  pub earlier : List ℕ
-  pub follows : AreUsers heap 1 earlier index
-  pub token : index < 2 ^ 24
-  pub stands : IsUserAt heap index size
+-- the token of the user string at an offset: its high byte is 0x70
+abbrev pub user_token : ℕ → ℕ
+user_token offset = 0x70 * 2 ^ 24 + offset
 
--- a user string as a structure: its token has the high byte 0x70
-abbrev pub user_structure : ℕ → ℕ → ℕ → Structure
-user_structure start index size = record { start = start + index; size = size; item = UserString (0x70 * 2 ^ 24 + index) }
+-- a user string of a heap at an offset of the file as a structure
+abbrev pub user_region : ℕ → Entry → Region
+user_region start entry = record { start = start + entry.offset; size = entry.next - entry.offset; what = user_string (user_token entry.offset) }
 
--- the listed user string that has the byte at an offset of the file, by its index and its size; or none has it
-abbrev pub IsUserFound : Heap → ℕ → Option (ℕ × ℕ) → Type 0
-IsUserFound heap offset None = (index size : ℕ) → IsListed heap.bytes index size → has_byte (heap.start + index) size offset ≡ true → ⊥
-IsUserFound heap offset (Some found) = IsListed heap.bytes found.0 found.1 × (has_byte (heap.start + found.0) found.1 offset ≡ true)
-
--- it as a list of one structure
-abbrev pub user_structures : ℕ → Option (ℕ × ℕ) → List Structure
-user_structures start None = []
-user_structures start (Some found) = user_structure start found.0 found.1 ∷ []
-
--- the user string that has the byte; nothing if none has it
-abbrev pub AreUsersAt : Heap → ℕ → List Structure → Type 0
-AreUsersAt heap offset structures = (found : Option (ℕ × ℕ)) × IsUserFound heap offset found × (structures ≡ user_structures heap.start found)
+-- the user strings that contain the byte, of those that follow one another from offset 1 on
+abbrev pub AreUsersAt : Heap → ℕ → List Region → Type 0
+AreUsersAt heap offset found = (entries : List Entry) × AreEntries heap.bytes 1 entries × (found ≡ regions_at offset (map (user_region heap.start) entries))

@@ -1,15 +1,17 @@
 //! The heap entries that have a byte (II.24.2.3 to II.24.2.5).
-ghost use Rattle.std.specs.Prelude.{◌≡◌, ◌≤◌, ◌<◌, ◌+◌, ℕ, List, IfSome, IfNone, IsSomeAnd, length, true};
+ghost use Rattle.std.specs.Prelude.{◌≡◌, ◌≤◌, ◌<◌, ◌+◌, ℕ, List, [], IfSome, IfNone, IsSomeAnd, length, true, unwrap_or};
+ghost use Rattle.std.specs.Option.{option_map};
 ghost use Rattle.heap_entries.specs.Entries.{IsCounted};
+ghost use Rattle.root.specs.Streams.{range_of, stream_of};
 ghost use Rattle.table_schema.specs.declared.column.ColumnKind.{ColumnKind as TheKind};
-ghost use Rattle.cli_where.specs.Entries.{IsBlobAt, IsGuidAt, IsNamed, IsStringAt, heap_named};
+ghost use Rattle.cli_where.specs.Entries.{IsBlobAt, IsGuidAt, IsNamed, IsStringAt, heap_at, heap_named};
 ghost use Rattle.cli_where.specs.Kept.{AreReady, IsLow, IsRunAt, IsRunOf, heap_of, heaps_of, is_in_heap, is_in_heaps};
 ghost use Rattle.cli_regions.specs.Regions.{has_byte};
 
 use cli_regions::has_byte;
 use memchr::{memchr, memrchr};
 use packed::read_unsigned;
-use root::Kind;
+use root::{Kind, Root};
 use table_schema::ColumnKind;
 
 /// The number of bytes of a GUID.
@@ -55,6 +57,41 @@ pub(crate) struct Span {
     pub start: u64,
     /// Its number of bytes.
     pub size: u64,
+}
+
+/// A stream of a root; no bytes if no header refers to it.
+fn stream_in<'a>(root: &Root<'a>, kind: Kind) -> &'a [u8]
+    ensures stream { result.now ≡ unwrap_or (stream_of root.now kind) [] }
+    ensures within { length result.now ≤ length root.now.bytes }
+{
+    match root.stream(kind) {
+        Some(stream) => stream,
+        None => &[],
+    }
+}
+
+/// The offset of a stream in a root; 0 if no header refers to it.
+fn stream_offset(root: &Root, kind: Kind) -> usize
+    ensures offset { result ≡ unwrap_or (option_map (λ range. range.0) (range_of root.now kind)) 0 }
+    ensures within { result ≤ length root.now.bytes }
+{
+    match root.stream_place(kind) {
+        Some(range) => range.start,
+        None => 0,
+    }
+}
+
+/// A stream of a root that is at offset `start` of the file. It has no bytes if no header refers to it.
+pub(crate) fn heap_in<'a>(root: &Root<'a>, kind: Kind, start: u64) -> Heap<'a>
+    requires small { length root.now.bytes ≤ 0x40000000 }
+    requires start { start ≤ 0x40000000 }
+    ensures heap { heap_of result ≡ heap_at start root.now kind }
+    ensures low { IsLow result }
+{
+    Heap {
+        bytes: stream_in(root, kind),
+        start: start + stream_offset(root, kind) as u64,
+    }
 }
 
 /// The run of a byte of `#Strings`; `None` if no NUL is at the byte or after it.
@@ -116,7 +153,6 @@ pub(crate) fn target_of<'a>(
 fn string_at(target: &Target<'_>, index: u32) -> Option<Span>
     requires { AreReady target.now }
     ensures sound { IfSome result (λ span. IsStringAt (heap_of target.now.texts) index span.start span.size × (has_byte span.start span.size target.now.offset ≡ true)) }
-    ensures one { IfSome result (λ span. (start size : ℕ) → IsStringAt (heap_of target.now.texts) index start size → (start ≡ span.start) × (size ≡ span.size)) }
     ensures none { IfNone result ((start size : ℕ) → IsStringAt (heap_of target.now.texts) index start size → has_byte start size target.now.offset ≡ true → ⊥) }
 {
     let run = target.run?;
@@ -134,7 +170,6 @@ fn string_at(target: &Target<'_>, index: u32) -> Option<Span>
 fn guid_at(target: &Target<'_>, index: u32) -> Option<Span>
     requires { AreReady target.now }
     ensures sound { IfSome result (λ span. IsGuidAt (heap_of target.now.guids) index span.start span.size × (has_byte span.start span.size target.now.offset ≡ true)) }
-    ensures one { IfSome result (λ span. (start size : ℕ) → IsGuidAt (heap_of target.now.guids) index start size → (start ≡ span.start) × (size ≡ span.size)) }
     ensures none { IfNone result ((start size : ℕ) → IsGuidAt (heap_of target.now.guids) index start size → has_byte start size target.now.offset ≡ true → ⊥) }
 {
     let before = GUID_SIZE * u64::from(index.checked_sub(1)?);
@@ -174,7 +209,6 @@ pub(crate) fn blob_size(heap: &[u8], start: usize) -> Option<usize>
 fn blob_at(target: &Target<'_>, index: u32) -> Option<Span>
     requires { AreReady target.now }
     ensures sound { IfSome result (λ span. IsBlobAt (heap_of target.now.blobs) index span.start span.size × (has_byte span.start span.size target.now.offset ≡ true)) }
-    ensures one { IfSome result (λ span. (start size : ℕ) → IsBlobAt (heap_of target.now.blobs) index start size → (start ≡ span.start) × (size ≡ span.size)) }
     ensures none { IfNone result ((start size : ℕ) → IsBlobAt (heap_of target.now.blobs) index start size → has_byte start size target.now.offset ≡ true → ⊥) }
 {
     if index == 0 {
@@ -192,7 +226,6 @@ fn blob_at(target: &Target<'_>, index: u32) -> Option<Span>
 pub(crate) fn entry_at(target: &Target<'_>, kind: ColumnKind, index: u32) -> Option<Span>
     requires { AreReady target.now }
     ensures sound { IfSome result (λ span. IsNamed (heaps_of target.now) kind index span.start span.size × (has_byte span.start span.size target.now.offset ≡ true)) }
-    ensures one { IfSome result (λ span. (start size : ℕ) → IsNamed (heaps_of target.now) kind index start size → (start ≡ span.start) × (size ≡ span.size)) }
     ensures none { IfNone result ((start size : ℕ) → IsNamed (heaps_of target.now) kind index start size → has_byte start size target.now.offset ≡ true → ⊥) }
 {
     match kind {

@@ -1,54 +1,102 @@
-//! Opens a file and prints its user strings.
-ghost use Rattle.std.specs.Prelude.{ℕ, List, OnOk, IfErr};
-ghost use Rattle.metadata.specs.Metadata.{Metadata};
-ghost use Rattle.metadata.specs.Model.{IsModel};
-ghost use Rattle.cli_faults.specs.Status.{IsOutput};
-ghost use Rattle.cli_reports.specs.Checked.{IsWhole, rules_of};
-ghost use Rattle.cli_reports.specs.Printed.{IsModelOf};
-ghost use Rattle.cli_reports.specs.Reported.{LeavesOutput, ReportsFault};
-ghost use Rattle.cli_reports.specs.Sent.{Prints};
-ghost use Rattle.cli_where.specs.Strings.{IsStringsText};
+//! Prints the user strings of a file.
+ghost use Rattle.std.specs.Prelude.{◌≡◌, ◌∷◌, [], ◌<◌, ◌^◌, List, IfOk, flat_map};
+ghost use Rattle.heap_entries.specs.Padding.{zero_padded};
+ghost use Rattle.cli_lines.specs.Printed.{Prints};
+ghost use Rattle.cli_where.specs.Lines.{entry_lines, string_line, string_lines};
+ghost use Rattle.cli_where.specs.Located.{AreListed, HasEntries};
+ghost use Rattle.cli_where.specs.UserStrings.{AreEntries, Entry};
 
-use crate::string_lines::print_entries;
-use cli_faults::{Failure, printed};
-use cli_reports::{open, padded_copy};
-use opening::View;
-use std::alloc::Global;
+use crate::user_strings::{USER_STRINGS, user_entry};
+use cli_faults::Failure;
+use cli_input::{Input, open};
+use cli_lines::Part::{Field, Units, Word};
+use cli_lines::Value::Hex;
+use cli_lines::{Name, Printer};
+use heap_entries::UserString;
+use std::alloc::{AllocError, Global};
 use std::io::Write;
 
-/// Prints a line for each user string of a file, or of a metadata root if the bytes are `bare`: its token, a space and
-/// its units, each escaped as [`cli_reports::print_units`] does. Nothing is printed before all rules are checked.
-/// Its memory is that of a copy of `#US`, and of the lines that wait to be sent.
+/// Prints a line for each user string: its token, a space and its units, each escaped if needed. Strings of no bytes have
+/// none. Its memory is that of a copy of `#US`.
 ///
 /// # Errors
 ///
-/// The fault of the first rule that fails; out of memory, or the output cannot be written.
-pub fn report_strings<W: Write>(
+/// The fault of the first rule that fails; or memory ran out before a line was printed.
+pub fn print_strings<W: Write>(
     alloc: Global,
-    bare: bool,
     bytes: &[u8],
-    out: &mut W,
+    input: Input,
+    out: &mut Printer<'_, W>,
 ) -> Result<(), Failure<'static>>
-    ensures sound { OnOk result (IsWhole bare bytes.now) }
-    ensures first_error { IfErr result (ReportsFault (IsWhole bare bytes.now) (rules_of bare bytes.now)) }
-    ensures untouched { IfErr result (LeavesOutput out.old out.new) }
-    ensures printed { (model : Metadata) → IsModelOf bare bytes.now model → (text : List ℕ) → IsStringsText model text
-        → Prints (W.contents out.old) (W.contents out.new) result text }
+    ensures { AreListed input bytes.now out.old out.new result }
 {
-    let view = open(bytes, bare)?;
-    print_strings(alloc, &view, out)
+    match open(bytes, input) {
+        Ok(view) => print_heap(alloc, view.user(), out),
+        Err(fault) => Err(Failure::Fault(fault)),
+    }
 }
 
-/// Prints the user strings of a view.
-fn print_strings<W: Write>(
+/// Prints the user strings of a heap, with zeros up to a multiple of four bytes.
+fn print_heap<W: Write>(
     alloc: Global,
-    view: &View<'_>,
-    out: &mut W,
+    heap: &[u8],
+    out: &mut Printer<'_, W>,
 ) -> Result<(), Failure<'static>>
-    ensures reported { IfErr result IsOutput }
-    ensures printed { (model : Metadata) → IsModel view.now model → (text : List ℕ) → IsStringsText model text
-        → Prints (W.contents out.old) (W.contents out.new) result text }
+    ensures { HasEntries (zero_padded heap.now) out.old out.new result }
 {
-    let heap = padded_copy(alloc, view.user()).map_err(|_| Failure::OutOfMemory)?;
-    printed(print_entries(alloc, &heap, out))
+    match padded_copy(alloc, heap) {
+        Ok(heap) => {
+            print_entries(&heap, out);
+            Ok(())
+        }
+        Err(_) => Err(Failure::OutOfMemory),
+    }
+}
+
+/// A copy of a heap, with zeros up to a multiple of four bytes. A model has such a heap.
+fn padded_copy(alloc: Global, bytes: &[u8]) -> Result<Vec<u8>, AllocError>
+    ensures { IfOk result (λ copy. copy.items ≡ zero_padded bytes.now) }
+{
+    let padding = (4 - bytes.len() % 4) % 4;
+    let mut copy = Vec::with_capacity(alloc, bytes.len() + padding)?;
+    copy.extend_from_slice(bytes)?;
+    copy.resize(bytes.len() + padding, 0)?;
+    Ok(copy)
+}
+
+/// Prints a line for each entry of a heap that has bytes, up to the first offset without an entry or a token.
+fn print_entries<W: Write>(heap: &[u8], out: &mut Printer<'_, W>)
+    ensures { (entries : List Entry) × AreEntries heap.now 1 entries × Prints out.old out.new (flat_map entry_lines entries) }
+{
+    cli_lines::laws::lines_follow::<W>();
+    let mut index = 1;
+    for _turn in 0..heap.len() {
+        match user_entry(heap, index) {
+            Some(entry) => {
+                print_entry(index as u32, &entry.string, out);
+                index = entry.next;
+            }
+            None => return,
+        }
+    }
+}
+
+/// Prints the line of the user string at an offset, unless it has no bytes.
+fn print_entry<W: Write>(offset: u32, string: &UserString<'_>, out: &mut Printer<'_, W>)
+    requires { offset < 2 ^ 24 }
+    ensures { Prints out.old out.new (string_lines offset string.now string.now.flag) }
+{
+    cli_lines::laws::lines_follow::<W>();
+    match string.flag() {
+        Some(_) => print_line(USER_STRINGS + offset, string, out),
+        None => {}
+    }
+}
+
+/// Prints the line of a user string with a token.
+#[tactic(auto, unfolding(crate::specs::Lines::string_line))]
+fn print_line<W: Write>(token: u32, string: &UserString<'_>, out: &mut Printer<'_, W>)
+    ensures { Prints out.old out.new (string_line token string.now ∷ []) }
+{
+    out.line(&[Field(Name::Token, Hex(token)), Word(" "), Units(string)]);
 }

@@ -40,14 +40,13 @@ With '--quiet' there are no such lines and no faults. The exit status is the sam
 checked is still reported to standard error.
 
 With '--json' a JSON object (RFC 8259) is printed on one line: '{\"ok\":true}' or the fault, such as
-'{\"layer\":1,\"code\":102,\"name\":\"DosHeader\",\"offset\":0}'. Then nothing goes to standard error, unless FILE cannot be
-read or checked. The exit status is the same. '--json' takes one FILE, and no list, '--budget' or '--quiet'.
+'{\"layer\":1,\"code\":102,\"offset\":0,\"name\":\"DosHeader\"}'. Then nothing goes to standard error, unless FILE cannot be
+read or checked. The exit status is the same. For several FILEs each line also has the 'file'.
 
 With '--where' all that is known of the fault goes to standard output: its line, then a line as by 'clim where' for
 each structure that has the byte at OFFSET, an empty line, and the text of 'clim explain'. Only what breaks no rule is
 taken apart: the headers of the PE file, then the CLI header, the metadata root and the table stream. So there is the
-line of a cell for layers 5 to 7, and no line of a structure for layer 1. The exit status is the same. '--where' takes
-one FILE, and no list, '--budget', '--quiet' or '--json'.
+line of a cell for layers 5 to 7, and no line of a structure for layer 1. The exit status is the same.
 
 Examples:
   $ clim check one_module.dll

@@ -1,10 +1,10 @@
 //! `clim digest`: the SHA-256 digests of the canonical roots of files.
-use crate::subcommands::{BARE, Usage};
+use crate::subcommands::{BARE, JSON, Usage};
 
 pub(crate) const USAGE: Usage<'static> = Usage {
     name: "digest",
     about: "Print the SHA-256 digest of the canonical metadata root of each file",
-    arguments: &[argument!["FILE" Several "The files to read"], BARE],
+    arguments: &[argument!["FILE" Several "The files to read"], BARE, JSON],
     output: "\
 The line has the 64 hexadecimal digits of the digest, two spaces and FILE, as sha256sum prints it. The digest is
 that of the bytes that 'clim rewrite' writes: 'sha256sum OUT' has the same digits. Files with the same metadata
@@ -14,6 +14,8 @@ by 'clim check'.
 
 Several FILEs have a line each, in the order given. A FILE that has none is reported to standard error with its
 name, and the next one follows. The exit status is the greatest.
+
+With '--json' each line is a JSON object (RFC 8259) with the 'digest' and the 'file'.
 
 Examples:
   $ clim digest one_module.dll

@@ -29,7 +29,7 @@ Examples:
   stream 128 16 #GUID
   $ clim root --json --bare one_module.root
   {\"version\":\"v4.0.30319\"}
-  {\"stream\":{\"name\":\"#~\",\"offset\":80,\"size\":40}}
-  {\"stream\":{\"name\":\"#Strings\",\"offset\":120,\"size\":8}}
-  {\"stream\":{\"name\":\"#GUID\",\"offset\":128,\"size\":16}}",
+  {\"stream\":{\"offset\":80,\"size\":40,\"name\":\"#~\"}}
+  {\"stream\":{\"offset\":120,\"size\":8,\"name\":\"#Strings\"}}
+  {\"stream\":{\"offset\":128,\"size\":16,\"name\":\"#GUID\"}}",
 };

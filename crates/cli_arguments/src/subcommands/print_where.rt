@@ -19,7 +19,8 @@ II.24.2.2), the streams, and the fields, row counts and cells of the table strea
 from 1 and its name. A cell has its table, its row from 1, and its column from 0 and by name (II.22). A string, GUID or
 blob of a heap has the cell that names it; there are lines of the first ten cells (II.24.2.3 to II.24.2.5). A user
 string has its token. The names of streams and sections are escaped like the texts of 'clim show'. If no structure has
-the byte, the output is 'nothing', and the exit status is 1. FILE is checked first, as by 'clim check'.
+the byte, the output is 'nothing', and the exit status is 1. FILE is checked first, as by 'clim check'. If it breaks a
+rule, the lines are those of what breaks none, down to the cells. The fault follows on standard error.
 
 With '--json' each line is a JSON object (RFC 8259) with the 'offset', the 'size' and the 'structure' that has the byte.
 A 'cell' also has its 'table', 'row' and 'column'. A 'string', 'guid' or 'blob' has its 'stream' and those of the cell

@@ -42,7 +42,7 @@ rows that 'clim token' prints.
 With '--until-fault' the rows of a broken FILE before its first fault are printed, too. They come before the first row that breaks a
 rule for cells (layer 5 of 'clim check --help'). There are none if a rule of layers 1 to 4 is broken, and all rows are
 printed if only a later rule is. The blob of a broken signature is printed as it is. After the rows the fault goes to
-standard error, and the exit status is 1. '--until-fault' and '--json' exclude each other.
+standard error, and the exit status is 1.
 
 With '--json' there is a line for each row: a JSON object (RFC 8259) with its 'table', 'row' and 'token', and then
 its cells by the names of their columns. A signature is an object with its bytes as 'blob' and its 'text' in the

@@ -13,4 +13,4 @@ mod replacing;
 mod rewriting;
 mod several;
 mod until_fault;
-mod writers;
+pub(crate) mod writers;

@@ -1,8 +1,9 @@
 //! Tests of `cli_outline`: the lines that `clim outline` prints.
 
 use crate::runs::answer;
-use cli_outline::report_outline;
-use cli_reports::Form;
+use cli_input::{Input, open};
+use cli_lines::{Form, Printer};
+use cli_outline::print_outline;
 use sample_roots::RootBuilder;
 use std::alloc::Global;
 use std::fs;
@@ -80,8 +81,14 @@ fn prints_events_and_properties_below_their_type(rt: HostRuntime) -> Result<(), 
 
 /// The outline of a root as JSON Lines.
 fn json_of(alloc: Global, root: &[u8]) -> Result<String, Fail> {
+    let Ok(view) = open(root, Input::BareRoot) else {
+        return Err("a broken root".into());
+    };
     let mut out = Vec::new(alloc);
-    if report_outline(alloc, Form::JsonLines, true, root, &mut out).is_err() {
+    let mut printer = Printer::new(alloc, Form::JsonLines, &mut out);
+    print_outline(alloc, &view, &mut printer);
+    let (_, sent) = printer.finish();
+    if sent.is_err() {
         return Err("no outline".into());
     }
     Ok(String::from_utf8(out).ok().ok_or("no text")?)

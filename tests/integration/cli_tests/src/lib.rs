@@ -11,13 +11,15 @@ mod cli;
 #[cfg(test)]
 mod cli_arguments;
 #[cfg(test)]
+mod cli_cells;
+#[cfg(test)]
 mod cli_faults;
+#[cfg(test)]
+mod cli_lines;
 #[cfg(test)]
 mod cli_outline;
 #[cfg(test)]
-mod cli_prefix;
-#[cfg(test)]
-mod cli_reports;
+mod cli_print;
 #[cfg(test)]
 mod cli_strings;
 #[cfg(test)]

@@ -2,8 +2,10 @@
 
 use crate::runs::answer;
 use crate::where_files::plain_lines;
-use cli_reports::Form;
-use cli_where::{Found, report_where};
+use cli_faults::Failure;
+use cli_input::Input;
+use cli_lines::{Form, Printer};
+use cli_where::{Found, print_where};
 use sample_roots::{NAMES_SHARED, ONE_MODULE, RootBuilder, TWO_TYPES, image};
 use std::alloc::Global;
 use std::fs;
@@ -164,13 +166,34 @@ fn push_lines(alloc: Global, structures: &[Structure], base: usize, offset: usiz
     Ok(())
 }
 
-/// What is printed of a byte, and whether a structure has it.
-pub fn printed(rt: &HostRuntime, bare: bool, file: &[u8], offset: u64) -> Result<(Found, String), Fail> {
-    let mut out = Vec::new(rt.alloc());
-    let Ok(found) = report_where(rt.alloc(), Form::Text, bare, file, offset, &mut out) else {
-        return Err(Fail::from("a failure"));
+/// What is printed of a byte, and whether a structure has it; or the code and the offset of the fault.
+fn located(alloc: Global, form: Form, input: Input, file: &[u8], offset: u64) -> Result<(Result<Found, (u16, u64)>, String), Fail> {
+    let mut out = Vec::new(alloc);
+    let mut printer = Printer::new(alloc, form, &mut out);
+    let located = print_where(alloc, file, input, offset, &mut printer);
+    let (_, sent) = printer.finish();
+    if sent.is_err() {
+        return Err(Fail::from("no output"));
+    }
+    let found = match located {
+        Ok(found) => Ok(found),
+        Err(Failure::Fault(fault)) => Err((fault.code, fault.offset)),
+        Err(_) => return Err(Fail::from("a failure")),
     };
     Ok((found, String::from_utf8(out).ok().ok_or("no text")?))
+}
+
+/// What the bytes are.
+fn input_of(bare: bool) -> Input {
+    if bare { Input::BareRoot } else { Input::File }
+}
+
+/// What is printed of a byte of a file that breaks no rule, and whether a structure has it.
+pub fn printed(rt: &HostRuntime, bare: bool, file: &[u8], offset: u64) -> Result<(Found, String), Fail> {
+    let (Ok(found), text) = located(rt.alloc(), Form::Text, input_of(bare), file, offset)? else {
+        return Err(Fail::from("a fault"));
+    };
+    Ok((found, text))
 }
 
 /// Whether the lines of a byte are these.
@@ -402,16 +425,86 @@ fn refuses_what_is_no_offset(rt: HostRuntime) -> Result<(), Fail> {
     Ok(())
 }
 
-/// A file that breaks a rule has its fault, and no line.
+/// Of a file that breaks a rule the structures that break none have lines. The fault follows them on standard error.
 #[test]
-fn prints_no_line_of_a_broken_file(rt: HostRuntime) -> Result<(), Fail> {
+fn prints_the_lines_of_a_broken_file(rt: HostRuntime) -> Result<(), Fail> {
     let mut root = ONE_MODULE;
     root[112] = 2;
     fs::write(&rt, "broken.root", root.as_slice())?;
-    let (status, out, err) = answer(&rt, &["clim", "where", "--bare", "broken.root", "112"])?;
-    assert_eq!(rt; status, 1);
-    assert_eq!(rt; out.as_str(), "");
-    assert_eq!(rt; err.as_str(), "fault 5 504 at 112: BadGuid\n");
+    let fault = "fault 5 504 at 112: BadGuid\n";
+    for (offset, lines) in [
+        ("112", "0 144 root\n80 40 stream #~\n112 2 table 00 Module row 1 column 2 Mvid\n"),
+        // No entry of a heap is looked for.
+        ("121", "0 144 root\n120 8 stream #Strings\n"),
+        ("0x90", ""),
+        ("18446744073709551615", ""),
+    ] {
+        let (status, out, err) = answer(&rt, &["clim", "where", "--bare", "broken.root", offset])?;
+        assert_eq!(rt; (status, out.as_str(), err.as_str()), (1, lines, fault), "{offset}");
+    }
+    let lines = "\
+{\"offset\":0,\"size\":144,\"structure\":\"root\"}
+{\"offset\":80,\"size\":40,\"structure\":\"stream #~\"}
+{\"offset\":112,\"size\":2,\"structure\":\"cell\",\"table\":\"Module\",\"row\":1,\"column\":\"Mvid\"}
+";
+    let (status, out, err) = answer(&rt, &["clim", "where", "--json", "--bare", "broken.root", "112"])?;
+    assert_eq!(rt; (status, out.as_str(), err.as_str()), (1, lines, fault));
     fs::remove_file(&rt, "broken.root")?;
+    Ok(())
+}
+
+/// Only the layers before that of the fault are taken apart: the PE headers, the CLI header, the root, and the table stream.
+#[test]
+fn prints_the_layers_that_break_no_rule(rt: HostRuntime) -> Result<(), Fail> {
+    let file = image();
+    // The fault, a byte of the file that is changed for it, and what is printed of the bytes at 0, 520, 592 and 676, where
+    // the headers, the CLI header, the root and the table stream are.
+    let cli = "512 512 section 1\n520 72 cli header\n520 4 cli header Cb\n";
+    let (root, stream) = ("592 144 root\n592 4 root header Signature\n", "592 144 root\n672 40 stream #~\n");
+    let dos = "0 64 ms-dos header\n0 2 ms-dos header Signature\n";
+    for (fault, change, lines) in [
+        ((102, 0), (0, b'N'), ["", "", "", ""]),
+        ((203, 520), (520, 0), [dos, "512 512 section 1\n", "512 512 section 1\n", "512 512 section 1\n"]),
+        ((301, 592), (592, b'X'), [dos, cli, "512 512 section 1\n", "512 512 section 1\n"]),
+        ((402, 676), (676, 9), [dos, cli, root, stream]),
+        ((504, 704), (704, 2), [dos, cli, root, "592 144 root\n672 40 stream #~\n676 1 table stream MajorVersion\n"]),
+    ] {
+        let mut file = file;
+        let (at, byte) = change;
+        file[at] = byte;
+        for (offset, lines) in [0, 520, 592, 676].into_iter().zip(lines) {
+            let (found, text) = located(rt.alloc(), Form::Text, Input::File, &file, offset)?;
+            assert_eq!(rt; found, Err(fault));
+            let whole = if lines.starts_with("592") { format!(in rt.alloc(); "512 512 section 1\n{lines}")? } else { format!(in rt.alloc(); "{lines}")? };
+            assert_eq!(rt; text, whole, "{offset}");
+        }
+    }
+    Ok(())
+}
+
+/// The cells of `Constant` have the numbers of its columns, of which the second is a byte of padding (II.22.9).
+#[test]
+fn prints_the_cells_of_constant(rt: HostRuntime) -> Result<(), Fail> {
+    let mut builder = RootBuilder::new(rt.alloc());
+    builder.row(0x02, b"\0\0\0\0\x01\0\0\0\0\0\x01\0\x01\0")?;
+    builder.row(0x04, b"\0\0\x01\0\x01\0")?;
+    builder.row(0x0B, b"\x08\0\x04\0\x04\0")?;
+    builder.heap("#Strings", b"\0F\0\0")?;
+    builder.heap("#Blob", b"\0\x02\x06\x08\x04\x01\0\0\0\0\0\0")?;
+    let root = builder.finish()?;
+    let Some(row) = root.as_slice().windows(6).position(|it| it == b"\x08\0\x04\0\x04\0".as_slice()) else {
+        return Err("no row".into());
+    };
+    for (at, start, words) in [
+        (0, 0, "1 table 0B Constant row 1 column 0 Type"),
+        (1, 1, "1 table 0B Constant row 1 column 1 padding"),
+        (2, 2, "2 table 0B Constant row 1 column 2 Parent"),
+        (3, 2, "2 table 0B Constant row 1 column 2 Parent"),
+        (5, 4, "2 table 0B Constant row 1 column 3 Value"),
+    ] {
+        let (_, text) = printed(&rt, true, &root, (row + at) as u64)?;
+        let line = format!(in rt.alloc(); "\n{} {words}\n", row + start)?;
+        assert!(rt; text.ends_with(line.as_str()), "{text}");
+    }
     Ok(())
 }

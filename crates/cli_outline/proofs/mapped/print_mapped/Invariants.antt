@@ -1,16 +1,15 @@
-use Rattle.std.proofs.Common.{◌≡◌, ◌-◌, ◌≤◌}
-use Rattle.std.specs.List.{flat_map, range_with_len}
+use Rattle.std.proofs.Common.{◌≡◌}
 use Rattle.metadata.specs.Metadata.{Metadata}
 use Rattle.metadata.specs.Model.{IsModel}
-use Rattle.cli_outline.specs.Outline.{IsLineIn, mapped_rows}
-use Rattle.cli_outline.proofs.SentLemmas.{Sent}
+use Rattle.cli_lines.specs.Printed.{Printed}
+use Rattle.cli_outline.specs.Outline.{each_from, mapped_rows}
+use Rattle.cli_outline.specs.Printed.{PrintsRows}
 use Rattle.cli_outline.proofs.mapped.print_mapped.Given as goal
 
+-- the rows of the map that are left complete them
 abbrev pub invariant-loop-map : goal.invariant-loop-map
 invariant-loop-map g l = record {
   same : l.cells ≡ l.source.view.now;
-  bound : l.map - l.first ≤ l.past - l.first;
-  sent : (model : Metadata) → IsModel l.source.view.now model
-      → Sent (IsLineIn l.printing.form model) (g.W.Write.contents l.initial.out) (g.W.Write.contents l.out)
-      (flat_map (mapped_rows model l.of) (range_with_len l.first (l.map - l.first))) l.initial.lines.bytes.items l.lines.bytes.items;
+  lines : (model : Metadata) (later : Printed _) → IsModel l.source.view.now model → PrintsRows model l.out later (each_from (mapped_rows model l.of) l.map l.past)
+      → PrintsRows model l.initial.out later (each_from (mapped_rows model l.of) l.first l.past);
 }

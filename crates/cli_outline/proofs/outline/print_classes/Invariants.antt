@@ -1,15 +1,16 @@
-use Rattle.std.proofs.Common.{◌≡◌}
-use Rattle.std.specs.List.{flat_map, range_with_len}
-use Rattle.metadata.specs.Metadata.{Metadata}
+use Rattle.std.proofs.Common.{◌≡◌, ◌+◌}
+use Rattle.table_schema.specs.declared.table.TableId.TheVariants.{TypeDef}
+use Rattle.metadata.specs.Metadata.{Metadata, count_in}
 use Rattle.metadata.specs.Model.{IsModel}
-use Rattle.cli_outline.specs.Outline.{IsLineIn, class_rows}
-use Rattle.cli_outline.proofs.SentLemmas.{Sent}
+use Rattle.cli_lines.specs.Printed.{Printed}
+use Rattle.cli_outline.specs.Outline.{class_rows, each_from}
+use Rattle.cli_outline.specs.Printed.{PrintsRows}
 use Rattle.cli_outline.proofs.outline.print_classes.Given as goal
 
-abbrev pub invariant-loop-earlier : goal.invariant-loop-earlier
-invariant-loop-earlier g l = record {
+-- the types that are left complete the types
+abbrev pub invariant-loop-row : goal.invariant-loop-row
+invariant-loop-row g l = record {
   same : l.cells ≡ l.source.view.now;
-  sent : (model : Metadata) → IsModel l.source.view.now model
-      → Sent (IsLineIn l.printing.form model) (g.W.Write.contents l.initial.out) (g.W.Write.contents l.out) (flat_map (class_rows model) (range_with_len 1 l.earlier)) l.initial.lines.bytes.items
-      l.lines.bytes.items;
+  lines : (model : Metadata) (later : Printed _) → IsModel l.source.view.now model → PrintsRows model l.out later (each_from (class_rows model) l.row (count_in model TypeDef + 1))
+      → PrintsRows model l.initial.out later (each_from (class_rows model) 1 (count_in model TypeDef + 1));
 }

@@ -1,16 +1,19 @@
-use Rattle.std.proofs.Common.{◌≡◌, ◌∙◌, ◌+◌, ◌-◌, ◌≤◌, List, ℕ, ap, sym, subst}
+use Rattle.std.proofs.Common.{◌+◌, ◌≤◌, List, ℕ, Some, arith, sym, subst}
 use Rattle.table_schema.specs.declared.table.TableId.{TableId}
-use Rattle.table_schema.specs.declared.token.Token.{Token}
+use Rattle.table_schema.specs.declared.table.TableId.TheVariants.{TypeDef}
+use Rattle.metadata.specs.Lookups.{HasRow}
 use Rattle.metadata.specs.Model.{IsModel}
-use Rattle.metadata_source.specs.MemberLists.{cell_of, member_of}
+use Rattle.metadata_source.specs.MemberLists.{member_of}
 use Rattle.opening.specs.Views.{row_count}
-use Rattle.cli_reports.specs.TypeTexts.{first_member}
-use Rattle.cli_outline.specs.Outline.{IsLineIn, members, rows_from}
-use Rattle.cli_outline.specs.Sent.{MovesLines}
+use Rattle.navigation.specs.Nesting.{type_token}
+use Rattle.full_names.specs.RowNames.{IsMemberOf}
+use Rattle.cli_outline.specs.Outline.{each_from, row_of}
+use Rattle.cli_outline.proofs.PrintedLemmas.{rows_are}
+use Rattle.cli_outline.proofs.RunLemmas.{is_member}
 use Rattle.cli_outline.proofs.outline.print_members.Goals as goal
 
 pub run_of-rows-requires-clause-last : goal.run_of-rows-requires-clause-last
-run_of-rows-requires-clause-last g c = subst (λ (t : TableId). c.args.row ≤ row_count c.args.cells.now t) c.requires.types c.requires.last
+run_of-rows-requires-clause-last g c = c.requires.last
 
 pub print_rows-requires-clause-last : goal.print_rows-requires-clause-last
 print_rows-requires-clause-last g c =
@@ -18,13 +21,20 @@ print_rows-requires-clause-last g c =
     let Q : TableId → Type 0 = λ t. c.run_of-rows.result.«end» ≤ row_count c.args.source.now.view.now t + 1 in
     subst Q (sym c.member.ensures) (subst P c.requires.at c.run_of-rows.ensures.last)
 
+pub print_rows-requires-clause-members : goal.print_rows-requires-clause-members
+unfolding row_count
+print_rows-requires-clause-members g c = λ class given model is row from to.
+    let list = c.args.list in
+    let here : IsModel c.args.cells.now model = subst (λ (root : List ℕ). IsModel root model) (sym c.requires.at) is in
+    let last = subst (λ (t : TableId). c.args.row ≤ row_count c.args.cells.now t) c.requires.types c.requires.last in
+    let count = c.models_are_read.ensures.count c.args.cells.now model here TypeDef in
+    let there : HasRow model TypeDef c.args.row = (c.requires.first, omega (arith, last, count)) in
+    let member = is_member model list c.requires.types c.args.row row _ _ there (c.run_of-rows.ensures.run model here) from to in
+    subst (λ (t : TableId). IsMemberOf model t row (Some (type_token c.args.row))) (sym c.member.ensures) member
+
 pub returns-clause-lines : goal.returns-clause-lines
 returns-clause-lines g c = λ model is.
-    let there : IsModel c.args.cells.now model = subst (λ (root : List ℕ). IsModel root model) (sym c.requires.at) is in
-    let list = c.args.list in
-    let rows = c.run_of-rows.result in
-    let same = ap (λ t. rows_from t rows.start (rows.«end» - rows.start)) c.member.ensures
-    ∙ ap (λ n. rows_from (member_of list) n (rows.«end» - rows.start)) (c.run_of-rows.ensures.begin model there)
-    ∙ ap (λ n. rows_from (member_of list) (first_member model (cell_of list) (member_of list) c.args.row) n) (c.run_of-rows.ensures.count model there) in
-    subst (λ (xs : List Token). MovesLines (IsLineIn c.args.printing.form model) (g.W.Write.contents c.args.out.now) (g.W.Write.contents c.print_rows.new.out) c.print_rows.result xs
-    c.args.lines.now.bytes.items c.print_rows.new.lines.bytes.items) same (c.print_rows.ensures model is)
+    let here : IsModel c.args.cells.now model = subst (λ (root : List ℕ). IsModel root model) (sym c.requires.at) is in
+    let begin = c.run_of-rows.ensures.begin model here in
+    let past = c.run_of-rows.ensures.past model here in
+    rows_are (λ i. each_from (row_of (c.member.ensures i)) (begin i) (past i)) (c.print_rows.ensures model is)

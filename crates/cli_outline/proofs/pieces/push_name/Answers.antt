@@ -1,16 +1,16 @@
-use Rattle.std.proofs.Common.{◌∙◌, ◌++◌, List, ℕ, ap, refl}
+use Rattle.std.proofs.Common.{string_bytes, ◌∙◌, ◌++◌, List, ℕ, ap, refl}
 use Rattle.cli_outline.specs.Parts.{cut_text}
-use Rattle.cli_outline.specs.declared.lines.Lines.{Lines}
+use Rattle.cli_outline.specs.declared.declared.Declared.{Declared}
 use Rattle.cli_outline.proofs.PieceLemmas.{on_ok}
 use Rattle.cli_outline.proofs.TextLemmas.{text_cut, whole_cut}
 use Rattle.cli_outline.proofs.pieces.push_name.Goals as goal
 
 pub returns-in-Ok : goal.returns-in-Ok
 returns-in-Ok c = λ model is.
-    let bytes : Lines → List ℕ = λ w. w.bytes.items in
-    let left : Lines → ℕ = λ w. w.left in
+    let bytes : Declared → List ℕ = λ w. string_bytes w.text in
+    let left : Declared → ℕ = λ w. w.left in
     let wrote = c.in-Ok.ensures model is in
-    let begun = c.begin_text.new.lines in
+    let begun = c.begin_text.new.declared in
     let out = c.write_row_name.new.out in
     on_ok c.end_text.result c.end_text.ensures
     (λ e. (

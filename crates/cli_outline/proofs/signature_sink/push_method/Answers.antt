@@ -1,11 +1,11 @@
-use Rattle.std.proofs.Common.{◌∙◌, ◌++◌, List, ℕ, ap, refl, arith}
+use Rattle.std.proofs.Common.{string_bytes, ◌∙◌, ◌++◌, List, ℕ, ap, refl, arith}
 use Rattle.table_schema.specs.declared.table.TableId.TheVariants.{MethodDef}
 use Rattle.table_schema.specs.CellColumns.{cell_columns}
 use Rattle.metadata.specs.Lookups.{HasRow}
 use Rattle.metadata.specs.Metadata.{cell_in}
 use Rattle.opening.specs.Views.{row_count}
 use Rattle.cli_outline.specs.Parts.{cut_text}
-use Rattle.cli_outline.specs.declared.lines.Lines.{Lines}
+use Rattle.cli_outline.specs.declared.declared.Declared.{Declared}
 use Rattle.cli_outline.proofs.PieceLemmas.{on_ok}
 use Rattle.cli_outline.proofs.TextLemmas.{text_cut, whole_cut}
 use Rattle.cli_outline.proofs.WriterLemmas.{signature_in, method_in}
@@ -22,9 +22,9 @@ returns-in-Ok c = λ model is.
     let of = signature_in cell valid.of_kind in
     let method = method_in cell valid.held of.0 of.1 in
     let wrote = c.in-Ok.ensures.text model is method.0 method.1 in
-    let bytes : Lines → List ℕ = λ w. w.bytes.items in
-    let left : Lines → ℕ = λ w. w.left in
-    let begun = c.begin_text.new.lines in
+    let bytes : Declared → List ℕ = λ w. string_bytes w.text in
+    let left : Declared → ℕ = λ w. w.left in
+    let begun = c.begin_text.new.declared in
     let out = c.write_method_within.new.out in
     on_ok c.end_text.result c.end_text.ensures
     (λ e. (

@@ -1,4 +1,4 @@
-use Rattle.std.proofs.Common.{◌≡◌, Bor, List, [], ℕ, refl, sym, subst, append-nil}
+use Rattle.std.proofs.Common.{string_bytes, ◌≡◌, Bor, List, [], ℕ, refl, sym, subst, append-nil}
 use Rattle.table_schema.specs.declared.column.ColumnKind.{ColumnKind}
 use Rattle.metadata.specs.Cell.{Cell}
 use Rattle.metadata.specs.Metadata.{Metadata, cell_in}
@@ -26,4 +26,4 @@ returns-in-Sig c = λ model is.
 pub returns-in_default : goal.returns-in_default
 returns-in_default c = λ model is.
     let cell = cell_in model c.args.table c.args.row c.args.cell in
-    ([], no_signature model _ c.cell.result cell (c.cell.ensures.cell model is) c.in_default.not-Sig, sym (append-nil c.args.lines.now.bytes.items))
+    ([], no_signature model _ c.cell.result cell (c.cell.ensures.cell model is) c.in_default.not-Sig, sym (append-nil (string_bytes c.args.declared.now.text)))

@@ -1,15 +1,36 @@
-use Rattle.std.proofs.Common.{◌++◌, ◌∷◌, [], ◌∙◌, ap, append-nil, sym}
-use Rattle.cli_where.proofs.CellLemmas.{none_listed, some_listed}
+use Rattle.std.proofs.Common.{◌+◌, ◌∷◌, [], None, Some, refl, subst}
+use Rattle.cli_regions.specs.Regions.{cell as is_cell}
+use Rattle.cli_where.specs.Cells.{AreCellsAt, IsCellAt}
+use Rattle.cli_where.proofs.FindLemmas.{finds_none}
 use Rattle.cli_where.proofs.cells.find_cell.Goals as goal
 
-pub returns-in_ok-push-in-Some : goal.returns-in_ok-push-in-Some
-returns-in_ok-push-in-Some c = λ structures has.
-    let line = c.args.found.now.items in
-    let one = some_listed c.args.layout.now c.args.start c.args.offset c.in-Some.cell has.0 (c.in-Some.ensures has.0 has.1) in
-    c.in_ok-push-in-Some.ensures.items ∙ ap (λ xs. line ++ xs) (one ∙ sym has.2)
+pub cell_start-requires-clause-first : goal.cell_start-requires-clause-first
+cell_start-requires-clause-first c = c.in-Some.ensures.1.first
+
+pub cell_start-requires-clause-last : goal.cell_start-requires-clause-last
+cell_start-requires-clause-last c = c.in-Some.ensures.1.last
+
+pub cell_start-requires-clause-column : goal.cell_start-requires-clause-column
+cell_start-requires-clause-column c = c.in-Some.ensures.1.listed
+
+pub cell_width-requires : goal.cell_width-requires
+cell_width-requires c = c.in-Some.ensures.1.listed
+
+pub returns-in-Some : goal.returns-in-Some
+returns-in-Some c =
+    let sizes = c.args.layout.now in
+    let cell = c.in-Some.cell in
+    record {
+      found = record { start = c.args.start + c.cell_start.result; size = c.cell_width.result; what = is_cell cell } ∷ [];
+      are = (
+        Some cell,
+        subst (λ offset. IsCellAt sizes c.args.start offset (Some cell)) c.offset.ensures c.in-Some.ensures,
+        (λ i. record { start = c.args.start + c.cell_start.ensures.value i; size = c.cell_width.ensures.value i; what = is_cell cell } ∷ []),
+      );
+      joins = c.keep.ensures;
+    }
 
 pub returns-in-None : goal.returns-in-None
-returns-in-None c = λ structures has.
-    let line = c.args.found.now.items in
-    let none = none_listed c.args.layout.now c.args.start c.args.offset has.0 (c.in-None.ensures has.0 has.1) in
-    sym (append-nil line) ∙ ap (λ xs. line ++ xs) (none ∙ sym has.2)
+returns-in-None c =
+    finds_none (AreCellsAt c.args.layout.now c.args.start) c.args.found.now
+    (None, subst (λ offset. IsCellAt c.args.layout.now c.args.start offset None) c.offset.ensures c.in-None.ensures, refl)

@@ -1,7 +1,7 @@
 use Rattle.std.proofs.Common.{◌≤◌, ◌-◌, ◌+◌, arith, subst, drop, take, Option}
 use Rattle.cli_where.specs.declared.entries.Run.{Run}
 use Rattle.cli_where.specs.Kept.{IsRunOf, heap_of}
-use Rattle.cli_where.proofs.EntryLemmas.{before_run, has_from, has_so, run_string, run_string_long, string_to}
+use Rattle.cli_where.proofs.EntryLemmas.{before_run, has_from, has_so, run_string, run_string_long}
 use Rattle.cli_where.proofs.entries.string_at.Goals as goal
 use Rattle.cli_where.proofs.entries.string_at.Goals.{then-index-eq0-via-then-index-eq0, then-index-eq0-via-else-index-eq0+then-index-run, then-index-eq0-via-else-index-eq0+else-index-run+then-target-start}
 
@@ -49,14 +49,3 @@ returns-clause-sound c =
       },
       has_so (c.args.target.now.texts.start + c.from.result) (run.«end» - index + 1) c.args.target.now.offset c.if-target-start.false (omega (arith, at, end_after, upto, c.from.ensures)),
     )
-
-pub returns-clause-one : goal.returns-clause-one
-returns-clause-one c = λ start size is.
-    let found = subst (λ (run : Option Run). IsRunOf (heap_of c.args.target.now.texts) c.args.target.now.offset run) c.in_ok-run.was c.requires.run in
-    let heap = c.args.target.now.texts.bytes.now in
-    let run = c.in_ok-run.run' in
-    let at = found.1 in
-    let from = is.from in
-    let long = is.long in
-    let ends = string_to heap found.0 run.first run.«end» found.2 c.args.index is.text c.if-index-run.false (omega (arith, at, c.if-target-start.false, c.from.ensures)) is.stands in
-    (omega (arith, from, c.from.ensures), omega (arith, long, ends))

@@ -1,26 +1,16 @@
-use Rattle.std.proofs.Common.{List, ℕ, ap, subst, ◌∙◌}
-use Rattle.cli_reports.specs.Sent.{Prints}
-use Rattle.cli_where.specs.Where.{found_of, text_of}
-use Rattle.cli_where.proofs.Outcomes.{all_sent, cut_printed, cut_sent, prefix_of_nothing}
+use Rattle.std.proofs.Common.{List, ℕ, Result, Ok, Err, inl}
+use Rattle.cli_faults.specs.declared.failure.Failure.{Failure}
+use Rattle.cli_input.specs.Checked.{IsWhole}
+use Rattle.cli_input.specs.declared.opened.Input.{Input}
+use Rattle.cli_lines.specs.Printed.{Printed}
+use Rattle.cli_where.specs.Located.{HasFound, IsLocated}
+use Rattle.cli_where.specs.declared.report.Found.{Found}
 use Rattle.cli_where.proofs.report.print_where.Goals as goal
 
-pub returns-in-Err-clause-printed : goal.returns-in-Err-clause-printed
-returns-in-Err-clause-printed g c = λ lines are. prefix_of_nothing (g.W.Write.contents c.args.out.now) (text_of c.args.form lines)
+located : {W : Type 0} (input : Input) (bytes : List ℕ) (offset : ℕ) (old new : Printed W) (result : Result Found Failure) → IsWhole input bytes
+    → HasFound input bytes offset old new result → IsLocated input bytes offset old new result
+located input bytes offset old new (Ok found) whole has = (whole, has)
+located input bytes offset old new (Err failure) whole has = inl has
 
-pub returns-in_err-printed-clause-printed : goal.returns-in_err-printed-clause-printed
-returns-in_err-printed-clause-printed g c = λ lines are.
-    let before = g.W.Write.contents c.args.out.now in
-    let after = g.W.Write.contents c.print.new.out in
-    let sent = subst (λ (items : List ℕ). Prints before after c.print.result (text_of c.args.form items)) (c.deref.ensures.value ∙ c.in-Ok.ensures lines are) c.print.ensures in
-    cut_printed c.from_residual.result before after (text_of c.args.form lines) c.from_residual.ensures.0
-    (cut_sent c.print.result c.printed.result _ before after (text_of c.args.form lines) c.printed.ensures.ok c.in_err-printed.was sent)
-
-pub returns-clause-outcome : goal.returns-clause-outcome
-returns-clause-outcome g c = λ lines are. c.found_in.ensures ∙ ap found_of (c.deref-2.ensures.value ∙ c.in-Ok.ensures lines are)
-
-pub returns-clause-printed : goal.returns-clause-printed
-returns-clause-printed g c = λ lines are.
-    let before = g.W.Write.contents c.args.out.now in
-    let after = g.W.Write.contents c.print.new.out in
-    let sent = subst (λ (items : List ℕ). Prints before after c.print.result (text_of c.args.form items)) (c.deref.ensures.value ∙ c.in-Ok.ensures lines are) c.print.ensures in
-    all_sent c.print.result c.printed.result _ before after (text_of c.args.form lines) c.printed.ensures.ok c.in_ok-printed.was sent
+pub returns-in-Ok : goal.returns-in-Ok
+returns-in-Ok g c = located c.args.input c.args.bytes.now c.args.offset _ _ c.print_entire.result c.in-Ok.ensures.sound c.print_entire.ensures

@@ -1,21 +1,20 @@
-use Rattle.std.proofs.Common.{◌≡◌, ◌∙◌, List, ℕ, ap, rules, subst, sym}
-use Rattle.std.specs.List.{flat_map}
+use Rattle.std.proofs.Common.{List, ℕ, Result, Ok, Err, inl, subst}
+use Rattle.cli_faults.specs.declared.failure.Failure.{Failure}
 use Rattle.heap_entries.specs.Padding.{zero_padded}
-use Rattle.cli_reports.specs.Sent.{Prints}
-use Rattle.cli_where.specs.Strings.{AreEntries, entry_text}
-use Rattle.cli_where.proofs.SentLemmas.{cut_printed, prefix_of_nothing, same_printed}
+use Rattle.metadata.specs.Metadata.{Metadata}
+use Rattle.cli_input.specs.Checked.{IsModelOf, IsWhole}
+use Rattle.cli_input.specs.declared.opened.Input.{Input}
+use Rattle.cli_lines.specs.Printed.{Printed}
+use Rattle.cli_where.specs.Located.{AreListed, HasEntries}
 use Rattle.cli_where.proofs.strings.print_strings.Goals as goal
 
-pub returns-in_err-heap-clause-printed : goal.returns-in_err-heap-clause-printed
-returns-in_err-heap-clause-printed g c = λ model is text has.
-    let known = g.W.Write.contents c.args.out.now in
-    cut_printed c.from_residual.result known known text c.from_residual.ensures.0 (prefix_of_nothing known text)
+listed : {W : Type 0} (input : Input) (bytes : List ℕ) (old new : Printed W) (result : Result (Unit {0}) Failure) (heap : List ℕ) → IsWhole input bytes
+    → ((model : Metadata) → IsModelOf input bytes model → HasEntries model.user old new result) → HasEntries heap old new result → AreListed input bytes old new result
+listed input bytes old new (Ok done) heap whole has other = (whole, has)
+listed input bytes old new (Err failure) heap whole has other = inl other
 
-pub returns-clause-printed : goal.returns-clause-printed
-returns-clause-printed g c = λ model is text has.
-    let before = g.W.Write.contents c.args.out.now in
-    let after = g.W.Write.contents c.print_entries.new.out in
-    let padded : c.deref.result.now ≡ zero_padded c.user.result.now = search rules in
-    same_printed c.print_entries.result c.printed.result before after text c.printed.ensures.ok
-    (subst (λ (bytes : List ℕ). Prints before after c.print_entries.result bytes) (sym has.2)
-    (c.print_entries.ensures has.0 (subst (λ (heap : List ℕ). AreEntries heap 1 has.0) (sym (padded ∙ c.user.ensures.model model is)) has.1)))
+pub returns-in-Ok : goal.returns-in-Ok
+returns-in-Ok g c =
+    listed c.args.input c.args.bytes.now _ _ c.print_heap.result (zero_padded c.user.result.now) c.in-Ok.ensures.sound
+    (λ model is. subst (λ (heap : List ℕ). HasEntries heap c.args.out.now c.print_heap.new.out c.print_heap.result) (c.user.ensures.model model (c.in-Ok.ensures.models model is)) c.print_heap.ensures)
+    c.print_heap.ensures

@@ -22,6 +22,17 @@ pub struct Disk<'a> {
     pub input: &'a [u8],
 }
 
+/// The disk of the host with this standard input.
+pub fn with_input<'a>(rt: &'a HostRuntime, input: &'a [u8]) -> Disk<'a> {
+    Disk {
+        host: rt,
+        room: 0,
+        reported: None,
+        is_readable: true,
+        input,
+    }
+}
+
 impl<'a> Input for Disk<'a> {
     type Reader = &'a [u8];
 

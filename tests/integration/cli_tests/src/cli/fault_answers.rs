@@ -1,5 +1,6 @@
 //! Tests of `clim check --where`.
 
+use crate::cli::disks::{answer_on, with_input};
 use crate::runs::answer;
 use sample_roots::{ONE_MODULE, TWO_TYPES, image, write_at};
 use std::fs;
@@ -96,5 +97,65 @@ fn escapes_names_of_a_broken_file(rt: HostRuntime) -> Result<(), Fail> {
     write_at(&mut file, 520, &[0]);
     let lines = "fault 2 203 at 520: CliSize\n512 512 section 1 \\x1b]0;\\x0aok\n";
     assert!(rt; answers(&rt, &CHECK, &file, "203", lines)?);
+    Ok(())
+}
+
+/// Several files: a file that breaks no rule has its line, and each broken one what is known of it, after its name.
+#[test]
+fn answers_about_several_files(rt: HostRuntime) -> Result<(), Fail> {
+    fs::write(&rt, "whole.dll", image().as_slice())?;
+    fs::write(&rt, "broken.dll", &ONE_MODULE)?;
+    let (_, explanation, _) = answer(&rt, &["clim", "explain", "102"])?;
+    let broken = format!(in rt.alloc(); "broken.dll: fault 1 102 at 0: DosHeader\n\n{explanation}")?;
+    let both = format!(in rt.alloc(); "whole.dll: ok\n{broken}whole.dll: ok\n")?;
+    const LACKS: &str = "error: cannot read lacks\n  reason: no such file\n";
+    for (words, wanted, printed, reported) in [
+        (["clim", "check", "--where", "whole.dll", "broken.dll", "whole.dll"].as_slice(), 1, both.as_str(), ""),
+        (&["clim", "check", "whole.dll", "lacks", "broken.dll", "whole.dll", "--where"], 3, both.as_str(), LACKS),
+        (&["clim", "check", "--where", "--budget", "0", "broken.dll", "lacks"], 3, broken.as_str(), LACKS),
+        (&["clim", "check", "--where", "-q", "broken.dll", "whole.dll"], 1, "", ""),
+        (&["clim", "check", "--where", "-q", "broken.dll"], 1, "", ""),
+    ] {
+        let (status, out, err) = answer(&rt, words)?;
+        assert_eq!(rt; (status, out.as_str(), err.as_str()), (wanted, printed, reported));
+    }
+    for (list, status, printed) in [(b"whole.dll\0broken.dll\0whole.dll".as_slice(), 1, both.as_str()), (b"broken.dll", 1, broken.as_str()), (b"", 0, "")] {
+        let (ended, out, err) = answer_on(with_input(&rt, list), &["clim", "check", "-0", "--where"])?;
+        assert_eq!(rt; (ended, out.as_str(), err.as_str()), (status, printed, ""));
+    }
+    fs::remove_file(&rt, "whole.dll")?;
+    fs::remove_file(&rt, "broken.dll")?;
+    Ok(())
+}
+
+/// With `--json` the fault, the structures and the explanation are objects: those of `check`, `where` and `explain`.
+#[test]
+fn answers_with_json(rt: HostRuntime) -> Result<(), Fail> {
+    let mut root: Vec<u8> = ONE_MODULE.to_vec(rt.alloc())?;
+    write_at(&mut root, 110, &[0xFF, 0xFF]);
+    fs::write(&rt, "json.root", root.as_slice())?;
+    fs::write(&rt, "whole.root", &TWO_TYPES)?;
+    let (_, fault, _) = answer(&rt, &["clim", "check", "--json", "--bare", "json.root"])?;
+    let (_, structures, _) = answer(&rt, &["clim", "where", "--json", "--bare", "json.root", "110"])?;
+    let (_, explanation, _) = answer(&rt, &["clim", "explain", "--json", "501"])?;
+    assert_eq!(rt; (fault.lines().count(), structures.lines().count(), explanation.lines().count()), (1, 3, 1));
+    let alone = format!(in rt.alloc(); "{fault}{structures}{explanation}")?;
+    let (_, line) = fault.split_at(1);
+    let named = format!(in rt.alloc(); "{{\"file\":\"whole.root\",\"ok\":true}}\n{{\"file\":\"json.root\",{line}{structures}{explanation}")?;
+    for (words, wanted, printed) in [
+        (["clim", "check", "--where", "--json", "--bare", "json.root"].as_slice(), 1, alone.as_str()),
+        (&["clim", "check", "--where", "--json", "--bare", "whole.root"], 0, "{\"ok\":true}\n"),
+        (&["clim", "check", "--where", "--json", "--bare", "whole.root", "json.root"], 1, named.as_str()),
+        (&["clim", "check", "-q", "--where", "--json", "--bare", "whole.root", "json.root"], 1, ""),
+    ] {
+        let (status, out, err) = answer(&rt, words)?;
+        assert_eq!(rt; (status, out.as_str(), err.as_str()), (wanted, printed, ""));
+    }
+    let words = ["clim", "check", "--where", "--bare", "--budget", "4", "whole.root", "json.root", "--json"];
+    let (status, out, err) = answer(&rt, &words)?;
+    let (_, named) = named.split_once('\n').ok_or("no line")?;
+    assert_eq!(rt; (status, out.as_str(), err.as_str()), (3, named, "error: budget spent\n  file: whole.root\n"));
+    fs::remove_file(&rt, "json.root")?;
+    fs::remove_file(&rt, "whole.root")?;
     Ok(())
 }

@@ -1,4 +1,5 @@
 use crate::runs::{Case, answer, other_answer};
+use crate::samples::TWO_STRINGS;
 use sample_roots::{ONE_MODULE, TWO_TYPES, image, write_at};
 use std::fs;
 use std::test::Fail;
@@ -9,12 +10,15 @@ const MODULE: &str = "\
 
 const ROOT: &str = "\
 {\"version\":\"v4.0.30319\"}
-{\"stream\":{\"name\":\"#~\",\"offset\":80,\"size\":40}}
-{\"stream\":{\"name\":\"#Strings\",\"offset\":120,\"size\":8}}
-{\"stream\":{\"name\":\"#GUID\",\"offset\":128,\"size\":16}}
+{\"stream\":{\"offset\":80,\"size\":40,\"name\":\"#~\"}}
+{\"stream\":{\"offset\":120,\"size\":8,\"name\":\"#Strings\"}}
+{\"stream\":{\"offset\":128,\"size\":16,\"name\":\"#GUID\"}}
 ";
 
 const OK: &str = "{\"ok\":true}\n";
+
+/// What `sha256sum` prints for the bytes of `ONE_MODULE`, which is its own canonical root.
+const DIGEST: &str = "{\"digest\":\"40bf7100a055088dec71a67475f684ac5c72c04f6e4d9fb17cd8f99e053ead9e\",\"file\":\"json.root\"}\n";
 
 #[test]
 fn prints_json_of_a_root(rt: HostRuntime) -> Result<(), Fail> {
@@ -27,6 +31,12 @@ fn prints_json_of_a_root(rt: HostRuntime) -> Result<(), Fail> {
         (&["clim", "token", "--json", "--bare", "json.root", "1"], MODULE),
         (&["clim", "types", "--json", "--bare", "json.root"], ""),
         (&["clim", "check", "--json", "--bare", "json.root"], OK),
+        (&["clim", "check", "--json", "--where", "--bare", "json.root"], OK),
+        (&["clim", "check", "--json", "--bare", "--budget", "0", "json.root"], OK),
+        (&["clim", "check", "--json", "--bare", "-q", "json.root"], ""),
+        (&["clim", "show", "--json", "--until-fault", "--bare", "json.root"], MODULE),
+        (&["clim", "strings", "--json", "--bare", "json.root"], ""),
+        (&["clim", "digest", "--json", "--bare", "json.root"], DIGEST),
     ] {
         let (status, out, err) = answer(&rt, words)?;
         assert_eq!(rt; (status, out.as_str(), err.as_str()), (0, want, ""));
@@ -57,8 +67,8 @@ fn prints_json_of_types(rt: HostRuntime) -> Result<(), Fail> {
 /// A broken rule is an object on the output, and nothing goes to standard error, not even a hint.
 #[test]
 fn checks_with_json(rt: HostRuntime) -> Result<(), Fail> {
-    let dos = "{\"layer\":1,\"code\":102,\"name\":\"DosHeader\",\"offset\":0}\n";
-    let version = "{\"layer\":3,\"code\":302,\"name\":\"Version\",\"offset\":12}\n";
+    let dos = "{\"layer\":1,\"code\":102,\"offset\":0,\"name\":\"DosHeader\"}\n";
+    let version = "{\"layer\":3,\"code\":302,\"offset\":12,\"name\":\"Version\"}\n";
     fs::write(&rt, "json.file", &ONE_MODULE)?;
     let (status, out, err) = answer(&rt, &["clim", "check", "--json", "json.file"])?;
     assert_eq!(rt; (status, out.as_str(), err.as_str()), (1, dos, ""));
@@ -86,6 +96,10 @@ fn reports_faults_as_text(rt: HostRuntime) -> Result<(), Fail> {
         &["clim", "outline", "--json", "--bare", "fault.root"],
         &["clim", "outline", "--json", "--bare", "fault.root", "N.C"],
         &["clim", "where", "--json", "--bare", "fault.root", "12"],
+        &["clim", "strings", "--json", "--bare", "fault.root"],
+        &["clim", "digest", "--json", "--bare", "fault.root"],
+        &["clim", "token", "--json", "--bare", "fault.root", "1"],
+        &["clim", "show", "--until-fault", "--json", "--bare", "fault.root"],
     ] {
         let (status, out, err) = answer(&rt, words)?;
         assert_eq!(rt; (status, out.as_str(), err.as_str()), (1, "", reported));
@@ -165,5 +179,72 @@ fn prints_json_of_one_type_and_of_one_byte(rt: HostRuntime) -> Result<(), Fail> 
         assert_eq!(rt; (status, out.as_str(), err.as_str()), (wanted, printed, reported));
     }
     fs::remove_file(&rt, "parts.root")?;
+    Ok(())
+}
+
+/// Each file has its object, in the order given, with its name. A file without one is reported to standard error as text.
+#[test]
+fn checks_and_digests_several_files_with_json(rt: HostRuntime) -> Result<(), Fail> {
+    fs::write(&rt, "one.root", &ONE_MODULE)?;
+    fs::write(&rt, "two.root", &TWO_TYPES)?;
+    fs::write(&rt, "cut.root", &ONE_MODULE[..20])?;
+    let checked = r#"{"file":"one.root","ok":true}
+{"file":"cut.root","layer":3,"code":302,"offset":12,"name":"Version"}
+{"file":"two.root","ok":true}
+"#;
+    let limited = r#"{"file":"one.root","ok":true}
+{"file":"cut.root","layer":3,"code":302,"offset":12,"name":"Version"}
+"#;
+    const SPENT: &str = "error: budget spent\n  file: two.root\n";
+    const LACKS: &str = "error: cannot read lacks\n  reason: no such file\n";
+    for (words, wanted, printed, reported) in [
+        (["clim", "check", "--json", "--bare", "one.root", "cut.root", "two.root"].as_slice(), 1, checked, ""),
+        (&["clim", "check", "--bare", "one.root", "cut.root", "lacks", "two.root", "--json"], 3, checked, LACKS),
+        (&["clim", "check", "--bare", "--json", "--budget", "4", "one.root", "cut.root", "two.root"], 3, limited, SPENT),
+        (&["clim", "check", "--bare", "--json", "-q", "one.root", "cut.root", "lacks"], 3, "", LACKS),
+        (&["clim", "check", "--bare", "--json", "-q", "one.root", "cut.root"], 1, "", ""),
+    ] {
+        let (status, out, err) = answer(&rt, words)?;
+        assert_eq!(rt; (status, out.as_str(), err.as_str()), (wanted, printed, reported));
+    }
+    let one = "{\"digest\":\"40bf7100a055088dec71a67475f684ac5c72c04f6e4d9fb17cd8f99e053ead9e\",\"file\":\"one.root\"}\n";
+    let both = format!(in rt.alloc(); "{one}{one}")?;
+    let reported = "fault 3 302 at 12: Version\n  file: cut.root\n";
+    let (status, out, err) = answer(&rt, &["clim", "digest", "--json", "--bare", "one.root", "cut.root", "one.root"])?;
+    assert_eq!(rt; (status, out.as_str(), err.as_str()), (1, both.as_str(), reported));
+    for file in ["one.root", "two.root", "cut.root"] {
+        fs::remove_file(&rt, file)?;
+    }
+    Ok(())
+}
+
+/// Names of files, texts of user strings and explanations: what JSON requires is escaped, and no line is empty.
+#[test]
+fn prints_strings_and_explanations_with_json(rt: HostRuntime) -> Result<(), Fail> {
+    fs::write(&rt, "strings.root", &TWO_STRINGS)?;
+    let strings = "{\"token\":\"70000001\",\"text\":\"Hello\"}\n{\"token\":\"7000000d\",\"text\":\"a\\\\b\"}\n";
+    let (status, out, err) = answer(&rt, &["clim", "strings", "--bare", "strings.root", "--json"])?;
+    assert_eq!(rt; (status, out.as_str(), err.as_str()), (0, strings, ""));
+    fs::remove_file(&rt, "strings.root")?;
+    let (_, list, _) = answer(&rt, &["clim", "explain"])?;
+    let (status, objects, err) = answer(&rt, &["clim", "explain", "--json"])?;
+    assert_eq!(rt; (status, err.as_str()), (0, ""));
+    assert_eq!(rt; objects.lines().count(), list.lines().count());
+    for (line, object) in list.lines().zip(objects.lines()) {
+        let (heading, summary) = line.split_once(": ").ok_or("no summary")?;
+        let (number, name) = heading.split_once(' ').unwrap_or((heading, ""));
+        let start = format!(in rt.alloc(); "{{\"code\":{number},\"name\":\"{name}\",\"summary\":\"{summary}\",\"rule\":\"")?;
+        assert!(rt; object.starts_with(start.as_str()), "{object}");
+        // The object of a rule alone is the one of the list.
+        let (status, alone, _) = answer(&rt, &["clim", "explain", "--json", number])?;
+        assert_eq!(rt; (status, alone.lines().next()), (0, Some(object)));
+        assert_eq!(rt; alone.lines().count(), 1);
+    }
+    let (_, guid, _) = answer(&rt, &["clim", "explain", "--json", "504"])?;
+    let (_, limit, _) = answer(&rt, &["clim", "explain", "--json", "TooLong"])?;
+    let (status, out, _) = answer(&rt, &["clim", "explain", "504", "--json", "101"])?;
+    assert_eq!(rt; (status, out), (0, format!(in rt.alloc(); "{guid}{limit}")?));
+    let (status, out, err) = answer(&rt, &["clim", "explain", "--json", "504", "no"])?;
+    assert!(rt; status == 2 && out.is_empty() && err.ends_with("lists, not 'no'\n"), "{err}");
     Ok(())
 }

@@ -1,6 +1,6 @@
 //! Tests of `check` for several files, of lists of files, and of the standard input.
 
-use crate::cli::disks::{Disk, answer_on};
+use crate::cli::disks::{answer_on, with_input};
 use crate::cli::writers::{Full, Narrow};
 use crate::runs::answer;
 use cli::go;
@@ -95,6 +95,9 @@ fn checks_quietly(rt: HostRuntime) -> Result<(), Fail> {
             assert_eq!(rt; (ended, out.as_str(), err.as_str()), (status, "", reported));
         }
     }
+    let json = "{\"file\":\"good.dll\",\"ok\":true}\n{\"file\":\"other.dll\",\"layer\":1,\"code\":102,\"offset\":0,\"name\":\"DosHeader\"}\n";
+    let (ended, out, err) = answer_on(with_input(&rt, b"good.dll\0other.dll"), &["clim", "check", "--json", "-0"])?;
+    assert_eq!(rt; (ended, out.as_str(), err.as_str()), (1, json, ""));
     for (list, status) in [(b"good.dll\0also.dll".as_slice(), 0), (b"other.dll\0good.dll\0", 1), (b"", 0)] {
         let (ended, out, err) = answer_on(with_input(&rt, list), &["clim", "check", "-0q"])?;
         assert_eq!(rt; (ended, out.as_str(), err.as_str()), (status, "", ""));
@@ -135,17 +138,6 @@ fn checks_each_file_by_its_own_bytes(rt: HostRuntime) -> Result<(), Fail> {
         fs::remove_file(&rt, file)?;
     }
     Ok(())
-}
-
-/// The disk of the host with this standard input.
-fn with_input<'a>(rt: &'a HostRuntime, input: &'a [u8]) -> Disk<'a> {
-    Disk {
-        host: rt,
-        room: 0,
-        reported: None,
-        is_readable: true,
-        input,
-    }
 }
 
 /// Names that the standard input lists, and the status, the output and the errors.

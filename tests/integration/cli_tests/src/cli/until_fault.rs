@@ -136,16 +136,39 @@ fn reports_as_show_does(rt: HostRuntime) -> Result<(), Fail> {
     Ok(())
 }
 
+/// With `--json` the rows are those that `show --json` prints, up to the same row. The fault goes to standard error as text.
+#[test]
+fn prints_rows_as_json(rt: HostRuntime) -> Result<(), Fail> {
+    fs::write(&rt, "until.root", TWO_TYPES.as_slice())?;
+    let (_, whole, _) = answer(&rt, &["clim", "show", "--json", "--bare", "until.root"])?;
+    let (_, fields, _) = answer(&rt, &["clim", "show", "--json", "--bare", "until.root", "Field"])?;
+    let json = ["clim", "show", "--until-fault", "--json", "--bare", "until.root"];
+    let of_field = ["clim", "show", "--bare", "--json", "until.root", "04", "--until-fault", "--names"];
+    for (words, printed) in [(json.as_slice(), &whole), (&of_field, &fields)] {
+        let (status, out, err) = answer(&rt, words)?;
+        assert_eq!(rt; (status, out.as_str(), err.as_str()), (0, printed.as_str(), ""));
+    }
+    let (before, _) = whole.split_once("{\"table\":\"Field\",\"row\":2,").ok_or("no second field")?;
+    let (first_field, _) = fields.split_once("{\"table\":\"Field\",\"row\":2,").ok_or("no second field")?;
+    let changes = [(152, 99)];
+    let fault = "fault 5 501 at 152: BadString\n";
+    assert!(rt; ends(&rt, &json, &changes, before, fault)?);
+    assert!(rt; ends(&rt, &of_field, &changes, first_field, fault)?);
+    assert!(rt; ends(&rt, &json, &[(12, 255)], "", "fault 3 302 at 12: Version\n")?);
+    // A signature that is not valid is printed as bytes.
+    let (types, _) = whole.split_once("{\"table\":\"Field\"").ok_or("no field")?;
+    let (_, methods) = whole.split_once("{\"table\":\"MethodDef\"").ok_or("no method")?;
+    let all = format!(in rt.alloc(); "{types}\
+{{\"table\":\"Field\",\"row\":1,\"token\":\"04000001\",\"Flags\":1,\"Name\":\"a\",\"Signature\":\"0708\"}}
+{{\"table\":\"Field\",\"row\":2,\"token\":\"04000002\",\"Flags\":1,\"Name\":\"b\",\"Signature\":\"0708\"}}
+{{\"table\":\"MethodDef\"{methods}")?;
+    assert!(rt; ends(&rt, &json, &[(194, 7)], &all, "fault 7 701 at 148: BadSignature\n")?);
+    Ok(())
+}
+
 /// A usage error: the file is not looked for.
 #[test]
-fn refuses_json(rt: HostRuntime) -> Result<(), Fail> {
-    for words in [
-        ["clim", "show", "--until-fault", "--json", "lacks"].as_slice(),
-        &["clim", "show", "--json", "--names", "lacks", "02", "--until-fault"],
-    ] {
-        let (status, out, err) = answer(&rt, words)?;
-        assert!(rt; status == 2 && out.is_empty() && err.contains("'--until-fault'") && err.contains("'--json'"), "{err}");
-    }
+fn refuses_other_arguments(rt: HostRuntime) -> Result<(), Fail> {
     for (words, reported) in [
         (["clim", "show", "--until-fault", "lacks", "typedefs"].as_slice(), "error: TABLE is a table"),
         (&["clim", "show", "--until-fault", "--until-fault", "lacks"], "cannot be used multiple times"),

@@ -14,7 +14,7 @@ const LINES_IN_HELP: &str = "\
 ";
 
 /// Arguments that are a usage error, and what the program prints for them.
-const REFUSED: [(&[&str], &str); 92] = [
+const REFUSED: [(&[&str], &str); 90] = [
     (&[], "Usage: clim <COMMAND>"),
     (&["clim"], "Usage: clim <COMMAND>"),
     (&["clim", "lacks"], "unrecognized subcommand 'lacks'"),
@@ -98,35 +98,21 @@ const REFUSED: [(&[&str], &str); 92] = [
     (&["clim", "outline"], "Usage: clim outline <FILE>"),
     (&["clim", "outline", "lacks", "A", "B"], "unexpected argument 'B'"),
     (&["clim", "check", "--json"], "error: FILE is missing"),
-    (
-        &["clim", "check", "--json", "lacks", "more"],
-        "error: '--json' takes one FILE, and no list, '--budget' or '--quiet'\n",
-    ),
-    (&["clim", "check", "--json", "-0"], "error: '--json' takes one FILE"),
-    (
-        &["clim", "check", "--json", "--files-from", "-"],
-        "error: '--json' takes one FILE",
-    ),
-    (
-        &["clim", "check", "lacks", "--json", "-q"],
-        "error: '--json' takes one FILE",
-    ),
-    (
-        &["clim", "check", "--json", "--budget", "9", "lacks"],
-        "error: '--json' takes one FILE",
-    ),
     (&["clim", "check", "--where"], "error: FILE is missing"),
+    (&["clim", "check", "--where", "--json", "-q"], "error: FILE is missing"),
     (
-        &["clim", "check", "--where", "lacks", "more"],
-        "error: '--where' takes one FILE, and no list, '--budget', '--quiet' or '--json'\n",
+        &["clim", "check", "--json", "-0", "lacks"],
+        "error: '--files-from' and FILE exclude each other\n",
     ),
-    (&["clim", "check", "--where", "-0"], "error: '--where' takes one FILE"),
-    (&["clim", "check", "--where", "--json", "lacks"], "error: '--where' takes one FILE"),
-    (&["clim", "check", "lacks", "-q", "--where"], "error: '--where' takes one FILE"),
     (
-        &["clim", "check", "--where", "--budget", "9", "lacks"],
-        "error: '--where' takes one FILE",
+        &["clim", "check", "--where", "lacks", "--files-from=-"],
+        "error: '--files-from' and FILE exclude each other\n",
     ),
+    (&["clim", "check", "--json", "--json", "lacks"], "cannot be used multiple times"),
+    (&["clim", "strings", "--json", "--json", "lacks"], "cannot be used multiple times"),
+    (&["clim", "digest", "--json"], "  <FILE>...\n"),
+    (&["clim", "explain", "--json=1"], "unexpected value '1' for '--json'"),
+    (&["clim", "rewrite", "--json", "lacks", "out"], "unexpected argument '--json'"),
     (&["clim", "types", "--names", "lacks"], "unexpected argument '--names'"),
     (&["clim", "show", "--where", "lacks"], "unexpected argument '--where'"),
     (
@@ -411,7 +397,7 @@ fn helps_with_each_subcommand(rt: HostRuntime) -> Result<(), Fail> {
         ),
         (
             "explain",
-            "Usage: clim explain [CODE]...",
+            "Usage: clim explain [OPTIONS] [CODE]...",
             "\n  504 BadGuid: no GUID at an index into '#GUID'\n",
         ),
     ];
@@ -581,6 +567,14 @@ fn asks_for_json(rt: HostRuntime) -> Result<(), Fail> {
         (&["clim", "outline", "--json", "a", "N.C"], true),
         (&["clim", "where", "a", "1", "--json"], true),
         (&["clim", "compare", "--json", "a", "b"], true),
+        (&["clim", "strings", "a", "--json"], true),
+        (&["clim", "digest", "--json", "a", "b"], true),
+        (&["clim", "explain", "--json"], true),
+        (&["clim", "explain", "501", "--json", "BadGuid"], true),
+        (&["clim", "show", "--until-fault", "--json", "a"], true),
+        (&["clim", "check", "--json", "--where", "-q", "--budget", "9", "a", "b"], true),
+        (&["clim", "check", "--json", "-0"], true),
+        (&["clim", "explain", "--", "--json"], false),
         (&["clim", "show", "a", "--", "--json"], false),
         (&["clim", "check", "a"], false),
     ] {
@@ -596,6 +590,8 @@ fn asks_for_names_and_for_what_has_the_fault(rt: HostRuntime) -> Result<(), Fail
         (&["clim", "show", "a", "02", "--names", "--json"], true, false),
         (&["clim", "show", "a", "--", "--names"], false, false),
         (&["clim", "check", "--where", "a"], false, true),
+        (&["clim", "check", "--json", "a", "--where", "b"], false, true),
+        (&["clim", "check", "-0", "--where"], false, true),
         (&["clim", "check", "--", "--where"], false, false),
         (&["clim", "where", "a", "1"], false, false),
     ] {

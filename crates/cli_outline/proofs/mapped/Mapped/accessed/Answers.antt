@@ -2,7 +2,6 @@ use Rattle.std.proofs.Common.{◌≡◌, ◌∙◌, ℕ, ◌+◌, ◌*◌, ap, s
 use Rattle.table_schema.specs.CellColumns.{cell_columns}
 use Rattle.navigation.specs.declared.links.Link.TheVariants as linked_by
 use Rattle.navigation.specs.Linked.{number_to}
-use Rattle.cli_outline.specs.declared.mapped.Mapped.{Mapped}
 use Rattle.cli_outline.specs.declared.mapped.Mapped.TheVariants.{Events, Properties}
 use Rattle.cli_outline.specs.Outline.{table_of}
 use Rattle.cli_outline.specs.Parts.{token_at}

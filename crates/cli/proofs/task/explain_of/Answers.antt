@@ -1,0 +1,34 @@
+use Rattle.std.proofs.Common.{◌+◌, List, ℕ, drop, get_or, refl, subst, take}
+use Rattle.std.specs.Borrow.{Bor}
+use Rattle.std.proofs.lemmas.List.{take_all}
+use Rattle.cli.specs.Tasks.{AreRules}
+use Rattle.cli.proofs.Explaining.{split_at}
+use Rattle.cli.proofs.RulesNamed.{all_named, next_named}
+use Rattle.cli.proofs.task.explain_of.Goals as goal
+
+pub loop-word-init : goal.loop-word-init
+loop-word-init c = c.new-rules.ensures.items
+
+pub returns-in_default : goal.returns-in_default
+returns-in_default c =
+    let words = c.args.words.now in
+    let index = c.loop-word.word-index in (
+      get_or words index _,
+      (
+        take index words,
+        drop (index + 1) words,
+        split_at words index _ c.loop-word-test.true,
+        all_named (take index words) c.loop-word.rules.items c.loop-word.invariant,
+        (λ named. let wrong = c.in_default.ensures.complete named.0 named.1 in cc),
+      ),
+      refl,
+    )
+
+pub loop-word-preserved : goal.loop-word-preserved
+loop-word-preserved c =
+    next_named c.args.words.now c.loop-word.word-index _ c.loop-word.rules.items c.push.new.self.items c.in-Some.rule c.loop-word-test.true c.loop-word.invariant
+    c.in-Some.ensures.sound c.in-Ok.ensures.items
+
+pub returns : goal.returns
+returns c =
+    subst (λ (ws : List (Bor (List ℕ))). AreRules ws c.loop-word.rules.items) (take_all c.loop-word.word-index c.args.words.now c.loop-word-test.false) c.loop-word.invariant

@@ -1,0 +1,92 @@
+-- The rows before the first one that breaks a rule for cells.
+use Rattle.std.proofs.Common.{◌≡◌, ◌∙◌, ℕ, ◌+◌, ◌-◌, ◌<◌, ◌≤◌, ◌==◌, Bool, true, false, Option, Some, None, IfSome, refl, sym, ap, subst, arith, nat_lt, if◌then◌else◌}
+use Rattle.std.specs.Prelude.{slice_index_or}
+use Rattle.std.proofs.Math.Logic.{⊎_elim}
+use Rattle.std.proofs.lemmas.Bool.{cases_lt, eqb-true, ltb-true}
+use Rattle.packed.specs.Rule.{AllHold, HoldBefore}
+use Rattle.packed.proofs.RuleLemmas.{before_none, each_holds}
+use Rattle.table_schema.specs.declared.table.TableId.{TableId}
+use Rattle.table_schema.specs.declared.table.TableId.TheVariants.{Module}
+use Rattle.table_schema.specs.Tables.{tables, table_index_of}
+use Rattle.metadata.specs.Source.{rows_in}
+use Rattle.metadata.specs.SourceAt.{SourceAt}
+use Rattle.metadata.specs.Rows.{table_at}
+use Rattle.metadata.specs.Rules.{rules_of_cells, rules_of_table, rules_of_table_at, rules_of_row}
+use Rattle.checks.specs.Broken.{IsBroken, IsBrokenRow, IsFirstBroken}
+use Rattle.checks.specs.declared.cell_checks.BrokenRow.{BrokenRow}
+use Rattle.cli_cells.specs.MetRows.{rows_before}
+
+-- a broken row counts from 1
+pub broken_first : (here : SourceAt) (broken : Option BrokenRow) → IsFirstBroken here broken → IfSome broken (λ at. 1 ≤ at.row)
+broken_first here None all = tt
+broken_first here (Some at) is = is.row.first
+
+module _ (here : SourceAt) where
+  table_holds : AllHold (rules_of_cells here) → (table_index : ℕ) → table_index < 38 → AllHold (rules_of_table_at here table_index)
+  unfolding rules_of_cells
+  table_holds all table_index listed = each_holds (rules_of_table_at here) 0 38 all table_index (omega arith) (omega (arith, listed))
+
+  row_holds : (table_index row : ℕ) → AllHold (rules_of_table_at here table_index) → 1 ≤ row → row ≤ rows_in here.source (table_at table_index)
+      → AllHold (rules_of_row here (table_at table_index) row)
+  unfolding rules_of_table_at rules_of_table
+  row_holds table_index row all first last =
+      each_holds (rules_of_row here (table_at table_index)) 1 (rows_in here.source (table_at table_index)) all row first (omega (arith, last))
+
+  none_broken : (at : BrokenRow) → AllHold (rules_of_cells here) → IsBroken here at → ⊥
+  none_broken at all is = is.row.broken (row_holds at.table_index at.row (table_holds all at.table_index is.listed) is.row.first is.row.last)
+
+  not_earlier : (a b : BrokenRow) → IsBroken here a → IsBroken here b → a.table_index < b.table_index → ⊥
+  not_earlier a b x y earlier =
+      x.row.broken (row_holds a.table_index a.row (y.tables.each a.table_index (omega arith) earlier) x.row.first x.row.last)
+
+  same_number : (a b : ℕ) → (a < b → ⊥) → (b < a → ⊥) → a ≡ b
+  same_number a b x y =
+      ⊎_elim (λ lower. absurd (x lower)) (λ high. ⊎_elim (λ higher. absurd (y higher)) (λ low. omega (arith, high, low)) (cases_lt b a)) (cases_lt a b)
+
+  -- the first broken row is one
+  same_broken : (a b : BrokenRow) → IsBroken here a → IsBroken here b → a ≡ b
+  same_broken a b x y =
+      let table : a.table_index ≡ b.table_index = same_number a.table_index b.table_index (not_earlier a b x y) (not_earlier b a y x) in
+      let z : IsBrokenRow here (table_at a.table_index) b.row = subst (λ (i : ℕ). IsBrokenRow here (table_at i) b.row) (sym table) y.row in
+      let row : a.row ≡ b.row =
+      same_number a.row b.row (λ lower. x.row.broken (z.before.each a.row x.row.first lower)) (λ higher. z.broken (x.row.before.each b.row z.first higher)) in
+      λ i. record { table_index = table i; row = row i }
+
+  pub broken_is_one : (a b : Option BrokenRow) → IsFirstBroken here a → IsFirstBroken here b → a ≡ b
+  broken_is_one None None x y = refl
+  broken_is_one None (Some b) x y = absurd (none_broken b x y)
+  broken_is_one (Some a) None x y = absurd (none_broken a y x)
+  broken_is_one (Some a) (Some b) x y = ap Some (same_broken a b x y)
+
+  module _ (stand : (table : TableId) → slice_index_or tables (table_index_of table) Module ≡ table) (listed : (table : TableId) → table_index_of table < 38) where
+    table_met : (table : TableId) → AllHold (rules_of_table_at here (table_index_of table)) → HoldBefore (rules_of_row here table) 1 (rows_in here.source table + 1)
+    table_met table all = record {
+      each = λ row first last.
+          let P : TableId → Type 0 = λ t. row ≤ rows_in here.source t → AllHold (rules_of_row here t row) in
+          subst P (stand table) (row_holds (table_index_of table) row all first) (omega (arith, last));
+    }
+
+    rows_met : (at : BrokenRow) → IsBroken here at → (table : TableId) (earlier same : Bool) → nat_lt (table_index_of table) at.table_index ≡ earlier
+        → (table_index_of table == at.table_index) ≡ same
+        → HoldBefore (rules_of_row here table) 1 ((if earlier then rows_in here.source table else (if same then at.row - 1 else 0)) + 1)
+        × ((if earlier then rows_in here.source table else (if same then at.row - 1 else 0)) ≤ rows_in here.source table)
+    rows_met at is table true same lower equal =
+        (table_met table (is.tables.each (table_index_of table) (omega arith) (ltb-true (table_index_of table) at.table_index lower)), omega arith)
+    rows_met at is table false true lower equal =
+        let found : table_at at.table_index ≡ table = ap table_at (sym (eqb-true (table_index_of table) at.table_index equal)) ∙ stand table in
+        let broken : IsBrokenRow here table at.row = subst (λ (t : TableId). IsBrokenRow here t at.row) found is.row in
+        (record { each = λ row first last. broken.before.each row first (omega (arith, last, broken.first)) }, omega (arith, broken.last))
+    rows_met at is table false false lower equal = (before_none (rules_of_row here table) 1 (0 + 1) (omega arith), omega arith)
+
+    -- the rows before it follow the rules for cells
+    before_met : (broken : Option BrokenRow) → IsFirstBroken here broken → (table : TableId)
+        → HoldBefore (rules_of_row here table) 1 (rows_before here.source broken table + 1) × (rows_before here.source broken table ≤ rows_in here.source table)
+    before_met None all table = (table_met table (table_holds all (table_index_of table) (listed table)), omega arith)
+    before_met (Some at) is table = rows_met at is table (nat_lt (table_index_of table) at.table_index) (table_index_of table == at.table_index) refl refl
+
+    -- each of these rows exists, and follows the rules for cells
+    pub row_met : (broken : Option BrokenRow) → IsFirstBroken here broken → (table : TableId) (row : ℕ) → 1 ≤ row → row ≤ rows_before here.source broken table
+        → (row ≤ rows_in here.source table) × AllHold (rules_of_row here table row)
+    row_met broken is table row first last =
+        let met = before_met broken is table in
+        (omega (arith, met.1, last), met.0.each row first (omega (arith, last)))

@@ -1,0 +1,30 @@
+-- What `clim show --until-fault` prints of bytes that break a rule: the rows before the first broken one (ECMA-335 II.22).
+use Rattle.std.specs.Prelude.{◌≡◌, ℕ, ◌⊎◌, List, [], flat_map, Option}
+use Rattle.packed.specs.Rule.{AllHold}
+use Rattle.table_schema.specs.declared.table.TableId.{TableId}
+use Rattle.metadata.specs.Metadata.{Metadata}
+use Rattle.metadata.specs.Source.{Source}
+use Rattle.metadata.specs.SourceAt.{SourceAt}
+use Rattle.checks.specs.Broken.{IsFirstBroken}
+use Rattle.checks.specs.declared.cell_checks.BrokenRow.{BrokenRow}
+use Rattle.cli_input.specs.Checked.{rules_before, source_in}
+use Rattle.cli_input.specs.declared.opened.Input.{Input}
+use Rattle.cli_lines.specs.Lines.{Part}
+use Rattle.cli_cells.specs.MetRows.{rows_before}
+use Rattle.cli_cells.specs.RowLines.{first_lines}
+use Rattle.cli_cells.specs.Shown.{IsShown}
+use Rattle.cli_cells.specs.declared.row_lines.Names.{Names}
+
+-- the rows of these tables before a broken row
+abbrev pub lines_before : Names → Source → Option BrokenRow → Metadata → List TableId → List (List Part)
+lines_before names source broken model tables = flat_map (λ table. first_lines names model table (rows_before source broken table)) tables
+
+-- these are the rows of tables before the first row that breaks a rule for cells
+abbrev pub AreRowLines : Names → SourceAt → List TableId → List (List Part) → Type 0
+AreRowLines names here tables lines =
+    (model : Metadata) × (broken : Option BrokenRow) × IsShown here model × IsFirstBroken here broken × (lines ≡ lines_before names here.source broken model tables)
+
+-- the same of the bytes; no rows if a rule before those for cells is broken
+abbrev pub AreLinesBefore : Names → Input → List ℕ → List TableId → List (List Part) → Type 0
+AreLinesBefore names input bytes tables lines =
+    (AllHold (rules_before input bytes) × AreRowLines names (source_in input bytes) tables lines) ⊎ ((¬ AllHold (rules_before input bytes)) × (lines ≡ []))

@@ -1,0 +1,6 @@
+pub mod SignatureText
+pub mod RowLines
+pub mod TokenLines
+pub mod Shown
+pub mod MetRows
+pub mod Before

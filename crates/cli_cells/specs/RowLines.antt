@@ -1,0 +1,68 @@
+-- What `clim show` prints: the rows of a model's tables, one on a line (ECMA-335 II.22).
+use Rattle.std.specs.Prelude.{◌==◌, ℕ, if◌then◌else◌, List, [], ◌∷◌, ◌++◌, codes, flat_map, map}
+use Rattle.std.specs.List.{range_with_len}
+use Rattle.table_schema.specs.declared.table.TableId.{TableId}
+use Rattle.table_schema.specs.Tables.{table_number, table_name}
+use Rattle.table_schema.specs.CellColumns.{cell_count}
+use Rattle.sig_grammar.specs.Encodes.{short}
+use Rattle.metadata.specs.Cell.{Cell, Number, Text, Bytes, Guid, Ref, Start, Sig}
+use Rattle.metadata.specs.Metadata.{Metadata, cell_in, count_in}
+use Rattle.cli_lines.specs.Lines as line
+use Rattle.cli_lines.specs.Lines.{Part, Value, word, field, note, member}
+use Rattle.cli_lines.specs.Names.{column_name}
+use Rattle.cli_lines.specs.declared.names.Name.TheVariants as name
+use Rattle.cli_cells.specs.SignatureText.{signature_text}
+use Rattle.cli_cells.specs.declared.row_lines.Names.{Names}
+use Rattle.cli_cells.specs.declared.row_lines.Names.TheVariants.{Hidden, Shown}
+
+-- a number; a text in quotes; bytes; a GUID; a token; the row of a start; a signature, by its canonical encoding
+abbrev pub cell_value : Cell → Value
+cell_value (Number number) = line.number number
+cell_value (Text text) = line.quoted text
+cell_value (Bytes bytes) = line.bytes bytes
+cell_value (Guid guid) = line.guid guid
+cell_value (Ref token) = line.reference token
+cell_value (Start row) = line.start row
+cell_value (Sig signature) = line.signature (short signature) (signature_text signature)
+
+-- what a cell begins with: a space; and the name of its column and an equals sign, if columns are named
+unfoldable pub cell_label : Names → TableId → ℕ → List Part
+cell_label Hidden table cell_index = word (codes " ") ∷ []
+cell_label Shown table cell_index = word (codes " ") ∷ word (column_name table cell_index) ∷ word (codes "=") ∷ []
+
+-- a cell of a row; in JSON the member with the name of its column
+abbrev pub cell_parts : Names → Metadata → TableId → ℕ → ℕ → List Part
+cell_parts names model table row cell_index =
+    cell_label names table cell_index ++ field (name.Cell table cell_index) (cell_value (cell_in model table row cell_index)) ∷ []
+
+-- what a row begins with: its number and a colon, or its token if columns are named; in JSON its table, number and token
+unfoldable pub row_head : Names → TableId → ℕ → List Part
+row_head Hidden table row =
+    member name.Table (line.plain (table_name table)) ∷ field name.Row (line.number row) ∷ word (codes ":")
+    ∷ member name.Token (line.token (record { table = table; row = row })) ∷ []
+row_head Shown table row =
+    member name.Table (line.plain (table_name table)) ∷ member name.Row (line.number row)
+    ∷ field name.Token (line.token (record { table = table; row = row })) ∷ []
+
+-- the line of a row
+abbrev pub row_line : Names → Metadata → TableId → ℕ → List Part
+row_line names model table row = row_head names table row ++ flat_map (cell_parts names model table row) (range_with_len 0 (cell_count table))
+
+-- the line before the rows of a table: its number, its name and how many rows it has; no line in JSON
+unfoldable pub heading_line : TableId → ℕ → List Part
+heading_line table count =
+    word (codes "table ") ∷ note (line.byte (table_number table)) ∷ word (codes " ") ∷ word (table_name table) ∷ word (codes " ")
+    ∷ note (line.number count) ∷ []
+
+-- the first rows of a table after its heading; nothing if there are none
+unfoldable pub first_lines : Names → Metadata → TableId → ℕ → List (List Part)
+first_lines names model table rows =
+    if rows == 0 then [] else heading_line table (count_in model table) ∷ map (row_line names model table) (range_with_len 1 rows)
+
+-- all rows of a table
+abbrev pub table_lines : Names → Metadata → TableId → List (List Part)
+table_lines names model table = first_lines names model table (count_in model table)
+
+-- these tables, one after another
+abbrev pub show_lines : Names → Metadata → List TableId → List (List Part)
+show_lines names model tables = flat_map (table_lines names model) tables

@@ -1,0 +1,144 @@
+//! The line of a row of a table.
+ghost use Rattle.std.specs.Prelude.{◌≡◌, ◌≤◌, ◌<◌, ◌∷◌, [], flat_map};
+ghost use Rattle.std.specs.List.{range_with_len};
+ghost use Rattle.table_schema.specs.CellColumns.{cell_count};
+ghost use Rattle.metadata.specs.Metadata.{Metadata};
+ghost use Rattle.cli_lines.specs.Printed.{Adds, Begins, Prints};
+ghost use Rattle.cli_cells.specs.RowLines.{cell_label, cell_parts, row_head, row_line};
+ghost use Rattle.cli_cells.specs.declared.row_lines.Names.TheVariants.{Hidden, Shown};
+
+use crate::cells::print_cell;
+use crate::columns::column_name;
+use crate::shown_rows::ShownRows;
+use cli_lines::Part::{Field, Member, Word};
+use cli_lines::Value::{self, Number, Plain};
+use cli_lines::{Name, Printer};
+use opening::{TableId, Token};
+use std::alloc::Global;
+use std::io::Write;
+use table_schema::cell_count;
+
+/// Whether columns are named in the line of a row. In JSON they always are.
+#[derive(Clone, Copy, Debug, PartialEq, Eq)]
+pub enum Names {
+    /// The line begins with the number of the row and a colon, and a cell is its value alone.
+    Hidden,
+    /// The line begins with the token of the row, and a cell with the name of its column and an equals sign.
+    Shown,
+}
+
+/// Prints the line of a row: its number and a colon, or its token if columns are named, and its cells.
+pub(crate) fn print_row<'a, R: ShownRows<'a>, W: Write>(
+    alloc: Global,
+    names: Names,
+    rows: &mut R,
+    table: TableId,
+    row: u32,
+    out: &mut Printer<'_, W>,
+)
+    requires first { 1 ≤ row }
+    requires last { row ≤ R.ready_rows rows.old table }
+    ensures same { rows.new ≡ rows.old }
+    ensures line { (model : Metadata) → R.shows rows.old model → Prints out.old out.new (row_line names model table row ∷ []) }
+{
+    cli_lines::laws::parts_follow::<W>();
+    begin_row(names, table, row, out);
+    print_cells(alloc, names, rows, table, row, out);
+    out.end();
+}
+
+/// Begins the line of a row.
+fn begin_row<W: Write>(names: Names, table: TableId, row: u32, out: &mut Printer<'_, W>)
+    ensures { Begins out.old out.new (row_head names table row) }
+{
+    match names {
+        Names::Hidden => begin_counted(table, row, out),
+        Names::Shown => begin_named(table, row, out),
+    }
+}
+
+/// Begins the line of a row with its number.
+#[tactic(auto, unfolding(crate::specs::RowLines::row_head))]
+fn begin_counted<W: Write>(table: TableId, row: u32, out: &mut Printer<'_, W>)
+    ensures { Begins out.old out.new (row_head Hidden table row) }
+{
+    out.begin(&[
+        Member(Name::Table, Plain(table.name())),
+        Field(Name::Row, Number(row as u64)),
+        Word(":"),
+        Member(Name::Token, Value::Token(Token { table, row })),
+    ]);
+}
+
+/// Begins the line of a row with its token.
+#[tactic(auto, unfolding(crate::specs::RowLines::row_head))]
+fn begin_named<W: Write>(table: TableId, row: u32, out: &mut Printer<'_, W>)
+    ensures { Begins out.old out.new (row_head Shown table row) }
+{
+    out.begin(&[
+        Member(Name::Table, Plain(table.name())),
+        Member(Name::Row, Number(row as u64)),
+        Field(Name::Token, Value::Token(Token { table, row })),
+    ]);
+}
+
+/// Adds the cells of a row.
+fn print_cells<'a, R: ShownRows<'a>, W: Write>(
+    alloc: Global,
+    names: Names,
+    rows: &mut R,
+    table: TableId,
+    row: u32,
+    out: &mut Printer<'_, W>,
+)
+    requires first { 1 ≤ row }
+    requires last { row ≤ R.ready_rows rows.old table }
+    ensures same { rows.new ≡ rows.old }
+    ensures parts { (model : Metadata) → R.shows rows.old model
+        → Adds out.old out.new (flat_map (cell_parts names model table row) (range_with_len 0 (cell_count table))) }
+{
+    cli_lines::laws::parts_follow::<W>();
+    for cell_index in 0..cell_count(table) {
+        print_label(names, table, cell_index, out);
+        print_cell(
+            alloc,
+            Name::Cell(table, cell_index),
+            rows,
+            table,
+            row,
+            cell_index,
+            out,
+        );
+    }
+}
+
+/// Adds what a cell begins with: a space, and the name of its column and an equals sign if columns are named.
+fn print_label<W: Write>(names: Names, table: TableId, cell_index: usize, out: &mut Printer<'_, W>)
+    requires { cell_index < cell_count table }
+    ensures { Adds out.old out.new (cell_label names table cell_index) }
+{
+    match names {
+        Names::Hidden => print_space(table, cell_index, out),
+        Names::Shown => print_name(table, cell_index, out),
+    }
+}
+
+/// Adds a space.
+#[tactic(auto, unfolding(crate::specs::RowLines::cell_label))]
+fn print_space<W: Write>(table: TableId, cell_index: usize, out: &mut Printer<'_, W>)
+    ensures { Adds out.old out.new (cell_label Hidden table cell_index) }
+{
+    out.part(&Word(" "));
+}
+
+/// Adds a space, the name of the column of a cell, and an equals sign.
+#[tactic(auto, unfolding(crate::specs::RowLines::cell_label))]
+fn print_name<W: Write>(table: TableId, cell_index: usize, out: &mut Printer<'_, W>)
+    requires { cell_index < cell_count table }
+    ensures { Adds out.old out.new (cell_label Shown table cell_index) }
+{
+    cli_lines::laws::parts_follow::<W>();
+    out.part(&Word(" "));
+    out.part(&Word(column_name(table, cell_index)));
+    out.part(&Word("="));
+}

@@ -1,0 +1,14 @@
+use Rattle.std.proofs.Common.{◌≡◌, drop, map}
+use Rattle.metadata.specs.Metadata.{Metadata}
+use Rattle.metadata.specs.Model.{IsModel}
+use Rattle.cli_lines.specs.Printed.{Completes}
+use Rattle.cli_compare.specs.ComparedLines.{difference_line}
+use Rattle.cli_compare.proofs.differences.print_each.Given as goal
+
+abbrev pub invariant-loop-difference : goal.invariant-loop-difference
+invariant-loop-difference g l = record {
+  one : l.one ≡ l.left;
+  other : l.other ≡ l.right;
+  lines : (model other : Metadata) → IsModel l.left model → IsModel l.right other
+      → Completes l.initial.out l.out (map (difference_line model other) (drop l.difference-index l.found)) (map (difference_line model other) l.found);
+}

@@ -1,0 +1,189 @@
+//! The lines of what differs.
+ghost use Rattle.std.specs.Prelude.{◌≡◌, ◌++◌, ◌∷◌, ◌<◌, [], All, length, map};
+ghost use Rattle.heap_entries.specs.Padding.{zero_padded};
+ghost use Rattle.metadata.specs.Metadata.{Metadata};
+ghost use Rattle.metadata.specs.Model.{IsModel};
+ghost use Rattle.comparison.specs.Differences.{IsThere};
+ghost use Rattle.comparison.specs.declared.difference.Difference.TheVariants.{Cell, RowCount, UserStrings, Version};
+ghost use Rattle.table_schema.specs.CellColumns.{cell_count};
+ghost use Rattle.cli_lines.specs.Printed.{Adds, Begins, Prints};
+ghost use Rattle.cli_compare.specs.ComparedLines.{HasColumn, HasRows, compared_lines, difference_line, equal_line, label_parts, value_part};
+
+use cli_cells::{column_name, print_cell};
+use cli_lines::Part::{Field, Member, Note, Word};
+use cli_lines::Value::{self, Byte, Number, Plain, Text, Yes};
+use cli_lines::{Name, Printer};
+use comparison::Difference;
+use opening::{CellCursor, TableId, Token, View};
+use std::alloc::Global;
+use std::io::Write;
+
+/// Prints what differs between two views, as `comparison::differences` found it: a line `WHAT: A | B` for each, and `equal`
+/// if there is none. WHAT is `version`, `user strings`, `rows NN NAME`, or the token of a row and the name of a column. A
+/// cell is printed as by `clim show`.
+pub fn print_differences<W: Write>(
+    alloc: Global,
+    left: &View<'_>,
+    right: &View<'_>,
+    found: &[Difference],
+    out: &mut Printer<'_, W>,
+)
+    requires { All (IsThere left.now right.now) found.now }
+    ensures { (model other : Metadata) → IsModel left.now model → IsModel right.now other
+        → Prints out.old out.new (compared_lines model other found.now) }
+{
+    if found.is_empty() {
+        return print_equal(out);
+    }
+    print_each(alloc, left, right, found, out);
+}
+
+/// Prints the line of two views that do not differ.
+#[tactic(auto, unfolding(crate::specs::ComparedLines::equal_line))]
+fn print_equal<W: Write>(out: &mut Printer<'_, W>)
+    ensures { Prints out.old out.new (equal_line ∷ []) }
+{
+    out.line(&[Word("equal"), Member(Name::Equal, Yes)]);
+}
+
+/// Prints a line for each thing that differs.
+fn print_each<W: Write>(
+    alloc: Global,
+    left: &View<'_>,
+    right: &View<'_>,
+    found: &[Difference],
+    out: &mut Printer<'_, W>,
+)
+    requires { All (IsThere left.now right.now) found.now }
+    ensures { (model other : Metadata) → IsModel left.now model → IsModel right.now other
+        → Prints out.old out.new (map (difference_line model other) found.now) }
+{
+    cli_lines::laws::reports_are_completed::<W>();
+    let mut one = CellCursor::new(left);
+    let mut other = CellCursor::new(right);
+    for difference in found {
+        print_difference(alloc, &mut one, &mut other, *difference, out);
+    }
+}
+
+/// Prints the line of something that differs.
+fn print_difference<W: Write>(
+    alloc: Global,
+    left: &mut CellCursor<'_, '_>,
+    right: &mut CellCursor<'_, '_>,
+    difference: Difference,
+    out: &mut Printer<'_, W>,
+)
+    requires { IsThere left.old right.old difference }
+    ensures left { left.new ≡ left.old }
+    ensures right { right.new ≡ right.old }
+    ensures line { (model other : Metadata) → IsModel left.old model → IsModel right.old other
+        → Prints out.old out.new (difference_line model other difference ∷ []) }
+{
+    cli_lines::laws::parts_follow::<W>();
+    begin_label(difference, out);
+    out.part(&Word(": "));
+    print_value(alloc, Name::Left, left, difference, out);
+    out.part(&Word(" | "));
+    print_value(alloc, Name::Right, right, difference, out);
+    out.end();
+}
+
+/// Begins a line with what differs.
+fn begin_label<W: Write>(difference: Difference, out: &mut Printer<'_, W>)
+    requires { HasColumn difference }
+    ensures { Begins out.old out.new (label_parts difference) }
+{
+    match difference {
+        Difference::Version => begin_version(out),
+        Difference::UserStrings => begin_user_strings(out),
+        Difference::RowCount { table, .. } => begin_rows(table, out),
+        Difference::Cell {
+            table,
+            row,
+            cell_index,
+        } => begin_cell(table, row, cell_index, out),
+    }
+}
+
+/// Begins a line of two versions.
+#[tactic(auto, unfolding(crate::specs::ComparedLines::label_parts))]
+fn begin_version<W: Write>(out: &mut Printer<'_, W>)
+    ensures { Begins out.old out.new (label_parts Version) }
+{
+    out.begin(&[Member(Name::Difference, Plain("Version")), Word("version")]);
+}
+
+/// Begins a line of user strings.
+#[tactic(auto, unfolding(crate::specs::ComparedLines::label_parts))]
+fn begin_user_strings<W: Write>(out: &mut Printer<'_, W>)
+    ensures { Begins out.old out.new (label_parts UserStrings) }
+{
+    out.begin(&[
+        Member(Name::Difference, Plain("UserStrings")),
+        Word("user strings"),
+    ]);
+}
+
+/// Begins a line of two numbers of rows.
+#[tactic(auto, unfolding(crate::specs::ComparedLines::label_parts))]
+fn begin_rows<W: Write>(table: TableId, out: &mut Printer<'_, W>)
+    ensures { Begins out.old out.new (label_parts (RowCount table 0 0)) }
+{
+    out.begin(&[
+        Member(Name::Difference, Plain("RowCount")),
+        Word("rows "),
+        Note(Byte(table.number())),
+        Word(" "),
+        Field(Name::Table, Plain(table.name())),
+    ]);
+}
+
+/// Begins a line of two cells.
+#[tactic(auto, unfolding(crate::specs::ComparedLines::label_parts))]
+fn begin_cell<W: Write>(table: TableId, row: u32, cell_index: usize, out: &mut Printer<'_, W>)
+    requires { cell_index < cell_count table }
+    ensures { Begins out.old out.new (label_parts (Cell table row cell_index)) }
+{
+    out.begin(&[
+        Member(Name::Difference, Plain("Cell")),
+        Field(Name::Token, Value::Token(Token { table, row })),
+        Word(" "),
+        Field(Name::Column, Plain(column_name(table, cell_index))),
+    ]);
+}
+
+/// Adds what a view has where something differs.
+fn print_value<W: Write>(
+    alloc: Global,
+    name: Name,
+    cells: &mut CellCursor<'_, '_>,
+    difference: Difference,
+    out: &mut Printer<'_, W>,
+)
+    requires { HasRows cells.old difference }
+    ensures same { cells.new ≡ cells.old }
+    ensures part { (model : Metadata) → IsModel cells.old model → Adds out.old out.new (value_part name model difference ∷ []) }
+{
+    let view = cells.view();
+    match difference {
+        Difference::Version => out.part(&Field(name, Text(view.version()))),
+        Difference::UserStrings => out.part(&Note(Number(padded_len(view.user()) as u64))),
+        Difference::RowCount { table, .. } => out.part(&Field(
+            name,
+            Number(view.count(table) as u64),
+        )),
+        Difference::Cell {
+            table,
+            row,
+            cell_index,
+        } => print_cell(alloc, name, cells, table, row, cell_index, out),
+    }
+}
+
+/// The number of bytes, padded to a multiple of four.
+fn padded_len(bytes: &[u8]) -> usize
+    ensures { result ≡ length (zero_padded bytes.now) }
+{
+    bytes.len() + (4 - bytes.len() % 4) % 4
+}

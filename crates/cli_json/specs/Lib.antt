@@ -1,4 +1,0 @@
-pub mod Values
-pub mod Compared
-pub mod Texts
-pub mod Printed

@@ -1,0 +1,146 @@
+-- The parts of a line of JSON, one after another.
+use Rattle.std.proofs.Common.{◌≡◌, ◌∙◌, ◌⊎◌, ℕ, Bool, true, false, List, [], ◌∷◌, ◌++◌, None, Some, map, refl, ap, sym, append_assoc, codes, cond, decimal}
+use Rattle.std.specs.Char.Utf16.{has_unpaired_surrogate, utf16_lossy_chars}
+use Rattle.std.specs.Str.{encode_utf8_all}
+use Rattle.std.proofs.Math.Logic.{⊎_elim}
+use Rattle.json.specs.Print.{escape_byte, print_from, quoted as string_text}
+use Rattle.json.specs.Token as json
+use Rattle.cli_lines.specs.JsonTexts.{array_json, items_json, member_json, opener, units_json, value_json}
+use Rattle.cli_lines.specs.Lines.{Value, number, hex, byte, text, plain, token, reference, quoted, bytes, guid, start, signature, yes, null, json_from, line_feed, named_token, part_tokens, units_tokens, value_tokens}
+use Rattle.cli_lines.specs.Names.{name_text}
+use Rattle.cli_lines.specs.Shown.{shown, shown_value}
+use Rattle.cli_lines.specs.declared.parts.Part.{Part as KeptPart}
+use Rattle.cli_lines.specs.declared.parts.Part.TheVariants.{Field, Member, Spaced}
+use Rattle.cli_lines.specs.declared.parts.Value.{Value as KeptValue}
+use Rattle.cli_lines.specs.Texts.{escaped_bytes}
+use Rattle.cli_lines.specs.declared.line.Before.{Before}
+use Rattle.cli_lines.specs.declared.line.Before.TheVariants.{Line, Brace}
+use Rattle.cli_lines.specs.declared.line.Before.TheVariants as at
+use Rattle.cli_lines.specs.declared.names.Name.{Name}
+use Rattle.cli_lines.specs.declared.names.Name.TheVariants as name
+
+-- the tokens that are left, and the brace that closes the object
+abbrev closed : List json.Token → List json.Token
+closed tokens = tokens ++ json.end_object ∷ []
+
+-- tokens that print as this text, after a name
+abbrev pub PrintAs : List json.Token → List ℕ → Type 0
+PrintAs tokens of = (more : List json.Token) → print_from false (tokens ++ more) ≡ of ++ print_from true more
+
+after_key : (s remainder : List ℕ) → (((s ++ 58 ∷ []) ++ remainder) ++ line_feed) ≡ s ++ 58 ∷ (remainder ++ line_feed)
+after_key s remainder = append_assoc (s ++ 58 ∷ []) remainder line_feed ∙ append_assoc s (58 ∷ []) (remainder ++ line_feed)
+
+-- a name, and what follows it
+pub name_from : (before : Before) (named : Name) (tokens : List json.Token)
+    → json_from before (named_token named ∷ tokens) ≡ opener before ++ (string_text (name_text named) ++ 58 ∷ (print_from false (closed tokens) ++ line_feed))
+unfolding print_from
+name_from Line named tokens = ap (λ xs. 123 ∷ xs) (after_key (string_text (name_text named)) (print_from false (closed tokens)))
+name_from Brace named tokens = after_key (string_text (name_text named)) (print_from false (closed tokens))
+name_from at.Value named tokens = ap (λ xs. 44 ∷ xs) (after_key (string_text (name_text named)) (print_from false (closed tokens)))
+
+regrouped : (line a s v remainder : List ℕ) → (line ++ (a ++ (s ++ 58 ∷ v))) ++ remainder ≡ line ++ (a ++ (s ++ 58 ∷ (v ++ remainder)))
+regrouped line a s v remainder =
+    append_assoc line (a ++ (s ++ 58 ∷ v)) remainder
+    ∙ ap (λ xs. line ++ xs) (append_assoc a (s ++ 58 ∷ v) remainder ∙ ap (λ xs. a ++ xs) (append_assoc s (58 ∷ v) remainder))
+
+-- a member was appended
+pub member_printed : (before : Before) (named : Name) (values : List json.Token) (of line new : List ℕ) → PrintAs values of
+    → new ≡ line ++ (opener before ++ member_json named of)
+    → (more : List json.Token) → new ++ json_from at.Value more ≡ line ++ json_from before (named_token named ∷ (values ++ more))
+member_printed before named values of line new prints is more =
+    let s = string_text (name_text named) in
+    let remainder = json_from at.Value more in
+    ap (λ xs. xs ++ remainder) is
+    ∙ regrouped line (opener before) s of remainder
+    ∙ ap (λ xs. line ++ (opener before ++ (s ++ 58 ∷ xs)))
+    (sym (append_assoc of (print_from true (closed more)) line_feed)
+    ∙ ap (λ xs. xs ++ line_feed) (sym (ap (print_from false) (append_assoc values more (json.end_object ∷ [])) ∙ prints (closed more))))
+    ∙ ap (λ xs. line ++ xs) (sym (name_from before named (values ++ more)))
+
+-- the name of a member that is an object was appended, and its brace
+pub object_begun : (before : Before) (named : Name) (line between new : List ℕ) → between ≡ line ++ (opener before ++ member_json named []) → new ≡ between ++ 123 ∷ []
+    → (more : List json.Token) → new ++ json_from Brace more ≡ line ++ json_from before (named_token named ∷ json.begin_object ∷ more)
+unfolding print_from
+object_begun before named line between new is brace more =
+    let s = string_text (name_text named) in
+    let remainder = json_from Brace more in
+    ap (λ xs. xs ++ remainder) (brace ∙ ap (λ xs. xs ++ 123 ∷ []) is)
+    ∙ append_assoc (line ++ (opener before ++ (s ++ 58 ∷ []))) (123 ∷ []) remainder
+    ∙ regrouped line (opener before) s [] (123 ∷ remainder)
+    ∙ ap (λ xs. line ++ xs) (sym (name_from before named (json.begin_object ∷ more)))
+
+-- the text of a value
+signed : (blob of remainder : List ℕ) → (codes "{\"blob\":" ++ string_text blob ++ codes ",\"text\":" ++ string_text of ++ codes "}") ++ remainder
+    ≡ codes "{\"blob\":" ++ (string_text blob ++ (codes ",\"text\":" ++ (string_text of ++ (125 ∷ remainder))))
+signed blob of remainder = simp append_assoc
+
+pub value_prints : (value : Value) → PrintAs (value_tokens value) (value_json value)
+unfolding print_from escape_byte
+value_prints (number n) more = refl
+value_prints (hex n) more = refl
+value_prints (byte n) more = refl
+value_prints (text of) more = refl
+value_prints (plain of) more = refl
+value_prints (token of) more = refl
+value_prints (reference None) more = refl
+value_prints (reference (Some of)) more = refl
+value_prints (quoted of) more = refl
+value_prints (bytes of) more = refl
+value_prints (guid None) more = refl
+value_prints (guid (Some of)) more = refl
+value_prints (start n) more = refl
+value_prints (signature blob of) more = sym (signed (escaped_bytes blob) of (print_from true more))
+value_prints yes more = refl
+value_prints null more = refl
+
+-- the tokens of a part that is a member
+pub tokens_are : (part : KeptPart) (key : Name) (value : KeptValue) → (part ≡ Field key value) ⊎ ((part ≡ Member key value) ⊎ (part ≡ Spaced key value))
+    → part_tokens (shown part) ≡ named_token key ∷ value_tokens (shown_value value)
+tokens_are part key value =
+    let of = λ (p : KeptPart). part_tokens (shown p) in
+    ⊎_elim (λ e. ap of e) (⊎_elim (λ e. ap of e) (λ e. ap of e))
+
+-- ---- units
+
+items_print : (units : List ℕ) (more : List json.Token)
+    → print_from true ((map (λ unit. json.number (decimal unit)) units ++ json.end_array ∷ []) ++ more) ≡ items_json units ++ print_from true more
+unfolding print_from
+items_print [] more = refl
+items_print (unit ∷ units) more =
+    ap (λ xs. 44 ∷ (decimal unit ++ xs)) (items_print units more) ∙ ap (λ xs. 44 ∷ xs) (sym (append_assoc (decimal unit) (items_json units) (print_from true more)))
+
+array_prints : (units : List ℕ) → PrintAs (json.begin_array ∷ (map (λ unit. json.number (decimal unit)) units ++ json.end_array ∷ [])) (array_json units)
+unfolding print_from
+array_prints [] more = refl
+array_prints (unit ∷ units) more =
+    ap (λ xs. 91 ∷ (decimal unit ++ xs)) (items_print units more) ∙ ap (λ xs. 91 ∷ xs) (sym (append_assoc (decimal unit) (items_json units) (print_from true more)))
+
+either_units : (unpaired : Bool) (before : Before) (units of line new : List ℕ)
+    → new ≡ line ++ (opener before ++ cond unpaired (member_json name.Units (array_json units)) (member_json name.Text (string_text of)))
+    → (more : List json.Token)
+    → new ++ json_from at.Value more
+    ≡ line ++ json_from before (cond unpaired (named_token name.Units ∷ json.begin_array ∷ (map (λ unit. json.number (decimal unit)) units ++ json.end_array ∷ []))
+    (named_token name.Text ∷ json.string of ∷ []) ++ more)
+either_units true before units of line new is =
+    member_printed before name.Units (json.begin_array ∷ (map (λ unit. json.number (decimal unit)) units ++ json.end_array ∷ [])) (array_json units) line new (array_prints units) is
+either_units false before units of line new is =
+    member_printed before name.Text (json.string of ∷ []) (string_text of) line new (value_prints (plain of)) is
+
+-- the member of units was appended
+pub units_printed : (before : Before) (units line new : List ℕ) → new ≡ line ++ (opener before ++ units_json units)
+    → (more : List json.Token) → new ++ json_from at.Value more ≡ line ++ json_from before (units_tokens units ++ more)
+units_printed before units line new is =
+    either_units (has_unpaired_surrogate units) before units (encode_utf8_all (utf16_lossy_chars units)) line new is
+
+-- the member of units that are a text, and of units that are none
+pub text_units : (units of : List ℕ) → has_unpaired_surrogate units ≡ false → of ≡ encode_utf8_all (utf16_lossy_chars units)
+    → member_json name.Text (string_text of) ≡ units_json units
+text_units units of paired is =
+    let chars = string_text (encode_utf8_all (utf16_lossy_chars units)) in
+    ap (λ bs. member_json name.Text (string_text bs)) is
+    ∙ sym (ap (λ t. cond t (member_json name.Units (array_json units)) (member_json name.Text chars)) paired)
+
+pub array_units : (units : List ℕ) → has_unpaired_surrogate units ≡ true → member_json name.Units (array_json units) ≡ units_json units
+array_units units unpaired =
+    let chars = string_text (encode_utf8_all (utf16_lossy_chars units)) in
+    sym (ap (λ t. cond t (member_json name.Units (array_json units)) (member_json name.Text chars)) unpaired)

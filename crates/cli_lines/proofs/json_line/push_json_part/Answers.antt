@@ -1,0 +1,20 @@
+use Rattle.std.proofs.Common.{◌++◌, ◌∙◌, ap, sym}
+use Rattle.cli_lines.specs.JsonTexts.{value_json}
+use Rattle.cli_lines.specs.Lines.{json_from, value_tokens}
+use Rattle.cli_lines.specs.Shown.{shown_value}
+use Rattle.cli_lines.proofs.JsonLemmas.{member_printed, tokens_are, units_printed, value_prints}
+use Rattle.cli_lines.proofs.json_line.push_json_part.Goals as goal
+
+pub returns-in_ok-push_units_member-in-Units : goal.returns-in_ok-push_units_member-in-Units
+returns-in_ok-push_units_member-in-Units c =
+    rw c.in-Units.is
+    (units_printed c.args.at c.in-Units.string.now.units c.args.line.now.items c.push_units_member.new.line.items
+    (rw (sym c.units.ensures) c.in_ok-push_units_member-in-Units.ensures))
+
+pub returns-in_ok-push_member-in-Field : goal.returns-in_ok-push_member-in-Field
+returns-in_ok-push_member-in-Field c = λ more.
+    let value = shown_value c.in-Field.value in
+    let line = c.args.line.now.items in
+    member_printed c.args.at c.in-Field.name (value_tokens value) (value_json value) line c.push_member.new.line.items (value_prints value)
+    c.in_ok-push_member-in-Field.ensures more
+    ∙ ap (λ tokens. line ++ json_from c.args.at (tokens ++ more)) (sym (tokens_are c.args.part.now c.in-Field.name c.in-Field.value c.in-Field.is))

@@ -1,0 +1,10 @@
+use Rattle.std.proofs.Common.{◌++◌, []}
+use Rattle.cli_lines.specs.Lines.{line_from}
+use Rattle.cli_lines.proofs.SentLemmas.{cut_moved, prefix_of_nothing}
+use Rattle.cli_lines.proofs.printer.end_line.Goals as goal
+
+pub returns-in_err-push_end : goal.returns-in_err-push_end
+returns-in_err-push_end g c =
+    let known = g.W.Write.contents c.args.out.now in
+    let text = c.args.waiting.now.items ++ line_from c.args.form c.args.at [] in
+    cut_moved c.from_residual.result known known text c.push_end.new.line.items c.from_residual.ensures.0 (prefix_of_nothing known text)

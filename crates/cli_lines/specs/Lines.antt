@@ -1,0 +1,161 @@
+-- The lines of a report, and their text in each form.
+use Rattle.std.specs.Prelude.{ℕ, Bool, true, false, if◌then◌else◌, List, [], ◌∷◌, ◌++◌, codes, decimal, map, Option, None, Some}
+use Rattle.std.specs.List.{flat_map}
+use Rattle.std.specs.Char.Utf16.{has_unpaired_surrogate, utf16_lossy_chars}
+use Rattle.std.specs.Str.{encode_utf8_all}
+use Rattle.json.specs.Token as json
+use Rattle.json.specs.Print.{print, print_from}
+use Rattle.uuid.specs.Text.{hyphenated_text, lower}
+use Rattle.heap_entries.specs.GuidText.{as_read}
+use Rattle.table_schema.specs.declared.token.Token.{Token}
+use Rattle.table_schema.specs.Tokens.{hexadecimal, token_text}
+use Rattle.cli_faults.specs.Escaped.{escaped_text, escaped_unit}
+use Rattle.cli_lines.specs.Names.{name_text}
+use Rattle.cli_faults.specs.Hexadecimal.{upper_hexadecimal}
+use Rattle.cli_lines.specs.Texts.{escaped_bytes}
+use Rattle.cli_lines.specs.declared.line.Before.{Before}
+use Rattle.cli_lines.specs.declared.line.Before.TheVariants as before
+use Rattle.cli_lines.specs.declared.names.Name.{Name}
+use Rattle.cli_lines.specs.declared.names.Name.TheVariants as name
+use Rattle.cli_lines.specs.declared.parts.Form.{Form}
+use Rattle.cli_lines.specs.declared.parts.Form.TheVariants.{Text, JsonLines}
+
+pub data Value : Type 0 where
+  number : ℕ → Value
+  hex : ℕ → Value
+  byte : ℕ → Value
+  text : List ℕ → Value
+  plain : List ℕ → Value
+  token : Token → Value
+  reference : Option Token → Value
+  quoted : List ℕ → Value
+  bytes : List ℕ → Value
+  guid : Option (List ℕ) → Value
+  start : ℕ → Value
+  -- the bytes and the text of a signature
+  signature : List ℕ → List ℕ → Value
+  yes : Value
+  null : Value
+
+-- a part of a line
+pub data Part : Type 0 where
+  -- in a line of text these bytes
+  word : List ℕ → Part
+  -- in a line of text the value, and in JSON the member with this name
+  field : Name → Value → Part
+  -- in a line of text the value
+  note : Value → Part
+  -- in JSON the member with this name
+  member : Name → Value → Part
+  -- a field after a space
+  spaced : Name → Value → Part
+  -- the UTF-16 units of a user string
+  units : List ℕ → Part
+  -- in JSON the start and the end of a member that is an object
+  opens : Name → Part
+  closes : Part
+
+-- the end of a line
+abbrev pub line_feed : List ℕ
+line_feed = 10 ∷ []
+
+-- a GUID as a text
+abbrev pub guid_text : List ℕ → List ℕ
+guid_text of = hyphenated_text lower (as_read of)
+
+-- bytes in hexadecimal, in brackets
+abbrev pub bracketed : List ℕ → List ℕ
+bracketed of = codes "<" ++ escaped_bytes of ++ codes ">"
+
+-- ---- a line of text
+
+abbrev pub value_text : Value → List ℕ
+value_text (number n) = decimal n
+value_text (hex n) = hexadecimal 8 n
+value_text (byte n) = upper_hexadecimal n
+value_text (text of) = escaped_text of
+value_text (plain of) = of
+value_text (token of) = token_text of
+value_text (reference None) = codes "null"
+value_text (reference (Some of)) = token_text of
+value_text (quoted of) = codes "\"" ++ escaped_text of ++ codes "\""
+value_text (bytes of) = bracketed of
+value_text (guid None) = codes "null"
+value_text (guid (Some of)) = codes "{" ++ guid_text of ++ codes "}"
+value_text (start n) = codes "+" ++ decimal n
+value_text (signature blob of) = bracketed blob
+value_text yes = codes "true"
+value_text null = codes "null"
+
+abbrev pub part_text : Part → List ℕ
+part_text (word of) = of
+part_text (field _ value) = value_text value
+part_text (note value) = value_text value
+part_text (member _ _) = []
+part_text (spaced _ value) = codes " " ++ value_text value
+part_text (units of) = flat_map escaped_unit of
+part_text (opens _) = []
+part_text closes = []
+
+-- ---- a line of JSON: the tokens of an object
+
+abbrev pub named_token : Name → json.Token
+named_token named = json.key (name_text named)
+
+abbrev pub value_tokens : Value → List json.Token
+value_tokens (number n) = json.number (decimal n) ∷ []
+value_tokens (hex n) = json.string (hexadecimal 8 n) ∷ []
+value_tokens (byte n) = json.string (upper_hexadecimal n) ∷ []
+value_tokens (text of) = json.string of ∷ []
+value_tokens (plain of) = json.string of ∷ []
+value_tokens (token of) = json.string (token_text of) ∷ []
+value_tokens (reference None) = json.null ∷ []
+value_tokens (reference (Some of)) = json.string (token_text of) ∷ []
+value_tokens (quoted of) = json.string of ∷ []
+value_tokens (bytes of) = json.string (escaped_bytes of) ∷ []
+value_tokens (guid None) = json.null ∷ []
+value_tokens (guid (Some of)) = json.string (guid_text of) ∷ []
+value_tokens (start n) = json.number (decimal n) ∷ []
+value_tokens (signature blob of) =
+    json.begin_object ∷ named_token name.Blob ∷ json.string (escaped_bytes blob) ∷ named_token name.Text ∷ json.string of ∷ json.end_object ∷ []
+value_tokens yes = json.boolean true ∷ []
+value_tokens null = json.null ∷ []
+
+-- units as a text, or as an array of numbers if a surrogate among them has no partner, because then they are not a text
+abbrev pub units_tokens : List ℕ → List json.Token
+units_tokens of =
+    if has_unpaired_surrogate of then named_token name.Units ∷ json.begin_array ∷ (map (λ unit. json.number (decimal unit)) of ++ json.end_array ∷ [])
+    else named_token name.Text ∷ json.string (encode_utf8_all (utf16_lossy_chars of)) ∷ []
+
+abbrev pub part_tokens : Part → List json.Token
+part_tokens (word of) = []
+part_tokens (field named value) = named_token named ∷ value_tokens value
+part_tokens (note value) = []
+part_tokens (member named value) = named_token named ∷ value_tokens value
+part_tokens (spaced named value) = named_token named ∷ value_tokens value
+part_tokens (units of) = units_tokens of
+part_tokens (opens named) = named_token named ∷ json.begin_object ∷ []
+part_tokens closes = json.end_object ∷ []
+
+-- The text of an object with these tokens, from where the printer is: all of it at the start of a line, and what follows an
+-- opening brace or a value. A line without tokens is no line.
+abbrev pub json_from : Before → List json.Token → List ℕ
+json_from before.Line [] = []
+json_from before.Line (next ∷ tokens) = print (json.begin_object ∷ next ∷ (tokens ++ json.end_object ∷ [])) ++ line_feed
+json_from before.Brace tokens = print (tokens ++ json.end_object ∷ []) ++ line_feed
+json_from before.Value tokens = print_from true (tokens ++ json.end_object ∷ []) ++ line_feed
+
+-- ---- a line in a form
+
+-- these parts, and the end of the line, from where the printer is
+unfoldable pub line_from : Form → Before → List Part → List ℕ
+line_from Text at parts = flat_map part_text parts ++ line_feed
+line_from JsonLines at parts = json_from at (flat_map part_tokens parts)
+
+abbrev pub line_text : Form → List Part → List ℕ
+line_text form parts = line_from form before.Line parts
+
+-- ---- a report
+
+unfoldable pub report_text : Form → List (List Part) → List ℕ
+report_text form lines = flat_map (line_text form) lines

@@ -1,0 +1,122 @@
+//! Appends the parts of a line of JSON.
+ghost use Rattle.std.specs.Prelude.{◌≡◌, ◌++◌, ◌∷◌, [], List, OnOk, IfOk};
+ghost use Rattle.json.specs.Token as json;
+ghost use Rattle.cli_lines.specs.declared.line.Before.TheVariants as here;
+ghost use Rattle.cli_lines.specs.Lines.{json_from, part_tokens};
+ghost use Rattle.cli_lines.specs.Shown.{shown, shown_value};
+ghost use Rattle.cli_lines.specs.JsonTexts.{member_json, opener, value_json};
+
+use crate::json_texts::{
+    push_byte_string, push_guid_string, push_hexadecimal_string, push_reference_string,
+    push_signature, push_string, push_token_string, push_word_string,
+};
+use crate::json_units::push_units_member;
+use crate::line::Before;
+use crate::names::Name;
+use crate::parts::{Part, Value};
+use crate::texts::push_decimal;
+use std::alloc::{AllocError, Global};
+
+/// Appends a value.
+fn push_json_value(alloc: Global, value: &Value<'_>, line: &mut Vec<u8>) -> Result<(), AllocError>
+    ensures { OnOk result (line.new.items ≡ line.old.items ++ value_json (shown_value value.now)) }
+{
+    match value {
+        Value::Number(number) | Value::Start(number) => push_decimal(*number, line),
+        Value::Hex(number) => push_word_string(*number, line),
+        Value::Byte(number) => push_byte_string(*number, line),
+        Value::Text(text) | Value::Plain(text) | Value::Quoted(text) => push_string(text, line),
+        Value::Token(token) => push_token_string(alloc, *token, line),
+        Value::Reference(token) => push_reference_string(alloc, *token, line),
+        Value::Bytes(bytes) => push_hexadecimal_string(bytes, line),
+        Value::Guid(guid) => push_guid_string(alloc, *guid, line),
+        Value::Signature(blob, text) => push_signature(blob, text, line),
+        Value::Yes => line.extend_from_slice(b"true"),
+        Value::Null => line.extend_from_slice(b"null"),
+    }
+}
+
+/// Appends the name of a member, with what is before and after it.
+pub(crate) fn push_name(at: Before, name: Name, line: &mut Vec<u8>) -> Result<(), AllocError>
+    ensures { OnOk result (line.new.items ≡ line.old.items ++ (opener at ++ member_json name [])) }
+{
+    let key = name.key().as_bytes();
+    let (_, colon) = key.split_at(1);
+    match at {
+        Before::Line => {
+            line.push(b'{')?;
+            line.extend_from_slice(colon)
+        }
+        Before::Brace => line.extend_from_slice(colon),
+        Before::Value => line.extend_from_slice(key),
+    }
+}
+
+/// Appends a member.
+fn push_member(
+    alloc: Global,
+    at: Before,
+    name: Name,
+    value: &Value<'_>,
+    line: &mut Vec<u8>,
+) -> Result<(), AllocError>
+    ensures { OnOk result (line.new.items ≡ line.old.items ++ (opener at ++ member_json name (value_json (shown_value value.now)))) }
+{
+    push_name(at, name, line)?;
+    push_json_value(alloc, value, line)
+}
+
+/// Appends the brace that closes an object.
+#[tactic(auto, unfolding(json::specs::Print::print_from))]
+fn push_close(at: Before, line: &mut Vec<u8>) -> Result<(), AllocError>
+    ensures { OnOk result ((more : List json.Token) → line.new.items ++ json_from here.Value more ≡ line.old.items ++ json_from at (json.end_object ∷ more)) }
+{
+    match at {
+        Before::Line => line.extend_from_slice(b"{}"),
+        Before::Brace | Before::Value => Ok(line.push(b'}')?),
+    }
+}
+
+/// Appends a part of a line. Returns where the printer is then.
+#[tactic(auto, unfolding(json::specs::Print::print_from))]
+#[inline(never)]
+pub(crate) fn push_json_part(
+    alloc: Global,
+    at: Before,
+    part: &Part<'_>,
+    line: &mut Vec<u8>,
+) -> Result<Before, AllocError>
+    ensures { IfOk result (λ now. (more : List json.Token) → line.new.items ++ json_from now more ≡ line.old.items ++ json_from at (part_tokens (shown part.now) ++ more)) }
+{
+    match part {
+        Part::Word(_) | Part::Note(_) => Ok(at),
+        Part::Field(name, value) | Part::Member(name, value) | Part::Spaced(name, value) => {
+            push_member(alloc, at, *name, value, line)?;
+            Ok(Before::Value)
+        }
+        Part::Units(string) => {
+            push_units_member(alloc, at, string.units(), line)?;
+            Ok(Before::Value)
+        }
+        Part::Open(name) => {
+            push_name(at, *name, line)?;
+            line.push(b'{')?;
+            Ok(Before::Brace)
+        }
+        Part::Close => {
+            push_close(at, line)?;
+            Ok(Before::Value)
+        }
+    }
+}
+
+/// Appends the end of a line. A line without members is no line.
+#[tactic(auto, unfolding(json::specs::Print::print_from))]
+pub(crate) fn push_json_end(at: Before, line: &mut Vec<u8>) -> Result<(), AllocError>
+    ensures { OnOk result (line.new.items ≡ line.old.items ++ json_from at []) }
+{
+    match at {
+        Before::Line => Ok(()),
+        Before::Brace | Before::Value => line.extend_from_slice(b"}\n"),
+    }
+}

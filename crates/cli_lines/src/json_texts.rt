@@ -1,0 +1,165 @@
+//! Appends texts of JSON to a line.
+ghost use Rattle.std.specs.Prelude.{◌≡◌, ◌++◌, ◌∷◌, ◌<◌, ◌↔◌, [], IsTrue, IfSome, OnOk, EachIndex, slice_index, unwrap_or};
+ghost use Rattle.std.specs.Char.{digit_char};
+ghost use Rattle.json.specs.Print.{escape, escape_byte, escape_letter, quoted};
+ghost use Rattle.json.specs.Run.{is_plain};
+ghost use Rattle.table_schema.specs.Tokens.{hexadecimal, token_text};
+ghost use Rattle.cli_lines.specs.Lines as shown;
+ghost use Rattle.cli_lines.specs.JsonTexts.{value_json};
+ghost use Rattle.cli_faults.specs.Hexadecimal.{upper_hexadecimal};
+ghost use Rattle.cli_lines.specs.Texts.{escaped_bytes};
+
+use crate::texts::{push_hexadecimal, push_token, push_word, upper_digit};
+use heap_entries::guid_text;
+use std::alloc::{AllocError, Global};
+use table_schema::Token;
+
+/// Whether a byte stands for itself in a string (RFC 8259, section 7): it is no quote, backslash or control character.
+fn is_plain(byte: u8) -> bool
+    ensures { result ≡ is_plain byte }
+{
+    byte >= 0x20 && byte != b'"' && byte != b'\\'
+}
+
+/// Whether all bytes stand for themselves.
+fn are_plain(text: &[u8]) -> bool
+    ensures { IsTrue result ↔ EachIndex text.now (λ k. IsTrue (is_plain (slice_index text.now k))) }
+{
+    text.iter().all(|byte| is_plain(*byte))
+}
+
+/// The letter after the backslash in the short escape of a byte, if it has one.
+fn letter_of(byte: u8) -> Option<u8>
+    ensures letter { unwrap_or result 0 ≡ escape_letter byte }
+    ensures some { IfSome result (λ letter. 0 < letter) }
+{
+    match byte {
+        b'"' | b'\\' => Some(byte),
+        0x08 => Some(b'b'),
+        0x0C => Some(b'f'),
+        b'\n' => Some(b'n'),
+        b'\r' => Some(b'r'),
+        b'\t' => Some(b't'),
+        _ => None,
+    }
+}
+
+/// Appends a byte of a string, escaped if needed.
+fn push_byte(byte: u8, line: &mut Vec<u8>) -> Result<(), AllocError>
+    ensures { OnOk result (line.new.items ≡ line.old.items ++ escape_byte byte) }
+{
+    match letter_of(byte) {
+        Some(letter) => line.extend_from_slice(&[b'\\', letter]),
+        None if byte < 0x20 => {
+            line.extend_from_slice(b"\\u00")?;
+            push_hexadecimal(&[byte], line)
+        }
+        None => Ok(line.push(byte)?),
+    }
+}
+
+/// Appends the content of a string: a quote, a backslash and a control character escaped, any other byte as it is (RFC
+/// 8259, section 7).
+pub(crate) fn push_escaped(text: &[u8], line: &mut Vec<u8>) -> Result<(), AllocError>
+    ensures { OnOk result (line.new.items ≡ line.old.items ++ escape text.now) }
+{
+    if are_plain(text) {
+        return line.extend_from_slice(text);
+    }
+    for byte in text {
+        push_byte(*byte, line)?;
+    }
+    Ok(())
+}
+
+/// Appends a string, with its quotes.
+pub(crate) fn push_string(text: &str, line: &mut Vec<u8>) -> Result<(), AllocError>
+    ensures { OnOk result (line.new.items ≡ line.old.items ++ quoted text.now) }
+{
+    line.push(b'"')?;
+    push_escaped(text.as_bytes(), line)?;
+    Ok(line.push(b'"')?)
+}
+
+/// Appends a number as a string of eight lower-case hexadecimal digits.
+pub(crate) fn push_word_string(number: u32, line: &mut Vec<u8>) -> Result<(), AllocError>
+    ensures { OnOk result (line.new.items ≡ line.old.items ++ quoted (hexadecimal 8 number)) }
+{
+    line.push(b'"')?;
+    push_word(number, line)?;
+    Ok(line.push(b'"')?)
+}
+
+/// Appends the digits of a token as a string.
+pub(crate) fn push_token_string(
+    alloc: Global,
+    token: Token,
+    line: &mut Vec<u8>,
+) -> Result<(), AllocError>
+    ensures { OnOk result (line.new.items ≡ line.old.items ++ quoted (token_text token)) }
+{
+    line.push(b'"')?;
+    push_token(alloc, token, line)?;
+    Ok(line.push(b'"')?)
+}
+
+/// Appends a string of two lower-case hexadecimal digits for each byte.
+pub(crate) fn push_hexadecimal_string(bytes: &[u8], line: &mut Vec<u8>) -> Result<(), AllocError>
+    ensures { OnOk result (line.new.items ≡ line.old.items ++ quoted (escaped_bytes bytes.now)) }
+{
+    line.push(b'"')?;
+    push_hexadecimal(bytes, line)?;
+    Ok(line.push(b'"')?)
+}
+
+/// Appends a GUID as a string, or `null`.
+pub(crate) fn push_guid_string(
+    alloc: Global,
+    guid: Option<[u8; 16]>,
+    line: &mut Vec<u8>,
+) -> Result<(), AllocError>
+    ensures { OnOk result (line.new.items ≡ line.old.items ++ value_json (shown.guid guid)) }
+{
+    match guid {
+        Some(guid) => {
+            let text = guid_text(alloc, &guid)?;
+            push_string(&text, line)
+        }
+        None => line.extend_from_slice(b"null"),
+    }
+}
+
+/// Appends the digits of a token as a string, or `null`.
+pub(crate) fn push_reference_string(
+    alloc: Global,
+    token: Option<Token>,
+    line: &mut Vec<u8>,
+) -> Result<(), AllocError>
+    ensures { OnOk result (line.new.items ≡ line.old.items ++ value_json (shown.reference token)) }
+{
+    match token {
+        Some(token) => push_token_string(alloc, token, line),
+        None => line.extend_from_slice(b"null"),
+    }
+}
+
+/// Appends a number as a string of two upper-case hexadecimal digits.
+pub(crate) fn push_byte_string(number: u8, line: &mut Vec<u8>) -> Result<(), AllocError>
+    ensures { OnOk result (line.new.items ≡ line.old.items ++ quoted (upper_hexadecimal number)) }
+{
+    let digits = [upper_digit(number / 16), upper_digit(number % 16)];
+    line.push(b'"')?;
+    push_escaped(&digits, line)?;
+    Ok(line.push(b'"')?)
+}
+
+/// Appends an object of the bytes and the text of a signature.
+pub(crate) fn push_signature(blob: &[u8], text: &str, line: &mut Vec<u8>) -> Result<(), AllocError>
+    ensures { OnOk result (line.new.items ≡ line.old.items ++ value_json (shown.signature blob.now text.now)) }
+{
+    line.extend_from_slice(b"{\"blob\":")?;
+    push_hexadecimal_string(blob, line)?;
+    line.extend_from_slice(b",\"text\":")?;
+    push_string(text, line)?;
+    Ok(line.push(b'}')?)
+}

@@ -1,0 +1,81 @@
+//! Appends UTF-16 units as a member of a line of JSON.
+ghost use Rattle.std.specs.Prelude.{◌≡◌, ◌++◌, ◌∷◌, OnOk, IfOk};
+ghost use Rattle.json.specs.Print.{quoted};
+ghost use Rattle.cli_lines.specs.JsonTexts.{array_json, items_json, member_json, opener, units_json};
+ghost use Rattle.cli_lines.specs.declared.names.Name.TheVariants as name;
+
+use crate::json_line::push_name;
+use crate::json_texts::push_string;
+use crate::line::Before;
+use crate::names::Name;
+use crate::texts::push_decimal;
+use heap_entries::Units;
+use std::alloc::{AllocError, Global};
+
+/// The units, in order.
+fn collect(alloc: Global, units: Units<'_>) -> Result<Vec<u16>, AllocError>
+    ensures { IfOk result (λ all. all.items ≡ units.entry) }
+{
+    let mut all = Vec::new(alloc);
+    for unit in units {
+        all.push(unit)?;
+    }
+    Ok(all)
+}
+
+/// Appends each number after a comma, and the closing bracket.
+fn push_later_items(units: &[u16], line: &mut Vec<u8>) -> Result<(), AllocError>
+    ensures { OnOk result (line.new.items ≡ line.old.items ++ items_json units.now) }
+{
+    for unit in units {
+        line.push(b',')?;
+        push_decimal(*unit as u64, line)?;
+    }
+    Ok(line.push(b']')?)
+}
+
+/// Appends units as an array of numbers.
+fn push_array(units: &[u16], line: &mut Vec<u8>) -> Result<(), AllocError>
+    ensures { OnOk result (line.new.items ≡ line.old.items ++ array_json units.now) }
+{
+    match units.split_first() {
+        Some((first, later)) => {
+            line.push(b'[')?;
+            push_decimal(*first as u64, line)?;
+            push_later_items(later, line)
+        }
+        None => line.extend_from_slice(b"[]"),
+    }
+}
+
+/// Appends the member `units`.
+fn push_numbers(at: Before, units: &[u16], line: &mut Vec<u8>) -> Result<(), AllocError>
+    ensures { OnOk result (line.new.items ≡ line.old.items ++ (opener at ++ member_json name.Units (array_json units.now))) }
+{
+    push_name(at, Name::Units, line)?;
+    push_array(units, line)
+}
+
+/// Appends the member `text`.
+fn push_text(at: Before, text: &str, line: &mut Vec<u8>) -> Result<(), AllocError>
+    ensures { OnOk result (line.new.items ≡ line.old.items ++ (opener at ++ member_json name.Text (quoted text.now))) }
+{
+    push_name(at, Name::Text, line)?;
+    push_string(text, line)
+}
+
+/// Appends the member of units: a text, or an array if a surrogate among them has no partner.
+pub(crate) fn push_units_member(
+    alloc: Global,
+    at: Before,
+    units: Units<'_>,
+    line: &mut Vec<u8>,
+) -> Result<(), AllocError>
+    ensures { OnOk result (line.new.items ≡ line.old.items ++ (opener at ++ units_json units.entry)) }
+{
+    let units = collect(alloc, units)?;
+    match String::from_utf16(alloc, &units)? {
+        Ok(text) => push_text(at, &text, line),
+        Err(_) => push_numbers(at, &units, line),
+    }
+}

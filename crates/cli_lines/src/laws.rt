@@ -1,0 +1,45 @@
+//! How lines follow one another.
+ghost use Rattle.std.specs.Prelude.{◌≤◌, ◌++◌, ◌∷◌, ◌+◌, ◌<◌, [], ℕ, List, map};
+ghost use Rattle.std.specs.List.{range_with_len};
+ghost use Rattle.cli_lines.specs.Lines.{Part};
+ghost use Rattle.cli_lines.specs.Printed.{Adds, Begins, Completes, Ends, Printed, Prints, parts_after, rows_after};
+
+use std::io::Write;
+
+/// A printer that takes lines, and then other lines, takes both in this order.
+pub fn lines_follow<W: Write>()
+    ensures nothing { (printer : Printed W) → Prints printer printer [] }
+    ensures more { (old between new : Printed W) (first second : List (List Part)) → Prints old between first → Prints between new second → Prints old new (first ++ second) }
+{}
+
+/// A printer that prints what is left prints all in the end.
+pub fn reports_are_completed<W: Write>()
+    ensures start { (printer : Printed W) (lines : List (List Part)) → Completes printer printer lines lines }
+    ensures more { (old now next : Printed W) (lines left all : List (List Part)) → Completes old now (lines ++ left) all → Prints now next lines → Completes old next left all }
+    ensures all { (old new : Printed W) (all : List (List Part)) → Completes old new [] all → Prints old new all }
+{}
+
+/// A printer takes the lines of rows one after another.
+pub fn rows_follow<W: Write>()
+    ensures all { (old new : Printed W) (line : ℕ → List Part) (count : ℕ) → Prints old new (rows_after line 0 count) → Prints old new (map line (range_with_len 1 count)) }
+    ensures more { (old between new : Printed W) (line : ℕ → List Part) (earlier count : ℕ) → earlier < count → Prints old between (line (earlier + 1) ∷ [])
+        → Prints between new (rows_after line (earlier + 1) count) → Prints old new (rows_after line earlier count) }
+    ensures none { (printer : Printed W) (line : ℕ → List Part) (earlier count : ℕ) → count ≤ earlier → Prints printer printer (rows_after line earlier count) }
+{}
+
+/// A line has the parts that it was begun with, and those that were added.
+pub fn parts_follow<W: Write>()
+    ensures nothing { (printer : Printed W) → Adds printer printer [] }
+    ensures more { (old between new : Printed W) (first second : List Part) → Adds old between first → Adds between new second → Adds old new (first ++ second) }
+    ensures begun { (old between new : Printed W) (first second : List Part) → Begins old between first → Adds between new second → Begins old new (first ++ second) }
+    ensures line { (old begun added new : Printed W) (first second : List Part) → Begins old begun first → Adds begun added second → Ends added new
+        → Prints old new ((first ++ second) ∷ []) }
+{}
+
+/// A line takes the parts of cells one after another.
+pub fn cells_follow<W: Write>()
+    ensures all { (old new : Printed W) (part : ℕ → Part) (count : ℕ) → Adds old new (parts_after part 0 count) → Adds old new (map part (range_with_len 0 count)) }
+    ensures more { (old between new : Printed W) (part : ℕ → Part) (index count : ℕ) → index < count → Adds old between (part index ∷ [])
+        → Adds between new (parts_after part (index + 1) count) → Adds old new (parts_after part index count) }
+    ensures none { (printer : Printed W) (part : ℕ → Part) (index count : ℕ) → count ≤ index → Adds printer printer (parts_after part index count) }
+{}

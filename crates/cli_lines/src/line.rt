@@ -1,0 +1,110 @@
+//! Appends the parts of a line to the bytes that wait to be sent.
+ghost use Rattle.std.specs.Prelude.{◌≡◌, ◌++◌, ◌∷◌, [], List, OnOk, IfOk, map};
+ghost use Rattle.cli_lines.specs.Lines.{Part as ThePart, line_from, line_text, part_text, value_text};
+ghost use Rattle.cli_lines.specs.Shown.{shown, shown_value};
+
+use crate::json_line::{push_json_end, push_json_part};
+use crate::parts::{Form, Part, Value};
+use crate::texts::{
+    push_bracketed, push_byte_digits, push_decimal, push_escaped, push_guid, push_plain,
+    push_quoted, push_reference, push_start, push_token, push_word,
+};
+use crate::units::push_units;
+use std::alloc::{AllocError, Global};
+
+/// Where a printer is in its line of JSON.
+#[derive(Clone, Copy, PartialEq, Eq)]
+pub enum Before {
+    /// At the start of the line.
+    Line,
+    /// After the brace that opens an object.
+    Brace,
+    /// After a value.
+    Value,
+}
+
+/// Appends a value as in a line of text.
+#[inline(always)]
+fn push_text_value(alloc: Global, value: &Value<'_>, line: &mut Vec<u8>) -> Result<(), AllocError>
+    ensures { OnOk result (line.new.items ≡ line.old.items ++ value_text (shown_value value.now)) }
+{
+    match value {
+        Value::Number(number) => push_decimal(*number, line),
+        Value::Hex(number) => push_word(*number, line),
+        Value::Byte(number) => push_byte_digits(*number, line),
+        Value::Text(text) => push_escaped(text.as_bytes(), line),
+        Value::Plain(text) => push_plain(text, line),
+        Value::Token(token) => push_token(alloc, *token, line),
+        Value::Reference(token) => push_reference(alloc, *token, line),
+        Value::Quoted(text) => push_quoted(text, line),
+        Value::Bytes(bytes) | Value::Signature(bytes, _) => push_bracketed(bytes, line),
+        Value::Guid(guid) => push_guid(alloc, *guid, line),
+        Value::Start(start) => push_start(*start, line),
+        Value::Yes => push_plain("true", line),
+        Value::Null => push_plain("null", line),
+    }
+}
+
+/// Appends a part of a line of text.
+#[inline(always)]
+fn push_text_part(alloc: Global, part: &Part<'_>, line: &mut Vec<u8>) -> Result<(), AllocError>
+    ensures { OnOk result (line.new.items ≡ line.old.items ++ part_text (shown part.now)) }
+{
+    match part {
+        Part::Word(word) => push_plain(word, line),
+        Part::Field(_, value) | Part::Note(value) => push_text_value(alloc, value, line),
+        Part::Spaced(_, value) => {
+            line.push(b' ')?;
+            push_text_value(alloc, value, line)
+        }
+        Part::Units(string) => push_units(string.units(), line),
+        Part::Member(_, _) | Part::Open(_) | Part::Close => Ok(()),
+    }
+}
+
+/// Appends a part of a line. Returns where the printer is then.
+#[inline(always)]
+pub(crate) fn push_part(
+    alloc: Global,
+    form: Form,
+    at: Before,
+    part: &Part<'_>,
+    line: &mut Vec<u8>,
+) -> Result<Before, AllocError>
+    ensures { IfOk result (λ now. (more : List ThePart) → line.new.items ++ line_from form now more ≡ line.old.items ++ line_from form at (shown part.now ∷ more)) }
+{
+    match form {
+        Form::Text => {
+            push_text_part(alloc, part, line)?;
+            Ok(at)
+        }
+        Form::JsonLines => push_json_part(alloc, at, part, line),
+    }
+}
+
+/// Appends the first parts of a line. Returns where the printer is then.
+pub(crate) fn push_parts(
+    alloc: Global,
+    form: Form,
+    parts: &[Part<'_>],
+    line: &mut Vec<u8>,
+) -> Result<Before, AllocError>
+    ensures { IfOk result (λ now. (more : List ThePart) → line.new.items ++ line_from form now more ≡ line.old.items ++ line_text form (map shown parts.now ++ more)) }
+{
+    let mut at = Before::Line;
+    for part in parts {
+        at = push_part(alloc, form, at, part, line)?;
+    }
+    Ok(at)
+}
+
+/// Appends the end of a line.
+#[tactic(auto, unfolding(crate::specs::Lines::line_from))]
+pub(crate) fn push_end(form: Form, at: Before, line: &mut Vec<u8>) -> Result<(), AllocError>
+    ensures { OnOk result (line.new.items ≡ line.old.items ++ line_from form at []) }
+{
+    match form {
+        Form::Text => Ok(line.push(b'\n')?),
+        Form::JsonLines => push_json_end(at, line),
+    }
+}

@@ -1,0 +1,182 @@
+//! Prints lines.
+ghost use Rattle.std.specs.Prelude.{◌≡◌, ◌∷◌, ◌++◌, [], ℕ, IfErr, IsSome, List, None, OnOk, Option, map};
+ghost use Rattle.cli_faults.specs.Status.{IsOutput};
+ghost use Rattle.cli_lines.specs.Lines.{Part as ThePart, line_from};
+ghost use Rattle.cli_lines.specs.Printed.{Adds, Asked, Begins, Ends, Moves, Prints, SendsOrFails, SendsPrefix, Sent, waits};
+ghost use Rattle.cli_lines.specs.Shown.{shown};
+
+use crate::line::{Before, push_end, push_part, push_parts};
+use crate::parts::{Form, Part};
+use crate::sending::{finish, send_full};
+use cli_faults::Failure;
+use std::alloc::Global;
+use std::io::{self, ErrorKind, Write};
+use std::marker::Model;
+
+/// Prints lines in a form. It sends them to a writer, many at a time. It keeps its first failure, and takes nothing from
+/// then on. Its memory is that of the longest line, and of the lines that wait to be sent.
+pub struct Printer<'o, W: Write> {
+    alloc: Global,
+    form: Form,
+    waiting: Vec<u8>,
+    at: Before,
+    stopped: Option<ErrorKind>,
+    out: &'o mut W,
+}
+
+impl<'o, W: Write> Model for Printer<'o, W> {
+    ghost use Rattle.cli_lines.specs.Printed.{Printed, waits};
+
+    ghost Value = { Printed W };
+
+    ghost view = { λ a. record { form = a.form; borrow = a.out.ghost_name; out = a.out.now; contents = W.contents a.out.now; waiting = waits a.waiting.items a.stopped; at = a.at } };
+}
+
+impl<'o, W: Write> Printer<'o, W> {
+    /// A printer that has printed nothing.
+    pub fn new(alloc: Global, form: Form, out: &'o mut W) -> Printer<'o, W>
+        ensures form { result.form ≡ form }
+        ensures borrow { result.borrow ≡ out.entry.ghost_name }
+        ensures out { result.out ≡ out.old }
+        ensures asked { Asked (W.contents out.old) result [] }
+    {
+        Printer {
+            alloc,
+            form,
+            waiting: Vec::new(alloc),
+            at: Before::Line,
+            stopped: None,
+            out,
+        }
+    }
+
+    /// The form of the lines.
+    pub fn form(&self) -> Form
+        ensures { result ≡ self.now.form }
+    {
+        self.form
+    }
+
+    /// Prints a line.
+    pub fn line(&mut self, parts: &[Part<'_>])
+        ensures { Prints self.old self.new (map shown parts.now ∷ []) }
+    {
+        self.begin(parts);
+        self.end();
+    }
+
+    /// Begins a line with these parts.
+    #[inline]
+    pub fn begin(&mut self, parts: &[Part<'_>])
+        ensures { Begins self.old self.new (map shown parts.now) }
+    {
+        if self.stopped.is_some() {
+            return;
+        }
+        match push_parts(self.alloc, self.form, parts, &mut self.waiting) {
+            Ok(at) => self.at = at,
+            Err(_) => self.stopped = Some(ErrorKind::OutOfMemory),
+        }
+    }
+
+    /// Adds a part to the line that was begun.
+    #[inline(always)]
+    pub fn part(&mut self, part: &Part<'_>)
+        ensures { Adds self.old self.new (shown part.now ∷ []) }
+    {
+        if self.stopped.is_some() {
+            return;
+        }
+        match push_part(self.alloc, self.form, self.at, part, &mut self.waiting) {
+            Ok(at) => self.at = at,
+            Err(_) => self.stopped = Some(ErrorKind::OutOfMemory),
+        }
+    }
+
+    /// Ends the line that was begun.
+    pub fn end(&mut self)
+        ensures { Ends self.old self.new }
+    {
+        if self.stopped.is_some() {
+            return;
+        }
+        if let Err(error) = end_line(self.form, self.at, &mut self.waiting, self.out) {
+            self.stopped = Some(error.kind());
+        }
+    }
+
+    /// Fails, because memory ran out.
+    pub fn fail(&mut self)
+        ensures parts { (parts : List ThePart) → Adds self.old self.new parts }
+        ensures lines { (lines : List (List ThePart)) → Prints self.old self.new lines }
+        ensures stopped { self.new.waiting ≡ None }
+    {
+        if self.stopped.is_some() {
+            return;
+        }
+        self.stopped = Some(ErrorKind::OutOfMemory);
+    }
+
+    /// Sends what waits, and flushes the writer. Returns the writer and the first failure: out of memory, or that the
+    /// output cannot be written.
+    pub fn finish(self) -> (&'o mut W, Result<(), Failure<'static>>)
+        ensures borrow { result.0.ghost_name ≡ self.entry.borrow }
+        ensures sent { (start : Option (List ℕ)) (text : List ℕ) → Asked start self.entry text → Sent start (W.contents result.0.now) result.1 text }
+        // If it was asked to print nothing, nothing went out.
+        ensures nothing { (start : Option (List ℕ)) (text : List ℕ) → Asked start self.entry [] → SendsPrefix start (W.contents result.0.now) text }
+        ensures failed { IfErr result.1 IsOutput }
+        // If it succeeds, printing had not failed.
+        ensures complete { OnOk result.1 (IsSome self.entry.waiting) }
+    {
+        let Printer {
+            alloc: _,
+            form: _,
+            waiting,
+            at: _,
+            stopped,
+            out,
+        } = self;
+        let outcome = finish_unless(stopped, &waiting, out);
+        (out, cli_faults::printed(outcome))
+    }
+
+    /// Sends nothing more, and returns the writer as it is. If nothing was printed, it is as it was before.
+    pub fn cancel(self) -> &'o mut W
+        ensures borrow { result.ghost_name ≡ self.entry.borrow }
+        ensures out { result.now ≡ self.entry.out }
+    {
+        let Printer {
+            alloc: _,
+            form: _,
+            waiting: _,
+            at: _,
+            stopped: _,
+            out,
+        } = self;
+        out
+    }
+}
+
+/// Ends a line, and sends the lines that wait if they are many.
+fn end_line<W: Write>(form: Form, at: Before, waiting: &mut Vec<u8>, out: &mut W) -> io::Result<()>
+    ensures { Moves (W.contents out.old) (W.contents out.new) result (waiting.old.items ++ line_from form at []) waiting.new.items }
+{
+    push_end(form, at, waiting)?;
+    send_full(waiting, out)
+}
+
+/// Sends the lines that wait, and flushes the writer, unless printing failed.
+fn finish_unless<W: Write>(
+    stopped: Option<ErrorKind>,
+    waiting: &[u8],
+    out: &mut W,
+) -> io::Result<()>
+    ensures sent { (start : Option (List ℕ)) (text : List ℕ) → SendsOrFails start (W.contents out.old) text (waits waiting.now stopped)
+        → Sent start (W.contents out.new) result text }
+    ensures complete { OnOk result (IsSome (waits waiting.now stopped)) }
+{
+    match stopped {
+        Some(kind) => Err(io::Error::from(kind)),
+        None => finish(waiting, out),
+    }
+}

@@ -1,0 +1,15 @@
+//! The name that an argument may have meant: the one that the fewest edits lead to.
+//!
+//! [`nearest_table`], [`nearest_code`], [`nearest_column`] and [`nearest_command`] look for the name of a table, a rule, a column
+//! or a subcommand. [`report_missing_type`] reports that a file has no such type, with the name of the nearest one.
+//!
+//! ```text
+//! nearest_table(alloc, "Modul") // TableId::Module
+//! ```
+#![tactic(auto)]
+
+mod nearest;
+mod nearest_type;
+
+pub use nearest::{nearest_code, nearest_column, nearest_command, nearest_table};
+pub use nearest_type::report_missing_type;

@@ -1,0 +1,151 @@
+//! The type whose name is nearest to one that no type has.
+ghost use Rattle.std.specs.Prelude.{◌≤◌, ◌<◌};
+ghost use Rattle.table_schema.specs.CellColumns.{cell_count};
+ghost use Rattle.table_schema.specs.declared.table.TableId.TheVariants.{TypeDef};
+ghost use Rattle.opening.specs.Views.{HasModel, row_count};
+
+use crate::nearest::{LONGEST_NAME, edits_below, limit_of};
+use cli_faults::{Escaped, Stop};
+use cli_files::send_message;
+use cli_input::{Input, open};
+use cli_outline::Subject;
+use cli_print::{NAME, NAMESPACE, text_of};
+use opening::{ReadCells, TableId, View};
+use std::alloc::Global;
+use std::fmt;
+use std::io::Write;
+
+/// The names of a type (II.22.37). `Display` gives its full name, escaped.
+#[derive(Clone, Copy, Debug, PartialEq, Eq)]
+struct TypeName<'a> {
+    /// Its namespace, or the empty text.
+    namespace: &'a str,
+    /// Its own name.
+    name: &'a str,
+}
+
+impl fmt::Display for TypeName<'_> {
+    fn fmt<W: fmt::Write>(&self, f: &mut fmt::Formatter<W>) -> fmt::Result {
+        if !self.namespace.is_empty() {
+            write!(f, "{}.", Escaped(self.namespace))?;
+        }
+        write!(f, "{}", Escaped(self.name))
+    }
+}
+
+/// Why nothing of a type was printed. `Display` gives the lines for standard error.
+#[derive(Clone, Copy, Debug, PartialEq, Eq)]
+struct MissingType<'a> {
+    /// The type whose name is nearest, if one is near.
+    nearest: Option<TypeName<'a>>,
+}
+
+impl fmt::Display for MissingType<'_> {
+    fn fmt<W: fmt::Write>(&self, f: &mut fmt::Formatter<W>) -> fmt::Result {
+        write!(f, "{}\n", Stop::NoSuchType)?;
+        match &self.nearest {
+            Some(nearest) => write!(f, "  hint: the nearest name is '{nearest}'\n"),
+            None => Ok(()),
+        }
+    }
+}
+
+/// Whether a text of a row of TypeDef is as short as a name that can be near. It looks at no more bytes than that.
+fn is_short(view: &View<'_>, row: u32, cell: usize) -> bool
+    requires first { 1 ≤ row }
+    requires last { row ≤ row_count view.now TypeDef }
+    requires cell { cell < cell_count TypeDef }
+{
+    match (
+        view.index_in_heap(TableId::TypeDef, row, cell),
+        view.strings_heap(),
+    ) {
+        (Some(index), Some(heap)) if index > 0 => {
+            let mut near = heap.iter().skip(index as usize).take(LONGEST_NAME + 1);
+            near.any(|byte| *byte == 0)
+        }
+        _ => true,
+    }
+}
+
+/// The names of the type in a row of TypeDef; `None` if they are too long to be near.
+fn names_at<'a>(view: &View<'a>, row: u32) -> Option<TypeName<'a>>
+    requires model { HasModel view.now }
+    requires first { 1 ≤ row }
+    requires last { row ≤ row_count view.now TypeDef }
+{
+    if !is_short(view, row, NAMESPACE) || !is_short(view, row, NAME) {
+        return None;
+    }
+    Some(TypeName {
+        namespace: text_of(view, row, NAMESPACE),
+        name: text_of(view, row, NAME),
+    })
+}
+
+/// The number of edits that lead from the names that are wanted to those of a type, if it is below a limit. If no
+/// namespace is wanted, only the own names count.
+fn edits_to(
+    alloc: Global,
+    wanted: TypeName<'_>,
+    found: TypeName<'_>,
+    limit: usize,
+) -> Option<usize> {
+    let of_name = edits_below(alloc, wanted.name, found.name, limit)?;
+    if wanted.namespace.is_empty() {
+        return Some(of_name);
+    }
+    let remainder = limit.saturating_sub(of_name);
+    let of_namespace = edits_below(alloc, wanted.namespace, found.namespace, remainder)?;
+    Some(of_name.saturating_add(of_namespace))
+}
+
+/// The names of the type that are nearest to those that are wanted; `None` if all are far. Of several the first ones.
+fn nearest_type<'a>(alloc: Global, view: &View<'a>, wanted: TypeName<'_>) -> Option<TypeName<'a>>
+    requires model { HasModel view.now }
+{
+    let mut limit = limit_of(wanted.name, wanted.namespace.len());
+    let mut nearest = None;
+    for earlier in 0..view.count(TableId::TypeDef) {
+        let Some(found) = names_at(view, earlier + 1) else {
+            continue;
+        };
+        if let Some(edits) = edits_to(alloc, wanted, found, limit) {
+            limit = edits;
+            nearest = Some(found);
+        }
+    }
+    nearest
+}
+
+/// The names that are wanted of a subject: of a nested type, written after the type that encloses it and a slash, its own.
+fn wanted_names<'a>(subject: Subject<'a>) -> Option<TypeName<'a>> {
+    let Subject::Named { namespace, name } = subject else {
+        return None;
+    };
+    Some(match name.rsplit_once('/') {
+        Some((_, name)) => TypeName {
+            namespace: "",
+            name,
+        },
+        None => TypeName { namespace, name },
+    })
+}
+
+/// Reports that no type is the subject, with a hint that has the full name of the nearest type; without the hint if all are
+/// far, or if the subject is a row. It looks at each type once. If the report cannot be written, nothing else changes.
+pub fn report_missing_type<E: Write>(
+    alloc: Global,
+    bytes: &[u8],
+    input: Input,
+    subject: Subject<'_>,
+    err: &mut E,
+) {
+    let missing = match (wanted_names(subject), open(bytes, input)) {
+        (Some(wanted), Ok(view)) => MissingType {
+            nearest: nearest_type(alloc, &view, wanted),
+        },
+        _ => MissingType { nearest: None },
+    };
+    let _ = send_message(alloc, &missing, err);
+}

@@ -1,0 +1,114 @@
+-- The lines of rows, one after another.
+use Rattle.std.proofs.Common.{◌≡◌, ◌∙◌, ℕ, suc, ◌+◌, ◌-◌, ◌<◌, ◌≤◌, List, [], ◌∷◌, ◌++◌, Option, None, Some, refl, ap, sym, subst, append_assoc, append-nil, add-one, drop, drop-cons, get_or, length, arith}
+use Rattle.std.specs.Prelude.{IsSome}
+use Rattle.std.specs.List.{flat_map, range_with_len}
+use Rattle.table_schema.specs.declared.token.Token.{Token}
+use Rattle.metadata.specs.Metadata.{Metadata}
+use Rattle.cli_lines.specs.Lines.{Part}
+use Rattle.cli_lines.specs.Printed.{Printed, Prints}
+use Rattle.cli_outline.specs.Outline.{each_from}
+use Rattle.cli_outline.specs.Printed.{AreLines, IsLine, PrintsRows}
+
+lines_append : (model : Metadata) (xs ys : List Token) (a b : List (List Part)) → AreLines model xs a → AreLines model ys b → AreLines model (xs ++ ys) (a ++ b)
+lines_append model [] ys a b are more = subst (λ (lines : List (List Part)). AreLines model ys (lines ++ b)) (sym are) more
+lines_append model (x ∷ xs) ys a b are more = (are.0, are.1, are.2 ++ b, lines_append model xs ys are.2 b are.3 more, ap (λ lines. lines ++ b) are.4)
+
+none_not_some : (waiting : Option (List ℕ)) → waiting ≡ None → IsSome waiting → ⊥
+none_not_some None none some = cc
+none_not_some (Some bytes) none some = cc
+
+is_some_of : (waiting : Option (List ℕ)) (bytes : List ℕ) → waiting ≡ Some bytes → IsSome waiting
+is_some_of (Some other) bytes is = refl
+is_some_of None bytes is = cc
+
+-- the same rows
+pub rows_are : {W : Type 0} {model : Metadata} {a b : Printed W} {xs ys : List Token} → xs ≡ ys → PrintsRows model a b xs → PrintsRows model a b ys
+rows_are {W} {model} {a} {b} same printed = subst (λ (rows : List Token). PrintsRows model a b rows) same printed
+
+-- the items of a list from one on
+pub items_left : {X : Type 0} (xs : List X) (i : ℕ) (d : X) → i < length xs → drop i xs ≡ get_or xs i d ∷ drop (i + 1) xs
+items_left xs i d lt = rw (add-one, drop-cons xs i d)
+
+module _ {W : Type 0} (model : Metadata) where
+  pub rows_nothing : (a : Printed W) → Prints a a [] → PrintsRows model a a []
+  rows_nothing a printed = record {
+    first = [];
+    later = [];
+    whole = refl;
+    lines = [];
+    are = refl;
+    printed = printed;
+    all = λ some. refl;
+  }
+
+  -- the line of a row, or none since printing failed
+  pub row_printed : (a b : Printed W) (row : Token) (line : List Part) → IsLine model row line → Prints a b (line ∷ []) → PrintsRows model a b (row ∷ [])
+  row_printed a b row line is printed = record {
+    first = row ∷ [];
+    later = [];
+    whole = refl;
+    lines = line ∷ [];
+    are = (line, is, [], refl, refl);
+    printed = printed;
+    all = λ some. refl;
+  }
+
+  pub rows_failed : (a b : Printed W) (rows : List Token) → Prints a b [] → b.waiting ≡ None → PrintsRows model a b rows
+  rows_failed a b rows printed failed = record {
+    first = [];
+    later = rows;
+    whole = refl;
+    lines = [];
+    are = refl;
+    printed = printed;
+    all = λ some. absurd (none_not_some b.waiting failed some);
+  }
+
+  module _ (joined : (a b c : Printed W) (xs ys : List (List Part)) → Prints a b xs → Prints b c ys → Prints a c (xs ++ ys)) (a b c : Printed W) (xs ys : List Token)
+      (prefix : PrintsRows model a b xs) (back : PrintsRows model b c ys) where
+    after_failure : b.waiting ≡ None → PrintsRows model a c (xs ++ ys)
+    after_failure failed =
+        let same = back.printed.same.stays failed in
+        record {
+          first = prefix.first;
+          later = prefix.later ++ ys;
+          whole = ap (λ zs. zs ++ ys) prefix.whole ∙ append_assoc prefix.first prefix.later ys;
+          lines = prefix.lines;
+          are = prefix.are;
+          printed = subst (λ (p : Printed W). Prints a p prefix.lines) (sym same) prefix.printed;
+          all = λ some. absurd (none_not_some c.waiting (ap (λ (p : Printed W). p.waiting) same ∙ failed) some);
+        }
+
+    after_all : (bytes : List ℕ) → b.waiting ≡ Some bytes → PrintsRows model a c (xs ++ ys)
+    after_all bytes live =
+        let none_left = prefix.all (is_some_of b.waiting bytes live) in
+        let all_first : xs ≡ prefix.first = prefix.whole ∙ ap (λ zs. prefix.first ++ zs) none_left ∙ append-nil prefix.first in
+        record {
+          first = prefix.first ++ back.first;
+          later = back.later;
+          whole = ap (λ zs. zs ++ ys) all_first ∙ ap (λ zs. prefix.first ++ zs) back.whole ∙ sym (append_assoc prefix.first back.first back.later);
+          lines = prefix.lines ++ back.lines;
+          are = lines_append model prefix.first back.first prefix.lines back.lines prefix.are back.are;
+          printed = joined a b c prefix.lines back.lines prefix.printed back.printed;
+          all = back.all;
+        }
+
+    after_either : (waiting : Option (List ℕ)) → b.waiting ≡ waiting → PrintsRows model a c (xs ++ ys)
+    after_either None is = after_failure is
+    after_either (Some bytes) is = after_all bytes is
+
+    pub rows_more : PrintsRows model a c (xs ++ ys)
+    rows_more = after_either b.waiting refl
+
+-- what there is for the first number, and for the others
+pub each_more : (rows : ℕ → List Token) (number past : ℕ) → number < past → each_from rows number past ≡ rows number ++ each_from rows (number + 1) past
+unfolding each_from
+each_more rows number past lt =
+    let one : past - number ≡ suc (past - (number + 1)) = omega (arith, lt) in
+    ap (λ n. flat_map rows (range_with_len number n)) one
+
+pub each_none : (rows : ℕ → List Token) (number past : ℕ) → past ≤ number → each_from rows number past ≡ []
+unfolding each_from
+each_none rows number past le =
+    let none : past - number ≡ 0 = omega (arith, le) in
+    ap (λ n. flat_map rows (range_with_len number n)) none

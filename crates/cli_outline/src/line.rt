@@ -1,0 +1,145 @@
+//! The line of a declaration.
+ghost use Rattle.std.specs.Prelude.{◌≡◌, ◌≤◌, ◌∷◌, [], string_bytes, OnOk};
+ghost use Rattle.std.specs.List.{before_first, position};
+ghost use Rattle.metadata.specs.Metadata.{Metadata};
+ghost use Rattle.metadata.specs.Model.{IsModel};
+ghost use Rattle.opening.specs.Views.{row_count};
+ghost use Rattle.cli_lines.specs.Printed.{Prints};
+ghost use Rattle.cli_lines.specs.Shown.{shown};
+ghost use Rattle.full_names.specs.RowNames.{IsMemberOf};
+ghost use Rattle.cli_outline.specs.Declarations.{declaration_line, directive_part, ends_word, has_directive, type_part};
+ghost use Rattle.cli_outline.specs.Layouts.{IsDeclared};
+ghost use Rattle.cli_outline.specs.Printed.{PrintsRows};
+ghost use Rattle.cli_outline.specs.Texts.{Gains};
+
+use crate::cell_values::number;
+use crate::declared::Declared;
+use crate::layouts::pieces_of;
+use crate::pieces::push_piece;
+use cli_lines::Part::{Member, Note, Word};
+use cli_lines::Value::{self, Plain, Text};
+use cli_lines::{Name, Part, Printer};
+use navigation::Neighbours;
+use opening::{TableId, Token, View};
+use std::alloc::AllocError;
+use std::io::Write;
+
+/// The cell of the flags of an accessor (II.22.28).
+const SEMANTICS: usize = 0;
+
+/// The flags of accessors that have a word (II.23.1.12).
+const KNOWN_SEMANTICS: u32 = 0x3F;
+
+/// Appends the declaration of a row: the pieces of its line.
+fn push_pieces(
+    source: &Neighbours<'_, '_>,
+    token: Token,
+    declared: &mut Declared,
+) -> Result<(), AllocError>
+    requires first { 1 ≤ token.row }
+    requires last { token.row ≤ row_count source.now.view.now token.table }
+    ensures { (model : Metadata) → IsModel source.now.view.now model
+        → OnOk result (Gains (IsDeclared model token) (string_bytes declared.old.text) (string_bytes declared.new.text)) }
+{
+    for piece in pieces_of(token.table) {
+        push_piece(source, token.table, token.row, *piece, declared)?;
+    }
+    Ok(())
+}
+
+/// The length of the first word of a declaration, which a space or a parenthesis ends.
+fn end_of_word(text: &[u8]) -> Option<usize>
+    ensures { result ≡ position ends_word text.now }
+{
+    text.iter().position(|byte| *byte == b' ' || *byte == b'(')
+}
+
+/// The first word of a declaration.
+fn first_word(text: &str) -> &str
+    ensures { result.now ≡ before_first ends_word text.now }
+{
+    match end_of_word(text.as_bytes()) {
+        Some(len) => text.split_at(len).0,
+        None => text,
+    }
+}
+
+/// Whether a declaration begins with a directive.
+fn has_directive(view: &View<'_>, token: Token) -> bool
+    requires first { 1 ≤ token.row }
+    requires last { token.row ≤ row_count view.now token.table }
+    ensures { (model : Metadata) → IsModel view.now model → result ≡ has_directive model token }
+{
+    match token.table {
+        TableId::MethodSemantics => {
+            number(view, TableId::MethodSemantics, token.row, SEMANTICS) & KNOWN_SEMANTICS != 0
+        }
+        _ => true,
+    }
+}
+
+/// The member of the type, if there is one.
+fn type_part(class: Option<Token>) -> Part<'static>
+    ensures { shown result ≡ type_part class }
+{
+    match class {
+        Some(class) => Member(Name::Type, Value::Token(class)),
+        None => Word(""),
+    }
+}
+
+/// The member of the first word of a declaration, if that is a directive.
+fn directive_part(has_directive: bool, text: &str) -> Part<'_>
+    ensures { shown result ≡ directive_part has_directive text.now }
+{
+    if has_directive {
+        return Member(Name::Directive, Text(first_word(text)));
+    }
+    Word("")
+}
+
+/// Prints the line of a declaration.
+#[tactic(auto, unfolding(crate::specs::Declarations::declaration_line))]
+fn print_declaration<W: Write>(
+    of: Token,
+    class: Option<Token>,
+    has_directive: bool,
+    text: &str,
+    out: &mut Printer<'_, W>,
+)
+    ensures { Prints out.old out.new (declaration_line of class has_directive text.now ∷ []) }
+{
+    let unindented = text.trim_ascii_start();
+    out.line(&[
+        Member(Name::Token, Value::Token(of)),
+        type_part(class),
+        directive_part(has_directive, unindented),
+        Note(Plain(text)),
+        Member(Name::Text, Plain(unindented)),
+        Word("  // "),
+        Note(Value::Token(of)),
+    ]);
+}
+
+/// Prints the line of a row: of a member of a type, if that is given.
+pub(crate) fn print_line<W: Write>(
+    source: &Neighbours<'_, '_>,
+    class: Option<Token>,
+    token: Token,
+    declared: &mut Declared,
+    out: &mut Printer<'_, W>,
+)
+    requires first { 1 ≤ token.row }
+    requires last { token.row ≤ row_count source.now.view.now token.table }
+    requires member { (model : Metadata) → IsModel source.now.view.now model → IsMemberOf model token.table token.row class }
+    ensures { (model : Metadata) → IsModel source.now.view.now model → PrintsRows model out.old out.new (token ∷ []) }
+{
+    declared.clear();
+    match push_pieces(source, token, declared) {
+        Ok(()) => {
+            let has_directive = has_directive(source.view, token);
+            print_declaration(token, class, has_directive, &declared.text, out);
+        }
+        Err(_) => out.fail(),
+    }
+}

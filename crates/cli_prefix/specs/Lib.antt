@@ -1,3 +1,0 @@
-pub mod Shown
-pub mod Before
-pub mod MetRows

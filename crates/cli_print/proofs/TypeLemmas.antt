@@ -1,0 +1,36 @@
+-- The cells and the members of a type (ECMA-335 II.22.37).
+use Rattle.std.proofs.Common.{◌≡◌, ◌≤◌, ◌<◌, ◌⊎◌, ◌∙◌, ◌+◌, ◌-◌, ℕ, Bool, arith, ap, cond, inl, inr, sym}
+use Rattle.std.proofs.lemmas.Bool.{cases_lt, le-leb, lt-leb}
+use Rattle.std.proofs.Math.Logic.{⊎_elim}
+use Rattle.table_schema.specs.CellColumns.{cell_columns, cell_count}
+use Rattle.table_schema.specs.declared.table.TableId.{TableId}
+use Rattle.table_schema.specs.declared.table.TableId.TheVariants.{TypeDef}
+use Rattle.metadata.specs.Lookups.{IsRun}
+use Rattle.metadata.specs.Metadata.{Metadata, cell_in, count_in}
+use Rattle.cli_print.specs.TypeLines.{first_member, member_count, start_of}
+
+pub cell_index_within : (cell_index : ℕ) → (cell_index ≡ 1) ⊎ (cell_index ≡ 2) → cell_index < cell_count TypeDef
+unfolding cell_columns
+cell_index_within cell_index (inl one) = rw one (omega arith)
+cell_index_within cell_index (inr two) = rw two (omega arith)
+
+-- the number of a type's members is that of the rows in its run
+module _ (model : Metadata) (cell_index : ℕ) (member : TableId) (row first past : ℕ) (within : row ≤ count_in model TypeDef)
+    (run : IsRun model TypeDef cell_index member row first past) where
+  first_of_run : first_member model cell_index member row ≡ first
+  unfolding first_member
+  first_of_run =
+      ap (λ t. cond t (start_of (cell_in model TypeDef row cell_index)) (count_in model member + 1)) (le-leb row (count_in model TypeDef) within) ∙ ap start_of run.start
+
+  past_of_run : first_member model cell_index member (row + 1) ≡ past
+  unfolding first_member
+  past_of_run =
+      let choice : Bool → ℕ = λ t. cond t (start_of (cell_in model TypeDef (row + 1) cell_index)) (count_in model member + 1) in
+      ⊎_elim
+      (λ more. ap choice (le-leb (row + 1) (count_in model TypeDef) (omega (arith, more))) ∙ ap start_of (run.next more))
+      (λ all. ap choice (lt-leb (row + 1) (count_in model TypeDef) (omega (arith, within))) ∙ sym (run.last (omega (arith, all, within))))
+      (cases_lt row (count_in model TypeDef))
+
+  pub run_counted : past - first ≡ member_count model cell_index member row
+  unfolding member_count
+  run_counted = sym (λ i. past_of_run i - first_of_run i)

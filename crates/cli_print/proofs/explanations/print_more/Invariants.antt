@@ -1,0 +1,8 @@
+use Rattle.std.proofs.Common.{drop}
+use Rattle.cli_lines.specs.Printed.{Printed}
+use Rattle.cli_print.specs.Explanations.{IsAnother, PrintsEach}
+use Rattle.cli_print.proofs.explanations.print_more.Given as goal
+
+-- the lines of the rules that are left complete the report
+abbrev pub invariant-loop-rule : goal.invariant-loop-rule
+invariant-loop-rule g l = (later : Printed _) → PrintsEach IsAnother (drop l.rule-index l.rules) l.out later → PrintsEach IsAnother l.rules l.initial.out later

@@ -1,0 +1,5 @@
+pub mod DigestLines
+pub mod Explanations
+pub mod RootLines
+pub mod TypeLines
+pub mod Verdicts

@@ -1,0 +1,44 @@
+-- What a search keeps.
+use Rattle.std.proofs.Common.{◌≡◌, ◌∙◌, ℕ, true, false, List, [], ◌∷◌, ◌++◌, refl, ap, subst, sym, cond, append_assoc, append-nil}
+use Rattle.std.proofs.lemmas.List.Elements.{filter-append}
+use Rattle.cli_regions.specs.Kept.{Adds, Joins, Searched}
+use Rattle.cli_regions.specs.Regions.{Region, has_byte, regions_at}
+
+pub joins_none : (search : Searched) → Joins search search []
+joins_none search = record { offset = refl; found = λ found is. (found, is, sym (append-nil found)) }
+
+pub joins_more : {old between new : Searched} {xs ys : List Region} → Joins old between xs → Joins between new ys → Joins old new (xs ++ ys)
+joins_more {old} {between} {new} {xs} {ys} first later = record {
+  offset = later.offset ∙ first.offset;
+  found = λ found is.
+      let at = later.found found is in
+      let from = first.found at.0 at.1 in
+      (from.0, from.1, at.2 ∙ ap (λ zs. zs ++ ys) from.2 ∙ append_assoc from.0 xs ys);
+}
+
+pub adds_none : (search : Searched) → Adds search search []
+unfolding regions_at
+adds_none search = record { joins = joins_none search }
+
+-- some structures, and then others
+pub and_then : {old between new : Searched} {xs ys : List Region} → Adds old between xs → Adds between new ys → Adds old new (xs ++ ys)
+unfolding regions_at
+and_then {old} {between} {new} {xs} {ys} first later =
+    let has = λ (offset : ℕ) (of : Region). has_byte of.start of.size offset in
+    record {
+      joins = subst (λ (zs : List Region). Joins old new zs)
+          (ap (λ (offset : ℕ). regions_at old.offset xs ++ regions_at offset ys) first.joins.offset ∙ sym (filter-append (has old.offset) xs ys))
+          (joins_more first.joins later.joins);
+    }
+
+-- the same structures by another name
+pub said_as : {old new : Searched} {xs ys : List Region} → Adds old new xs → xs ≡ ys → Adds old new ys
+said_as {old} {new} {xs} {ys} adds is = subst (λ (zs : List Region). Adds old new zs) is adds
+
+pub one_kept : {old new : Searched} {of : Region} → has_byte of.start of.size old.offset ≡ true → Joins old new (of ∷ []) → Adds old new (of ∷ [])
+unfolding regions_at
+one_kept {old} {new} {of} is joins = record { joins = subst (λ b. Joins old new (cond b (of ∷ []) [])) (sym is) joins }
+
+pub none_kept : (search : Searched) (of : Region) → has_byte of.start of.size search.offset ≡ false → Adds search search (of ∷ [])
+unfolding regions_at
+none_kept search of is = record { joins = subst (λ b. Joins search search (cond b (of ∷ []) [])) (sym is) (joins_none search) }

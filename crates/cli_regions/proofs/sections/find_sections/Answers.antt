@@ -1,0 +1,27 @@
+use Rattle.std.proofs.Common.{◌≡◌, ◌<◌, ◌≤◌, ◌-◌, ap, arith}
+use Rattle.std.specs.List.{flat_map, range_with_len}
+use Rattle.pe.specs.Headers.{section_count}
+use Rattle.cli_regions.specs.Kept.{part_regions}
+use Rattle.cli_regions.proofs.LoopLemmas.{more_left, none_left, range_end, range_next}
+use Rattle.cli_regions.proofs.SearchLemmas.{said_as}
+use Rattle.cli_regions.proofs.sections.find_sections.Goals as goal
+
+pub loop-index-init : goal.loop-index-init
+loop-index-init c = λ later adds.
+    let n = section_count c.args.file.now in
+    let whole : n - 0 ≡ n = omega arith in
+    said_as adds (ap (λ k. flat_map (part_regions c.args.part c.args.file.now) (range_with_len 0 k)) whole)
+
+pub loop-index-preserved : goal.loop-index-preserved
+loop-index-preserved c =
+    let i = c.loop-index.index in
+    let n = section_count c.args.file.now in
+    let lt : i < n = omega (arith, c.loop-index-test.true, c.section_count-index-end.ensures) in
+    more_left _ _ c.loop-index.invariant (ap (flat_map (part_regions c.args.part c.args.file.now)) (range_next i n lt)) c.find_part.ensures
+
+pub returns : goal.returns
+returns c =
+    let i = c.loop-index.index in
+    let n = section_count c.args.file.now in
+    let le : n ≤ i = omega (arith, c.loop-index-test.false, c.section_count-index-end.ensures) in
+    none_left _ c.loop-index.invariant (ap (flat_map (part_regions c.args.part c.args.file.now)) (range_end i n le))

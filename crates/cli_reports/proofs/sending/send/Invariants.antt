@@ -1,5 +1,0 @@
-use Rattle.cli_reports.specs.Sent.{Sends}
-use Rattle.cli_reports.proofs.sending.send.Given as goal
-
-abbrev pub invariant-loop-turn : goal.invariant-loop-turn
-invariant-loop-turn g l = Sends (g.W.Write.contents l.initial.out) (g.W.Write.contents l.out) l.bytes l.tail

@@ -1,0 +1,46 @@
+-- What each report handed to a printer.
+use Rattle.std.proofs.Common.{◌≡◌, ℕ, List, Option, Result, Ok, Err, inl, inr}
+use Rattle.std.specs.Prelude.{IfErr, OnErr, OnOk}
+use Rattle.cli_header.specs.declared.header.CliHeader.{CliHeader}
+use Rattle.packed.specs.declared.fault.Fault.{Fault}
+use Rattle.packed.specs.Rule.{FirstBroken}
+use Rattle.root.specs.Streams.{RootRead}
+use Rattle.metadata.specs.Metadata.{Metadata}
+use Rattle.table_schema.specs.declared.token.Token.{Token}
+use Rattle.cli_faults.specs.declared.failure.Failure.{Failure}
+use Rattle.cli_faults.specs.declared.stop.Stop.TheVariants.{Failed}
+use Rattle.cli_input.specs.Checked.{rules_of}
+use Rattle.cli_input.specs.Heads.{AreHeads, HasHeads, rules_of_heads}
+use Rattle.cli_lines.specs.Printed.{Printed, Prints}
+use Rattle.cli_outline.specs.Printed.{PrintsRows}
+use Rattle.cli_where.specs.Located.{AreListed}
+use Rattle.cli_print.specs.RootLines.{heads_lines}
+use Rattle.cli_runs.specs.Printing.{Hands, HasPrinted}
+use Rattle.cli_runs.specs.Reports.{AreDeclared, IsListed, OfModel, ended_by}
+use Rattle.cli_runs.specs.declared.report.Ended.TheVariants.{Refused}
+use Rattle.cli_runs.specs.declared.report.Listing.{Listing}
+use Rattle.cli_runs.specs.declared.report.Report.TheVariants as report
+use Rattle.cli_runs.specs.declared.report.Request.{Request}
+
+module _ {W : Type 0} (request : Request) (name bytes : List ℕ) (old new : Printed W) where
+  pub root_ended : (done : Result (Unit {0}) Fault) → OnOk done (HasHeads request.input bytes) → IfErr done (FirstBroken (rules_of_heads request.input bytes))
+      → OnErr done (new ≡ old)
+      → OnOk done ((header : Option CliHeader) (root : RootRead) → AreHeads request.input bytes header root → Prints old new (heads_lines header root))
+      → HasPrinted request name bytes old new report.Root (ended_by done)
+  root_ended (Ok done) has first same printed = (has, (λ header root are. (printed header root are, (λ live. tt))))
+  root_ended (Err found) has first same printed = (first, same)
+
+  pub listing_ended : (of : Listing) (done : Result (Unit {0}) Fault) → IfErr done (FirstBroken (rules_of request.input bytes)) → OnErr done (new ≡ old)
+      → OnOk done (OfModel request.input bytes (IsListed (Hands old new) of)) → HasPrinted request name bytes old new (report.Listing of) (ended_by done)
+  listing_ended of (Ok done) first same printed = printed
+  listing_ended of (Err found) first same printed = (first, same)
+
+-- the rows of an outline were handed to a printer
+pub declared : {W : Type 0} (old new : Printed W) (model : Metadata) (rows : List Token) → PrintsRows model old new rows → AreDeclared (Hands old new) model rows
+declared old new model rows out = (out.first, out.later, out.whole, out.lines, out.are, (out.printed, out.all))
+
+module _ {W : Type 0} (request : Request) (name bytes : List ℕ) (old new : Printed W) where
+  pub strings_refused : (failure : Failure) → AreListed request.input bytes old new (Err failure)
+      → HasPrinted request name bytes old new report.Strings (Refused (Failed failure))
+  strings_refused failure (inl out) = rw out.0 (tt, out.1)
+  strings_refused failure (inr out) = rw out.1 (out.2, out.3)

@@ -1,0 +1,156 @@
+-- What a printer was asked to print of a report, and what went out of it.
+use Rattle.std.proofs.Common.{◌≡◌, ◌≢◌, ℕ, List, [], Option, None, Some, Result, Ok, Err, append-nil, refl, sym, subst, inl, inr}
+use Rattle.std.specs.Prelude.{IsSome, OnOk}
+use Rattle.std.specs.Io.KnownBytes.{Appends}
+use Rattle.packed.specs.declared.fault.Fault.{Fault}
+use Rattle.table_schema.specs.declared.token.Token.{Token}
+use Rattle.metadata.specs.Metadata.{Metadata}
+use Rattle.cli_faults.specs.declared.failure.Failure.{Failure}
+use Rattle.cli_faults.specs.declared.stop.Stop.{Stop}
+use Rattle.cli_input.specs.declared.opened.Input.{Input}
+use Rattle.cli_lines.specs.declared.parts.Form.{Form}
+use Rattle.cli_lines.specs.Lines.{Part, report_text}
+use Rattle.cli_lines.specs.Printed.{Asked, Printed, Sent}
+use Rattle.cli_runs.specs.Printing.{AreNone, Hands, HasPrinted}
+use Rattle.cli_runs.specs.Reports.{AreDeclared, AreNamed, HasEnded, IsFaultOut, IsListed, IsPrinted, IsStopped, OfModel, verdict_lines}
+use Rattle.cli_runs.specs.Runs.{AreCut, AreSent, IsReported}
+use Rattle.cli_runs.specs.declared.report.Ended.{Ended}
+use Rattle.cli_runs.specs.declared.report.Ended.TheVariants as ended
+use Rattle.cli_runs.specs.declared.report.Listing.{Listing}
+use Rattle.cli_runs.specs.declared.report.Listing.TheVariants as listing
+use Rattle.cli_runs.specs.declared.report.Report.{Report}
+use Rattle.cli_runs.specs.declared.report.Report.TheVariants as report
+use Rattle.cli_runs.specs.declared.report.Request.{Request}
+use Rattle.cli_runs.specs.declared.report.Verdict.{Verdict}
+use Rattle.cli_runs.specs.declared.report.Verdict.TheVariants as verdict
+
+-- ---- what went out of a report, if each of its lines does
+
+module _ (P Q : Type 0 → List (List Part) → Type 0) (weaker : (all : Type 0) (lines : List (List Part)) → P all lines → Q all lines) where
+  declared_weaker : (model : Metadata) (rows : List Token) → AreDeclared P model rows → AreDeclared Q model rows
+  declared_weaker model rows out = (out.0, out.1, out.2, out.3, out.4, weaker (out.1 ≡ []) out.3 out.5)
+
+  listed_weaker : (of : Listing) (model : Metadata) → IsListed P of model → IsListed Q of model
+  listed_weaker (listing.Show table names) model out = weaker _ _ out
+  listed_weaker listing.Types model out = weaker _ _ out
+  listed_weaker listing.Outline model out = declared_weaker model _ out
+
+  fault_weaker : (of : Verdict) (input : Input) (bytes : List ℕ) (file : Option (List ℕ)) (found : Fault) → IsFaultOut P of input bytes file found → IsFaultOut Q of input bytes file found
+  fault_weaker verdict.Quiet input bytes file found out = weaker _ _ out
+  fault_weaker verdict.Line input bytes file found out = weaker _ _ out
+  fault_weaker verdict.Explained input bytes file found out = (out.0, out.1, (out.2.0, out.2.1, weaker _ _ out.2.2))
+
+  module _ (request : Request) (name bytes : List ℕ) where
+    named_weaker : (numbers : List ℕ) → OfModel request.input bytes (AreNamed P numbers) → OfModel request.input bytes (AreNamed Q numbers)
+    named_weaker numbers out = (out.0, (λ model is. let at = out.1 model is in (at.0, at.1, weaker _ _ at.2)))
+
+    printed_weaker : (of : Report) → IsPrinted P request name bytes of → IsPrinted Q request name bytes of
+    printed_weaker report.Root out = (out.0, (λ header root are. weaker _ _ (out.1 header root are)))
+    printed_weaker report.Strings out = (out.0, (λ model is. let at = out.1 model is in (at.0, at.1, weaker _ _ at.2)))
+    printed_weaker (report.Listing of) out = (out.0, (λ model is. listed_weaker of model (out.1 model is)))
+    printed_weaker (report.Check of) out = (out.0, weaker _ _ out.1)
+    printed_weaker (report.ShowUntilFault table names) out = (out.0, (λ model is. weaker _ _ (out.1 model is)))
+    printed_weaker (report.OutlineOf subject) out =
+        (out.0, (λ model is. let at = out.1 model is in (at.0, at.1, declared_weaker model _ at.2)))
+    printed_weaker (report.Tokens numbers) out = (out.0, out.1, out.2, named_weaker numbers.items out.3)
+    printed_weaker (report.Where offset) out = (out.0, (out.1.0, out.1.1, out.1.2, weaker _ _ out.1.3))
+    printed_weaker report.Digest out = (out.0, out.1, weaker _ _ out.2)
+
+    stopped_weaker : (of : Report) (why : Stop) → IsStopped P request name bytes of why → IsStopped Q request name bytes of why
+    stopped_weaker report.Root why out = absurd out
+    stopped_weaker report.Strings why out = absurd out
+    stopped_weaker (report.Listing of) why out = absurd out
+    stopped_weaker (report.Check of) why out = (out.0, out.1, (out.2.0, out.2.1, fault_weaker of request.input bytes _ out.2.0 out.2.2))
+    stopped_weaker (report.ShowUntilFault table names) why out = (out.0, out.1, out.2, (out.3.0, out.3.1, weaker _ _ out.3.2))
+    stopped_weaker (report.OutlineOf subject) why out = absurd out
+    stopped_weaker (report.Tokens numbers) why out =
+        (out.0, out.1, out.2, out.3, out.4, out.5, out.6, out.7, out.8, named_weaker out.3 out.9)
+    stopped_weaker (report.Where offset) why (inl out) = inl (out.0, out.1, (out.2.0, out.2.1, out.2.2, weaker _ _ out.2.3))
+    stopped_weaker (report.Where offset) why (inr out) = inr (out.0, out.1, out.2, (out.3.0, out.3.1, weaker _ _ out.3.2))
+    stopped_weaker report.Digest why out = absurd out
+
+    -- what a report says of its lines holds of what follows from it
+    pub ended_weaker : (of : Report) (ends : Ended) → HasEnded P request name bytes of ends → HasEnded Q request name bytes of ends
+    ended_weaker of ended.Printed out = printed_weaker of out
+    ended_weaker of (ended.Stopped why) out = stopped_weaker of why out
+    ended_weaker of (ended.Refused why) out = out
+
+-- ---- the lines went out
+
+module _ (request : Request) {W : Type 0} (contents : W → Option (List ℕ)) (before after : W) (name bytes : List ℕ) where
+  module _ (old new : Printed W) (form : old.form ≡ request.form) (asked : Asked (contents before) old []) where
+    -- the text of lines that the printer was asked to print
+    asked_lines : (all : Type 0) (lines : List (List Part)) → Hands old new all lines → Asked (contents before) new (report_text request.form lines)
+    asked_lines all lines hands =
+        subst (λ (of : Form). Asked (contents before) new (report_text of lines)) form (hands.0.asked (contents before) [] asked)
+
+    -- all that was asked for went out
+    pub sent_ended : (done : Result (Unit {0}) Failure) → ((start : Option (List ℕ)) (text : List ℕ) → Asked start new text → Sent start (contents after) done text)
+        → OnOk done (IsSome new.waiting) → done ≡ Ok tt → (of : Report) (ends : Ended) → HasEnded (Hands old new) request name bytes of ends
+        → HasEnded (AreSent request contents before after) request name bytes of ends
+    sent_ended (Ok done) sends live is of ends out =
+        ended_weaker (Hands old new) (AreSent request contents before after)
+        (λ all lines hands. (hands.1 live, sends (contents before) (report_text request.form lines) (asked_lines all lines hands))) request name bytes of ends out
+    sent_ended (Err failure) sends live is of ends out = cc
+
+    -- a prefix of it went out
+    pub sent_cut : (done : Result (Unit {0}) Failure) (failure : Failure) → ((start : Option (List ℕ)) (text : List ℕ) → Asked start new text → Sent start (contents after) done text)
+        → done ≡ Err failure → (of : Report) (ends : Ended) → HasEnded (Hands old new) request name bytes of ends
+        → HasEnded (AreCut request contents before after) request name bytes of ends
+    sent_cut (Ok done) failure sends is of ends out = cc
+    sent_cut (Err other) failure sends is of ends out =
+        ended_weaker (Hands old new) (AreCut request contents before after)
+        (λ all lines hands. sends (contents before) (report_text request.form lines) (asked_lines all lines hands)) request name bytes of ends out
+
+    -- what was not refused was handed to the printer
+    pub handed : (of : Report) (ends : Ended) → ((why : Stop) → ends ≢ ended.Refused why) → HasPrinted request name bytes old new of ends → HasEnded (Hands old new) request name bytes of ends
+    handed of ended.Printed other out = out
+    handed of (ended.Stopped why) other out = out
+    handed of (ended.Refused why) other out = absurd (other why refl)
+
+module _ (request : Request) {W : Type 0} (contents : W → Option (List ℕ)) (before : W) (name bytes : List ℕ) where
+  appends_none : (known : Option (List ℕ)) → Appends known known (report_text request.form [])
+  unfolding report_text
+  appends_none None = tt
+  appends_none (Some known) = sym (append-nil known)
+
+  -- of no line all went out before
+  none_sent : (all : Type 0) (lines : List (List Part)) → AreNone all lines → AreSent request contents before before all lines
+  none_sent all lines none = (
+    none.0,
+    subst (λ (of : List (List Part)). Appends (contents before) (contents before) (report_text request.form of)) (sym none.1) (appends_none (contents before)),
+  )
+
+  quiet_ended : (of : Report) (ends : Ended) → HasEnded AreNone request name bytes of ends → HasEnded (AreSent request contents before before) request name bytes of ends
+  quiet_ended of ends out = ended_weaker AreNone (AreSent request contents before before) none_sent request name bytes of ends out
+
+  as_reported : (ends : Ended) → HasEnded (AreSent request contents before before) request name bytes request.report ends → IsReported request contents before before name bytes (Ok ends)
+  as_reported ended.Printed out = out
+  as_reported (ended.Stopped why) out = out
+  as_reported (ended.Refused why) out = (out, refl)
+
+  -- a report that prints no line does not need the output
+  pub quiet_reported : (of : Report) (ends : Ended) → request.report ≡ of → HasEnded AreNone request name bytes of ends → IsReported request contents before before name bytes (Ok ends)
+  quiet_reported of ends is out =
+      as_reported ends (quiet_ended request.report ends (subst (λ (it : Report). HasEnded AreNone request name bytes it ends) (sym is) out))
+
+-- the lines of a fault that is not explained
+pub fault_out : (Out : Type 0 → List (List Part) → Type 0) (of : Verdict) (input : Input) (bytes : List ℕ) (file : Option (List ℕ)) (found : Fault) → of ≢ verdict.Explained
+    → Out (Unit {0}) (verdict_lines of file (Some found)) → IsFaultOut Out of input bytes file found
+fault_out Out verdict.Quiet input bytes file found other out = out
+fault_out Out verdict.Line input bytes file found other out = out
+fault_out Out verdict.Explained input bytes file found other out = absurd (other refl)
+
+module _ (request : Request) {W : Type 0} (contents : W → Option (List ℕ)) (before after : W) (name bytes : List ℕ) where
+  -- nothing of a report that was refused went out
+  pub refused_reported : (old new : Printed W) (ends : Ended) (why : Stop) → ends ≡ ended.Refused why → HasPrinted request name bytes old new request.report ends
+      → (new ≡ old → after ≡ before) → IsReported request contents before after name bytes (Ok ends)
+  refused_reported old new ended.Printed why is out same = cc
+  refused_reported old new (ended.Stopped stop) why is out same = cc
+  refused_reported old new (ended.Refused stop) why is out same = (out.0, same out.1)
+
+  pub sent_reported : (ends : Ended) → ((why : Stop) → ends ≢ ended.Refused why) → HasEnded (AreSent request contents before after) request name bytes request.report ends
+      → IsReported request contents before after name bytes (Ok ends)
+  sent_reported ended.Printed other out = out
+  sent_reported (ended.Stopped why) other out = out
+  sent_reported (ended.Refused why) other out = absurd (other why refl)

@@ -1,0 +1,13 @@
+use Rattle.std.proofs.Common.{[], ◌∷◌, map}
+use Rattle.cli_where.specs.Lines.{structure_line}
+use Rattle.cli_regions.specs.Kept.{seen}
+use Rattle.cli_runs.proofs.print_check.print_fault.Goals as goal
+
+pub returns : goal.returns
+returns g c =
+    let more = c.lines_follow.ensures.more in
+    let said = c.explain.ensures in (
+      said.0,
+      said.1,
+      more _ _ _ (_ ∷ []) _ c.print_verdict.ensures (more _ _ _ (map structure_line (map seen c.args.structures.now)) _ c.print_structures.ensures (more _ _ _ ([] ∷ []) _ c.line.ensures said.2)),
+    )

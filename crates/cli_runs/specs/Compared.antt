@@ -1,0 +1,91 @@
+-- What `clim compare` does with the bytes of two files.
+use Rattle.std.specs.Prelude.{◌≡◌, ◌<◌, ℕ, false, List, ◌⊎◌, IfErr, MatchOption, OnOk, Option}
+use Rattle.std.specs.Io.KnownBytes.{Appends}
+use Rattle.packed.specs.declared.fault.Fault.{Fault}
+use Rattle.packed.specs.Rule.{FirstBroken}
+use Rattle.table_schema.specs.declared.table.TableId.{TableId}
+use Rattle.table_schema.specs.CellColumns.{cell_count}
+use Rattle.metadata.specs.Metadata.{Metadata}
+use Rattle.comparison.specs.Differences.{first_differences_but}
+use Rattle.comparison.specs.EqualBut.{AreEqualBut}
+use Rattle.comparison.specs.Ignored.{is_ignored}
+use Rattle.comparison.specs.declared.ignored.IgnoredColumns.{IgnoredColumns}
+use Rattle.cli_faults.specs.declared.failure.Failure.{Failure}
+use Rattle.cli_faults.specs.declared.failure.Failure.TheVariants as failed
+use Rattle.cli_faults.specs.Status.{IsOutput}
+use Rattle.cli_faults.specs.declared.stop.Stop.TheVariants.{Different, Failed}
+use Rattle.cli_compare.specs.ComparedLines.{compared_lines}
+use Rattle.cli_files.specs.Hints.{hint_for}
+use Rattle.cli_files.specs.Stopped.{Outcome}
+use Rattle.cli_files.specs.declared.stopped.Stopped.{Stopped}
+use Rattle.cli_input.specs.Checked.{IsModelOf, IsWhole, rules_of}
+use Rattle.cli_input.specs.declared.opened.Input.{Input}
+use Rattle.cli_lines.specs.declared.parts.Form.{Form}
+use Rattle.cli_lines.specs.Lines.{report_text}
+use Rattle.cli_lines.specs.Printed.{SendsPrefix}
+
+-- no column is ignored
+abbrev pub IgnoresNone : IgnoredColumns → Type 0
+IgnoresNone ignored = (table : TableId) (cell_index : ℕ) → cell_index < cell_count table → is_ignored ignored table cell_index ≡ false
+
+-- two models are equal but for the cells of ignored columns; they are the same if no column is ignored
+abbrev pub AreSameBut : IgnoredColumns → Metadata → Metadata → Type 0
+AreSameBut ignored model other = AreEqualBut ignored model other × (IgnoresNone ignored → model ≡ other)
+
+-- what `clim compare` prints in this form: that nothing differs; or the first of the version, the user strings and the row
+-- counts that differs, and the first 20 cells that differ and whose columns are not ignored
+unfoldable pub compare_text : Form → IgnoredColumns → Metadata → Metadata → List ℕ
+compare_text form ignored left right = report_text form (compared_lines left right (first_differences_but ignored left right 20))
+
+-- the first broken rule of the bytes is reported, with the path of their file and a hint if there is one
+pub record IsRefusal (path : List ℕ) (input : Input) (bytes : List ℕ) (stopped : Stopped) : Type 0 where
+  pub fault : Fault
+  pub stop : stopped.stop ≡ Failed (failed.Fault fault)
+  pub first : FirstBroken (rules_of input bytes) fault
+  pub about : MatchOption stopped.file ⊥ (λ file. file.now ≡ path)
+  pub hint : stopped.hint ≡ hint_for input bytes stopped.stop
+
+module _ {W : Type 0} (contents : W → Option (List ℕ)) (before after : W) (form : Form) (ignored : IgnoredColumns) where
+  -- two models, given by what is true of each, are compared
+  module _ (IsLeft IsRight : Metadata → Type 0) where
+    -- a property of both models
+    abbrev pub OfModels : (Metadata → Metadata → Type 0) → Type 0
+    OfModels P = (model other : Metadata) → IsLeft model → IsRight other → P model other
+
+    -- the models are equal but for the cells of ignored columns, and that was printed
+    abbrev pub IsSame : Type 0
+    IsSame = OfModels (λ model other. AreSameBut ignored model other × Appends (contents before) (contents after) (compare_text form ignored model other))
+
+    -- something else differs too, and that was printed
+    abbrev pub IsDifferent : Stopped → Type 0
+    IsDifferent stopped =
+        (stopped.stop ≡ Different)
+        × OfModels (λ model other. (¬ AreEqualBut ignored model other) × Appends (contents before) (contents after) (compare_text form ignored model other))
+
+    -- the output could not be written or memory ran out, after a prefix of the text
+    abbrev pub IsCut : Stopped → Type 0
+    IsCut stopped =
+        (failure : Failure) × (stopped.stop ≡ Failed failure) × IsOutput failure
+        × OfModels (λ model other. SendsPrefix (contents before) (contents after) (compare_text form ignored model other))
+
+    -- the comparison of the models was printed, or a prefix of it
+    pub record IsShown (outcome : Outcome) : Type 0 where
+      pub same : OnOk outcome IsSame
+      pub stopped : IfErr outcome (λ stopped. IsDifferent stopped ⊎ IsCut stopped)
+
+  module _ (input : Input) (left right : List ℕ) where
+    -- both have models
+    abbrev pub AreWhole : Type 0
+    AreWhole = IsWhole input left × IsWhole input right
+
+    -- one of the files breaks a rule, and nothing was printed
+    abbrev pub IsRefusedFile : List ℕ → List ℕ → Stopped → Type 0
+    IsRefusedFile file other stopped = (IsRefusal file input left stopped ⊎ (IsWhole input left × IsRefusal other input right stopped)) × (after ≡ before)
+
+    -- The two files are compared. If it succeeds, their models are the same but for ignored columns, and that was printed.
+    -- If it stopped, something else differs, or one of the files breaks a rule, or the output failed.
+    pub record IsComparing (file other : List ℕ) (outcome : Outcome) : Type 0 where
+      pub met : OnOk outcome AreWhole
+      pub same : OnOk outcome (IsSame (IsModelOf input left) (IsModelOf input right))
+      pub stopped : IfErr outcome (λ stopped. IsRefusedFile file other stopped
+          ⊎ (AreWhole × (IsDifferent (IsModelOf input left) (IsModelOf input right) stopped ⊎ IsCut (IsModelOf input left) (IsModelOf input right) stopped)))

@@ -1,0 +1,5 @@
+pub mod Compared
+pub mod Printing
+pub mod Reports
+pub mod Rewritten
+pub mod Runs

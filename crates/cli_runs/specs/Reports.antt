@@ -1,0 +1,189 @@
+-- What each report prints of the bytes of a file, and when it prints nothing.
+use Rattle.std.specs.Prelude.{◌≡◌, ◌≢◌, ◌<◌, ◌⊎◌, ℕ, Bool, true, false, List, [], ◌∷◌, ◌++◌, flat_map, map, Option, None, Some, Result, Ok, Err}
+use Rattle.std.specs.List.{All}
+use Rattle.hex.specs.Hex.{encode_lower}
+use Rattle.sha2.specs.Sha256.{sha256}
+use Rattle.packed.specs.Codes.{number_of_code}
+use Rattle.packed.specs.declared.code.FaultCode.{FaultCode}
+use Rattle.packed.specs.declared.fault.Fault.{Fault as Found}
+use Rattle.packed.specs.Rule.{FirstBroken}
+use Rattle.table_schema.specs.declared.table.TableId.{TableId}
+use Rattle.table_schema.specs.declared.token.Token.{Token}
+use Rattle.table_schema.specs.Tables.{tables}
+use Rattle.cli_header.specs.declared.header.CliHeader.{CliHeader}
+use Rattle.root.specs.Streams.{RootRead}
+use Rattle.metadata.specs.Metadata.{Metadata}
+use Rattle.opening.specs.Within.{HoldBeforeSignatures}
+use Rattle.cli_faults.specs.declared.failure.Failure.TheVariants.{Fault, NoSuchRow, OutOfMemory}
+use Rattle.cli_faults.specs.declared.stop.Stop.{Stop}
+use Rattle.cli_faults.specs.declared.stop.Stop.TheVariants.{Broken, BudgetSpent, Failed, NoSuchType, NothingAt}
+use Rattle.cli_lines.specs.declared.parts.Form.{Form}
+use Rattle.cli_lines.specs.declared.parts.Form.TheVariants.{Text}
+use Rattle.cli_lines.specs.Lines.{Part}
+use Rattle.cli_input.specs.Checked.{IsModelOf, IsOpened, IsWhole, rules_of, signature_bytes_of}
+use Rattle.cli_input.specs.declared.opened.Input.{Input}
+use Rattle.cli_input.specs.Heads.{AreHeads, HasHeads, rules_of_heads}
+use Rattle.cli_cells.specs.Before.{AreLinesBefore}
+use Rattle.cli_cells.specs.RowLines.{show_lines}
+use Rattle.cli_cells.specs.TokenLines.{AreTokenLines, IsNamed}
+use Rattle.cli_outline.specs.Outline.{class_rows, outline_rows}
+use Rattle.cli_outline.specs.Printed.{AreLines}
+use Rattle.cli_outline.specs.Subjects.{IsSubject}
+use Rattle.cli_print.specs.DigestLines.{digest_line}
+use Rattle.cli_print.specs.Explanations.{IsExplanation}
+use Rattle.cli_print.specs.RootLines.{heads_lines}
+use Rattle.cli_print.specs.TypeLines.{types_lines}
+use Rattle.cli_print.specs.Verdicts.{verdict_line}
+use Rattle.cli_regions.specs.Regions.{Region}
+use Rattle.cli_where.specs.Lines.{entry_lines, structure_line}
+use Rattle.cli_where.specs.Located.{found_of, where_lines}
+use Rattle.cli_where.specs.UserStrings.{AreEntries, Entry}
+use Rattle.cli_where.specs.Where.{AreStructuresAt}
+use Rattle.cli_where.specs.declared.report.Found.{Found as FoundAt}
+use Rattle.cli_where.specs.declared.report.Found.TheVariants.{Nothing, Something}
+use Rattle.cli_where.specs.declared.walk.Reach.TheVariants.{Cells, Entries}
+use Rattle.cli_runs.specs.Rewritten.{IsRewritten, ReportsUnwritten}
+use Rattle.cli_runs.specs.declared.report.Ended.{Ended}
+use Rattle.cli_runs.specs.declared.report.Ended.TheVariants.{Printed, Refused, Stopped}
+use Rattle.cli_runs.specs.declared.report.Listing.{Listing}
+use Rattle.cli_runs.specs.declared.report.Listing.TheVariants as listing
+use Rattle.cli_runs.specs.declared.report.Naming.{Naming}
+use Rattle.cli_runs.specs.declared.report.Naming.TheVariants.{Alone, Named}
+use Rattle.cli_runs.specs.declared.report.Report.{Report}
+use Rattle.cli_runs.specs.declared.report.Report.TheVariants as report
+use Rattle.cli_runs.specs.declared.report.Request.{Request}
+use Rattle.cli_runs.specs.declared.report.Verdict.{Verdict}
+use Rattle.cli_runs.specs.declared.report.Verdict.TheVariants.{Explained, Line, Quiet}
+
+-- a report ended when its lines were printed, or with the fault for which it was refused; for private clauses
+abbrev pub ended_by : Result (Unit {0}) Found → Ended
+ended_by (Ok done) = Printed
+ended_by (Err found) = Refused (Failed (Fault found))
+
+-- the tables of `show`: one, or all
+abbrev pub tables_of : Option TableId → List TableId
+tables_of None = tables
+tables_of (Some table) = table ∷ []
+
+-- the name of a file, if it is printed
+abbrev pub label : Naming → List ℕ → Option (List ℕ)
+label Alone name = None
+label Named name = Some name
+
+-- a fault is reported to standard error, and not printed: that of a file alone, in text, of which one line is asked
+abbrev pub is_reported : Verdict → Form → Naming → Bool
+is_reported Line Text Alone = true
+is_reported verdict form naming = false
+
+-- the line of a verdict, unless the check is quiet
+abbrev pub verdict_lines : Verdict → Option (List ℕ) → Option Found → List (List Part)
+verdict_lines Quiet file fault = []
+verdict_lines verdict file fault = verdict_line file fault ∷ []
+
+-- what the rule with this number says; nothing if there is none
+abbrev pub AreSaid : ℕ → List (List Part) → Type 0
+AreSaid number lines =
+    ((rule : FaultCode) × (number_of_code rule ≡ number) × IsExplanation rule lines) ⊎ (((rule : FaultCode) → number_of_code rule ≢ number) × (lines ≡ []))
+
+-- the bytes have a model, and this is true of it
+abbrev pub OfModel : Input → List ℕ → (Metadata → Type 0) → Type 0
+OfModel input bytes P = IsWhole input bytes × ((model : Metadata) → IsModelOf input bytes model → P model)
+
+-- the budget is less than the number of signature bytes, and all rules before signatures hold
+abbrev pub IsSpent : Option ℕ → Input → List ℕ → Type 0
+IsSpent None input bytes = ⊥
+IsSpent (Some most) input bytes = (most < signature_bytes_of input bytes) × HoldBeforeSignatures (rules_of input bytes)
+
+-- why nothing of a report is printed
+abbrev pub IsRefused : Request → List ℕ → Report → Stop → Type 0
+IsRefused request bytes report.Root (Failed (Fault found)) = FirstBroken (rules_of_heads request.input bytes) found
+IsRefused request bytes (report.Check verdict) (Failed (Fault found)) =
+    (is_reported verdict request.form request.naming ≡ true) × FirstBroken (rules_of request.input bytes) found
+IsRefused request bytes (report.Check verdict) BudgetSpent = IsSpent request.budget request.input bytes
+IsRefused request bytes (report.OutlineOf subject) NoSuchType = OfModel request.input bytes (λ model. (row : ℕ) → ¬ IsSubject model subject row)
+IsRefused request bytes (report.Check Explained) (Failed OutOfMemory) = Unit {0}
+IsRefused request bytes report.Strings (Failed OutOfMemory) = Unit {0}
+IsRefused request bytes (report.Where offset) (Failed failure) = failure ≡ OutOfMemory
+IsRefused request bytes (report.Tokens numbers) (Failed OutOfMemory) = IsWhole request.input bytes
+IsRefused request bytes report.Digest (Failed failure) = ReportsUnwritten request.input bytes failure
+IsRefused request bytes (report.ShowUntilFault table names) stop = ⊥
+IsRefused request bytes of (Failed (Fault found)) = FirstBroken (rules_of request.input bytes) found
+IsRefused request bytes of stop = ⊥
+
+-- `Out All lines`: these lines went out, and they are all lines of the report if `All` holds
+module _ (Out : Type 0 → List (List Part) → Type 0) where
+  -- these lines went out, and they are all
+  abbrev pub AreOut : List (List Part) → Type 0
+  AreOut lines = Out (Unit {0}) lines
+
+  -- the declarations of the first of these rows went out, and they are all if no row follows
+  abbrev pub AreDeclared : Metadata → List Token → Type 0
+  AreDeclared model rows =
+      (first later : List Token) × (rows ≡ first ++ later) × (lines : List (List Part)) × AreLines model first lines × Out (later ≡ []) lines
+
+  -- what numbers name in a model went out
+  abbrev pub AreNamed : List ℕ → Metadata → Type 0
+  AreNamed numbers model = (lines : List (List Part)) × AreTokenLines model numbers lines × AreOut lines
+
+  -- what a listing has of a model went out
+  abbrev pub IsListed : Listing → Metadata → Type 0
+  IsListed (listing.Show table names) model = AreOut (show_lines names model (tables_of table))
+  IsListed listing.Types model = AreOut (types_lines model)
+  IsListed listing.Outline model = AreDeclared model (outline_rows model)
+
+  -- this fault went out, with what is asked about it
+  abbrev pub IsFaultOut : Verdict → Input → List ℕ → Option (List ℕ) → Found → Type 0
+  IsFaultOut Explained input bytes file found =
+      (structures : List Region) × AreStructuresAt input Cells bytes found.offset structures
+      × ((more : List (List Part)) × AreSaid found.code more
+      × AreOut (verdict_line file (Some found) ∷ (map structure_line structures ++ ([] ∷ more))))
+  IsFaultOut verdict input bytes file found = AreOut (verdict_lines verdict file (Some found))
+
+  module _ (request : Request) (name bytes : List ℕ) where
+    -- the lines of the structures that contain the byte at an offset went out, and there are some or none
+    abbrev pub IsLocated : ℕ → FoundAt → Type 0
+    IsLocated offset found =
+        (structures : List Region) × AreStructuresAt request.input Entries bytes offset structures × (found ≡ found_of structures)
+        × AreOut (where_lines structures)
+
+    -- all lines of a report went out
+    abbrev pub IsPrinted : Report → Type 0
+    IsPrinted report.Root =
+        HasHeads request.input bytes
+        × ((header : Option CliHeader) (root : RootRead) → AreHeads request.input bytes header root → AreOut (heads_lines header root))
+    IsPrinted report.Strings =
+        OfModel request.input bytes (λ model. (entries : List Entry) × AreEntries model.user 1 entries × AreOut (flat_map entry_lines entries))
+    IsPrinted (report.Listing listing) = OfModel request.input bytes (IsListed listing)
+    IsPrinted (report.Check verdict) = IsWhole request.input bytes × AreOut (verdict_lines verdict (label request.naming name) None)
+    IsPrinted (report.ShowUntilFault table names) = OfModel request.input bytes (IsListed (listing.Show table names))
+    IsPrinted (report.OutlineOf subject) =
+        OfModel request.input bytes (λ model. (row : ℕ) × IsSubject model subject row × AreDeclared model (class_rows model row))
+    IsPrinted (report.Tokens numbers) =
+        (root : List ℕ) × IsOpened request.input bytes root × All (IsNamed root) numbers.items × OfModel request.input bytes (AreNamed numbers.items)
+    IsPrinted (report.Where offset) = IsWhole request.input bytes × IsLocated offset Something
+    IsPrinted report.Digest =
+        (root : List ℕ) × IsRewritten request.input bytes root × AreOut (digest_line (encode_lower (sha256 root)) name ∷ [])
+
+    -- the first lines of a report went out, and then it stopped for this reason
+    abbrev pub IsStopped : Report → Stop → Type 0
+    IsStopped (report.Check verdict) why =
+        (why ≡ Broken) × (is_reported verdict request.form request.naming ≡ false)
+        × ((found : Found) × FirstBroken (rules_of request.input bytes) found × IsFaultOut verdict request.input bytes (label request.naming name) found)
+    IsStopped (report.ShowUntilFault table names) why =
+        (found : Found) × (why ≡ Failed (Fault found)) × FirstBroken (rules_of request.input bytes) found
+        × ((lines : List (List Part)) × AreLinesBefore names request.input bytes (tables_of table) lines × AreOut lines)
+    IsStopped (report.Tokens numbers) why =
+        (why ≡ Failed NoSuchRow) × (root : List ℕ) × IsOpened request.input bytes root
+        × (earlier later : List ℕ) × (number : ℕ) × (numbers.items ≡ earlier ++ number ∷ later)
+        × All (IsNamed root) earlier × (¬ IsNamed root number) × OfModel request.input bytes (AreNamed earlier)
+    IsStopped (report.Where offset) why =
+        ((why ≡ NothingAt offset) × IsWhole request.input bytes × IsLocated offset Nothing)
+        ⊎ ((found : Found) × (why ≡ Failed (Fault found)) × FirstBroken (rules_of request.input bytes) found
+        × ((structures : List Region) × AreStructuresAt request.input Cells bytes offset structures × AreOut (map structure_line structures)))
+    IsStopped of why = ⊥
+
+    -- a report on the file with this name ended in this way
+    abbrev pub HasEnded : Report → Ended → Type 0
+    HasEnded of Printed = IsPrinted of
+    HasEnded of (Stopped stop) = IsStopped of stop
+    HasEnded of (Refused stop) = IsRefused request bytes of stop

@@ -1,0 +1,30 @@
+//! What `clim` does with files and their bytes.
+//!
+//! [`report_on`] prints a [`Report`] on the bytes of a file, and [`run_files`] and [`run_listed`] read files and report on each.
+//! [`compare_files`], [`rewrite_file`] and [`explain_rules`] are the other runs. `specs/Reports.antt` says what a report prints,
+//! and when it prints nothing.
+//!
+//! ```text
+//! let request = Request { report: Report::Listing(Listing::Types), form: Form::Text, naming: Naming::Alone, input: Input::File, budget: None };
+//! run_files(&rt, &request, &["one_module.dll"], &mut out, &mut err) // a line for each type of the file, and the exit code 0
+//! ```
+#![tactic(auto)]
+
+mod canonical_root;
+mod compare;
+mod explain;
+mod files;
+mod listed;
+mod print_check;
+mod print_report;
+mod printed;
+mod report;
+mod rewrite;
+
+pub use compare::{CompareOptions, compare_files};
+pub use explain::explain_rules;
+pub use files::run_files;
+pub use listed::run_listed;
+pub use printed::report_on;
+pub use report::{Ended, Listing, Naming, Report, Request, Verdict};
+pub use rewrite::rewrite_file;

@@ -1,0 +1,59 @@
+//! Prints a report on the bytes of a file.
+ghost use Rattle.cli_runs.specs.Runs.{IsReported};
+
+use crate::print_check::check_quietly;
+use crate::print_report::print_report;
+use crate::report::{Ended, Report, Request, Verdict};
+use cli_faults::Failure;
+use cli_lines::Printer;
+use std::alloc::Global;
+use std::io::Write;
+
+/// Prints a report on the bytes of the file with this name, and returns how it ended. A quiet check does not use the output.
+///
+/// # Errors
+///
+/// The output could not be written, or memory ran out. By then it has nothing or a prefix of the report.
+pub fn report_on<'a, W: Write>(
+    alloc: Global,
+    request: &Request<'_>,
+    name: &str,
+    bytes: &[u8],
+    out: &mut W,
+) -> Result<Ended<'a>, Failure<'a>>
+    ensures { IsReported request.now W.contents out.old out.new name.now bytes.now result }
+{
+    match &request.report {
+        Report::Check(Verdict::Quiet) => Ok(check_quietly(request, bytes)),
+        _ => send_report(alloc, request, name, bytes, out),
+    }
+}
+
+/// Prints a report, and sends what was printed unless the report was refused.
+fn send_report<'a, W: Write>(
+    alloc: Global,
+    request: &Request<'_>,
+    name: &str,
+    bytes: &[u8],
+    out: &mut W,
+) -> Result<Ended<'a>, Failure<'a>>
+    ensures { IsReported request.now W.contents out.old out.new name.now bytes.now result }
+{
+    let mut printer = Printer::new(alloc, request.form, out);
+    let ended = print_report(alloc, request, name, bytes, &mut printer);
+    match ended {
+        Ended::Refused(_) => {
+            let writer = printer.cancel();
+            let _ = writer;
+            Ok(ended)
+        }
+        _ => {
+            let (writer, sent) = printer.finish();
+            let _ = writer;
+            match sent {
+                Ok(()) => Ok(ended),
+                Err(failure) => Err(failure),
+            }
+        }
+    }
+}

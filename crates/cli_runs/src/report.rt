@@ -1,0 +1,101 @@
+//! What to print of a file, and how printing it ends.
+ghost use Rattle.std.specs.Prelude.{◌≡◌};
+ghost use Rattle.cli_runs.specs.Reports.{ended_by};
+
+use cli_cells::Names;
+use cli_faults::{Failure, Stop};
+use cli_input::Input;
+use cli_lines::Form;
+use cli_outline::Subject;
+use packed::Fault;
+use table_schema::TableId;
+
+/// What to print of the tables of a file. Nothing is printed of a file that breaks a rule.
+#[derive(Clone, Copy, Debug, PartialEq, Eq)]
+pub enum Listing {
+    /// The rows of all tables, or of one (II.22).
+    Show(Option<TableId>, Names),
+    /// The types, one per line (II.22.37).
+    Types,
+    /// The declarations.
+    Outline,
+}
+
+/// What is printed of a check.
+#[derive(Clone, Copy, Debug, PartialEq, Eq)]
+pub enum Verdict {
+    /// Nothing: the exit code alone says whether a rule is broken.
+    Quiet,
+    /// A line.
+    Line,
+    /// A line. Of a fault also what has the byte at its offset, and what the rule says.
+    Explained,
+}
+
+/// What to print of a file.
+#[derive(Drop)]
+pub enum Report<'a> {
+    /// The CLI header, the version and the stream headers (II.25.3.3, II.24.2.1).
+    Root,
+    /// The user strings (II.24.2.4).
+    Strings,
+    /// What the tables have.
+    Listing(Listing),
+    /// Whether it breaks a rule.
+    Check(Verdict),
+    /// The rows of all tables, or of one, that come before its first broken rule.
+    ShowUntilFault(Option<TableId>, Names),
+    /// The declarations of one type.
+    OutlineOf(Subject<'a>),
+    /// The row or the user string that each of these tokens names.
+    Tokens(Vec<u32>),
+    /// What has the byte at this offset.
+    Where(u64),
+    /// The digest of its canonical root.
+    Digest,
+}
+
+/// Whether a file is named where it is reported on.
+#[derive(Clone, Copy, Debug, PartialEq, Eq)]
+pub enum Naming {
+    /// It is the only one, so its name is not printed.
+    Alone,
+    /// It may be one of several. Verdicts and failures have its name.
+    Named,
+}
+
+/// What is asked of each file.
+#[derive(Drop)]
+pub struct Request<'a> {
+    /// What to print of it.
+    pub report: Report<'a>,
+    /// The form of what is printed.
+    pub form: Form,
+    /// Whether it is named.
+    pub naming: Naming,
+    /// What its bytes are.
+    pub input: Input,
+    /// The largest number of signature blob bytes (II.23.2) that a check looks at, if there is a limit.
+    pub budget: Option<u64>,
+}
+
+/// How a report on the bytes of a file ended.
+#[derive(Clone, Copy, Debug, PartialEq, Eq)]
+pub enum Ended<'a> {
+    /// Its lines were printed.
+    Printed,
+    /// Lines were printed, and then it stopped.
+    Stopped(Stop<'a>),
+    /// It stopped before a line was printed.
+    Refused(Stop<'a>),
+}
+
+/// The end of a report that prints its lines, or is refused by a fault.
+pub(crate) fn ended_by<'a>(printed: Result<(), Fault>) -> Ended<'a>
+    ensures { result ≡ ended_by printed }
+{
+    match printed {
+        Ok(()) => Ended::Printed,
+        Err(fault) => Ended::Refused(Stop::Failed(Failure::Fault(fault))),
+    }
+}

@@ -1,0 +1,33 @@
+use Rattle.std.proofs.Common.{◌∙◌, ap, subst, sym}
+use Rattle.packed.specs.Rule.{AllHold}
+use Rattle.pe.specs.Headers.{image_of}
+use Rattle.pe.specs.Image.{Image}
+use Rattle.pe.specs.Rules.{rules_of_image}
+use Rattle.cli_regions.specs.Kept.{Finds}
+use Rattle.cli_regions.specs.PeHeaders.{image_regions}
+use Rattle.cli_regions.proofs.SearchLemmas.{said_as}
+use Rattle.cli_where.specs.Where.{AreInImage, AreOf, Then}
+use Rattle.cli_where.proofs.FindLemmas.{adds_find, broken_layer, finds_then, whole_layer}
+use Rattle.cli_where.proofs.WalkLemmas.{not_all}
+use Rattle.cli_where.proofs.walk.find_in_file.Goals as goal
+
+pub returns-in_default : goal.returns-in_default
+returns-in_default c =
+    let file = c.args.file.now in
+    broken_layer (rules_of_image file) (Then (AreOf (image_regions file)) (AreInImage c.args.reach (image_of file))) c.args.found.now
+    (not_all (rules_of_image file) c.in_default.field-0 c.in_default.ensures.first_error)
+
+pub find_pe-requires-clause-rules : goal.find_pe-requires-clause-rules
+find_pe-requires-clause-rules c = subst (λ (image : Image). AllHold (rules_of_image image.bytes)) (sym c.in-Ok.ensures.all.1) c.in-Ok.ensures.all.0
+
+pub find_pe-requires-clause-image : goal.find_pe-requires-clause-image
+find_pe-requires-clause-image c = c.in-Ok.ensures.all.1 ∙ ap (λ (image : Image). image_of image.bytes) (sym c.in-Ok.ensures.all.1)
+
+pub find_in_image-requires : goal.find_in_image-requires
+find_in_image-requires c = (subst (λ (image : Image). AllHold (rules_of_image image.bytes)) (sym c.in-Ok.ensures.all.1) c.in-Ok.ensures.all.0).0
+
+pub returns : goal.returns
+returns c =
+    let said = c.in-Ok.ensures.all.1 in
+    whole_layer (rules_of_image c.args.file.now) c.in-Ok.ensures.all.0 (finds_then (adds_find (said_as c.find_pe.ensures (ap (λ (image : Image). image_regions image.bytes) said)))
+    (subst (λ (image : Image). Finds (AreInImage c.args.reach image) c.find_pe.new.found c.find_in_image.new.found) said c.find_in_image.ensures))

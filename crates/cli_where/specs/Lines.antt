@@ -1,0 +1,65 @@
+-- The lines of structures, and those of user strings (ECMA-335 II.22, II.24.2 and III.1.9).
+use Rattle.std.specs.Prelude.{ℕ, List, [], ◌∷◌, Option, None, Some, codes, slice_index_or}
+use Rattle.root.specs.declared.kind.Kind.{Kind}
+use Rattle.root.specs.declared.kind.Kind.TheVariants.{Strings, Guids, UserStrings}
+use Rattle.root.specs.Streams.{stream_name}
+use Rattle.heap_entries.specs.Entries.{UserText}
+use Rattle.table_schema.specs.Tables.{table_name, table_number}
+use Rattle.schema.specs.ColumnNames.{column_names_of}
+use Rattle.schema.specs.declared.located_cells.TableCell.{TableCell}
+use Rattle.cli_lines.specs.declared.names.Name.TheVariants as name
+use Rattle.cli_lines.specs.Lines.{Part, byte, field, hex, member, note, number, plain, units, word}
+use Rattle.cli_regions.specs.Regions.{Region, What, cell, entry, user_string, words}
+use Rattle.cli_where.specs.UserStrings.{Entry, user_token}
+
+-- the name of the column of a cell
+abbrev pub column_name : TableCell → List ℕ
+column_name of = slice_index_or (column_names_of of.table) of.column []
+
+-- the table, the row from 1, and the column from 0 and by its name
+abbrev pub parts_of_cell : ℕ → List ℕ → ℕ → ℕ → List ℕ → List Part
+parts_of_cell table table_name row column column_name =
+    note (byte table) ∷ word (codes " ") ∷ field name.Table (plain table_name)
+    ∷ word (codes " row ") ∷ field name.Row (number row)
+    ∷ word (codes " column ") ∷ note (number column) ∷ word (codes " ") ∷ field name.Column (plain column_name) ∷ []
+
+abbrev pub cell_parts : TableCell → List Part
+cell_parts of = parts_of_cell (table_number of.table) (table_name of.table) of.row of.column (column_name of)
+
+-- what an entry is, by its heap
+abbrev pub entry_word : Kind → List ℕ
+entry_word Strings = codes "string"
+entry_word Guids = codes "guid"
+entry_word _ = codes "blob"
+
+-- what a structure is: an entry by its stream and the cell that names it, a user string by its stream and its token
+abbrev pub what_parts : What → List Part
+what_parts (words of) = field name.Structure (plain of) ∷ []
+what_parts (cell of) = member name.Structure (plain (codes "cell")) ∷ word (codes "table ") ∷ cell_parts of
+what_parts (entry heap of) =
+    field name.Structure (plain (entry_word heap)) ∷ member name.Stream (plain (stream_name heap)) ∷ word (codes " of table ") ∷ cell_parts of
+what_parts (user_string token) =
+    field name.Structure (plain (codes "user string")) ∷ member name.Stream (plain (stream_name UserStrings))
+    ∷ word (codes " ") ∷ field name.Token (hex token) ∷ []
+
+-- the offset of a structure in the file, its number of bytes, and what it is
+abbrev pub parts_with : ℕ → ℕ → List Part → List Part
+parts_with start size parts = field name.Offset (number start) ∷ word (codes " ") ∷ field name.Size (number size) ∷ word (codes " ") ∷ parts
+
+unfoldable pub line_with : ℕ → ℕ → What → List Part
+line_with start size what = parts_with start size (what_parts what)
+
+abbrev pub structure_line : Region → List Part
+structure_line of = line_with of.start of.size of.what
+
+-- a user string: its token and its units
+unfoldable pub string_line : ℕ → UserText → List Part
+string_line token string = field name.Token (hex token) ∷ word (codes " ") ∷ units string.units ∷ []
+
+-- the line of a user string that has bytes
+abbrev pub string_lines : ℕ → UserText → Option ℕ → List (List Part)
+string_lines offset string None = []
+string_lines offset string (Some flag) = string_line (user_token offset) string ∷ []
+
+abbrev pub entry_lines : Entry → List (List Part)
+entry_lines of = string_lines of.offset of.string of.string.flag

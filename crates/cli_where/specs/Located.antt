@@ -1,0 +1,56 @@
+-- What `clim where` and `clim strings` print.
+use Rattle.std.specs.Prelude.{◌≡◌, ℕ, ◌⊎◌, List, [], ◌∷◌, codes, map, Result, Ok, Err}
+use Rattle.std.specs.List.{flat_map}
+use Rattle.packed.specs.declared.fault.Fault.{Fault as TheFault}
+use Rattle.packed.specs.Rule.{FirstBroken}
+use Rattle.cli_faults.specs.declared.failure.Failure.{Failure}
+use Rattle.cli_faults.specs.declared.failure.Failure.TheVariants.{Fault, OutOfMemory}
+use Rattle.metadata.specs.Metadata.{Metadata}
+use Rattle.cli_input.specs.Checked.{IsModelOf, IsWhole, rules_of}
+use Rattle.cli_input.specs.declared.opened.Input.{Input}
+use Rattle.cli_lines.specs.Lines.{Part, word}
+use Rattle.cli_lines.specs.Printed.{Printed, Prints}
+use Rattle.cli_regions.specs.Regions.{Region}
+use Rattle.cli_where.specs.Lines.{entry_lines, structure_line}
+use Rattle.cli_where.specs.UserStrings.{AreEntries, Entry}
+use Rattle.cli_where.specs.Where.{AreStructuresAt}
+use Rattle.cli_where.specs.declared.report.Found.{Found}
+use Rattle.cli_where.specs.declared.report.Found.TheVariants.{Something, Nothing}
+use Rattle.cli_where.specs.declared.walk.Reach.TheVariants.{Cells, Entries}
+
+-- whether there is a structure
+abbrev pub found_of : List Region → Found
+found_of [] = Nothing
+found_of (first ∷ later) = Something
+
+-- the lines of structures, and `nothing` if there is none
+abbrev pub where_lines : List Region → List (List Part)
+where_lines [] = (word (codes "nothing") ∷ []) ∷ []
+where_lines (first ∷ later) = map structure_line (first ∷ later)
+
+-- the lines of the structures that contain the byte at an offset were printed, or memory ran out before
+abbrev pub HasFound : {W : Type 0} → Input → List ℕ → ℕ → Printed W → Printed W → Result Found Failure → Type 0
+HasFound input bytes offset old new (Ok found) =
+    (structures : List Region) × AreStructuresAt input Entries bytes offset structures × (found ≡ found_of structures) × Prints old new (where_lines structures)
+HasFound input bytes offset old new (Err failure) = (failure ≡ OutOfMemory) × (new ≡ old)
+
+-- The bytes have a model, and the lines were printed; or memory ran out before; or a rule is broken, and the lines of the
+-- structures down to the cells were printed, of layers that break no rule.
+abbrev pub IsLocated : {W : Type 0} → Input → List ℕ → ℕ → Printed W → Printed W → Result Found Failure → Type 0
+IsLocated input bytes offset old new (Ok found) = IsWhole input bytes × HasFound input bytes offset old new (Ok found)
+IsLocated input bytes offset old new (Err failure) =
+    ((failure ≡ OutOfMemory) × (new ≡ old))
+    ⊎ ((fault : TheFault) × (failure ≡ Fault fault) × FirstBroken (rules_of input bytes) fault
+    × (structures : List Region) × AreStructuresAt input Cells bytes offset structures × Prints old new (map structure_line structures))
+
+-- the lines of the entries of a heap of user strings were printed, or memory ran out before
+abbrev pub HasEntries : {W : Type 0} → List ℕ → Printed W → Printed W → Result (Unit {0}) Failure → Type 0
+HasEntries heap old new (Ok done) = (entries : List Entry) × AreEntries heap 1 entries × Prints old new (flat_map entry_lines entries)
+HasEntries heap old new (Err failure) = (failure ≡ OutOfMemory) × (new ≡ old)
+
+-- The bytes have a model, and the lines of its user strings after the first one were printed, which has no bytes; or nothing
+-- was printed, since memory ran out or a rule is broken.
+abbrev pub AreListed : {W : Type 0} → Input → List ℕ → Printed W → Printed W → Result (Unit {0}) Failure → Type 0
+AreListed input bytes old new (Ok done) = IsWhole input bytes × ((model : Metadata) → IsModelOf input bytes model → HasEntries model.user old new (Ok done))
+AreListed input bytes old new (Err failure) =
+    ((failure ≡ OutOfMemory) × (new ≡ old)) ⊎ ((fault : TheFault) × (failure ≡ Fault fault) × FirstBroken (rules_of input bytes) fault × (new ≡ old))

@@ -1,0 +1,169 @@
+//! Prints the lines of structures.
+ghost use Rattle.std.specs.Prelude.{◌≡◌, ◌∷◌, [], map};
+ghost use Rattle.cli_lines.specs.Printed.{Prints};
+ghost use Rattle.cli_regions.specs.Kept.{seen, words_text};
+ghost use Rattle.cli_regions.specs.Regions.{cell as a_cell, entry, user_string, words as some_words};
+ghost use Rattle.cli_where.specs.Lines.{column_name, entry_word, line_with, structure_line};
+
+use cli_lines::Part::{Field, Member, Note, Word};
+use cli_lines::Value::{Byte, Hex, Number, Plain};
+use cli_lines::{Name, Printer};
+use cli_regions::{Structure, What, Words};
+use root::Kind;
+use schema::{TableCell, column_names};
+use std::alloc::Global;
+use std::io::Write;
+
+/// A line: the offset and the size of a structure, and parts that say what it is.
+macro_rules! line {
+    ($of:expr; $($part:expr),*) => {
+        &[
+            Field(Name::Offset, Number($of.start)),
+            Word(" "),
+            Field(Name::Size, Number($of.size)),
+            Word(" "),
+            $($part),*
+        ]
+    };
+}
+
+/// The name of the column of a cell (II.22).
+fn column_name(cell: TableCell) -> &'static str
+    ensures { result.now ≡ column_name cell }
+{
+    match column_names(cell.table).get(cell.column) {
+        Some(name) => name,
+        None => "",
+    }
+}
+
+/// What an entry of a heap is.
+fn entry_word(heap: Kind) -> &'static str
+    ensures { result.now ≡ entry_word heap }
+{
+    match heap {
+        Kind::Strings => "string",
+        Kind::Guids => "guid",
+        _ => "blob",
+    }
+}
+
+/// Fails, because memory ran out.
+fn print_failure<W: Write>(of: Structure<'_>, words: Words<'_>, out: &mut Printer<'_, W>)
+    ensures { Prints out.old out.new (line_with of.entry.start of.entry.size (some_words (words_text words.entry)) ∷ []) }
+{
+    cli_lines::laws::parts_follow::<W>();
+    out.begin(&[]);
+    out.fail();
+    out.end();
+}
+
+/// Prints the line of a structure with this text.
+#[tactic(auto, unfolding(crate::specs::Lines::line_with))]
+fn print_text<W: Write>(of: Structure<'_>, text: &str, out: &mut Printer<'_, W>)
+    ensures { Prints out.old out.new (line_with of.entry.start of.entry.size (some_words text.now) ∷ []) }
+{
+    out.line(line![of; Field(Name::Structure, Plain(text))]);
+}
+
+/// Prints the line of a structure with these words.
+fn print_words<W: Write>(
+    alloc: Global,
+    of: Structure<'_>,
+    words: Words<'_>,
+    out: &mut Printer<'_, W>,
+)
+    ensures { Prints out.old out.new (line_with of.entry.start of.entry.size (some_words (words_text words.entry)) ∷ []) }
+{
+    match words.to_string(alloc) {
+        Ok(text) => print_text(of, &text, out),
+        Err(_) => print_failure(of, words, out),
+    }
+}
+
+/// Prints the line of a cell.
+#[tactic(auto, unfolding(crate::specs::Lines::line_with))]
+fn print_cell<W: Write>(of: Structure<'_>, cell: TableCell, out: &mut Printer<'_, W>)
+    ensures { Prints out.old out.new (line_with of.entry.start of.entry.size (a_cell cell) ∷ []) }
+{
+    out.line(line![
+        of;
+        Member(Name::Structure, Plain("cell")),
+        Word("table "),
+        Note(Byte(cell.table.number())),
+        Word(" "),
+        Field(Name::Table, Plain(cell.table.name())),
+        Word(" row "),
+        Field(Name::Row, Number(cell.row as u64)),
+        Word(" column "),
+        Note(Number(cell.column as u64)),
+        Word(" "),
+        Field(Name::Column, Plain(column_name(cell)))
+    ]);
+}
+
+/// Prints the line of an entry of a heap.
+#[tactic(auto, unfolding(crate::specs::Lines::line_with))]
+fn print_entry<W: Write>(of: Structure<'_>, heap: Kind, cell: TableCell, out: &mut Printer<'_, W>)
+    ensures { Prints out.old out.new (line_with of.entry.start of.entry.size (entry heap cell) ∷ []) }
+{
+    out.line(line![
+        of;
+        Field(Name::Structure, Plain(entry_word(heap))),
+        Member(Name::Stream, Plain(heap.name())),
+        Word(" of table "),
+        Note(Byte(cell.table.number())),
+        Word(" "),
+        Field(Name::Table, Plain(cell.table.name())),
+        Word(" row "),
+        Field(Name::Row, Number(cell.row as u64)),
+        Word(" column "),
+        Note(Number(cell.column as u64)),
+        Word(" "),
+        Field(Name::Column, Plain(column_name(cell)))
+    ]);
+}
+
+/// Prints the line of a user string.
+#[tactic(auto, unfolding(crate::specs::Lines::line_with))]
+fn print_user_string<W: Write>(of: Structure<'_>, token: u32, out: &mut Printer<'_, W>)
+    ensures { Prints out.old out.new (line_with of.entry.start of.entry.size (user_string token) ∷ []) }
+{
+    out.line(line![
+        of;
+        Field(Name::Structure, Plain("user string")),
+        Member(Name::Stream, Plain(Kind::UserStrings.name())),
+        Word(" "),
+        Field(Name::Token, Hex(token))
+    ]);
+}
+
+/// Prints the line of a structure.
+fn print_structure<W: Write>(alloc: Global, of: Structure<'_>, out: &mut Printer<'_, W>)
+    ensures { Prints out.old out.new (structure_line (seen of.entry) ∷ []) }
+{
+    match of.what {
+        What::Words(words) => print_words(alloc, of, words, out),
+        What::Cell(cell) => print_cell(of, cell, out),
+        What::Entry(heap, cell) => print_entry(of, heap, cell, out),
+        What::UserString(token) => print_user_string(of, token, out),
+    }
+}
+
+/// Prints a line for each structure: its offset in the file and its size in bytes, both in decimal, and what it is.
+///
+/// In JSON it is `{"offset":672,"size":2,"structure":"cell","table":"TypeDef","row":2,"column":"TypeName"}`. An entry has the
+/// structure `string`, `guid` or `blob`, its `stream`, and the members of the cell that refers to it; a user string its
+/// `stream` and its `token`. Any other structure is what its line of text says.
+pub fn print_structures<W: Write>(
+    alloc: Global,
+    structures: &[Structure<'_>],
+    out: &mut Printer<'_, W>,
+)
+    ensures { Prints out.old out.new (map structure_line (map seen structures.now)) }
+{
+    cli_lines::laws::reports_are_completed::<W>();
+    for structure in structures {
+        print_structure(alloc, *structure, out);
+    }
+}

@@ -1,0 +1,5 @@
+//! Tests of `cli_cells`: rows, tokens and user strings.
+
+mod first_rows;
+mod one_table;
+mod printed_rows;
