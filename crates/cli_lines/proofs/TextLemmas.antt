@@ -30,6 +30,14 @@ hexadecimal_more line bytes i lt small =
     ∙ ap (λ ys. (line ++ escaped_bytes (take i bytes)) ++ ys) (sym (hex_byte false (get_or bytes i 0) small))
     ∙ items_more (hexadecimal 2) line bytes i 0 lt
 
+-- the digits of four bytes
+pub four_bytes : (a b c d : ℕ) → a < 256 → b < 256 → c < 256 → d < 256
+    → digit_glyph false (a / 16) ∷ digit_glyph false (a % 16) ∷ digit_glyph false (b / 16) ∷ digit_glyph false (b % 16)
+    ∷ digit_glyph false (c / 16) ∷ digit_glyph false (c % 16) ∷ digit_glyph false (d / 16) ∷ digit_glyph false (d % 16) ∷ []
+    ≡ escaped_bytes (a ∷ b ∷ c ∷ d ∷ [])
+four_bytes a b c d first second third last =
+    sym (λ i. hex_byte false a first i ++ (hex_byte false b second i ++ (hex_byte false c third i ++ (hex_byte false d last i ++ []))))
+
 pub upper_more : (line : List ℕ) (n : ℕ) → n < 256
     → (line ++ digit_glyph true (n / 16) ∷ []) ++ digit_glyph true (n % 16) ∷ [] ≡ line ++ upper_hexadecimal n
 upper_more line n small = two_bytes line (digit_glyph true (n / 16)) (digit_glyph true (n % 16)) ∙ ap (λ ys. line ++ ys) (sym (hex_byte true n small))

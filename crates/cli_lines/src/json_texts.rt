@@ -1,5 +1,5 @@
 //! Appends texts of JSON to a line.
-ghost use Rattle.std.specs.Prelude.{◌≡◌, ◌++◌, ◌∷◌, ◌<◌, ◌↔◌, [], IsTrue, IfSome, OnOk, EachIndex, slice_index, unwrap_or};
+ghost use Rattle.std.specs.Prelude.{◌≡◌, ◌++◌, ◌∷◌, ◌<◌, [], IsTrue, IfSome, OnOk, EachIndex, slice_index, unwrap_or};
 ghost use Rattle.std.specs.Char.{digit_char};
 ghost use Rattle.json.specs.Print.{escape, escape_byte, escape_letter, quoted};
 ghost use Rattle.json.specs.Run.{is_plain};
@@ -21,11 +21,15 @@ fn is_plain(byte: u8) -> bool
     byte >= 0x20 && byte != b'"' && byte != b'\\'
 }
 
-/// Whether all bytes stand for themselves.
+/// Whether all bytes stand for themselves. It reads all of them, many at a time.
 fn are_plain(text: &[u8]) -> bool
-    ensures { IsTrue result ↔ EachIndex text.now (λ k. IsTrue (is_plain (slice_index text.now k))) }
+    ensures { IsTrue result → EachIndex text.now (λ k. IsTrue (is_plain (slice_index text.now k))) }
 {
-    text.iter().all(|byte| is_plain(*byte))
+    let mut all = true;
+    for byte in text {
+        all &= is_plain(*byte);
+    }
+    all
 }
 
 /// The letter after the backslash in the short escape of a byte, if it has one.
