@@ -1,5 +1,6 @@
 mod ParamLemmas
 mod RowNameLemmas
+mod ParamNames
 mod PieceLemmas
 mod TextLemmas
 mod NameExists

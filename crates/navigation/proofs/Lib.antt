@@ -1,4 +1,5 @@
 mod CellLemmas
+mod KeyedLemmas
 mod LinkLemmas
 mod LinkModelLemmas
 mod NestingLemmas

@@ -1,0 +1,16 @@
+use Rattle.std.proofs.Common.{drop, map}
+use Rattle.std.specs.List.{flat_map}
+use Rattle.table_schema.specs.declared.table.TableId.TheVariants.{MethodSemantics}
+use Rattle.metadata.specs.Metadata.{Metadata}
+use Rattle.metadata.specs.Model.{IsModel}
+use Rattle.navigation.specs.Keyed.{row_of as row_in}
+use Rattle.cli_lines.specs.Printed.{Printed}
+use Rattle.cli_outline.specs.Outline.{row_of}
+use Rattle.cli_outline.specs.Printed.{PrintsRows}
+use Rattle.cli_outline.proofs.mapped.print_accessed.Given as goal
+
+-- the accessors that are left complete them
+abbrev pub invariant-loop-accessor : goal.invariant-loop-accessor
+invariant-loop-accessor g l = (model : Metadata) (later : Printed _) → IsModel l.source.view.now model
+    → PrintsRows model l.out later (flat_map (row_of MethodSemantics) (map row_in (drop l.accessor-index l.accessors)))
+    → PrintsRows model l.initial.out later (flat_map (row_of MethodSemantics) (map row_in l.accessors))
