@@ -3,6 +3,7 @@ pub mod CellIndexLemmas
 pub mod KindLemmas
 pub mod NumberLemmas
 pub mod UseLemmas
+pub mod WrittenLemmas
 pub mod TextLemmas
 pub mod StartLemmas
 pub mod PlainLemmas

@@ -1,10 +1,8 @@
 ghost use Rattle.std.specs.Prelude.{◌≡◌, ℕ, List, IfOk};
-ghost use Rattle.std.specs.List.{AllZip};
 ghost use Rattle.sig_grammar.specs.Syntax.{Body};
 ghost use Rattle.sig_grammar.specs.Encodes.{Encodes, short};
-ghost use Rattle.heap_pools.specs.Uses.{bytes_of};
 ghost use Rattle.cell_numbering.specs.HeapUses.{IsUseOf};
-ghost use Rattle.cell_numbering.specs.BlobBytes.{all_bytes, bytes_in};
+ghost use Rattle.cell_numbering.specs.BlobBytes.{bytes_in};
 
 use crate::blob_use::BlobUse;
 use metadata_source::SignatureBytes;
@@ -29,6 +27,14 @@ impl<'u> BlobBytes<'u> {
         match self {
             BlobBytes::Found(bytes) => bytes,
             BlobBytes::Encoded(bytes) => bytes,
+        }
+    }
+
+    /// The number of bytes of memory that it takes beside those that were found.
+    pub fn encoded_len(&self) -> usize {
+        match self {
+            BlobBytes::Found(_) => 0,
+            BlobBytes::Encoded(bytes) => bytes.len(),
         }
     }
 }
@@ -67,7 +73,7 @@ fn canonical_bytes<'u>(
 }
 
 /// The bytes that are written for the use of a blob.
-fn written_bytes<'u>(alloc: Global, found: &'u BlobUse<'_>) -> Result<BlobBytes<'u>, AllocError>
+pub fn written_bytes<'u>(alloc: Global, found: &'u BlobUse<'_>) -> Result<BlobBytes<'u>, AllocError>
     requires { ¬ (¬ ((blob : List ℕ) × IsUseOf found.now blob)) }
     ensures { (blob : List ℕ) → IsUseOf found.now blob → IfOk result (λ bytes. bytes_in bytes ≡ blob) }
 {
@@ -78,33 +84,4 @@ fn written_bytes<'u>(alloc: Global, found: &'u BlobUse<'_>) -> Result<BlobBytes<
             _ => Ok(BlobBytes::Found(bytes)),
         },
     }
-}
-
-/// The bytes that are written for these uses.
-pub fn written_blobs<'u>(
-    alloc: Global,
-    uses: &'u [BlobUse<'_>],
-) -> Result<Vec<BlobBytes<'u>>, AllocError>
-    requires { ¬ (¬ ((blobs : List (List ℕ)) × AllZip IsUseOf uses.now blobs)) }
-    ensures { (blobs : List (List ℕ)) → AllZip IsUseOf uses.now blobs → IfOk result (λ written. all_bytes written.items ≡ blobs) }
-{
-    let mut written = Vec::with_capacity(alloc, uses.len())?;
-    for found in uses {
-        written.push(written_bytes(alloc, found)?)?;
-    }
-    Ok(written)
-}
-
-/// The bytes of each blob.
-pub fn slices_of<'w>(
-    alloc: Global,
-    written: &'w [BlobBytes<'_>],
-) -> Result<Vec<&'w [u8]>, AllocError>
-    ensures { IfOk result (λ slices. bytes_of slices.items ≡ all_bytes written.now) }
-{
-    let mut slices = Vec::with_capacity(alloc, written.len())?;
-    for bytes in written {
-        slices.push(bytes.as_slice())?;
-    }
-    Ok(slices)
 }

@@ -9,6 +9,8 @@
 //! No value is hashed, and none is copied, except a signature whose blob is not its canonical encoding. Values that are
 //! read from a heap are taken once for each index there. So a text that many rows name is read once. A blob that many rows
 //! name is read and decoded once for each kind of column. To know the indexes takes four bytes for each byte of a heap.
+//! Encodings that are copied take no more memory than some bytes for each use and the heap of the blobs so far: then equal
+//! ones are dropped.
 //!
 //! ```text
 //! let (texts, numbering) = pools_of(alloc, &source)?;
@@ -29,5 +31,6 @@ mod pools;
 mod start_groups;
 mod text_uses;
 mod use_indexes;
+mod written_blobs;
 
 pub use pools::pools_of;

@@ -10,12 +10,12 @@ ghost use Rattle.root_writer.specs.Numbered.{IsNumbering, IsTooLong};
 ghost use Rattle.cell_numbering.specs.BlobUses.{AreBlobUses};
 ghost use Rattle.cell_numbering.specs.HeapUses.{IsUseOf};
 
-use crate::blob_bytes::{slices_of, written_blobs};
 use crate::blob_uses::BlobUses;
 use crate::heap_uses::heap_uses;
 use crate::numbers::numbers_of;
 use crate::numbers_so_far::Indexes;
 use crate::use_indexes::indexes_of_uses;
+use crate::written_blobs::{WrittenBlobs, slices_of, written_blobs};
 use heap_pools::{PoolError, TextPool};
 use heaps::{HeapPlan, SortedBlobs, SortedGuids};
 use metadata_source::ReadCells;
@@ -40,9 +40,9 @@ fn blob_plan(alloc: Global, uses: &BlobUses<'_>) -> Result<(HeapPlan, Vec<u32>),
     ensures full { (blobs : List (List ℕ)) → AreBlobUses IsUseOf uses.now blobs → result ≡ Err PoolError.Full
         → 2 ^ 30 < length (blob_heap (distinct blobs)) }
 {
-    let written = written_blobs(alloc, &uses.kept)?;
-    let blobs = slices_of(alloc, &written)?;
-    let plan = SortedBlobs::sort(alloc, &blobs)?.lay_out(alloc)?;
+    let WrittenBlobs { bytes, firsts, .. } = written_blobs(alloc, &uses.kept)?;
+    let blobs = slices_of(alloc, &bytes, &firsts)?;
+    let plan = SortedBlobs::sort_from(alloc, &blobs, firsts)?.lay_out(alloc)?;
     let indexes = indexes_of_uses(alloc, &uses.of_use, plan.indexes())?;
     Ok((plan, indexes))
 }

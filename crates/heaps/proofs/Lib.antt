@@ -2,6 +2,7 @@ pub mod FirstByteLemmas
 pub mod BlobLemmas
 pub mod GuidLemmas
 pub mod BlobPlanLemmas
+pub mod FirstsLemmas
 pub mod GuidPlanLemmas
 pub mod BytesLemmas
 pub mod UserHeapLemmas

@@ -1,0 +1,132 @@
+-- The bytes of the blobs that are written, use by use, and without those of equal ones.
+use Rattle.std.proofs.Common.{◌≡◌, ℕ, ◌+◌, ◌<◌, ◌^◌, List, [], ◌∷◌, ◌++◌, All, length, get_or, map, take, slice_index, refl, sym, ap, subst, ◌∙◌, ⊎_elim, arith}
+use Rattle.std.specs.List.{AllZip}
+use Rattle.std.proofs.lemmas.List.{take_more, ext_get_or, get_or-map, get_or_append_left, get_or_push, length-map, length_push, map_push}
+use Rattle.std.proofs.lemmas.List.Elements.{All-from_get_or, All-take}
+use Rattle.heap_pools.specs.Ranking.{HasText, IsFirstUse, used_at}
+use Rattle.heap_pools.proofs.FirstLemmas.{last_cases}
+use Rattle.heaps.specs.HeapPlanView.{AreFirsts}
+use Rattle.cell_numbering.specs.declared.blob_bytes.BlobBytes.{BlobBytes}
+use Rattle.cell_numbering.specs.declared.blob_bytes.BlobBytes.TheVariants.{Found}
+use Rattle.cell_numbering.specs.BlobBytes.{AreWritten, all_bytes, bytes_at, bytes_in}
+use Rattle.cell_numbering.specs.declared.blob_use.BlobUse.{BlobUse}
+use Rattle.cell_numbering.specs.HeapUses.{IsUseOf}
+use Rattle.cell_numbering.proofs.BlobLemmas.{same_map}
+use Rattle.cell_numbering.proofs.UseLemmas.{zip_at, zip_length}
+
+abbrev pub no_bytes : BlobBytes
+no_bytes = Found (record { ref_ptr = (0, 0); now = [] })
+
+pub bytes_read : (bytes : List BlobBytes) (firsts : List ℕ) (k : ℕ) → k < length firsts → used_at (all_bytes bytes firsts) k ≡ bytes_at bytes (slice_index firsts k)
+bytes_read bytes firsts k h = get_or-map (bytes_at bytes) firsts k 0 [] h
+
+module _ (uses : List BlobUse) (blobs : List (List ℕ)) (all : AllZip IsUseOf uses blobs) (i : ℕ) (found : BlobUse) (below : i < length uses) (here : found ≡ get_or uses i found) where
+  -- the blob of one more use
+  pub next_blob : (before : List (List ℕ)) (blob : List ℕ) → before ≡ take i blobs → ((b : List ℕ) → IsUseOf found b → blob ≡ b) → before ++ blob ∷ [] ≡ take (i + 1) blobs
+  next_blob before blob are is =
+      ap (λ list. list ++ blob ∷ []) are
+      ∙ ap (λ b. take i blobs ++ b ∷ []) (is (get_or blobs i []) (subst (λ (u : BlobUse). IsUseOf u (get_or blobs i [])) (sym here) (zip_at IsUseOf uses blobs i found [] all below)))
+      ∙ sym (take_more blobs i [] (omega (arith, below, zip_length IsUseOf uses blobs all)))
+
+  pub short_blobs : (count : ℕ) → All (λ blob. length blob < 2 ^ 29) (take count blobs)
+  short_blobs count = All-take (λ blob. length blob < 2 ^ 29) count blobs
+      (All-from_get_or (λ blob. length blob < 2 ^ 29) blobs [] (λ k h. (zip_at IsUseOf uses blobs k found [] all (omega (arith, h, zip_length IsUseOf uses blobs all))).short))
+
+module _ (bytes : List BlobBytes) (firsts : List ℕ) (are : AreWritten bytes firsts) where
+  abbrev used : List (List ℕ)
+  used = all_bytes bytes firsts
+
+  count : length used ≡ length firsts
+  count = length-map firsts (bytes_at bytes)
+
+  -- ---- one more use
+
+  module _ (next : BlobBytes) where
+    -- its blob is the last one
+    pub bytes_push : all_bytes (bytes ++ next ∷ []) (firsts ++ length bytes ∷ []) ≡ all_bytes bytes firsts ++ bytes_in next ∷ []
+    bytes_push =
+        let more = bytes ++ next ∷ [] in
+        map_push (bytes_at more) firsts (length bytes)
+        ∙ ap (λ blob. map (bytes_at more) firsts ++ blob ∷ []) (ap bytes_in (get_or_push bytes next no_bytes (length bytes) refl))
+        ∙ ap (λ list. list ++ bytes_in next ∷ []) (same_map (λ (k : ℕ). k < length bytes) (bytes_at more) (bytes_at bytes)
+        (λ k low. ap bytes_in (get_or_append_left bytes (next ∷ []) no_bytes k low)) firsts
+        (All-from_get_or (λ (k : ℕ). k < length bytes) firsts 0 (λ k h. omega (arith, (are.each k h).within, h, are.len))))
+
+    pub written_push : AreWritten (bytes ++ next ∷ []) (firsts ++ length bytes ∷ [])
+    written_push =
+        let blob = bytes_in next in
+        let all = used ++ blob ∷ [] in
+        let others = firsts ++ length bytes ∷ [] in
+        let long = length_push firsts (length bytes) in
+        let old : (k : ℕ) → k < length firsts → slice_index others k ≡ slice_index firsts k = λ k h. get_or_append_left firsts (length bytes ∷ []) 0 k h in
+        let last : slice_index others (length firsts) ≡ length firsts = get_or_push firsts (length bytes) 0 (length firsts) refl ∙ sym are.len in
+        let read : (k : ℕ) → k < length firsts → used_at all k ≡ used_at used k = λ k h. get_or_append_left used (blob ∷ []) [] k (omega (arith, h, count)) in
+        let each : (k : ℕ) → k < length others → HasText all k (slice_index others k) = λ k h. ⊎_elim
+        (λ (low : k < length firsts).
+        let has = are.each k low in
+        subst (HasText all k) (sym (old k low)) (record { within = has.within; same = read (slice_index firsts k) (omega (arith, has.within, low)) ∙ has.same ∙ sym (read k low) }))
+        (λ (at : k ≡ length firsts). subst (λ i. HasText all i (slice_index others i)) (sym at)
+        (subst (HasText all (length firsts)) (sym last) (record { within = omega arith; same = refl })))
+        (last_cases k (length firsts) (omega (arith, h, long))) in
+        let empty : (k : ℕ) → k < length others → length (used_at all k) ≡ 0 → slice_index others k ≡ k = λ k h none. ⊎_elim
+        (λ (low : k < length firsts). old k low ∙ are.empty k low (ap length (sym (read k low)) ∙ none))
+        (λ (at : k ≡ length firsts). subst (λ i. slice_index others i ≡ i) (sym at) last)
+        (last_cases k (length firsts) (omega (arith, h, long))) in
+        record {
+          len = omega (arith, long, are.len, length_push bytes next);
+          each = subst (λ (list : List (List ℕ)). (k : ℕ) → k < length others → HasText list k (slice_index others k)) (sym bytes_push) each;
+          empty = subst (λ (list : List (List ℕ)). (k : ℕ) → k < length others → length (used_at list k) ≡ 0 → slice_index others k ≡ k) (sym bytes_push) empty;
+        }
+
+  -- ---- the bytes of the first uses alone
+
+  module _ (after : List BlobBytes) (news : List ℕ) (found : AreFirsts used news) (len : length after ≡ length bytes)
+      (kept : (k : ℕ) → slice_index news k ≡ k → bytes_at after k ≡ bytes_at bytes k) where
+    -- an earlier use with the blob of a first one is this one
+    module _ (k : ℕ) (h : k < length used) where
+      abbrev first : ℕ
+      first = slice_index news k
+
+      is : IsFirstUse used k first
+      is = found.each k h h
+
+      unmoved : (earlier : ℕ) → HasText used first earlier → (length (used_at used first) ≡ 0 → earlier ≡ first) → earlier ≡ first
+      unmoved earlier has empty = ⊎_elim
+          (λ (some : 0 < length (used_at used first)). ⊎_elim
+          (λ (low : earlier < first). absurd (is.fresh (subst (λ (l : List ℕ). 0 < length l) is.same some) earlier low (has.same ∙ is.same)))
+          (λ (same : earlier ≡ first). same)
+          (last_cases earlier first (omega (arith, has.within))))
+          (λ (none : 0 ≡ length (used_at used first)). empty (sym none))
+          (last_cases 0 (length (used_at used first)) (omega arith))
+
+      low : first < length used
+      low = omega (arith, is.within, h)
+
+      own_now : slice_index news first ≡ first
+      own_now =
+          let again = found.each first low low in
+          unmoved (slice_index news first) (record { within = again.within; same = again.same }) (found.empty first low low)
+
+      own_before : slice_index firsts first ≡ first
+      own_before = unmoved (slice_index firsts first) (are.each first (omega (arith, low, count))) (are.empty first (omega (arith, low, count)))
+
+      pub blob_kept : bytes_at after first ≡ used_at used k
+      blob_kept = kept first own_now ∙ ap (bytes_at bytes) (sym own_before) ∙ sym (bytes_read bytes firsts first (omega (arith, low, count))) ∙ is.same
+
+    pub bytes_same : all_bytes after news ≡ all_bytes bytes firsts
+    bytes_same =
+        let long = length-map news (bytes_at after) in
+        ext_get_or [] (all_bytes after news) used (omega (arith, long, found.len))
+        (λ k h. bytes_read after news k (omega (arith, h, long)) ∙ blob_kept k (omega (arith, h, long, found.len)))
+
+    pub written_same : AreWritten after news
+    written_same =
+        let each : (k : ℕ) → k < length news → HasText used k (slice_index news k) =
+        λ k h. let is = found.each k (omega (arith, h, found.len)) (omega (arith, h, found.len)) in record { within = is.within; same = is.same } in
+        let empty : (k : ℕ) → k < length news → length (used_at used k) ≡ 0 → slice_index news k ≡ k =
+        λ k h none. found.empty k (omega (arith, h, found.len)) (omega (arith, h, found.len)) none in
+        record {
+          len = omega (arith, found.len, count, are.len, len);
+          each = subst (λ (list : List (List ℕ)). (k : ℕ) → k < length news → HasText list k (slice_index news k)) (sym bytes_same) each;
+          empty = subst (λ (list : List (List ℕ)). (k : ℕ) → k < length news → length (used_at list k) ≡ 0 → slice_index news k ≡ k) (sym bytes_same) empty;
+        }
