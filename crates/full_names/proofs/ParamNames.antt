@@ -68,12 +68,12 @@ module _ (number : ℕ → ℕ) (position : ℕ) where
                       some = let long = ap (λ (rows : List KeyedRow). length rows) here in let more = found.1.some in omega (arith, long, more);
                     },
                   )
-              | inr rest ↦ inr (record {
+              | inr remainder ↦ inr (record {
                 none = λ row low high. elim (cases_eq row from) [
                   | inl same ↦ at row same
-                  | inr later ↦ rest.none row (omega (arith, low, later)) (omega (arith, high))
+                  | inr later ↦ remainder.none row (omega (arith, low, later)) (omega (arith, high))
                 ];
-                none_listed = here ∙ rest.none_listed;
+                none_listed = here ∙ remainder.none_listed;
               })
             ]
       ]

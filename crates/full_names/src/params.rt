@@ -56,11 +56,7 @@ impl<'s, S: ReadCells> Params<'s, S> {
     ghost use Rattle.metadata.specs.Metadata.{Metadata};
     ghost use Rattle.full_names.specs.Texts.{AreParams, IsParamText, spaced};
 
-    /// Sorts the rows of Param from one on to before another by their positions.
-    ///
-    /// # Errors
-    ///
-    /// Out of memory.
+    /// Sorts the rows of Param from one on to before another by their positions. It fails only if out of memory.
     pub fn new(alloc: Global, source: &'s S, rows: Range<u32>) -> Result<Params<'s, S>, AllocError>
         ensures source { IfOk result (λ params. params.source.now ≡ source.now) }
         ensures rows { (model : Metadata) → S.shows source.now model → IfOk result (λ params. AreParams model rows.start rows.«end» params.rows.items) }

@@ -22,16 +22,16 @@ module _ {X : Type 0} (test : X → Bool) where
       ap (λ t. cond t (x ∷ filter test xs) (filter test xs)) (passes 0 x (omega arith)) ∙ ap (λ ys. x ∷ ys) (filter_all xs (λ k d lt. passes (suc k) d (omega arith)))
 
 -- rows with smaller numbers, those with the number, and those with greater ones
-pub keyed_found : (rows front from found back : List KeyedRow) (key : ℕ) → rows ≡ front ++ from → from ≡ found ++ back
-    → ((k : ℕ) (d : KeyedRow) → k < length front → key_of (get_or front k d) < key) → ((k : ℕ) (d : KeyedRow) → k < length found → key_of (get_or found k d) ≡ key)
+pub keyed_found : (rows prefix from found back : List KeyedRow) (key : ℕ) → rows ≡ prefix ++ from → from ≡ found ++ back
+    → ((k : ℕ) (d : KeyedRow) → k < length prefix → key_of (get_or prefix k d) < key) → ((k : ℕ) (d : KeyedRow) → k < length found → key_of (get_or found k d) ≡ key)
     → ((k : ℕ) (d : KeyedRow) → k < length back → key < key_of (get_or back k d)) → found ≡ filter (has_key key) rows
-keyed_found rows front from found back key whole parts less same more =
+keyed_found rows prefix from found back key whole parts less same more =
     let test = has_key key in
-    let none_before = filter_none test front (λ k d lt. let small = less k d lt in ne_eqb (key_of (get_or front k d)) key (λ e. let equal : key_of (get_or front k d) ≡ key = e in absurd (omega (arith, small, equal)))) in
+    let none_before = filter_none test prefix (λ k d lt. let small = less k d lt in ne_eqb (key_of (get_or prefix k d)) key (λ e. let equal : key_of (get_or prefix k d) ≡ key = e in absurd (omega (arith, small, equal)))) in
     let none_after = filter_none test back (λ k d lt. let large = more k d lt in ne_eqb (key_of (get_or back k d)) key (λ e. let equal : key_of (get_or back k d) ≡ key = e in absurd (omega (arith, large, equal)))) in
     let all_here = filter_all test found (λ k d lt. eq-eqb (key_of (get_or found k d)) key (same k d lt)) in
-    sym (ap (filter test) (whole ∙ ap (λ xs. front ++ xs) parts)
-    ∙ filter-append test front (found ++ back)
+    sym (ap (filter test) (whole ∙ ap (λ xs. prefix ++ xs) parts)
+    ∙ filter-append test prefix (found ++ back)
     ∙ ap (λ xs. xs ++ filter test (found ++ back)) none_before
     ∙ filter-append test found back
     ∙ ap (λ xs. filter test found ++ xs) none_after

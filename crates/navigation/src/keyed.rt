@@ -16,6 +16,10 @@ pub struct KeyedRow {
 }
 
 /// Sorts rows by their numbers. Rows with the same number stay in their order.
+///
+/// # Errors
+///
+/// Out of memory.
 pub fn sort_by_key(rows: &mut Vec<KeyedRow>) -> Result<(), AllocError>
     ensures sorted { OnOk result (IsNonDecreasingBy key_of rows.new.items) }
     ensures stable { OnOk result ((key : ℕ) → filter (has_key key) rows.new.items ≡ filter (has_key key) rows.old.items) }
