@@ -1,17 +1,12 @@
 -- The cells that the parts of a line name are in its row.
 use Rattle.std.proofs.Common.{ℕ, zero, suc, ◌<◌, List, [], ◌∷◌, length, get_or, arith, rules}
-use Rattle.std.specs.Prelude.{⊤}
 use Rattle.table_schema.specs.declared.table.TableId.{TableId}
 use Rattle.table_schema.specs.declared.table.TableId.TheVariants.{Assembly, AssemblyRef, Module, ModuleRef, File, ManifestResource, TypeDef, Field, MethodDef, InterfaceImpl, GenericParam, GenericParamConstraint, ExportedType, MethodImpl, MethodSemantics, Event, Property, ImplMap, CustomAttribute}
 use Rattle.table_schema.specs.CellColumns.{cell_columns}
 use Rattle.cli_outline.specs.Layouts.{parts_of}
+use Rattle.cli_outline.specs.Members.{flags_parts, name_parts, signature_parts}
 use Rattle.cli_outline.specs.Parts.{Part}
-use Rattle.cli_outline.specs.Shown.{IsWithin}
-
--- all parts of a list
-abbrev pub AllWithin : TableId → List Part → Type 0
-AllWithin table [] = ⊤
-AllWithin table (p ∷ ps) = IsWithin table p × AllWithin table ps
+use Rattle.cli_outline.specs.Shown.{AllWithin, IsWithin}
 
 pub parts_within : (table : TableId) → AllWithin table (parts_of table)
 unfolding cell_columns
@@ -35,6 +30,46 @@ parts_within Property = search rules
 parts_within ImplMap = search rules
 parts_within CustomAttribute = search rules
 parts_within _ = tt
+
+pub name_within : (table : TableId) → AllWithin table (name_parts table)
+unfolding cell_columns
+name_within Assembly = search rules
+name_within AssemblyRef = search rules
+name_within Module = search rules
+name_within ModuleRef = search rules
+name_within File = search rules
+name_within ManifestResource = search rules
+name_within TypeDef = search rules
+name_within Field = search rules
+name_within MethodDef = search rules
+name_within GenericParam = search rules
+name_within ExportedType = search rules
+name_within Event = search rules
+name_within Property = search rules
+name_within ImplMap = search rules
+name_within _ = tt
+
+pub flags_within : (table : TableId) → AllWithin table (flags_parts table)
+unfolding cell_columns
+flags_within Assembly = search rules
+flags_within AssemblyRef = search rules
+flags_within File = search rules
+flags_within ManifestResource = search rules
+flags_within TypeDef = search rules
+flags_within Field = search rules
+flags_within MethodDef = search rules
+flags_within GenericParam = search rules
+flags_within ExportedType = search rules
+flags_within Event = search rules
+flags_within Property = search rules
+flags_within ImplMap = search rules
+flags_within _ = tt
+
+pub signature_within : (table : TableId) → AllWithin table (signature_parts table)
+unfolding cell_columns
+signature_within Field = search rules
+signature_within Property = search rules
+signature_within _ = tt
 
 pub at_index : (table : TableId) (parts : List Part) (i : ℕ) (d : Part) → AllWithin table parts → i < length parts → IsWithin table (get_or parts i d)
 at_index table [] i d all lt = absurd (omega arith)

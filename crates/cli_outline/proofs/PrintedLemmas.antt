@@ -7,14 +7,16 @@ use Rattle.table_schema.specs.declared.token.Token.{Token}
 use Rattle.metadata.specs.Metadata.{Metadata}
 use Rattle.navigation.specs.declared.keyed.KeyedRow.{KeyedRow}
 use Rattle.navigation.specs.Keyed.{row_of}
+use Rattle.cli_lines.specs.declared.parts.Form.{Form}
 use Rattle.cli_lines.specs.Lines.{Part}
 use Rattle.cli_lines.specs.Printed.{Printed, Prints}
 use Rattle.cli_outline.specs.Outline.{each_from}
 use Rattle.cli_outline.specs.Printed.{AreLines, IsLine, PrintsRows}
 
-lines_append : (model : Metadata) (xs ys : List Token) (a b : List (List Part)) → AreLines model xs a → AreLines model ys b → AreLines model (xs ++ ys) (a ++ b)
-lines_append model [] ys a b are more = subst (λ (lines : List (List Part)). AreLines model ys (lines ++ b)) (sym are) more
-lines_append model (x ∷ xs) ys a b are more = (are.0, are.1, are.2 ++ b, lines_append model xs ys are.2 b are.3 more, ap (λ lines. lines ++ b) are.4)
+lines_append : (model : Metadata) (form : Form) (xs ys : List Token) (a b : List (List Part)) → AreLines model form xs a → AreLines model form ys b
+    → AreLines model form (xs ++ ys) (a ++ b)
+lines_append model form [] ys a b are more = subst (λ (lines : List (List Part)). AreLines model form ys (lines ++ b)) (sym are) more
+lines_append model form (x ∷ xs) ys a b are more = (are.0, are.1, are.2 ++ b, lines_append model form xs ys are.2 b are.3 more, ap (λ lines. lines ++ b) are.4)
 
 none_not_some : (waiting : Option (List ℕ)) → waiting ≡ None → IsSome waiting → ⊥
 none_not_some None none some = cc
@@ -45,7 +47,7 @@ module _ {W : Type 0} (model : Metadata) where
   }
 
   -- the line of a row, or none since printing failed
-  pub row_printed : (a b : Printed W) (row : Token) (line : List Part) → IsLine model row line → Prints a b (line ∷ []) → PrintsRows model a b (row ∷ [])
+  pub row_printed : (a b : Printed W) (row : Token) (line : List Part) → IsLine model a.form row line → Prints a b (line ∷ []) → PrintsRows model a b (row ∷ [])
   row_printed a b row line is printed = record {
     first = row ∷ [];
     later = [];
@@ -91,7 +93,8 @@ module _ {W : Type 0} (model : Metadata) where
           later = back.later;
           whole = ap (λ zs. zs ++ ys) all_first ∙ ap (λ zs. prefix.first ++ zs) back.whole ∙ sym (append_assoc prefix.first back.first back.later);
           lines = prefix.lines ++ back.lines;
-          are = lines_append model prefix.first back.first prefix.lines back.lines prefix.are back.are;
+          are = lines_append model a.form prefix.first back.first prefix.lines back.lines prefix.are
+              (subst (λ (f : Form). AreLines model f back.first back.lines) prefix.printed.same.form back.are);
           printed = joined a b c prefix.lines back.lines prefix.printed back.printed;
           all = back.all;
         }

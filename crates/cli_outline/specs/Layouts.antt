@@ -5,6 +5,7 @@ use Rattle.table_schema.specs.declared.table.TableId.TheVariants.{Assembly, Asse
 use Rattle.table_schema.specs.declared.token.Token.{Token}
 use Rattle.metadata.specs.Metadata.{Metadata}
 use Rattle.full_names.specs.declared.flag_words.FlagTable.TheVariants as table
+use Rattle.cli_lines.specs.declared.parts.Form.{Form}
 use Rattle.cli_outline.specs.Texts.{AreTexts}
 use Rattle.cli_outline.specs.Parts.{IsPartText, Part, word, flags, text, number, quoted_after, bytes_after, key, hex, dotted, token_after, signature, declaration, own_name, name_after}
 
@@ -60,6 +61,6 @@ parts_of CustomAttribute =
     word (codes ".custom") ∷ name_after (codes " ") 1 ∷ word (codes " = (") ∷ hex 2 ∷ word (codes ")") ∷ token_after (codes " of ") 0 ∷ []
 parts_of _ = []
 
--- the declaration of a row: the texts of its parts
-abbrev pub IsDeclared : Metadata → Token → List ℕ → Type 0
-IsDeclared model of whole = AreTexts (IsPartText model of.table of.row) (parts_of of.table) whole
+-- the texts of parts of a row, one after another
+abbrev pub IsTextOf : Metadata → Form → Token → List Part → List ℕ → Type 0
+IsTextOf model form of parts whole = AreTexts (IsPartText model form of.table of.row) parts whole

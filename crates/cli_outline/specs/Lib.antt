@@ -1,6 +1,7 @@
-pub mod Texts
 pub mod Parts
+pub mod Texts
 pub mod Layouts
+pub mod Members
 pub mod Declarations
 pub mod Outline
 pub mod Printed

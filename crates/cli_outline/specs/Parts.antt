@@ -11,7 +11,10 @@ use Rattle.metadata.specs.Cell.{Cell, Number, Text, Bytes, Ref, Sig}
 use Rattle.metadata.specs.Metadata.{Metadata, cell_in}
 use Rattle.full_names.specs.RowNames.{IsRowName}
 use Rattle.full_names.specs.Texts.{ArePiecesText, IsDeclaration, IsFullName, IsPieceText}
+use Rattle.std.specs.Fmt.Cut.{floor_char_boundary}
 use Rattle.cli_faults.specs.Escaped.{escaped_text}
+use Rattle.cli_lines.specs.declared.parts.Form.{Form}
+use Rattle.cli_lines.specs.declared.parts.Form.TheVariants as form_of
 use Rattle.cli_lines.specs.Texts.{escaped_bytes}
 use Rattle.full_names.specs.FlagWords.{words_of, words_text}
 use Rattle.full_names.specs.declared.flag_words.FlagTable.{FlagTable}
@@ -23,7 +26,7 @@ pub data Part : Type 0 where
   word : List ℕ → Part
   -- the words of the flags in a cell, a space before each
   flags : FlagTable → ℕ → Part
-  -- the text in a cell, escaped, up to the limit
+  -- the text in a cell, up to the limit
   text : ℕ → Part
   -- the number in a cell, in decimal
   number : ℕ → Part
@@ -69,14 +72,23 @@ reference_of _ = None
 abbrev pub text_limit : ℕ
 text_limit = 0x10000
 
--- a text, escaped; if it has more bytes, the first ones, escaped, and `..`
-unfoldable pub cut_text : List ℕ → List ℕ
-cut_text whole = escaped_text (take text_limit whole) ++ (if nat_lt text_limit (length whole) then codes ".." else [])
+-- the first bytes of a text, up to the end of a character
+unfoldable pub whole_chars : ℕ → List ℕ → List ℕ
+whole_chars room of = if nat_lt room (length of) then take (floor_char_boundary of room) of else of
+
+-- the first bytes of a text: escaped in a line of text, and whole characters in JSON
+abbrev pub first_in : Form → ℕ → List ℕ → List ℕ
+first_in form_of.Text room of = escaped_text (take room of)
+first_in form_of.JsonLines room of = whole_chars room of
+
+-- a text in a form; if it has more bytes, the first ones, and `..`
+unfoldable pub cut_text : Form → List ℕ → List ℕ
+cut_text form whole = first_in form text_limit whole ++ (if nat_lt text_limit (length whole) then codes ".." else [])
 
 -- a word and a text in quotes, unless the text is empty
-abbrev pub quoted_text : List ℕ → List ℕ → List ℕ
-quoted_text before [] = []
-quoted_text before (first ∷ tail) = before ++ codes "\"" ++ cut_text (first ∷ tail) ++ codes "\""
+abbrev pub quoted_text : Form → List ℕ → List ℕ → List ℕ
+quoted_text form before [] = []
+quoted_text form before (first ∷ tail) = before ++ codes "\"" ++ cut_text form (first ∷ tail) ++ codes "\""
 
 -- a word and bytes in parentheses, unless there are none
 abbrev pub bytes_text : List ℕ → List ℕ → List ℕ
@@ -89,60 +101,60 @@ key_text bits [] = []
 key_text bits (first ∷ tail) = words_text bits (words_of table_of.Key) ++ bytes_text (codes " = ") (first ∷ tail)
 
 -- a text and a dot, unless the text is empty
-abbrev pub dotted_text : List ℕ → List ℕ
-dotted_text [] = []
-dotted_text (first ∷ tail) = cut_text (first ∷ tail) ++ codes "."
+abbrev pub dotted_text : Form → List ℕ → List ℕ
+dotted_text form [] = []
+dotted_text form (first ∷ tail) = cut_text form (first ∷ tail) ++ codes "."
 
 -- a word and a token, unless the reference is null
 abbrev pub token_text_after : List ℕ → Option Token → List ℕ
 token_text_after before None = []
 token_text_after before (Some token) = before ++ token_text token
 
--- the name of a row (II.5.3), escaped, up to the limit
-abbrev pub IsNameText : Metadata → Token → List ℕ → Type 0
-IsNameText model token out = (name : List ℕ) × IsRowName model token name × (out ≡ cut_text name)
+-- the name of a row (II.5.3), up to the limit
+abbrev pub IsNameText : Metadata → Form → Token → List ℕ → Type 0
+IsNameText model form token out = (name : List ℕ) × IsRowName model token name × (out ≡ cut_text form name)
 
--- the text of a signature, with the full names of types, escaped, up to the limit (II.7.1, II.15.3)
-abbrev pub IsSignatureText : Metadata → Body → List ℕ → Type 0
-IsSignatureText model of out = (plain : List ℕ) × ArePiecesText (IsPieceText (IsFullName model)) (pieces_of_signature of) plain × (out ≡ cut_text plain)
+-- the text of a signature, with the full names of types, up to the limit (II.7.1, II.15.3)
+abbrev pub IsSignatureText : Metadata → Form → Body → List ℕ → Type 0
+IsSignatureText model form of out = (plain : List ℕ) × ArePiecesText (IsPieceText (IsFullName model)) (pieces_of_signature of) plain × (out ≡ cut_text form plain)
 
 -- the same of a cell, which has no text if it is no signature
-abbrev pub IsSignatureOf : Metadata → Cell → List ℕ → Type 0
-IsSignatureOf model (Sig of) out = IsSignatureText model of out
-IsSignatureOf model _ out = out ≡ []
+abbrev pub IsSignatureOf : Metadata → Form → Cell → List ℕ → Type 0
+IsSignatureOf model form (Sig of) out = IsSignatureText model form of out
+IsSignatureOf model form _ out = out ≡ []
 
--- the declaration of a method, with its full name and the names of its parameters, escaped, up to the limit (II.15.3)
-abbrev pub IsMethodText : Metadata → ℕ → List ℕ → Type 0
-IsMethodText model row out =
-    (method : Method) × (cell_in model MethodDef row 4 ≡ Sig (method_body method)) × (plain : List ℕ) × IsDeclaration model row method plain × (out ≡ cut_text plain)
+-- the declaration of a method, with its full name and the names of its parameters, up to the limit (II.15.3)
+abbrev pub IsMethodText : Metadata → Form → ℕ → List ℕ → Type 0
+IsMethodText model form row out =
+    (method : Method) × (cell_in model MethodDef row 4 ≡ Sig (method_body method)) × (plain : List ℕ) × IsDeclaration model row method plain × (out ≡ cut_text form plain)
 
 -- the same of a row, which has no text if it is no method
-abbrev pub IsDeclarationAt : Metadata → TableId → ℕ → List ℕ → Type 0
-IsDeclarationAt model MethodDef row out = IsMethodText model row out
-IsDeclarationAt model _ row out = out ≡ []
+abbrev pub IsDeclarationAt : Metadata → Form → TableId → ℕ → List ℕ → Type 0
+IsDeclarationAt model form MethodDef row out = IsMethodText model form row out
+IsDeclarationAt model form _ row out = out ≡ []
 
 -- a word and the name of a row, unless the reference is null
-abbrev pub IsNameAfter : Metadata → List ℕ → Option Token → List ℕ → Type 0
-IsNameAfter model before None out = out ≡ []
-IsNameAfter model before (Some token) out = (name : List ℕ) × IsNameText model token name × (out ≡ before ++ name)
+abbrev pub IsNameAfter : Metadata → Form → List ℕ → Option Token → List ℕ → Type 0
+IsNameAfter model form before None out = out ≡ []
+IsNameAfter model form before (Some token) out = (name : List ℕ) × IsNameText model form token name × (out ≡ before ++ name)
 
 -- the token of a row
 abbrev pub token_at : TableId → ℕ → Token
 token_at table row = record { table = table; row = row }
 
 -- the text of a part of the line of a row
-abbrev pub IsPartText : Metadata → TableId → ℕ → Part → List ℕ → Type 0
-IsPartText model table row (word of) out = out ≡ of
-IsPartText model table row (flags of cell) out = out ≡ words_text (number_of (cell_in model table row cell)) (words_of of)
-IsPartText model table row (text cell) out = out ≡ cut_text (text_of (cell_in model table row cell))
-IsPartText model table row (number cell) out = out ≡ digits (number_of (cell_in model table row cell))
-IsPartText model table row (quoted_after before cell) out = out ≡ quoted_text before (text_of (cell_in model table row cell))
-IsPartText model table row (bytes_after before cell) out = out ≡ bytes_text before (bytes_of (cell_in model table row cell))
-IsPartText model table row (key of cell) out = out ≡ key_text (number_of (cell_in model table row of)) (bytes_of (cell_in model table row cell))
-IsPartText model table row (hex cell) out = out ≡ escaped_bytes (bytes_of (cell_in model table row cell))
-IsPartText model table row (dotted cell) out = out ≡ dotted_text (text_of (cell_in model table row cell))
-IsPartText model table row (token_after before cell) out = out ≡ token_text_after before (reference_of (cell_in model table row cell))
-IsPartText model table row (signature cell) out = IsSignatureOf model (cell_in model table row cell) out
-IsPartText model table row declaration out = IsDeclarationAt model table row out
-IsPartText model table row own_name out = IsNameText model (token_at table row) out
-IsPartText model table row (name_after before cell) out = IsNameAfter model before (reference_of (cell_in model table row cell)) out
+abbrev pub IsPartText : Metadata → Form → TableId → ℕ → Part → List ℕ → Type 0
+IsPartText model form table row (word of) out = out ≡ of
+IsPartText model form table row (flags of cell) out = out ≡ words_text (number_of (cell_in model table row cell)) (words_of of)
+IsPartText model form table row (text cell) out = out ≡ cut_text form (text_of (cell_in model table row cell))
+IsPartText model form table row (number cell) out = out ≡ digits (number_of (cell_in model table row cell))
+IsPartText model form table row (quoted_after before cell) out = out ≡ quoted_text form before (text_of (cell_in model table row cell))
+IsPartText model form table row (bytes_after before cell) out = out ≡ bytes_text before (bytes_of (cell_in model table row cell))
+IsPartText model form table row (key of cell) out = out ≡ key_text (number_of (cell_in model table row of)) (bytes_of (cell_in model table row cell))
+IsPartText model form table row (hex cell) out = out ≡ escaped_bytes (bytes_of (cell_in model table row cell))
+IsPartText model form table row (dotted cell) out = out ≡ dotted_text form (text_of (cell_in model table row cell))
+IsPartText model form table row (token_after before cell) out = out ≡ token_text_after before (reference_of (cell_in model table row cell))
+IsPartText model form table row (signature cell) out = IsSignatureOf model form (cell_in model table row cell) out
+IsPartText model form table row declaration out = IsDeclarationAt model form table row out
+IsPartText model form table row own_name out = IsNameText model form (token_at table row) out
+IsPartText model form table row (name_after before cell) out = IsNameAfter model form before (reference_of (cell_in model table row cell)) out

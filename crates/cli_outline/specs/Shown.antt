@@ -1,9 +1,11 @@
 -- The parts of the program, as values of specs/.
-use Rattle.std.specs.Prelude.{◌<◌, ⊤}
+use Rattle.std.specs.Prelude.{◌<◌, ⊤, List, [], ◌∷◌, string_bytes}
 use Rattle.table_schema.specs.declared.table.TableId.{TableId}
 use Rattle.table_schema.specs.CellColumns.{cell_count}
 use Rattle.cli_outline.specs.Parts as part
 use Rattle.cli_outline.specs.Parts.{Part}
+use Rattle.cli_outline.specs.Declarations.{Texts}
+use Rattle.cli_outline.specs.declared.texts.Texts.{Texts as KeptTexts}
 use Rattle.cli_outline.specs.declared.layouts.Piece.{Piece}
 use Rattle.cli_outline.specs.declared.layouts.Piece.TheVariants.{Word as PlainWord, Flags, Text, Number, QuotedAfter, BytesAfter, Key, Hex, Dotted, TokenAfter, Signature, Declaration, OwnName, NameAfter}
 
@@ -39,3 +41,15 @@ IsWithin table (part.signature cell) = cell < cell_count table
 IsWithin table part.declaration = ⊤
 IsWithin table part.own_name = ⊤
 IsWithin table (part.name_after of cell) = cell < cell_count table
+
+abbrev pub AllWithin : TableId → List Part → Type 0
+AllWithin table [] = ⊤
+AllWithin table (first ∷ later) = IsWithin table first × AllWithin table later
+
+abbrev pub shown_texts : KeptTexts → Texts
+shown_texts of = record {
+  whole = string_bytes of.whole.text;
+  name = string_bytes of.name.text;
+  flags = string_bytes of.flags.text;
+  signature = string_bytes of.signature.text;
+}

@@ -2,10 +2,12 @@
 ghost use Rattle.std.specs.Prelude.{◌≡◌, ◌==◌, ◌<◌, ◌+◌, ◌++◌, false, if◌then◌else◌, [], codes, take, string_bytes, slice_index, EachIndex, IsTrue, OnOk};
 ghost use Rattle.cli_faults.specs.Escaped.{is_plain, escaped_byte, escaped_text};
 ghost use Rattle.cli_lines.specs.Texts.{escaped_bytes};
-ghost use Rattle.cli_outline.specs.Parts.{cut_text, text_limit};
+ghost use Rattle.cli_outline.specs.Parts.{cut_text, first_in, text_limit, whole_chars};
+ghost use Rattle.cli_outline.specs.Texts.{Grows};
 ghost use Rattle.std.specs.Fmt.{digit_glyph};
 ghost use Rattle.table_schema.specs.Tokens.{hexadecimal};
 
+use cli_lines::Form;
 use full_names::Limit;
 use std::alloc::{AllocError, Global};
 use std::fmt::{self, Write};
@@ -13,12 +15,14 @@ use std::fmt::{self, Write};
 /// The number of bytes of a name, a signature or another text of the file that are printed.
 const LIMIT: usize = 1 << 16;
 
-/// The text of a declaration, as a writer of texts: it escapes what it takes. Of a text that [`begin_text`] begins it takes
-/// the first bytes, and passes over the others. It refuses a text only if out of memory.
+/// The text of a declaration, as a writer of texts: for a line of text it escapes what it takes. Of a text that
+/// [`begin_text`] begins it takes the first bytes, and passes over the others. It refuses a text only if out of memory.
 #[derive(Drop)]
 pub struct Declared {
     /// For its memory.
     pub alloc: Global,
+    /// The form of the line.
+    pub form: Form,
     /// The text so far.
     pub text: String,
     /// One more than the number of bytes of the text that it still takes; 0 after a byte that it passed over.
@@ -32,27 +36,28 @@ impl Declared {
     pub(crate) fn new(alloc: Global) -> Declared {
         Declared {
             alloc,
+            form: Form::Text,
             text: String::new(alloc),
             left: 0,
         }
     }
 
-    /// Makes the text empty.
-    pub(crate) fn clear(&mut self)
-        ensures { string_bytes self.new.text ≡ [] }
+    /// Makes the text empty, for a line in a form.
+    pub(crate) fn begin(&mut self, form: Form)
+        ensures text { string_bytes self.new.text ≡ [] }
+        ensures form { self.new.form ≡ form }
     {
         self.text.clear();
+        self.form = form;
     }
 }
 
 impl fmt::Write for Declared {
-    ghost use Rattle.std.specs.Prelude.{◌≡◌, ◌-◌, ◌++◌, length, take, string_bytes};
-    ghost use Rattle.cli_faults.specs.Escaped.{escaped_text};
+    ghost use Rattle.cli_outline.specs.Texts.{Takes};
 
-    ghost write_str_gives = { λ before text after. (string_bytes after.text ≡ string_bytes before.text ++ escaped_text (take (before.left - 1) text))
-        × (after.left ≡ before.left - length text) };
+    ghost write_str_gives = { Takes };
 
-    /// Appends the bytes of a text that are still taken, escaped.
+    /// Appends the bytes of a text that are still taken.
     ///
     /// # Errors
     ///
@@ -60,7 +65,7 @@ impl fmt::Write for Declared {
     fn write_str(&mut self, text: &str) -> fmt::Result {
         let room = self.left.saturating_sub(1);
         self.left = self.left.saturating_sub(text.len());
-        match push_first(text, room, &mut self.text) {
+        match push_first(self.form, text, room, &mut self.text) {
             Ok(()) => Ok(()),
             Err(_) => Err(fmt::Error),
         }
@@ -86,8 +91,28 @@ fn are_plain(text: &[u8]) -> bool
     all
 }
 
+/// The first bytes of a text, up to the end of a character.
+fn whole_chars(text: &str, room: usize) -> &str
+    ensures { result.now ≡ whole_chars room text.now }
+{
+    if text.len() <= room {
+        return text;
+    }
+    text.split_at(text.floor_char_boundary(room)).0
+}
+
+/// Appends the first bytes of a text in a form.
+fn push_first(form: Form, text: &str, room: usize, out: &mut String) -> Result<(), AllocError>
+    ensures { OnOk result (string_bytes out.new ≡ string_bytes out.old ++ first_in form room text.now) }
+{
+    match form {
+        Form::Text => push_first_escaped(text, room, out),
+        Form::JsonLines => out.push_str(whole_chars(text, room)),
+    }
+}
+
 /// Appends the first bytes of a text, escaped.
-fn push_first(text: &str, room: usize, out: &mut String) -> Result<(), AllocError>
+fn push_first_escaped(text: &str, room: usize, out: &mut String) -> Result<(), AllocError>
     ensures { OnOk result (string_bytes out.new ≡ string_bytes out.old ++ escaped_text (take room text.now)) }
 {
     let taken = room.min(text.len());
@@ -141,7 +166,7 @@ impl Limit<Declared> for TextLimit {
 
 /// Begins a text of the file.
 pub(crate) fn begin_text(declared: &mut Declared)
-    ensures same { string_bytes declared.new.text ≡ string_bytes declared.old.text }
+    ensures same { Grows declared.old declared.new [] }
     ensures left { declared.new.left ≡ text_limit + 1 }
 {
     declared.left = LIMIT + 1;
@@ -149,7 +174,7 @@ pub(crate) fn begin_text(declared: &mut Declared)
 
 /// Ends a text of the file: appends `..` if it was cut.
 pub(crate) fn end_text(declared: &mut Declared) -> Result<(), AllocError>
-    ensures { OnOk result (string_bytes declared.new.text ≡ string_bytes declared.old.text ++ (if declared.old.left == 0 then codes ".." else [])) }
+    ensures { OnOk result (Grows declared.old declared.new (if declared.old.left == 0 then codes ".." else [])) }
 {
     if declared.left == 0 {
         return push_plain("..", declared);
@@ -159,7 +184,7 @@ pub(crate) fn end_text(declared: &mut Declared) -> Result<(), AllocError>
 
 /// Appends a text of the file.
 pub(crate) fn push_text(text: &str, declared: &mut Declared) -> Result<(), AllocError>
-    ensures { OnOk result (string_bytes declared.new.text ≡ string_bytes declared.old.text ++ cut_text text.now) }
+    ensures { OnOk result (Grows declared.old declared.new (cut_text declared.old.form text.now)) }
 {
     begin_text(declared);
     match declared.write_str(text) {
@@ -170,7 +195,7 @@ pub(crate) fn push_text(text: &str, declared: &mut Declared) -> Result<(), Alloc
 
 /// Appends a text of the program, as it is.
 pub(crate) fn push_plain(text: &str, declared: &mut Declared) -> Result<(), AllocError>
-    ensures { OnOk result (string_bytes declared.new.text ≡ string_bytes declared.old.text ++ text.now) }
+    ensures { OnOk result (Grows declared.old declared.new text.now) }
 {
     declared.text.push_str(text)
 }
@@ -190,7 +215,7 @@ fn digit(number: u8) -> char
 
 /// Appends two hexadecimal digits for each byte.
 pub(crate) fn push_hexadecimal(bytes: &[u8], declared: &mut Declared) -> Result<(), AllocError>
-    ensures { OnOk result (string_bytes declared.new.text ≡ string_bytes declared.old.text ++ escaped_bytes bytes.now) }
+    ensures { OnOk result (Grows declared.old declared.new (escaped_bytes bytes.now)) }
 {
     for byte in bytes {
         push_digits(*byte, &mut declared.text)?;

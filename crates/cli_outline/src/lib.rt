@@ -10,7 +10,7 @@
 //! .class public auto ansi beforefieldinit Hello.Greeter extends System.Object  // 02000002
 //!   .field private string name  // 04000001
 //!   .method public hidebysig instance string Hello.Greeter::Greet(int32 times) cil managed  // 06000001
-//! {"token":"06000001","type":"02000002","directive":".method","text":".method public .."} // the same as JSON
+//! {"token":"06000001","type":"02000002","directive":".method","text":".method public ..","name":"Greet","flags":"public .."}
 //! ```
 #![tactic(auto)]
 
@@ -20,10 +20,12 @@ mod laws;
 mod layouts;
 mod line;
 mod mapped;
+mod members;
 mod outline;
 mod pieces;
 mod signature_sink;
 mod subject;
+mod texts;
 
 pub use outline::{print_outline, print_outline_of};
 pub use subject::{Outcome, Subject};

@@ -1,27 +1,27 @@
 //! The line of a declaration.
-ghost use Rattle.std.specs.Prelude.{◌≡◌, ◌≤◌, ◌∷◌, [], string_bytes, OnOk};
+ghost use Rattle.std.specs.Prelude.{◌≡◌, ◌≤◌, ◌∷◌, [], map};
 ghost use Rattle.std.specs.List.{before_first, position};
 ghost use Rattle.metadata.specs.Metadata.{Metadata};
 ghost use Rattle.metadata.specs.Model.{IsModel};
 ghost use Rattle.opening.specs.Views.{row_count};
 ghost use Rattle.cli_lines.specs.Printed.{Prints};
 ghost use Rattle.cli_lines.specs.Shown.{shown};
+ghost use Rattle.cli_lines.specs.declared.parts.Form.TheVariants as form_of;
 ghost use Rattle.full_names.specs.RowNames.{IsMemberOf};
-ghost use Rattle.cli_outline.specs.Declarations.{declaration_line, directive_part, ends_word, has_directive, type_part};
-ghost use Rattle.cli_outline.specs.Layouts.{IsDeclared};
+ghost use Rattle.cli_outline.specs.Declarations.{declaration_line, declaration_object, directive_part, ends_word, has_directive, text_part, type_part};
 ghost use Rattle.cli_outline.specs.Printed.{PrintsRows};
-ghost use Rattle.cli_outline.specs.Texts.{Gains};
+ghost use Rattle.cli_outline.specs.Shown.{shown as shown_piece, shown_texts};
 
 use crate::cell_values::number;
 use crate::declared::Declared;
-use crate::layouts::pieces_of;
-use crate::pieces::push_piece;
+use crate::layouts::Piece;
+use crate::members::{flags_of, name_of, signature_of};
+use crate::texts::{Texts, push_texts, push_whole};
 use cli_lines::Part::{Member, Note, Word};
 use cli_lines::Value::{self, Plain, Text};
-use cli_lines::{Name, Part, Printer};
+use cli_lines::{Form, Name, Part, Printer};
 use navigation::Neighbours;
 use opening::{TableId, Token, View};
-use std::alloc::AllocError;
 use std::io::Write;
 
 /// The cell of the flags of an accessor (II.22.28).
@@ -29,23 +29,6 @@ const SEMANTICS: usize = 0;
 
 /// The flags of accessors that have a word (II.23.1.12).
 const KNOWN_SEMANTICS: u32 = 0x3F;
-
-/// Appends the declaration of a row: the pieces of its line.
-fn push_pieces(
-    source: &Neighbours<'_, '_>,
-    token: Token,
-    declared: &mut Declared,
-) -> Result<(), AllocError>
-    requires first { 1 ≤ token.row }
-    requires last { token.row ≤ row_count source.now.view.now token.table }
-    ensures { (model : Metadata) → IsModel source.now.view.now model
-        → OnOk result (Gains (IsDeclared model token) (string_bytes declared.old.text) (string_bytes declared.new.text)) }
-{
-    for piece in pieces_of(token.table) {
-        push_piece(source, token.table, token.row, *piece, declared)?;
-    }
-    Ok(())
-}
 
 /// The length of the first word of a declaration, which a space or a parenthesis ends.
 fn end_of_word(text: &[u8]) -> Option<usize>
@@ -98,27 +81,83 @@ fn directive_part(has_directive: bool, text: &str) -> Part<'_>
     Word("")
 }
 
-/// Prints the line of a declaration.
+/// The member of a text, if the row has pieces of it.
+fn text_part<'a>(name: Name, pieces: &[Piece], text: &'a str) -> Part<'a>
+    ensures { shown result ≡ text_part name (map shown_piece pieces.now) text.now }
+{
+    if pieces.is_empty() {
+        return Word("");
+    }
+    Member(name, Plain(text))
+}
+
+/// Prints the line of a declaration as text.
 #[tactic(auto, unfolding(crate::specs::Declarations::declaration_line))]
-fn print_declaration<W: Write>(
+fn print_declaration<W: Write>(of: Token, text: &str, out: &mut Printer<'_, W>)
+    ensures { Prints out.old out.new (declaration_line of text.now ∷ []) }
+{
+    out.line(&[Note(Plain(text)), Word("  // "), Note(Value::Token(of))]);
+}
+
+/// Prints the object of a declaration.
+fn print_object<W: Write>(
     of: Token,
     class: Option<Token>,
     has_directive: bool,
-    text: &str,
+    texts: &Texts,
     out: &mut Printer<'_, W>,
 )
-    ensures { Prints out.old out.new (declaration_line of class has_directive text.now ∷ []) }
+    ensures { Prints out.old out.new (declaration_object of class has_directive (shown_texts texts.now) ∷ []) }
 {
-    let unindented = text.trim_ascii_start();
+    let whole = texts.whole.text.trim_ascii_start();
+    let flags = texts.flags.text.trim_ascii_start();
     out.line(&[
         Member(Name::Token, Value::Token(of)),
         type_part(class),
-        directive_part(has_directive, unindented),
-        Note(Plain(text)),
-        Member(Name::Text, Plain(unindented)),
-        Word("  // "),
-        Note(Value::Token(of)),
+        directive_part(has_directive, whole),
+        Member(Name::Text, Plain(whole)),
+        text_part(Name::Name, name_of(of.table), &texts.name.text),
+        text_part(Name::Flags, flags_of(of.table), flags),
+        text_part(Name::Signature, signature_of(of.table), &texts.signature.text),
     ]);
+}
+
+/// Prints the line of a row as text.
+fn print_as_text<W: Write>(
+    source: &Neighbours<'_, '_>,
+    token: Token,
+    declared: &mut Declared,
+    out: &mut Printer<'_, W>,
+)
+    requires first { 1 ≤ token.row }
+    requires last { token.row ≤ row_count source.now.view.now token.table }
+    requires form { out.old.form ≡ form_of.Text }
+    ensures { (model : Metadata) → IsModel source.now.view.now model → PrintsRows model out.old out.new (token ∷ []) }
+{
+    match push_whole(source, Form::Text, token, declared) {
+        Ok(()) => print_declaration(token, &declared.text, out),
+        Err(_) => out.fail(),
+    }
+}
+
+/// Prints the object of a row: of a member of a type, if that is given.
+fn print_as_json<W: Write>(
+    source: &Neighbours<'_, '_>,
+    class: Option<Token>,
+    token: Token,
+    texts: &mut Texts,
+    out: &mut Printer<'_, W>,
+)
+    requires first { 1 ≤ token.row }
+    requires last { token.row ≤ row_count source.now.view.now token.table }
+    requires member { (model : Metadata) → IsModel source.now.view.now model → IsMemberOf model token.table token.row class }
+    requires form { out.old.form ≡ form_of.JsonLines }
+    ensures { (model : Metadata) → IsModel source.now.view.now model → PrintsRows model out.old out.new (token ∷ []) }
+{
+    match push_texts(source, token, texts) {
+        Ok(()) => print_object(token, class, has_directive(source.view, token), texts, out),
+        Err(_) => out.fail(),
+    }
 }
 
 /// Prints the line of a row: of a member of a type, if that is given.
@@ -126,7 +165,7 @@ pub(crate) fn print_line<W: Write>(
     source: &Neighbours<'_, '_>,
     class: Option<Token>,
     token: Token,
-    declared: &mut Declared,
+    texts: &mut Texts,
     out: &mut Printer<'_, W>,
 )
     requires first { 1 ≤ token.row }
@@ -134,12 +173,8 @@ pub(crate) fn print_line<W: Write>(
     requires member { (model : Metadata) → IsModel source.now.view.now model → IsMemberOf model token.table token.row class }
     ensures { (model : Metadata) → IsModel source.now.view.now model → PrintsRows model out.old out.new (token ∷ []) }
 {
-    declared.clear();
-    match push_pieces(source, token, declared) {
-        Ok(()) => {
-            let has_directive = has_directive(source.view, token);
-            print_declaration(token, class, has_directive, &declared.text, out);
-        }
-        Err(_) => out.fail(),
+    match out.form() {
+        Form::Text => print_as_text(source, token, &mut texts.whole, out),
+        Form::JsonLines => print_as_json(source, class, token, texts, out),
     }
 }

@@ -7,7 +7,7 @@ ghost use Rattle.opening.specs.Views.{row_count};
 ghost use Rattle.cli_outline.specs.Outline.{accessed_rows, each_from, list_of, mapped_rows, table_of, type_rows};
 ghost use Rattle.cli_outline.specs.Printed.{PrintsRows};
 
-use crate::declared::Declared;
+use crate::texts::Texts;
 use crate::laws::{ranges_follow, rows_follow};
 use crate::outline::{print_row, run_of};
 use cli_lines::Printer;
@@ -70,7 +70,7 @@ fn print_accessed<W: Write>(
     source: &Neighbours<'_, '_>,
     of: Mapped,
     row: u32,
-    declared: &mut Declared,
+    texts: &mut Texts,
     out: &mut Printer<'_, W>,
 )
     requires first { 1 ≤ row }
@@ -80,14 +80,14 @@ fn print_accessed<W: Write>(
 {
     rows_follow::<W>();
     let table = of.list().member();
-    print_row(source, None, Token { table, row }, declared, out);
+    print_row(source, None, Token { table, row }, texts, out);
     let accessors = source.linked(Link::Accessors, of.accessed(row));
     for accessor in accessors {
         let token = Token {
             table: TableId::MethodSemantics,
             row: accessor.row,
         };
-        print_row(source, None, token, declared, out);
+        print_row(source, None, token, texts, out);
     }
 }
 
@@ -96,7 +96,7 @@ fn print_all_accessed<W: Write>(
     source: &Neighbours<'_, '_>,
     of: Mapped,
     rows: Range<u32>,
-    declared: &mut Declared,
+    texts: &mut Texts,
     out: &mut Printer<'_, W>,
 )
     requires first { 1 ≤ rows.start }
@@ -108,7 +108,7 @@ fn print_all_accessed<W: Write>(
     ranges_follow::<W>();
     let (first, past) = (rows.start, rows.end);
     for row in first..past {
-        print_accessed(source, of, row, declared, out);
+        print_accessed(source, of, row, texts, out);
     }
 }
 
@@ -118,7 +118,7 @@ fn print_map<W: Write>(
     cells: &mut CellCursor<'_, '_>,
     of: Mapped,
     map: u32,
-    declared: &mut Declared,
+    texts: &mut Texts,
     out: &mut Printer<'_, W>,
 )
     requires first { 1 ≤ map }
@@ -128,7 +128,7 @@ fn print_map<W: Write>(
     ensures lines { (model : Metadata) → IsModel source.now.view.now model → PrintsRows model out.old out.new (mapped_rows model of map) }
 {
     let rows = run_of(cells, of.list(), map);
-    print_all_accessed(source, of, rows, declared, out);
+    print_all_accessed(source, of, rows, texts, out);
 }
 
 /// Prints the lines of the events or the properties of a type.
@@ -137,7 +137,7 @@ pub(crate) fn print_mapped<W: Write>(
     cells: &mut CellCursor<'_, '_>,
     of: Mapped,
     class: u32,
-    declared: &mut Declared,
+    texts: &mut Texts,
     out: &mut Printer<'_, W>,
 )
     requires at { cells.old ≡ source.now.view.now }
@@ -147,6 +147,6 @@ pub(crate) fn print_mapped<W: Write>(
     rows_follow::<W>();
     let maps = source.linked(of.link(), class);
     for map in maps {
-        print_map(source, cells, of, map.row, declared, out);
+        print_map(source, cells, of, map.row, texts, out);
     }
 }

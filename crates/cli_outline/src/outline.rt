@@ -13,7 +13,7 @@ ghost use Rattle.cli_outline.specs.Outline.{all_rows, class_rows, each_from, fir
 ghost use Rattle.cli_outline.specs.Printed.{PrintsRows};
 ghost use Rattle.cli_outline.specs.Subjects.{PrintsNone, PrintsSubject};
 
-use crate::declared::Declared;
+use crate::texts::Texts;
 use crate::laws::{ranges_follow, rows_follow};
 use crate::line::print_line;
 use crate::mapped::{Mapped, print_mapped};
@@ -31,7 +31,7 @@ pub(crate) fn print_row<W: Write>(
     source: &Neighbours<'_, '_>,
     owner: Option<Token>,
     token: Token,
-    declared: &mut Declared,
+    texts: &mut Texts,
     out: &mut Printer<'_, W>,
 )
     requires first { 1 ≤ token.row }
@@ -40,8 +40,8 @@ pub(crate) fn print_row<W: Write>(
     ensures { (model : Metadata) → IsModel source.now.view.now model → PrintsRows model out.old out.new (row_of token.table token.row) }
 {
     match owner {
-        Some(class) => print_line(source, Some(class), token, declared, out),
-        None => print_line(source, type_of_member(source, token), token, declared, out),
+        Some(class) => print_line(source, Some(class), token, texts, out),
+        None => print_line(source, type_of_member(source, token), token, texts, out),
     }
 }
 
@@ -51,7 +51,7 @@ fn print_rows<W: Write>(
     owner: Option<Token>,
     table: TableId,
     rows: Range<u32>,
-    declared: &mut Declared,
+    texts: &mut Texts,
     out: &mut Printer<'_, W>,
 )
     requires first { 1 ≤ rows.start }
@@ -63,7 +63,7 @@ fn print_rows<W: Write>(
     ranges_follow::<W>();
     let (first, past) = (rows.start, rows.end);
     for row in first..past {
-        print_row(source, owner, Token { table, row }, declared, out);
+        print_row(source, owner, Token { table, row }, texts, out);
     }
 }
 
@@ -71,27 +71,27 @@ fn print_rows<W: Write>(
 fn print_table<W: Write>(
     source: &Neighbours<'_, '_>,
     table: TableId,
-    declared: &mut Declared,
+    texts: &mut Texts,
     out: &mut Printer<'_, W>,
 )
     ensures { (model : Metadata) → IsModel source.now.view.now model → PrintsRows model out.old out.new (all_rows model table) }
 {
     let count = source.view.count(table);
-    print_rows(source, None, table, 1..count + 1, declared, out);
+    print_rows(source, None, table, 1..count + 1, texts, out);
 }
 
 /// Prints the lines of all rows of some tables.
 fn print_tables<W: Write>(
     source: &Neighbours<'_, '_>,
     tables: &[TableId],
-    declared: &mut Declared,
+    texts: &mut Texts,
     out: &mut Printer<'_, W>,
 )
     ensures { (model : Metadata) → IsModel source.now.view.now model → PrintsRows model out.old out.new (flat_map (all_rows model) tables.now) }
 {
     rows_follow::<W>();
     for table in tables {
-        print_table(source, *table, declared, out);
+        print_table(source, *table, texts, out);
     }
 }
 
@@ -119,7 +119,7 @@ fn print_members<W: Write>(
     cells: &mut CellCursor<'_, '_>,
     list: MemberList,
     row: u32,
-    declared: &mut Declared,
+    texts: &mut Texts,
     out: &mut Printer<'_, W>,
 )
     requires first { 1 ≤ row }
@@ -135,7 +135,7 @@ fn print_members<W: Write>(
         table: TableId::TypeDef,
         row,
     };
-    print_rows(source, Some(class), list.member(), rows, declared, out);
+    print_rows(source, Some(class), list.member(), rows, texts, out);
 }
 
 /// Prints the lines of a type, of its fields, its methods, its events and its properties.
@@ -143,7 +143,7 @@ fn print_class<W: Write>(
     source: &Neighbours<'_, '_>,
     cells: &mut CellCursor<'_, '_>,
     row: u32,
-    declared: &mut Declared,
+    texts: &mut Texts,
     out: &mut Printer<'_, W>,
 )
     requires first { 1 ≤ row }
@@ -157,17 +157,17 @@ fn print_class<W: Write>(
         table: TableId::TypeDef,
         row,
     };
-    print_row(source, None, class, declared, out);
-    print_members(source, cells, MemberList::Fields, row, declared, out);
-    print_members(source, cells, MemberList::Methods, row, declared, out);
-    print_mapped(source, cells, Mapped::Events, row, declared, out);
-    print_mapped(source, cells, Mapped::Properties, row, declared, out);
+    print_row(source, None, class, texts, out);
+    print_members(source, cells, MemberList::Fields, row, texts, out);
+    print_members(source, cells, MemberList::Methods, row, texts, out);
+    print_mapped(source, cells, Mapped::Events, row, texts, out);
+    print_mapped(source, cells, Mapped::Properties, row, texts, out);
 }
 
 /// Prints the lines of all types and their members.
 fn print_classes<W: Write>(
     source: &Neighbours<'_, '_>,
-    declared: &mut Declared,
+    texts: &mut Texts,
     out: &mut Printer<'_, W>,
 )
     ensures { (model : Metadata) → IsModel source.now.view.now model → PrintsRows model out.old out.new (each_from (class_rows model) 1 (count_in model TypeDef + 1)) }
@@ -176,7 +176,7 @@ fn print_classes<W: Write>(
     let mut cells = CellCursor::new(source.view);
     let count = source.view.count(TableId::TypeDef);
     for row in 1..count + 1 {
-        print_class(source, &mut cells, row, declared, out);
+        print_class(source, &mut cells, row, texts, out);
     }
 }
 
@@ -212,22 +212,25 @@ fn last_tables() -> &'static [TableId]
 /// Prints all lines of the outline.
 fn print_all<W: Write>(
     source: &Neighbours<'_, '_>,
-    declared: &mut Declared,
+    texts: &mut Texts,
     out: &mut Printer<'_, W>,
 )
     ensures { (model : Metadata) → IsModel source.now.view.now model → PrintsRows model out.old out.new (outline_rows model) }
 {
     rows_follow::<W>();
-    print_tables(source, first_tables(), declared, out);
-    print_classes(source, declared, out);
-    print_tables(source, last_tables(), declared, out);
+    print_tables(source, first_tables(), texts, out);
+    print_classes(source, texts, out);
+    print_tables(source, last_tables(), texts, out);
 }
 
 /// Prints the outline of a view: its declarations in the notation of ILAsm (II.5 to II.22), one per line. Each line ends
 /// with the token of its row in a comment, as eight hexadecimal digits. Texts of the file are escaped: printable ASCII
 /// except `"` and `\` is as it is, any other byte is `\x` and two hexadecimal digits. Of a name, a signature or another
-/// text that is longer than 65,536 bytes the first ones are printed, and `..`. As JSON Lines a line is an object: `token`,
-/// of a member `type` (the token of its type), `directive` (the first word), and `text` (the declaration).
+/// text that is longer than 65,536 bytes the first ones are printed, and `..`.
+///
+/// As JSON Lines a line is an object: `token`, of a member `type` (the token of its type), `directive` (the first word),
+/// `text` (the declaration), `name` (of a member without its type), `flags` (their words, with a space between them), and
+/// of a field or property `signature` (its type). Its texts are not escaped, and a cut text ends with a whole character.
 ///
 /// First come the assembly, the references to others, the module, files, resources and exported types. Then come the types
 /// in the order of their rows, each with its fields, methods, events and properties below it. Below an event and a
@@ -244,7 +247,7 @@ pub fn print_outline<W: Write>(alloc: Global, view: &View<'_>, out: &mut Printer
     ensures { (model : Metadata) → IsModel view.now model → PrintsRows model out.old out.new (outline_rows model) }
 {
     match Neighbours::new(alloc, view) {
-        Ok(source) => print_all(&source, &mut Declared::new(alloc), out),
+        Ok(source) => print_all(&source, &mut Texts::new(alloc), out),
         Err(_) => out.fail(),
     }
 }
@@ -258,7 +261,7 @@ fn print_type<W: Write>(alloc: Global, view: &View<'_>, row: u32, out: &mut Prin
     match Neighbours::new(alloc, view) {
         Ok(source) => {
             let mut cells = CellCursor::new(source.view);
-            print_class(&source, &mut cells, row, &mut Declared::new(alloc), out);
+            print_class(&source, &mut cells, row, &mut Texts::new(alloc), out);
         }
         Err(_) => out.fail(),
     }

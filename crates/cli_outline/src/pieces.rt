@@ -1,5 +1,5 @@
 //! Appends the pieces of a line.
-ghost use Rattle.std.specs.Prelude.{◌≡◌, ◌≤◌, ◌<◌, ◌++◌, decimal, string_bytes, OnOk};
+ghost use Rattle.std.specs.Prelude.{◌≡◌, ◌≤◌, ◌<◌, ◌++◌, decimal, OnOk};
 ghost use Rattle.table_schema.specs.CellColumns.{cell_count};
 ghost use Rattle.metadata.specs.Metadata.{Metadata, cell_in};
 ghost use Rattle.metadata.specs.Model.{IsModel};
@@ -9,7 +9,7 @@ ghost use Rattle.cli_lines.specs.Texts.{escaped_bytes};
 ghost use Rattle.table_schema.specs.Tokens.{token_text};
 ghost use Rattle.cli_outline.specs.Parts.{IsNameAfter, IsNameText, IsPartText, bytes_text, dotted_text, key_text, quoted_text, token_text_after};
 ghost use Rattle.cli_outline.specs.Shown.{IsWithin, shown};
-ghost use Rattle.cli_outline.specs.Texts.{Gains};
+ghost use Rattle.cli_outline.specs.Texts.{Gains, Grows};
 
 use crate::cell_values::{bytes, number, reference, text};
 use crate::declared::{
@@ -25,7 +25,7 @@ use std::fmt::Write;
 
 /// Appends a space and the word, if the flags have its value.
 fn push_word(flags: u32, word: FlagWord, declared: &mut Declared) -> Result<(), AllocError>
-    ensures { OnOk result (string_bytes declared.new.text ≡ string_bytes declared.old.text ++ word_text flags (shown_word word)) }
+    ensures { OnOk result (Grows declared.old declared.new (word_text flags (shown_word word))) }
 {
     if flags & word.mask != word.value {
         return Ok(());
@@ -36,7 +36,7 @@ fn push_word(flags: u32, word: FlagWord, declared: &mut Declared) -> Result<(), 
 
 /// Appends a number in decimal.
 fn push_decimal(number: u32, declared: &mut Declared) -> Result<(), AllocError>
-    ensures { OnOk result (string_bytes declared.new.text ≡ string_bytes declared.old.text ++ decimal number) }
+    ensures { OnOk result (Grows declared.old declared.new (decimal number)) }
 {
     match write!(declared.text, "{number}") {
         Ok(()) => Ok(()),
@@ -46,7 +46,7 @@ fn push_decimal(number: u32, declared: &mut Declared) -> Result<(), AllocError>
 
 /// Appends the digits of a token.
 fn push_token(token: Token, declared: &mut Declared) -> Result<(), AllocError>
-    ensures { OnOk result (string_bytes declared.new.text ≡ string_bytes declared.old.text ++ token_text token) }
+    ensures { OnOk result (Grows declared.old declared.new (token_text token)) }
 {
     match write!(declared.text, "{token}") {
         Ok(()) => Ok(()),
@@ -56,7 +56,7 @@ fn push_token(token: Token, declared: &mut Declared) -> Result<(), AllocError>
 
 /// Appends the words of flags, a space before each.
 fn push_words(flags: u32, of: FlagTable, declared: &mut Declared) -> Result<(), AllocError>
-    ensures { OnOk result (string_bytes declared.new.text ≡ string_bytes declared.old.text ++ words_text flags (words_of of)) }
+    ensures { OnOk result (Grows declared.old declared.new (words_text flags (words_of of))) }
 {
     for word in words_of(of) {
         push_word(flags, *word, declared)?;
@@ -66,7 +66,7 @@ fn push_words(flags: u32, of: FlagTable, declared: &mut Declared) -> Result<(), 
 
 /// Appends a word and a text in quotes, unless the text is empty.
 fn push_quoted(word: &str, text: &str, declared: &mut Declared) -> Result<(), AllocError>
-    ensures { OnOk result (string_bytes declared.new.text ≡ string_bytes declared.old.text ++ quoted_text word.now text.now) }
+    ensures { OnOk result (Grows declared.old declared.new (quoted_text declared.old.form word.now text.now)) }
 {
     if text.is_empty() {
         return Ok(());
@@ -79,7 +79,7 @@ fn push_quoted(word: &str, text: &str, declared: &mut Declared) -> Result<(), Al
 
 /// Appends a word and bytes in parentheses, unless there are none.
 fn push_bytes(word: &str, bytes: &[u8], declared: &mut Declared) -> Result<(), AllocError>
-    ensures { OnOk result (string_bytes declared.new.text ≡ string_bytes declared.old.text ++ bytes_text word.now bytes.now) }
+    ensures { OnOk result (Grows declared.old declared.new (bytes_text word.now bytes.now)) }
 {
     if bytes.is_empty() {
         return Ok(());
@@ -92,7 +92,7 @@ fn push_bytes(word: &str, bytes: &[u8], declared: &mut Declared) -> Result<(), A
 
 /// Appends the words for a public key or the token of one, and its bytes, unless there are none.
 fn push_key(flags: u32, bytes: &[u8], declared: &mut Declared) -> Result<(), AllocError>
-    ensures { OnOk result (string_bytes declared.new.text ≡ string_bytes declared.old.text ++ key_text flags bytes.now) }
+    ensures { OnOk result (Grows declared.old declared.new (key_text flags bytes.now)) }
 {
     if bytes.is_empty() {
         return Ok(());
@@ -108,7 +108,7 @@ fn push_name(
     declared: &mut Declared,
 ) -> Result<(), AllocError>
     ensures { (model : Metadata) → IsModel source.now.view.now model
-        → OnOk result (Gains (IsNameText model token) (string_bytes declared.old.text) (string_bytes declared.new.text)) }
+        → OnOk result (Gains (IsNameText model declared.old.form token) declared.old declared.new) }
 {
     begin_text(declared);
     match write_row_name(declared.alloc, source, token, &TextLimit, declared) {
@@ -125,7 +125,7 @@ fn push_name_after(
     declared: &mut Declared,
 ) -> Result<(), AllocError>
     ensures { (model : Metadata) → IsModel source.now.view.now model
-        → OnOk result (Gains (IsNameAfter model word.now reference) (string_bytes declared.old.text) (string_bytes declared.new.text)) }
+        → OnOk result (Gains (IsNameAfter model declared.old.form word.now reference) declared.old declared.new) }
 {
     match reference {
         Some(token) => {
@@ -138,7 +138,7 @@ fn push_name_after(
 
 /// Appends a text and a dot, unless the text is empty.
 fn push_dotted(text: &str, declared: &mut Declared) -> Result<(), AllocError>
-    ensures { OnOk result (string_bytes declared.new.text ≡ string_bytes declared.old.text ++ dotted_text text.now) }
+    ensures { OnOk result (Grows declared.old declared.new (dotted_text declared.old.form text.now)) }
 {
     if text.is_empty() {
         return Ok(());
@@ -153,7 +153,7 @@ fn push_token_after(
     reference: Option<Token>,
     declared: &mut Declared,
 ) -> Result<(), AllocError>
-    ensures { OnOk result (string_bytes declared.new.text ≡ string_bytes declared.old.text ++ token_text_after word.now reference) }
+    ensures { OnOk result (Grows declared.old declared.new (token_text_after word.now reference)) }
 {
     match reference {
         Some(token) => {
@@ -176,7 +176,7 @@ pub(crate) fn push_piece(
     requires last { row ≤ row_count source.now.view.now table }
     requires within { IsWithin table (shown piece) }
     ensures { (model : Metadata) → IsModel source.now.view.now model
-        → OnOk result (Gains (IsPartText model table row (shown piece)) (string_bytes declared.old.text) (string_bytes declared.new.text)) }
+        → OnOk result (Gains (IsPartText model declared.old.form table row (shown piece)) declared.old declared.new) }
 {
     match piece {
         Piece::Word(word) => push_plain(word, declared),

@@ -1,5 +1,5 @@
 //! Appends the text of a signature (II.7.1), and the declaration of a method (II.15.3), with the full names of types.
-ghost use Rattle.std.specs.Prelude.{◌≤◌, ◌<◌, string_bytes, OnOk};
+ghost use Rattle.std.specs.Prelude.{◌≤◌, ◌<◌, OnOk};
 ghost use Rattle.table_schema.specs.declared.table.TableId.TheVariants.{MethodDef};
 ghost use Rattle.table_schema.specs.CellColumns.{cell_count};
 ghost use Rattle.sig_grammar.specs.Syntax.{Body};
@@ -28,7 +28,7 @@ fn push_blob(
     declared: &mut Declared,
 ) -> Result<(), AllocError>
     ensures { (model : Metadata) → IsModel view.now model → (signature : Body) → Encodes kind signature blob.now
-        → OnOk result (Gains (IsSignatureText model signature) (string_bytes declared.old.text) (string_bytes declared.new.text)) }
+        → OnOk result (Gains (IsSignatureText model declared.old.form signature) declared.old declared.new) }
 {
     begin_text(declared);
     match write_signature_text(declared.alloc, view, blob, kind, &TextLimit, declared) {
@@ -45,7 +45,7 @@ fn push_in_column(
     declared: &mut Declared,
 ) -> Result<(), AllocError>
     ensures { (model : Metadata) → IsModel view.now model → (cell : Cell) → ShowsSignature kind blob.now cell
-        → OnOk result (Gains (IsSignatureOf model cell) (string_bytes declared.old.text) (string_bytes declared.new.text)) }
+        → OnOk result (Gains (IsSignatureOf model declared.old.form cell) declared.old declared.new) }
 {
     match kind {
         ColumnKind::Signature(kind) => push_blob(view, blob, kind, declared),
@@ -65,7 +65,7 @@ pub(crate) fn push_signature(
     requires last { row ≤ row_count view.now table }
     requires cell { cell < cell_count table }
     ensures { (model : Metadata) → IsModel view.now model
-        → OnOk result (Gains (IsSignatureOf model (cell_in model table row cell)) (string_bytes declared.old.text) (string_bytes declared.new.text)) }
+        → OnOk result (Gains (IsSignatureOf model declared.old.form (cell_in model table row cell)) declared.old declared.new) }
 {
     match view.cell(table, row, cell) {
         CellRef::Sig(blob) => push_in_column(view, kind_of(table, cell), blob, declared),
@@ -82,7 +82,7 @@ fn push_method(
     requires first { 1 ≤ row }
     requires last { row ≤ row_count source.now.view.now MethodDef }
     ensures { (model : Metadata) → IsModel source.now.view.now model
-        → OnOk result (Gains (IsMethodText model row) (string_bytes declared.old.text) (string_bytes declared.new.text)) }
+        → OnOk result (Gains (IsMethodText model declared.old.form row) declared.old declared.new) }
 {
     metadata::laws::models_are_read();
     metadata::laws::models_of_roots_are_valid();
@@ -103,7 +103,7 @@ pub(crate) fn push_declaration(
     requires first { 1 ≤ row }
     requires last { row ≤ row_count source.now.view.now table }
     ensures { (model : Metadata) → IsModel source.now.view.now model
-        → OnOk result (Gains (IsDeclarationAt model table row) (string_bytes declared.old.text) (string_bytes declared.new.text)) }
+        → OnOk result (Gains (IsDeclarationAt model declared.old.form table row) declared.old declared.new) }
 {
     match table {
         TableId::MethodDef => push_method(source, row, declared),

@@ -9,6 +9,7 @@ use Rattle.cli_faults.specs.declared.stop.Stop.{Stop}
 use Rattle.cli_input.specs.Checked.{IsModelOf, IsWhole}
 use Rattle.cli_input.specs.declared.opened.Input.{Input}
 use Rattle.cli_input.specs.declared.opened.Input.TheVariants.{BareRoot, File}
+use Rattle.cli_lines.specs.declared.parts.Form.{Form}
 use Rattle.cli_lines.specs.Printed.{Printed}
 use Rattle.cli_runs.specs.Printing.{Hands, HasPrinted}
 use Rattle.cli_runs.specs.Reports.{AreDeclared, IsFaultOut, IsListed, IsPrinted, IsStopped}
@@ -32,13 +33,13 @@ module _ {W : Type 0} (old new : Printed W) where
   abbrev Keeps : Type 0
   Keeps = new.borrow ≡ old.borrow
 
-  declared_keeps : (model : Metadata) (rows : List Token) → AreDeclared (Hands old new) model rows → Keeps
-  declared_keeps model rows out = out.5.0.same.borrow
+  declared_keeps : (form : Form) (model : Metadata) (rows : List Token) → AreDeclared (Hands old new) form model rows → Keeps
+  declared_keeps form model rows out = out.5.0.same.borrow
 
-  listed_keeps : (of : Listing) (model : Metadata) → IsListed (Hands old new) of model → Keeps
-  listed_keeps (listing.Show table names) model out = out.0.same.borrow
-  listed_keeps listing.Types model out = out.0.same.borrow
-  listed_keeps listing.Outline model out = declared_keeps model _ out
+  listed_keeps : (form : Form) (of : Listing) (model : Metadata) → IsListed (Hands old new) form of model → Keeps
+  listed_keeps form (listing.Show table names) model out = out.0.same.borrow
+  listed_keeps form listing.Types model out = out.0.same.borrow
+  listed_keeps form listing.Outline model out = declared_keeps form model _ out
 
   fault_keeps : (of : Verdict) (input : Input) (bytes : List ℕ) (file : Option (List ℕ)) (found : Fault) → IsFaultOut (Hands old new) of input bytes file found → Keeps
   fault_keeps verdict.Quiet input bytes file found out = out.0.same.borrow
@@ -49,11 +50,11 @@ module _ {W : Type 0} (old new : Printed W) where
     printed_keeps : (of : Report) → IsPrinted (Hands old new) request name bytes of → Keeps
     printed_keeps report.Root out = (out.1 out.0.0 out.0.1 out.0.2).0.same.borrow
     printed_keeps report.Strings out = of_model _ _ request.input bytes out.0 (λ model is. (out.1 model is).2.0.same.borrow)
-    printed_keeps (report.Listing of) out = of_model _ _ request.input bytes out.0 (λ model is. listed_keeps of model (out.1 model is))
+    printed_keeps (report.Listing of) out = of_model _ _ request.input bytes out.0 (λ model is. listed_keeps request.form of model (out.1 model is))
     printed_keeps (report.Check of) out = out.1.0.same.borrow
     printed_keeps (report.ShowUntilFault table names) out = of_model _ _ request.input bytes out.0 (λ model is. (out.1 model is).0.same.borrow)
     printed_keeps (report.OutlineOf subject) out =
-        of_model _ _ request.input bytes out.0 (λ model is. let at = out.1 model is in declared_keeps model _ at.2)
+        of_model _ _ request.input bytes out.0 (λ model is. let at = out.1 model is in declared_keeps request.form model _ at.2)
     printed_keeps (report.Tokens numbers) out = of_model _ _ request.input bytes out.3.0 (λ model is. (out.3.1 model is).2.0.same.borrow)
     printed_keeps (report.Where offset) out = out.1.3.0.same.borrow
     printed_keeps report.Digest out = out.2.0.same.borrow

@@ -1,5 +1,5 @@
 -- What each report handed to a printer.
-use Rattle.std.proofs.Common.{◌≡◌, ℕ, List, Option, Result, Ok, Err, inl, inr}
+use Rattle.std.proofs.Common.{◌≡◌, ℕ, List, Option, Result, Ok, Err, inl, inr, subst}
 use Rattle.std.specs.Prelude.{IfErr, OnErr, OnOk}
 use Rattle.cli_header.specs.declared.header.CliHeader.{CliHeader}
 use Rattle.packed.specs.declared.fault.Fault.{Fault}
@@ -11,6 +11,7 @@ use Rattle.cli_faults.specs.declared.failure.Failure.{Failure}
 use Rattle.cli_faults.specs.declared.stop.Stop.TheVariants.{Failed}
 use Rattle.cli_input.specs.Checked.{rules_of}
 use Rattle.cli_input.specs.Heads.{AreHeads, HasHeads, rules_of_heads}
+use Rattle.cli_lines.specs.declared.parts.Form.{Form}
 use Rattle.cli_lines.specs.Printed.{Printed, Prints}
 use Rattle.cli_outline.specs.Printed.{PrintsRows}
 use Rattle.cli_where.specs.Located.{AreListed}
@@ -30,13 +31,13 @@ module _ {W : Type 0} (request : Request) (name bytes : List ℕ) (old new : Pri
   root_ended (Ok done) has first same printed = (has, (λ header root are. (printed header root are, (λ live. tt))))
   root_ended (Err found) has first same printed = (first, same)
 
-  pub listing_ended : (of : Listing) (done : Result (Unit {0}) Fault) → IfErr done (FirstBroken (rules_of request.input bytes)) → OnErr done (new ≡ old)
-      → OnOk done (OfModel request.input bytes (IsListed (Hands old new) of)) → HasPrinted request name bytes old new (report.Listing of) (ended_by done)
-  listing_ended of (Ok done) first same printed = printed
-  listing_ended of (Err found) first same printed = (first, same)
+  pub listing_ended : old.form ≡ request.form → (of : Listing) (done : Result (Unit {0}) Fault) → IfErr done (FirstBroken (rules_of request.input bytes)) → OnErr done (new ≡ old)
+      → OnOk done (OfModel request.input bytes (IsListed (Hands old new) old.form of)) → HasPrinted request name bytes old new (report.Listing of) (ended_by done)
+  listing_ended form of (Ok done) first same printed = (printed.0, λ model is. subst (λ (f : Form). IsListed (Hands old new) f of model) form (printed.1 model is))
+  listing_ended form of (Err found) first same printed = (first, same)
 
 -- the rows of an outline were handed to a printer
-pub declared : {W : Type 0} (old new : Printed W) (model : Metadata) (rows : List Token) → PrintsRows model old new rows → AreDeclared (Hands old new) model rows
+pub declared : {W : Type 0} (old new : Printed W) (model : Metadata) (rows : List Token) → PrintsRows model old new rows → AreDeclared (Hands old new) old.form model rows
 declared old new model rows out = (out.first, out.later, out.whole, out.lines, out.are, (out.printed, out.all))
 
 module _ {W : Type 0} (request : Request) (name bytes : List ℕ) (old new : Printed W) where

@@ -27,13 +27,13 @@ use Rattle.cli_runs.specs.declared.report.Verdict.TheVariants as verdict
 -- ---- what went out of a report, if each of its lines does
 
 module _ (P Q : Type 0 → List (List Part) → Type 0) (weaker : (all : Type 0) (lines : List (List Part)) → P all lines → Q all lines) where
-  declared_weaker : (model : Metadata) (rows : List Token) → AreDeclared P model rows → AreDeclared Q model rows
-  declared_weaker model rows out = (out.0, out.1, out.2, out.3, out.4, weaker (out.1 ≡ []) out.3 out.5)
+  declared_weaker : (form : Form) (model : Metadata) (rows : List Token) → AreDeclared P form model rows → AreDeclared Q form model rows
+  declared_weaker form model rows out = (out.0, out.1, out.2, out.3, out.4, weaker (out.1 ≡ []) out.3 out.5)
 
-  listed_weaker : (of : Listing) (model : Metadata) → IsListed P of model → IsListed Q of model
-  listed_weaker (listing.Show table names) model out = weaker _ _ out
-  listed_weaker listing.Types model out = weaker _ _ out
-  listed_weaker listing.Outline model out = declared_weaker model _ out
+  listed_weaker : (form : Form) (of : Listing) (model : Metadata) → IsListed P form of model → IsListed Q form of model
+  listed_weaker form (listing.Show table names) model out = weaker _ _ out
+  listed_weaker form listing.Types model out = weaker _ _ out
+  listed_weaker form listing.Outline model out = declared_weaker form model _ out
 
   fault_weaker : (of : Verdict) (input : Input) (bytes : List ℕ) (file : Option (List ℕ)) (found : Fault) → IsFaultOut P of input bytes file found → IsFaultOut Q of input bytes file found
   fault_weaker verdict.Quiet input bytes file found out = weaker _ _ out
@@ -47,11 +47,11 @@ module _ (P Q : Type 0 → List (List Part) → Type 0) (weaker : (all : Type 0)
     printed_weaker : (of : Report) → IsPrinted P request name bytes of → IsPrinted Q request name bytes of
     printed_weaker report.Root out = (out.0, (λ header root are. weaker _ _ (out.1 header root are)))
     printed_weaker report.Strings out = (out.0, (λ model is. let at = out.1 model is in (at.0, at.1, weaker _ _ at.2)))
-    printed_weaker (report.Listing of) out = (out.0, (λ model is. listed_weaker of model (out.1 model is)))
+    printed_weaker (report.Listing of) out = (out.0, (λ model is. listed_weaker request.form of model (out.1 model is)))
     printed_weaker (report.Check of) out = (out.0, weaker _ _ out.1)
     printed_weaker (report.ShowUntilFault table names) out = (out.0, (λ model is. weaker _ _ (out.1 model is)))
     printed_weaker (report.OutlineOf subject) out =
-        (out.0, (λ model is. let at = out.1 model is in (at.0, at.1, declared_weaker model _ at.2)))
+        (out.0, (λ model is. let at = out.1 model is in (at.0, at.1, declared_weaker request.form model _ at.2)))
     printed_weaker (report.Tokens numbers) out = (out.0, out.1, out.2, named_weaker numbers.items out.3)
     printed_weaker (report.Where offset) out = (out.0, (out.1.0, out.1.1, out.1.2, weaker _ _ out.1.3))
     printed_weaker report.Digest out = (out.0, out.1, weaker _ _ out.2)

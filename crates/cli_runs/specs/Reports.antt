@@ -116,20 +116,20 @@ module _ (Out : Type 0 → List (List Part) → Type 0) where
   abbrev pub AreOut : List (List Part) → Type 0
   AreOut lines = Out (Unit {0}) lines
 
-  -- the declarations of the first of these rows went out, and they are all if no row follows
-  abbrev pub AreDeclared : Metadata → List Token → Type 0
-  AreDeclared model rows =
-      (first later : List Token) × (rows ≡ first ++ later) × (lines : List (List Part)) × AreLines model first lines × Out (later ≡ []) lines
+  -- the declarations of the first of these rows went out in a form, and they are all if no row follows
+  abbrev pub AreDeclared : Form → Metadata → List Token → Type 0
+  AreDeclared form model rows =
+      (first later : List Token) × (rows ≡ first ++ later) × (lines : List (List Part)) × AreLines model form first lines × Out (later ≡ []) lines
 
   -- what numbers name in a model went out
   abbrev pub AreNamed : List ℕ → Metadata → Type 0
   AreNamed numbers model = (lines : List (List Part)) × AreTokenLines model numbers lines × AreOut lines
 
   -- what a listing has of a model went out
-  abbrev pub IsListed : Listing → Metadata → Type 0
-  IsListed (listing.Show table names) model = AreOut (show_lines names model (tables_of table))
-  IsListed listing.Types model = AreOut (types_lines model)
-  IsListed listing.Outline model = AreDeclared model (outline_rows model)
+  abbrev pub IsListed : Form → Listing → Metadata → Type 0
+  IsListed form (listing.Show table names) model = AreOut (show_lines names model (tables_of table))
+  IsListed form listing.Types model = AreOut (types_lines model)
+  IsListed form listing.Outline model = AreDeclared form model (outline_rows model)
 
   -- this fault went out, with what is asked about it
   abbrev pub IsFaultOut : Verdict → Input → List ℕ → Option (List ℕ) → Found → Type 0
@@ -153,11 +153,11 @@ module _ (Out : Type 0 → List (List Part) → Type 0) where
         × ((header : Option CliHeader) (root : RootRead) → AreHeads request.input bytes header root → AreOut (heads_lines header root))
     IsPrinted report.Strings =
         OfModel request.input bytes (λ model. (entries : List Entry) × AreEntries model.user 1 entries × AreOut (flat_map entry_lines entries))
-    IsPrinted (report.Listing listing) = OfModel request.input bytes (IsListed listing)
+    IsPrinted (report.Listing listing) = OfModel request.input bytes (IsListed request.form listing)
     IsPrinted (report.Check verdict) = IsWhole request.input bytes × AreOut (verdict_lines verdict (label request.naming name) None)
-    IsPrinted (report.ShowUntilFault table names) = OfModel request.input bytes (IsListed (listing.Show table names))
+    IsPrinted (report.ShowUntilFault table names) = OfModel request.input bytes (IsListed request.form (listing.Show table names))
     IsPrinted (report.OutlineOf subject) =
-        OfModel request.input bytes (λ model. (row : ℕ) × IsSubject model subject row × AreDeclared model (class_rows model row))
+        OfModel request.input bytes (λ model. (row : ℕ) × IsSubject model subject row × AreDeclared request.form model (class_rows model row))
     IsPrinted (report.Tokens numbers) =
         (root : List ℕ) × IsOpened request.input bytes root × All (IsNamed root) numbers.items × OfModel request.input bytes (AreNamed numbers.items)
     IsPrinted (report.Where offset) = IsWhole request.input bytes × IsLocated offset Something

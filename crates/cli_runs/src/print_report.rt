@@ -35,6 +35,7 @@ pub(crate) fn print_report<'a, W: Write>(
     bytes: &[u8],
     out: &mut Printer<'_, W>,
 ) -> Ended<'a>
+    requires form { out.old.form ≡ request.now.form }
     ensures { HasPrinted request.now name.now bytes.now out.old out.new request.now.report result }
 {
     let input = request.input;
@@ -67,7 +68,7 @@ fn print_listing<W: Write>(
 ) -> Result<(), Fault>
     ensures first_error { IfErr result (FirstBroken (rules_of input bytes.now)) }
     ensures untouched { OnErr result (out.new ≡ out.old) }
-    ensures printed { OnOk result (OfModel input bytes.now (IsListed (Hands out.old out.new) listing)) }
+    ensures printed { OnOk result (OfModel input bytes.now (IsListed (Hands out.old out.new) out.old.form listing)) }
 {
     match open(bytes, input) {
         Ok(view) => {
@@ -80,7 +81,7 @@ fn print_listing<W: Write>(
 
 /// Prints the lines of a listing of a view.
 fn print_view<W: Write>(alloc: Global, listing: Listing, view: &View<'_>, out: &mut Printer<'_, W>)
-    ensures { (model : Metadata) → IsModel view.now model → IsListed (Hands out.old out.new) listing model }
+    ensures { (model : Metadata) → IsModel view.now model → IsListed (Hands out.old out.new) out.old.form listing model }
 {
     match listing {
         Listing::Show(table, names) => print_show(alloc, view, tables_of(&table), names, out),
@@ -143,6 +144,7 @@ fn print_type<'a, W: Write>(
     bytes: &[u8],
     out: &mut Printer<'_, W>,
 ) -> Ended<'a>
+    requires form { out.old.form ≡ request.now.form }
     ensures { HasPrinted request.now name.now bytes.now out.old out.new (report.OutlineOf subject.entry) result }
 {
     match open(bytes, request.input) {

@@ -112,17 +112,17 @@ fn json_of(alloc: Global, root: &[u8]) -> Result<String, Fail> {
 #[test]
 fn prints_each_declaration_as_an_object(rt: HostRuntime) -> Result<(), Fail> {
     let root = root_of_properties(rt.alloc(), [[2, 0, 1, 0], [3, 0, 2, 0]], &[GETTER])?;
-    let lines = r#"{"token":"1a000001","directive":".module","text":".module extern k.dll"}
-{"token":"02000001","directive":".class","text":".class private auto ansi <M>"}
-{"token":"02000002","directive":".class","text":".class public auto ansi beforefieldinit N.C"}
-{"token":"06000001","type":"02000002","directive":".method","text":".method public hidebysig specialname instance int32 N.C::get_P() cil managed"}
-{"token":"06000002","type":"02000002","directive":".method","text":".method public static pinvokeimpl void N.C::M() cil managed"}
-{"token":"14000001","type":"02000002","directive":".event","text":".event N.C N.C::E"}
-{"token":"17000001","type":"02000002","directive":".property","text":".property specialname instance int32 () N.C::P"}
+    let lines = r#"{"token":"1a000001","directive":".module","text":".module extern k.dll","name":"k.dll"}
+{"token":"02000001","directive":".class","text":".class private auto ansi <M>","name":"<M>","flags":"private auto ansi"}
+{"token":"02000002","directive":".class","text":".class public auto ansi beforefieldinit N.C","name":"N.C","flags":"public auto ansi beforefieldinit"}
+{"token":"06000001","type":"02000002","directive":".method","text":".method public hidebysig specialname instance int32 N.C::get_P() cil managed","name":"get_P","flags":"public hidebysig specialname cil managed"}
+{"token":"06000002","type":"02000002","directive":".method","text":".method public static pinvokeimpl void N.C::M() cil managed","name":"M","flags":"public static pinvokeimpl cil managed"}
+{"token":"14000001","type":"02000002","directive":".event","text":".event N.C N.C::E","name":"E","flags":""}
+{"token":"17000001","type":"02000002","directive":".property","text":".property specialname instance int32 () N.C::P","name":"P","flags":"specialname","signature":"instance int32 ()"}
 {"token":"18000001","directive":".get","text":".get N.C::get_P of N.C::P"}
-{"token":"02000003","directive":".class","text":".class private auto ansi \\x1bD extends N.C"}
-{"token":"17000002","type":"02000003","directive":".property","text":".property instance int32 () \\x1bD::M"}
-{"token":"1c000001","directive":".pinvokeimpl","text":".pinvokeimpl(\"k.dll\" as \"M\" platformapi) of N.C::M"}
+{"token":"02000003","directive":".class","text":".class private auto ansi \u001bD extends N.C","name":"\u001bD","flags":"private auto ansi"}
+{"token":"17000002","type":"02000003","directive":".property","text":".property instance int32 () \u001bD::M","name":"M","flags":"","signature":"instance int32 ()"}
+{"token":"1c000001","directive":".pinvokeimpl","text":".pinvokeimpl(\"k.dll\" as \"M\" platformapi) of N.C::M","name":"M","flags":"platformapi"}
 {"token":"0c000001","directive":".custom","text":".custom N.C::.ctor = (0100) of 02000002"}
 "#;
     assert_eq!(rt; json_of(rt.alloc(), root.as_slice())?.as_str(), lines);
@@ -254,5 +254,34 @@ fn names_enclosing_types_if_they_are_in_order(rt: HostRuntime) -> Result<(), Fai
         let root = root_of_nested(rt.alloc(), rows)?;
         assert_eq!(rt; outline_of(&rt, root.as_slice())?.as_str(), lines);
     }
+    Ok(())
+}
+
+/// A root whose only module reference has this name (II.22.31).
+fn root_of_module(alloc: Global, name: &[u8]) -> Result<Vec<u8>, Fail> {
+    let mut heap = vec![in alloc; 0]?;
+    heap.extend_from_slice(name)?;
+    heap.push(0)?;
+    let mut root = RootBuilder::new(alloc);
+    root.row(0x1A, b"\x01\0")?;
+    root.heap("#Strings", heap.as_slice())?;
+    Ok(root.finish()?)
+}
+
+/// JSON has texts unescaped. A text that is cut within a character ends before it, and in a line of text within it.
+#[test]
+fn prints_objects_with_whole_characters(rt: HostRuntime) -> Result<(), Fail> {
+    let root = root_of_module(rt.alloc(), "Café".as_bytes())?;
+    let object = "{\"token\":\"1a000001\",\"directive\":\".module\",\"text\":\".module extern Café\",\"name\":\"Café\"}\n";
+    assert_eq!(rt; json_of(rt.alloc(), root.as_slice())?.as_str(), object);
+    assert_eq!(rt; outline_of(&rt, root.as_slice())?.as_str(), ".module extern Caf\\xc3\\xa9  // 1a000001\n");
+    let mut name = Vec::new(rt.alloc());
+    for _ in 0..65_535 {
+        name.push(b'a')?;
+    }
+    name.extend_from_slice("é".as_bytes())?;
+    let root = root_of_module(rt.alloc(), name.as_slice())?;
+    assert!(rt; json_of(rt.alloc(), root.as_slice())?.as_str().ends_with("a..\"}\n"));
+    assert!(rt; outline_of(&rt, root.as_slice())?.as_str().ends_with("a\\xc3..  // 1a000001\n"));
     Ok(())
 }

@@ -1,20 +1,18 @@
-use Rattle.std.proofs.Common.{string_bytes, ◌∙◌, ◌++◌, List, ℕ, ap, refl}
+use Rattle.std.proofs.Common.{refl}
 use Rattle.cli_outline.specs.Parts.{cut_text}
-use Rattle.cli_outline.specs.declared.declared.Declared.{Declared}
 use Rattle.cli_outline.proofs.PieceLemmas.{on_ok}
 use Rattle.cli_outline.proofs.TextLemmas.{text_cut, whole_cut}
 use Rattle.cli_outline.proofs.signature_sink.push_blob.Goals as goal
 
 pub returns-in-Ok : goal.returns-in-Ok
 returns-in-Ok c = λ model is signature encodes.
-    let bytes : Declared → List ℕ = λ w. string_bytes w.text in
-    let left : Declared → ℕ = λ w. w.left in
+    let old = c.args.declared.now in
     let wrote = c.in-Ok.ensures model is signature encodes in
     let begun = c.begin_text.new.declared in
     let out = c.write_signature_text.new.out in
     on_ok c.end_text.result c.end_text.ensures
     (λ e. (
-      cut_text wrote.0,
+      cut_text old.form wrote.0,
       (wrote.0, wrote.1, refl),
-      text_cut bytes left begun wrote.0 out _ c.begin_text.ensures.left (whole_cut bytes left begun wrote.0 out wrote.2) e ∙ ap (λ (b : List ℕ). b ++ cut_text wrote.0) c.begin_text.ensures.same,
+      text_cut old begun wrote.0 out c.end_text.new.declared c.begin_text.ensures.same c.begin_text.ensures.left (whole_cut begun wrote.0 out wrote.2) e,
     ))

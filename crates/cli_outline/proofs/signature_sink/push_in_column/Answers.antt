@@ -1,4 +1,4 @@
-use Rattle.std.proofs.Common.{string_bytes, ◌≡◌, List, ℕ, refl, sym, subst}
+use Rattle.std.proofs.Common.{◌≡◌, List, ℕ, refl, sym, subst}
 use Rattle.table_schema.specs.declared.column.ColumnKind.{ColumnKind}
 use Rattle.table_schema.specs.declared.column.ColumnKind.TheVariants as column
 use Rattle.table_schema.specs.declared.column.SigKind.{SigKind}
@@ -17,7 +17,7 @@ pub returns-in-Signature : goal.returns-in-Signature
 returns-in-Signature c = λ model is cell shows.
     let here = subst (λ (k : ColumnKind). ShowsSignature k c.args.blob.now cell) c.in-Signature.is shows in
     on_ok c.push_blob.result (c.push_blob.ensures model is here.0 here.1)
-    (λ gains. subst (λ (v : Cell). Gains (IsSignatureOf model v) (string_bytes c.args.declared.now.text) (string_bytes c.push_blob.new.declared.text)) (sym here.2) gains)
+    (λ gains. subst (λ (v : Cell). Gains (IsSignatureOf model c.args.declared.now.form v) c.args.declared.now c.push_blob.new.declared) (sym here.2) gains)
 
 pub returns-in_default : goal.returns-in_default
 returns-in_default c = λ model is cell shows. absurd (no_kind c.args.kind c.args.blob.now cell c.in_default.not-Signature shows)

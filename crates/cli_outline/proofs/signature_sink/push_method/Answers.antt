@@ -1,11 +1,10 @@
-use Rattle.std.proofs.Common.{string_bytes, ◌∙◌, ◌++◌, List, ℕ, ap, refl, arith}
+use Rattle.std.proofs.Common.{refl, arith}
 use Rattle.table_schema.specs.declared.table.TableId.TheVariants.{MethodDef}
 use Rattle.table_schema.specs.CellColumns.{cell_columns}
 use Rattle.metadata.specs.Lookups.{HasRow}
 use Rattle.metadata.specs.Metadata.{cell_in}
 use Rattle.opening.specs.Views.{row_count}
 use Rattle.cli_outline.specs.Parts.{cut_text}
-use Rattle.cli_outline.specs.declared.declared.Declared.{Declared}
 use Rattle.cli_outline.proofs.PieceLemmas.{on_ok}
 use Rattle.cli_outline.proofs.TextLemmas.{text_cut, whole_cut}
 use Rattle.cli_outline.proofs.WriterLemmas.{signature_in, method_in}
@@ -22,13 +21,12 @@ returns-in-Ok c = λ model is.
     let of = signature_in cell valid.of_kind in
     let method = method_in cell valid.held of.0 of.1 in
     let wrote = c.in-Ok.ensures.text model is method.0 method.1 in
-    let bytes : Declared → List ℕ = λ w. string_bytes w.text in
-    let left : Declared → ℕ = λ w. w.left in
+    let old = c.args.declared.now in
     let begun = c.begin_text.new.declared in
     let out = c.write_method_within.new.out in
     on_ok c.end_text.result c.end_text.ensures
     (λ e. (
-      cut_text wrote.0,
+      cut_text old.form wrote.0,
       (method.0, method.1, wrote.0, wrote.1, refl),
-      text_cut bytes left begun wrote.0 out _ c.begin_text.ensures.left (whole_cut bytes left begun wrote.0 out wrote.2) e ∙ ap (λ (b : List ℕ). b ++ cut_text wrote.0) c.begin_text.ensures.same,
+      text_cut old begun wrote.0 out c.end_text.new.declared c.begin_text.ensures.same c.begin_text.ensures.left (whole_cut begun wrote.0 out wrote.2) e,
     ))

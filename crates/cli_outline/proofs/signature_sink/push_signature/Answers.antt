@@ -1,22 +1,24 @@
-use Rattle.std.proofs.Common.{string_bytes, ◌≡◌, Bor, List, [], ℕ, refl, sym, subst, append-nil}
+use Rattle.std.proofs.Common.{◌≡◌, Bor, List, [], ℕ, refl, sym, subst}
 use Rattle.table_schema.specs.declared.column.ColumnKind.{ColumnKind}
 use Rattle.metadata.specs.Cell.{Cell}
 use Rattle.metadata.specs.Metadata.{Metadata, cell_in}
 use Rattle.reading.specs.declared.cell_ref.CellRef.{CellRef}
 use Rattle.reading.specs.declared.cell_ref.CellRef.TheVariants as seen
 use Rattle.reading.specs.Shown.{Shows, ShowsSignature}
+use Rattle.cli_lines.specs.declared.parts.Form.{Form}
 use Rattle.cli_outline.specs.Parts.{IsSignatureOf}
+use Rattle.cli_outline.proofs.TextLemmas.{unchanged}
 use Rattle.cli_outline.proofs.signature_sink.push_signature.Goals as goal
 
-no_signature : (model : Metadata) (kind : ColumnKind) (value : CellRef) (cell : Cell) → Shows kind value cell → ((blob : Bor (List ℕ)) → value ≡ seen.Sig blob → ⊥)
-    → IsSignatureOf model cell []
-no_signature model kind (seen.Sig blob) cell shows not = absurd (not blob refl)
-no_signature model kind (seen.Number number) cell shows not = rw shows refl
-no_signature model kind (seen.Text text) cell shows not = rw shows refl
-no_signature model kind (seen.Bytes bytes) cell shows not = rw shows refl
-no_signature model kind (seen.Guid guid) cell shows not = rw shows refl
-no_signature model kind (seen.Ref reference) cell shows not = rw shows refl
-no_signature model kind (seen.Start start) cell shows not = rw shows refl
+no_signature : (model : Metadata) (form : Form) (kind : ColumnKind) (value : CellRef) (cell : Cell) → Shows kind value cell → ((blob : Bor (List ℕ)) → value ≡ seen.Sig blob → ⊥)
+    → IsSignatureOf model form cell []
+no_signature model form kind (seen.Sig blob) cell shows not = absurd (not blob refl)
+no_signature model form kind (seen.Number number) cell shows not = rw shows refl
+no_signature model form kind (seen.Text text) cell shows not = rw shows refl
+no_signature model form kind (seen.Bytes bytes) cell shows not = rw shows refl
+no_signature model form kind (seen.Guid guid) cell shows not = rw shows refl
+no_signature model form kind (seen.Ref reference) cell shows not = rw shows refl
+no_signature model form kind (seen.Start start) cell shows not = rw shows refl
 
 pub returns-in-Sig : goal.returns-in-Sig
 returns-in-Sig c = λ model is.
@@ -26,4 +28,4 @@ returns-in-Sig c = λ model is.
 pub returns-in_default : goal.returns-in_default
 returns-in_default c = λ model is.
     let cell = cell_in model c.args.table c.args.row c.args.cell in
-    ([], no_signature model _ c.cell.result cell (c.cell.ensures.cell model is) c.in_default.not-Sig, sym (append-nil (string_bytes c.args.declared.now.text)))
+    ([], no_signature model c.args.declared.now.form _ c.cell.result cell (c.cell.ensures.cell model is) c.in_default.not-Sig, unchanged c.args.declared.now)

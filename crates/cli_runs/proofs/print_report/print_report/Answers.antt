@@ -10,5 +10,5 @@ returns-in-Root g c =
 pub returns-in-Listing : goal.returns-in-Listing
 returns-in-Listing g c =
     rw (c.in-Listing.is, c.ended_by-in-Listing.ensures)
-    (listing_ended c.args.request.now c.args.name.now c.args.bytes.now c.args.out.now c.print_listing.new.out _ c.print_listing.result
+    (listing_ended c.args.request.now c.args.name.now c.args.bytes.now c.args.out.now c.print_listing.new.out c.requires.form _ c.print_listing.result
     c.print_listing.ensures.first_error c.print_listing.ensures.untouched c.print_listing.ensures.printed)

@@ -3,7 +3,7 @@ use Rattle.std.proofs.lemmas.List.{take_min}
 use Rattle.cli_faults.specs.Escaped.{escaped_text}
 use Rattle.cli_outline.proofs.PieceLemmas.{extended, on_ok}
 use Rattle.cli_outline.proofs.TextLemmas.{plain_text}
-use Rattle.cli_outline.proofs.declared.push_first.Goals as goal
+use Rattle.cli_outline.proofs.declared.push_first_escaped.Goals as goal
 
 pub returns-in-Some : goal.returns-in-Some
 returns-in-Some c =
