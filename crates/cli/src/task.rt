@@ -82,7 +82,7 @@ fn naming_of(quiet: bool, files: &[&str]) -> Naming
 
 /// What is asked of each file.
 fn request_of<'a>(ask: &Ask<'_>, naming: Naming, report: Report<'a>) -> Request<'a>
-    ensures { result ≡ request_of ask.now naming report.entry }
+    ensures { result ≡ request_of ask.now naming report }
 {
     Request {
         report,
@@ -110,7 +110,7 @@ fn on_files<'a>(
 
 /// The task of a report on the files that the standard input lists. No file may be named besides.
 fn on_list<'a>(ask: &'a Ask<'a>, report: Report<'a>) -> Result<Task<'a>, Failure<'a>>
-    ensures { result ≡ list_task ask.now report.entry }
+    ensures { result ≡ list_task ask.now report }
 {
     if ask.files.is_empty() {
         Ok(Task::OnList(request_of(ask, Naming::Named, report)))

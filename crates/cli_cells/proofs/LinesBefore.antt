@@ -15,11 +15,11 @@ use Rattle.opening.specs.BeforeCells.{source_of_file}
 use Rattle.cli_input.specs.Checked.{rules_of, source_in}
 use Rattle.cli_input.specs.declared.opened.Input.{Input}
 use Rattle.cli_input.specs.declared.opened.Input.TheVariants.{BareRoot, File}
-use Rattle.cli_lines.specs.Lines.{Part}
+use Rattle.cli_lines.specs.Lines.{Part, field}
 use Rattle.cli_lines.specs.declared.names.Name.TheVariants as name
 use Rattle.cli_cells.specs.Before.{AreLinesBefore, AreRowLines, lines_before}
 use Rattle.cli_cells.specs.MetRows.{rows_before}
-use Rattle.cli_cells.specs.RowLines.{cell_label, cell_part, cell_parts, cell_value, first_lines, heading_line, row_head, row_line}
+use Rattle.cli_cells.specs.RowLines.{cell_label, cell_parts, cell_value, first_lines, heading_line, row_head, row_line}
 use Rattle.cli_cells.specs.Shown.{IsShown}
 use Rattle.cli_cells.specs.declared.row_lines.Names.{Names}
 use Rattle.cli_cells.proofs.BrokenLemmas.{broken_is_one, row_met}
@@ -48,7 +48,7 @@ module _ (known : AreRead) (listed : AreListed) (names : Names) where
       line_same table row first last rules =
           ap (λ parts. row_head names table row ++ parts)
           (parts_same (cell_parts names model table row) (cell_parts names (model_at here.source) table row) 0 (cell_count table) (λ k within.
-          ap (λ cell. cell_label names table k ++ cell_part names (name.Cell table k) (cell_value cell) ∷ [])
+          ap (λ cell. cell_label names table k ++ field (name.Cell table k) (cell_value cell) ∷ [])
           (shown_cell known listed here each model shown table row first last rules k (omega (arith, within)))))
 
       table_same : (broken : Option BrokenRow) → IsFirstBroken here broken → (table : TableId)

@@ -1,16 +1,11 @@
 -- Parts of lines.
-use Rattle.std.proofs.Common.{◌≡◌, ◌∙◌, ℕ, ◌+◌, ◌-◌, ◌<◌, ◌≤◌, suc, List, [], ◌∷◌, ◌++◌, Option, Some, None, ap, sym, refl, arith}
+use Rattle.std.proofs.Common.{◌≡◌, ◌∙◌, ℕ, ◌+◌, ◌-◌, ◌<◌, ◌≤◌, suc, List, [], ◌∷◌, ◌++◌, Option, Some, None, ap, sym, arith}
 use Rattle.std.specs.List.{flat_map, range_with_len}
 use Rattle.cli_lines.specs.declared.line.Before.{Before}
 use Rattle.cli_lines.specs.declared.parts.Form.{Form}
 use Rattle.cli_lines.specs.declared.parts.Form.TheVariants.{Text}
-use Rattle.cli_lines.specs.Lines as line
 use Rattle.cli_lines.specs.Lines.{Part, line_feed, line_from, part_text}
-use Rattle.cli_lines.specs.declared.names.Name.{Name}
 use Rattle.cli_lines.specs.Printed.{Adds, AwaitsOrFails, Printed}
-use Rattle.cli_cells.specs.RowLines.{cell_part}
-use Rattle.cli_cells.specs.declared.row_lines.Names.{Names}
-use Rattle.cli_cells.specs.declared.row_lines.Names.TheVariants.{Hidden, Shown}
 
 -- in a line of text a part is its text
 same_line : (form : Form) (at : Before) (first second : Part) (more : List Part) → form ≡ Text → part_text first ≡ part_text second
@@ -23,11 +18,6 @@ same_awaits : (start contents waiting : Option (List ℕ)) (end : List Part → 
     → AwaitsOrFails start contents waiting end whole first → AwaitsOrFails start contents waiting end whole second
 same_awaits start contents (Some waiting) end whole first second same awaits = (awaits.0, awaits.1, ap (λ xs. awaits.0 ++ xs) (sym same) ∙ awaits.2)
 same_awaits start contents None end whole first second same awaits = awaits
-
--- a signature is its bytes in a line of text
-pub signature_text_is : (names : Names) (key : Name) (encoding of : List ℕ) → part_text (cell_part names key (line.bytes encoding)) ≡ part_text (cell_part names key (line.signature encoding of))
-signature_text_is Hidden key encoding of = refl
-signature_text_is Shown key encoding of = refl
 
 pub adds_text : {W : Type 0} (old new : Printed W) (first second : Part) → {form : Form} → form ≡ old.form → form ≡ Text → part_text first ≡ part_text second
     → Adds old new (first ∷ []) → Adds old new (second ∷ [])

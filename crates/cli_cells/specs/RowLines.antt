@@ -8,9 +8,8 @@ use Rattle.sig_grammar.specs.Encodes.{short}
 use Rattle.metadata.specs.Cell.{Cell, Number, Text, Bytes, Guid, Ref, Start, Sig}
 use Rattle.metadata.specs.Metadata.{Metadata, cell_in, count_in}
 use Rattle.cli_lines.specs.Lines as line
-use Rattle.cli_lines.specs.Lines.{Part, Value, word, field, note, member, spaced}
+use Rattle.cli_lines.specs.Lines.{Part, Value, word, field, note, member}
 use Rattle.cli_lines.specs.Names.{column_name}
-use Rattle.cli_lines.specs.declared.names.Name.{Name}
 use Rattle.cli_lines.specs.declared.names.Name.TheVariants as name
 use Rattle.cli_cells.specs.SignatureText.{signature_text}
 use Rattle.cli_cells.specs.declared.row_lines.Names.{Names}
@@ -26,20 +25,15 @@ cell_value (Ref token) = line.reference token
 cell_value (Start row) = line.start row
 cell_value (Sig signature) = line.signature (short signature) (signature_text signature)
 
--- what a cell begins with, if columns are named: a space, the name of its column and an equals sign
+-- what a cell begins with: a space; and the name of its column and an equals sign, if columns are named
 unfoldable pub cell_label : Names → TableId → ℕ → List Part
-cell_label Hidden table cell_index = []
+cell_label Hidden table cell_index = word (codes " ") ∷ []
 cell_label Shown table cell_index = word (codes " ") ∷ word (column_name table cell_index) ∷ word (codes "=") ∷ []
-
--- the value of a cell: if columns are not named, after a space
-abbrev pub cell_part : Names → Name → Value → Part
-cell_part Hidden key value = spaced key value
-cell_part Shown key value = field key value
 
 -- a cell of a row; in JSON the member with the name of its column
 abbrev pub cell_parts : Names → Metadata → TableId → ℕ → ℕ → List Part
 cell_parts names model table row cell_index =
-    cell_label names table cell_index ++ cell_part names (name.Cell table cell_index) (cell_value (cell_in model table row cell_index)) ∷ []
+    cell_label names table cell_index ++ field (name.Cell table cell_index) (cell_value (cell_in model table row cell_index)) ∷ []
 
 -- what a row begins with: its number and a colon, or its token if columns are named; in JSON its table, number and token
 unfoldable pub row_head : Names → TableId → ℕ → List Part

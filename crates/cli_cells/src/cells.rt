@@ -6,18 +6,17 @@ ghost use Rattle.sig_grammar.specs.Encodes.{Encodes, short};
 ghost use Rattle.metadata.specs.Cell.{Cell};
 ghost use Rattle.metadata.specs.Metadata.{Metadata, cell_in};
 ghost use Rattle.reading.specs.Shown.{Shows};
-ghost use Rattle.cli_lines.specs.Shown.{shown, shown_value};
+ghost use Rattle.cli_lines.specs.Lines.{field};
 ghost use Rattle.cli_lines.specs.Lines as line;
 ghost use Rattle.cli_lines.specs.Printed.{Adds};
-ghost use Rattle.cli_cells.specs.RowLines.{cell_part, cell_value};
+ghost use Rattle.cli_cells.specs.RowLines.{cell_value};
 ghost use Rattle.cli_cells.specs.SignatureText.{signature_text};
 
-use crate::row_lines::Names;
 use crate::shown_rows::ShownRows;
 use crate::signature_text::signature_text;
-use cli_lines::Part::{Field, Spaced};
-use cli_lines::Value::{self, Bytes, Guid, Number, Quoted, Reference, Signature, Start};
-use cli_lines::{Form, Name, Part, Printer};
+use cli_lines::Part::Field;
+use cli_lines::Value::{Bytes, Guid, Number, Quoted, Reference, Signature, Start};
+use cli_lines::{Form, Name, Printer};
 use metadata_source::kind_of;
 use opening::{CellRef, TableId};
 use signatures::{SigError, canonical_encoding, is_plainly_canonical};
@@ -25,23 +24,11 @@ use std::alloc::{AllocError, Global};
 use std::io::Write;
 use table_schema::{ColumnKind, SigKind};
 
-/// The part of a cell: its value, after a space if columns are not named.
-#[inline(always)]
-fn cell_part(names: Names, name: Name, value: Value<'_>) -> Part<'_>
-    ensures { shown result ≡ cell_part names name (shown_value value.entry) }
-{
-    match names {
-        Names::Hidden => Spaced(name, value),
-        Names::Shown => Field(name, value),
-    }
-}
-
-/// Adds the value of a cell, after a space if columns are not named: a number in decimal, a text in quotes, bytes in hexadecimal, a GUID, a token, or the row of a
+/// Adds the value of a cell: a number in decimal, a text in quotes, bytes in hexadecimal, a GUID, a token, or the row of a
 /// start. A signature is its canonical encoding (II.23.2), and in JSON also its text. In JSON the value is a member with
 /// this name.
 pub fn print_cell<'a, R: ShownRows<'a>, W: Write>(
     alloc: Global,
-    names: Names,
     name: Name,
     rows: &mut R,
     table: TableId,
@@ -54,34 +41,33 @@ pub fn print_cell<'a, R: ShownRows<'a>, W: Write>(
     requires cell_index { cell_index < cell_count table }
     ensures same { rows.new ≡ rows.old }
     ensures part { (model : Metadata) → R.shows rows.old model
-        → Adds out.old out.new (cell_part names name (cell_value (cell_in model table row cell_index)) ∷ []) }
+        → Adds out.old out.new (field name (cell_value (cell_in model table row cell_index)) ∷ []) }
 {
     let kind = kind_of(table, cell_index);
     let value = rows.cell(table, row, cell_index);
-    print_value(alloc, names, name, kind, value, out);
+    print_value(alloc, name, kind, value, out);
 }
 
 /// Adds the value of a cell in a column of a kind.
 fn print_value<W: Write>(
     alloc: Global,
-    names: Names,
     name: Name,
     kind: ColumnKind,
     value: CellRef<'_>,
     out: &mut Printer<'_, W>,
 )
     requires { ¬ (¬ ((cell : Cell) × Shows kind value cell)) }
-    ensures { (cell : Cell) → Shows kind value.entry cell → Adds out.old out.new (cell_part names name (cell_value cell) ∷ []) }
+    ensures { (cell : Cell) → Shows kind value.entry cell → Adds out.old out.new (field name (cell_value cell) ∷ []) }
 {
     match value {
-        CellRef::Number(number) => out.part(&cell_part(names, name, Number(number as u64))),
-        CellRef::Text(text) => out.part(&cell_part(names, name, Quoted(text))),
-        CellRef::Bytes(bytes) => out.part(&cell_part(names, name, Bytes(bytes))),
-        CellRef::Guid(guid) => out.part(&cell_part(names, name, Guid(guid))),
-        CellRef::Ref(token) => out.part(&cell_part(names, name, Reference(token))),
-        CellRef::Start(start) => out.part(&cell_part(names, name, Start(start as u64))),
+        CellRef::Number(number) => out.part(&Field(name, Number(number as u64))),
+        CellRef::Text(text) => out.part(&Field(name, Quoted(text))),
+        CellRef::Bytes(bytes) => out.part(&Field(name, Bytes(bytes))),
+        CellRef::Guid(guid) => out.part(&Field(name, Guid(guid))),
+        CellRef::Ref(token) => out.part(&Field(name, Reference(token))),
+        CellRef::Start(start) => out.part(&Field(name, Start(start as u64))),
         CellRef::Sig(blob) => match kind {
-            ColumnKind::Signature(kind) => print_signature(alloc, names, name, kind, blob, out),
+            ColumnKind::Signature(kind) => print_signature(alloc, name, kind, blob, out),
             _ => unreachable!(),
         },
     }
@@ -90,7 +76,6 @@ fn print_value<W: Write>(
 /// Adds the signature in a blob. Most blobs are their canonical encoding themselves.
 fn print_signature<W: Write>(
     alloc: Global,
-    names: Names,
     name: Name,
     kind: SigKind,
     blob: &[u8],
@@ -98,13 +83,13 @@ fn print_signature<W: Write>(
 )
     requires { ¬ (¬ ((signature : Body) × Encodes kind signature blob.now)) }
     ensures { (signature : Body) → Encodes kind signature blob.now
-        → Adds out.old out.new (cell_part names name (line.signature (short signature) (signature_text signature)) ∷ []) }
+        → Adds out.old out.new (field name (line.signature (short signature) (signature_text signature)) ∷ []) }
 {
     if is_plainly_canonical(blob) {
-        return print_encoding(alloc, names, name, kind, blob, blob, out);
+        return print_encoding(alloc, name, kind, blob, blob, out);
     }
     match shortest(alloc, kind, blob) {
-        Ok(encoding) => print_encoding(alloc, names, name, kind, blob, &encoding, out),
+        Ok(encoding) => print_encoding(alloc, name, kind, blob, &encoding, out),
         Err(_) => out.fail(),
     }
 }
@@ -128,7 +113,6 @@ fn shortest(alloc: Global, kind: SigKind, blob: &[u8]) -> Result<Vec<u8>, AllocE
 /// Adds the encoding of the signature in a blob, and in JSON its text, which is made for JSON alone.
 fn print_encoding<W: Write>(
     alloc: Global,
-    names: Names,
     name: Name,
     kind: SigKind,
     blob: &[u8],
@@ -136,33 +120,27 @@ fn print_encoding<W: Write>(
     out: &mut Printer<'_, W>,
 )
     ensures { (signature : Body) → Encodes kind signature blob.now
-        → Adds out.old out.new (cell_part names name (line.signature encoding.now (signature_text signature)) ∷ []) }
+        → Adds out.old out.new (field name (line.signature encoding.now (signature_text signature)) ∷ []) }
 {
     match out.form() {
-        Form::Text => print_bytes(names, name, encoding, out),
+        Form::Text => print_bytes(name, encoding, out),
         Form::JsonLines => match signature_text(alloc, kind, blob) {
-            Ok(text) => print_both(names, name, encoding, &text, out),
+            Ok(text) => print_both(name, encoding, &text, out),
             Err(_) => out.fail(),
         },
     }
 }
 
 /// Adds bytes.
-fn print_bytes<W: Write>(names: Names, name: Name, bytes: &[u8], out: &mut Printer<'_, W>)
-    ensures { Adds out.old out.new (cell_part names name (line.bytes bytes.now) ∷ []) }
+fn print_bytes<W: Write>(name: Name, bytes: &[u8], out: &mut Printer<'_, W>)
+    ensures { Adds out.old out.new (field name (line.bytes bytes.now) ∷ []) }
 {
-    out.part(&cell_part(names, name, Bytes(bytes)));
+    out.part(&Field(name, Bytes(bytes)));
 }
 
 /// Adds the encoding and the text of a signature.
-fn print_both<'a, W: Write>(
-    names: Names,
-    name: Name,
-    blob: &'a [u8],
-    text: &'a str,
-    out: &mut Printer<'_, W>,
-)
-    ensures { Adds out.old out.new (cell_part names name (line.signature blob.now text.now) ∷ []) }
+fn print_both<'a, W: Write>(name: Name, blob: &'a [u8], text: &'a str, out: &mut Printer<'_, W>)
+    ensures { Adds out.old out.new (field name (line.signature blob.now text.now) ∷ []) }
 {
-    out.part(&cell_part(names, name, Signature(blob, text)));
+    out.part(&Field(name, Signature(blob, text)));
 }

@@ -102,7 +102,6 @@ fn print_cells<'a, R: ShownRows<'a>, W: Write>(
         print_label(names, table, cell_index, out);
         print_cell(
             alloc,
-            names,
             Name::Cell(table, cell_index),
             rows,
             table,
@@ -113,17 +112,23 @@ fn print_cells<'a, R: ShownRows<'a>, W: Write>(
     }
 }
 
-/// Adds what a cell begins with, if columns are named: a space, the name of its column and an equals sign.
-#[tactic(auto, unfolding(crate::specs::RowLines::cell_label))]
+/// Adds what a cell begins with: a space, and the name of its column and an equals sign if columns are named.
 fn print_label<W: Write>(names: Names, table: TableId, cell_index: usize, out: &mut Printer<'_, W>)
     requires { cell_index < cell_count table }
     ensures { Adds out.old out.new (cell_label names table cell_index) }
 {
-    cli_lines::laws::parts_follow::<W>();
     match names {
-        Names::Hidden => {}
+        Names::Hidden => print_space(table, cell_index, out),
         Names::Shown => print_name(table, cell_index, out),
     }
+}
+
+/// Adds a space.
+#[tactic(auto, unfolding(crate::specs::RowLines::cell_label))]
+fn print_space<W: Write>(table: TableId, cell_index: usize, out: &mut Printer<'_, W>)
+    ensures { Adds out.old out.new (cell_label Hidden table cell_index) }
+{
+    out.part(&Word(" "));
 }
 
 /// Adds a space, the name of the column of a cell, and an equals sign.

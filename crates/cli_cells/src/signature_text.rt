@@ -10,9 +10,6 @@ use itoa::Buffer;
 use sig_text::{SigKind, TextSink, Token, write_signature};
 use std::alloc::{AllocError, Global};
 
-/// The room for the text of a signature that is taken at once, in bytes. Most texts are shorter.
-const ROOM: usize = 128;
-
 /// A sink that keeps the text of a signature. A type is named by its token.
 #[derive(Drop)]
 struct SignatureText {
@@ -84,9 +81,8 @@ pub(crate) fn signature_text(
 ) -> Result<String, AllocError>
     ensures { (signature : Body) → Encodes kind signature blob.now → IfOk result (λ text. string_bytes text ≡ signature_text signature) }
 {
-    let text = String::with_capacity(alloc, ROOM)?;
     let mut sink = SignatureText {
-        text,
+        text: String::new(alloc),
         refused: false,
     };
     match write_signature(&mut sink, blob, kind) {

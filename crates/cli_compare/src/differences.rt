@@ -9,7 +9,7 @@ ghost use Rattle.table_schema.specs.CellColumns.{cell_count};
 ghost use Rattle.cli_lines.specs.Printed.{Adds, Begins, Prints};
 ghost use Rattle.cli_compare.specs.ComparedLines.{HasColumn, HasRows, compared_lines, difference_line, equal_line, label_parts, value_part};
 
-use cli_cells::{Names, column_name, print_cell};
+use cli_cells::{column_name, print_cell};
 use cli_lines::Part::{Field, Member, Note, Word};
 use cli_lines::Value::{self, Byte, Number, Plain, Text, Yes};
 use cli_lines::{Name, Printer};
@@ -177,16 +177,7 @@ fn print_value<W: Write>(
             table,
             row,
             cell_index,
-        } => print_cell(
-            alloc,
-            Names::Shown,
-            name,
-            cells,
-            table,
-            row,
-            cell_index,
-            out,
-        ),
+        } => print_cell(alloc, name, cells, table, row, cell_index, out),
     }
 }
 

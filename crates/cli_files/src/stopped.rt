@@ -31,7 +31,12 @@ impl<'a> Stopped<'a> {
     ghost use Rattle.cli_files.specs.Hints.{hint_for};
 
     /// A stop at some bytes, with a hint if there is one. The report of it names the file, if there is a name.
-    pub fn at(stop: Stop<'a>, file: Option<&'a str>, input: Input, bytes: &[u8]) -> Stopped<'a>
+    pub fn at(
+        stop: Stop<'a>,
+        file: Option<&'a str>,
+        input: Input,
+        bytes: &[u8],
+    ) -> Stopped<'a>
         ensures stop { result.stop ≡ stop.entry }
         ensures file { result.file ≡ file.entry }
         ensures hint { result.hint ≡ hint_for input bytes.now stop.entry }

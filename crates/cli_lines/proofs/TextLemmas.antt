@@ -8,8 +8,7 @@ use Rattle.std.proofs.lemmas.List.{flat_map_more}
 use Rattle.std.proofs.Math.Seq.{take-suc}
 use Rattle.table_schema.specs.Tokens.{hexadecimal}
 use Rattle.cli_faults.specs.Escaped.{escaped_text, is_plain}
-use Rattle.cli_faults.specs.Hexadecimal.{upper_hexadecimal}
-use Rattle.cli_lines.specs.Texts.{escaped_bytes}
+use Rattle.cli_lines.specs.Texts.{escaped_bytes, upper_hexadecimal}
 
 pub take_more : {X : Type 0} (xs : List X) (i : ℕ) (d : X) → i < length xs → take (i + 1) xs ≡ take i xs ++ get_or xs i d ∷ []
 take_more xs i d lt = let e : i + 1 ≡ suc i = omega arith in ap (λ n. take n xs) e ∙ take-suc xs i d lt
@@ -29,14 +28,6 @@ hexadecimal_more line bytes i lt small =
     two_bytes (line ++ escaped_bytes (take i bytes)) (digit_glyph false (get_or bytes i 0 / 16)) (digit_glyph false (get_or bytes i 0 % 16))
     ∙ ap (λ ys. (line ++ escaped_bytes (take i bytes)) ++ ys) (sym (hex_byte false (get_or bytes i 0) small))
     ∙ items_more (hexadecimal 2) line bytes i 0 lt
-
--- the digits of four bytes
-pub four_bytes : (a b c d : ℕ) → a < 256 → b < 256 → c < 256 → d < 256
-    → digit_glyph false (a / 16) ∷ digit_glyph false (a % 16) ∷ digit_glyph false (b / 16) ∷ digit_glyph false (b % 16)
-    ∷ digit_glyph false (c / 16) ∷ digit_glyph false (c % 16) ∷ digit_glyph false (d / 16) ∷ digit_glyph false (d % 16) ∷ []
-    ≡ escaped_bytes (a ∷ b ∷ c ∷ d ∷ [])
-four_bytes a b c d first second third last =
-    sym (λ i. hex_byte false a first i ++ (hex_byte false b second i ++ (hex_byte false c third i ++ (hex_byte false d last i ++ []))))
 
 pub upper_more : (line : List ℕ) (n : ℕ) → n < 256
     → (line ++ digit_glyph true (n / 16) ∷ []) ++ digit_glyph true (n % 16) ∷ [] ≡ line ++ upper_hexadecimal n

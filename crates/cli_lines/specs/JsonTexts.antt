@@ -6,8 +6,7 @@ use Rattle.json.specs.Print.{quoted as string_text}
 use Rattle.table_schema.specs.Tokens.{hexadecimal, token_text}
 use Rattle.cli_lines.specs.Lines.{Value, number, hex, byte, text, plain, token, reference, quoted, bytes, guid, start, signature, yes, null, guid_text}
 use Rattle.cli_lines.specs.Names.{name_text}
-use Rattle.cli_faults.specs.Hexadecimal.{upper_hexadecimal}
-use Rattle.cli_lines.specs.Texts.{escaped_bytes}
+use Rattle.cli_lines.specs.Texts.{escaped_bytes, upper_hexadecimal}
 use Rattle.cli_lines.specs.declared.line.Before.{Before}
 use Rattle.cli_lines.specs.declared.line.Before.TheVariants as before
 use Rattle.cli_lines.specs.declared.names.Name.{Name}

@@ -11,8 +11,7 @@ use Rattle.table_schema.specs.declared.token.Token.{Token}
 use Rattle.table_schema.specs.Tokens.{hexadecimal, token_text}
 use Rattle.cli_faults.specs.Escaped.{escaped_text, escaped_unit}
 use Rattle.cli_lines.specs.Names.{name_text}
-use Rattle.cli_faults.specs.Hexadecimal.{upper_hexadecimal}
-use Rattle.cli_lines.specs.Texts.{escaped_bytes}
+use Rattle.cli_lines.specs.Texts.{escaped_bytes, upper_hexadecimal}
 use Rattle.cli_lines.specs.declared.line.Before.{Before}
 use Rattle.cli_lines.specs.declared.line.Before.TheVariants as before
 use Rattle.cli_lines.specs.declared.names.Name.{Name}

@@ -1,13 +1,12 @@
 //! Appends texts of JSON to a line.
-ghost use Rattle.std.specs.Prelude.{◌≡◌, ◌++◌, ◌∷◌, ◌<◌, [], IsTrue, IfSome, OnOk, EachIndex, slice_index, unwrap_or};
+ghost use Rattle.std.specs.Prelude.{◌≡◌, ◌++◌, ◌∷◌, ◌<◌, ◌↔◌, [], IsTrue, IfSome, OnOk, EachIndex, slice_index, unwrap_or};
 ghost use Rattle.std.specs.Char.{digit_char};
 ghost use Rattle.json.specs.Print.{escape, escape_byte, escape_letter, quoted};
 ghost use Rattle.json.specs.Run.{is_plain};
 ghost use Rattle.table_schema.specs.Tokens.{hexadecimal, token_text};
 ghost use Rattle.cli_lines.specs.Lines as shown;
 ghost use Rattle.cli_lines.specs.JsonTexts.{value_json};
-ghost use Rattle.cli_faults.specs.Hexadecimal.{upper_hexadecimal};
-ghost use Rattle.cli_lines.specs.Texts.{escaped_bytes};
+ghost use Rattle.cli_lines.specs.Texts.{escaped_bytes, upper_hexadecimal};
 
 use crate::texts::{push_hexadecimal, push_token, push_word, upper_digit};
 use heap_entries::guid_text;
@@ -21,15 +20,11 @@ fn is_plain(byte: u8) -> bool
     byte >= 0x20 && byte != b'"' && byte != b'\\'
 }
 
-/// Whether all bytes stand for themselves. It reads all of them, many at a time.
+/// Whether all bytes stand for themselves.
 fn are_plain(text: &[u8]) -> bool
-    ensures { IsTrue result → EachIndex text.now (λ k. IsTrue (is_plain (slice_index text.now k))) }
+    ensures { IsTrue result ↔ EachIndex text.now (λ k. IsTrue (is_plain (slice_index text.now k))) }
 {
-    let mut all = true;
-    for byte in text {
-        all &= is_plain(*byte);
-    }
-    all
+    text.iter().all(|byte| is_plain(*byte))
 }
 
 /// The letter after the backslash in the short escape of a byte, if it has one.

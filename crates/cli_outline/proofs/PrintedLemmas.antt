@@ -1,12 +1,9 @@
 -- The lines of rows, one after another.
-use Rattle.std.proofs.Common.{◌≡◌, ◌∙◌, ℕ, suc, ◌+◌, ◌-◌, ◌<◌, ◌≤◌, List, [], ◌∷◌, ◌++◌, Option, None, Some, refl, ap, sym, subst, append_assoc, append-nil, add-one, drop, drop-cons, get_or, length, map, arith}
+use Rattle.std.proofs.Common.{◌≡◌, ◌∙◌, ℕ, suc, ◌+◌, ◌-◌, ◌<◌, ◌≤◌, List, [], ◌∷◌, ◌++◌, Option, None, Some, refl, ap, sym, subst, append_assoc, append-nil, add-one, drop, drop-cons, get_or, length, arith}
 use Rattle.std.specs.Prelude.{IsSome}
-use Rattle.std.proofs.lemmas.List.{drop_all}
 use Rattle.std.specs.List.{flat_map, range_with_len}
 use Rattle.table_schema.specs.declared.token.Token.{Token}
 use Rattle.metadata.specs.Metadata.{Metadata}
-use Rattle.navigation.specs.declared.keyed.KeyedRow.{KeyedRow}
-use Rattle.navigation.specs.Keyed.{row_of}
 use Rattle.cli_lines.specs.Lines.{Part}
 use Rattle.cli_lines.specs.Printed.{Printed, Prints}
 use Rattle.cli_outline.specs.Outline.{each_from}
@@ -115,11 +112,3 @@ unfolding each_from
 each_none rows number past le =
     let none : past - number ≡ 0 = omega (arith, le) in
     ap (λ n. flat_map rows (range_with_len number n)) none
-
--- what there is for the rows from one on, and at the end
-module _ (rows : ℕ → List Token) (found : List KeyedRow) (i : ℕ) where
-  pub found_left : (d : KeyedRow) → i < length found → rows (get_or found i d).row ++ flat_map rows (map row_of (drop (i + 1) found)) ≡ flat_map rows (map row_of (drop i found))
-  found_left d lt = ap (λ left. flat_map rows (map row_of left)) (sym (items_left found i d lt))
-
-  pub none_left : length found ≤ i → [] ≡ flat_map rows (map row_of (drop i found))
-  none_left le = ap (λ left. flat_map rows (map row_of left)) (sym (drop_all i found le))

@@ -11,7 +11,7 @@ use Rattle.metadata_source.specs.declared.member_lists.MemberList.TheVariants as
 use Rattle.metadata_source.specs.MemberLists.{cell_of, member_of, owner_of}
 use Rattle.navigation.specs.declared.links.Link.{Link}
 use Rattle.navigation.specs.declared.links.Link.TheVariants as linked_by
-use Rattle.navigation.specs.Linked.{linked}
+use Rattle.navigation.specs.Linked.{in_order, linked}
 use Rattle.cli_outline.specs.declared.mapped.Mapped.{Mapped}
 use Rattle.cli_outline.specs.declared.mapped.Mapped.TheVariants.{Events, Properties}
 use Rattle.cli_outline.specs.Parts.{token_at}
@@ -64,9 +64,17 @@ accessed_rows model of row =
 abbrev pub mapped_rows : Metadata → Mapped → ℕ → List Token
 mapped_rows model of row = each_member model (list_of of) (accessed_rows model of) row
 
--- the events or the properties of a type: those of each row of the map that refers to it, wherever it stands
+-- the events or the properties of a type: those of the rows of the map that refer to it
 unfoldable pub type_rows : Metadata → Mapped → ℕ → List Token
 type_rows model of class = flat_map (mapped_rows model of) (linked model (link_of of) (token_at TypeDef class))
+
+-- all events or properties, if the rows of their map are not in the order of types
+unfoldable pub apart_rows : Metadata → Mapped → List Token
+apart_rows model of = if in_order model (link_of of) then [] else each_from (accessed_rows model of) 1 (count_in model (table_of of) + 1)
+
+-- all accessors, if they are not in the order of events and properties
+unfoldable pub apart_accessors : Metadata → List Token
+apart_accessors model = if in_order model linked_by.Accessors then [] else all_rows model MethodSemantics
 
 -- ---- the whole
 
@@ -83,8 +91,12 @@ first_tables = Assembly ∷ AssemblyRef ∷ Module ∷ ModuleRef ∷ File ∷ Ma
 unfoldable pub last_tables : List TableId
 last_tables = InterfaceImpl ∷ GenericParam ∷ GenericParamConstraint ∷ MethodImpl ∷ ImplMap ∷ CustomAttribute ∷ []
 
+-- the rows that are not below a type or an event or a property, although rows of their tables may be
+unfoldable pub apart : Metadata → List Token
+apart model = apart_rows model Events ++ (apart_rows model Properties ++ apart_accessors model)
+
 -- the rows that have a line, in the order of the lines
 unfoldable pub outline_rows : Metadata → List Token
 outline_rows model =
     flat_map (all_rows model) first_tables
-    ++ (each_from (class_rows model) 1 (count_in model TypeDef + 1) ++ flat_map (all_rows model) last_tables)
+    ++ (each_from (class_rows model) 1 (count_in model TypeDef + 1) ++ (apart model ++ flat_map (all_rows model) last_tables))

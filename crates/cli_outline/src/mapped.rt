@@ -4,12 +4,12 @@ ghost use Rattle.metadata.specs.Metadata.{Metadata};
 ghost use Rattle.metadata.specs.Model.{IsModel};
 ghost use Rattle.metadata_source.specs.MemberLists.{owner_of};
 ghost use Rattle.opening.specs.Views.{row_count};
-ghost use Rattle.cli_outline.specs.Outline.{accessed_rows, each_from, list_of, mapped_rows, table_of, type_rows};
+ghost use Rattle.cli_outline.specs.Outline.{accessed_rows, apart_rows, each_from, list_of, mapped_rows, table_of, type_rows};
 ghost use Rattle.cli_outline.specs.Printed.{PrintsRows};
 
 use crate::declared::Declared;
 use crate::laws::{ranges_follow, rows_follow};
-use crate::outline::{print_row, run_of};
+use crate::outline::{print_row, print_rows, run_of};
 use cli_lines::Printer;
 use navigation::{Link, Neighbours};
 use opening::{CellCursor, MemberList, TableId, Token};
@@ -81,14 +81,8 @@ fn print_accessed<W: Write>(
     rows_follow::<W>();
     let table = of.list().member();
     print_row(source, None, Token { table, row }, declared, out);
-    let accessors = source.linked(Link::Accessors, of.accessed(row));
-    for accessor in accessors {
-        let token = Token {
-            table: TableId::MethodSemantics,
-            row: accessor.row,
-        };
-        print_row(source, None, token, declared, out);
-    }
+    let rows = source.linked(Link::Accessors, of.accessed(row));
+    print_rows(source, None, TableId::MethodSemantics, rows, declared, out);
 }
 
 /// Prints the lines of some events or properties, in ascending order, each with its accessors.
@@ -144,9 +138,27 @@ pub(crate) fn print_mapped<W: Write>(
     ensures same { cells.new ≡ cells.old }
     ensures lines { (model : Metadata) → IsModel source.now.view.now model → PrintsRows model out.old out.new (type_rows model of class) }
 {
-    rows_follow::<W>();
+    ranges_follow::<W>();
     let maps = source.linked(of.link(), class);
-    for map in maps {
-        print_map(source, cells, of, map.row, declared, out);
+    let (first, past) = (maps.start, maps.end);
+    for map in first..past {
+        print_map(source, cells, of, map, declared, out);
     }
+}
+
+/// Prints the lines of all events or properties, if the rows of their map are not in the order of types.
+pub(crate) fn print_apart<W: Write>(
+    source: &Neighbours<'_, '_>,
+    of: Mapped,
+    declared: &mut Declared,
+    out: &mut Printer<'_, W>,
+)
+    ensures { (model : Metadata) → IsModel source.now.view.now model → PrintsRows model out.old out.new (apart_rows model of) }
+{
+    rows_follow::<W>();
+    if source.in_order(of.link()) {
+        return;
+    }
+    let count = source.view.count(of.list().member());
+    print_all_accessed(source, of, 1..count + 1, declared, out);
 }

@@ -9,18 +9,18 @@ ghost use Rattle.metadata.specs.Model.{IsModel};
 ghost use Rattle.metadata_source.specs.MemberLists.{cell_of, member_of, owner_of};
 ghost use Rattle.full_names.specs.RowNames.{IsMemberOf};
 ghost use Rattle.opening.specs.Views.{row_count};
-ghost use Rattle.cli_outline.specs.Outline.{all_rows, class_rows, each_from, first_tables, last_tables, members, outline_rows, row_of, run_start};
+ghost use Rattle.cli_outline.specs.Outline.{all_rows, apart, apart_accessors, class_rows, each_from, first_tables, last_tables, members, outline_rows, row_of, run_start};
 ghost use Rattle.cli_outline.specs.Printed.{PrintsRows};
 ghost use Rattle.cli_outline.specs.Subjects.{PrintsNone, PrintsSubject};
 
 use crate::declared::Declared;
 use crate::laws::{ranges_follow, rows_follow};
 use crate::line::print_line;
-use crate::mapped::{Mapped, print_mapped};
+use crate::mapped::{Mapped, print_apart, print_mapped};
 use crate::subject::{Outcome, Subject, found_row};
 use cli_lines::Printer;
 use full_names::type_of_member;
-use navigation::Neighbours;
+use navigation::{Link, Neighbours};
 use opening::{CellCursor, MemberList, TableId, Token, View};
 use std::alloc::Global;
 use std::io::Write;
@@ -46,7 +46,7 @@ pub(crate) fn print_row<W: Write>(
 }
 
 /// Prints the lines of some rows of a table, in ascending order. The type of members is given, or found for each.
-fn print_rows<W: Write>(
+pub(crate) fn print_rows<W: Write>(
     source: &Neighbours<'_, '_>,
     owner: Option<Token>,
     table: TableId,
@@ -209,6 +209,35 @@ fn last_tables() -> &'static [TableId]
     ]
 }
 
+/// Prints the lines of all accessors, if they are not in the order of events and properties.
+fn print_apart_accessors<W: Write>(
+    source: &Neighbours<'_, '_>,
+    declared: &mut Declared,
+    out: &mut Printer<'_, W>,
+)
+    ensures { (model : Metadata) → IsModel source.now.view.now model → PrintsRows model out.old out.new (apart_accessors model) }
+{
+    rows_follow::<W>();
+    if source.in_order(Link::Accessors) {
+        return;
+    }
+    print_table(source, TableId::MethodSemantics, declared, out);
+}
+
+/// Prints the lines of events, properties and accessors that are not below types.
+fn print_all_apart<W: Write>(
+    source: &Neighbours<'_, '_>,
+    declared: &mut Declared,
+    out: &mut Printer<'_, W>,
+)
+    ensures { (model : Metadata) → IsModel source.now.view.now model → PrintsRows model out.old out.new (apart model) }
+{
+    rows_follow::<W>();
+    print_apart(source, Mapped::Events, declared, out);
+    print_apart(source, Mapped::Properties, declared, out);
+    print_apart_accessors(source, declared, out);
+}
+
 /// Prints all lines of the outline.
 fn print_all<W: Write>(
     source: &Neighbours<'_, '_>,
@@ -220,6 +249,7 @@ fn print_all<W: Write>(
     rows_follow::<W>();
     print_tables(source, first_tables(), declared, out);
     print_classes(source, declared, out);
+    print_all_apart(source, declared, out);
     print_tables(source, last_tables(), declared, out);
 }
 
@@ -231,15 +261,16 @@ fn print_all<W: Write>(
 ///
 /// First come the assembly, the references to others, the module, files, resources and exported types. Then come the types
 /// in the order of their rows, each with its fields, methods, events and properties below it. Below an event and a
-/// property come its accessors. Then come the rows of other tables, such as the interfaces of types. EventMap, PropertyMap
-/// and MethodSemantics may be in any order: their rows are sorted once.
+/// property come its accessors. Then come the rows of other tables, such as the interfaces of types. The events of a type
+/// are found by binary search over EventMap. If its rows are not in the order of types, all events come after the types
+/// instead. So it is with properties, and with accessors that are not in the order of their key.
 ///
-/// Its time is that of the lines, of the blobs in them, and at most log n for each name of a type and each row of these
-/// three tables. A name has the types that enclose it, at most 64, each found by binary search. If NestedClass is not in
-/// the order of its key (II.22), names have none of them. Names in what is cut are not looked up.
+/// Its time is that of the lines, of the blobs in them, and at most log n for each name of a type. A name has the types
+/// that enclose it, at most 64, each found by binary search. If NestedClass is not in the order of its key (II.22), names
+/// have none of them. Names in what is cut are not looked up.
 ///
-/// Its memory is that of the longest line, of the lines that wait to be sent, and eight bytes for each row of the three
-/// tables. If a list of members has a null start, its starts take four bytes for each owner.
+/// Its memory is that of the longest line, and of the lines that wait to be sent. If a list of members has a null start,
+/// its starts take four bytes for each owner.
 pub fn print_outline<W: Write>(alloc: Global, view: &View<'_>, out: &mut Printer<'_, W>)
     ensures { (model : Metadata) → IsModel view.now model → PrintsRows model out.old out.new (outline_rows model) }
 {

@@ -1,7 +1,8 @@
 -- The CLI header, a metadata root, its streams and the row counts of its tables as structures, outermost first (ECMA-335
 -- II.24.2 and II.25.3.3).
-use Rattle.std.specs.Prelude.{ℕ, ◌+◌, ◌-◌, List, [], ◌∷◌, ◌++◌, codes, length, map, filter, Option, None, Some}
+use Rattle.std.specs.Prelude.{ℕ, ◌+◌, ◌-◌, ◌^◌, true, false, List, [], ◌∷◌, ◌++◌, codes, length, map, filter, Option, None, Some}
 use Rattle.std.specs.List.{flat_map}
+use Rattle.std.specs.Fmt.{digits, format_spec, padded_integral}
 use Rattle.root.specs.declared.kind.Kind.{Kind}
 use Rattle.root.specs.declared.kind.Kind.TheVariants.{Tables, Strings, UserStrings, Guids, Blobs}
 use Rattle.root.specs.Fields.{header_length, root_read, version_length}
@@ -11,7 +12,6 @@ use Rattle.table_schema.specs.declared.table.TableId.{TableId}
 use Rattle.table_schema.specs.Tables.{tables, table_number, table_name}
 use Rattle.schema.specs.Header.{has_bit, valid_of}
 use Rattle.cli_faults.specs.Escaped.{escaped_text}
-use Rattle.cli_faults.specs.Hexadecimal.{upper_hexadecimal}
 use Rattle.cli_regions.specs.Regions.{Region, region}
 use Rattle.cli_regions.specs.Fields.{Field, field, fields_from, header_regions, cli_header_fields, root_fields, stream_header_fields, table_stream_fields}
 
@@ -37,6 +37,10 @@ ranged start kind (Some range) = region (start + range.0) (range.1 - range.0) (c
 -- a stream of a root, if a header names it (II.24.2.2)
 unfoldable pub stream_regions : ℕ → RootRead → Kind → List Region
 stream_regions start root kind = ranged start kind (range_of root kind)
+
+-- a number in two upper-case hexadecimal digits, as `{:02X}` writes it
+abbrev pub upper_hexadecimal : ℕ → List ℕ
+upper_hexadecimal number = padded_integral (format_spec 32 0 4 2 (2 ^ 64 - 1)) false [] (digits 16 true number)
 
 -- a table by its number and name (II.22)
 abbrev pub table_words : TableId → List ℕ

@@ -1,5 +1,5 @@
 -- What each report handed to a printer.
-use Rattle.std.proofs.Common.{◌≡◌, ℕ, List, Option, Result, Ok, Err, inl, inr}
+use Rattle.std.proofs.Common.{◌≡◌, ℕ, List, [], Option, Some, Result, Ok, Err, refl, sym, subst, inl, inr}
 use Rattle.std.specs.Prelude.{IfErr, OnErr, OnOk}
 use Rattle.cli_header.specs.declared.header.CliHeader.{CliHeader}
 use Rattle.packed.specs.declared.fault.Fault.{Fault}
@@ -11,6 +11,7 @@ use Rattle.cli_faults.specs.declared.failure.Failure.{Failure}
 use Rattle.cli_faults.specs.declared.stop.Stop.TheVariants.{Failed}
 use Rattle.cli_input.specs.Checked.{rules_of}
 use Rattle.cli_input.specs.Heads.{AreHeads, HasHeads, rules_of_heads}
+use Rattle.cli_lines.specs.Lines.{Part}
 use Rattle.cli_lines.specs.Printed.{Printed, Prints}
 use Rattle.cli_outline.specs.Printed.{PrintsRows}
 use Rattle.cli_where.specs.Located.{AreListed}

@@ -1,16 +1,17 @@
 -- What a printer was asked to print of a report, and what went out of it.
-use Rattle.std.proofs.Common.{◌≡◌, ◌≢◌, ℕ, List, [], Option, None, Some, Result, Ok, Err, append-nil, refl, sym, subst, inl, inr}
-use Rattle.std.specs.Prelude.{IsSome, OnOk}
+use Rattle.std.proofs.Common.{◌≡◌, ◌≢◌, ℕ, List, [], ◌∷◌, ◌++◌, Option, None, Some, Result, Ok, Err, append-nil, refl, sym, subst, arith, inl, inr}
+use Rattle.std.specs.Prelude.{IfErr, IsSome, OnErr, OnOk, MatchResult}
 use Rattle.std.specs.Io.KnownBytes.{Appends}
 use Rattle.packed.specs.declared.fault.Fault.{Fault}
 use Rattle.table_schema.specs.declared.token.Token.{Token}
 use Rattle.metadata.specs.Metadata.{Metadata}
+use Rattle.cli_faults.specs.Status.{IsOutput}
 use Rattle.cli_faults.specs.declared.failure.Failure.{Failure}
 use Rattle.cli_faults.specs.declared.stop.Stop.{Stop}
 use Rattle.cli_input.specs.declared.opened.Input.{Input}
 use Rattle.cli_lines.specs.declared.parts.Form.{Form}
 use Rattle.cli_lines.specs.Lines.{Part, report_text}
-use Rattle.cli_lines.specs.Printed.{Asked, Printed, Sent}
+use Rattle.cli_lines.specs.Printed.{Asked, Printed, SendsPrefix, Sent}
 use Rattle.cli_runs.specs.Printing.{AreNone, Hands, HasPrinted}
 use Rattle.cli_runs.specs.Reports.{AreDeclared, AreNamed, HasEnded, IsFaultOut, IsListed, IsPrinted, IsStopped, OfModel, verdict_lines}
 use Rattle.cli_runs.specs.Runs.{AreCut, AreSent, IsReported}
@@ -154,3 +155,9 @@ module _ (request : Request) {W : Type 0} (contents : W → Option (List ℕ)) (
   sent_reported ended.Printed other out = out
   sent_reported (ended.Stopped why) other out = out
   sent_reported (ended.Refused why) other out = absurd (other why refl)
+
+-- what a printer sent to a writer, it sent to the last value of that writer
+pub sends_moved : {W : Type 0} (contents : W → Option (List ℕ)) (last known : W) (new : Printed W) (done : Result (Unit {0}) Failure) → last ≡ known
+    → ((start : Option (List ℕ)) (text : List ℕ) → Asked start new text → Sent start (contents known) done text) → (start : Option (List ℕ)) (text : List ℕ) → Asked start new text
+    → Sent start (contents last) done text
+sends_moved contents last known new done same sends start text asked = subst (λ writer. Sent start (contents writer) done text) (sym same) (sends start text asked)

@@ -1,5 +1,5 @@
 -- What is written for a file, and what is reported if its canonical root is too long.
-use Rattle.std.proofs.Common.{◌≡◌, ◌<◌, ◌^◌, ℕ, List, Option, Result, Ok, Err, length, sym, subst, inr}
+use Rattle.std.proofs.Common.{◌≡◌, ◌<◌, ◌^◌, ℕ, List, Option, Result, Ok, Err, length, sym, subst, inl, inr}
 use Rattle.std.specs.Prelude.{⊤, IfErr, OnOk}
 use Rattle.std.specs.Io.KnownBytes.{Appends}
 use Rattle.std.proofs.Math.Logic.{∥∥₁_map}

@@ -1,5 +1,5 @@
 -- Runs on several files, one after another.
-use Rattle.std.proofs.Common.{◌≡◌, ◌∙◌, ◌≤◌, ◌<◌, ◌+◌, ℕ, List, ◌∷◌, map, drop, get_or, length, max, Option, refl, ap, sym, subst, arith, inl, inr, drop-cons, add-one}
+use Rattle.std.proofs.Common.{◌≡◌, ◌∙◌, ◌≤◌, ◌<◌, ◌+◌, ℕ, List, [], ◌∷◌, map, drop, get_or, length, max, Option, refl, ap, sym, subst, arith, inl, inr, drop-cons, add-one}
 use Rattle.std.specs.Borrow.{Bor}
 use Rattle.std.proofs.lemmas.List.{drop_all}
 use Rattle.cli_faults.specs.declared.failure.Failure.{Failure}

@@ -6,6 +6,7 @@ use Rattle.packed.specs.Rule.{FirstBroken}
 use Rattle.table_schema.specs.declared.table.TableId.{TableId}
 use Rattle.table_schema.specs.CellColumns.{cell_count}
 use Rattle.metadata.specs.Metadata.{Metadata}
+use Rattle.comparison.specs.declared.difference.Difference.{Difference}
 use Rattle.comparison.specs.Differences.{first_differences_but}
 use Rattle.comparison.specs.EqualBut.{AreEqualBut}
 use Rattle.comparison.specs.Ignored.{is_ignored}

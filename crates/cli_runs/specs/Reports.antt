@@ -26,9 +26,11 @@ use Rattle.cli_input.specs.Heads.{AreHeads, HasHeads, rules_of_heads}
 use Rattle.cli_cells.specs.Before.{AreLinesBefore}
 use Rattle.cli_cells.specs.RowLines.{show_lines}
 use Rattle.cli_cells.specs.TokenLines.{AreTokenLines, IsNamed}
+use Rattle.cli_cells.specs.declared.row_lines.Names.{Names}
 use Rattle.cli_outline.specs.Outline.{class_rows, outline_rows}
 use Rattle.cli_outline.specs.Printed.{AreLines}
 use Rattle.cli_outline.specs.Subjects.{IsSubject}
+use Rattle.cli_outline.specs.declared.subject.Subject.{Subject}
 use Rattle.cli_print.specs.DigestLines.{digest_line}
 use Rattle.cli_print.specs.Explanations.{IsExplanation}
 use Rattle.cli_print.specs.RootLines.{heads_lines}

@@ -5,8 +5,8 @@ ghost use Rattle.cli_faults.specs.Stops.{status_of_stop};
 ghost use Rattle.cli_files.specs.Read.{IsRefused};
 ghost use Rattle.cli_runs.specs.Runs.{AreRun, IsCutAt, IsReported, IsReportedAs, IsRun, IsRunOn, status_of_ended};
 
-use crate::printed::report_on;
 use crate::report::{Ended, Naming, Report, Request};
+use crate::printed::report_on;
 use cli_faults::{Failure, Stop};
 use cli_files::{Stopped, out_of_memory, read_into, status};
 use cli_nearest::report_missing_type;

@@ -4,8 +4,8 @@ ghost use Rattle.std.specs.List.{slice_split};
 ghost use Rattle.cli_files.specs.Read.{IsRefused};
 ghost use Rattle.cli_runs.specs.Runs.{AreListed, IsRunOnList};
 
-use crate::files::run_each;
 use crate::report::Request;
+use crate::files::run_each;
 use cli_faults::{Failure, FileError, Reason};
 use cli_files::{LIMIT, STANDARD_INPUT, Stopped, out_of_memory, read_file, status};
 use std::alloc::{AllocError, Global};

@@ -93,10 +93,7 @@ fn label_of(naming: Naming, name: &str) -> Option<&str>
 fn is_reported(verdict: Verdict, form: Form, naming: Naming) -> bool
     ensures { result ≡ is_reported verdict form naming }
 {
-    matches!(
-        (verdict, form, naming),
-        (Verdict::Line, Form::Text, Naming::Alone)
-    )
+    matches!((verdict, form, naming), (Verdict::Line, Form::Text, Naming::Alone))
 }
 
 /// Prints the line of a verdict, unless the check is quiet.

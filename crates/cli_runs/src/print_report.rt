@@ -79,7 +79,12 @@ fn print_listing<W: Write>(
 }
 
 /// Prints the lines of a listing of a view.
-fn print_view<W: Write>(alloc: Global, listing: Listing, view: &View<'_>, out: &mut Printer<'_, W>)
+fn print_view<W: Write>(
+    alloc: Global,
+    listing: Listing,
+    view: &View<'_>,
+    out: &mut Printer<'_, W>,
+)
     ensures { (model : Metadata) → IsModel view.now model → IsListed (Hands out.old out.new) listing model }
 {
     match listing {

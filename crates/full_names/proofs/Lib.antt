@@ -1,6 +1,5 @@
 mod ParamLemmas
 mod RowNameLemmas
-mod ParamNames
 mod PieceLemmas
 mod TextLemmas
 mod NameExists

@@ -1,5 +1,5 @@
 -- Each token has a name.
-use Rattle.std.proofs.Common.{◌≡◌, ℕ, zero, suc, ◌+◌, ◌-◌, ◌<◌, ◌≤◌, Bool, true, false, List, [], ◌∷◌, ◌++◌, ◌⊎◌, inl, inr, Some, None, refl, sym, ap, subst, ◌∙◌, arith}
+use Rattle.std.proofs.Common.{◌≡◌, ◌≢◌, ℕ, zero, suc, ◌+◌, ◌-◌, ◌<◌, ◌≤◌, Bool, true, false, List, [], ◌∷◌, ◌++◌, ◌⊎◌, inl, inr, Option, Some, None, refl, sym, ap, subst, ◌∙◌, arith}
 use Rattle.std.specs.Prelude.{codes}
 use Rattle.std.specs.Fmt.{decimal, signed_decimal}
 use Rattle.std.specs.Bool.{Decides}
@@ -12,7 +12,8 @@ use Rattle.table_schema.specs.contracts.table.TableIdPartialEq.TheImpl as equal
 use Rattle.table_schema.specs.declared.token.Token.{Token}
 use Rattle.table_schema.specs.declared.column.ColumnKind.TheVariants as kind
 use Rattle.table_schema.specs.declared.column.SigKind.TheVariants as column
-use Rattle.table_schema.specs.CellColumns.{cell_columns, cell_count}
+use Rattle.table_schema.specs.Columns.{key_of}
+use Rattle.table_schema.specs.CellColumns.{cell_columns, cell_count, column_of}
 use Rattle.sig_grammar.specs.Syntax.{Body}
 use Rattle.sig_text.specs.SignatureText.{Piece, word, number, signed, name, method_name, param_name, text_of}
 use Rattle.metadata.specs.Cell.{Cell, Number, Text, Bytes, Guid, Ref, Start, Sig}
@@ -24,7 +25,7 @@ use Rattle.metadata.specs.Names.{full_name}
 use Rattle.metadata.specs.Valid.{IsValid, MayRefer, nullable_at}
 use Rattle.navigation.specs.Nesting.{IsEnclosed, IsFirstNesting, IsNesting, IsScope, type_token}
 use Rattle.full_names.specs.Names.{IsChainText, IsOuter, IsOwnText, IsTypeDefText, IsTypeRefText}
-use Rattle.full_names.specs.Texts.{ArePiecesText, IsParamText, position_in, position_of, spaced, IsFullName, IsInnerName, IsPieceText, IsTypeSpecText}
+use Rattle.full_names.specs.Texts.{ArePiecesText, ArePositionsBefore, IsParamAt, IsParamText, spaced, IsFullName, IsInnerName, IsNamed, IsPieceText, IsTypeSpecText}
 use Rattle.full_names.proofs.ParamLemmas.{found_text}
 use Rattle.full_names.proofs.PieceLemmas.{same_signature, signature_of}
 use Rattle.full_names.proofs.PlainPieces.{ArePlain, IsPlain, text_is_plain}
@@ -333,7 +334,12 @@ module _ (model : Metadata) (valid : IsValid model) where
 
 -- ---- the names of parameters
 
+position_of : Cell → ℕ
+position_of (Number value) = value
+position_of cell = 0
+
 is_number : (cell : Cell) → IsOfKind kind.U16 cell → cell ≡ Number (position_of cell)
+unfolding position_of
 is_number (Number value) of = refl
 is_number (Text text) of = absurd of
 is_number (Ref reference) of = absurd of
@@ -351,42 +357,77 @@ module _ (model : Metadata) (valid : IsValid model) (first past position : ℕ) 
   unfolding cell_columns
   param_own row there = is_text (cell_in model Param row 2) (valid.cells Param row 2 there (omega arith)).of_kind
 
-  abbrev is_at : ℕ → Type 0
-  is_at row = (first ≤ row) × (row < past) × (position_in model row ≡ position)
+  abbrev reaches : ℕ → Type 0
+  reaches row = (first ≤ row) × (row < past) × (position ≤ position_of (cell_in model Param row 1))
 
-  at_or_not : (row : ℕ) → is_at row ⊎ ¬ is_at row
-  at_or_not row = elim (cases_lt row first) [
+  reaches_or_not : (row : ℕ) → reaches row ⊎ ¬ reaches row
+  reaches_or_not row = elim (cases_lt row first) [
     | inl before ↦ inr (λ is. let from = is.0 in absurd (omega (arith, before, from)))
     | inr from ↦ elim (cases_lt row past) [
       | inr after ↦ inr (λ is. let to = is.1 in absurd (omega (arith, after, to)))
-      | inl to ↦ elim (cases_eq (position_in model row) position) [
-        | inl same ↦ inl (from, to, same)
-        | inr differs ↦ inr (λ is. differs is.2)
+      | inl to ↦ elim (cases_lt (position_of (cell_in model Param row 1)) position) [
+        | inl less ↦ inr (λ is. let least = is.2 in absurd (omega (arith, less, least)))
+        | inr least ↦ inl (from, to, least)
       ]
     ]
   ]
 
-  pub param_is : (row : ℕ) → HasRow model Param row → is_at row → ((earlier : ℕ) → HasRow model Param earlier → earlier < row → ¬ is_at earlier)
-      → (own : List ℕ) → cell_in model Param row 2 ≡ Text own → IsParamText model first past position (spaced own)
-  param_is row there at none own is = found_text model first past position row own (record {
-    there = there;
-    from = at.0;
-    to = at.1;
-    sequence = param_number row there ∙ ap (λ (n : ℕ). Number n) at.2;
-    before = λ earlier before from same. elim (cases_lt earlier row) [
-      | inl less ↦ let to = at.1 in absurd (none earlier before less (from, omega (arith, less, to), ap position_of same))
-      | inr least ↦ least
-    ];
-  }) is
+  -- the row at a position reaches it
+  at_reaches : (row : ℕ) → IsParamAt model first past position row → position_of (cell_in model Param row 1) ≡ position
+  unfolding position_of
+  at_reaches row at = ap position_of at.sequence
 
-  pub param_none : ((row : ℕ) → HasRow model Param row → ¬ is_at row) → IsParamText model first past position []
-  param_none none = record {
-    named = λ row at own is. absurd (none row at.there (at.from, at.to, ap position_of at.sequence));
-    unnamed = λ _. refl;
-  }
+  found_at : (row other : ℕ) → IsFound reaches (count_in model Param) row → IsParamAt model first past position other → row ≡ other
+  found_at row other found at =
+      let same = at_reaches other at in
+      elim (cases_lt other row) [
+        | inl before ↦ absurd (found.2 other at.there.0 before (at.from, at.to, omega (arith, same)))
+        | inr not ↦ elim (cases_lt row other) [
+          | inl after ↦
+              let small = at.before row found.0 found.1.0 after (position_of (cell_in model Param row 1)) (param_number row found.0) in
+              let least = found.1.2 in
+              absurd (omega (arith, small, least))
+          | inr equal ↦ omega (arith, not, equal)
+        ]
+      ]
+
+  param_before : (row : ℕ) → IsFound reaches (count_in model Param) row → ArePositionsBefore model first row position
+  unfolding position_of
+  param_before row found = λ other there from to value is. elim (cases_lt value position) [
+    | inl less ↦ less
+    | inr least ↦
+        let same = ap position_of is in
+        let within = found.1.1 in
+        absurd (found.2 other there.0 to (from, omega (arith, to, within), omega (arith, same, least)))
+  ]
 
   pub param_text : HasText (IsParamText model first past position)
-  param_text = elim (first_row is_at at_or_not (count_in model Param)) [
-    | inl found ↦ let own = param_own found.0 found.1.0 in (spaced own.0, param_is found.0 found.1.0 found.1.1 (λ earlier there less. found.1.2 earlier there.0 less) own.0 own.1)
-    | inr none ↦ ([], param_none (λ row there. none row there.0 there.1))
+  param_text = elim (first_row reaches reaches_or_not (count_in model Param)) [
+    | inl found ↦ elim (cases_eq (position_of (cell_in model Param found.0 1)) position) [
+      | inl same ↦
+          let own = param_own found.0 found.1.0 in (
+            spaced own.0,
+            found_text model first past position found.0 own.0 (record {
+              there = found.1.0;
+              from = found.1.1.0;
+              to = found.1.1.1;
+              sequence = param_number found.0 found.1.0 ∙ ap (λ (n : ℕ). Number n) same;
+              before = param_before found.0 found.1;
+            }) own.1,
+          )
+      | inr differs ↦ (
+        [],
+        record {
+          named = λ row at own is. absurd (differs (ap (λ (r : ℕ). position_of (cell_in model Param r 1)) (found_at found.0 row found.1 at) ∙ at_reaches row at));
+          unnamed = λ none. refl;
+        },
+      )
+    ]
+    | inr none ↦ (
+      [],
+      record {
+        named = λ row at own is. let same = at_reaches row at in absurd (none row at.there.0 at.there.1 (at.from, at.to, omega (arith, same)));
+        unnamed = λ none. refl;
+      },
+    )
   ]

@@ -1,18 +1,17 @@
 -- The name of a row, from that of its table.
-use Rattle.std.proofs.Common.{◌≡◌, ℕ, ◌≤◌, ◌<◌, false, List, Option, None, refl, subst, arith, ⊎_elim}
+use Rattle.std.proofs.Common.{◌≡◌, ℕ, ◌≤◌, ◌<◌, List, None, refl, subst, arith, ⊎_elim}
 use Rattle.std.proofs.lemmas.Bool.{cases_lt}
 use Rattle.table_schema.specs.declared.table.TableId.{TableId}
 use Rattle.table_schema.specs.declared.table.TableId.TheVariants.{TypeDef, TypeRef, TypeSpec, Field, MethodDef, Event, Property, MemberRef, ModuleRef, AssemblyRef, File, ExportedType, GenericParam}
 use Rattle.std.specs.Prelude.{codes}
 use Rattle.table_schema.specs.declared.token.Token.{Token}
-use Rattle.table_schema.specs.CellColumns.{cell_columns, cell_count}
-use Rattle.metadata.specs.Cell.{Cell, Ref}
+use Rattle.table_schema.specs.CellColumns.{cell_count}
+use Rattle.metadata.specs.Cell.{Cell}
 use Rattle.metadata.specs.Lookups.{HasRow}
-use Rattle.metadata.specs.Metadata.{Metadata, cell_in, count_in}
+use Rattle.metadata.specs.Metadata.{Metadata, count_in}
 use Rattle.metadata.specs.Valid.{IsValid, MayRefer, nullable_at}
 use Rattle.navigation.specs.Maps.{IsMapOf}
-use Rattle.full_names.specs.RowNames.{IsMemberOf, IsNameIn, IsNameUnder, IsPlainName, IsRowName}
-use Rattle.full_names.specs.Texts.{IsMethodName}
+use Rattle.full_names.specs.RowNames.{IsMemberOf, IsNameIn, IsPlainName, IsRowName}
 
 -- a row of a table that is none of these has a plain name
 pub plain_name : (model : Metadata) (table : TableId) (row : ℕ) (text : List ℕ) → (table ≡ TypeDef → ⊥) → (table ≡ TypeRef → ⊥) → (table ≡ TypeSpec → ⊥) → (table ≡ Field → ⊥)
@@ -50,18 +49,6 @@ module _ (model : Metadata) (valid : IsValid model) where
   mapped_there map class row within is =
       let P : Cell → Type 0 = λ c. MayRefer model (nullable_at map 0) c in
       (subst P is.1 (valid.cells map row 0 is.0 within).refers).1
-
-  -- the parent of a MemberRef exists
-  pub parent_there : (row : ℕ) → HasRow model MemberRef row → (reference : Option Token) → cell_in model MemberRef row 0 ≡ Ref reference → MayRefer model false (Ref reference)
-  unfolding cell_columns
-  parent_there row there reference is = subst (λ (c : Cell). MayRefer model false c) is (valid.cells MemberRef row 0 there (omega arith)).refers
-
--- a parent that is no method and no module gives its full name
-pub named_under : (model : Metadata) (table : TableId) (row : ℕ) (own text : List ℕ) → (table ≡ MethodDef → ⊥) → (table ≡ ModuleRef → ⊥)
-    → IsMethodName model (record { table = table; row = row }) own text → IsNameUnder model table row own text
-named_under model MethodDef row own text a b is = absurd (a refl)
-named_under model ModuleRef row own text a b is = absurd (b refl)
-named_under model _ row own text a b is = is
 
 -- what cannot fail holds
 pub at_most : (a b : ℕ) → ¬ (¬ (a ≤ b)) → a ≤ b

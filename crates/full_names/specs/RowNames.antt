@@ -1,12 +1,11 @@
 -- The name of a row of any table (ECMA-335 II.5.3, II.15.3 and II.22).
-use Rattle.std.specs.Prelude.{◌≡◌, ℕ, List, ◌++◌, Option, None, Some, codes}
+use Rattle.std.specs.Prelude.{◌≡◌, ℕ, List, Option, None, Some, codes}
 use Rattle.table_schema.specs.declared.table.TableId.{TableId}
 use Rattle.table_schema.specs.declared.table.TableId.TheVariants.{TypeDef, TypeRef, TypeSpec, Field, MethodDef, Event, EventMap, Property, PropertyMap, MemberRef, ModuleRef, AssemblyRef, File, ExportedType, GenericParam}
 use Rattle.table_schema.specs.declared.token.Token.{Token}
 use Rattle.metadata.specs.Cell.{Text, Ref}
 use Rattle.metadata.specs.Metadata.{Metadata, cell_in}
 use Rattle.metadata.specs.Lookups.{HasRow}
-use Rattle.metadata.specs.Names.{full_name}
 use Rattle.metadata_source.specs.declared.member_lists.MemberList.TheVariants as list
 use Rattle.navigation.specs.Maps.{IsMapOf}
 use Rattle.navigation.specs.Nesting.{type_token}
@@ -17,7 +16,7 @@ use Rattle.full_names.specs.Texts.{IsFullName, IsMethodName}
 abbrev pub IsTextOf : Metadata → TableId → ℕ → ℕ → List ℕ → Type 0
 IsTextOf model table row cell text = cell_in model table row cell ≡ Text text
 
--- the name of a field, a method, an event or a property, which is in a cell, after that of its type and two colons
+-- the name of a member, which is in a cell, after that of its type and two colons
 abbrev pub IsMemberName : Metadata → TableId → ℕ → ℕ → Token → List ℕ → Type 0
 IsMemberName model table row cell class text = (own : List ℕ) × IsTextOf model table row cell own × IsMethodName model class own text
 
@@ -45,25 +44,14 @@ IsMemberOf model Event row class = (of : Token) × IsTypeOfEvent model row of ×
 IsMemberOf model Property row class = (of : Token) × IsTypeOfProperty model row of × (class ≡ Some of)
 IsMemberOf model _ row class = class ≡ None
 
--- the name of an exported type, after its namespace and a dot (II.22.14)
-abbrev pub IsExportedName : Metadata → ℕ → List ℕ → Type 0
-IsExportedName model row text =
-    (namespace : List ℕ) × (name : List ℕ) × IsTextOf model ExportedType row 3 namespace × IsTextOf model ExportedType row 2 name × (text ≡ full_name namespace name)
-
--- the name of a row that is in its cells and stands alone; `..` stands for a row that has no name
+-- the name of a row that is in a cell and stands alone; `..` stands for a row that has no name
 abbrev pub IsPlainName : Metadata → TableId → ℕ → List ℕ → Type 0
 IsPlainName model ModuleRef row text = IsTextOf model ModuleRef row 0 text
 IsPlainName model AssemblyRef row text = IsTextOf model AssemblyRef row 6 text
 IsPlainName model File row text = IsTextOf model File row 1 text
-IsPlainName model ExportedType row text = IsExportedName model row text
+IsPlainName model ExportedType row text = IsTextOf model ExportedType row 2 text
 IsPlainName model GenericParam row text = IsTextOf model GenericParam row 3 text
 IsPlainName model _ row text = text ≡ codes ".."
-
--- the name of a MemberRef, by its parent: a type, a module, or a method of this module, whose type it is named after (II.22.25)
-abbrev pub IsNameUnder : Metadata → TableId → ℕ → List ℕ → List ℕ → Type 0
-IsNameUnder model MethodDef parent own text = (class : Token) × IsTypeOfMethod model parent class × IsMethodName model class own text
-IsNameUnder model ModuleRef parent own text = (module_name : List ℕ) × IsTextOf model ModuleRef parent 0 module_name × (text ≡ module_name ++ (codes "::" ++ own))
-IsNameUnder model table parent own text = IsMethodName model (record { table = table; row = parent }) own text
 
 -- the name of a row that exists, by its table
 abbrev pub IsNameIn : Metadata → TableId → ℕ → List ℕ → Type 0
@@ -74,8 +62,7 @@ IsNameIn model Field row text = (class : Token) × IsTypeOfField model row class
 IsNameIn model MethodDef row text = (class : Token) × IsTypeOfMethod model row class × IsMemberName model MethodDef row 3 class text
 IsNameIn model Event row text = (class : Token) × IsTypeOfEvent model row class × IsMemberName model Event row 1 class text
 IsNameIn model Property row text = (class : Token) × IsTypeOfProperty model row class × IsMemberName model Property row 1 class text
-IsNameIn model MemberRef row text =
-    (parent : Token) × IsParent model row parent × (own : List ℕ) × IsTextOf model MemberRef row 1 own × IsNameUnder model parent.table parent.row own text
+IsNameIn model MemberRef row text = (class : Token) × IsParent model row class × IsMemberName model MemberRef row 1 class text
 IsNameIn model table row text = IsPlainName model table row text
 
 -- the name of a row, or `..` if it does not exist

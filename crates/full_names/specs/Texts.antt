@@ -1,18 +1,15 @@
 -- The texts of TypeSpecs and of methods, with the names of types and parameters (ECMA-335 II.5.3, II.7.1, II.15.3 and II.22.33).
-use Rattle.std.specs.Prelude.{◌≡◌, ℕ, ◌+◌, ◌≤◌, ◌<◌, ◌↔◌, ◌⊎◌, List, [], ◌∷◌, ◌++◌, codes}
+use Rattle.std.specs.Prelude.{◌≡◌, ℕ, ◌≤◌, ◌<◌, ◌⊎◌, List, [], ◌∷◌, ◌++◌, codes}
 use Rattle.std.specs.Fmt.{decimal, signed_decimal}
-use Rattle.std.specs.List.{filter}
 use Rattle.table_schema.specs.declared.table.TableId.TheVariants.{TypeDef, TypeRef, TypeSpec, MethodDef, Param}
 use Rattle.table_schema.specs.declared.token.Token.{Token}
 use Rattle.sig_grammar.specs.Syntax.{Body, Method}
 use Rattle.sig_text.specs.SignatureText.{Piece, word, number, signed, name, method_name, param_name, text_of, declared_text}
-use Rattle.metadata.specs.Cell.{Cell, Text, Number, Sig}
+use Rattle.metadata.specs.Cell.{Text, Number, Sig}
 use Rattle.metadata.specs.Metadata.{Metadata, cell_in}
 use Rattle.metadata.specs.Lookups.{HasRow, IsRun}
 use Rattle.metadata_source.specs.declared.member_lists.MemberList.TheVariants as list
-use Rattle.navigation.specs.Keyed.{has_key, keyed_rows}
 use Rattle.navigation.specs.Owners.{Owns}
-use Rattle.navigation.specs.declared.keyed.KeyedRow.{KeyedRow}
 use Rattle.full_names.specs.Names.{IsTypeDefText, IsTypeRefText}
 
 -- ---- pieces
@@ -57,27 +54,18 @@ pub record IsFullName (model : Metadata) (token : Token) (text : List ℕ) : Typ
 
 -- ---- declarations
 
--- the position in a cell, and that of a row of Param (II.22.33)
-abbrev pub position_of : Cell → ℕ
-position_of (Number position) = position
-position_of _ = 0
+-- the rows of Param from one on to before another have smaller positions than this one
+abbrev pub ArePositionsBefore : Metadata → ℕ → ℕ → ℕ → Type 0
+ArePositionsBefore model first past position =
+    (row : ℕ) → HasRow model Param row → first ≤ row → row < past → (other : ℕ) → cell_in model Param row 1 ≡ Number other → other < position
 
-abbrev pub position_in : Metadata → ℕ → ℕ
-position_in model row = position_of (cell_in model Param row 1)
-
--- among the rows of Param from one on to before another, which may be in any order, this is the first one that has the position
+-- among the rows of Param from one on to before another, this row has the position, and all before it have smaller ones
 pub record IsParamAt (model : Metadata) (first past position row : ℕ) : Type 0 where
   pub there : HasRow model Param row
   pub from : first ≤ row
   pub to : row < past
   pub sequence : cell_in model Param row 1 ≡ Number position
-  pub before : (earlier : ℕ) → HasRow model Param earlier → first ≤ earlier → cell_in model Param earlier 1 ≡ Number position → row ≤ earlier
-
--- these are the rows of Param from one on to before another that exist; those with one position are in ascending order
-abbrev pub AreParams : Metadata → ℕ → ℕ → List KeyedRow → Type 0
-AreParams model first past rows =
-    (from : ℕ) × (count : ℕ) × ((position : ℕ) → filter (has_key position) rows ≡ filter (has_key position) (keyed_rows (position_in model) from count))
-    × ((row : ℕ) → (HasRow model Param row × (first ≤ row) × (row < past)) ↔ ((from ≤ row) × (row < from + count)))
+  pub before : ArePositionsBefore model first row position
 
 -- a space before a name, if it is not empty
 abbrev pub spaced : List ℕ → List ℕ

@@ -6,10 +6,10 @@ ghost use Rattle.sig_text.specs.SignatureText.{declared_text};
 ghost use Rattle.sig_text.specs.Refused.{refused_after};
 ghost use Rattle.metadata.specs.Metadata.{Metadata};
 ghost use Rattle.full_names.specs.Names.{Wrote};
-ghost use Rattle.full_names.specs.Texts.{AreParams, ArePiecesText, IsDeclaredPiece, IsMethodName};
+ghost use Rattle.full_names.specs.Texts.{ArePiecesText, IsDeclaredPiece, IsMethodName};
 
 use crate::limit::Limit;
-use crate::params::Params;
+use crate::params::{begin, param_at};
 use crate::parts::{write_number, write_signed, write_spaced, write_text};
 use crate::specs_named::write_full_name_within;
 use crate::text_error::TextError;
@@ -34,12 +34,15 @@ pub struct Declared<'s> {
 
 /// A sink for the declaration of a method.
 #[derive(Drop)]
-pub struct MethodText<'s, 'w, S: ReadCells, W, L> {
+pub struct MethodText<'s, 'w, S, W, L> {
     alloc: Global,
-    params: &'s Params<'s, S>,
+    source: &'s S,
     writer: &'w mut W,
     limit: &'s L,
     of: Declared<'s>,
+    // Each row of its parameters before `next` has a position before `last`, the one that was asked for last.
+    next: u32,
+    last: u32,
     /// Why a part was refused, if one was.
     pub error: Option<TextError>,
 }
@@ -48,23 +51,26 @@ impl<'s, 'w, S: ReadCells, W: fmt::Write, L: Limit<W>> MethodText<'s, 'w, S, W, 
     /// A sink that has not yet received a piece.
     pub fn new(
         alloc: Global,
-        params: &'s Params<'s, S>,
+        source: &'s S,
         of: Declared<'s>,
         limit: &'s L,
         writer: &'w mut W,
     ) -> MethodText<'s, 'w, S, W, L>
-        ensures params { result.params.now ≡ params.now }
+        ensures source { result.source.now ≡ source.now }
         ensures same { result.writer.ghost_name ≡ writer.entry.ghost_name }
         ensures writer { result.writer.now ≡ writer.old }
         ensures of { result.of ≡ of.entry }
+        ensures next { result.next ≡ of.entry.first }
         ensures error { result.error ≡ None }
     {
         MethodText {
             alloc,
-            params,
+            source,
             writer,
             limit,
             of,
+            next: of.first,
+            last: 0,
             error: None,
         }
     }
@@ -116,13 +122,14 @@ impl<S: ReadCells, W: fmt::Write, L: Limit<W>> TextSink for MethodText<'_, '_, S
     ghost use Rattle.std.specs.Prelude.{◌≡◌, true, is_some};
     ghost use Rattle.metadata.specs.Metadata.{Metadata};
     ghost use Rattle.full_names.specs.Names.{Wrote};
-    ghost use Rattle.full_names.specs.Texts.{AreParams, IsDeclaredPiece};
+    ghost use Rattle.full_names.specs.Texts.{ArePositionsBefore, IsDeclaredPiece};
 
     ghost refused = { λ s. is_some s.error };
 
-    ghost gives = { λ s piece taken t. taken ≡ true → (t.params.now ≡ s.params.now) × (t.of ≡ s.of) × (t.writer.ghost_name ≡ s.writer.ghost_name)
-        × ((model : Metadata) → S.shows s.params.now.source.now model → AreParams model s.of.first s.of.past s.params.now.rows.items
-        → Wrote W.write_str_gives s.writer.now (IsDeclaredPiece model s.of.class s.of.name.now s.of.first s.of.past piece) t.writer.now) };
+    ghost gives = { λ s piece taken t. taken ≡ true → (t.source.now ≡ s.source.now) × (t.of ≡ s.of) × (t.writer.ghost_name ≡ s.writer.ghost_name)
+        × ((model : Metadata) → S.shows s.source.now model → ArePositionsBefore model s.of.first s.next s.last
+        → ArePositionsBefore model t.of.first t.next t.last
+        × Wrote W.write_str_gives s.writer.now (IsDeclaredPiece model s.of.class s.of.name.now s.of.first s.of.past piece) t.writer.now) };
 
     fn text(&mut self, text: &str) -> Option<()> {
         let written = write_text(self.writer, text);
@@ -140,13 +147,13 @@ impl<S: ReadCells, W: fmt::Write, L: Limit<W>> TextSink for MethodText<'_, '_, S
     }
 
     fn name(&mut self, token: Token) -> Option<()> {
-        self.params.source.holds_one();
+        self.source.holds_one();
         if self.limit.is_reached(self.writer) {
             return Some(());
         }
         let written = write_full_name_within(
             self.alloc,
-            self.params.source,
+            self.source,
             token,
             self.limit,
             self.writer,
@@ -160,7 +167,7 @@ impl<S: ReadCells, W: fmt::Write, L: Limit<W>> MethodSink for MethodText<'_, '_,
         let of = self.of;
         let written = write_method_name(
             self.alloc,
-            self.params.source,
+            self.source,
             of.class,
             of.name,
             self.limit,
@@ -170,11 +177,15 @@ impl<S: ReadCells, W: fmt::Write, L: Limit<W>> MethodSink for MethodText<'_, '_,
     }
 
     fn param_name(&mut self, position: u32) -> Option<()> {
-        self.params.source.holds_one();
+        self.source.holds_one();
         if self.limit.is_reached(self.writer) {
             return Some(());
         }
-        let written = write_spaced(self.writer, self.params.name(position));
+        let begin = begin(self.of.first, self.next, self.last, position);
+        let (next, name) = param_at(self.source, begin, self.of.past, position);
+        self.next = next;
+        self.last = position;
+        let written = write_spaced(self.writer, name);
         keep_refusal(&mut self.error, written)
     }
 }
@@ -184,8 +195,8 @@ pub fn put_declaration<S: ReadCells, W: fmt::Write, L: Limit<W>>(
     sink: &mut MethodText<'_, '_, S, W, L>,
     bytes: &[u8],
 ) -> Option<()>
-    ensures { (model : Metadata) → S.shows sink.old.params.now.source.now model → (method : Method) → Encodes MethodDef (method_body method) bytes.now
-        → AreParams model sink.old.of.first sink.old.of.past sink.old.params.now.rows.items
+    ensures { (model : Metadata) → S.shows sink.old.source.now model → (method : Method) → Encodes MethodDef (method_body method) bytes.now
+        → sink.old.next ≡ sink.old.of.first
         → OnSome result ((sink.new.writer.ghost_name ≡ sink.old.writer.ghost_name) × Wrote W.write_str_gives sink.old.writer.now
         (ArePiecesText (IsDeclaredPiece model sink.old.of.class sink.old.of.name.now sink.old.of.first sink.old.of.past) (declared_text method))
         sink.new.writer.now) }

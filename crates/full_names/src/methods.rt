@@ -8,7 +8,6 @@ ghost use Rattle.full_names.specs.Texts.{IsDeclaration};
 
 use crate::limit::{Limit, NoLimit};
 use crate::method_text::{Declared, MethodText, put_declaration};
-use crate::params::Params;
 use crate::signature_bytes::bytes_of;
 use crate::text_error::TextError;
 use metadata_source::params_of;
@@ -26,11 +25,10 @@ const METHOD_SIGNATURE: usize = 4;
 /// Writes a method as it is declared (II.15.3): `string Hello.Greeter::Greet(string name, int32 times)`.
 ///
 /// That is its calling convention, its result, its type as [`write_full_name`](crate::write_full_name) writes it, its
-/// name, and its parameters with their names. A parameter has the name of the first row of Param that has its position;
-/// the rows may be in any order (II.22.33). Names are written unchanged.
+/// name, and its parameters with their names. A parameter has a name if a row of Param has its position; rows of Param
+/// that are out of order are passed over (II.22.33). Names are written unchanged.
 ///
-/// It allocates eight bytes for each row of Param of the method, and the bytes of signatures that are held as values. Its
-/// time is linear in the text, but for log n for each of these rows.
+/// It allocates only the bytes of signatures that are held as values, so nothing of a view.
 ///
 /// # Errors
 ///
@@ -72,18 +70,17 @@ pub fn write_method_within<S: ReadCells, W: fmt::Write, L: Limit<W>>(
     source.holds_one();
     let kind = SigKind::MethodDef;
     let bytes = source.signature(alloc, kind, TableId::MethodDef, row, METHOD_SIGNATURE)?;
-    let rows = params_of(source, row);
+    let params = params_of(source, row);
     let of = Declared {
         class: Token {
             table: TableId::TypeDef,
             row: type_of_method(source, row),
         },
         name: cells::text(source, TableId::MethodDef, row, METHOD_NAME),
-        first: rows.start,
-        past: rows.end,
+        first: params.start,
+        past: params.end,
     };
-    let params = Params::new(alloc, source, rows)?;
-    let mut sink = MethodText::new(alloc, &params, of, limit, out);
+    let mut sink = MethodText::new(alloc, source, of, limit, out);
     match put_declaration(&mut sink, bytes_of(&bytes)) {
         Some(()) => Ok(()),
         None => Err(sink.error.unwrap_or(TextError::Writer)),

@@ -1,15 +1,10 @@
-//! The names of the parameters of a method, by their positions (II.22.33).
-ghost use Rattle.std.specs.Prelude.{◌≡◌, ℕ, ◌+◌, ◌-◌, ◌≤◌, All, IfOk};
-ghost use Rattle.std.specs.List.{filter};
-ghost use Rattle.std.specs.List.Sorted.{IsNonDecreasingBy};
+ghost use Rattle.std.specs.Prelude.{◌≡◌, ◌≤◌, ◌<◌, ℕ, IfSome, IfNone};
 ghost use Rattle.table_schema.specs.declared.table.TableId.TheVariants.{Param};
-ghost use Rattle.metadata.specs.Metadata.{Metadata};
-ghost use Rattle.navigation.specs.Keyed.{has_key, key_of, keyed_rows};
-ghost use Rattle.full_names.specs.Texts.{position_in};
+ghost use Rattle.metadata.specs.Cell.{Number};
+ghost use Rattle.metadata.specs.Metadata.{Metadata, cell_in};
+ghost use Rattle.full_names.specs.Texts.{ArePositionsBefore, IsParamText, spaced};
 
-use navigation::{KeyedRow, ReadCells, cells, sort_by_key, with_key};
-use std::alloc::{AllocError, Global};
-use std::ops::Range;
+use navigation::{ReadCells, cells};
 use table_schema::TableId;
 
 /// The cell of a parameter's position (II.22.33).
@@ -18,70 +13,55 @@ const SEQUENCE: usize = 1;
 /// The cell of a parameter's name (II.22.33).
 const NAME: usize = 2;
 
-/// The rows of Param from one on to before another, each with its position.
+/// The first row of Param, from a row on to before another, whose position is at least this one.
 #[tactic(auto, unfolding(table_schema::specs::CellColumns::cell_columns))]
-fn read_positions<S: ReadCells>(
-    alloc: Global,
-    source: &S,
-    first: u32,
-    past: u32,
-) -> Result<Vec<KeyedRow>, AllocError>
-    requires first { 1 ≤ first }
-    requires ordered { first ≤ past }
-    requires last { past ≤ S.row_count source.now Param + 1 }
-    ensures within { IfOk result (λ read. All (λ param. (1 ≤ param.row) × (param.row ≤ S.row_count source.now Param)) read.items) }
-    ensures rows { (model : Metadata) → S.shows source.now model → IfOk result (λ read. read.items ≡ keyed_rows (position_in model) first (past - first)) }
+fn param_from<S: ReadCells>(source: &S, next: u32, past: u32, position: u32) -> Option<u32>
+    ensures first { IfSome result (λ row. 1 ≤ row) }
+    ensures last { IfSome result (λ row. row ≤ S.row_count source.now Param) }
+    ensures from { IfSome result (λ row. next ≤ row) }
+    ensures to { IfSome result (λ row. row < past) }
+    ensures before { (model : Metadata) → S.shows source.now model → IfSome result (λ row. ArePositionsBefore model next row position) }
+    ensures position { (model : Metadata) → S.shows source.now model
+        → IfSome result (λ row. (other : ℕ) → cell_in model Param row 1 ≡ Number other → position ≤ other) }
+    ensures none { (model : Metadata) → S.shows source.now model → IfNone result (ArePositionsBefore model next past position) }
 {
     source.holds_one();
-    let mut read = Vec::new(alloc);
-    for row in first..past {
-        let key = cells::number(source, TableId::Param, row, SEQUENCE);
-        read.push(KeyedRow { key, row })?;
-    }
-    Ok(read)
-}
-
-/// The rows of Param of a method, in the order of their positions.
-#[derive(Drop)]
-pub struct Params<'s, S: ReadCells> {
-    /// The metadata of the rows.
-    pub source: &'s S,
-    rows: Vec<KeyedRow>,
-    ghost sorted: { IsNonDecreasingBy key_of rows.items },
-    ghost within: { (key : ℕ) → All (λ param. (1 ≤ param.row) × (param.row ≤ S.row_count source.now Param)) (filter (has_key key) rows.items) },
-}
-
-impl<'s, S: ReadCells> Params<'s, S> {
-    ghost use Rattle.std.specs.Prelude.{◌≡◌, ℕ, IfOk};
-    ghost use Rattle.metadata.specs.Metadata.{Metadata};
-    ghost use Rattle.full_names.specs.Texts.{AreParams, IsParamText, spaced};
-
-    /// Sorts the rows of Param from one on to before another by their positions. It fails only if out of memory.
-    pub fn new(alloc: Global, source: &'s S, rows: Range<u32>) -> Result<Params<'s, S>, AllocError>
-        ensures source { IfOk result (λ params. params.source.now ≡ source.now) }
-        ensures rows { (model : Metadata) → S.shows source.now model → IfOk result (λ params. AreParams model rows.start rows.«end» params.rows.items) }
-    {
-        source.holds_one();
-        let past = rows.end.min(source.count(TableId::Param) + 1).max(1);
-        let first = rows.start.max(1).min(past);
-        let mut found = read_positions(alloc, source, first, past)?;
-        sort_by_key(&mut found)?;
-        Ok(Params {
-            source,
-            rows: found,
-        })
-    }
-
-    /// The name of the first parameter with a position; empty if there is none. It is found by binary search.
-    #[tactic(auto, unfolding(table_schema::specs::CellColumns::cell_columns))]
-    pub fn name(&self, position: u32) -> &str
-        ensures { (model : Metadata) → S.shows self.now.source.now model → (first past : ℕ) → AreParams model first past self.now.rows.items
-            → IsParamText model first past position (spaced result.now) }
-    {
-        self.source.holds_one();
-        match with_key(&self.rows, position).get(0) {
-            Some(param) => cells::text(self.source, TableId::Param, param.row, NAME),
-            None => "",
+    let past = past.min(source.count(TableId::Param).saturating_add(1));
+    for row in next.max(1)..past {
+        if cells::number(source, TableId::Param, row, SEQUENCE) >= position {
+            return Some(row);
         }
     }
+    None
+}
+
+/// The row of Param to look at first for a position: `next` if positions ascend, else the first row.
+///
+/// The rows before `next` have positions before `last`, the one that was asked for last.
+pub fn begin(first: u32, next: u32, last: u32, position: u32) -> u32
+    ensures from { first ≤ result }
+    ensures before { (model : Metadata) → ArePositionsBefore model first next last → ArePositionsBefore model first result position }
+{
+    if position <= last {
+        return first;
+    }
+    next.max(first)
+}
+
+/// The name of the parameter with a position among rows of Param, from a row on to before another, and the row to look
+/// at for the next position. The name is empty if no row has the position.
+#[tactic(auto, unfolding(table_schema::specs::CellColumns::cell_columns))]
+pub fn param_at<S: ReadCells>(source: &S, next: u32, past: u32, position: u32) -> (u32, &str)
+    ensures next { (model : Metadata) → S.shows source.now model → ArePositionsBefore model next result.0 position }
+    ensures text { (model : Metadata) → S.shows source.now model → (first : ℕ) → first ≤ next → ArePositionsBefore model first next position
+        → IsParamText model first past position (spaced result.1.now) }
+{
+    source.holds_one();
+    let Some(row) = param_from(source, next, past, position) else {
+        return (past, "");
+    };
+    if cells::number(source, TableId::Param, row, SEQUENCE) != position {
+        return (row, "");
+    }
+    (row, cells::text(source, TableId::Param, row, NAME))
 }

@@ -1,4 +1,4 @@
-ghost use Rattle.std.specs.Prelude.{◌≡◌, ◌++◌, OnOk, codes};
+ghost use Rattle.std.specs.Prelude.{◌≡◌, OnOk, codes};
 ghost use Rattle.std.specs.Fmt.{WritesInCalls, decimal, signed_decimal};
 ghost use Rattle.metadata.specs.Names.{full_name};
 ghost use Rattle.full_names.specs.Texts.{spaced};
@@ -34,13 +34,6 @@ pub fn write_own_name<W: fmt::Write>(out: &mut W, namespace: &str, name: &str) -
         return write!(out, "{name}");
     }
     write!(out, "{namespace}.{name}")
-}
-
-/// Writes the name of a member of a module after that of the module.
-pub fn write_global_name<W: fmt::Write>(out: &mut W, module: &str, name: &str) -> fmt::Result
-    ensures { OnOk result (WritesInCalls W.write_str_gives out.old (module.now ++ (codes "::" ++ name.now)) out.new) }
-{
-    write!(out, "{module}::{name}")
 }
 
 /// Writes a space and a name, unless the name is empty.

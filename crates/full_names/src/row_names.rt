@@ -7,7 +7,7 @@ ghost use Rattle.full_names.specs.RowNames.{IsMemberOf, IsNameIn, IsParent, IsPl
 
 use crate::limit::Limit;
 use crate::method_text::write_method_name;
-use crate::parts::{write_global_name, write_left_out, write_own_name, write_text};
+use crate::parts::{write_left_out, write_text};
 use crate::specs_named::write_full_name_within;
 use crate::text_error::TextError;
 use navigation::{
@@ -38,10 +38,8 @@ const ASSEMBLY_NAME: usize = 6;
 /// The cell of a file's name (II.22.19).
 const FILE_NAME: usize = 1;
 
-/// The cells of the name and the namespace of an exported type (II.22.14).
+/// The cell of the name of an exported type (II.22.14).
 const EXPORTED_NAME: usize = 2;
-
-const EXPORTED_NAMESPACE: usize = 3;
 
 /// The cell of the name of a generic parameter (II.22.20).
 const GENERIC_NAME: usize = 3;
@@ -61,9 +59,7 @@ fn type_token(row: u32) -> Token
 fn parent<S: ReadCells>(source: &S, row: u32) -> Token
     requires first { 1 ≤ row }
     requires last { row ≤ S.row_count source.now MemberRef }
-    ensures first { 1 ≤ result.row }
-    ensures last { result.row ≤ S.row_count source.now result.table }
-    ensures parent { (model : Metadata) → S.shows source.now model → IsParent model row result }
+    ensures { (model : Metadata) → S.shows source.now model → IsParent model row result }
 {
     source.holds_one();
     match cells::reference(source, TableId::MemberRef, row, MEMBER_PARENT) {
@@ -144,7 +140,7 @@ fn write_property<S: ReadCells, W: fmt::Write, L: Limit<W>>(
     write_method_name(alloc, source, class, name, limit, out)
 }
 
-/// Writes the name of a MemberRef after that of its parent: of a type, of a module, or of the type of a method.
+/// Writes the name of a MemberRef after that of its parent.
 #[tactic(auto, unfolding(table_schema::specs::CellColumns::cell_columns))]
 fn write_member_ref<S: ReadCells, W: fmt::Write, L: Limit<W>>(
     alloc: Global,
@@ -157,19 +153,9 @@ fn write_member_ref<S: ReadCells, W: fmt::Write, L: Limit<W>>(
     requires last { row ≤ S.row_count source.now MemberRef }
     ensures { (model : Metadata) → S.shows source.now model → OnOk result (Wrote W.write_str_gives out.old (IsNameIn model MemberRef row) out.new) }
 {
-    let parent = parent(source, row);
+    let class = parent(source, row);
     let name = cells::text(source, TableId::MemberRef, row, MEMBER_NAME);
-    match parent.table {
-        TableId::MethodDef => {
-            let class = type_token(type_of_method(source, parent.row));
-            write_method_name(alloc, source, class, name, limit, out)
-        }
-        TableId::ModuleRef => {
-            let module = cells::text(source, TableId::ModuleRef, parent.row, MODULE_NAME);
-            Ok(write_global_name(out, module, name)?)
-        }
-        _ => write_method_name(alloc, source, parent, name, limit, out),
-    }
+    write_method_name(alloc, source, class, name, limit, out)
 }
 
 /// Writes the name of a row of ModuleRef, AssemblyRef, File, ExportedType or GenericParam, and `..` for any other.
@@ -194,9 +180,10 @@ fn write_plain<S: ReadCells, W: fmt::Write>(source: &S, token: Token, out: &mut 
         }
         TableId::File => write_text(out, cells::text(source, TableId::File, row, FILE_NAME)),
         TableId::ExportedType => {
-            let namespace = cells::text(source, TableId::ExportedType, row, EXPORTED_NAMESPACE);
-            let name = cells::text(source, TableId::ExportedType, row, EXPORTED_NAME);
-            write_own_name(out, namespace, name)
+            write_text(
+                out,
+                cells::text(source, TableId::ExportedType, row, EXPORTED_NAME),
+            )
         }
         TableId::GenericParam => {
             write_text(
@@ -214,9 +201,8 @@ fn write_plain<S: ReadCells, W: fmt::Write>(source: &S, token: Token, out: &mut 
 /// |---|---|
 /// | a type | as [`write_full_name`](crate::write_full_name) writes it |
 /// | a field, a method, an event or a property | that of its type, two colons, and its own |
-/// | a MemberRef | that of its parent, a type or a module, or of the type of its parent, a method; two colons, and its own |
-/// | an exported type | its own after its namespace and a dot |
-/// | a module, an assembly or a file that is referred to; a generic parameter | its own |
+/// | a MemberRef | that of its parent if it is a type, else `..`; two colons, and its own |
+/// | a module, an assembly or a file that is referred to; an exported type; a generic parameter | its own |
 /// | any other row, and one that does not exist | `..` |
 ///
 /// Names are written unchanged: they may have control characters. The type of a member is found by binary search. When the

@@ -3,6 +3,7 @@ pub mod Commons
 pub mod Distinct
 pub mod Ending
 pub mod EndingOrder
+pub mod EqualRanges
 pub mod GuidHeap
 pub mod HeapTexts
 pub mod Ranking

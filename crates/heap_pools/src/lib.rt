@@ -12,6 +12,7 @@
 #![tactic(auto)]
 
 mod ending;
+mod heap_ranges;
 mod heap_texts;
 pub mod laws;
 mod pool_error;
@@ -19,6 +20,7 @@ mod text_groups;
 mod text_plan;
 mod text_pool;
 
+pub use heap_ranges::{Range, equal_ranges};
 pub use heap_texts::own_firsts;
 pub use pool_error::{HEAP_LIMIT, PoolError};
 pub use text_plan::{RankedTexts, Use, sorted_uses};

@@ -1,5 +1,4 @@
 mod CellLemmas
-mod KeyedLemmas
 mod LinkLemmas
 mod LinkModelLemmas
 mod NestingLemmas

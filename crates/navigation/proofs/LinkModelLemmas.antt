@@ -1,5 +1,5 @@
 -- The references of a root and of its model have the same numbers.
-use Rattle.std.proofs.Common.{◌≡◌, ◌∙◌, ℕ, ◌<◌, ◌≤◌, ◌==◌, inl, inr, Bool, false, List, refl, sym, ap, arith}
+use Rattle.std.proofs.Common.{◌≡◌, ◌∙◌, ℕ, ◌<◌, ◌≤◌, ◌==◌, inl, inr, true, false, cond, List, [], refl, sym, ap, arith}
 use Rattle.table_schema.specs.declared.table.TableId.{TableId}
 use Rattle.table_schema.specs.declared.table.TableId.TheVariants.{TypeDef, EventMap, PropertyMap, MethodSemantics}
 use Rattle.table_schema.specs.declared.token.Token.{Token}
@@ -16,8 +16,8 @@ use Rattle.metadata.specs.Stands.{Refers}
 use Rattle.reading.specs.KeyRows.{rows_that}
 use Rattle.navigation.specs.declared.links.Link.{Link}
 use Rattle.navigation.specs.declared.links.Link.TheVariants as link_of
-use Rattle.navigation.specs.Linked.{link_in, linked, number_in, number_to, table_of}
-use Rattle.navigation.proofs.LinkLemmas.{rows_same}
+use Rattle.navigation.specs.Linked.{in_order, link_in, linked, number_in, number_to, rises, table_of}
+use Rattle.navigation.proofs.LinkLemmas.{rises_same, rows_same}
 
 -- a number in a column of types is that of the reference
 of_type : (source : Source) (number : ℕ) (cell : Cell) → Refers source false (record { table = TypeDef; row = number }) cell → number ≡ key_number (kind.Row TypeDef) cell
@@ -44,13 +44,26 @@ module _ (root : List ℕ) (model : Metadata)
       of_type (source_of root) (number_in root link_of.Properties row) (cell_in model PropertyMap row 0) (cells PropertyMap row 0 first last (omega arith))
   numbers_are_one link_of.Accessors row first last = keys MethodSemantics 2 row accessor_key first last
 
-  -- so the same rows refer to a row
-  pub rows_linked : (of : Link) (number : ℕ) (token : Token) → number ≡ number_to of token
-      → rows_that (λ row. number_in root of row == number) 1 (rows_in (source_of root) (table_of of)) ≡ linked model of token
-  unfolding linked
-  rows_linked of number token same =
-      let count = rows_in (source_of root) (table_of of) in
-      let test : ℕ → Bool = λ row. link_in model of row == number_to of token in
-      rows_same (λ row. number_in root of row == number) test 1 count
-      (λ row first past. ap (λ n. n == number) (numbers_are_one of row first (omega arith)) ∙ ap (λ n. link_in model of row == n) same)
-      ∙ ap (λ n. rows_that test 1 n) (sym (counted (table_of of)))
+  -- so they are in order in both or in neither
+  pub orders_are_one : (of : Link) → rises (number_in root of) (rows_in (source_of root) (table_of of)) ≡ in_order model of
+  orders_are_one of =
+      rises_same (number_in root of) (link_in model of) (rows_in (source_of root) (table_of of)) (λ row first last. numbers_are_one of row first last)
+      ∙ ap (λ n. rises (link_in model of) n) (sym (counted (table_of of)))
+
+  module _ (of : Link) (number : ℕ) (token : Token) where
+    pub none_linked : rises (number_in root of) (rows_in (source_of root) (table_of of)) ≡ false → [] ≡ linked model of token
+    unfolding linked
+    none_linked is =
+        let rows = rows_that (λ row. link_in model of row == number_to of token) 1 (count_in model (table_of of)) in
+        sym (ap (λ t. cond t rows []) (sym (orders_are_one of) ∙ is))
+
+    pub rows_linked : rises (number_in root of) (rows_in (source_of root) (table_of of)) ≡ true → number ≡ number_to of token
+        → rows_that (λ row. number_in root of row == number) 1 (rows_in (source_of root) (table_of of)) ≡ linked model of token
+    unfolding linked
+    rows_linked is same =
+        let count = rows_in (source_of root) (table_of of) in
+        let rows = rows_that (λ row. link_in model of row == number_to of token) 1 (count_in model (table_of of)) in
+        rows_same (λ row. number_in root of row == number) (λ row. link_in model of row == number_to of token) 1 count
+        (λ row first past. ap (λ n. n == number) (numbers_are_one of row first (omega arith)) ∙ ap (λ n. link_in model of row == n) same)
+        ∙ ap (λ n. rows_that (λ row. link_in model of row == number_to of token) 1 n) (sym (counted (table_of of)))
+        ∙ sym (ap (λ t. cond t rows []) (sym (orders_are_one of) ∙ is))

@@ -13,7 +13,6 @@
 #![tactic(auto)]
 
 pub mod cells;
-mod keyed;
 mod links;
 mod maps;
 mod neighbours;
@@ -22,7 +21,6 @@ mod nesting;
 mod owners;
 mod starts;
 
-pub use keyed::{KeyedRow, sort_by_key, with_key};
 pub use links::Link;
 pub use maps::{events_of_type, properties_of_type, type_of_event, type_of_property};
 pub use metadata_source::{MemberList, ReadCells, ReadMetadata};

@@ -1,12 +1,13 @@
-//! The rows that refer to a type, an event or a property (II.22.12, II.22.28, II.22.35).
-ghost use Rattle.std.specs.Prelude.{◌≡◌, ◌≤◌, IfOk};
+//! The rows that refer to a type, an event or a property, found by binary search (II.22.12, II.22.28, II.22.35).
+ghost use Rattle.std.specs.Prelude.{◌≡◌, ◌==◌, ◌≤◌, ◌+◌, ◌-◌, true};
+ghost use Rattle.std.specs.List.{range_with_len};
+ghost use Rattle.reading.specs.KeyRows.{rows_that};
 ghost use Rattle.opening.specs.Views.{row_count};
-ghost use Rattle.navigation.specs.Keyed.{AreByKey, keyed_rows};
-ghost use Rattle.navigation.specs.Linked.{number_in, table_of};
+ghost use Rattle.navigation.specs.Linked.{number_in, rises, table_of};
 
-use crate::keyed::{KeyedRow, sort_by_key};
 use opening::{ReadCells, View};
-use std::alloc::{AllocError, Global};
+use rows::{Keys, find_key};
+use std::ops::Range;
 use table_schema::TableId;
 
 /// A column of references, by which rows belong to a row of another table.
@@ -61,30 +62,64 @@ fn number(view: &View<'_>, link: Link, row: u32) -> u32
     }
 }
 
-/// The references of a table, in the order of its rows.
-fn read_references(alloc: Global, view: &View<'_>, link: Link) -> Result<Vec<KeyedRow>, AllocError>
-    ensures { IfOk result (λ read. read.items ≡ keyed_rows (number_in view.now link) 1 (row_count view.now (table_of link))) }
+/// Whether the references of a table never fall.
+pub(crate) fn never_fall(view: &View<'_>, link: Link) -> bool
+    ensures { result ≡ rises (number_in view.now link) (row_count view.now (table_of link)) }
 {
-    let count = view.count(link.table());
-    let mut read = Vec::with_capacity(alloc, count as usize)?;
-    for row in 1..count + 1 {
-        read.push(KeyedRow {
-            key: number(view, link, row),
-            row,
-        })?;
+    for row in 2..view.count(link.table()) + 1 {
+        if number(view, link, row) < number(view, link, row - 1) {
+            return false;
+        }
     }
-    Ok(read)
+    true
 }
 
-/// The references of a table, in the order of what they refer to.
-pub(crate) fn references(
-    alloc: Global,
-    view: &View<'_>,
+/// The numbers of the references of a table, and how many were read.
+#[derive(Drop)]
+struct Numbers<'v, 'a> {
+    view: &'v View<'a>,
     link: Link,
-) -> Result<Vec<KeyedRow>, AllocError>
-    ensures { IfOk result (λ found. AreByKey (number_in view.now link) 1 (row_count view.now (table_of link)) found.items) }
+    asked: u64,
+}
+
+impl Keys for Numbers<'_, '_> {
+    ghost use Rattle.metadata_source.specs.Keys.{all_numbers};
+    ghost use Rattle.opening.specs.Views.{row_count};
+    ghost use Rattle.navigation.specs.Linked.{number_in, table_of};
+
+    ghost keys = { λ numbers. all_numbers (number_in numbers.view.now numbers.link) (row_count numbers.view.now (table_of numbers.link)) };
+
+    ghost asked = { λ numbers. numbers.asked };
+
+    fn count(&self) -> u32 {
+        self.view.count(self.link.table())
+    }
+
+    fn asked(&self) -> u64 {
+        self.asked
+    }
+
+    fn key(&mut self, row: u32) -> u32 {
+        let found = number(self.view, self.link, row);
+        self.asked += 1;
+        found
+    }
+}
+
+/// The rows whose reference has a number, if the references never fall.
+pub(crate) fn rows_with(view: &View<'_>, link: Link, sought: u32) -> Range<u32>
+    requires { rises (number_in view.now link) (row_count view.now (table_of link)) ≡ true }
+    ensures first { 1 ≤ result.start }
+    ensures ordered { result.start ≤ result.«end» }
+    ensures last { result.«end» ≤ row_count view.now (table_of link) + 1 }
+    ensures rows { range_with_len result.start (result.«end» - result.start)
+        ≡ rows_that (λ row. number_in view.now link row == sought) 1 (row_count view.now (table_of link)) }
 {
-    let mut found = read_references(alloc, view, link)?;
-    sort_by_key(&mut found)?;
-    Ok(found)
+    let mut numbers = Numbers {
+        view,
+        link,
+        asked: 0,
+    };
+    let found = find_key(&mut numbers, sought);
+    found.first..found.past
 }

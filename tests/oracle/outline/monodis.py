@@ -215,7 +215,7 @@ class Reader:
             of = re.search(r"\.(?:assembly extern|class extern|file) (\S+)", self.until("", "}"))[1]
             flags, name = flags_of(text)
             is_forwarder = "forwarder " if "forwarder" in flags.split() else ""
-            text = f"{is_forwarder}{self.quoted.show(name)} in {self.quoted.show(of)}"
+            text = f"{is_forwarder}{self.quoted.show(name)} in {self.quoted.show(of).rpartition('.')[2]}"
         elif word == ".mresource":
             self.until("", "}")
         elif word == ".file":

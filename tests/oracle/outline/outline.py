@@ -113,7 +113,7 @@ class Reader:
             flags, name = flags_of(line.removeprefix(".class extern "))
             name, _, of = name.partition(" in ")
             is_forwarder = "forwarder " if "forwarder" in flags.split() else ""
-            self.add("class extern", f"{is_forwarder}{name} in {of.partition(' ')[2]}")
+            self.add("class extern", f"{is_forwarder}{name} in {re.split(r'[. ]', of)[-1]}")
         else:
             kind, text = re.match(r"\.(\w+(?: extern)?) (.*)", line).groups()
             self.add(kind, text)

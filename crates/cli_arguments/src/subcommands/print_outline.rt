@@ -14,9 +14,10 @@ pub(crate) const USAGE: Usage<'static> = Usage {
 There is a line for each declaration, in the notation of ILAsm (ECMA-335, II.5 to II.22). It ends with the token of its
 row in a comment. First come the assembly, what it refers to, the module, files, resources and exported types; then the
 types in the order of their rows, each with its fields, methods, events and properties, and accessors below these; then
-interfaces, generic parameters and their constraints, overrides, imports and custom attributes, table by table. Texts of
-FILE are escaped like the texts of 'clim show'. Of a name or signature of more than 65,536 bytes the first ones are
-printed, and '..'. FILE is checked first, as by 'clim check'.
+interfaces, generic parameters and their constraints, overrides, imports and custom attributes, table by table. Events,
+properties or accessors that are not in the order of what they belong to come after the types. Texts of FILE are
+escaped like the texts of 'clim show'. Of a name or signature of more than 65,536 bytes the first ones are printed, and
+'..'. FILE is checked first, as by 'clim check'.
 
 NAME is the full name of a type: its namespace, a dot and its name, or its name alone. It is divided at its last dot. A
 nested type has no namespace. If several types have the same names, the first one is printed. Eight hexadecimal digits

@@ -21,7 +21,7 @@ loop-number-preserved g c =
           let lines = before.0 ++ line.0 ∷ [] in (
             lines,
             subst (λ (ns : List ℕ). AreTokenLines model ns lines) (sym (take_more numbers index 0 lt))
-                (lines_appended model (take index numbers) number before.0 line.0 before.1 line.1),
+            (lines_appended model (take index numbers) number before.0 line.0 before.1 line.1),
             c.lines_follow.ensures.more _ _ _ _ _ before.2 line.2,
           );
     }

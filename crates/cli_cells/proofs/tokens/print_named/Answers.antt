@@ -16,7 +16,8 @@ unfolding row_count
 returns-clause-line g c = λ model is.
     let token = c.in_ok-token.token in
     let here : IsModel c.new-cells.result model = subst (λ (root : List ℕ). IsModel root model) (sym c.new-cells.ensures) is in
-    let within = subst (λ (n : ℕ). token.row ≤ n) (sym (c.models_are_read.ensures.count c.args.view.now model is token.table)) c.in_ok-token.ensures.sound.2 in (
+    let within = subst (λ (n : ℕ). token.row ≤ n) (sym (c.models_are_read.ensures.count c.args.view.now model is token.table)) c.in_ok-token.ensures.sound.2 in
+    (
       row_line Hidden model token.table token.row,
       inr (c.if-number-eq-USER_STRINGS.false, (token, c.in_ok-token.ensures.sound.0, (c.in_ok-token.ensures.sound.1, within), refl)),
       c.print_row.ensures.line model here,

@@ -1,38 +1,18 @@
-use Rattle.std.proofs.Common.{◌∙◌, ◌+◌, ap, drop, map}
+use Rattle.std.proofs.Common.{◌∙◌, ap}
 use Rattle.std.specs.List.{flat_map}
 use Rattle.table_schema.specs.declared.table.TableId.TheVariants.{MethodSemantics}
 use Rattle.metadata_source.specs.MemberLists.{member_of}
-use Rattle.navigation.specs.Keyed.{row_of as row_in}
-use Rattle.cli_outline.specs.Outline.{accessed_rows, row_of, table_of}
+use Rattle.cli_outline.specs.Outline.{accessed_rows, each_from, row_of, table_of}
 use Rattle.cli_outline.specs.Parts.{token_at}
-use Rattle.cli_outline.proofs.PrintedLemmas.{found_left, none_left, rows_are}
+use Rattle.cli_outline.proofs.PrintedLemmas.{rows_are}
 use Rattle.cli_outline.proofs.mapped.print_accessed.Goals as goal
 
-pub print_row-requires-in-loop-accessor : goal.print_row-requires-in-loop-accessor
-print_row-requires-in-loop-accessor g c =
-    let found = c.linked-accessors.ensures.within c.loop-accessor.accessor-index (record { key = 0; row = 0 }) c.loop-accessor-test.true in
-    record {
-      first = found.0;
-      last = found.1;
-      member = λ class given. cc;
-    }
-
-pub loop-accessor-preserved : goal.loop-accessor-preserved
-loop-accessor-preserved g c = λ model later is printed.
-    let rows = row_of MethodSemantics in
-    let accessors = c.linked-accessors.result.now in
-    let index = c.loop-accessor.accessor-index in
-    c.loop-accessor.invariant model later is
-    (rows_are (found_left rows accessors index (record { key = 0; row = 0 }) c.loop-accessor-test.true)
-    (c.rows_follow.ensures.more model _ _ _ _ (flat_map rows (map row_in (drop (index + 1) accessors))) (c.print_row-in-loop-accessor.ensures model is) printed))
+pub print_rows-requires-clause-members : goal.print_rows-requires-clause-members
+print_rows-requires-clause-members g c = λ class given. cc
 
 pub returns : goal.returns
-unfolding accessed_rows
+unfolding accessed_rows each_from
 returns g c = λ model is.
-    let rows = row_of MethodSemantics in
-    let accessors = c.linked-accessors.result.now in
     let own = rows_are (ap (λ t. row_of t c.args.row) (c.member-table.ensures ∙ ap (λ l. member_of l) c.list.ensures)) (c.print_row.ensures model is) in
-    let linked = c.linked-accessors.ensures.rows model is (token_at (table_of c.args.of) c.args.row) c.accessed.ensures in
-    let left = rows_are (none_left rows accessors c.loop-accessor.accessor-index c.loop-accessor-test.false) (c.rows_follow.ensures.nothing model c.loop-accessor.out) in
-    let all = c.loop-accessor.invariant model c.loop-accessor.out is left in
-    c.rows_follow.ensures.more model _ _ _ _ _ own (rows_are (ap (λ found. flat_map rows found) linked) all)
+    let linked = c.linked-rows.ensures.rows model is (token_at (table_of c.args.of) c.args.row) c.accessed.ensures in
+    c.rows_follow.ensures.more model _ _ _ _ _ own (rows_are (ap (λ rows. flat_map (row_of MethodSemantics) rows) linked) (c.print_rows.ensures model is))

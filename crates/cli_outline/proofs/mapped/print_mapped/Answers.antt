@@ -1,18 +1,17 @@
-use Rattle.std.proofs.Common.{◌≡◌, ◌∙◌, ◌+◌, ℕ, ap, drop, map, refl, sym, arith}
+use Rattle.std.proofs.Common.{◌≡◌, ◌∙◌, ◌≤◌, List, ℕ, ap, refl, sym, subst, arith}
 use Rattle.std.specs.List.{flat_map}
 use Rattle.table_schema.specs.declared.table.TableId.TheVariants.{TypeDef}
 use Rattle.table_schema.specs.CellColumns.{cell_columns}
 use Rattle.opening.specs.Views.{row_count}
 use Rattle.metadata_source.specs.MemberLists.{owner_of}
 use Rattle.navigation.specs.declared.links.Link.{Link}
-use Rattle.navigation.specs.Keyed.{row_of}
 use Rattle.navigation.specs.Linked.{linked, number_to}
 use Rattle.navigation.specs.Linked.{table_of as linked_table}
 use Rattle.cli_outline.specs.declared.mapped.Mapped.{Mapped}
 use Rattle.cli_outline.specs.declared.mapped.Mapped.TheVariants.{Events, Properties}
-use Rattle.cli_outline.specs.Outline.{link_of, list_of, mapped_rows, type_rows}
+use Rattle.cli_outline.specs.Outline.{each_from, link_of, list_of, mapped_rows, type_rows}
 use Rattle.cli_outline.specs.Parts.{token_at}
-use Rattle.cli_outline.proofs.PrintedLemmas.{found_left, none_left, rows_are}
+use Rattle.cli_outline.proofs.PrintedLemmas.{rows_are}
 use Rattle.cli_outline.proofs.mapped.print_mapped.Goals as goal
 
 -- the number of a reference to a type is the row of the type
@@ -27,14 +26,13 @@ owners Properties = refl
 
 pub print_map-requires : goal.print_map-requires
 print_map-requires g c =
-    let found = c.linked-maps.ensures.within c.loop-map.map-index (record { key = 0; row = 0 }) c.loop-map-test.true in
-    let first = found.0 in
-    let last = found.1 in
+    let last = c.linked-maps.ensures.last in
     let table = ap (λ l. linked_table l) c.link.ensures ∙ owners c.args.of in
-    let rows = ap (λ t. row_count c.args.source.now.view.now t) table ∙ ap (λ root. row_count root (owner_of (list_of c.args.of))) (sym c.loop-map.invariant.same) in
+    let P : List ℕ → Type 0 = λ root. c.loop-map.map ≤ row_count root (owner_of (list_of c.args.of)) in
+    let rows = ap (λ t. row_count c.args.source.now.view.now t) table in
     record {
-      first = first;
-      last = omega (arith, last, rows);
+      first = omega (arith, c.linked-maps.ensures.first, c.loop-map.auto.map);
+      last = subst P (sym c.loop-map.invariant.same) (omega (arith, last, rows, c.loop-map-test.true));
       at = c.loop-map.invariant.same;
     }
 
@@ -42,19 +40,14 @@ pub loop-map-preserved : goal.loop-map-preserved
 loop-map-preserved g c = record {
   same = c.print_map.ensures.same ∙ c.loop-map.invariant.same;
   lines = λ model later is printed.
-      let rows = mapped_rows model c.args.of in
-      let maps = c.linked-maps.result.now in
-      let index = c.loop-map.map-index in
       c.loop-map.invariant.lines model later is
-      (rows_are (found_left rows maps index (record { key = 0; row = 0 }) c.loop-map-test.true)
-      (c.rows_follow.ensures.more model _ _ _ _ (flat_map rows (map row_of (drop (index + 1) maps))) (c.print_map.ensures.lines model is) printed));
+      (c.ranges_follow.ensures.more model (mapped_rows model c.args.of) _ _ _ c.loop-map.map c.linked-maps.result.«end» c.loop-map-test.true (c.print_map.ensures.lines model is) printed);
 }
 
 pub returns-clause-lines : goal.returns-clause-lines
-unfolding type_rows
+unfolding type_rows each_from
 returns-clause-lines g c = λ model is.
     let rows = mapped_rows model c.args.of in
-    let maps = c.linked-maps.result.now in
-    let linked_rows = c.linked-maps.ensures.rows model is (token_at TypeDef c.args.class) (number_of_class c.args.of c.link.ensures c.args.class) in
+    let linked_rows = c.linked-maps.ensures.rows model is (token_at TypeDef c.args.class) (number_of_class c.args.of (c.link.ensures) c.args.class) in
     rows_are (ap (λ xs. flat_map rows xs) (linked_rows ∙ ap (λ l. linked model l (token_at TypeDef c.args.class)) c.link.ensures))
-    (c.loop-map.invariant.lines model c.loop-map.out is (rows_are (none_left rows maps c.loop-map.map-index c.loop-map-test.false) (c.rows_follow.ensures.nothing model c.loop-map.out)))
+    (c.loop-map.invariant.lines model c.loop-map.out is (c.ranges_follow.ensures.none model rows c.loop-map.out c.loop-map.map c.linked-maps.result.«end» c.loop-map-test.false))

@@ -10,4 +10,4 @@ returns g c = λ model is.
     let more = c.rows_follow.ensures.more model in
     let first = rows_are (ap (λ tables. flat_map (all_rows model) tables) c.first_tables.ensures) (c.print_tables.ensures model is) in
     let last = rows_are (ap (λ tables. flat_map (all_rows model) tables) c.last_tables.ensures) (c.print_tables-2.ensures model is) in
-    more _ _ _ _ _ first (more _ _ _ _ _ (c.print_classes.ensures model is) last)
+    more _ _ _ _ _ first (more _ _ _ _ _ (c.print_classes.ensures model is) (more _ _ _ _ _ (c.print_all_apart.ensures model is) last))

@@ -1,5 +1,6 @@
 use Rattle.std.proofs.Common.{List, Ok, Err, ℕ, refl, subst}
 use Rattle.std.proofs.lemmas.Result.{IfErr-weaker, IfOk-weaker}
+use Rattle.cli_faults.specs.declared.failure.Failure.{Failure}
 use Rattle.cli_runs.specs.Runs.{IsReported, IsReportedAs}
 use Rattle.cli_runs.proofs.files.run_next.Goals as goal
 

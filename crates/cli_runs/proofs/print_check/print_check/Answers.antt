@@ -1,4 +1,4 @@
-use Rattle.std.proofs.Common.{List, Option, ℕ, None, subst}
+use Rattle.std.proofs.Common.{List, Option, ℕ, None, refl, subst}
 use Rattle.cli_lines.specs.Printed.{Prints}
 use Rattle.cli_runs.specs.Reports.{verdict_lines}
 use Rattle.cli_runs.proofs.print_check.print_check.Goals as goal

@@ -13,7 +13,7 @@ use Rattle.std.specs.Fmt.{WritesInCalls}
 use Rattle.sig_text.specs.SignatureText.{declared_text}
 use Rattle.full_names.specs.declared.method_text.Declared.{Declared}
 use Rattle.full_names.specs.Names.{Wrote}
-use Rattle.full_names.specs.Texts.{AreParams, ArePiecesText, IsDeclaredPiece}
+use Rattle.full_names.specs.Texts.{ArePiecesText, IsDeclaredPiece}
 use Rattle.full_names.proofs.PieceLemmas.{encoded_in, held_in}
 use Rattle.full_names.proofs.methods.write_method_within.Goals as goal
 
@@ -28,10 +28,8 @@ returns-in-Some g c = record {
       let encodes = encoded_in kind.MethodDef c.in_ok-bytes.bytes (cell_in model MethodDef c.args.row 4) (method_body method) (λ other h e. c.shortest_encodes.ensures kind.MethodDef other h e) (c.in_ok-bytes.ensures model shown) is held.0 held.1 in
       let bytes : Encodes kind.MethodDef (method_body method) c.bytes_of.result.now = rw c.bytes_of.ensures encodes in
       let sink = c.new-sink.result in
-      let held_by = subst (λ x. g.S.ReadMetadata.shows x model) (sym (ap (λ q. q.source.now) c.new-sink.ensures.params ∙ c.in_ok-params.ensures.source)) shown in
-      let read = subst (λ (d : Declared). AreParams model d.first d.past sink.params.now.rows.items) (sym c.new-sink.ensures.of)
-      (subst (λ q. AreParams model c.params_of-rows.result.start c.params_of-rows.result.end q.rows.items) (sym c.new-sink.ensures.params) (c.in_ok-params.ensures.rows model shown)) in
-      let did = c.in-Some.ensures model held_by method bytes read in
+      let held_by = subst (λ x. g.S.ReadMetadata.shows x model) (sym c.new-sink.ensures.source) shown in
+      let did = c.in-Some.ensures model held_by method bytes (c.new-sink.ensures.next ∙ ap (λ (d : Declared). d.first) (sym c.new-sink.ensures.of)) in
       let text = subst (λ (d : Declared). Wrote g.W.Write.write_str_gives sink.writer.now (ArePiecesText (IsDeclaredPiece model d.class d.name.now d.first d.past) (declared_text method)) c.put_declaration.new.sink.writer.now)
       c.new-sink.ensures.of did.1 in
       let same = sym did.0 in
@@ -43,9 +41,9 @@ returns-in-Some g c = record {
           owner = c.type_of_method.ensures.sound model shown;
           own = c.text.result.now;
           is_named = c.text.ensures model shown;
-          first = c.params_of-rows.result.start;
-          past = c.params_of-rows.result.end;
-          params = c.params_of-rows.ensures model shown;
+          first = c.params_of-params.result.start;
+          past = c.params_of-params.result.end;
+          params = c.params_of-params.ensures model shown;
           pieces = text.1;
         },
         subst (λ v. WritesInCalls g.W.Write.write_str_gives c.args.out.now text.0 v) (search rules) calls,

@@ -1,53 +1,10 @@
-use Rattle.std.proofs.Common.{◌≤◌, ◌++◌, List, ℕ, refl, subst, sym}
-use Rattle.std.specs.Prelude.{codes}
-use Rattle.table_schema.specs.declared.table.TableId.{TableId}
 use Rattle.table_schema.specs.declared.table.TableId.TheVariants.{MemberRef}
-use Rattle.full_names.specs.RowNames.{IsNameIn, IsNameUnder}
+use Rattle.full_names.specs.RowNames.{IsNameIn}
 use Rattle.full_names.specs.Texts.{IsMethodName}
 use Rattle.full_names.proofs.PieceLemmas.{on_wrote}
-use Rattle.full_names.proofs.RowNameLemmas.{named_under}
 use Rattle.full_names.proofs.row_names.write_member_ref.Goals as goal
 
-pub type_of_method-requires-clause-last : goal.type_of_method-requires-clause-last
-type_of_method-requires-clause-last g c = subst (λ (t : TableId). c.parent-parent.result.row ≤ g.S.ReadMetadata.row_count c.args.source.now t) c.in-MethodDef.is c.parent-parent.ensures.last
-
-pub text-module-requires-clause-last : goal.text-module-requires-clause-last
-text-module-requires-clause-last g c = subst (λ (t : TableId). c.parent-parent.result.row ≤ g.S.ReadMetadata.row_count c.args.source.now t) c.in-ModuleRef.is c.parent-parent.ensures.last
-
-pub returns-in-MethodDef : goal.returns-in-MethodDef
-returns-in-MethodDef g c = λ model shown.
-    let parent = c.parent-parent.result in
-    let own = c.text-name.result.now in
-    on_wrote g.W.Write.write_str_gives (IsMethodName model c.type_token-class.result own) (IsNameIn model MemberRef c.args.row) _ _ c.write_method_name.result (c.write_method_name.ensures model shown)
-    (λ text is. (
-      parent,
-      c.parent-parent.ensures.parent model shown,
-      own,
-      c.text-name.ensures model shown,
-      subst (λ (t : TableId). IsNameUnder model t parent.row own text) (sym c.in-MethodDef.is)
-          (c.type_token-class.result, (c.type_of_method.result, c.type_of_method.ensures.sound model shown, c.type_token-class.ensures), is),
-    ))
-
-pub returns-in_ok-write_global_name-in-ModuleRef : goal.returns-in_ok-write_global_name-in-ModuleRef
-returns-in_ok-write_global_name-in-ModuleRef g c = λ model shown.
-    let parent = c.parent-parent.result in
-    let own = c.text-name.result.now in
-    let module_name = c.text-module.result.now in
-    let text : List ℕ = module_name ++ (codes "::" ++ own) in (
-      text,
-      (
-        parent,
-        c.parent-parent.ensures.parent model shown,
-        own,
-        c.text-name.ensures model shown,
-        subst (λ (t : TableId). IsNameUnder model t parent.row own text) (sym c.in-ModuleRef.is) (module_name, c.text-module.ensures model shown, refl),
-      ),
-      c.in_ok-write_global_name-in-ModuleRef.ensures,
-    )
-
-pub returns-in_default : goal.returns-in_default
-returns-in_default g c = λ model shown.
-    let parent = c.parent-parent.result in
-    let own = c.text-name.result.now in
-    on_wrote g.W.Write.write_str_gives (IsMethodName model parent own) (IsNameIn model MemberRef c.args.row) _ _ c.write_method_name-in_default.result (c.write_method_name-in_default.ensures model shown)
-    (λ text is. (parent, c.parent-parent.ensures.parent model shown, own, c.text-name.ensures model shown, named_under model parent.table parent.row own text c.in_default.not-MethodDef c.in_default.not-ModuleRef is))
+pub returns : goal.returns
+returns g c = λ model shown.
+    on_wrote g.W.Write.write_str_gives (IsMethodName model c.parent-class.result c.text-name.result.now) (IsNameIn model MemberRef c.args.row) _ _ c.write_method_name.result (c.write_method_name.ensures model shown)
+    (λ text is. (c.parent-class.result, c.parent-class.ensures model shown, (c.text-name.result.now, c.text-name.ensures model shown, is)))

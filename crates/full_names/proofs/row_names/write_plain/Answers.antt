@@ -1,7 +1,6 @@
-use Rattle.std.proofs.Common.{sym, subst, refl}
+use Rattle.std.proofs.Common.{List, ℕ, sym, subst, refl}
 use Rattle.std.specs.Prelude.{codes}
 use Rattle.table_schema.specs.declared.table.TableId.{TableId}
-use Rattle.metadata.specs.Names.{full_name}
 use Rattle.full_names.specs.RowNames.{IsPlainName}
 use Rattle.full_names.proofs.PieceLemmas.{wrote_plain}
 use Rattle.full_names.proofs.RowNameLemmas.{no_name}
@@ -27,11 +26,9 @@ returns-in-File g c = λ model shown.
 
 pub returns-in-ExportedType : goal.returns-in-ExportedType
 returns-in-ExportedType g c = λ model shown.
-    let space = c.text-namespace.result.now in
-    let name = c.text-name.result.now in
-    let is = subst (λ (t : TableId). IsPlainName model t c.args.token.row (full_name space name)) (sym c.in-ExportedType.is)
-    (space, name, c.text-namespace.ensures model shown, c.text-name.ensures model shown, refl) in
-    wrote_plain g.W.Write.write_str_gives (IsPlainName model c.args.token.table c.args.token.row) _ _ c.write_own_name.result (full_name space name) is c.write_own_name.ensures
+    let name = c.text-in-ExportedType.result.now in
+    let is = subst (λ (t : TableId). IsPlainName model t c.args.token.row name) (sym c.in-ExportedType.is) (c.text-in-ExportedType.ensures model shown) in
+    wrote_plain g.W.Write.write_str_gives (IsPlainName model c.args.token.table c.args.token.row) _ _ c.write_text-in-ExportedType.result name is c.write_text-in-ExportedType.ensures
 
 pub returns-in-GenericParam : goal.returns-in-GenericParam
 returns-in-GenericParam g c = λ model shown.

@@ -112,13 +112,12 @@ fn methods_have_the_names_of_their_parameters(rt: HostRuntime) -> Result<(), Fai
     root.row(0x06, b"\0\0\0\0\0\0\0\0\x0D\0\x01\0\x01\0")?;
     root.row(0x06, b"\0\0\0\0\0\0\0\0\x07\0\x07\0\x03\0")?;
     root.row(0x06, b"\0\0\0\0\0\0\0\0\x07\0\x01\0\x04\0")?;
-    // The result and the first parameter; the first one; the second one, the first one, and another second one.
+    // The result and the first parameter; the first one; the second one, and a first one out of order.
     root.row(0x08, b"\0\0\0\0\x07\0")?;
     root.row(0x08, b"\0\0\x01\0\x18\0")?;
     root.row(0x08, b"\0\0\x01\0\x18\0")?;
     root.row(0x08, b"\0\0\x02\0\x18\0")?;
-    root.row(0x08, b"\0\0\x01\0\x0D\0")?;
-    root.row(0x08, b"\0\0\x02\0\x07\0")?;
+    root.row(0x08, b"\0\0\x01\0\x18\0")?;
     root.heap("#Strings", STRINGS)?;
     root.heap("#Blob", b"\0\x05\0\x02\x01\x08\x0E\x06\x30\x01\x01\x01\x1E\0")?;
     let root = root.finish()?;
@@ -127,7 +126,7 @@ fn methods_have_the_names_of_their_parameters(rt: HostRuntime) -> Result<(), Fai
     for (row, expected) in [
         (1, "void Space.Outer::Leaf(int32 first, string)"),
         (2, "instance void Space.Outer::Inner<[1]>(!!0 first)"),
-        (3, "void Space.Outer::Inner(int32 Leaf, string first)"),
+        (3, "void Space.Outer::Inner(int32, string first)"),
     ] {
         let text = declared(rt.alloc(), &view, row).expect(&rt, "a text");
         assert_eq!(rt; text.as_str(), expected, "of {row}");

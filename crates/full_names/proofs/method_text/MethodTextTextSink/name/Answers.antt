@@ -9,6 +9,9 @@ returns-then-is_reached-clause-piece g c = λ taken. (
   refl,
   refl,
   refl,
-  λ model shown params. passed_over g.W.Write.write_str_gives c.args.self.now.writer.now (IsFullName model c.args.token) (c.if-is_reached.ensures refl)
-      (any_name model (c.holds_one.ensures.valid model shown) c.args.token),
+  λ model shown before. (
+    before,
+    passed_over g.W.Write.write_str_gives c.args.self.now.writer.now (IsFullName model c.args.token) (c.if-is_reached.ensures refl)
+        (any_name model (c.holds_one.ensures.valid model shown) c.args.token),
+  ),
 )
