@@ -9,7 +9,7 @@
 - README.md has at most 100 lines, and the line of the toolchain that proves the crates.
 - CHANGELOG.md begins with the version of the program, which is in one place, in cli_arguments.
 - docs/TRUST.md: its files are there, and its counts of lines are those of the definitions.
-- edits/README.md: each edit that its tables name is there.
+- edits/README.md: each edit that its examples name is there.
 - edits/each.txt says what each of its edits does, and each is there. Each crate with edits has one there or in must-fail/.
 - Each relative link of these pages leads to a file.
 
@@ -192,9 +192,9 @@ def check_trust(counts):
 
 
 def check_edits(counts):
-    """Each edit that a table of edits/README.md names is there. It is in must-fail/, or the table says edits/."""
-    page = text_of("edits/README.md").split("\n## Wrong bodies that are easy to write\n")[1]
-    for cells in table_rows(page):
+    """Each edit that an example of edits/README.md names is there. It is in must-fail/, or the page says edits/."""
+    page = text_of("edits/README.md").split("| wrong body |")[1]
+    for cells in table_rows(f"|---\n| wrong body |{page}"):
         folder, crate, name = re.fullmatch(r"(edits/)?(\w+)/(\w+)", in_backticks(cells[1])[0]).groups()
         path = f"{folder}{crate}/{name}.edit" if folder else f"crates/{crate}/must-fail/{name}.edit"
         counts.expect(text_of(path) is not None, f"edits/README.md: {path} is not there")
