@@ -4,9 +4,10 @@
 - CONTRIBUTING.md: each file of a recipe is there, and contains each text of its row's last column; the contract that it
   explains is that of the code.
 - Each command of these pages that is a file of the repository is there and can be run.
-- docs/ARCHITECTURE.md and README.md name each crate of crates.txt, and ARCHITECTURE.md has a row for no other crate. The
-  program and the library for C stand on no crate that owns cells.
-- README.md has at most 100 lines, and the line of the toolchain that proves the crates.
+- docs/ARCHITECTURE.md has a row for each crate of crates.txt, and for no other. The program and the library for C stand on
+  no crate that owns cells.
+- README.md has at most 80 lines, and the line of the toolchain that proves the crates.
+- README.md, CHANGELOG.md, docs/PROVED.md and docs/TRUST.md say the same, word for word, of what is proved of printing.
 - CHANGELOG.md begins with the version of the program, which is in one place, in cli_arguments.
 - docs/TRUST.md: its files are there, and its counts of lines are those of the definitions.
 - edits/README.md: each edit that its examples name is there.
@@ -23,7 +24,12 @@ import sys
 
 TOP = os.path.dirname(os.path.dirname(os.path.dirname(os.path.realpath(__file__))))
 PAGES = ["README.md", "CONTRIBUTING.md", "CHANGELOG.md", "docs/CLIENTS.md", "docs/ARCHITECTURE.md", "docs/STABILITY.md", "docs/TRUST.md"]
-README_LINES = 100
+README_LINES = 80
+# What these pages say of printing.
+PRINTING_PAGES = ["README.md", "CHANGELOG.md", "docs/PROVED.md", "docs/TRUST.md"]
+PRINTING = """The calls for `root`, `check`, `show`, `types`, `outline`, `strings`, `token`, `where`, `digest` and `compare` write \
+exactly the text that `specs/` defines, to a writer whose bytes are known; if writing fails, a prefix of it. The toolchain states \
+nothing about the bytes that reach standard output, so what the program prints is tested. Its exit code is proved."""
 # What the clauses of `open_image` and `open_root` cite: what a model is, and the rules in order.
 MODEL = ["Rattle.metadata.specs.Model"]
 RULES = ["Rattle.metadata.specs.Rules"]
@@ -121,12 +127,11 @@ def uses_of(crate, module):
 
 
 def check_crates(counts):
-    """The pages name the crates that are there, and no other."""
-    names, readme = libraries(), text_of("README.md")
+    """The page of the crates names those that are there, and no other."""
+    names = libraries()
     rows = [in_backticks(cells[0]) for cells in table_rows(text_of("docs/ARCHITECTURE.md")) if len(cells) == 4]
     described = [name for row in rows for name in row]
     for name in names:
-        counts.expect(f"`{name}`" in readme, f"README.md does not name the crate {name}")
         counts.expect(described.count(name) == 1, f"docs/ARCHITECTURE.md has {described.count(name)} rows for {name}")
     for name in described:
         counts.expect(name in names, f"docs/ARCHITECTURE.md has a row for {name}, which is no crate")
@@ -146,6 +151,12 @@ def check_readme(counts):
     counts.expect(lines <= README_LINES, f"README.md has {lines} lines, more than {README_LINES}")
     toolchain = re.search(r"rattle-kit-\S+ logic [0-9a-f]+", text_of("docs/PROVED.md"))
     counts.expect(toolchain and toolchain[0] in readme, "README.md and docs/PROVED.md name different toolchains")
+
+
+def check_printing(counts):
+    """The pages say the same of printing."""
+    for page in PRINTING_PAGES:
+        counts.expect(PRINTING in text_of(page), f"{page} does not say of printing what the others say")
 
 
 def check_version(counts):
@@ -239,8 +250,8 @@ def main():
             print(f"{page} is not there\n0 passed, 1 failed")
             return 1
     checks = [
-        check_recipes, check_contract, check_commands, check_crates, check_readme, check_version, check_trust, check_edits,
-        check_each, check_links,
+        check_recipes, check_contract, check_commands, check_crates, check_readme, check_printing, check_version, check_trust,
+        check_edits, check_each, check_links,
     ]
     for check in checks:
         check(counts)
