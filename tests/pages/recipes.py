@@ -1,10 +1,10 @@
 #!/usr/bin/env python3
 """Compares the pages for newcomers with the repository.
 
-- CONTRIBUTING.md: each file of a recipe is there, and contains each text of its row's last column; the contract that it
-  explains is that of the code.
+- CONTRIBUTING.md: each file of a recipe is there, and contains each text that its line quotes at the end; the contract that
+  it explains is that of the code.
 - Each command of these pages that is a file of the repository is there and can be run.
-- docs/ARCHITECTURE.md has a row for each crate of crates.txt, and for no other. The program and the library for C stand on
+- docs/ARCHITECTURE.md has a line for each crate of crates.txt, and for no other. The program and the library for C stand on
   no crate that owns cells.
 - README.md has at most 80 lines, and the line of the toolchain that proves the crates.
 - README.md, CHANGELOG.md, docs/PROVED.md and docs/TRUST.md say the same, word for word, of what is proved of printing.
@@ -77,14 +77,17 @@ def table_rows(text):
 
 
 def check_recipes(counts):
-    """Each file of a recipe is there, and contains what its row says."""
+    """Each file of a recipe is there, and contains what its line quotes in the parentheses at its end."""
     recipes = text_of("CONTRIBUTING.md").split("\n## Recipes\n")[1].split("\n## ")[0]
-    for file, _, example in table_rows(recipes):
-        path = in_backticks(file)[0]
+    for files, example in re.findall(r"^- ((?:`[^`]+`(?:, )?)+): .* \((`.*`)\)$", recipes, re.M):
+        path = in_backticks(files)[0]
         text = text_of(path)
         counts.expect(text is not None, f"CONTRIBUTING.md: {path} is not there")
         for wanted in in_backticks(example) if text is not None else []:
             counts.expect(wanted in text, f"CONTRIBUTING.md: {path} does not contain {wanted}")
+    lines = re.findall(r"^- `.*", recipes, re.M)
+    for line in lines:
+        counts.expect(re.search(r"\(`.*`\)$", line), f"CONTRIBUTING.md: this line quotes nothing: {line}")
 
 
 def check_contract(counts):
@@ -129,12 +132,12 @@ def uses_of(crate, module):
 def check_crates(counts):
     """The page of the crates names those that are there, and no other."""
     names = libraries()
-    rows = [in_backticks(cells[0]) for cells in table_rows(text_of("docs/ARCHITECTURE.md")) if len(cells) == 4]
-    described = [name for row in rows for name in row]
+    crates = text_of("docs/ARCHITECTURE.md").split("\n## The crates\n")[1].split("\n## ")[0]
+    described = re.findall(r"^- `(\w+)`: ", crates, re.M)
     for name in names:
-        counts.expect(described.count(name) == 1, f"docs/ARCHITECTURE.md has {described.count(name)} rows for {name}")
+        counts.expect(described.count(name) == 1, f"docs/ARCHITECTURE.md has {described.count(name)} lines for {name}")
     for name in described:
-        counts.expect(name in names, f"docs/ARCHITECTURE.md has a row for {name}, which is no crate")
+        counts.expect(name in names, f"docs/ARCHITECTURE.md has a line for {name}, which is no crate")
     # Only these modules of c_values make tables for C. All else of clim_c reads in place.
     makers = {module for module in modules_of("c_values") if uses_of("c_values", module) & OWNERS}
     counts.expect(makers == TABLE_MAKERS, f"docs/ARCHITECTURE.md: tables are made in {', '.join(sorted(makers))}")
