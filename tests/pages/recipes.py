@@ -12,18 +12,20 @@
 - docs/TRUST.md: its files are there, and its counts of lines are those of the definitions.
 - edits/README.md: each edit that its examples name is there.
 - edits/each.txt says what each of its edits does, and each is there. Each crate with edits has one there or in must-fail/.
-- Each relative link of these pages leads to a file.
+- Each relative link of a page leads to a file, and to a heading if it names one.
 
 With --lines it only prints the definitions that docs/TRUST.md counts, with their lines. The last line is otherwise
 'N passed, M failed'.
 """
 
+import glob
 import os
 import re
 import sys
 
 TOP = os.path.dirname(os.path.dirname(os.path.dirname(os.path.realpath(__file__))))
 PAGES = ["README.md", "CONTRIBUTING.md", "CHANGELOG.md", "docs/CLIENTS.md", "docs/ARCHITECTURE.md", "docs/STABILITY.md", "docs/TRUST.md"]
+MORE_PAGES = ["edits/README.md", "tests/README.md", "samples/README.md"]
 README_LINES = 80
 # What these pages say of printing.
 PRINTING_PAGES = ["README.md", "CHANGELOG.md", "docs/PROVED.md", "docs/TRUST.md"]
@@ -80,11 +82,12 @@ def check_recipes(counts):
     """Each file of a recipe is there, and contains what its line quotes in the parentheses at its end."""
     recipes = text_of("CONTRIBUTING.md").split("\n## Recipes\n")[1].split("\n## ")[0]
     for files, example in re.findall(r"^- ((?:`[^`]+`(?:, )?)+): .* \((`.*`)\)$", recipes, re.M):
-        path = in_backticks(files)[0]
-        text = text_of(path)
-        counts.expect(text is not None, f"CONTRIBUTING.md: {path} is not there")
-        for wanted in in_backticks(example) if text is not None else []:
-            counts.expect(wanted in text, f"CONTRIBUTING.md: {path} does not contain {wanted}")
+        first, *others = in_backticks(files)
+        for path in [first, *(it if "/" in it else f"{os.path.dirname(first)}/{it}" for it in others)]:
+            text = text_of(path)
+            counts.expect(text is not None, f"CONTRIBUTING.md: {path} is not there")
+            for wanted in in_backticks(example) if text is not None else []:
+                counts.expect(wanted in text, f"CONTRIBUTING.md: {path} does not contain {wanted}")
     lines = re.findall(r"^- `.*", recipes, re.M)
     for line in lines:
         counts.expect(re.search(r"\(`.*`\)$", line), f"CONTRIBUTING.md: this line quotes nothing: {line}")
@@ -227,12 +230,20 @@ def check_each(counts):
             counts.expect(crate in tried, f"edits/each.txt: {crate} has no edit that is tried each time")
 
 
+def anchors_of(page):
+    """What the part after '#' of a link to a page may be: its headings, in small letters and with hyphens."""
+    headings = re.findall(r"^#+ (.*)$", text_of(page), re.M)
+    return {re.sub(r"[^\w -]", "", it).lower().replace(" ", "-") for it in headings}
+
+
 def check_links(counts):
-    """Each relative link of a page leads to a file."""
-    for page in PAGES:
-        for link in re.findall(r"\]\((?!https?:|#)([^)#]+)", text_of(page)):
-            path = os.path.normpath(f"{os.path.dirname(page)}/{link}".lstrip("/"))
+    """Each relative link of a page leads to a file, and to a heading if it names one."""
+    for page in sorted({*PAGES, *MORE_PAGES, *glob.glob("docs/*.md", root_dir=TOP)}):
+        for link, anchor in re.findall(r"\]\((?!https?:)([^)#]*)(?:#([^)]*))?\)", text_of(page)):
+            path = os.path.normpath(f"{os.path.dirname(page)}/{link}".lstrip("/")) if link else page
             counts.expect(os.path.exists(f"{TOP}/{path}"), f"{page}: {link} leads nowhere")
+            if anchor:
+                counts.expect(anchor in anchors_of(path), f"{page}: {path} has no heading {anchor}")
 
 
 def print_lines():
