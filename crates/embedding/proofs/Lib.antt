@@ -1,0 +1,17 @@
+pub mod Parts
+pub mod Words
+pub mod Kept
+pub mod Headers
+pub mod Padded
+pub mod Room
+pub mod Results
+pub mod Opens
+pub mod Sections
+pub mod Gaps
+pub mod Written
+pub mod NewImage
+pub mod NewSections
+pub mod EntryPoint
+pub mod NewHeader
+pub mod Found
+pub mod Canonical
