@@ -1,6 +1,7 @@
 pub mod Parts
 pub mod Words
 pub mod Kept
+pub mod Misfits
 pub mod Headers
 pub mod Padded
 pub mod Room

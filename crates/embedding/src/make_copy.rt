@@ -1,4 +1,4 @@
-ghost use Rattle.std.specs.Prelude.{ℕ, IfOk, IfErr};
+ghost use Rattle.std.specs.Prelude.{◌≡◌, ◌<◌, ◌⊎◌, ℕ, length, IfOk, IfErr};
 ghost use Rattle.packed.specs.Rule.{FirstBroken};
 ghost use Rattle.cli_header.specs.declared.header.CliHeader.{CliHeader as Header};
 ghost use Rattle.metadata.specs.Metadata.{Metadata};
@@ -6,7 +6,9 @@ ghost use Rattle.metadata.specs.Model.{IsModel, IsModelOfFile};
 ghost use Rattle.metadata.specs.Rules.{rules_of_file, rules_of_metadata};
 ghost use Rattle.root_writer.specs.Canonical.{canonical};
 ghost use Rattle.embedding.specs.Embedded.{IsEmbedded, HasItsModel};
-ghost use Rattle.embedding.specs.Errors.{MatchFault};
+ghost use Rattle.packed.specs.Limit.{byte_limit};
+ghost use Rattle.embedding.specs.declared.error.EmbedError.TheVariants.{Memory, TooLong};
+ghost use Rattle.embedding.specs.Errors.{IsReason, MatchFault};
 
 use crate::error::EmbedError;
 use crate::laws;
@@ -35,6 +37,8 @@ pub fn embed(
     ensures model { (model : Metadata) → IsModel root.now model → IfOk result (λ bytes. HasItsModel strong_name file.now root.now bytes.items model) }
     // A fault is that of the first rule that the file or the root breaks.
     ensures first_error { IfErr result (MatchFault (FirstBroken (rules_of_file file.now)) (FirstBroken (rules_of_metadata 0 root.now))) }
+    // Any other reason is true of both, or memory ran out.
+    ensures refused { IfErr result (λ error. (error ≡ Memory) ⊎ IsReason file.now root.now error) }
 {
     laws::embedded_roots_are_found();
     let plan = plan_embedding(file, root, strong_name)?;
@@ -59,6 +63,9 @@ pub fn embed_canonical(
         → IfOk result (λ bytes. HasItsModel strong_name file.now (canonical model) bytes.items model) }
     // A fault is that of the first rule that the file breaks.
     ensures first_error { IfErr result (MatchFault (FirstBroken (rules_of_file file.now)) (λ _. ⊥)) }
+    // Any other reason is true of the file and this root, or the root is too long, or memory ran out.
+    ensures refused { (header : Header) (model : Metadata) → IsModelOfFile file.now header model
+        → IfErr result (λ error. (error ≡ Memory) ⊎ ((error ≡ TooLong) × (byte_limit < length (canonical model))) ⊎ IsReason file.now (canonical model) error) }
 {
     laws::embedded_roots_are_found();
     metadata::laws::models_are_read();

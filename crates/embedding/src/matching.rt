@@ -8,7 +8,7 @@ use opening::{TableId, View};
 
 /// Whether a root leads to what the other leads to (II.22.18, II.22.26, II.24.2.4).
 pub fn leads_alike(root: &View, other: &View) -> bool
-    ensures { IsTrue result → LeadsAlike root.now other.now }
+    ensures { IsTrue result ↔ LeadsAlike root.now other.now }
 {
     have_same_addresses(root, other, TableId::MethodDef)
         && have_same_addresses(root, other, TableId::FieldRVA)
@@ -19,7 +19,7 @@ pub fn leads_alike(root: &View, other: &View) -> bool
 /// Whether two roots have the same rows in a table of addresses, with the same RVAs.
 fn have_same_addresses(root: &View, other: &View, table: TableId) -> bool
     requires { (table ≡ MethodDef) ⊎ (table ≡ FieldRVA) }
-    ensures { IsTrue result → HaveSameAddresses root.now other.now table }
+    ensures { IsTrue result ↔ HaveSameAddresses root.now other.now table }
 {
     if root.count(table) != other.count(table) {
         return false;
@@ -34,7 +34,7 @@ fn have_same_addresses(root: &View, other: &View, table: TableId) -> bool
 
 /// Whether two heaps are the same once they are padded with zeros to a multiple of four.
 fn are_padded_alike(left: &[u8], right: &[u8]) -> bool
-    ensures { IsTrue result → zero_padded left.now ≡ zero_padded right.now }
+    ensures { IsTrue result ↔ zero_padded left.now ≡ zero_padded right.now }
 {
     if left.len().div_ceil(4) != right.len().div_ceil(4) {
         return false;

@@ -9,7 +9,7 @@ ghost use Rattle.opening.specs.Views.{HasModel};
 ghost use Rattle.embedding.specs.Embedded.{IsEmbedded};
 ghost use Rattle.embedding.specs.Matching.{LeadsAlike};
 ghost use Rattle.embedding.specs.Planned.{HasCertificate, HasStaleName, IsOpened, IsPlanOf, result_of};
-ghost use Rattle.embedding.specs.Errors.{MatchFault, IsNoFault};
+ghost use Rattle.embedding.specs.Errors.{MatchFault, IsNoFault, IsReason};
 
 use crate::error::EmbedError;
 use crate::matching::leads_alike;
@@ -148,6 +148,7 @@ pub(crate) fn plan_opened<'a>(
     ensures sound { IfOk result (λ plan. IsEmbedded strong_name file.entry.headers root.now (result_of plan)) }
     ensures given { IfOk result (IsPlanOf strong_name file.entry.headers root.now) }
     ensures fault { IfErr result IsNoFault }
+    ensures refused { IfErr result (IsReason file.entry.headers root.now) }
 {
     let end = file.headers.headers_end();
     let (header, root_start) = (file.header.place, file.header.root.start);
@@ -181,6 +182,8 @@ pub fn plan_embedding<'a>(
     ensures given { IfOk result (IsPlanOf strong_name file.now root.now) }
     // A fault is that of the first rule that the file or the root breaks.
     ensures first_error { IfErr result (MatchFault (FirstBroken (rules_of_file file.now)) (FirstBroken (rules_of_metadata 0 root.now))) }
+    // Any other reason is true of both: no plan exists.
+    ensures refused { IfErr result (IsReason file.now root.now) }
 {
     let opened = open_file(file)?;
     match open_root(root) {

@@ -1,10 +1,10 @@
 //! Where a root fits in a file.
-ghost use Rattle.std.specs.Prelude.{◌≡◌, ◌+◌, ◌<◌, ◌≤◌, ◌^◌, ◌⊎◌, ◌↔◌, ℕ, IsTrue, IfOk, IfErr};
+ghost use Rattle.std.specs.Prelude.{◌≡◌, ◌+◌, ◌<◌, ◌≤◌, ◌^◌, ◌⊎◌, ◌↔◌, ℕ, IsTrue, IfErr, IfNone, IfOk, IfSome};
 ghost use Rattle.pe.specs.Headers.{section_count};
 ghost use Rattle.metadata.specs.SourceAt.{source_of};
 ghost use Rattle.file_ranges.specs.Fields.{virtual_address, raw_size, raw_offset, address_end, raw_end, headers_end};
 ghost use Rattle.embedding.specs.Slots.{target_of, address_before, HasSlot, HasRoom, IsNewSection, IsLongerSection, EndsFile, IsAligned, IsSlot, FitsAt};
-ghost use Rattle.embedding.specs.Errors.{IsNoFault};
+ghost use Rattle.embedding.specs.Errors.{IsMisfit};
 ghost use Rattle.embedding.specs.Planned.{IsOpened};
 
 use crate::error::EmbedError;
@@ -42,7 +42,7 @@ pub fn slot_of(file: &Opened, len: usize) -> Result<Slot, EmbedError>
     requires opened { IsOpened file.now.headers file.now }
     requires small { len ≤ 2 ^ 30 }
     ensures fits { IfOk result (FitsAt file.now.headers len file.now.header (source_of file.now.view)) }
-    ensures fault { IfErr result IsNoFault }
+    ensures misfit { IfErr result (IsMisfit file.now.headers len file.now.header (source_of file.now.view)) }
 {
     let header = &file.header;
     let headers = &file.headers;
@@ -54,11 +54,15 @@ pub fn slot_of(file: &Opened, len: usize) -> Result<Slot, EmbedError>
         return Err(EmbedError::NoRoom);
     }
     if has_room(headers, header) {
-        let (address, offset) = appended(headers)?;
-        in_range(file, len, Slot::Appended { address, offset })
+        match appended(headers) {
+            Some((address, offset)) => in_range(file, len, Slot::Appended { address, offset }),
+            None => Err(EmbedError::NoRoom),
+        }
     } else {
-        let within = extended(headers, header)?;
-        in_range(file, len, Slot::Extended { within })
+        match extended(headers, header) {
+            Some(within) => in_range(file, len, Slot::Extended { within }),
+            None => Err(EmbedError::NoRoom),
+        }
     }
 }
 
@@ -67,7 +71,7 @@ fn reused(file: &Opened, len: usize) -> Result<Slot, EmbedError>
     requires opened { IsOpened file.now.headers file.now }
     requires short { len ≤ file.now.header.metadata.size }
     ensures fits { IfOk result (FitsAt file.now.headers len file.now.header (source_of file.now.view)) }
-    ensures fault { IfErr result IsNoFault }
+    ensures misfit { IfErr result (IsMisfit file.now.headers len file.now.header (source_of file.now.view)) }
 {
     let header = &file.header;
     let is_found = match file.image.range(header.metadata.rva, len as u32) {
@@ -81,11 +85,11 @@ fn reused(file: &Opened, len: usize) -> Result<Slot, EmbedError>
     }
 }
 
-/// The address and the file offset of a new section (II.25.2.3.2, II.25.3).
-fn appended(headers: &Headers) -> Result<(u32, u32), EmbedError>
+/// The address and the file offset of a new section, if both are below 2^32 (II.25.2.3.2, II.25.3).
+fn appended(headers: &Headers) -> Option<(u32, u32)>
     requires { IsAligned headers.now }
-    ensures section { IfOk result (λ section. IsNewSection headers.now section.0 section.1) }
-    ensures fault { IfErr result IsNoFault }
+    ensures section { IfSome result (λ section. IsNewSection headers.now section.0 section.1) }
+    ensures none { IfNone result ((address offset : ℕ) → IsNewSection headers.now address offset → (2 ^ 32 ≤ address) ⊎ (2 ^ 32 ≤ offset)) }
 {
     let lowest = last_address(headers).max(headers.field(Field::ImageSize) as u64);
     let address = aligned(headers.field(Field::SectionAlignment), lowest);
@@ -94,9 +98,9 @@ fn appended(headers: &Headers) -> Result<(u32, u32), EmbedError>
         headers.file().len() as u64,
     );
     if address > u32::MAX as u64 || offset > u32::MAX as u64 {
-        return Err(EmbedError::NoRoom);
+        return None;
     }
-    Ok((address as u32, offset as u32))
+    Some((address as u32, offset as u32))
 }
 
 /// Whether there is room for one more section header (II.25.2.3.2, II.25.3).
@@ -141,32 +145,32 @@ fn last_address(headers: &Headers) -> u64
     last
 }
 
-/// The offset of the root in the last section, if that can be longer.
-fn extended(headers: &Headers, header: &CliHeader) -> Result<u32, EmbedError>
+/// The offset of the root in the last section, if that can be longer and the offset is below 2^32.
+fn extended(headers: &Headers, header: &CliHeader) -> Option<u32>
     requires { header.now.place ≤ 2 ^ 30 }
-    ensures section { IfOk result (IsLongerSection headers.now header.now) }
-    ensures fault { IfErr result IsNoFault }
+    ensures section { IfSome result (IsLongerSection headers.now header.now) }
+    ensures none { IfNone result ((within : ℕ) → IsLongerSection headers.now header.now within → 2 ^ 32 ≤ within) }
 {
     if headers.section_count() == 0 {
-        return Err(EmbedError::NoRoom);
+        return None;
     }
     let section = headers.last_section();
     let end = section.raw_end() as usize;
     if !are_before(headers, headers.section_count() - 1) || !ends_file(headers, end) {
-        return Err(EmbedError::NoRoom);
+        return None;
     }
     let within = aligned(ROOT_ALIGNMENT, section.full_size() as u64);
     if end < header.place + CLI_HEADER || within > u32::MAX as u64 {
-        return Err(EmbedError::NoRoom);
+        return None;
     }
-    Ok(within as u32)
+    Some(within as u32)
 }
 
 /// Whether all sections before the one at an index end before it in memory, and not after it in the file.
 fn are_before(headers: &Headers, index: usize) -> bool
     requires { index < section_count headers.now }
-    ensures memory { IsTrue result → (other : ℕ) → other < index → address_end headers.now other ≤ virtual_address headers.now index }
-    ensures bytes { IsTrue result → (other : ℕ) → other < index → raw_end headers.now other ≤ raw_end headers.now index }
+    ensures { IsTrue result ↔ ((other : ℕ) → other < index → (address_end headers.now other ≤ virtual_address headers.now index)
+        × (raw_end headers.now other ≤ raw_end headers.now index)) }
 {
     let last = headers.section(index);
     for other in 0..index {
@@ -183,7 +187,7 @@ fn are_before(headers: &Headers, index: usize) -> bool
 /// Whether the file ends at an offset, but for a certificate (II.25.2.3.3).
 fn ends_file(headers: &Headers, end: usize) -> bool
     requires { end < 2 ^ 33 }
-    ensures { IsTrue result → EndsFile headers.now end }
+    ensures { IsTrue result ↔ EndsFile headers.now end }
 {
     let len = headers.file().len();
     let directory = headers.certificate_offset();
@@ -196,10 +200,11 @@ fn ends_file(headers: &Headers, end: usize) -> bool
 fn in_range(file: &Opened, len: usize, slot: Slot) -> Result<Slot, EmbedError>
     requires opened { IsOpened file.now.headers file.now }
     requires small { len ≤ 2 ^ 30 }
+    requires longer { file.now.header.metadata.size < len }
     requires slot { IsSlot file.now.headers len file.now.header (source_of file.now.view) slot }
     requires alignments { IsAligned file.now.headers }
     ensures fits { IfOk result (FitsAt file.now.headers len file.now.header (source_of file.now.view)) }
-    ensures fault { IfErr result IsNoFault }
+    ensures misfit { IfErr result (IsMisfit file.now.headers len file.now.header (source_of file.now.view)) }
 {
     let headers = &file.headers;
     let target = target_of(headers, &file.header, len, slot);

@@ -1,5 +1,5 @@
 -- When the bytes that MetaData names have nothing but the metadata in them (ECMA-335 II.25).
-use Rattle.std.specs.Prelude.{◌≡◌, ◌≢◌, ℕ, ◌+◌, ◌-◌, ◌*◌, ◌%◌, ◌<◌, ◌≤◌, ◌⊎◌, List, [], ◌∷◌, length}
+use Rattle.std.specs.Prelude.{◌≡◌, ◌≢◌, ℕ, ◌+◌, ◌-◌, ◌*◌, ◌^◌, ◌%◌, ◌<◌, ◌≤◌, ◌⊎◌, List, [], ◌∷◌, length}
 use Rattle.packed.specs.Offsets.{part}
 use Rattle.pe.specs.Headers.{section_count, directory_count, optional_header_size, wider}
 use Rattle.cli_header.specs.declared.header.CliHeader.{CliHeader}
@@ -82,21 +82,32 @@ pub record IsValueApart (header : CliHeader) (source : Source) (rva : ℕ) (sign
   pub simple : IsApart header rva (signature_size signature)
   pub of_type : IsTypeApart header source rva (value_type signature)
 
--- the data of a row of FieldRVA (II.22.18)
+-- the data of a row of FieldRVA, whose field has a signature (II.22.18)
 pub record IsRowApart (header : CliHeader) (source : Source) (row : ℕ) : Type 0 where
-  pub apart : (signature : List ℕ) → IsBlob source.blobs (number_of source Field (number_of source FieldRVA row 1) 2) signature
-      → IsValueApart header source (number_of source FieldRVA row 0) signature
+  pub first : 1 ≤ number_of source FieldRVA row 1
+  pub last : number_of source FieldRVA row 1 ≤ rows_in source Field
+  pub signature : List ℕ
+  pub is_signature : IsBlob source.blobs (number_of source Field (number_of source FieldRVA row 1) 2) signature
+  pub apart : IsValueApart header source (number_of source FieldRVA row 0) signature
 
--- the data of each row of FieldRVA
-abbrev pub IsDataApart : CliHeader → Source → Type 0
-IsDataApart header source = (row : ℕ) → 1 ≤ row → row ≤ rows_in source FieldRVA → IsRowApart header source row
+-- the data of each row of FieldRVA; nothing is known of it if the product of the rows that are looked at is too large
+pub record IsDataApart (header : CliHeader) (source : Source) : Type 0 where
+  pub few : rows_in source FieldRVA * rows_in source ClassLayout ≤ 2 ^ 26
+  pub apart : (row : ℕ) → 1 ≤ row → row ≤ rows_in source FieldRVA → IsRowApart header source row
 
--- the address of a section that has all of the metadata (II.25.3)
-abbrev pub IsLowest : CliHeader → List ℕ → ℕ → Type 0
-IsLowest header file lowest =
-    (index : ℕ) × (index < section_count file) × (lowest ≡ virtual_address file index) × (lowest ≤ header.metadata.rva)
-    × (header.metadata.rva + header.metadata.size ≤ lowest + raw_size file index)
-    × (lowest + header.root.start ≡ header.metadata.rva + raw_offset file index)
+-- a section has all of the metadata, at its address and its file offset (II.25.3)
+pub record HasMetadata (header : CliHeader) (file : List ℕ) (index : ℕ) : Type 0 where
+  pub begin : virtual_address file index ≤ header.metadata.rva
+  pub «end» : header.metadata.rva + header.metadata.size ≤ virtual_address file index + raw_size file index
+  pub offset : virtual_address file index + header.root.start ≡ header.metadata.rva + raw_offset file index
+
+-- the address of the first section that has all of the metadata
+pub record IsLowest (header : CliHeader) (file : List ℕ) (lowest : ℕ) : Type 0 where
+  pub index : ℕ
+  pub counted : index < section_count file
+  pub address : lowest ≡ virtual_address file index
+  pub has : HasMetadata header file index
+  pub first : (earlier : ℕ) → earlier < index → ¬ HasMetadata header file earlier
 
 -- nothing of the file but the metadata is in the range that MetaData names
 pub record IsFree (header : CliHeader) (file : List ℕ) (source : Source) : Type 0 where

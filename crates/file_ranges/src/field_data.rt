@@ -1,5 +1,5 @@
 //! The data of fields with an RVA (II.22.18).
-ghost use Rattle.std.specs.Prelude.{◌≡◌, ◌≤◌, ◌<◌, IsTrue};
+ghost use Rattle.std.specs.Prelude.{◌≡◌, ◌↔◌, ◌≤◌, ◌<◌, IsTrue};
 ghost use Rattle.table_schema.specs.declared.table.TableId.TheVariants.{FieldRVA};
 ghost use Rattle.metadata.specs.Source.{rows_in};
 ghost use Rattle.file_ranges.specs.FieldData.{simple_size, value_type, signature_size};
@@ -20,7 +20,7 @@ const LOOK_UPS: u64 = 1 << 26;
 
 /// Whether the data of all fields is apart from the metadata (II.22.18).
 pub fn is_data_apart(header: &CliHeader, source: &Source) -> bool
-    ensures { IsTrue result → IsDataApart header.now source.now.source }
+    ensures { IsTrue result ↔ IsDataApart header.now source.now.source }
 {
     let count = source.count(TableId::FieldRVA);
     if count as u64 * source.count(TableId::ClassLayout) as u64 > LOOK_UPS {
@@ -38,7 +38,7 @@ pub fn is_data_apart(header: &CliHeader, source: &Source) -> bool
 fn is_row_apart(header: &CliHeader, source: &Source, row: u32) -> bool
     requires first { 1 ≤ row }
     requires last { row ≤ rows_in source.now.source FieldRVA }
-    ensures { IsTrue result → IsRowApart header.now source.now.source row }
+    ensures { IsTrue result ↔ IsRowApart header.now source.now.source row }
 {
     let rva = source.number(TableId::FieldRVA, row, 0);
     let field = source.number(TableId::FieldRVA, row, 1);
@@ -54,7 +54,7 @@ fn is_row_apart(header: &CliHeader, source: &Source, row: u32) -> bool
 
 /// Whether the data at an address of a field with this signature is apart from the metadata.
 fn is_value_apart(header: &CliHeader, source: &Source, rva: u32, signature: &[u8]) -> bool
-    ensures { IsTrue result → IsValueApart header.now source.now.source rva signature.now }
+    ensures { IsTrue result ↔ IsValueApart header.now source.now.source rva signature.now }
 {
     is_apart(header, rva, signature_size(signature))
         && is_type_apart(header, source, rva, value_type(signature))
@@ -62,7 +62,7 @@ fn is_value_apart(header: &CliHeader, source: &Source, rva: u32, signature: &[u8
 
 /// Whether data of the type in this row of TypeDef is apart from the metadata, by its rows of ClassLayout (II.22.8).
 fn is_type_apart(header: &CliHeader, source: &Source, rva: u32, row: u32) -> bool
-    ensures { IsTrue result → IsTypeApart header.now source.now.source rva row }
+    ensures { IsTrue result ↔ IsTypeApart header.now source.now.source rva row }
 {
     for layout in 1..source.count(TableId::ClassLayout) + 1 {
         let size = source.number(TableId::ClassLayout, layout, 1);

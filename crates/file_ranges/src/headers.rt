@@ -115,6 +115,7 @@ impl<'a> Headers<'a> {
     /// The number of data directories that are counted and end within the optional header (II.25.2.3.3).
     pub fn directory_count(&self) -> usize
         ensures within { 96 + wider self.now + 8 * result ≤ optional_header_size self.now }
+        ensures counted { result ≤ directory_count self.now }
         ensures all { (index : ℕ) → index < directory_count self.now → 104 + wider self.now + 8 * index ≤ optional_header_size self.now → index < result }
     {
         let counted = u32_at(self.file, self.lfanew + 116 + self.wider) as usize;

@@ -7,9 +7,7 @@ pub loop-other-preserved : goal.loop-other-preserved
 loop-other-preserved c =
     let file = c.args.headers.now in
     let last = c.args.index in
-    let other = c.loop-other.other in
     let of_last = c.section-last.ensures in
-    let of_other = c.section-section.ensures in (
-      below_more (λ (k : ℕ). address_end file k ≤ virtual_address file last) other c.loop-other.invariant.0 (omega arith),
-      below_more (λ (k : ℕ). raw_end file k ≤ raw_end file last) other c.loop-other.invariant.1 (omega arith),
-    )
+    let of_other = c.section-section.ensures in
+    below_more (λ (k : ℕ). (address_end file k ≤ virtual_address file last) × (raw_end file k ≤ raw_end file last)) c.loop-other.other c.loop-other.invariant
+    (omega arith, omega arith)

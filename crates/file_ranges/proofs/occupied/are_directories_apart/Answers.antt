@@ -1,4 +1,4 @@
-use Rattle.std.proofs.Common.{rules, ℕ, arith}
+use Rattle.std.proofs.Common.{rules, refl, ℕ, arith}
 use borrow.Author.Count.{below_more}
 use Rattle.file_ranges.specs.Occupied.{IsDirectoryApart}
 use Rattle.file_ranges.proofs.occupied.are_directories_apart.Goals as goal
@@ -9,6 +9,9 @@ loop-index-preserved c =
     below_more (λ (k : ℕ). IsDirectoryApart c.args.header.now c.args.headers.now k) c.loop-index.index c.loop-index.invariant here
 
 pub returns : goal.returns
-returns c = λ yes index below counted fits.
-    let there = c.directory_count.ensures.all index counted fits in
-    c.loop-index.invariant index (omega (arith, c.min-index-end.ensures))
+returns c = (
+  λ yes index below counted fits.
+      let there = c.directory_count.ensures.all index counted fits in
+      c.loop-index.invariant index (omega (arith, c.min-index-end.ensures)),
+  λ all. refl,
+)
