@@ -1,6 +1,8 @@
 -- Heaps that differ in zeros at their ends.
-use Rattle.std.proofs.Common.{◌≡◌, ℕ, ◌+◌, ◌-◌, ◌%◌, ◌/◌, ◌≤◌, min, List, ◌++◌, length, take, drop, replicate, sym, ap, ◌∙◌, arith, append_assoc}
-use Rattle.std.proofs.lemmas.List.{take-append-drop, length-drop, length-take, replicate-append-replicate}
+use Rattle.std.proofs.Common.{◌≡◌, ℕ, ◌+◌, ◌-◌, ◌%◌, ◌/◌, ◌≤◌, inl, inr, min, List, [], ◌++◌, length, take, drop, replicate, refl, sym, ap, subst, ◌∙◌, arith, append_assoc, length-append}
+use Rattle.std.proofs.Math.Seq.{take-append_seam}
+use Rattle.std.proofs.lemmas.Bool.{cases_lt}
+use Rattle.std.proofs.lemmas.List.{take-append-drop, take-append-le, take-replicate, drop-append-le, drop_all, length-drop, length-take, length-replicate, replicate-append-replicate}
 use Rattle.packed.specs.Offsets.{part}
 use Rattle.heap_entries.specs.Padding.{zero_padded}
 
@@ -24,6 +26,47 @@ padded_alike left right count in_left in_right same begin left_zeros right_zeros
     ∙ ap (λ (l : List ℕ). l ++ replicate (length left - count + (4 - length left % 4) % 4) 0) begin
     ∙ ap (λ (n : ℕ). take count right ++ replicate n 0) (omega arith)
     ∙ sym (zeros_joined right count in_right right_zeros)
+
+-- what comes before zeros that are zeros as a whole
+front_zeros : (xs ys : List ℕ) (n : ℕ) → xs ++ ys ≡ replicate n 0 → xs ≡ replicate (length xs) 0
+front_zeros xs ys n all =
+    let long : length xs + length ys ≡ n = omega (arith, length-append xs ys, ap length all, length-replicate {A = ℕ} n 0) in
+    sym (take-append_seam xs ys) ∙ ap (take (length xs)) all ∙ take-replicate (length xs) n 0 (omega (arith, long))
+
+-- heaps that are padded to the same bytes differ in zeros at their ends alone
+pub zeros_after : (left right : List ℕ) (count : ℕ) → zero_padded left ≡ zero_padded right → count ≡ min (length left) (length right)
+    → drop count left ≡ replicate (length (drop count left)) 0
+zeros_after left right count same is =
+    let pad = (4 - length left % 4) % 4 in
+    let other = (4 - length right % 4) % 4 in
+    let ends : drop count left ++ replicate pad 0 ≡ drop count right ++ replicate other 0 =
+    sym (drop-append-le count left (replicate pad 0) (omega arith)) ∙ ap (drop count) same ∙ drop-append-le count right (replicate other 0) (omega arith) in
+    elim (cases_lt (length right) (length left)) as (λ _. drop count left ≡ replicate (length (drop count left)) 0) [
+      | inl shorter ↦
+          let none : drop count right ≡ [] = drop_all count right (omega arith) in
+          front_zeros (drop count left) (replicate pad 0) other (ends ∙ ap (λ (l : List ℕ). l ++ replicate other 0) none)
+      | inr longer ↦
+          let none : drop count left ≡ [] = drop_all count left (omega arith) in
+          subst (λ (l : List ℕ). l ≡ replicate (length l) 0) (sym none) refl
+    ]
+
+-- heaps that are padded to the same bytes begin with the same bytes
+pub same_begin : (left right : List ℕ) (count : ℕ) → zero_padded left ≡ zero_padded right → count ≡ min (length left) (length right)
+    → take count left ≡ take count right
+same_begin left right count same is =
+    sym (take-append-le count left (replicate ((4 - length left % 4) % 4) 0) (omega arith))
+    ∙ ap (take count) same
+    ∙ take-append-le count right (replicate ((4 - length right % 4) % 4) 0) (omega arith)
+
+-- heaps that are padded to the same bytes have as many times four bytes
+pub same_fours : (left right : List ℕ) → zero_padded left ≡ zero_padded right
+    → length left / 4 + min 1 (length left % 4) ≡ length right / 4 + min 1 (length right % 4)
+same_fours left right same =
+    let pad = (4 - length left % 4) % 4 in
+    let other = (4 - length right % 4) % 4 in
+    let long : length left + pad ≡ length right + other =
+    omega (arith, ap length same, length-append left (replicate pad 0), length-append right (replicate other 0), length-replicate {A = ℕ} pad 0, length-replicate {A = ℕ} other 0) in
+    omega (arith, long)
 
 -- bytes that are zeros, by their begin and end
 pub zeros_at : (file : List ℕ) (start stop count : ℕ) → count ≡ stop - start → start + count ≤ length file

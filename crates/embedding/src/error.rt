@@ -43,6 +43,18 @@ impl From<AllocError> for EmbedError {
     }
 }
 
+impl From<Fault> for EmbedError {
+    ghost use Rattle.std.specs.Prelude.{◌≡◌};
+    ghost use Rattle.embedding.specs.declared.error.EmbedError.TheVariants.{File};
+
+    ghost from_gives = { λ fault error. error ≡ File fault };
+
+    /// A fault of the file.
+    fn from(fault: Fault) -> Self {
+        EmbedError::File(fault)
+    }
+}
+
 impl EmbedError {
     /// The number of the reason, from 1, for languages without enums.
     pub fn number(self) -> u8 {

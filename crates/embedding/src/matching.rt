@@ -42,7 +42,13 @@ fn are_padded_alike(left: &[u8], right: &[u8]) -> bool
     let count = left.len().min(right.len());
     let (left, left_tail) = left.split_at(count);
     let (right, right_tail) = right.split_at(count);
-    left == right && are_zeros(left_tail) && are_zeros(right_tail)
+    if left != right {
+        return false;
+    }
+    if !are_zeros(left_tail) {
+        return false;
+    }
+    are_zeros(right_tail)
 }
 
 /// Whether all bytes are 0.

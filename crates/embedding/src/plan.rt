@@ -19,6 +19,7 @@ use crate::strong_name::StrongName;
 use cli_header::{CliHeader, read_cli};
 use file_ranges::Headers;
 use opening::{open_image, open_root};
+use packed::Fault;
 use pe::read_pe;
 use std::alloc::{AllocError, Global};
 use std::marker::Model;
@@ -108,24 +109,24 @@ impl<'a> EmbedPlan<'a> {
 }
 
 /// Opens a file for another root.
-pub(crate) fn open_file(file: &[u8]) -> Result<Opened<'_>, EmbedError>
+pub(crate) fn open_file(file: &[u8]) -> Result<Opened<'_>, Fault>
     ensures opened { IfOk result (IsOpened file.now) }
     ensures model { (header : Header) (model : Metadata) → IsModelOfFile file.now header model → IfOk result (λ opened. IsModel opened.view model) }
-    ensures fault { IfErr result (MatchFault (FirstBroken (rules_of_file file.now)) (λ _. ⊥)) }
+    ensures fault { IfErr result (FirstBroken (rules_of_file file.now)) }
 {
     pe::laws::images_are_read();
     cli_header::laws::headers_are_read();
     let view = match open_image(file) {
         Ok((_, view)) => view,
-        Err(fault) => return Err(EmbedError::File(fault)),
+        Err(fault) => return Err(fault),
     };
     let image = match read_pe(file) {
         Ok(image) => image,
-        Err(fault) => return Err(EmbedError::File(fault)),
+        Err(fault) => return Err(fault),
     };
     let header = match read_cli(&image) {
         Ok(header) => header,
-        Err(fault) => return Err(EmbedError::File(fault)),
+        Err(fault) => return Err(fault),
     };
     Ok(Opened {
         image,

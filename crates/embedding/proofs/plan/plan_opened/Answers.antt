@@ -1,8 +1,10 @@
 use Rattle.std.proofs.Common.{List, ℕ, length, subst, arith}
+use Rattle.std.proofs.lemmas.Result.{err_from_is_err_and}
 use Rattle.metadata.specs.SourceAt.{source_of}
 use Rattle.embedding.specs.Matching.{LeadsAlike}
 use Rattle.embedding.specs.Slots.{FitsAt}
 use Rattle.embedding.specs.Planned.{Planned, IsPlanned}
+use Rattle.embedding.proofs.Misfits.{misfit_is_reason}
 use Rattle.embedding.proofs.Results.{embedded_of}
 use Rattle.embedding.proofs.plan.plan_opened.Goals as goal
 
@@ -41,3 +43,10 @@ invariant_of-result c = record { planned = is_planned c; target = c.target_of-ta
 pub returns-clause-sound : goal.returns-clause-sound
 unfolding planned
 returns-clause-sound c = embedded_of (planned c) (is_planned c)
+
+pub returns-in_err-slot-clause-refused : goal.returns-in_err-slot-clause-refused
+returns-in_err-slot-clause-refused c =
+    let opened = c.requires.opened in
+    let p = err_from_is_err_and c.from_residual.result c.from_residual.ensures.1 in
+    rw (p.1, p.2) (misfit_is_reason c.args.file.headers c.args.root.now c.args.file.view c.args.file.header opened.header.header_is opened.view c.in_err-slot.field-0.0
+    c.in_err-slot.ensures.misfit)
