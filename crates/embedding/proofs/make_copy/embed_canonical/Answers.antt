@@ -1,10 +1,16 @@
-use Rattle.std.proofs.Common.{◌≡◌, List, ℕ, length, subst, sym, ap, ◌∙◌, arith}
+use Rattle.std.proofs.Common.{◌≡◌, ◌<◌, inl, inr, List, ℕ, length, refl, subst, sym, ap, ◌∙◌, arith}
+use Rattle.std.proofs.lemmas.Result.{err_from_is_err_and}
 use Rattle.std.proofs.Math.Logic.{∥∥₁_map}
+use Rattle.std.specs.Bool.{⊤}
+use Rattle.packed.specs.Limit.{byte_limit}
+use Rattle.writer.specs.declared.error.WriteError.{WriteError}
+use Rattle.writer.specs.Errors.{MatchError}
 use Rattle.metadata.specs.Metadata.{Metadata}
 use Rattle.metadata.specs.Model.{IsModel}
 use Rattle.opening.specs.Views.{user_of}
 use Rattle.root_writer.specs.Canonical.{canonical}
 use Rattle.embedding.specs.Embedded.{IsEmbedded}
+use Rattle.embedding.specs.Errors.{IsReason}
 use Rattle.embedding.specs.Planned.{result_of}
 use Rattle.embedding.proofs.Canonical.{AreRead, leads}
 use Rattle.embedding.proofs.make_copy.embed_canonical.Goals as goal
@@ -49,3 +55,20 @@ returns-clause-model c = λ header model is.
     c.canonical_root_has_its_model.ensures model (c.models_of_roots_are_valid.ensures c.in_ok-opened.opened.view model of_view) (omega (arith, ap length root)) in
     c.embedded_roots_are_found.ensures c.args.strong_name c.args.file.now (canonical model) c.in_ok-make.field-0.items model (λ k. omega (arith, c.type_inv.file k))
     (is_embedded c model of_view) of_root
+
+pub returns-in-Err-TooLarge-clause-refused : goal.returns-in-Err-TooLarge-clause-refused
+returns-in-Err-TooLarge-clause-refused c = λ header model is.
+    let refused = c.in-Err-TooLarge.ensures.refused model (c.in_ok-opened.ensures.model header model is) in
+    let long : byte_limit < length (canonical model) =
+    subst (λ (e : WriteError). MatchError (byte_limit < length (canonical model)) ⊤ (λ given. ⊥) e) c.in-Err-TooLarge.field-0-is refused in
+    inr (inl (refl, long))
+
+pub returns-in_err-plan-clause-refused : goal.returns-in_err-plan-clause-refused
+returns-in_err-plan-clause-refused c = λ header model is.
+    let error = c.in_err-plan.field-0.0 in
+    let root : c.bytes.result.now ≡ canonical model = c.bytes.ensures ∙ c.in-Ok.ensures.root model (c.in_ok-opened.ensures.model header model is) in
+    let reason : IsReason c.args.file.now (canonical model) error =
+    subst (λ (bytes : List ℕ). IsReason c.args.file.now bytes error) root
+    (subst (λ (file : List ℕ). IsReason file c.bytes.result.now error) c.in_ok-opened.ensures.opened.headers c.in_err-plan.ensures.refused) in
+    let p = err_from_is_err_and c.from_residual-in_err-plan.result c.from_residual-in_err-plan.ensures.1 in
+    rw (p.1, p.2) (inr (inr reason))

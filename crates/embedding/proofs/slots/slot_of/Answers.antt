@@ -16,5 +16,5 @@ returns-in-None-extended-clause-misfit c =
     let file = c.args.file.now in (
       omega arith,
       no_longer_section file.headers c.args.len file.header (source_of file.view) (omega arith)
-      (λ room. false≢true (sym c.if-has_room.false ∙ c.has_room.ensures.1 room)) c.in-None-extended.ensures.none,
+          (λ room. false≢true (sym c.if-has_room.false ∙ c.has_room.ensures.1 room)) c.in-None-extended.ensures.none,
     )

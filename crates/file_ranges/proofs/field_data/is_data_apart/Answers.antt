@@ -14,11 +14,11 @@ loop-row-preserved c = λ k first below.
 pub returns : goal.returns
 returns c =
     let source = c.args.source.now.source in (
-  λ yes. record {
-    few =
-        subst (λ (n : ℕ). n * rows_in source ClassLayout ≤ 2 ^ 26) c.count-count.ensures.value
-        (subst (λ (n : ℕ). c.count-count.result * n ≤ 2 ^ 26) c.count.ensures.value (omega (arith, c.if-count-gt-LOOK_UPS.false)));
-    apart = λ row first last. c.loop-row.invariant row first (omega (arith, c.count-count.ensures.value));
-  },
-  λ apart. refl,
-)
+      λ yes. record {
+        few =
+            subst (λ (n : ℕ). n * rows_in source ClassLayout ≤ 2 ^ 26) c.count-count.ensures.value
+            (subst (λ (n : ℕ). c.count-count.result * n ≤ 2 ^ 26) c.count.ensures.value (omega (arith, c.if-count-gt-LOOK_UPS.false)));
+        apart = λ row first last. c.loop-row.invariant row first (omega (arith, c.count-count.ensures.value));
+      },
+      λ apart. refl,
+    )
