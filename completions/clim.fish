@@ -1,6 +1,6 @@
 # Completions of clim for fish.
 
-set -l readers root check show types outline strings token where rewrite digest compare
+set -l readers root check show types outline strings token where rewrite embed digest compare
 set -l subcommands $readers explain help
 
 complete -c clim -f
@@ -15,13 +15,14 @@ complete -c clim -n "not __fish_seen_subcommand_from $subcommands" -a strings -d
 complete -c clim -n "not __fish_seen_subcommand_from $subcommands" -a token -d 'Print the row or the user string that each token names'
 complete -c clim -n "not __fish_seen_subcommand_from $subcommands" -a where -d 'Print what the byte at an offset belongs to: a header, a stream or a cell'
 complete -c clim -n "not __fish_seen_subcommand_from $subcommands" -a rewrite -d 'Write the canonical metadata root of a file'
+complete -c clim -n "not __fish_seen_subcommand_from $subcommands" -a embed -d 'Write a copy of a file with its canonical metadata root, or with another'
 complete -c clim -n "not __fish_seen_subcommand_from $subcommands" -a digest -d 'Print the SHA-256 digest of the canonical metadata root of each file'
 complete -c clim -n "not __fish_seen_subcommand_from $subcommands" -a compare -d 'Compare the metadata of two files'
 complete -c clim -n "not __fish_seen_subcommand_from $subcommands" -a explain -d 'Explain faults, or list all'
 complete -c clim -n "not __fish_seen_subcommand_from $subcommands" -a help -d 'Print this message or the help of the given subcommand(s)'
 complete -c clim -n "__fish_seen_subcommand_from $readers" -F
-complete -c clim -n "__fish_seen_subcommand_from $readers" -l bare -d 'FILE is a metadata root, not a PE file'
-complete -c clim -n "__fish_seen_subcommand_from root check show types outline strings token where digest compare explain" -l json -d 'Print a JSON value on each line'
+complete -c clim -n "__fish_seen_subcommand_from root check show types outline strings token where rewrite digest compare" -l bare -d 'FILE is a metadata root, not a PE file'
+complete -c clim -n "__fish_seen_subcommand_from root check show types outline strings token where embed digest compare explain" -l json -d 'Print a JSON value on each line'
 complete -c clim -n "__fish_seen_subcommand_from check" -l budget -x -d 'Check at most N bytes of signatures, or stop with exit status 3'
 complete -c clim -n "__fish_seen_subcommand_from check" -l files-from -x -a - -d 'Read the names of the files from standard input, each ended by a NUL'
 complete -c clim -n "__fish_seen_subcommand_from check" -s 0 -d "The same as '--files-from -'"
@@ -29,6 +30,8 @@ complete -c clim -n "__fish_seen_subcommand_from check" -s q -l quiet -d 'Print 
 complete -c clim -n "__fish_seen_subcommand_from check" -l where -d 'Print what has the byte at the offset of the fault, and explain the fault'
 complete -c clim -n "__fish_seen_subcommand_from show" -l names -d 'Print the name of each column before its cell'
 complete -c clim -n "__fish_seen_subcommand_from show" -l until-fault -d 'Print the rows before the first fault, too, and then the fault'
+complete -c clim -n "__fish_seen_subcommand_from embed" -l root -r -F -d 'A metadata root to take instead of the canonical one'
+complete -c clim -n "__fish_seen_subcommand_from embed" -l unsigned -d 'Clear the strong name: its flag and its directory'
 complete -c clim -n "__fish_seen_subcommand_from compare" -l ignore -x -d 'Do not compare the cells of this column'
 complete -c clim -n "__fish_seen_subcommand_from explain" -a "(clim explain | string replace -r '^(\d+)[ :]+' '\$1\t')"
 complete -c clim -n "__fish_seen_subcommand_from help" -a "$readers explain help"

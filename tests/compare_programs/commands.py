@@ -83,7 +83,7 @@ COMMANDS = """
 """
 CHOICES = [tuple(it.split(" ", 1)) for it in COMMANDS.strip().splitlines()]
 # Commands that are run once. The last one is as long as reading 2^30 bytes takes.
-SUBCOMMANDS = ["root", "check", "show", "types", "outline", "strings", "token", "where", "rewrite", "digest", "compare", "explain", "help"]
+SUBCOMMANDS = ["root", "check", "show", "types", "outline", "strings", "token", "where", "rewrite", "embed", "digest", "compare", "explain", "help"]
 ONCE = [
     [], ["--help"], ["-h"], ["help"], ["--version"], ["-V"], ["explain"], ["help", "help"], ["help", "chekc"], ["help", "root", "x"], ["explain", "--json"],
     *([it, "--help"] for it in SUBCOMMANDS), *([it, "-h"] for it in SUBCOMMANDS), *(["help", it] for it in SUBCOMMANDS),

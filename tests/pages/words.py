@@ -63,7 +63,7 @@ FIXED_IN = {
 }
 # Forms of code that end with a name which is fixed there.
 FIXED_FORMS = [
-    r"\bplace(?= = (?:header_offset|reported\.(?:header_)?offset|header\.place)\b)",
+    r"\bplace(?= = (?:record|header_offset|reported\.(?:header_)?offset|header\.place)\b)",
     # The fields StreamHeader::place and CliHeader::place, and the method Rows::place.
     r"\.place\b",
     r"\bfn place(?=\()",

@@ -1,5 +1,5 @@
 -- What a run of the program does with its arguments, and with what reading FILE gave.
-use Rattle.std.specs.Prelude.{◌≡◌, ◌≢◌, ℕ, List, ◌⊎◌, map, Option, Result, Ok, Err, MatchResult}
+use Rattle.std.specs.Prelude.{◌≡◌, ◌≢◌, ℕ, List, ◌⊎◌, map, Option, option_map, Result, Ok, Err, MatchResult}
 use Rattle.packed.specs.declared.code.FaultCode.{FaultCode}
 use Rattle.clap.specs.Words.{IsAmong, Text, fault_of}
 use Rattle.clap.specs.declared.error.kind.ErrorKind.{ErrorKind}
@@ -12,6 +12,7 @@ use Rattle.cli_faults.specs.Status.{status_of}
 use Rattle.cli_files.specs.Stopped.{Outcome, status_of_outcome}
 use Rattle.cli_lines.specs.declared.parts.Form.{Form}
 use Rattle.cli_runs.specs.Compared.{IsComparing}
+use Rattle.cli_runs.specs.Embedded.{IsEmbedding, IsRootRun}
 use Rattle.cli_runs.specs.Rewritten.{IsRewriting}
 use Rattle.cli_runs.specs.Runs.{IsExplained, IsFileRun, IsMixed, IsRunOn, IsRunOnList}
 use Rattle.cli.specs.Tasks.{IsTask, form_of, input_of}
@@ -27,6 +28,15 @@ status_of_run (Err failure) = status_of failure
 abbrev pub IsExplaining : Form → List FaultCode → Option (List ℕ) → Option (List ℕ) → ℕ → Type 0
 IsExplaining form rules before after status = (result : Result (Unit {0}) Failure) × IsExplained form rules before after result × (status ≡ status_of_run result)
 
+-- only `embed` may warn of something and succeed
+abbrev pub MayWarn : Task → Type 0
+MayWarn (task.Embed file options) = Unit {0}
+MayWarn _ = ⊥
+
+-- the arguments ask for a task that may warn
+abbrev pub AsksToWarn : Ask → Type 0
+AsksToWarn ask = (made : Task) × IsTask ask.subcommand ask (Ok made) × MayWarn made
+
 module _ {W : Type 0} (contents : W → Option (List ℕ)) (before after : W) where
   -- a run ends with this exit code
   abbrev pub EndsWith : (Outcome → Type 0) → ℕ → Type 0
@@ -39,6 +49,10 @@ module _ {W : Type 0} (contents : W → Option (List ℕ)) (before after : W) wh
   IsRunOf file_contents (task.Rewrite file out) ask status =
       EndsWith (λ outcome. IsFileRun before after file.now (λ bytes. IsRewriting contents file_contents before after (input_of ask.bare) bytes out.now) outcome
       ⊎ IsMixed before after out.now outcome) status
+  IsRunOf file_contents (task.Embed file options) ask status =
+      EndsWith (λ outcome. IsFileRun before after file.now (λ bytes. IsRootRun before after (option_map (λ path. path.now) options.root)
+      (IsEmbedding contents file_contents before after options.form options.strong_name bytes options.path.now)) outcome
+      ⊎ IsMixed before after options.path.now outcome) status
   IsRunOf file_contents (task.Compare file other options) ask status =
       EndsWith (IsFileRun before after file.now (λ left. IsFileRun before after other.now
       (λ right. IsComparing contents before after options.form options.ignored options.input left right file.now other.now))) status

@@ -5,6 +5,8 @@ use Rattle.std.specs.Borrow.{Bor}
 use Rattle.std.specs.Str.{bytes_eq}
 use Rattle.std.specs.Str.Parse.{digits_value}
 use Rattle.packed.specs.declared.code.FaultCode.{FaultCode}
+use Rattle.embedding.specs.declared.strong_name.StrongName.{StrongName}
+use Rattle.embedding.specs.declared.strong_name.StrongName.TheVariants.{Keep, Clear}
 use Rattle.cli_arguments.specs.declared.asked.Ask.{Ask}
 use Rattle.cli_arguments.specs.declared.asked.Subcommand.{Subcommand}
 use Rattle.cli_arguments.specs.declared.asked.Subcommand.TheVariants as word
@@ -186,11 +188,31 @@ IsWhere second result =
 
 -- ---- the other tasks
 
--- the task of `rewrite`, whose OUT may not be `-`
+-- the file to read and the file to write, which may not be `-`
+abbrev pub paths_of : Option (Bor (List ℕ)) → Option (Bor (List ℕ)) → Result (Bor (List ℕ) × Bor (List ℕ)) Failure
+paths_of file None = Err (failed.Usage wrong.NoFile)
+paths_of None (Some out) = Err (failed.Usage (if bytes_eq out.now (codes "-") then wrong.OutputIsDash else wrong.NoFile))
+paths_of (Some file) (Some out) = if bytes_eq out.now (codes "-") then Err (failed.Usage wrong.OutputIsDash) else Ok (file, out)
+
+-- the task on a file to read and a file to write
+abbrev pub task_on : (Bor (List ℕ) → Bor (List ℕ) → Task) → Result (Bor (List ℕ) × Bor (List ℕ)) Failure → Result Task Failure
+task_on of (Ok paths) = Ok (of paths.0 paths.1)
+task_on of (Err failure) = Err failure
+
+-- the task of `rewrite`
 abbrev pub rewrite_task : Option (Bor (List ℕ)) → Option (Bor (List ℕ)) → Result Task Failure
-rewrite_task file None = Err (failed.Usage wrong.NoFile)
-rewrite_task None (Some out) = Err (failed.Usage (if bytes_eq out.now (codes "-") then wrong.OutputIsDash else wrong.NoFile))
-rewrite_task (Some file) (Some out) = if bytes_eq out.now (codes "-") then Err (failed.Usage wrong.OutputIsDash) else Ok (task.Rewrite file out)
+rewrite_task file out = task_on task.Rewrite (paths_of file out)
+
+-- what becomes of the strong name, by whether the arguments have `--unsigned`
+abbrev pub strong_name_of : Bool → StrongName
+strong_name_of true = Clear
+strong_name_of false = Keep
+
+-- the task of `embed`
+abbrev pub embed_task : Ask → Result Task Failure
+embed_task ask =
+    task_on (λ file path. task.Embed file (record { path = path; root = ask.root; strong_name = strong_name_of ask.unsigned; form = form_of ask.json }))
+    (paths_of ask.file ask.second)
 
 -- the task is to compare these files, besides the columns that the arguments name; else the failure reports the first
 -- argument that names none
@@ -241,6 +263,7 @@ IsTask word.Strings ask result = result ≡ report_task ask (Ok report.Strings)
 IsTask word.Token ask result = IsReportTask ask (IsTokens ask.tokens.items) result
 IsTask word.Where ask result = IsReportTask ask (IsWhere ask.second) result
 IsTask word.Rewrite ask result = result ≡ rewrite_task ask.file ask.second
+IsTask word.Embed ask result = result ≡ embed_task ask
 IsTask word.Digest ask result = result ≡ report_task ask (Ok report.Digest)
 IsTask word.Compare ask result = IsCompareTask ask result
 IsTask word.Explain ask result = IsExplainTask ask.codes.items result

@@ -1,9 +1,11 @@
 //! A run of the program, from its arguments to the exit code.
-ghost use Rattle.std.specs.Prelude.{◌≡◌, ◌≢◌, ◌≤◌, map};
+ghost use Rattle.std.specs.Prelude.{◌≡◌, ◌≢◌, ◌≤◌, ◌⊎◌, map};
 ghost use Rattle.std.specs.IoError.{error_kind};
 ghost use Rattle.std.specs.declared.io.ErrorKind.TheVariants as cause;
 ghost use Rattle.clap.specs.Words.{kind_of};
-ghost use Rattle.cli.specs.Runs.{Does, IsExplaining, IsRunOf, IsUsage, Ran};
+ghost use Rattle.cli_arguments.specs.Asked.{Gives};
+ghost use Rattle.cli_arguments.specs.declared.asked.Ask.{Ask as Asked};
+ghost use Rattle.cli.specs.Runs.{AsksToWarn, Does, IsExplaining, IsRunOf, IsUsage, MayWarn, Ran};
 
 use crate::task::{Task, form_of, input_of, task_of};
 use crate::usage_text::usage_text;
@@ -12,7 +14,7 @@ use cli_arguments::{Ask, ask};
 use cli_faults::printed;
 use cli_files::{Stopped, out_of_memory, status};
 use cli_lines::Form;
-use cli_runs::{compare_files, explain_rules, rewrite_file, run_files, run_listed};
+use cli_runs::{compare_files, embed_file, explain_rules, rewrite_file, run_files, run_listed};
 use packed::FaultCode;
 use std::alloc::Global;
 use std::io::{self, Write};
@@ -22,7 +24,8 @@ use std::rt::Files;
 ///
 /// - 0: success, or help or the version was printed;
 /// - 1: the file breaks a rule of the standard, reported as `fault LAYER CODE at OFFSET: NAME`; or it has nothing that
-///   the token names, no such type, or nothing at the offset; or its canonical root is too long; or two files that are compared differ;
+///   the token names, no such type, or nothing at the offset; or its canonical root is too long; or two files that are
+///   compared differ; or a root does not fit into the file;
 /// - 2: usage error; no file was read;
 /// - 3: I/O error, out of memory, or budget spent.
 ///
@@ -40,8 +43,8 @@ pub fn go<R: Files + Input + AllocGlobal, W: Write, E: Write>(
     // It does what the arguments ask for, with what reading the files gave. The exit code and the output are those of
     // that run.
     ensures run { Ran W.contents out.old out.new R.File.contents (map (λ word. word.now) words.now) result }
-    // If it succeeds, nothing goes to `err`.
-    ensures quiet { result ≡ 0 → err.new ≡ err.old }
+    // If it succeeds, nothing goes to `err`, unless it is `embed`.
+    ensures quiet { result ≡ 0 → (err.new ≡ err.old) ⊎ ((given : Asked) × Gives (map (λ word. word.now) words.now) given × AsksToWarn given) }
 {
     match ask(rt.alloc(), &*words) {
         Ok(ask) => run(rt, &ask, out, err),
@@ -100,7 +103,7 @@ fn run<R: Files + Input + AllocGlobal, W: Write, E: Write>(
 ) -> u8
     ensures limit { result ≤ 3 }
     ensures does { Does W.contents out.old out.new R.File.contents ask.now result }
-    ensures quiet { result ≡ 0 → err.new ≡ err.old }
+    ensures quiet { result ≡ 0 → (err.new ≡ err.old) ⊎ AsksToWarn ask.now }
 {
     match task_of(rt.alloc(), ask) {
         Ok(task) => run_task(rt, task, ask, out, err),
@@ -118,7 +121,7 @@ fn run_task<R: Files + Input + AllocGlobal, W: Write, E: Write>(
 ) -> u8
     ensures limit { result ≤ 3 }
     ensures run { IsRunOf W.contents out.old out.new R.File.contents task.entry ask.now result }
-    ensures quiet { result ≡ 0 → err.new ≡ err.old }
+    ensures quiet { result ≡ 0 → (err.new ≡ err.old) ⊎ MayWarn task.entry }
 {
     let alloc = rt.alloc();
     match task {
@@ -126,6 +129,10 @@ fn run_task<R: Files + Input + AllocGlobal, W: Write, E: Write>(
         Task::OnList(request) => run_listed(rt, &request, out, err),
         Task::Rewrite(file, path) => {
             let outcome = rewrite_file(rt, path, file, input_of(ask.bare), out);
+            status(alloc, outcome, err)
+        }
+        Task::Embed(file, options) => {
+            let outcome = embed_file(rt, file, &options, out, err);
             status(alloc, outcome, err)
         }
         Task::Compare(file, other, options) => {

@@ -1,6 +1,6 @@
 //! What the arguments ask the program to do.
 ghost use Rattle.std.specs.Prelude.{◌≡◌, IfErr, IfOk};
-ghost use Rattle.cli.specs.Tasks.{AreTokens, IsCompareTask, IsExplainTask, IsFirstNoToken, IsOutline, IsShow, IsTableNamed, IsTask, IsTokens, IsWhere, NamesNoTable, NamesType, check_task, form_of, input_of, list_task, names_of, naming_of, report_task, request_of, rewrite_task, verdict_of};
+ghost use Rattle.cli.specs.Tasks.{AreTokens, IsCompareTask, IsExplainTask, IsFirstNoToken, IsOutline, IsShow, IsTableNamed, IsTask, IsTokens, IsWhere, NamesNoTable, NamesType, check_task, embed_task, form_of, input_of, list_task, names_of, naming_of, paths_of, report_task, request_of, rewrite_task, strong_name_of, verdict_of};
 
 use crate::columns::columns_of;
 use cli_arguments::{Ask, Subcommand};
@@ -13,7 +13,8 @@ use cli_input::Input;
 use cli_lines::Form;
 use cli_nearest::{nearest_code, nearest_column, nearest_table};
 use cli_outline::Subject;
-use cli_runs::{CompareOptions, Listing, Naming, Report, Request, Verdict};
+use cli_runs::{CompareOptions, EmbedOptions, Listing, Naming, Report, Request, Verdict};
+use embedding::StrongName;
 use packed::FaultCode;
 use std::alloc::Global;
 use table_schema::TableId;
@@ -30,6 +31,8 @@ pub(crate) enum Task<'a> {
     OnList(Request<'a>),
     /// Write the canonical root of a file to the path after it.
     Rewrite(&'a str, &'a str),
+    /// Write a copy of a file with its canonical root, or with another.
+    Embed(&'a str, EmbedOptions<'a>),
     /// Print what differs between two files.
     Compare(&'a str, &'a str, CompareOptions),
     /// Explain these rules, or list all if there is none.
@@ -50,6 +53,7 @@ pub(crate) fn task_of<'a>(alloc: Global, ask: &'a Ask<'a>) -> Result<Task<'a>, F
         Subcommand::Token => on_files(ask, tokens_of(alloc, ask.tokens.as_slice())),
         Subcommand::Where => on_files(ask, where_of(ask.second)),
         Subcommand::Rewrite => rewrite_of(ask.file, ask.second),
+        Subcommand::Embed => embed_of(ask),
         Subcommand::Digest => on_files(ask, Ok(Report::Digest)),
         Subcommand::Compare => compare_of(alloc, ask),
         Subcommand::Explain => explain_of(alloc, ask.codes.as_slice()),
@@ -243,14 +247,56 @@ fn where_of<'a>(word: Option<&'a str>) -> Result<Report<'a>, Failure<'a>>
     }
 }
 
-/// The task of `rewrite`. The standard output takes the line with the length, so it cannot be OUT.
-fn rewrite_of<'a>(file: Option<&'a str>, out: Option<&'a str>) -> Result<Task<'a>, Failure<'a>>
-    ensures { result ≡ rewrite_task file.entry out.entry }
+/// The file to read and the file to write. The standard output takes the line with the length, so it cannot be OUT.
+fn paths_of<'a>(
+    file: Option<&'a str>,
+    out: Option<&'a str>,
+) -> Result<(&'a str, &'a str), Failure<'a>>
+    ensures { result ≡ paths_of file.entry out.entry }
 {
     match (file, out) {
         (_, Some(out)) if out == STANDARD_OUTPUT => Err(Failure::Usage(UsageError::OutputIsDash)),
-        (Some(file), Some(out)) => Ok(Task::Rewrite(file, out)),
+        (Some(file), Some(out)) => Ok((file, out)),
         _ => Err(Failure::Usage(UsageError::NoFile)),
+    }
+}
+
+/// The task of `rewrite`.
+fn rewrite_of<'a>(file: Option<&'a str>, out: Option<&'a str>) -> Result<Task<'a>, Failure<'a>>
+    ensures { result ≡ rewrite_task file.entry out.entry }
+{
+    match paths_of(file, out) {
+        Ok((file, out)) => Ok(Task::Rewrite(file, out)),
+        Err(failure) => Err(failure),
+    }
+}
+
+/// The task of `embed`.
+fn embed_of<'a>(ask: &'a Ask<'a>) -> Result<Task<'a>, Failure<'a>>
+    ensures { result ≡ embed_task ask.now }
+{
+    match paths_of(ask.file, ask.second) {
+        Ok((file, path)) => {
+            let options = EmbedOptions {
+                path,
+                root: ask.root,
+                strong_name: strong_name_of(ask.unsigned),
+                form: form_of(ask.json),
+            };
+            Ok(Task::Embed(file, options))
+        }
+        Err(failure) => Err(failure),
+    }
+}
+
+/// What becomes of the strong name, by whether the arguments have `--unsigned`.
+fn strong_name_of(unsigned: bool) -> StrongName
+    ensures { result ≡ strong_name_of unsigned }
+{
+    if unsigned {
+        StrongName::Clear
+    } else {
+        StrongName::Keep
     }
 }
 

@@ -7,7 +7,7 @@ use Rattle.clap.specs.Words.{Row, Text, all_of, first_of, one_of, subcommand_of}
 use Rattle.cli_arguments.specs.CommandLine.{clim, name_of}
 use Rattle.cli_arguments.specs.declared.asked.Ask.{Ask}
 use Rattle.cli_arguments.specs.declared.asked.Subcommand.{Subcommand}
-use Rattle.cli_arguments.specs.declared.asked.Subcommand.TheVariants.{Root, Check, Show, Types, Outline, Strings, Token, Where, Rewrite, Digest, Compare, Explain}
+use Rattle.cli_arguments.specs.declared.asked.Subcommand.TheVariants.{Root, Check, Show, Types, Outline, Strings, Token, Where, Rewrite, Embed, Digest, Compare, Explain}
 
 -- the subcommand with this name
 abbrev pub subcommand_named : Text → Option Subcommand
@@ -21,6 +21,7 @@ subcommand_named word =
     else if bytes_eq word (name_of Token) then Some Token
     else if bytes_eq word (name_of Where) then Some Where
     else if bytes_eq word (name_of Rewrite) then Some Rewrite
+    else if bytes_eq word (name_of Embed) then Some Embed
     else if bytes_eq word (name_of Digest) then Some Digest
     else if bytes_eq word (name_of Compare) then Some Compare
     else if bytes_eq word (name_of Explain) then Some Explain
@@ -55,3 +56,5 @@ pub record Gives (words : List Text) (ask : Ask) : Type 0 where
   pub names : IsTrue ask.names ↔ (one_of (codes "names") rows ≡ Some (codes "true"))
   pub until_fault : IsTrue ask.until_fault ↔ (one_of (codes "until-fault") rows ≡ Some (codes "true"))
   pub locates : IsTrue ask.locates ↔ (one_of (codes "where") rows ≡ Some (codes "true"))
+  pub root : option_map (λ word. word.now) ask.root ≡ first_of (codes "root") rows
+  pub unsigned : IsTrue ask.unsigned ↔ (one_of (codes "unsigned") rows ≡ Some (codes "true"))

@@ -10,7 +10,7 @@ use Rattle.cli_arguments.specs.declared.argument.Argument.{Argument}
 use Rattle.cli_arguments.specs.declared.argument.Kind.{Kind}
 use Rattle.cli_arguments.specs.declared.argument.Kind.TheVariants as kind
 use Rattle.cli_arguments.specs.declared.asked.Subcommand.{Subcommand}
-use Rattle.cli_arguments.specs.declared.asked.Subcommand.TheVariants.{Root, Check, Show, Types, Outline, Strings, Token, Where, Rewrite, Digest, Compare, Explain}
+use Rattle.cli_arguments.specs.declared.asked.Subcommand.TheVariants.{Root, Check, Show, Types, Outline, Strings, Token, Where, Rewrite, Embed, Digest, Compare, Explain}
 use Rattle.cli_arguments.specs.declared.subcommands.Usage.{Usage}
 
 -- `NAME`, one value
@@ -90,6 +90,7 @@ name_of Strings = codes "strings"
 name_of Token = codes "token"
 name_of Where = codes "where"
 name_of Rewrite = codes "rewrite"
+name_of Embed = codes "embed"
 name_of Digest = codes "digest"
 name_of Compare = codes "compare"
 name_of Explain = codes "explain"
@@ -117,6 +118,8 @@ rules_of Token = file ∷ bare ∷ json ∷ required (values (codes "HEX")) ∷ 
 rules_of Where = file ∷ bare ∷ json ∷ second ∷ []
 -- `rewrite [--bare] FILE OUT`
 rules_of Rewrite = file ∷ bare ∷ second ∷ []
+-- `embed [--json] [--root ROOT] [--unsigned] FILE OUT`
+rules_of Embed = file ∷ json ∷ second ∷ option (codes "root") ∷ flag (codes "unsigned") ∷ []
 -- `digest [--bare] [--json] FILE..`
 rules_of Digest = required (values (codes "FILE")) ∷ bare ∷ json ∷ []
 -- `compare [--bare] [--json] [--ignore TABLE.COLUMN].. FILE OTHER`
@@ -130,7 +133,7 @@ shape_of of = shape_with (name_of of) (rules_of of)
 
 -- the subcommands
 abbrev pub subcommands : List Subcommand
-subcommands = Root ∷ Check ∷ Show ∷ Types ∷ Outline ∷ Strings ∷ Token ∷ Where ∷ Rewrite ∷ Digest ∷ Compare ∷ Explain ∷ []
+subcommands = Root ∷ Check ∷ Show ∷ Types ∷ Outline ∷ Strings ∷ Token ∷ Where ∷ Rewrite ∷ Embed ∷ Digest ∷ Compare ∷ Explain ∷ []
 
 -- the command line with its subcommands; `clap` adds `help`
 abbrev pub clim : App

@@ -46,6 +46,8 @@ pub fn ask<'a>(alloc: Global, words: &'a [&'a str]) -> Result<Ask<'a>, Error>
         names: flag(given, "names"),
         until_fault: flag(given, "until-fault"),
         locates: flag(given, "where"),
+        root: given.get_str("root"),
+        unsigned: flag(given, "unsigned"),
     })
 }
 

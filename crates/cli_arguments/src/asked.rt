@@ -10,7 +10,8 @@ pub struct Ask<'a> {
     pub bare: bool,
     /// The path of the file to read, the first of `files`. `explain` has none, and `check` may have none.
     pub file: Option<&'a str>,
-    /// The argument after the file: the offset of `where`, the output path of `rewrite`, the other file of `compare`.
+    /// The argument after the file: the offset of `where`, the output path of `rewrite` and `embed`, the other file of
+    /// `compare`.
     pub second: Option<&'a str>,
     /// The tokens of `token`, in the order given.
     pub tokens: Vec<&'a str>,
@@ -38,6 +39,10 @@ pub struct Ask<'a> {
     pub null: bool,
     /// Whether `check` was given `-q`: only the exit code says whether files break a rule.
     pub quiet: bool,
+    /// The path of the root that `embed` takes instead of the canonical one.
+    pub root: Option<&'a str>,
+    /// Whether `embed` clears the strong name.
+    pub unsigned: bool,
 }
 
 /// The subcommands of the program.
@@ -61,6 +66,8 @@ pub enum Subcommand {
     Where,
     /// `rewrite`: write the canonical metadata root of the file.
     Rewrite,
+    /// `embed`: write a copy of the file with its canonical metadata root, or with another.
+    Embed,
     /// `digest`: print the SHA-256 digest of the canonical metadata root of each file.
     Digest,
     /// `compare`: print what differs between the metadata of two files.
@@ -81,6 +88,7 @@ impl Subcommand {
         Subcommand::Token,
         Subcommand::Where,
         Subcommand::Rewrite,
+        Subcommand::Embed,
         Subcommand::Digest,
         Subcommand::Compare,
         Subcommand::Explain,
@@ -100,6 +108,7 @@ impl Subcommand {
             "token" => Some(Subcommand::Token),
             "where" => Some(Subcommand::Where),
             "rewrite" => Some(Subcommand::Rewrite),
+            "embed" => Some(Subcommand::Embed),
             "digest" => Some(Subcommand::Digest),
             "compare" => Some(Subcommand::Compare),
             "explain" => Some(Subcommand::Explain),

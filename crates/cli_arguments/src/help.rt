@@ -25,6 +25,7 @@ Compare:
 
 Write:
   rewrite  Write the canonical metadata root of a file
+  embed    Write a copy of a file with its canonical metadata root, or with another
 
 Help:
   help     Print this message or the help of the given subcommand(s)
@@ -39,7 +40,7 @@ Exit status:
   0  success
   1  FILE breaks a rule of the standard, printed as 'fault LAYER CODE at OFFSET: NAME';
      or FILE has nothing that HEX names, no type NAME, or nothing at OFFSET; or its canonical
-     root has more than 2^30 bytes; or FILE and OTHER differ
+     root has more than 2^30 bytes; or FILE and OTHER differ; or ROOT is refused, or does not fit
   2  usage error; FILE was not read
   3  I/O error, out of memory, or budget spent
 The status of 'clim check' and 'clim digest' for several files is the greatest of theirs.

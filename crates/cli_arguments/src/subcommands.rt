@@ -19,6 +19,7 @@ macro_rules! argument {
 pub(crate) mod check_file;
 pub(crate) mod compare_files;
 pub(crate) mod digest_file;
+pub(crate) mod embed_root;
 pub(crate) mod explain_fault;
 pub(crate) mod print_outline;
 pub(crate) mod print_root;
@@ -56,6 +57,7 @@ pub(crate) fn usage_of<'a>(subcommand: Subcommand) -> Usage<'a>
         Subcommand::Token => print_token::USAGE,
         Subcommand::Where => print_where::USAGE,
         Subcommand::Rewrite => rewrite_file::USAGE,
+        Subcommand::Embed => embed_root::USAGE,
         Subcommand::Digest => digest_file::USAGE,
         Subcommand::Compare => compare_files::USAGE,
         Subcommand::Explain => explain_fault::USAGE,

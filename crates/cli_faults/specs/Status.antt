@@ -3,7 +3,7 @@ use Rattle.std.specs.Prelude.{◌≡◌, ◌↔◌, ℕ, List}
 use Rattle.std.specs.declared.io.ErrorKind.{ErrorKind}
 use Rattle.std.specs.declared.io.ErrorKind.TheVariants as cause
 use Rattle.cli_faults.specs.declared.failure.Failure.{Failure}
-use Rattle.cli_faults.specs.declared.failure.Failure.TheVariants.{Fault, NoSuchRow, Usage, NotUtf8, CannotRead, CannotWriteOutput, CannotWriteFile, OutOfMemory}
+use Rattle.cli_faults.specs.declared.failure.Failure.TheVariants.{Fault, NoSuchRow, Usage, NotUtf8, CannotRead, CannotWriteOutput, CannotWriteFile, CannotEmbed, OutOfMemory}
 use Rattle.cli_faults.specs.FileErrors.{reason_of}
 
 -- the exit code of a failure
@@ -15,6 +15,7 @@ status_of (NotUtf8 name) = 3
 status_of (CannotRead error) = 3
 status_of CannotWriteOutput = 3
 status_of (CannotWriteFile error) = 3
+status_of (CannotEmbed misfit) = 1
 status_of OutOfMemory = 3
 
 -- the output could not be written, or memory ran out

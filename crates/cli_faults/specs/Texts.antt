@@ -8,7 +8,9 @@ use Rattle.table_schema.specs.Tables.{table_name}
 use Rattle.cli_faults.specs.Escaped.{escaped_text}
 use Rattle.cli_faults.specs.FileErrors.{file_error_text}
 use Rattle.cli_faults.specs.declared.failure.Failure.{Failure}
-use Rattle.cli_faults.specs.declared.failure.Failure.TheVariants.{Fault, NoSuchRow, Usage, NotUtf8, CannotRead, CannotWriteOutput, CannotWriteFile, OutOfMemory}
+use Rattle.cli_faults.specs.declared.failure.Failure.TheVariants.{Fault, NoSuchRow, Usage, NotUtf8, CannotRead, CannotWriteOutput, CannotWriteFile, CannotEmbed, OutOfMemory}
+use Rattle.cli_faults.specs.declared.misfit.Misfit.{Misfit}
+use Rattle.cli_faults.specs.declared.misfit.Misfit.TheVariants.{Unlike, Headers, Occupied, NoRoom, TooLong}
 use Rattle.cli_faults.specs.declared.usage_error.Nearest.{Nearest}
 use Rattle.cli_faults.specs.declared.usage_error.Nearest.TheVariants as nearest
 use Rattle.cli_faults.specs.declared.usage_error.UsageError.{UsageError}
@@ -53,6 +55,14 @@ usage_text (NoOffset word) = codes "error: OFFSET is a number, decimal or hexade
 usage_text (NoColumn word column) =
     codes "error: no such column: '--ignore' takes a table and one of its columns, as 'Module.Mvid', not '" ++ escaped_text word.now ++ codes "'" ++ hint_of_column column
 
+-- the words for why a root does not fit
+abbrev pub misfit_text : Misfit → List ℕ
+misfit_text Unlike = codes "ROOT has other methods, addresses or user strings than FILE"
+misfit_text Headers = codes "the headers of FILE overlap"
+misfit_text Occupied = codes "something else is in the range of FILE's root"
+misfit_text NoRoom = codes "the root is longer than FILE's, and FILE has no room for it"
+misfit_text TooLong = codes "OUT would have more than 2^30 bytes"
+
 -- the line that reports a failure, without its last line feed; arguments in it are escaped, and a line with the reason
 -- follows the name of a file
 abbrev pub failure_text : Failure → List ℕ
@@ -63,4 +73,5 @@ failure_text (NotUtf8 name) = codes "error: cannot read " ++ escaped_text name.n
 failure_text (CannotRead error) = codes "error: cannot read " ++ file_error_text error
 failure_text CannotWriteOutput = codes "error: cannot write output"
 failure_text (CannotWriteFile error) = codes "error: cannot write " ++ file_error_text error
+failure_text (CannotEmbed misfit) = codes "error: cannot embed the root" ++ 10 ∷ codes "  reason: " ++ misfit_text misfit
 failure_text OutOfMemory = codes "error: out of memory"

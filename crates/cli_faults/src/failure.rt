@@ -7,6 +7,7 @@ ghost use Rattle.cli_faults.specs.declared.failure.Failure.TheVariants.{Fault, U
 
 use crate::escaped::{Escaped, EscapedBytes};
 use crate::file_error::FileError;
+use crate::misfit::Misfit;
 use crate::usage_error::UsageError;
 use packed::Fault;
 use std::io::ErrorKind;
@@ -31,6 +32,8 @@ pub enum Failure<'a> {
     CannotWriteOutput,
     /// This file could not be created, truncated or written to its end.
     CannotWriteFile(FileError<'a>),
+    /// The root does not fit into the file.
+    CannotEmbed(Misfit),
     /// Out of memory.
     OutOfMemory,
 }
@@ -78,13 +81,13 @@ impl<'a> Failure<'a> {
         }
     }
 
-    /// The exit code of the process: 1 for a fault or a token that names nothing, 2 for a usage error, 3 for an I/O
-    /// error or out of memory.
+    /// The exit code of the process: 1 for a fault, a token that names nothing or a root that does not fit, 2 for a usage
+    /// error, 3 for an I/O error or out of memory.
     pub fn status(&self) -> u8
         ensures { result ≡ status_of self.now }
     {
         match self {
-            Failure::Fault(_) | Failure::NoSuchRow => 1,
+            Failure::Fault(_) | Failure::NoSuchRow | Failure::CannotEmbed(_) => 1,
             Failure::Usage(_) => 2,
             Failure::NotUtf8(_)
             | Failure::CannotRead(_)
@@ -143,6 +146,9 @@ impl fmt::Display for Failure<'_> {
             Failure::CannotRead(error) => write!(f, "error: cannot read {error}"),
             Failure::CannotWriteOutput => f.write_str("error: cannot write output"),
             Failure::CannotWriteFile(error) => write!(f, "error: cannot write {error}"),
+            Failure::CannotEmbed(misfit) => {
+                write!(f, "error: cannot embed the root\n  reason: {misfit}")
+            }
             Failure::OutOfMemory => f.write_str("error: out of memory"),
         }
     }

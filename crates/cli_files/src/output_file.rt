@@ -1,4 +1,4 @@
-//! The file that `clim rewrite` writes.
+//! The file that `clim rewrite` and `clim embed` write.
 ghost use Rattle.std.specs.Prelude.{IfErr, IfOk};
 ghost use Rattle.std.specs.Io.KnownBytes.{Appends};
 ghost use Rattle.cli_faults.specs.Status.{IsUnwritten};
@@ -13,7 +13,7 @@ use std::io::{ErrorKind, Write};
 use std::os::unix::fs::{MetadataExt, OpenOptionsExt, PermissionsExt};
 use std::rt::Files;
 use std::{fs, io};
-use writer::{Counted, Prepared};
+use writer::{Counted, send_all};
 
 /// The standard input of this process, by its path.
 const INPUT_PATH: &str = "/dev/stdin";
@@ -67,11 +67,38 @@ impl Relation {
             Err(_) => Relation::Unknown,
         }
     }
+
+    /// Compares each of the files that were read with another: whether one of them is it, or may be it.
+    fn of_any<R: Files>(rt: &R, read: &[&str], other: &Metadata) -> Relation {
+        let mut closest = Relation::Different;
+        for file in read {
+            match Relation::at(rt, path_of(file), other) {
+                Relation::Same => return Relation::Same,
+                Relation::Unknown => closest = Relation::Unknown,
+                Relation::Different => {}
+            }
+        }
+        closest
+    }
+}
+
+/// Refuses a path of a file to write that is that of the standard output, which takes the line `wrote N bytes`.
+///
+/// # Errors
+///
+/// The path is that of the standard output.
+pub fn check_path<'a, R: Files>(rt: &R, path: &'a str) -> Result<(), Failure<'a>>
+    ensures { IfErr result (IsUnwritten path.now) }
+{
+    if is_standard_output(rt, path) {
+        return Err(not_written(path, Reason::StandardOutput));
+    }
+    Ok(())
 }
 
 /// Whether a path is that of the standard output: a terminal, a pipe or a file that the shell opened. `/dev/null` keeps
 /// nothing, so there two outputs do not mix.
-pub fn is_standard_output<R: Files>(rt: &R, path: &str) -> bool {
+fn is_standard_output<R: Files>(rt: &R, path: &str) -> bool {
     if path == NULL_DEVICE {
         return false;
     }
@@ -81,30 +108,30 @@ pub fn is_standard_output<R: Files>(rt: &R, path: &str) -> bool {
     }
 }
 
-/// Writes a root to the file at `path`, and returns the file. The file is created or truncated first. But if it is the
-/// file that was read, or may be it, the root is written beside it and then takes its place, so that nothing is lost if
-/// the disk is full. The path `-` was read as that of the standard input.
+/// Writes bytes to the file at `path`, and returns the file. The file is created or truncated first. But if it is a file
+/// that was read, or may be one, the bytes are written beside it and then take its place, so that nothing is lost if the
+/// disk is full. The path `-` was read as that of the standard input.
 ///
 /// # Errors
 ///
 /// Out of memory, or the file cannot be written; or it is what was read, and cannot be replaced, as a device.
-pub fn write_root<'a, R: Files + AllocGlobal>(
+pub fn write_file<'a, R: Files + AllocGlobal>(
     rt: &R,
-    root: &Prepared,
-    read: &str,
+    bytes: &[u8],
+    read: &[&str],
     path: &'a str,
 ) -> Result<R::File, Failure<'a>>
-    ensures given { IfOk result (WasGiven R.File.contents root.now) }
+    ensures given { IfOk result (WasGiven R.File.contents bytes.now) }
     ensures unwritten { IfErr result (IsUnwritten path.now) }
 {
     // Of a file that cannot be found, creating it says why.
     let Ok(found) = fs::metadata(rt, path) else {
-        return overwrite(rt, root, path);
+        return overwrite(rt, bytes, path);
     };
-    match (Relation::at(rt, path_of(read), &found), found.is_file()) {
-        (Relation::Same | Relation::Unknown, true) => replace(rt, root, &found, path),
-        (Relation::Same, false) => Err(not_replaced(path)),
-        (Relation::Different, _) | (Relation::Unknown, false) => overwrite(rt, root, path),
+    match (Relation::of_any(rt, read, &found), found.is_file()) {
+        (Relation::Same | Relation::Unknown, true) => replace(rt, bytes, &found, path),
+        (Relation::Same, false) => Err(not_written(path, Reason::Input)),
+        (Relation::Different, _) | (Relation::Unknown, false) => overwrite(rt, bytes, path),
     }
 }
 
@@ -117,36 +144,33 @@ fn path_of<'a>(file: &'a str) -> &'a str {
     }
 }
 
-/// The failure for a path that leads to what was read, which cannot be replaced.
-fn not_replaced<'a>(path: &'a str) -> Failure<'a>
+/// The failure for a file that is not written for this reason.
+fn not_written<'a>(path: &'a str, reason: Reason) -> Failure<'a>
     ensures { IsUnwritten path.now result }
 {
-    Failure::CannotWriteFile(FileError {
-        path,
-        reason: Reason::Input,
-    })
+    Failure::CannotWriteFile(FileError { path, reason })
 }
 
-/// Writes a root to a file, which is created or truncated first, and returns it.
-fn overwrite<'a, R: Files>(rt: &R, root: &Prepared, path: &'a str) -> Result<R::File, Failure<'a>>
-    ensures given { IfOk result (WasGiven R.File.contents root.now) }
+/// Writes bytes to a file, which is created or truncated first, and returns it.
+fn overwrite<'a, R: Files>(rt: &R, bytes: &[u8], path: &'a str) -> Result<R::File, Failure<'a>>
+    ensures given { IfOk result (WasGiven R.File.contents bytes.now) }
     ensures unwritten { IfErr result (IsUnwritten path.now) }
 {
     match fs::create(rt, path) {
-        Ok(file) => send(root, file, path),
+        Ok(file) => send(bytes, file, path),
         Err(error) => Err(Failure::of_opening(&error, path)),
     }
 }
 
-/// Writes a root to a new file beside the one at `path`, gives it the same permissions, renames it and returns it. If
+/// Writes bytes to a new file beside the one at `path`, gives it the same permissions, renames it and returns it. If
 /// this fails, the new file is removed and the old one stays.
 fn replace<'a, R: Files + AllocGlobal>(
     rt: &R,
-    root: &Prepared,
+    bytes: &[u8],
     replaced: &Metadata,
     path: &'a str,
 ) -> Result<R::File, Failure<'a>>
-    ensures given { IfOk result (WasGiven R.File.contents root.now) }
+    ensures given { IfOk result (WasGiven R.File.contents bytes.now) }
     ensures unwritten { IfErr result (IsUnwritten path.now) }
 {
     // A symbolic link stays. The file that it leads to is replaced.
@@ -156,13 +180,13 @@ fn replace<'a, R: Files + AllocGlobal>(
     };
     // An open file that was removed leads to a path of which another file may have been made.
     if Relation::at(rt, target.as_str(), replaced) == Relation::Different {
-        return Err(not_replaced(path));
+        return Err(not_written(path, Reason::Input));
     }
     let (file, beside) = match create_beside(rt, target.as_str()) {
         Ok(created) => created,
         Err(error) => return Err(Failure::of_opening(&error, path)),
     };
-    let outcome = match send(root, file, path) {
+    let outcome = match send(bytes, file, path) {
         Ok(file) => match finish(rt, &file, replaced, beside.as_str(), target.as_str()) {
             Ok(()) => Ok(file),
             Err(error) => Err(Failure::of_opening(&error, path)),
@@ -221,13 +245,13 @@ fn finish<R: Files>(
     fs::rename(rt, from, to)
 }
 
-/// Sends a root to a file that was just created, and returns the file. All bytes were sent if it succeeds.
-fn send<'a, F: Write + Drop>(root: &Prepared, file: F, path: &'a str) -> Result<F, Failure<'a>>
-    ensures all { IfOk result (λ written. Appends (F.contents file) (F.contents written) root.now) }
+/// Sends bytes to a file that was just created, and returns the file. All of them were sent if it succeeds.
+fn send<'a, F: Write + Drop>(bytes: &[u8], file: F, path: &'a str) -> Result<F, Failure<'a>>
+    ensures all { IfOk result (λ written. Appends (F.contents file) (F.contents written) bytes.now) }
     ensures unwritten { IfErr result (IsUnwritten path.now) }
 {
     let mut sink = Counted::new(KindKeeper::new(file));
-    let outcome = root.send(&mut sink);
+    let outcome = send_all(bytes, &mut sink);
     let (file, kind) = sink.into_inner().into_parts();
     match outcome {
         Ok(()) => Ok(file),

@@ -2,4 +2,5 @@ pub mod Compared
 pub mod Printing
 pub mod Reports
 pub mod Rewritten
+pub mod Embedded
 pub mod Runs

@@ -1,7 +1,7 @@
 //! What `clim` does with files and their bytes.
 //!
 //! [`report_on`] prints a [`Report`] on the bytes of a file, and [`run_files`] and [`run_listed`] read files and report on each.
-//! [`compare_files`], [`rewrite_file`] and [`explain_rules`] are the other runs. `specs/Reports.antt` says what a report prints,
+//! [`compare_files`], [`rewrite_file`], [`embed_file`] and [`explain_rules`] are the other runs. `specs/Reports.antt` says what a report prints,
 //! and when it prints nothing.
 //!
 //! ```text
@@ -12,9 +12,11 @@
 
 mod canonical_root;
 mod compare;
+mod embed;
 mod explain;
 mod files;
 mod listed;
+mod one_line;
 mod print_check;
 mod print_report;
 mod printed;
@@ -22,6 +24,7 @@ mod report;
 mod rewrite;
 
 pub use compare::{CompareOptions, compare_files};
+pub use embed::{EmbedOptions, embed_file};
 pub use explain::explain_rules;
 pub use files::run_files;
 pub use listed::run_listed;

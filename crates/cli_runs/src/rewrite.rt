@@ -1,17 +1,18 @@
 //! `clim rewrite`: the canonical root of a file.
-ghost use Rattle.std.specs.Prelude.{◌≡◌, ◌⊎◌, ◌∷◌, [], IfErr, OnOk};
+ghost use Rattle.std.specs.Prelude.{◌⊎◌, IfErr, OnOk};
 ghost use Rattle.cli_faults.specs.Status.{IsOutput};
-ghost use Rattle.cli_lines.specs.Printed.{Prints, Sent};
-ghost use Rattle.cli_runs.specs.Rewritten.{IsDone, IsRewriting, IsUndone, wrote_line, wrote_text};
+ghost use Rattle.cli_lines.specs.Printed.{Sent};
+ghost use Rattle.cli_runs.specs.Rewritten.{IsDone, IsRewriting, IsUndone, wrote_text};
 ghost use Rattle.cli_runs.specs.Runs.{IsFileRun, IsMixed};
 
 use crate::canonical_root::canonical_root;
-use cli_faults::{Failure, FileError, Reason, Stop};
-use cli_files::{Stopped, is_standard_output, read_file, write_root};
+use crate::one_line::print_one;
+use cli_faults::{Failure, Stop};
+use cli_files::{Stopped, check_path, read_file, write_file};
 use cli_input::Input as Given;
+use cli_lines::Form;
 use cli_lines::Part::{Note, Word};
 use cli_lines::Value::Number;
-use cli_lines::{Form, Printer};
 use std::alloc::Global;
 use std::io::Write;
 use std::rt::Files;
@@ -33,12 +34,7 @@ pub fn rewrite_file<'a, R: Files + Input + AllocGlobal, W: Write>(
     ensures { IsFileRun out.old out.new file.now (λ bytes. IsRewriting W.contents R.File.contents out.old out.new input bytes path.now) result
         ⊎ IsMixed out.old out.new path.now result }
 {
-    if is_standard_output(rt, path) {
-        return Err(Stopped::from(Failure::CannotWriteFile(FileError {
-            path,
-            reason: Reason::StandardOutput,
-        })));
-    }
+    check_path(rt, path)?;
     let read = read_file(rt, file)?;
     let bytes: &[u8] = &read;
     match rewrite(rt, bytes, input, file, path, out) {
@@ -60,26 +56,21 @@ fn rewrite<'a, R: Files + AllocGlobal, W: Write>(
     ensures stopped { IfErr result (IsUndone W.contents R.File.contents out.old out.new input bytes.now path.now) }
 {
     let root = canonical_root(rt.alloc(), bytes, input)?;
-    write_root(rt, &root, file, path)?;
+    write_file(rt, root.bytes(), &[file], path)?;
     print_length(rt.alloc(), root.len(), out)
 }
 
 /// Prints the length of the root that was written.
+#[tactic(auto, unfolding(crate::specs::Rewritten::wrote_line))]
 fn print_length<'a, W: Write>(alloc: Global, count: u32, out: &mut W) -> Result<(), Failure<'a>>
     ensures sent { Sent (W.contents out.old) (W.contents out.new) result (wrote_text count) }
     ensures failed { IfErr result IsOutput }
 {
-    let mut printer = Printer::new(alloc, Form::Text, out);
-    print_line(count, &mut printer);
-    let (writer, sent) = printer.finish();
-    let _ = writer;
-    sent
-}
-
-/// Prints the line of a length.
-#[tactic(auto, unfolding(crate::specs::Rewritten::wrote_line))]
-fn print_line<W: Write>(count: u32, out: &mut Printer<'_, W>)
-    ensures { Prints out.old out.new (wrote_line count ∷ []) }
-{
-    out.line(&[Word("wrote "), Note(Number(count as u64)), Word(" bytes")]);
+    let length = Number(count as u64);
+    print_one(
+        alloc,
+        Form::Text,
+        &[Word("wrote "), Note(length), Word(" bytes")],
+        out,
+    )
 }

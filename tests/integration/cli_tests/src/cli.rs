@@ -1,9 +1,10 @@
-//! Tests of `cli`: budgets, `rewrite`, `digest`, `compare`, `check` of several files, the standard input, hints, escaped
+//! Tests of `cli`: budgets, `rewrite`, `embed`, `digest`, `compare`, `check` of several files, the standard input, hints, escaped
 //! arguments, and files and outputs that fail.
 
 mod budgets;
 mod comparing;
 mod disks;
+mod embedding;
 mod escaping;
 mod fault_answers;
 mod hints;

@@ -84,4 +84,6 @@ returns-clause-given c =
       names = c.flag-5.ensures;
       until_fault = c.flag-6.ensures;
       locates = c.flag-7.ensures;
+      root = c.get_str-5.ensures ∙ first_value-rows found (codes "root");
+      unsigned = c.flag-8.ensures;
     }

@@ -2,8 +2,8 @@ use Rattle.std.proofs.Common.{Ok, Err, inl, inr, refl}
 use Rattle.cli_runs.proofs.Rewritings.{stopped_rewriting}
 use Rattle.cli_runs.proofs.rewrite.rewrite_file.Goals as goal
 
-pub returns-then-is_standard_output : goal.returns-then-is_standard_output
-returns-then-is_standard_output g c = inr ((_, c.from.ensures, refl), refl)
+pub returns-in_err-check_path : goal.returns-in_err-check_path
+returns-in_err-check_path g c = inr ((c.in_err-check_path.field-0.0, c.from_residual-in_err-check_path.ensures.1, c.in_err-check_path.ensures), refl)
 
 pub returns-in_err-read : goal.returns-in_err-read
 returns-in_err-read g c = inl (Err c.in_err-read.field-0.0, (c.in_err-read.ensures.refused, c.from_residual.ensures.1, refl))

@@ -51,6 +51,7 @@ fn print_what_help_reports(rt: HostRuntime) -> Result<(), Fail> {
         ("token", 3),
         ("where", 2),
         ("rewrite", 2),
+        ("embed", 2),
         ("digest", 2),
         ("compare", 3),
         ("explain", 1),
@@ -63,6 +64,7 @@ fn print_what_help_reports(rt: HostRuntime) -> Result<(), Fail> {
         "two_types.root",
         "two_strings.root",
         "out.root",
+        "out.dll",
     ] {
         fs::remove_file(&rt, file)?;
     }

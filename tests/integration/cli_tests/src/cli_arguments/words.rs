@@ -145,6 +145,14 @@ const REFUSED: [(&[&str], &str); 90] = [
         &["clim", "rewrite", "lacks", "out", "more"],
         "unexpected argument 'more'",
     ),
+    (&["clim", "embed"], "Usage: clim embed <FILE> <OUT>"),
+    (&["clim", "embed", "lacks"], "  <OUT>\n"),
+    (&["clim", "embed", "--bare", "lacks", "out"], "unexpected argument '--bare'"),
+    (
+        &["clim", "embed", "lacks", "out", "--root"],
+        "a value is required for '--root <ROOT>'",
+    ),
+    (&["clim", "embed", "--unsigned", "lacks", "-"], "error: OUT is a file, and '-' is none\n"),
     (&["clim", "digest"], "Usage: clim digest <FILE>"),
     (&["clim", "digest", "--bare"], "  <FILE>...\n"),
     (&["clim", "compare", "lacks"], "  <OTHER>\n"),
@@ -312,7 +320,7 @@ fn helps_with_the_same_words(rt: HostRuntime) -> Result<(), Fail> {
     let (_, help, _) = answer(&rt, &["clim", "help"])?;
     for name in [
         "root", "show", "types", "outline", "strings", "token", "where", "check", "explain", "compare", "digest",
-        "rewrite",
+        "rewrite", "embed",
     ] {
         let (_, own, _) = answer(&rt, &["clim", name, "--help"])?;
         let (about, _) = own.split_once('\n').ok_or("no line")?;
@@ -384,6 +392,11 @@ fn helps_with_each_subcommand(rt: HostRuntime) -> Result<(), Fail> {
             "rewrite",
             "Usage: clim rewrite [OPTIONS] <FILE> <OUT>",
             "\n  wrote 144 bytes\n",
+        ),
+        (
+            "embed",
+            "Usage: clim embed [OPTIONS] <FILE> <OUT>",
+            "\n  wrote 1024 bytes\n",
         ),
         (
             "digest",
@@ -514,13 +527,25 @@ fn asks(rt: HostRuntime) -> Result<(), Fail> {
                 None,
             ),
         ),
+        (
+            &["clim", "embed", "a.dll", "b.dll"],
+            (Subcommand::Embed, false, Some("a.dll"), Some("b.dll"), None, None),
+        ),
     ] {
         let asked = ask(rt.alloc(), words)?;
         assert_eq!(rt; given(&asked), want);
         assert!(rt; asked.files.as_slice().first().copied() == asked.file);
         assert!(rt; asked.files_from.is_none() && !asked.null && !asked.quiet && !asked.json);
-        assert!(rt; asked.codes.is_empty());
+        assert!(rt; asked.codes.is_empty() && asked.root.is_none() && !asked.unsigned);
     }
+    Ok(())
+}
+
+#[test]
+fn asks_for_a_root(rt: HostRuntime) -> Result<(), Fail> {
+    let asked = ask(rt.alloc(), &["clim", "embed", "a.dll", "--unsigned", "--root", "a.root", "b.dll"])?;
+    assert!(rt; asked.root == Some("a.root") && asked.unsigned);
+    assert!(rt; asked.file == Some("a.dll") && asked.second == Some("b.dll"));
     Ok(())
 }
 

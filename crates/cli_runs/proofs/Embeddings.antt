@@ -1,0 +1,55 @@
+-- What is written for a file and a root, and why nothing is.
+use Rattle.std.proofs.Common.{◌≡◌, ◌∷◌, [], ℕ, List, Option, Some, None, Result, Ok, Err, length, subst, inl, inr}
+use Rattle.std.specs.Prelude.{IfErr, OnOk}
+use Rattle.std.specs.Io.KnownBytes.{Appends}
+use Rattle.packed.specs.Offsets.{part}
+use Rattle.embedding.specs.declared.strong_name.StrongName.{StrongName}
+use Rattle.embedding.specs.Embedded.{IsEmbedded}
+use Rattle.embedding.specs.Planned.{IsPlanOf, Planned, result_of}
+use Rattle.cli_faults.specs.declared.failure.Failure.{Failure}
+use Rattle.cli_faults.specs.Status.{IsOutput, IsUnwritten}
+use Rattle.cli_files.specs.Stopped.{Outcome}
+use Rattle.cli_files.specs.Written.{IsGiven}
+use Rattle.cli_files.specs.declared.stopped.Stopped.{Stopped}
+use Rattle.cli_input.specs.declared.opened.Input.TheVariants.{File}
+use Rattle.cli_lines.specs.declared.parts.Form.{Form}
+use Rattle.cli_lines.specs.Lines.{report_text}
+use Rattle.cli_lines.specs.Printed.{SendsPrefix, Sent}
+use Rattle.cli_runs.specs.Embedded.{HasNoRoot, IsEmbedding, IsLineOf, IsPut, IsPutDone, IsPutUndone, IsRootFor, IsSent, embed_line}
+use Rattle.cli_runs.specs.Rewritten.{ReportsUnwritten}
+use Rattle.cli_runs.specs.Runs.{StopsBy}
+
+-- the line went out, or a prefix of it
+pub line_done : {F : Type 0} (file_contents : F → Option (List ℕ)) (before after : Option (List ℕ)) (plan : Planned) (form : Form) (result : Result (Unit {0}) Failure)
+    → IsGiven file_contents (result_of plan) → IsLineOf plan form (Sent before after result) → OnOk result (IsSent file_contents plan form (λ text. Appends before after text))
+line_done file_contents before after plan form (Ok done) given line = (given, line)
+line_done file_contents before after plan form (Err failure) given line = tt
+
+pub line_cut : {F : Type 0} (file_contents : F → Option (List ℕ)) (before after : Option (List ℕ)) (plan : Planned) (form : Form) (result : Result (Unit {0}) Failure)
+    → IsGiven file_contents (result_of plan) → IsLineOf plan form (Sent before after result) → IfErr result IsOutput
+    → IfErr result (λ failure. IsOutput failure × IsSent file_contents plan form (λ text. SendsPrefix before after text))
+line_cut file_contents before after plan form (Ok done) given line failed = tt
+line_cut file_contents before after plan form (Err failure) given line failed = (failed, (given, line))
+
+module _ {W F : Type 0} (contents : W → Option (List ℕ)) (file_contents : F → Option (List ℕ)) (before after : W) (form : Form) (strong_name : StrongName) (file : List ℕ) where
+  -- what was planned for this file and this root was written
+  pub put_sent : (root : List ℕ) (plan : Planned) (P : List ℕ → Type 0) → IsPlanOf strong_name file root plan → IsEmbedded strong_name file root (result_of plan)
+      → IsSent file_contents plan form P → IsPut contents file_contents before after form strong_name file root P
+  put_sent root plan P of sound sent =
+      let line = sent.1 in
+      let moved = subst (λ (bytes : List ℕ). (part (result_of plan) line.0 (length bytes) ≡ bytes) × P (report_text form (embed_line (length (result_of plan)) line.0 (length bytes) ∷ [])))
+      of.2 (line.1, line.2) in
+      (result_of plan, line.0, sound, moved.0, sent.0, moved.1)
+
+  -- the run with a root that is there
+  pub put_with : (path : List ℕ) (given : Option (List ℕ)) (root : List ℕ) (outcome : Outcome) → IsRootFor file given root
+      → OnOk outcome (IsPutDone contents file_contents before after form strong_name file root)
+      → IfErr outcome (λ stopped. (failure : Failure) × StopsBy failure stopped × IsPutUndone contents file_contents before after form strong_name file path root failure)
+      → IsEmbedding contents file_contents before after form strong_name file path given outcome
+  put_with path given root (Ok done) is put undone = record { done = (root, is, put); stopped = tt }
+  put_with path given root (Err stopped) is put undone = record { done = tt; stopped = (undone.0, undone.1, inr (root, is, undone.2)) }
+
+  -- the run without one
+  pub put_nothing : (path : List ℕ) (stopped : Stopped) (failure : Failure) → StopsBy failure stopped → ReportsUnwritten File file failure → after ≡ before
+      → IsEmbedding contents file_contents before after form strong_name file path None (Err stopped)
+  put_nothing path stopped failure by why same = record { done = tt; stopped = (failure, by, inl (why, same)) }

@@ -1,0 +1,53 @@
+-- Why a root fits at no slot.
+use Rattle.std.proofs.Common.{◌≡◌, ◌<◌, ◌≤◌, ◌^◌, ◌⊎◌, inl, inr, ℕ, List, length, subst, arith}
+use Rattle.pe.specs.Headers.{image_of}
+use Rattle.cli_header.specs.declared.header.CliHeader.{CliHeader}
+use Rattle.cli_header.specs.Said.{header_of}
+use Rattle.metadata.specs.Source.{Source}
+use Rattle.metadata.specs.SourceAt.{source_of}
+use Rattle.metadata.specs.Streams.{root_in}
+use Rattle.embedding.specs.declared.error.EmbedError.{EmbedError}
+use Rattle.embedding.specs.declared.error.EmbedError.TheVariants as error
+use Rattle.embedding.specs.declared.slot.Slot.{Slot}
+use Rattle.embedding.specs.declared.slot.Slot.TheVariants.{Reused, Appended, Extended}
+use Rattle.embedding.specs.Errors.{IsMisfit, IsReason}
+use Rattle.embedding.specs.Slots.{FitsAt, HasRoom, IsLongerSection, IsNewSection}
+
+-- a new section would be too far
+pub no_new_section : (file : List ℕ) (len : ℕ) (header : CliHeader) (source : Source) → header.metadata.size < len → HasRoom file header
+    → ((address offset : ℕ) → IsNewSection file address offset → (2 ^ 32 ≤ address) ⊎ (2 ^ 32 ≤ offset))
+    → (slot : Slot) → ¬ FitsAt file len header source slot
+no_new_section file len header source longer room far Reused fits = omega (arith, fits.is_slot.short)
+no_new_section file len header source longer room far (Appended address offset) fits =
+    elim (far address offset fits.is_slot.2) as (λ _. ⊥) [
+      | inl h ↦ omega (arith, fits.address)
+      | inr h ↦ omega (arith, fits.in_range.result)
+    ]
+no_new_section file len header source longer room far (Extended within) fits = fits.is_slot.1 room
+
+-- the last section cannot be longer, or the root would be too far in it
+pub no_longer_section : (file : List ℕ) (len : ℕ) (header : CliHeader) (source : Source) → header.metadata.size < len → ¬ HasRoom file header
+    → ((within : ℕ) → IsLongerSection file header within → 2 ^ 32 ≤ within)
+    → (slot : Slot) → ¬ FitsAt file len header source slot
+no_longer_section file len header source longer none far Reused fits = omega (arith, fits.is_slot.short)
+no_longer_section file len header source longer none far (Appended address offset) fits = none fits.is_slot.1
+no_longer_section file len header source longer none far (Extended within) fits = omega (arith, fits.address, far within fits.is_slot.2)
+
+reasons : (file root : List ℕ) (reason : EmbedError)
+    → IsMisfit file (length root) (header_of (image_of file)) (source_of (root_in file (header_of (image_of file)))) reason → IsReason file root reason
+reasons file root (error.File fault) none = absurd none
+reasons file root (error.Root fault) none = absurd none
+reasons file root error.Unlike none = absurd none
+reasons file root error.Headers none = absurd none
+reasons file root error.Occupied is = is
+reasons file root error.NoRoom is = is
+reasons file root error.TooLong is = is
+reasons file root error.Memory none = none
+
+-- a misfit is the reason why the root is not put into the file
+pub misfit_is_reason : (file root view : List ℕ) (header : CliHeader) → header ≡ header_of (image_of file) → view ≡ root_in file header
+    → (reason : EmbedError) → IsMisfit file (length root) header (source_of view) reason → IsReason file root reason
+misfit_is_reason file root view header header_is view_is reason misfit =
+    let at : IsMisfit file (length root) header (source_of (root_in file header)) reason =
+    subst (λ (v : List ℕ). IsMisfit file (length root) header (source_of v) reason) view_is misfit in
+    reasons file root reason (subst (λ (h : CliHeader). IsMisfit file (length root) h (source_of (root_in file h)) reason) header_is at)

@@ -1,0 +1,121 @@
+-- Where the parts of a result are: the headers, the root, and the end.
+use Rattle.std.proofs.Common.{◌≡◌, ℕ, ◌+◌, ◌-◌, ◌<◌, ◌≤◌, ◌⊎◌, ◌==◌, inl, inr, cond, List, ◌++◌, length, replicate, ap, ◌∙◌, arith}
+use Rattle.std.proofs.lemmas.List.{length-append, length-replicate}
+use Rattle.packed.specs.Limit.{byte_limit}
+use Rattle.packed.specs.Rule.{AllHold}
+use Rattle.pe.specs.Headers.{lfanew, wider, optional_header_size, sections_offset}
+use Rattle.pe.specs.Rules.{rules_of_image}
+use Rattle.cli_header.specs.declared.header.CliHeader.{CliHeader}
+use Rattle.metadata.specs.Source.{Source}
+use Rattle.file_ranges.specs.declared.field.Field.TheVariants.{FileAlignment}
+use Rattle.file_ranges.specs.Fields.{aligned, field_of, full_size, raw_size, raw_end, last, headers_end}
+use Rattle.embedding.specs.declared.slot.Slot.{Slot}
+use Rattle.embedding.specs.declared.slot.Slot.TheVariants.{Reused, Appended, Extended}
+use Rattle.embedding.specs.declared.strong_name.StrongName.{StrongName}
+use Rattle.embedding.specs.declared.strong_name.StrongName.TheVariants.{Keep, Clear}
+use Rattle.embedding.specs.Embedded.{IsHeaderOf, AreHeadersApart, header_changes}
+use Rattle.embedding.specs.Slots.{target_of, root_bytes, FitsAt}
+use Rattle.embedding.proofs.Parts.{AllWithin}
+
+pub above : (alignment number : ℕ) → 0 < alignment → number ≤ aligned alignment number
+above alignment number some = omega arith
+
+-- the headers up to the sections, which hold the directories
+pub directories_end : (file : List ℕ) → AllHold (rules_of_image file) → lfanew file + 240 + wider file ≤ sections_offset file
+directories_end file all =
+    let narrow : 216 ≤ optional_header_size file = all.1.1.1.0.0 in
+    elim all.1.1.1.1.1.0 as (λ _. lfanew file + 240 + wider file ≤ sections_offset file) [
+      | inl is ↦ let wide : wider file ≡ 0 = ap (λ (m : ℕ). cond (m == 0x20B) 16 0) is in omega arith
+      | inr is ↦
+          let wide : wider file ≡ 16 = ap (λ (m : ℕ). cond (m == 0x20B) 16 0) is in
+          let long : 232 ≤ optional_header_size file = all.1.1.1.1.0 is in
+          omega arith
+    ]
+
+-- what of the file stays, where the root is, and where the result ends
+pub record Room (file : List ℕ) (header : CliHeader) (root : List ℕ) (slot : Slot) : Type 0 where
+  pub kept : (target_of file header (length root) slot).kept ≤ length file
+  pub longer : (target_of file header (length root) slot).kept ≤ (target_of file header (length root) slot).len
+  pub header_kept : header.place + 72 ≤ (target_of file header (length root) slot).kept
+  pub root_after : headers_end file ≤ (target_of file header (length root) slot).start
+  pub header_clear : (header.place + 72 ≤ (target_of file header (length root) slot).start) ⊎ ((target_of file header (length root) slot).start + length (root_bytes root header slot) ≤ header.place)
+  pub root_within : (target_of file header (length root) slot).start + length (root_bytes root header slot) ≤ (target_of file header (length root) slot).len
+  pub small : (target_of file header (length root) slot).len ≤ byte_limit
+
+pub room : (file : List ℕ) (header : CliHeader) (root : List ℕ) (source : Source) (slot : Slot) → IsHeaderOf file header → AreHeadersApart file header
+    → FitsAt file (length root) header source slot → Room file header root slot
+room file header root source Reused of apart fits =
+    let padding = header.metadata.size - length root in
+    let long : length (root ++ replicate padding 0) ≡ length root + padding = length-append root (replicate padding 0) ∙ omega (arith, length-replicate {A = ℕ} padding 0) in
+    let short : length root ≤ header.metadata.size = fits.is_slot.short in
+    record {
+      kept = omega arith;
+      longer = omega arith;
+      header_kept = of.header_within;
+      root_after = apart.root;
+      header_clear = elim fits.is_slot.free.cli_header [
+        | inl none ↦ absurd (omega arith)
+        | inr clear ↦ elim clear [ inl h ↦ inl h | inr h ↦ inr (omega arith) ]
+      ];
+      root_within = omega (arith, of.root);
+      small = of.image.0;
+    }
+room file header root source (Appended address offset) of apart fits =
+    let some = fits.in_range.alignments.bytes in
+    let after : length file ≤ offset = omega (arith, fits.is_slot.2.offset_is, above (field_of file FileAlignment) (length file) some) in
+    let long = above (field_of file FileAlignment) (length root) some in
+    record {
+      kept = omega arith;
+      longer = omega arith;
+      header_kept = of.header_within;
+      root_after = omega (arith, of.header_within, apart.cli_header);
+      header_clear = inl (omega (arith, of.header_within));
+      root_within = omega arith;
+      small = fits.in_range.result;
+    }
+room file header root source (Extended within) of apart fits =
+    let longer = fits.is_slot.2 in
+    let some = fits.in_range.alignments.bytes in
+    let after : full_size file (last file) ≤ within = omega (arith, longer.within_is, above 4 (full_size file (last file)) (omega arith)) in
+    let long = above (field_of file FileAlignment) (within + length root) some in
+    let size : raw_size file (last file) ≤ full_size file (last file) = omega arith in
+    record {
+      kept = elim longer.ends as (λ _. raw_end file (last file) ≤ length file) [ inl h ↦ omega arith | inr h ↦ omega (arith, h.0) ];
+      longer = omega arith;
+      header_kept = longer.header_before;
+      root_after = omega (arith, longer.header_before, apart.cli_header);
+      header_clear = inl (omega (arith, longer.header_before));
+      root_within = omega arith;
+      small = fits.in_range.result;
+    }
+
+-- each change is within the bytes that stay
+pub changes_within : (name : StrongName) (file : List ℕ) (header : CliHeader) (root : List ℕ) (source : Source) (slot : Slot) (len : ℕ) → AllHold (rules_of_image file)
+    → AreHeadersApart file header → FitsAt file (length root) header source slot → header.place + 72 ≤ len
+    → AllWithin len (header_changes name file root header slot)
+changes_within Keep file header root source Reused len all apart fits ends =
+    let wide = directories_end file all in
+    let headers = apart.cli_header in
+    search arith
+changes_within Clear file header root source Reused len all apart fits ends =
+    let wide = directories_end file all in
+    let headers = apart.cli_header in
+    search arith
+changes_within Keep file header root source (Appended address offset) len all apart fits ends =
+    let wide = directories_end file all in
+    let headers = fits.is_slot.1.cli_header in
+    search arith
+changes_within Clear file header root source (Appended address offset) len all apart fits ends =
+    let wide = directories_end file all in
+    let headers = fits.is_slot.1.cli_header in
+    search arith
+changes_within Keep file header root source (Extended within) len all apart fits ends =
+    let wide = directories_end file all in
+    let headers = apart.cli_header in
+    let some = fits.is_slot.2.some in
+    search arith
+changes_within Clear file header root source (Extended within) len all apart fits ends =
+    let wide = directories_end file all in
+    let headers = apart.cli_header in
+    let some = fits.is_slot.2.some in
+    search arith

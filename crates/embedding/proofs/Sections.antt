@@ -1,0 +1,103 @@
+-- The file offset of bytes, by lists of sections that differ at their end.
+use Rattle.std.proofs.Common.{◌≡◌, ℕ, zero, suc, ◌+◌, ◌-◌, ◌*◌, ◌≤◌, ◌<◌, Bool, true, false, cond, List, [], ◌∷◌, ◌++◌, Option, Some, None, inl, inr, refl, sym, ap, subst, ◌∙◌, arith}
+use Rattle.std.specs.List.{find}
+use Rattle.std.specs.Option.{option_map}
+use Rattle.std.proofs.lemmas.Bool.{cases_lt}
+use Rattle.std.proofs.lemmas.Bool.Decides.{nat_tests}
+use Rattle.pe.specs.declared.section.SectionHeader.{SectionHeader}
+use Rattle.pe.specs.Headers.{section_at, sections_from, sections_offset}
+use Rattle.pe.specs.Offset.{has_bytes}
+use Rattle.file_ranges.specs.Fields.{address_end}
+use Rattle.embedding.specs.Slots.{address_before}
+
+-- the file offset of bytes by these sections
+abbrev pub offset_in : ℕ → ℕ → List SectionHeader → Option ℕ
+offset_in rva count sections = option_map (λ section. section.pointer_to_raw_data + rva - section.virtual_address) (find (has_bytes rva count) sections)
+
+-- none of these sections has the bytes
+abbrev pub NoneHas : ℕ → ℕ → List SectionHeader → Type 0
+NoneHas rva count [] = Unit {0}
+NoneHas rva count (section ∷ sections) = (has_bytes rva count section ≡ false) × NoneHas rva count sections
+
+-- where the first byte is, if a section has it
+abbrev start_in : ℕ → SectionHeader → ℕ
+start_in rva section = section.pointer_to_raw_data + rva - section.virtual_address
+
+-- sections that follow change nothing for bytes that are found
+pub found_before : (rva count offset : ℕ) (sections more : List SectionHeader) → offset_in rva count sections ≡ Some offset
+    → offset_in rva count (sections ++ more) ≡ Some offset
+found_before rva count offset [] more found = cc
+found_before rva count offset (section ∷ sections) more found =
+    (elim (has_bytes rva count section) as (λ (b : Bool). option_map (start_in rva) (cond b (Some section) (find (has_bytes rva count) sections)) ≡ Some offset
+    → option_map (start_in rva) (cond b (Some section) (find (has_bytes rva count) (sections ++ more))) ≡ Some offset) [
+      | true ↦ λ here. here
+      | false ↦ λ later. found_before rva count offset sections more later
+    ]) found
+
+-- bytes of the last section are found there, too, if it is longer
+pub found_longer : (rva count offset : ℕ) (sections : List SectionHeader) (last longer : SectionHeader) → (has_bytes rva count last ≡ true → has_bytes rva count longer ≡ true)
+    → start_in rva last ≡ start_in rva longer → offset_in rva count (sections ++ last ∷ []) ≡ Some offset
+    → offset_in rva count (sections ++ longer ∷ []) ≡ Some offset
+found_longer rva count offset [] last longer has same found =
+    (elim (has_bytes rva count last) as (λ (b : Bool). (b ≡ true → has_bytes rva count longer ≡ true) → option_map (start_in rva) (cond b (Some last) None) ≡ Some offset
+    → option_map (start_in rva) (cond (has_bytes rva count longer) (Some longer) None) ≡ Some offset) [
+      | true ↦ λ yes here. ap (λ (b : Bool). option_map (start_in rva) (cond b (Some longer) None)) (yes refl) ∙ ap Some (sym same) ∙ here
+      | false ↦ λ yes none. cc
+    ]) has found
+found_longer rva count offset (section ∷ sections) last longer has same found =
+    (elim (has_bytes rva count section) as (λ (b : Bool). option_map (start_in rva) (cond b (Some section) (find (has_bytes rva count) (sections ++ last ∷ []))) ≡ Some offset
+    → option_map (start_in rva) (cond b (Some section) (find (has_bytes rva count) (sections ++ longer ∷ []))) ≡ Some offset) [
+      | true ↦ λ here. here
+      | false ↦ λ later. found_longer rva count offset sections last longer has same later
+    ]) found
+
+-- bytes of a new section are found there if no other has them
+pub found_new : (rva count : ℕ) (sections : List SectionHeader) (new : SectionHeader) → NoneHas rva count sections → has_bytes rva count new ≡ true
+    → offset_in rva count (sections ++ new ∷ []) ≡ Some (start_in rva new)
+found_new rva count [] new none has = ap (λ (b : Bool). option_map (start_in rva) (cond b (Some new) None)) has
+found_new rva count (section ∷ sections) new none has =
+    ap (λ (b : Bool). option_map (start_in rva) (cond b (Some section) (find (has_bytes rva count) (sections ++ new ∷ [])))) none.0
+    ∙ found_new rva count sections new none.1 has
+
+none_more : (rva count : ℕ) (sections : List SectionHeader) (section : SectionHeader) → NoneHas rva count sections → has_bytes rva count section ≡ false
+    → NoneHas rva count (sections ++ section ∷ [])
+none_more rva count [] section none not = (not, tt)
+none_more rva count (other ∷ sections) section none not = (none.0, none_more rva count sections section none.1 not)
+
+-- a section has bytes that it has all of, and none that end after it
+pub has : (rva count : ℕ) (section : SectionHeader) → section.virtual_address ≤ rva → rva + count ≤ section.virtual_address + section.size_of_raw_data
+    → has_bytes rva count section ≡ true
+has rva count section begins ends = grind (arith, nat_tests)
+
+pub has_not : (rva count : ℕ) (section : SectionHeader) → section.virtual_address + section.size_of_raw_data < rva + count → has_bytes rva count section ≡ false
+has_not rva count section past = grind (arith, nat_tests)
+
+pub has_longer : (rva count : ℕ) (last longer : SectionHeader) → last.virtual_address ≡ longer.virtual_address → last.size_of_raw_data ≤ longer.size_of_raw_data
+    → has_bytes rva count last ≡ true → has_bytes rva count longer ≡ true
+has_longer rva count last longer same more it = grind (arith, nat_tests)
+
+-- the last of the section headers
+pub sections_more : (file : List ℕ) (at count : ℕ) → sections_from file at (suc count) ≡ sections_from file at count ++ section_at file (at + 40 * count) ∷ []
+sections_more file at zero = ap (λ (n : ℕ). section_at file n ∷ []) (omega arith)
+sections_more file at (suc count) =
+    ap (λ (l : List SectionHeader). section_at file at ∷ l)
+    (sections_more file (at + 40) count ∙ ap (λ (n : ℕ). sections_from file (at + 40) count ++ section_at file n ∷ []) (omega arith))
+
+-- sections that end before some bytes have none of them
+pub none_each : (file : List ℕ) (rva count last : ℕ) → 0 < count → ((index : ℕ) → index < last → address_end file index ≤ rva)
+    → NoneHas rva count (sections_from file (sections_offset file) last)
+none_each file rva count zero some after = tt
+none_each file rva count (suc last) some after =
+    let start = sections_offset file in
+    let section = section_at file (start + 40 * last) in
+    let stop = after last (omega arith) in
+    let none = none_more rva count (sections_from file start last) section (none_each file rva count last some (λ index below. after index (omega arith))) (has_not rva count section (omega arith)) in
+    subst (NoneHas rva count) (sym (sections_more file start last)) none
+
+pub ends_before : (file : List ℕ) (count index : ℕ) → index < count → address_end file index ≤ address_before file count
+ends_before file zero index below = absurd (omega arith)
+ends_before file (suc count) index below =
+    elim (cases_lt index count) [
+      | inl h ↦ omega (arith, ends_before file count index h)
+      | inr h ↦ let same : index ≡ count = omega arith in omega (arith, ap (address_end file) same)
+    ]

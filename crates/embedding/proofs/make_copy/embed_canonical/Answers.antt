@@ -1,0 +1,74 @@
+use Rattle.std.proofs.Common.{◌≡◌, ◌<◌, inl, inr, List, ℕ, length, refl, subst, sym, ap, ◌∙◌, arith}
+use Rattle.std.proofs.lemmas.Result.{err_from_is_err_and}
+use Rattle.std.proofs.Math.Logic.{∥∥₁_map}
+use Rattle.std.specs.Bool.{⊤}
+use Rattle.packed.specs.Limit.{byte_limit}
+use Rattle.writer.specs.declared.error.WriteError.{WriteError}
+use Rattle.writer.specs.Errors.{MatchError}
+use Rattle.metadata.specs.Metadata.{Metadata}
+use Rattle.metadata.specs.Model.{IsModel}
+use Rattle.opening.specs.Views.{user_of}
+use Rattle.root_writer.specs.Canonical.{canonical}
+use Rattle.embedding.specs.Embedded.{IsEmbedded}
+use Rattle.embedding.specs.Errors.{IsReason}
+use Rattle.embedding.specs.Planned.{result_of}
+use Rattle.embedding.proofs.Canonical.{AreRead, leads}
+use Rattle.embedding.proofs.make_copy.embed_canonical.Goals as goal
+
+-- the file has a model, of which this is the canonical root
+shown : (c : goal.After-bytes) → ∥ ((model : Metadata) × IsModel c.bytes.result.now model × IsModel c.in_ok-opened.opened.view model) ∥₁
+shown c = ∥∥₁_map c.in_ok-opened.ensures.opened.header.model (λ some.
+    let of_view : IsModel c.in_ok-opened.opened.view some.0 = c.in_ok-opened.ensures.model c.in_ok-opened.opened.header some.0 some.1 in
+    let is : c.in-Ok.root ≡ canonical some.0 = c.in-Ok.ensures.root some.0 of_view in
+    let short = c.in-Ok.ensures.within in
+    let of_root : IsModel (canonical some.0) some.0 =
+    c.canonical_root_has_its_model.ensures some.0 (c.models_of_roots_are_valid.ensures c.in_ok-opened.opened.view some.0 of_view) (omega (arith, ap length is)) in
+    (some.0, subst (λ (root : List ℕ). IsModel root some.0) (sym (c.bytes.ensures ∙ is)) of_root, of_view))
+
+pub plan_opened-requires-clause-leads : goal.plan_opened-requires-clause-leads
+unfolding user_of
+plan_opened-requires-clause-leads c =
+    let laws : AreRead = record { user = c.models_are_read.ensures.user; count = c.models_are_read.ensures.count; cells = c.models_are_read.ensures.cells } in
+    leads laws c.bytes.result.now c.in_ok-opened.opened.view (shown c)
+
+pub plan_opened-requires-clause-model : goal.plan_opened-requires-clause-model
+plan_opened-requires-clause-model c = ∥∥₁_map (shown c) (λ some. (some.0, some.1))
+
+is_embedded : (c : goal.After-drop-root-inside-2) (model : Metadata) → IsModel c.in_ok-opened.opened.view model
+    → IsEmbedded c.args.strong_name c.args.file.now (canonical model) c.in_ok-make.field-0.items
+is_embedded c model of_view =
+    let root : c.bytes.result.now ≡ canonical model = c.bytes.ensures ∙ c.in-Ok.ensures.root model of_view in
+    let made = result_of c.in_ok-plan.plan in
+    subst (λ (bytes : List ℕ). IsEmbedded c.args.strong_name c.args.file.now (canonical model) bytes) (sym c.in_ok-make.ensures)
+    (subst (λ (whole : List ℕ). IsEmbedded c.args.strong_name whole (canonical model) made) c.in_ok-opened.ensures.opened.headers
+    (subst (λ (bytes : List ℕ). IsEmbedded c.args.strong_name c.in_ok-opened.opened.headers bytes made) root c.in_ok-plan.ensures.sound))
+
+pub returns-clause-sound : goal.returns-clause-sound
+returns-clause-sound c = λ header model is. is_embedded c model (c.in_ok-opened.ensures.model header model is)
+
+pub returns-clause-model : goal.returns-clause-model
+returns-clause-model c = λ header model is.
+    let of_view = c.in_ok-opened.ensures.model header model is in
+    let short = c.in-Ok.ensures.within in
+    let root = c.in-Ok.ensures.root model of_view in
+    let of_root : IsModel (canonical model) model =
+    c.canonical_root_has_its_model.ensures model (c.models_of_roots_are_valid.ensures c.in_ok-opened.opened.view model of_view) (omega (arith, ap length root)) in
+    c.embedded_roots_are_found.ensures c.args.strong_name c.args.file.now (canonical model) c.in_ok-make.field-0.items model (λ k. omega (arith, c.type_inv.file k))
+    (is_embedded c model of_view) of_root
+
+pub returns-in-Err-TooLarge-clause-refused : goal.returns-in-Err-TooLarge-clause-refused
+returns-in-Err-TooLarge-clause-refused c = λ header model is.
+    let refused = c.in-Err-TooLarge.ensures.refused model (c.in_ok-opened.ensures.model header model is) in
+    let long : byte_limit < length (canonical model) =
+    subst (λ (e : WriteError). MatchError (byte_limit < length (canonical model)) ⊤ (λ given. ⊥) e) c.in-Err-TooLarge.field-0-is refused in
+    inr (inl (refl, long))
+
+pub returns-in_err-plan-clause-refused : goal.returns-in_err-plan-clause-refused
+returns-in_err-plan-clause-refused c = λ header model is.
+    let error = c.in_err-plan.field-0.0 in
+    let root : c.bytes.result.now ≡ canonical model = c.bytes.ensures ∙ c.in-Ok.ensures.root model (c.in_ok-opened.ensures.model header model is) in
+    let reason : IsReason c.args.file.now (canonical model) error =
+    subst (λ (bytes : List ℕ). IsReason c.args.file.now bytes error) root
+    (subst (λ (file : List ℕ). IsReason file c.bytes.result.now error) c.in_ok-opened.ensures.opened.headers c.in_err-plan.ensures.refused) in
+    let p = err_from_is_err_and c.from_residual-in_err-plan.result c.from_residual-in_err-plan.ensures.1 in
+    rw (p.1, p.2) (inr (inr reason))

@@ -1,0 +1,20 @@
+use Rattle.std.proofs.Common.{ap, ◌∙◌, length}
+use Rattle.embedding.specs.Bytes.{changed, with_bytes}
+use Rattle.embedding.specs.Embedded.{certificate_changes, copied, strong_name_changes, with_checksum}
+use Rattle.embedding.specs.Slots.{metadata_changes, slot_changes, root_bytes}
+use Rattle.embedding.specs.Planned.{target_in}
+use Rattle.embedding.proofs.Results.{changed_in_parts}
+use Rattle.embedding.proofs.plan.EmbedPlan.put_parts.Goals as goal
+
+pub returns : goal.returns
+returns c =
+    let plan = c.args.self.now in
+    let target = target_in plan in
+    c.put_checksum.ensures
+    ∙ ap (with_checksum plan.file) (c.put_root.ensures
+    ∙ ap (with_bytes target.start (root_bytes plan.root plan.header plan.slot)) (c.put_certificate.ensures
+    ∙ ap (changed (certificate_changes plan.file)) (c.put_strong_name.ensures
+    ∙ ap (changed (strong_name_changes plan.header plan.strong_name)) (c.put_metadata.ensures
+    ∙ ap (changed (metadata_changes plan.header (length plan.root) target)) (c.put_slot.ensures
+    ∙ ap (changed (slot_changes plan.file (length plan.root) plan.slot target)) c.copy_file.ensures)))
+    ∙ changed_in_parts plan (copied plan.file target)))

@@ -1,0 +1,52 @@
+use Rattle.std.proofs.Common.{List, ℕ, length, subst, arith}
+use Rattle.std.proofs.lemmas.Result.{err_from_is_err_and}
+use Rattle.metadata.specs.SourceAt.{source_of}
+use Rattle.embedding.specs.Matching.{LeadsAlike}
+use Rattle.embedding.specs.Slots.{FitsAt}
+use Rattle.embedding.specs.Planned.{Planned, IsPlanned}
+use Rattle.embedding.proofs.Misfits.{misfit_is_reason}
+use Rattle.embedding.proofs.Results.{embedded_of}
+use Rattle.embedding.proofs.plan.plan_opened.Goals as goal
+
+planned : goal.After-result-1 → Planned
+planned c = record {
+  strong_name = c.args.strong_name;
+  file = c.args.file.headers;
+  root = c.args.root.now;
+  header = c.args.file.header;
+  slot = c.in_ok-slot.slot;
+}
+
+is_planned : (c : goal.After-result-1) → IsPlanned (planned c)
+unfolding planned
+is_planned c =
+    let file = c.args.file.headers in
+    let header = c.args.file.header in
+    let root = c.args.root.now in
+    let opened = c.requires.opened in
+    record {
+      header = opened.header;
+      apart = record {
+        dos = omega (arith, c.lfanew.ensures);
+        cli_header = omega (arith, c.headers_end-end.ensures.offset);
+        root = omega (arith, c.headers_end-end.ensures.offset);
+      };
+      fits = subst (λ (old : List ℕ). FitsAt file (length root) header (source_of old) c.in_ok-slot.slot) opened.view c.in_ok-slot.ensures.fits;
+      leads = subst (λ (old : List ℕ). LeadsAlike root old) opened.view c.requires.leads;
+      model = c.requires.model;
+    }
+
+pub invariant_of-result : goal.invariant_of-result
+unfolding planned
+invariant_of-result c = record { planned = is_planned c; target = c.target_of-target.ensures.value }
+
+pub returns-clause-sound : goal.returns-clause-sound
+unfolding planned
+returns-clause-sound c = embedded_of (planned c) (is_planned c)
+
+pub returns-in_err-slot-clause-refused : goal.returns-in_err-slot-clause-refused
+returns-in_err-slot-clause-refused c =
+    let opened = c.requires.opened in
+    let p = err_from_is_err_and c.from_residual.result c.from_residual.ensures.1 in
+    rw (p.1, p.2) (misfit_is_reason c.args.file.headers c.args.root.now c.args.file.view c.args.file.header opened.header.header_is opened.view c.in_err-slot.field-0.0
+    c.in_err-slot.ensures.misfit)

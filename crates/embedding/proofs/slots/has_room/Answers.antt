@@ -1,0 +1,33 @@
+use Rattle.std.proofs.Common.{◌≡◌, ◌+◌, ◌≤◌, ◌⊎◌, inl, inr, ℕ, List, length, replicate, subst, ap, arith}
+use Rattle.packed.specs.Offsets.{part}
+use Rattle.file_ranges.specs.Fields.{raw_size, raw_offset, headers_end}
+use Rattle.embedding.proofs.Padded.{zeros_at}
+use Rattle.embedding.proofs.slots.has_room.Goals as goal
+
+pub returns : goal.returns
+returns c =
+    let file = c.args.headers.now in
+    let first = c.headers_end-start.result in
+    let start : first ≡ headers_end file = c.headers_end-start.ensures.offset in
+    let long : length c.file-file.result.now ≡ length file = ap length c.file-file.ensures.bytes in
+    let zeros : part file first 40 ≡ replicate 40 0 =
+    subst (λ (l : List ℕ). part l first 40 ≡ replicate 40 0) c.file-file.ensures.bytes
+    (zeros_at c.file-file.result.now first (first + 40) 40 (omega arith) (omega arith) (c.are_zeros.ensures.0 c.if-not-are_zeros.false)) in (
+      λ yes. record {
+        count = omega (arith, c.section_count.ensures.value);
+        room = omega (arith, start, c.field.ensures);
+        within = omega (arith, start, long);
+        zeros = subst (λ (n : ℕ). part file n 40 ≡ replicate 40 0) start zeros;
+        cli_header = omega (arith, start);
+        sections = λ index below.
+            elim (c.are_after.ensures.0 yes index below) as (λ _. (raw_size file index ≡ 0) ⊎ (headers_end file + 40 ≤ raw_offset file index)) [
+              | inl h ↦ inl h
+              | inr h ↦ inr (omega (arith, start))
+            ];
+      },
+      λ room. c.are_after.ensures.1 (λ index below.
+          elim (room.sections index below) as (λ _. (raw_size file index ≡ 0) ⊎ (first + 40 ≤ raw_offset file index)) [
+            | inl h ↦ inl h
+            | inr h ↦ inr (omega (arith, start))
+          ]),
+    )

@@ -1,0 +1,31 @@
+use Rattle.std.proofs.Common.{◌≡◌, ℕ, eq-eqb, sym, subst, ◌∙◌}
+use Rattle.std.proofs.lemmas.Bool.{false≢true}
+use Rattle.pe.specs.Image.{Image}
+use Rattle.pe.specs.Offset.{IsFileOffset}
+use Rattle.metadata.specs.Source.{Source}
+use Rattle.file_ranges.specs.Occupied.{IsFree}
+use Rattle.embedding.proofs.slots.reused.Goals as goal
+use Rattle.embedding.proofs.slots.reused.Goals.{in-Some, in-None, else-is_found-via-then-is_found+else-is_free, else-is_found-via-else-is_found}
+
+pub returns-else-is_found-clause-misfit : goal.returns-else-is_found-clause-misfit
+returns-else-is_found-clause-misfit c = (
+  c.requires.short,
+  λ fits.
+      let file = c.args.file.now in
+      let start = file.header.root.start in
+      let found : IsFileOffset file.image file.header.metadata.rva c.args.len start =
+      subst (λ (image : Image). IsFileOffset image file.header.metadata.rva c.args.len start) (sym c.requires.opened.image) fits.found in
+      elim c.else-is_found.branch as (λ _. ⊥) [
+        | else-is_found-via-then-is_found+else-is_free w ↦
+            let free : IsFree file.header file.headers w.source.result.now.source =
+            subst (λ (source : Source). IsFree file.header file.headers source) (sym w.source.ensures.source) fits.free in
+            false≢true (sym w.if-is_free.false ∙ w.is_free.ensures.1 free)
+        | else-is_found-via-else-is_found w ↦
+            elim c.match-range.branch as (λ _. ⊥) [
+              | in-Some v ↦
+                  let same = v.in-Some.ensures.complete start found in
+                  false≢true (sym w.if-is_found.false ∙ v.is_found-is ∙ eq-eqb v.in-Some.range.start start same.0)
+              | in-None v ↦ absurd (v.in-None.ensures.complete start found)
+            ]
+      ],
+)

@@ -1,0 +1,5 @@
+pub mod Fields
+pub mod Read
+pub mod Bodies
+pub mod FieldData
+pub mod Occupied
