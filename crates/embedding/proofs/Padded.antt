@@ -28,8 +28,8 @@ padded_alike left right count in_left in_right same begin left_zeros right_zeros
     ∙ sym (zeros_joined right count in_right right_zeros)
 
 -- what comes before zeros that are zeros as a whole
-front_zeros : (xs ys : List ℕ) (n : ℕ) → xs ++ ys ≡ replicate n 0 → xs ≡ replicate (length xs) 0
-front_zeros xs ys n all =
+leading_zeros : (xs ys : List ℕ) (n : ℕ) → xs ++ ys ≡ replicate n 0 → xs ≡ replicate (length xs) 0
+leading_zeros xs ys n all =
     let long : length xs + length ys ≡ n = omega (arith, length-append xs ys, ap length all, length-replicate {A = ℕ} n 0) in
     sym (take-append_seam xs ys) ∙ ap (take (length xs)) all ∙ take-replicate (length xs) n 0 (omega (arith, long))
 
@@ -44,7 +44,7 @@ zeros_after left right count same is =
     elim (cases_lt (length right) (length left)) as (λ _. drop count left ≡ replicate (length (drop count left)) 0) [
       | inl shorter ↦
           let none : drop count right ≡ [] = drop_all count right (omega arith) in
-          front_zeros (drop count left) (replicate pad 0) other (ends ∙ ap (λ (l : List ℕ). l ++ replicate other 0) none)
+          leading_zeros (drop count left) (replicate pad 0) other (ends ∙ ap (λ (l : List ℕ). l ++ replicate other 0) none)
       | inr longer ↦
           let none : drop count left ≡ [] = drop_all count left (omega arith) in
           subst (λ (l : List ℕ). l ≡ replicate (length l) 0) (sym none) refl
@@ -58,7 +58,7 @@ same_begin left right count same is =
     ∙ ap (take count) same
     ∙ take-append-le count right (replicate ((4 - length right % 4) % 4) 0) (omega arith)
 
--- heaps that are padded to the same bytes have as many times four bytes
+-- heaps that are padded to the same bytes have the same number of parts of four bytes
 pub same_fours : (left right : List ℕ) → zero_padded left ≡ zero_padded right
     → length left / 4 + min 1 (length left % 4) ≡ length right / 4 + min 1 (length right % 4)
 same_fours left right same =

@@ -54,19 +54,3 @@ impl From<Fault> for EmbedError {
         EmbedError::File(fault)
     }
 }
-
-impl EmbedError {
-    /// The number of the reason, from 1, for languages without enums.
-    pub fn number(self) -> u8 {
-        match self {
-            EmbedError::File(_) => 1,
-            EmbedError::Root(_) => 2,
-            EmbedError::Unlike => 3,
-            EmbedError::Headers => 4,
-            EmbedError::Occupied => 5,
-            EmbedError::NoRoom => 6,
-            EmbedError::TooLong => 7,
-            EmbedError::Memory => 8,
-        }
-    }
-}

@@ -53,7 +53,7 @@ pub fn is_free(headers: &Headers, header: &CliHeader, source: &Source) -> bool
 /// The address of the first section that has all of the metadata (II.25.3).
 fn lowest_address(headers: &Headers, header: &CliHeader) -> Option<u32>
     requires { header.now.root.start ≤ 2 ^ 30 }
-    ensures found { IfSome result (IsLowest header.now headers.now) }
+    ensures sound { IfSome result (IsLowest header.now headers.now) }
     ensures none { IfNone result ((lowest : ℕ) → ¬ IsLowest header.now headers.now lowest) }
 {
     for index in 0..headers.section_count() {

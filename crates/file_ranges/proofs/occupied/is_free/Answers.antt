@@ -35,7 +35,7 @@ returns-then-not-are_bodies_apart c = (
       let header = c.args.header.now in
       let file = c.args.headers.now in
       let source = c.args.source.now.source in
-      let same : free.lowest ≡ c.in-Some.lowest = one_lowest header file free.lowest c.in-Some.lowest free.is_lowest c.in-Some.ensures.found in
+      let same : free.lowest ≡ c.in-Some.lowest = one_lowest header file free.lowest c.in-Some.lowest free.is_lowest c.in-Some.ensures.sound in
       let bodies : AreBodiesApart header c.file-file.result.now source c.in-Some.lowest =
       subst (λ (f : List ℕ). AreBodiesApart header f source c.in-Some.lowest) (sym c.file-file.ensures.bytes)
       (subst (λ (n : ℕ). AreBodiesApart header file source n) same free.bodies) in
