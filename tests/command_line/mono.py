@@ -48,8 +48,8 @@ def compiled(folder):
 
 
 def copies(clim, folder, name):
-    """Makes two copies of a program, in folders of their own: with its canonical root, and with a root that is too long for
-    its place. Returns the folders."""
+    """Makes two copies of a program, in folders of their own: with its canonical root, and with a root that is longer than the
+    old one. Returns the folders."""
     root = f"{folder}/{name}.root"
     said([clim, "rewrite", name, root], folder)
     with open(root, "ab") as it:
@@ -81,7 +81,7 @@ def check_programs(clim, folder):
 
 
 def assemblies(most):
-    """The assemblies of Mono, each once, at most so many."""
+    """The assemblies of Mono, each once, at most `most` of them."""
     found = {}
     for where, _, names in sorted(os.walk(LIBRARIES)):
         for name in sorted(names):
