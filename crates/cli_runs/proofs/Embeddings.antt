@@ -1,6 +1,6 @@
 -- What is written for a file and a root, and why nothing is.
-use Rattle.std.proofs.Common.{◌≡◌, ◌⊎◌, ◌∷◌, [], ℕ, List, Option, Some, None, Result, Ok, Err, length, subst, inl, inr}
-use Rattle.std.specs.Prelude.{IfErr, OnOk}
+use Rattle.std.proofs.Common.{◌≡◌, ◌⊎◌, ◌∷◌, [], ℕ, List, Option, Some, None, Result, Ok, Err, length, refl, subst, inl, inr}
+use Rattle.std.specs.Prelude.{IfErr, IsErrAnd, OnOk}
 use Rattle.std.specs.Io.KnownBytes.{Appends}
 use Rattle.packed.specs.Offsets.{part}
 use Rattle.embedding.specs.declared.strong_name.StrongName.{StrongName}
@@ -17,7 +17,18 @@ use Rattle.cli_lines.specs.Lines.{report_text}
 use Rattle.cli_lines.specs.Printed.{SendsPrefix, Sent}
 use Rattle.cli_runs.specs.Embedded.{HasNoRoot, IsEmbedding, IsLineOf, IsPut, IsPutDone, IsPutUndone, IsRootFor, IsSent, WarnsOf, embed_line}
 use Rattle.cli_runs.specs.Rewritten.{ReportsUnwritten}
-use Rattle.cli_runs.specs.Runs.{StopsBy}
+use Rattle.cli_runs.specs.Runs.{IsMixed, StopsBy}
+
+-- it stopped, so that nothing holds of its success
+pub not_done : (P : Stopped → Type 0) (A : Type 0) (outcome : Outcome) → IsErrAnd outcome P → OnOk outcome A
+not_done P A (Ok done) by = absurd by
+not_done P A (Err stopped) by = tt
+
+-- OUT is the standard output
+pub mixed : {W : Type 0} (before : W) (path : List ℕ) (failure : Failure) (outcome : Outcome) → IsErrAnd outcome (StopsBy failure) → IsUnwritten path failure
+    → IsMixed before before path outcome
+mixed before path failure (Ok done) by unwritten = absurd by
+mixed before path failure (Err stopped) by unwritten = ((failure, by, unwritten), refl)
 
 -- the line went out, or a prefix of it
 pub line_done : {F : Type 0} (file_contents : F → Option (List ℕ)) (before after : Option (List ℕ)) (plan : Planned) (form : Form) (result : Result (Unit {0}) Failure)
@@ -64,6 +75,14 @@ module _ {W F : Type 0} (contents : W → Option (List ℕ)) (file_contents : F 
   put_with path given root (Err stopped) is put undone = record { done = tt; stopped = (undone.0, undone.1, inr (root, is, undone.2)) }
 
   -- the run without one
-  pub put_nothing : (path : List ℕ) (stopped : Stopped) (failure : Failure) → StopsBy failure stopped → ReportsUnwritten File file failure → after ≡ before
-      → IsEmbedding contents file_contents before after form strong_name file path None (Err stopped)
-  put_nothing path stopped failure by why same = record { done = tt; stopped = (failure, by, inl (why, same)) }
+  pub put_nothing : (path : List ℕ) (failure : Failure) (outcome : Outcome) → IsErrAnd outcome (StopsBy failure) → ReportsUnwritten File file failure → after ≡ before
+      → IsEmbedding contents file_contents before after form strong_name file path None outcome
+  put_nothing path failure (Ok done) by why same = absurd by
+  put_nothing path failure (Err stopped) by why same = record { done = tt; stopped = (failure, by, inl (why, same)) }
+
+  -- it stopped before the line went out
+  pub put_stopped : (path root : List ℕ) (failure : Failure) (outcome : Outcome) → IsErrAnd outcome (StopsBy failure)
+      → IsPutUndone contents file_contents before after form strong_name file path root failure
+      → IfErr outcome (λ stopped. (why : Failure) × StopsBy why stopped × IsPutUndone contents file_contents before after form strong_name file path root why)
+  put_stopped path root failure (Ok done) by undone = absurd by
+  put_stopped path root failure (Err stopped) by undone = (failure, by, undone)

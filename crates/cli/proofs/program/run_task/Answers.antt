@@ -1,6 +1,5 @@
-use Rattle.std.proofs.Common.{ℕ, List, Option, inr}
+use Rattle.std.proofs.Common.{inr}
 use Rattle.std.specs.Prelude.{option_map}
-use Rattle.cli_files.specs.Stopped.{Outcome}
 use Rattle.cli_runs.specs.Embedded.{IsEmbedding, WarnsOf}
 use Rattle.cli.proofs.EmbedRuns.{embed_run}
 use Rattle.cli.proofs.program.run_task.Goals as goal

@@ -1,7 +1,7 @@
-use Rattle.std.proofs.Common.{ℕ, List, None, Some, inl, refl, subst, sym}
+use Rattle.std.proofs.Common.{ℕ, List, None, Some, refl, subst, sym}
 use Rattle.cli_input.specs.declared.opened.Input.TheVariants.{File}
 use Rattle.cli_runs.specs.Rewritten.{IsRewritten}
-use Rattle.cli_runs.proofs.Embeddings.{put_with}
+use Rattle.cli_runs.proofs.Embeddings.{put_nothing, put_with}
 use Rattle.cli_runs.proofs.embed.embed.Goals as goal
 
 pub returns-in-Some-clause-run : goal.returns-in-Some-clause-run
@@ -23,8 +23,6 @@ returns-in_ok-root-in-None-clause-run g c =
 pub returns-in_err-root-in-None-clause-run : goal.returns-in_err-root-in-None-clause-run
 returns-in_err-root-in-None-clause-run g c =
     rw c.in-None.is (
-      record {
-        done = tt;
-        stopped = (c.in_err-root.field-0.0, c.from_residual.ensures.1, inl (c.in_err-root.ensures.first_error, refl));
-      }
+      put_nothing g.W.Write.contents g.R.File.Write.contents c.args.out.now c.args.out.now c.args.options.now.form c.args.options.now.strong_name c.args.file.bytes.now
+          c.args.options.now.path.now c.in_err-root.field-0.0 c.from_residual.result c.from_residual.ensures.1 c.in_err-root.ensures.first_error refl
     )

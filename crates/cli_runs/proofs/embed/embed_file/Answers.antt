@@ -1,8 +1,9 @@
 use Rattle.std.proofs.Common.{Ok, Err, inl, inr, refl}
+use Rattle.cli_runs.proofs.Embeddings.{mixed}
 use Rattle.cli_runs.proofs.embed.embed_file.Goals as goal
 
 pub returns-in_err-check_path : goal.returns-in_err-check_path
-returns-in_err-check_path g c = inr ((c.in_err-check_path.field-0.0, c.from_residual.ensures.1, c.in_err-check_path.ensures), refl)
+returns-in_err-check_path g c = inr (mixed c.args.out.now c.args.options.now.path.now c.in_err-check_path.field-0.0 c.from_residual.result c.from_residual.ensures.1 c.in_err-check_path.ensures)
 
 pub returns-in_err-bytes : goal.returns-in_err-bytes
 returns-in_err-bytes g c = inl (Err c.in_err-bytes.field-0.0, (c.in_err-bytes.ensures.refused, c.from_residual-in_err-bytes.ensures.1, refl))

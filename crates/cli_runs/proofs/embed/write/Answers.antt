@@ -1,4 +1,4 @@
-use Rattle.std.proofs.Common.{◌≡◌, ℕ, List, Option, subst}
+use Rattle.std.proofs.Common.{◌≡◌, ℕ, List, subst}
 use Rattle.cli_faults.specs.Status.{IsUnwritten}
 use Rattle.cli_files.specs.Written.{IsGiven}
 use Rattle.embedding.specs.Planned.{result_of}
