@@ -16,7 +16,7 @@ returns-in_ok-root-in-None-clause-run g c =
     rw c.in-None.is (
       put_with g.W.Write.contents g.R.File.Write.contents c.args.out.now c.put-in-None.new.out c.args.options.now.form c.args.options.now.strong_name
           c.args.file.bytes.now c.args.options.now.path.now None c.bytes.result.now c.put-in-None.result
-          (subst (λ (root : List ℕ). IsRewritten File c.args.file.bytes.now root) (sym c.bytes.ensures) c.in_ok-root.ensures.sound)
+          (subst (λ (root : List ℕ). IsRewritten File c.args.file.bytes.now root) (sym c.bytes.ensures) c.in_ok-root-in-None.ensures.sound)
           c.put-in-None.ensures.done c.put-in-None.ensures.stopped
     )
 
@@ -24,5 +24,5 @@ pub returns-in_err-root-in-None-clause-run : goal.returns-in_err-root-in-None-cl
 returns-in_err-root-in-None-clause-run g c =
     rw c.in-None.is (
       put_nothing g.W.Write.contents g.R.File.Write.contents c.args.out.now c.args.out.now c.args.options.now.form c.args.options.now.strong_name c.args.file.bytes.now
-          c.args.options.now.path.now c.in_err-root.field-0.0 c.from_residual.result c.from_residual.ensures.1 c.in_err-root.ensures.first_error refl
+          c.args.options.now.path.now c.in_err-root-in-None.field-0.0 c.from_residual.result c.from_residual.ensures.1 c.in_err-root-in-None.ensures.first_error refl
     )

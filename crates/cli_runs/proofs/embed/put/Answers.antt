@@ -9,7 +9,7 @@ pub returns-in_ok-write-in-Ok-clause-done : goal.returns-in_ok-write-in-Ok-claus
 returns-in_ok-write-in-Ok-clause-done g c =
     put_sent g.W.Write.contents g.R.File.Write.contents c.args.out.now c.write.new.out c.args.options.now.form c.args.options.now.strong_name c.args.file.bytes.now
     c.args.root.now c.in-Ok.plan (λ text. Appends (g.W.Write.contents c.args.out.now) (g.W.Write.contents c.write.new.out) text)
-    c.in-Ok.ensures.given c.in-Ok.ensures.sound c.in_ok-write.ensures.done
+    c.in-Ok.ensures.given c.in-Ok.ensures.sound c.in_ok-write-in-Ok.ensures.done
 
 pub returns-in_ok-write-in-Ok-clause-quiet : goal.returns-in_ok-write-in-Ok-clause-quiet
 returns-in_ok-write-in-Ok-clause-quiet g c =
@@ -17,16 +17,16 @@ returns-in_ok-write-in-Ok-clause-quiet g c =
 
 pub returns-in_err-write-in-Ok-clause-done : goal.returns-in_err-write-in-Ok-clause-done
 returns-in_err-write-in-Ok-clause-done g c =
-    not_done (StopsBy c.in_err-write.field-0.0)
+    not_done (StopsBy c.in_err-write-in-Ok.field-0.0)
     (IsPutDone g.W.Write.contents g.R.File.Write.contents c.args.out.now c.write.new.out c.args.options.now.form c.args.options.now.strong_name c.args.file.bytes.now c.args.root.now)
     c.from_residual.result c.from_residual.ensures.1
 
 pub returns-in_err-write-in-Ok-clause-stopped : goal.returns-in_err-write-in-Ok-clause-stopped
 returns-in_err-write-in-Ok-clause-stopped g c =
     put_stopped g.W.Write.contents g.R.File.Write.contents c.args.out.now c.write.new.out c.args.options.now.form c.args.options.now.strong_name c.args.file.bytes.now
-    c.args.options.now.path.now c.args.root.now c.in_err-write.field-0.0 c.from_residual.result c.from_residual.ensures.1
+    c.args.options.now.path.now c.args.root.now c.in_err-write-in-Ok.field-0.0 c.from_residual.result c.from_residual.ensures.1
     (put_unsent g.W.Write.contents g.R.File.Write.contents c.args.out.now c.write.new.out c.args.options.now.form c.args.options.now.strong_name c.args.file.bytes.now
-    c.args.options.now.path.now c.args.root.now c.in-Ok.plan c.in_err-write.field-0.0 c.in-Ok.ensures.given c.in-Ok.ensures.sound c.in_err-write.ensures.stopped)
+    c.args.options.now.path.now c.args.root.now c.in-Ok.plan c.in_err-write-in-Ok.field-0.0 c.in-Ok.ensures.given c.in-Ok.ensures.sound c.in_err-write-in-Ok.ensures.stopped)
 
 pub returns-in_err-write-in-Ok-clause-quiet : goal.returns-in_err-write-in-Ok-clause-quiet
 returns-in_err-write-in-Ok-clause-quiet g c =
