@@ -30,8 +30,8 @@ module _ {W : Type 0} (before after : W) (outcome : Outcome) where
       → IsFileRun before after file (λ bytes. IsRootRun before after path (run bytes)) outcome ⊎ IsMixed before after out outcome
   embed_run file out path run more (inl done) =
       inl (
-        file_run file (λ bytes. IsRootRun before after path (λ given result. run bytes given result × more bytes given result))
-            (λ bytes. IsRootRun before after path (run bytes))
-            (λ bytes. root_run path (λ given result. run bytes given result × more bytes given result) (run bytes) (λ given both. both.0)) done
+      file_run file (λ bytes. IsRootRun before after path (λ given result. run bytes given result × more bytes given result))
+      (λ bytes. IsRootRun before after path (run bytes))
+      (λ bytes. root_run path (λ given result. run bytes given result × more bytes given result) (run bytes) (λ given both. both.0)) done
       )
   embed_run file out path run more (inr mixed) = inr mixed

@@ -6,8 +6,7 @@ use Rattle.cli.proofs.program.run_task.Goals as goal
 
 pub returns-in-Embed-clause-run : goal.returns-in-Embed-clause-run
 returns-in-Embed-clause-run g c =
-    let options = c.in-Embed.options in
-    (
+    let options = c.in-Embed.options in (
       c.embed_file.result,
       embed_run c.args.out.now c.embed_file.new.out c.embed_file.result c.in-Embed.file.now options.path.now (option_map (λ path. path.now) options.root)
           (λ bytes. IsEmbedding g.W.Write.contents g.R.File.Write.contents c.args.out.now c.embed_file.new.out options.form options.strong_name bytes options.path.now)
