@@ -2,3 +2,4 @@ pub mod Explaining
 pub mod ColumnsNamed
 pub mod TokensRead
 pub mod RulesNamed
+pub mod EmbedRuns

@@ -1,12 +1,13 @@
 use Rattle.std.proofs.Common.{Ok, Err, inl, inr, refl}
+use Rattle.cli_runs.proofs.Embeddings.{mixed}
 use Rattle.cli_runs.proofs.Rewritings.{stopped_rewriting}
 use Rattle.cli_runs.proofs.rewrite.rewrite_file.Goals as goal
 
 pub returns-in_err-check_path : goal.returns-in_err-check_path
-returns-in_err-check_path g c = inr ((c.in_err-check_path.field-0.0, c.from_residual-in_err-check_path.ensures.1, c.in_err-check_path.ensures), refl)
+returns-in_err-check_path g c = inr (mixed c.args.out.now c.args.path.now c.in_err-check_path.field-0.0 c.from_residual.result c.from_residual.ensures.1 c.in_err-check_path.ensures)
 
 pub returns-in_err-read : goal.returns-in_err-read
-returns-in_err-read g c = inl (Err c.in_err-read.field-0.0, (c.in_err-read.ensures.refused, c.from_residual.ensures.1, refl))
+returns-in_err-read g c = inl (Err c.in_err-read.field-0.0, (c.in_err-read.ensures.refused, c.from_residual-in_err-read.ensures.1, refl))
 
 pub returns-in-Ok : goal.returns-in-Ok
 returns-in-Ok g c = inl (Ok c.deref-bytes.result.now, record { done = c.in-Ok.ensures.done; stopped = tt; hint = tt })

@@ -14,7 +14,7 @@ const LINES_IN_HELP: &str = "\
 ";
 
 /// Arguments that are a usage error, and what the program prints for them.
-const REFUSED: [(&[&str], &str); 90] = [
+const REFUSED: [(&[&str], &str); 95] = [
     (&[], "Usage: clim <COMMAND>"),
     (&["clim"], "Usage: clim <COMMAND>"),
     (&["clim", "lacks"], "unrecognized subcommand 'lacks'"),
