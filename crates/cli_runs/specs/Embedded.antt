@@ -8,7 +8,7 @@ use Rattle.embedding.specs.declared.error.EmbedError.{EmbedError}
 use Rattle.embedding.specs.declared.error.EmbedError.TheVariants as error
 use Rattle.embedding.specs.declared.strong_name.StrongName.{StrongName}
 use Rattle.embedding.specs.Embedded.{IsEmbedded}
-use Rattle.embedding.specs.Errors.{MatchFault}
+use Rattle.embedding.specs.Errors.{IsReason, MatchFault}
 use Rattle.embedding.specs.Planned.{HasCertificate, HasStaleName, Planned, result_of}
 use Rattle.cli_faults.specs.declared.failure.Failure.{Failure}
 use Rattle.cli_faults.specs.declared.failure.Failure.TheVariants as failed
@@ -45,10 +45,12 @@ abbrev pub HasNoRoot : List ℕ → Option (List ℕ) → Failure → Type 0
 HasNoRoot file None failure = ReportsUnwritten File file failure
 HasNoRoot file (Some given) failure = ⊥
 
--- the root is not put into the file; a fault is that of the first rule that the file or the root breaks
+-- The root is not put into the file: a fault is that of the first rule that the file or the root breaks, and any other
+-- reason is true of both.
 abbrev pub IsMisfit : List ℕ → List ℕ → Failure → Type 0
 IsMisfit file root failure =
     (why : EmbedError) × (failure ≡ failure_of why) × MatchFault (FirstBroken (rules_of_file file)) (FirstBroken (rules_of_metadata 0 root)) why
+    × IsReason file root why
 
 -- a strong name or a certificate of the file is no longer right
 abbrev pub HasStaleSignature : StrongName → List ℕ → Type 0

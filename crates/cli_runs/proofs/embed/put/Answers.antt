@@ -33,4 +33,4 @@ returns-in_err-write-in-Ok-clause-quiet g c =
     planned_quiet c.args.options.now.strong_name c.args.file.bytes.now c.args.root.now c.in-Ok.plan c.args.err.now c.write.new.err c.in-Ok.ensures.given c.write.ensures.quiet
 
 pub returns-in-Err-clause-stopped : goal.returns-in-Err-clause-stopped
-returns-in-Err-clause-stopped g c = (failure_of c.in-Err.error, c.refused.ensures, inl (inl (c.in-Err.error, refl, c.in-Err.ensures.first_error), refl))
+returns-in-Err-clause-stopped g c = (failure_of c.in-Err.error, c.refused.ensures, inl (inl (c.in-Err.error, refl, c.in-Err.ensures.first_error, c.in-Err.ensures.refused), refl))
