@@ -15,7 +15,7 @@ use Rattle.table_schema.specs.contracts.token.TokenPartialEq.TheImpl as tokens
 use Rattle.sig_grammar.specs.Syntax.{Body}
 use Rattle.sig_grammar.specs.Encodes.{Encodes}
 use Rattle.table_schema.specs.declared.column.SigKind.{SigKind}
-use Rattle.sig_copier.specs.Same.{is_same_body}
+use Rattle.sig_comparison.specs.Same.{is_same_body}
 use Rattle.metadata.specs.Cell.{Cell, Number, Text, Bytes, Guid, Ref, Start, Sig}
 use Rattle.table_schema.specs.declared.column.ColumnKind.{ColumnKind}
 use Rattle.table_schema.specs.declared.column.ColumnKind.TheVariants as column_kind

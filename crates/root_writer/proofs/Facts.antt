@@ -5,11 +5,13 @@ use Rattle.packed.specs.Number.{IsNumber}
 use Rattle.table_schema.specs.declared.table.TableId.{TableId}
 use Rattle.table_schema.specs.declared.table.TableId.TheVariants.{Module}
 use Rattle.table_schema.specs.declared.coded.Coded.{Coded}
+use Rattle.table_schema.specs.declared.column.Column.{Column}
 use Rattle.table_schema.specs.declared.column.SigKind.{SigKind}
 use Rattle.table_schema.specs.Tables.{tables, table_index_of, table_number}
 use Rattle.table_schema.specs.Columns.{columns_of, column_at, key_of, IsReference, MayBeNull}
 use Rattle.table_schema.specs.CodedIndexes.{tables_of, tag_bits}
-use Rattle.schema.specs.LaidOut.{number_bytes, bits_of}
+use Rattle.schema.specs.Sizes.{Sizes}
+use Rattle.schema.specs.LaidOut.{number_bytes, row_bytes, bits_of, fields_of, FitRow}
 use Rattle.schema.specs.Header.{has_bit}
 use Rattle.heap_pools.specs.BlobHeap.{blob_heap, blob_index}
 use Rattle.heap_pools.specs.Distinct.{distinct}
@@ -38,6 +40,8 @@ pub record Facts : Type 0 where
   pub narrow : (coded : Coded) → 2 ^ tag_bits coded * 2 ^ (16 - tag_bits coded) ≡ 2 ^ 16
   pub wide : (coded : Coded) → 2 ^ tag_bits coded * 2 ^ 24 ≤ 2 ^ 32
   pub encoded : (width number : ℕ) → number < 256 ^ width → IsNumber width (number_bytes width number) number
+  pub cut : (sizes : Sizes) (columns : List Column) (row : List ℕ) → row_bytes sizes columns (fields_of sizes columns row) ≡ row_bytes sizes columns row
+  pub fit : (sizes : Sizes) (columns : List Column) (row : List ℕ) → length row ≡ length columns → FitRow sizes columns (fields_of sizes columns row)
   pub encodes : (kind : SigKind) (signature : Body) → Holds kind signature → IsEncodable signature → Encodes kind signature (short signature)
   pub set : (test : TableId → Bool) (table : TableId) → has_bit (bits_of test tables) table ≡ test table
   pub low : (test : TableId → Bool) → bits_of test tables < 2 ^ 64

@@ -1,8 +1,6 @@
 -- The numbers of a row: one per column, one for each cell, each truncated to the width of its column.
-use Rattle.std.proofs.Common.{◌≡◌, ℕ, zero, suc, ◌+◌, ◌-◌, ◌*◌, ◌/◌, ◌%◌, ◌^◌, ◌<◌, ◌≤◌, Bool, true, false, cond, List, [], ◌∷◌, ◌++◌, map, length, get_or, refl, sym, ap, subst, ◌∙◌, arith, mul_assoc}
+use Rattle.std.proofs.Common.{◌≡◌, ℕ, zero, suc, ◌+◌, ◌-◌, ◌%◌, ◌^◌, ◌<◌, ◌≤◌, Bool, true, false, cond, List, [], ◌∷◌, ◌++◌, map, length, get_or, refl, sym, ap, subst, ◌∙◌, arith}
 use Rattle.std.proofs.lemmas.List.{length-map, get_or-map}
-use Rattle.std.proofs.lemmas.Nat.{div-add-mod', div-mul-add, mod-mul-add, mod_below}
-use Rattle.std.proofs.Math.Nat.{mod-lt, one-le-pow, pow-suc}
 use Rattle.table_schema.specs.declared.table.TableId.{TableId}
 use Rattle.table_schema.specs.declared.table.TableId.TheVariants.{Module}
 use Rattle.table_schema.specs.declared.column.Column.{Column}
@@ -10,7 +8,7 @@ use Rattle.table_schema.specs.declared.column.ColumnKind.{ColumnKind}
 use Rattle.table_schema.specs.Tables.{tables, table_index_of}
 use Rattle.table_schema.specs.Columns.{columns_of}
 use Rattle.schema.specs.Sizes.{Sizes, width_of}
-use Rattle.schema.specs.LaidOut.{number_bytes, row_bytes, rows_bytes, tables_bytes, FitRow, FitRows, FitTables, number_in}
+use Rattle.schema.specs.LaidOut.{row_bytes, rows_bytes, tables_bytes, FitRows, FitTables, fields_of, number_in}
 use Rattle.metadata.specs.Cell.{Cell}
 use Rattle.metadata.specs.Metadata.{Metadata, rows_of, count_in}
 use Rattle.table_schema.specs.CellColumns.{is_padding, indexes_from}
@@ -35,91 +33,45 @@ length-numbers_by value (column ∷ columns) cells =
 
 -- ---- the low bytes of each number
 
-abbrev pub fields_of : Sizes → List Column → List ℕ → List ℕ
-fields_of sizes [] numbers = []
-fields_of sizes (column ∷ columns) [] = []
-fields_of sizes (column ∷ columns) (number ∷ numbers) = number % 256 ^ width_of sizes column ∷ fields_of sizes columns numbers
-
 abbrev pub table_fields : Metadata → TableId → List (List ℕ)
 table_fields model table = map (fields_of (sizes_of model) (columns_of table)) (table_numbers model table)
 
 unfoldable pub fields : Metadata → List (List (List ℕ))
 fields model = map (table_fields model) tables
 
--- the low bytes of a number are its lowest byte and the low bytes of the remainder
-low_split : (width number : ℕ) → number % 256 ^ suc width ≡ number / 256 % 256 ^ width * 256 + number % 256
-low_split width number =
-    let p = 256 ^ width in
-    let q = number / 256 in
-    let some : 0 < p = one-le-pow width 256 (omega arith) in
-    let tail = div-add-mod' q p in
-    let whole = div-add-mod' number 256 in
-    let less = mod_below q p some in
-    let moved : q / p * (p * 256) ≡ q / p * p * 256 = sym (mul_assoc (q / p) p 256) in
-    let is : number ≡ q / p * (p * 256) + (q % p * 256 + number % 256) = omega (arith, tail, whole, moved) in
-    let fits : q % p * 256 + number % 256 < p * 256 = omega (arith, less) in
-    ap (λ n. number % n) (pow-suc 256 width) ∙ ap (λ n. n % (p * 256)) is ∙ mod-mul-add (q / p) (p * 256) (q % p * 256 + number % 256) fits
-
-low_first : (width number : ℕ) → number % 256 ^ suc width % 256 ≡ number % 256
-low_first width number = ap (λ n. n % 256) (low_split width number)
-    ∙ mod-mul-add (number / 256 % 256 ^ width) 256 (number % 256) (mod_below number 256 (omega arith))
-
-low_tail : (width number : ℕ) → number % 256 ^ suc width / 256 ≡ number / 256 % 256 ^ width
-low_tail width number = ap (λ n. n / 256) (low_split width number)
-    ∙ div-mul-add (number / 256 % 256 ^ width) 256 (number % 256) (mod_below number 256 (omega arith))
-
-low_bytes : (width number : ℕ) → number_bytes width (number % 256 ^ width) ≡ number_bytes width number
-low_bytes zero number = refl
-low_bytes (suc width) number =
-    ap (λ n. n ∷ number_bytes width (number % 256 ^ suc width / 256)) (low_first width number)
-    ∙ ap (λ l. number % 256 ∷ l) (ap (number_bytes width) (low_tail width number) ∙ low_bytes width (number / 256))
-
-row_low : (sizes : Sizes) (columns : List Column) (row : List ℕ) → row_bytes sizes columns (fields_of sizes columns row) ≡ row_bytes sizes columns row
-row_low sizes [] row = refl
-row_low sizes (column ∷ columns) [] = refl
-row_low sizes (column ∷ columns) (number ∷ row) =
-    ap (λ l. l ++ row_bytes sizes columns (fields_of sizes columns row)) (low_bytes (width_of sizes column) number)
-    ∙ ap (λ l. number_bytes (width_of sizes column) number ++ l) (row_low sizes columns row)
-
-rows_low : (sizes : Sizes) (columns : List Column) (rows : List (List ℕ)) → rows_bytes sizes columns (map (fields_of sizes columns) rows)
+rows_low : Facts → (sizes : Sizes) (columns : List Column) (rows : List (List ℕ)) → rows_bytes sizes columns (map (fields_of sizes columns) rows)
     ≡ rows_bytes sizes columns rows
-rows_low sizes columns [] = refl
-rows_low sizes columns (row ∷ rows) =
-    ap (λ l. l ++ rows_bytes sizes columns (map (fields_of sizes columns) rows)) (row_low sizes columns row)
-    ∙ ap (λ l. row_bytes sizes columns row ++ l) (rows_low sizes columns rows)
+rows_low facts sizes columns [] = refl
+rows_low facts sizes columns (row ∷ rows) =
+    ap (λ l. l ++ rows_bytes sizes columns (map (fields_of sizes columns) rows)) (facts.cut sizes columns row)
+    ∙ ap (λ l. row_bytes sizes columns row ++ l) (rows_low facts sizes columns rows)
 
-all_low : (model : Metadata) (listed : List TableId) → tables_bytes (sizes_of model) listed (map (table_fields model) listed)
+all_low : Facts → (model : Metadata) (listed : List TableId) → tables_bytes (sizes_of model) listed (map (table_fields model) listed)
     ≡ tables_bytes (sizes_of model) listed (map (table_numbers model) listed)
-all_low model [] = refl
-all_low model (table ∷ listed) =
+all_low facts model [] = refl
+all_low facts model (table ∷ listed) =
     ap (λ l. l ++ tables_bytes (sizes_of model) listed (map (table_fields model) listed))
-    (rows_low (sizes_of model) (columns_of table) (table_numbers model table))
-    ∙ ap (λ l. rows_bytes (sizes_of model) (columns_of table) (table_numbers model table) ++ l) (all_low model listed)
+    (rows_low facts (sizes_of model) (columns_of table) (table_numbers model table))
+    ∙ ap (λ l. rows_bytes (sizes_of model) (columns_of table) (table_numbers model table) ++ l) (all_low facts model listed)
 
 -- the bytes of the numbers are those of the fields
-pub tables_low : (model : Metadata) → tables_bytes (sizes_of model) tables (fields model) ≡ tables_bytes (sizes_of model) tables (numbers model)
+pub tables_low : Facts → (model : Metadata) → tables_bytes (sizes_of model) tables (fields model) ≡ tables_bytes (sizes_of model) tables (numbers model)
 unfolding fields numbers
-tables_low model = all_low model tables
+tables_low facts model = all_low facts model tables
 
-fit_row : (sizes : Sizes) (columns : List Column) (row : List ℕ) → length row ≡ length columns → FitRow sizes columns (fields_of sizes columns row)
-fit_row sizes [] row e = tt
-fit_row sizes (column ∷ columns) [] e = absurd (omega arith)
-fit_row sizes (column ∷ columns) (number ∷ row) e =
-    (mod-lt number (one-le-pow (width_of sizes column) 256 (omega arith)), fit_row sizes columns row (omega arith))
-
-fit_rows : (sizes : Sizes) (pools : Pools) (columns : List Column) (rows : List (List Cell))
+fit_rows : Facts → (sizes : Sizes) (pools : Pools) (columns : List Column) (rows : List (List Cell))
     → FitRows sizes columns (map (fields_of sizes columns) (map (numbers_of pools columns) rows))
-fit_rows sizes pools columns [] = tt
-fit_rows sizes pools columns (cells ∷ rows) =
-    (fit_row sizes columns (numbers_of pools columns cells) (length-numbers_by (cell_number pools) columns cells), fit_rows sizes pools columns rows)
+fit_rows facts sizes pools columns [] = tt
+fit_rows facts sizes pools columns (cells ∷ rows) =
+    (facts.fit sizes columns (numbers_of pools columns cells) (length-numbers_by (cell_number pools) columns cells), fit_rows facts sizes pools columns rows)
 
-fit_all : (model : Metadata) (listed : List TableId) → FitTables (sizes_of model) listed (map (table_fields model) listed)
-fit_all model [] = tt
-fit_all model (table ∷ listed) = (fit_rows (sizes_of model) (pools_of model) (columns_of table) (rows_of model table), fit_all model listed)
+fit_all : Facts → (model : Metadata) (listed : List TableId) → FitTables (sizes_of model) listed (map (table_fields model) listed)
+fit_all facts model [] = tt
+fit_all facts model (table ∷ listed) = (fit_rows facts (sizes_of model) (pools_of model) (columns_of table) (rows_of model table), fit_all facts model listed)
 
-pub fit_tables : (model : Metadata) → FitTables (sizes_of model) tables (fields model)
+pub fit_tables : Facts → (model : Metadata) → FitTables (sizes_of model) tables (fields model)
 unfolding fields
-fit_tables model = fit_all model tables
+fit_tables facts model = fit_all facts model tables
 
 count_all : (model : Metadata) (listed : List TableId) → map (count_in model) listed ≡ map length (map (table_fields model) listed)
 count_all model [] = refl

@@ -127,7 +127,7 @@ laid_out facts model valid =
       reserved_byte = 1;
       counted = has_rows model;
       tail = tail;
-      whole = ap (λ l. header_bytes model ++ l ++ tail) (sym (tables_low model));
+      whole = ap (λ l. header_bytes model ++ l ++ tail) (sym (tables_low facts model));
       reserved_long = refl;
       heap_sizes_low = heap_sizes_low model;
       sorted_low = sorted_is facts model;
@@ -135,7 +135,7 @@ laid_out facts model valid =
       few = λ table. rw (count_is model facts table) (valid.few table);
       body = body_is model;
       counts = counts_are model;
-      fit = fit_tables model;
+      fit = fit_tables facts model;
     }
 
 -- ---- the root

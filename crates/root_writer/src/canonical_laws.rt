@@ -23,6 +23,7 @@ pub fn canonical_root_has_its_model()
     table_schema::laws::tags_fit();
     schema::laws::bits_are_known();
     schema::laws::numbers_are_encoded();
+    schema::laws::low_bytes_stand();
     sig_values::laws::shortest_encodes();
 }
 
@@ -51,5 +52,6 @@ pub fn sorted_bits_report_order()
     table_schema::laws::tags_fit();
     schema::laws::bits_are_known();
     schema::laws::numbers_are_encoded();
+    schema::laws::low_bytes_stand();
     sig_values::laws::shortest_encodes();
 }

@@ -18,7 +18,8 @@ use Rattle.sig_items.specs.declared.position.Frame.TheVariants as frame
 use Rattle.sig_items.specs.ItemsOf.{prefix_item, core_items, typed_items, content_items, slot_items, ret_items, local_items, shape_items, method_items}
 use Rattle.sig_items.specs.Positions.{Reported, joined, item_then, position_at, frame_at, core_reported, code_reported, instance_reported, content_reported, method_reported, types_reported, void_items, target_items, IsLed}
 use Rattle.sig_items.proofs.Joins.{changed, paired, both_items, fused, item_fused, item_reported, joined_both}
-use Rattle.sig_items.proofs.Leading.{led_at, led_next, led_none, led_end, modifier_steps, prefix_steps}
+use Rattle.sig_grammar.proofs.Items.{modifier_steps, prefix_steps}
+use Rattle.sig_items.proofs.Leading.{led_at, led_next, led_none, led_end}
 use Rattle.sig_items.proofs.Counts.{counted_item, count_types_from, types_from_items}
 
 -- ---- a core, by its first byte

@@ -1,10 +1,8 @@
 -- If bytes encode a value, it has a canonical encoding, which is no longer than those bytes.
-use Rattle.std.proofs.Common.{◌≡◌, ℕ, zero, suc, ◌+◌, ◌-◌, ◌*◌, ◌^◌, ◌<◌, ◌≤◌, Bool, true, false, cond, ltb, Option, Some, None, is_some, List, [], ◌∷◌, ◌++◌, length, refl, sym, ap, subst, arith, ◌⊎◌, inl, inr, rules, length-append}
-use Rattle.std.specs.Prelude.{⊤, ℤ, pos, negsuc, flat_map, slice_get}
+use Rattle.std.proofs.Common.{◌≡◌, ℕ, zero, suc, ◌+◌, ◌*◌, ◌^◌, ◌<◌, ◌≤◌, Bool, true, false, cond, Option, Some, None, is_some, List, [], ◌∷◌, ◌++◌, length, refl, sym, ap, subst, arith, ◌⊎◌, inl, inr, length-append}
+use Rattle.std.specs.Prelude.{⊤, ℤ, flat_map, slice_get}
 use Rattle.std.specs.List.{AllByRecursion, position_or_len}
-use Rattle.std.proofs.lemmas.Int.{ints}
-use Rattle.std.proofs.lemmas.Bool.{lt-ltb}
-use Rattle.packed.specs.Packed.{IsPacked, IsPackedSigned, FitsBits, fits_bits, short_unsigned, short_signed, signed_bits, one_byte, two_bytes, four_bytes}
+use Rattle.packed.specs.Packed.{IsPacked, IsPackedSigned, FitsBits, short_unsigned, short_signed}
 use Rattle.table_schema.specs.declared.token.Token.{Token}
 use Rattle.table_schema.specs.declared.table.TableId.{TableId}
 use Rattle.table_schema.specs.declared.table.TableId.TheVariants.{TypeDef, TypeRef, TypeSpec}
@@ -161,46 +159,6 @@ body_small (locals variables) h = (omega arith, (tt, list_small (IsLocalWithin 1
 body_small (instance_body args) h = (omega arith, (tt, list_small (IsTypedWithin 128) typed_parts (λ t k. typed_small t k.1) args h))
 body_small (type_spec ret) h = ret_small ret h.1
 
--- ---- a number that has a form, and its shortest form
-
-packed_below : (n : ℕ) (s : List ℕ) → IsPacked n s → n < 2 ^ 29
-packed_below n s (inl h) = let lt = h.0 in omega arith
-packed_below n s (inr (inl h)) = let lt = h.0 in omega arith
-packed_below n s (inr (inr h)) = h.0
-
--- of three forms, the first that fits
-by_forms : (p q : Bool) (one two four : List ℕ) (count : ℕ) → length one ≡ 1 → length two ≡ 2 → length four ≡ 4 → 1 ≤ count → (p ≡ false → 2 ≤ count) → (p ≡ false → q ≡ false → 4 ≤ count) → length (cond p one (cond q two four)) ≤ count
-by_forms true q one two four count e f g h k l = omega arith
-by_forms false true one two four count e f g h k l = let more = k refl in omega arith
-by_forms false false one two four count e f g h k l = let more = l refl refl in omega arith
-
-short_unsigned_least : (n : ℕ) (s : List ℕ) → IsPacked n s → length (short_unsigned n) ≤ length s
-short_unsigned_least n s (inl h) =
-    rw (h.1, lt-ltb n (2 ^ 7) h.0) (omega arith)
-short_unsigned_least n s (inr (inl h)) =
-    rw (h.1) (by_forms (ltb n (2 ^ 7)) (ltb n (2 ^ 14)) (one_byte n) (two_bytes n) (four_bytes n) 2 refl refl refl (omega arith) (λ e. omega arith) (λ e f. absurd (let t = lt-ltb n (2 ^ 14) h.0 in cc)))
-short_unsigned_least n s (inr (inr h)) =
-    rw (h.1) (by_forms (ltb n (2 ^ 7)) (ltb n (2 ^ 14)) (one_byte n) (two_bytes n) (four_bytes n) 4 refl refl refl (omega arith) (λ e. omega arith) (λ e f. omega arith))
-
-fits_more : (w v : ℕ) (z : ℤ) → 2 ^ (w - 1) ≤ 2 ^ (v - 1) → FitsBits w z → FitsBits v z
-fits_more w v (pos n) le h = let a = h.high in record { low = omega (arith, ints); high = omega (arith, ints) }
-fits_more w v (negsuc n) le h = let a = h.low in record { low = omega (arith, ints); high = omega (arith, ints) }
-
-fits_test : (w : ℕ) (z : ℤ) → FitsBits w z → fits_bits w z ≡ true
-fits_test w z h = let a = h.low in let b = h.high in search rules
-
-signed_fits : (z : ℤ) (s : List ℕ) → IsPackedSigned z s → FitsBits 29 z
-signed_fits z s (inl h) = fits_more 7 29 z (omega arith) h.0
-signed_fits z s (inr (inl h)) = fits_more 14 29 z (omega arith) h.0
-signed_fits z s (inr (inr h)) = h.0
-
-short_signed_least : (z : ℤ) (s : List ℕ) → IsPackedSigned z s → length (short_signed z) ≤ length s
-short_signed_least z s (inl h) = rw (h.1.1, fits_test 7 z h.0) (omega arith)
-short_signed_least z s (inr (inl h)) =
-    rw (h.1.1) (by_forms (fits_bits 7 z) (fits_bits 14 z) (one_byte (signed_bits 7 z)) (two_bytes (signed_bits 14 z)) (four_bytes (signed_bits 29 z)) 2 refl refl refl (omega arith) (λ e. omega arith) (λ e f. absurd (let t = fits_test 14 z h.0 in cc)))
-short_signed_least z s (inr (inr h)) =
-    rw (h.1.1) (by_forms (fits_bits 7 z) (fits_bits 14 z) (one_byte (signed_bits 7 z)) (two_bytes (signed_bits 14 z)) (four_bytes (signed_bits 29 z)) 4 refl refl refl (omega arith) (λ e. omega arith) (λ e f. omega arith))
-
 -- ---- a type index
 
 -- the tag of a table is its index among the tables that an index can name
@@ -219,48 +177,51 @@ tag_is t n is = by_tag is.tag is.listed is.equal
     by_tag (suc (suc zero)) listed equal = at TypeSpec 2 listed refl equal
     by_tag (suc (suc (suc tag))) listed equal = absurd cc
 
-index_has : (t : Token) (s : List ℕ) → IsIndex t s → HasEncoding (index t)
-index_has t s is =
-    let same = tag_is t is.number is.coded in
-    let below = packed_below is.number s is.packed in
-    let equal = is.coded.equal in
-    (subst (λ (n : ℕ). IsCoded TypeDefOrRef n t.table t.row) (sym same) is.coded, omega arith)
-
-index_least : (t : Token) (s : List ℕ) → IsIndex t s → length (short_part (index t)) ≤ length s
-index_least t s is = let same = tag_is t is.number is.coded in rw same (short_unsigned_least is.number s is.packed)
-
 -- ---- each part, and all of them
 
-part_has : (p : Part) (s : List ℕ) → IsSmall p → EncodesPart p s → HasEncoding p
-part_has (byte c) s small is = small
-part_has (number n) s small is = packed_below n s is
-part_has (signed z) s small is = signed_fits z s is
-part_has (index t) s small is = index_has t s is
+module _ (unsigned_least : (n : ℕ) (s : List ℕ) → IsPacked n s → length (short_unsigned n) ≤ length s)
+    (signed_least : (z : ℤ) (s : List ℕ) → IsPackedSigned z s → length (short_signed z) ≤ length s) where
+  index_least : (t : Token) (s : List ℕ) → IsIndex t s → length (short_part (index t)) ≤ length s
+  index_least t s is = let same = tag_is t is.number is.coded in rw same (unsigned_least is.number s is.packed)
 
-part_least : (p : Part) (s : List ℕ) → EncodesPart p s → length (short_part p) ≤ length s
-part_least (byte c) s is = rw is (omega arith)
-part_least (number n) s is = short_unsigned_least n s is
-part_least (signed z) s is = short_signed_least z s is
-part_least (index t) s is = index_least t s is
+  part_least : (p : Part) (s : List ℕ) → EncodesPart p s → length (short_part p) ≤ length s
+  part_least (byte c) s is = rw is (omega arith)
+  part_least (number n) s is = unsigned_least n s is
+  part_least (signed z) s is = signed_least z s is
+  part_least (index t) s is = index_least t s is
 
-parts_have : (ps : List Part) (b : List ℕ) → AreSmall ps → EncodesParts ps b → AllByRecursion HasEncoding ps
-parts_have [] b small is = tt
-parts_have (p ∷ ps) b small is = (part_has p is.0 small.0 is.3, parts_have ps is.1 small.1 is.4)
+  parts_least : (ps : List Part) (b : List ℕ) → EncodesParts ps b → length (flat_map short_part ps) ≤ length b
+  parts_least [] b is = omega arith
+  parts_least (p ∷ ps) b is =
+      omega (arith, part_least p is.0 is.3, parts_least ps is.1 is.4, length-append (short_part p) (flat_map short_part ps), ap length is.2, length-append is.0 is.1)
 
-parts_least : (ps : List Part) (b : List ℕ) → EncodesParts ps b → length (flat_map short_part ps) ≤ length b
-parts_least [] b is = omega arith
-parts_least (p ∷ ps) b is =
-    omega (arith, part_least p is.0 is.3, parts_least ps is.1 is.4, length-append (short_part p) (flat_map short_part ps), ap length is.2, length-append is.0 is.1)
+  pub encoded_shorter : (kind : SigKind) (s : Body) (b : List ℕ) → Encodes kind s b → length (short s) ≤ length b
+  encoded_shorter kind s b h = parts_least (body_parts s) b h.parts
 
-pub encoded_shorter : (kind : SigKind) (s : Body) (b : List ℕ) → Encodes kind s b → length (short s) ≤ length b
-encoded_shorter kind s b h = parts_least (body_parts s) b h.parts
+  module _ (unsigned_below : (n : ℕ) (s : List ℕ) → IsPacked n s → n < 2 ^ 29) (signed_fits : (z : ℤ) (s : List ℕ) → IsPackedSigned z s → FitsBits 29 z) where
+    index_has : (t : Token) (s : List ℕ) → IsIndex t s → HasEncoding (index t)
+    index_has t s is =
+        let same = tag_is t is.number is.coded in
+        let below = unsigned_below is.number s is.packed in
+        let equal = is.coded.equal in
+        (subst (λ (n : ℕ). IsCoded TypeDefOrRef n t.table t.row) (sym same) is.coded, omega arith)
 
-pub encoded_encodable : (kind : SigKind) (s : Body) (b : List ℕ) → Encodes kind s b → IsEncodable s
-encoded_encodable kind s b h = record {
-  body = h.body;
-  parts = parts_have (body_parts s) b (body_small s h.body) h.parts;
-  limit = (let least = parts_least (body_parts s) b h.parts in let few = h.limit in omega arith);
-}
+    part_has : (p : Part) (s : List ℕ) → IsSmall p → EncodesPart p s → HasEncoding p
+    part_has (byte c) s small is = small
+    part_has (number n) s small is = unsigned_below n s is
+    part_has (signed z) s small is = signed_fits z s is
+    part_has (index t) s small is = index_has t s is
+
+    parts_have : (ps : List Part) (b : List ℕ) → AreSmall ps → EncodesParts ps b → AllByRecursion HasEncoding ps
+    parts_have [] b small is = tt
+    parts_have (p ∷ ps) b small is = (part_has p is.0 small.0 is.3, parts_have ps is.1 small.1 is.4)
+
+    pub encoded_encodable : (kind : SigKind) (s : Body) (b : List ℕ) → Encodes kind s b → IsEncodable s
+    encoded_encodable kind s b h = record {
+      body = h.body;
+      parts = parts_have (body_parts s) b (body_small s h.body) h.parts;
+      limit = (let least = parts_least (body_parts s) b h.parts in let few = h.limit in omega arith);
+    }
 
 -- ---- the type indexes of an encodable value
 

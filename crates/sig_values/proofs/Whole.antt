@@ -1,13 +1,10 @@
 -- What the reader's law says about whole byte lists.
-use Rattle.std.proofs.Common.{◌≡◌, ℕ, ◌-◌, ◌^◌, ◌<◌, Bool, true, false, cond, ltb, Option, Some, None, List, [], ◌∷◌, length, refl, sym, ap, ◌∙◌, subst, arith, inl, inr, not, rules, IfSome}
-use Rattle.std.specs.Prelude.{ℤ, pos, negsuc, neg_ℤ, int_lt, flat_map}
+use Rattle.std.proofs.Common.{◌≡◌, ℕ, ◌^◌, ◌<◌, Option, Some, None, List, [], ◌∷◌, length, refl, sym, ap, ◌∙◌, subst, arith, IfSome}
+use Rattle.std.specs.Prelude.{ℤ, flat_map}
 use Rattle.std.specs.List.{AllByRecursion}
-use Rattle.std.proofs.lemmas.Bool.{ltb-true}
 use Rattle.std.proofs.lemmas.Option.{same_Some}
-use Rattle.std.proofs.lemmas.Bool.{and_parts}
-use Rattle.std.proofs.lemmas.Int.{ints}
 use Rattle.std.proofs.lemmas.Option.{slice_get_within}
-use Rattle.packed.specs.Packed.{IsPacked, IsPackedSigned, FitsBits, fits_bits, short_unsigned, short_signed, signed_bits, one_byte, two_bytes, four_bytes}
+use Rattle.packed.specs.Packed.{IsPacked, IsPackedSigned, FitsBits, short_unsigned, short_signed}
 use Rattle.table_schema.specs.declared.coded.Coded.TheVariants.{TypeDefOrRef}
 use Rattle.table_schema.specs.CodedIndexes.{tables_of}
 use Rattle.sig_grammar.specs.Syntax.{Body}
@@ -24,52 +21,29 @@ use Rattle.sig_values.proofs.Bodies.{body_reads, IsHeld}
 
 -- ---- the canonical encoding of each part is an encoding
 
-pub short_unsigned_encodes : (n : ℕ) → n < 2 ^ 29 → IsPacked n (short_unsigned n)
-short_unsigned_encodes n lt = by_test (ltb n (2 ^ 7)) (ltb n (2 ^ 14)) (λ e. ltb-true n (2 ^ 7) e) (λ e. ltb-true n (2 ^ 14) e)
-  where
-    by_test : (p q : Bool) → (p ≡ true → n < 2 ^ 7) → (q ≡ true → n < 2 ^ 14) → IsPacked n (cond p (one_byte n) (cond q (two_bytes n) (four_bytes n)))
-    by_test true q f g = inl (f refl, refl)
-    by_test false true f g = inr (inl (g refl, refl))
-    by_test false false f g = inr (inr (lt, refl))
+module _ (number_short : (n : ℕ) → n < 2 ^ 29 → IsPacked n (short_unsigned n)) (signed_short : (z : ℤ) → FitsBits 29 z → IsPackedSigned z (short_signed z)) where
+  short_part_encodes : (p : Part) → HasEncoding p → EncodesPart p (short_part p)
+  short_part_encodes (byte c) h = refl
+  short_part_encodes (number n) h = number_short n h
+  short_part_encodes (signed z) h = signed_short z h
+  short_part_encodes (index t) h =
+      let few : h.0.tag < 3 = slice_get_within (tables_of TypeDefOrRef) h.0.tag (Some t.table) h.0.listed in
+      let equal = h.0.equal in
+      let row = h.1 in
+      record { number = index_number t; coded = h.0; packed = number_short (index_number t) (omega arith) }
 
-bits_seven : (z : ℤ) → FitsBits 7 z → signed_bits 7 z < 2 ^ 7
-bits_seven (pos n) h = let k : n < 2 ^ 6 = (let a = h.high in omega (arith, ints)) in omega arith
-bits_seven (negsuc n) h = let k : n < 2 ^ 6 = (let a = h.low in omega (arith, ints)) in omega arith
+  short_encodes : (ps : List Part) → AllByRecursion HasEncoding ps → EncodesParts ps (flat_map short_part ps)
+  short_encodes [] h = refl
+  short_encodes (p ∷ ps) h = (short_part p, flat_map short_part ps, refl, short_part_encodes p h.0, short_encodes ps h.1)
 
-bits_fourteen : (z : ℤ) → FitsBits 14 z → signed_bits 14 z < 2 ^ 14
-bits_fourteen (pos n) h = let k : n < 2 ^ 13 = (let a = h.high in omega (arith, ints)) in omega arith
-bits_fourteen (negsuc n) h = let k : n < 2 ^ 13 = (let a = h.low in omega (arith, ints)) in omega arith
-
-bits_twenty_nine : (z : ℤ) → FitsBits 29 z → signed_bits 29 z < 2 ^ 29
-bits_twenty_nine (pos n) h = let k : n < 2 ^ 28 = (let a = h.high in omega (arith, ints)) in omega arith
-bits_twenty_nine (negsuc n) h = let k : n < 2 ^ 28 = (let a = h.low in omega (arith, ints)) in omega arith
-
-fits_from : (w : ℕ) (z : ℤ) → fits_bits w z ≡ true → FitsBits w z
-fits_from w z e =
-    let both = and_parts (not (int_lt z (neg_ℤ (pos (2 ^ (w - 1)))))) (int_lt z (pos (2 ^ (w - 1)))) e in
-    record { low = search (rules, both.0); high = search (rules, both.1) }
-
-pub short_signed_encodes : (z : ℤ) → FitsBits 29 z → IsPackedSigned z (short_signed z)
-short_signed_encodes z h = by_test (fits_bits 7 z) (fits_bits 14 z) (λ e. fits_from 7 z e) (λ e. fits_from 14 z e)
-  where
-    by_test : (p q : Bool) → (p ≡ true → FitsBits 7 z) → (q ≡ true → FitsBits 14 z) → IsPackedSigned z (cond p (one_byte (signed_bits 7 z)) (cond q (two_bytes (signed_bits 14 z)) (four_bytes (signed_bits 29 z))))
-    by_test true q f g = let t = f refl in inl (t, (bits_seven z t, refl))
-    by_test false true f g = let t = g refl in inr (inl (t, (bits_fourteen z t, refl)))
-    by_test false false f g = inr (inr (h, (bits_twenty_nine z h, refl)))
-
-pub short_part_encodes : (p : Part) → HasEncoding p → EncodesPart p (short_part p)
-short_part_encodes (byte c) h = refl
-short_part_encodes (number n) h = short_unsigned_encodes n h
-short_part_encodes (signed z) h = short_signed_encodes z h
-short_part_encodes (index t) h =
-    let few : h.0.tag < 3 = slice_get_within (tables_of TypeDefOrRef) h.0.tag (Some t.table) h.0.listed in
-    let equal = h.0.equal in
-    let row = h.1 in
-    record { number = index_number t; coded = h.0; packed = short_unsigned_encodes (index_number t) (omega arith) }
-
-pub short_encodes : (ps : List Part) → AllByRecursion HasEncoding ps → EncodesParts ps (flat_map short_part ps)
-short_encodes [] h = refl
-short_encodes (p ∷ ps) h = (short_part p, flat_map short_part ps, refl, short_part_encodes p h.0, short_encodes ps h.1)
+  -- the canonical encoding is an encoding
+  pub short_is_encoding : (kind : SigKind) (s : Body) → Holds kind s → IsEncodable s → Encodes kind s (short s)
+  short_is_encoding kind s column h = record {
+    column = column;
+    body = h.body;
+    parts = short_encodes (body_parts s) h.parts;
+    limit = h.limit;
+  }
 
 -- ---- at most one value is encoded, and it is the one that is read
 
@@ -91,10 +65,6 @@ module _ {A : Type 0} (r : Reader A) (parts : A → List Part) (Good : A → Typ
           let same : x ≡ (v, []) = cc in
           let u = subst (λ (y : A × List ℕ). Takes parts Good b y) same t in
           (u.good, Head-whole (parts v) b u.head)
-
-  -- a value that is written can be read again
-  pub written_again : (v : A) → Good v → AllByRecursion HasEncoding (parts v) → r (flat_map short_part (parts v)) ≡ Some (v, [])
-  written_again v good all = read_whole v (flat_map short_part (parts v)) good (short_encodes (parts v) all)
 
 -- ---- whole signatures
 
@@ -120,16 +90,3 @@ pub read_encoded : NumbersAreRead → (kind : SigKind) (s : Body) (b : List ℕ)
 read_encoded known kind s b bytes limit e =
     let t = found_whole (body_at kind (core_at 128)) body_parts (IsHeld 128 kind) (column_reads known kind) s b bytes e in
     record { column = t.0.0; body = t.0.1; parts = t.1; limit = limit }
-
--- the canonical encoding is an encoding
-pub short_is_encoding : (kind : SigKind) (s : Body) → Holds kind s → IsEncodable s → Encodes kind s (short s)
-short_is_encoding kind s column h = record {
-  column = column;
-  body = h.body;
-  parts = short_encodes (body_parts s) h.parts;
-  limit = h.limit;
-}
-
--- and it can be read again
-pub short_read : NumbersAreRead → (kind : SigKind) (s : Body) → Holds kind s → IsEncodable s → body_at kind (core_at 128) (short s) ≡ Some (s, [])
-short_read known kind s column h = encoded_read known kind s (short s) (short_is_encoding kind s column h)

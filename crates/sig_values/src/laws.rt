@@ -27,19 +27,25 @@ pub fn signatures_are_read()
 pub fn shortest_encodes()
     ensures { (kind : SigKind) (signature : Body) → Holds kind signature → IsEncodable signature
         → Encodes kind signature (short signature) }
-{}
+{
+    packed::laws::shortest_forms_encode();
+}
 
 /// If bytes encode a signature, in a column of any kind, then the signature has a canonical encoding. Each of its
 /// parts has an encoding, and the canonical encoding has fewer than 2^29 bytes.
 pub fn encoded_is_encodable()
     ensures { (kind : SigKind) (signature : Body) (bytes : List ℕ) → Encodes kind signature bytes → IsEncodable signature }
-{}
+{
+    packed::laws::shortest_forms_encode();
+}
 
 /// No encoding of a signature is shorter than its canonical encoding, in a column of any kind.
 pub fn canonical_is_shortest()
     ensures { (kind : SigKind) (signature : Body) (bytes : List ℕ) → Encodes kind signature bytes
         → length (short signature) ≤ length bytes }
-{}
+{
+    packed::laws::shortest_forms_encode();
+}
 
 /// Each type index of an encodable signature names TypeDef, TypeRef or TypeSpec (II.23.2.8).
 /// Its row number has at most 27 bits and may be 0.

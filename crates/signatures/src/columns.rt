@@ -34,3 +34,17 @@ pub fn holds(kind: SigKind, body: &SigBody) -> bool
         SigKind::Instance => matches!(body, SigBody::Instance(_)),
     }
 }
+
+/// A kind of column that can hold the signature (II.22).
+pub fn column_of(body: &SigBody) -> SigKind
+    ensures { Holds result (body_of body.now) }
+{
+    match body {
+        SigBody::Field(_) => SigKind::Field,
+        SigBody::Method(_) => SigKind::MemberRef,
+        SigBody::Property(_) => SigKind::Property,
+        SigBody::Locals(_) => SigKind::StandAlone,
+        SigBody::Instance(_) => SigKind::Instance,
+        SigBody::TypeSpec(_) => SigKind::TypeSpec,
+    }
+}

@@ -4,13 +4,13 @@ ghost use Rattle.sig_grammar.specs.Syntax.{Body};
 ghost use Rattle.sig_grammar.specs.Views.{body_of};
 ghost use Rattle.sig_grammar.specs.Encodes.{Holds, Encodes, IsEncodable, short, tokens, first_bad as first_bad_of};
 ghost use Rattle.signatures.specs.declared.error.SigError.TheVariants.{Bad};
-ghost use Rattle.sig_copier.specs.Same.{is_same_body};
-ghost use Rattle.sig_copier.proofs.TestLaws.{same_bodies_equiv};
+ghost use Rattle.sig_comparison.specs.Same.{is_same_body};
+ghost use Rattle.sig_comparison.proofs.TestLaws.{same_bodies_equiv};
 
-use crate::columns::holds;
+use crate::columns::{column_of, holds};
 use crate::error::SigError;
 use crate::whole::decode_body;
-use sig_copier::{copy_body, first_bad, is_same};
+use sig_comparison::{first_bad, is_same};
 use sig_encoder::{encode_body, encoded_len};
 use sig_grammar::SigBody;
 use std::alloc::{AllocError, Global};
@@ -83,14 +83,21 @@ impl Signature {
 
     /// Copies the signature. The copy has the same content.
     ///
+    /// It is decoded from the canonical encoding, which is allocated for that alone.
+    ///
     /// # Errors
     ///
     /// Fails only if it is out of memory.
     pub fn copy(&self, alloc: Global) -> Result<Signature, AllocError>
         ensures { IfOk result (λ copy. copy ≡ self.now) }
     {
-        let body = copy_body(alloc, &self.body)?;
-        Ok(Signature { body })
+        sig_values::laws::shortest_encodes();
+        let bytes = encode(alloc, self)?;
+        match decode(alloc, &bytes, column_of(&self.body)) {
+            Ok(copy) => Ok(copy),
+            Err(SigError::Memory) => Err(AllocError),
+            Err(SigError::Bad) => unreachable!(),
+        }
     }
 
     /// The first type index, in encoded order, whose row does not exist in its table (II.23.2.8); `None` if

@@ -1,9 +1,9 @@
 use crate::signatures::blobs::{BODIES, CORES};
 use schema::SigKind;
-use sig_copier::{copy_body, is_same};
+use sig_comparison::is_same;
 use sig_encoder::{encode_body, encoded_len};
 use sig_recogniser::recognise;
-use signatures::{Signature, decode, encode};
+use signatures::{decode, encode};
 use std::alloc::Global;
 use std::process::Abort;
 use std::test::Fail;
@@ -64,10 +64,9 @@ fn bodies_are_measured_and_copied(rt: HostRuntime) -> Result<(), Fail> {
         let signature = decode(rt.alloc(), blob.bytes, blob.kind).expect(&rt, "spelled");
         let body = signature.body();
         assert_eq!(rt; encoded_len(body), Some(blob.bytes.len()));
-        let copy = copy_body(rt.alloc(), body)?;
-        assert!(rt; is_same(&copy, body), "{body:?}");
-        let made = Signature::new(copy).expect(&rt, "spelled");
-        let encoded = encode_body(rt.alloc(), made.body()).expect(&rt, "memory");
+        let copy = signature.copy(rt.alloc())?;
+        assert!(rt; is_same(copy.body(), body), "{body:?}");
+        let encoded = encode_body(rt.alloc(), copy.body()).expect(&rt, "memory");
         assert_eq!(rt; encoded.as_slice(), blob.bytes);
     }
     Ok(())

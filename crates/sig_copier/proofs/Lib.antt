@@ -1,4 +1,0 @@
-pub mod Found
-pub mod SameLemmas
-pub mod TestLaws
-pub mod Made

@@ -1,5 +1,0 @@
-use Rattle.sig_copier.proofs.TestLaws.{body_decides}
-use Rattle.sig_copier.proofs.same_body.equality_is_tested.Goals as goal
-
-pub returns : goal.returns
-returns c = body_decides
