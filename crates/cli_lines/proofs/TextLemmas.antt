@@ -23,11 +23,10 @@ pub two_bytes : (line : List ℕ) (a b : ℕ) → (line ++ a ∷ []) ++ b ∷ []
 two_bytes line a b = append_assoc line (a ∷ []) (b ∷ [])
 
 pub hexadecimal_more : (line bytes : List ℕ) (i : ℕ) → i < length bytes → get_or bytes i 0 < 256
-    → ((line ++ escaped_bytes (take i bytes)) ++ digit_glyph false (get_or bytes i 0 / 16) ∷ []) ++ digit_glyph false (get_or bytes i 0 % 16) ∷ []
+    → (line ++ escaped_bytes (take i bytes)) ++ digit_glyph false (get_or bytes i 0 / 16) ∷ digit_glyph false (get_or bytes i 0 % 16) ∷ []
     ≡ line ++ escaped_bytes (take (i + 1) bytes)
 hexadecimal_more line bytes i lt small =
-    two_bytes (line ++ escaped_bytes (take i bytes)) (digit_glyph false (get_or bytes i 0 / 16)) (digit_glyph false (get_or bytes i 0 % 16))
-    ∙ ap (λ ys. (line ++ escaped_bytes (take i bytes)) ++ ys) (sym (hex_byte false (get_or bytes i 0) small))
+    ap (λ ys. (line ++ escaped_bytes (take i bytes)) ++ ys) (sym (hex_byte false (get_or bytes i 0) small))
     ∙ items_more (hexadecimal 2) line bytes i 0 lt
 
 -- the digits of four bytes
