@@ -1,5 +1,5 @@
 -- What is appended to a line, one byte after another.
-use Rattle.std.proofs.Common.{◌≡◌, ◌∙◌, ℕ, suc, ◌+◌, ◌/◌, ◌%◌, ◌<◌, Bool, true, false, IsTrue, List, [], ◌∷◌, ◌++◌, length, get_or, take, refl, ap, sym, append_assoc, arith, if◌then◌else◌}
+use Rattle.std.proofs.Common.{◌≡◌, ◌∙◌, ℕ, zero, suc, ◌+◌, ◌/◌, ◌%◌, ◌<◌, Bool, true, false, IsTrue, List, [], ◌∷◌, ◌++◌, length, get_or, take, refl, ap, sym, append_assoc, arith, codes, if◌then◌else◌}
 use Rattle.std.specs.Prelude.{Result, Ok, Err, OnOk, is_ok}
 use Rattle.std.specs.List.{flat_map}
 use Rattle.std.specs.Fmt.{digit_glyph}
@@ -28,6 +28,26 @@ pub hexadecimal_more : (line bytes : List ℕ) (i : ℕ) → i < length bytes �
 hexadecimal_more line bytes i lt small =
     ap (λ ys. (line ++ escaped_bytes (take i bytes)) ++ ys) (sym (hex_byte false (get_or bytes i 0) small))
     ∙ items_more (hexadecimal 2) line bytes i 0 lt
+
+-- the digits in order
+pub digit_at : (n : ℕ) → n < 16 → get_or (codes "0123456789abcdef") n 0 ≡ digit_glyph false n
+digit_at zero few = refl
+digit_at (suc zero) few = refl
+digit_at (suc (suc zero)) few = refl
+digit_at (suc (suc (suc zero))) few = refl
+digit_at (suc (suc (suc (suc zero)))) few = refl
+digit_at (suc (suc (suc (suc (suc zero))))) few = refl
+digit_at (suc (suc (suc (suc (suc (suc zero)))))) few = refl
+digit_at (suc (suc (suc (suc (suc (suc (suc zero))))))) few = refl
+digit_at (suc (suc (suc (suc (suc (suc (suc (suc zero)))))))) few = refl
+digit_at (suc (suc (suc (suc (suc (suc (suc (suc (suc zero))))))))) few = refl
+digit_at (suc (suc (suc (suc (suc (suc (suc (suc (suc (suc zero)))))))))) few = refl
+digit_at (suc (suc (suc (suc (suc (suc (suc (suc (suc (suc (suc zero))))))))))) few = refl
+digit_at (suc (suc (suc (suc (suc (suc (suc (suc (suc (suc (suc (suc zero)))))))))))) few = refl
+digit_at (suc (suc (suc (suc (suc (suc (suc (suc (suc (suc (suc (suc (suc zero))))))))))))) few = refl
+digit_at (suc (suc (suc (suc (suc (suc (suc (suc (suc (suc (suc (suc (suc (suc zero)))))))))))))) few = refl
+digit_at (suc (suc (suc (suc (suc (suc (suc (suc (suc (suc (suc (suc (suc (suc (suc zero))))))))))))))) few = refl
+digit_at (suc (suc (suc (suc (suc (suc (suc (suc (suc (suc (suc (suc (suc (suc (suc (suc n)))))))))))))))) few = absurd (omega (arith, few))
 
 -- the digits of four bytes
 pub four_bytes : (a b c d : ℕ) → a < 256 → b < 256 → c < 256 → d < 256

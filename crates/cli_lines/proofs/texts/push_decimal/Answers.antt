@@ -1,4 +1,4 @@
-use Rattle.std.proofs.Common.{◌≡◌, ◌∙◌, ◌++◌, ◌∷◌, [], ◌+◌, ap, arith, decimal, sym}
+use Rattle.std.proofs.Common.{◌∙◌, ◌++◌, ◌∷◌, [], ap, arith, sym}
 use Rattle.std.proofs.lemmas.Fmt.{decimal_digit}
 use Rattle.cli_lines.proofs.texts.push_decimal.Goals as goal
 
