@@ -46,7 +46,7 @@ module _ (known : AreRead) (listed : AreListed) (names : Names) where
       line_same : (table : TableId) (row : ℕ) → 1 ≤ row → row ≤ rows_in here.source table → AllHold (rules_of_row here table row)
           → row_line names model table row ≡ row_line names (model_at here.source) table row
       line_same table row first last rules =
-          ap (λ parts. row_head names table row ++ parts)
+          ap (λ parts. row_head names (record { table = table; row = row }) ∷ parts)
           (parts_same (cell_parts names model table row) (cell_parts names (model_at here.source) table row) 0 (cell_count table) (λ k within.
           ap (λ cell. cell_label names table k ++ cell_part names (name.Cell table k) (cell_value cell) ∷ [])
           (shown_cell known listed here each model shown table row first last rules k (omega (arith, within)))))

@@ -2,13 +2,14 @@
 use Rattle.std.specs.Prelude.{◌==◌, ℕ, if◌then◌else◌, List, [], ◌∷◌, ◌++◌, codes, flat_map, map}
 use Rattle.std.specs.List.{range_with_len}
 use Rattle.table_schema.specs.declared.table.TableId.{TableId}
+use Rattle.table_schema.specs.declared.token.Token.{Token}
 use Rattle.table_schema.specs.Tables.{table_number, table_name}
 use Rattle.table_schema.specs.CellColumns.{cell_count}
 use Rattle.sig_grammar.specs.Encodes.{short}
 use Rattle.metadata.specs.Cell.{Cell, Number, Text, Bytes, Guid, Ref, Start, Sig}
 use Rattle.metadata.specs.Metadata.{Metadata, cell_in, count_in}
 use Rattle.cli_lines.specs.Lines as line
-use Rattle.cli_lines.specs.Lines.{Part, Value, word, field, note, member, spaced}
+use Rattle.cli_lines.specs.Lines.{Part, Value, word, field, note, row_number, row_token, spaced}
 use Rattle.cli_lines.specs.Names.{column_name}
 use Rattle.cli_lines.specs.declared.names.Name.{Name}
 use Rattle.cli_lines.specs.declared.names.Name.TheVariants as name
@@ -42,17 +43,13 @@ cell_parts names model table row cell_index =
     cell_label names table cell_index ++ cell_part names (name.Cell table cell_index) (cell_value (cell_in model table row cell_index)) ∷ []
 
 -- what a row begins with: its number and a colon, or its token if columns are named; in JSON its table, number and token
-unfoldable pub row_head : Names → TableId → ℕ → List Part
-row_head Hidden table row =
-    member name.Table (line.plain (table_name table)) ∷ field name.Row (line.number row) ∷ word (codes ":")
-    ∷ member name.Token (line.token (record { table = table; row = row })) ∷ []
-row_head Shown table row =
-    member name.Table (line.plain (table_name table)) ∷ member name.Row (line.number row)
-    ∷ field name.Token (line.token (record { table = table; row = row })) ∷ []
+abbrev pub row_head : Names → Token → Part
+row_head Hidden row = row_number row
+row_head Shown row = row_token row
 
 -- the line of a row
 abbrev pub row_line : Names → Metadata → TableId → ℕ → List Part
-row_line names model table row = row_head names table row ++ flat_map (cell_parts names model table row) (range_with_len 0 (cell_count table))
+row_line names model table row = row_head names (record { table = table; row = row }) ∷ flat_map (cell_parts names model table row) (range_with_len 0 (cell_count table))
 
 -- the line before the rows of a table: its number, its name and how many rows it has; no line in JSON
 unfoldable pub heading_line : TableId → ℕ → List Part

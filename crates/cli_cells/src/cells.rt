@@ -39,6 +39,7 @@ fn cell_part(names: Names, name: Name, value: Value<'_>) -> Part<'_>
 /// Adds the value of a cell, after a space if columns are not named: a number in decimal, a text in quotes, bytes in hexadecimal, a GUID, a token, or the row of a
 /// start. A signature is its canonical encoding (II.23.2), and in JSON also its text. In JSON the value is a member with
 /// this name.
+#[inline(always)]
 pub fn print_cell<'a, R: ShownRows<'a>, W: Write>(
     alloc: Global,
     names: Names,
@@ -62,6 +63,7 @@ pub fn print_cell<'a, R: ShownRows<'a>, W: Write>(
 }
 
 /// Adds the value of a cell in a column of a kind.
+#[inline(always)]
 fn print_value<W: Write>(
     alloc: Global,
     names: Names,
@@ -159,7 +161,7 @@ fn print_both<'a, W: Write>(
     names: Names,
     name: Name,
     blob: &'a [u8],
-    text: &'a str,
+    text: &'a [u8],
     out: &mut Printer<'_, W>,
 )
     ensures { Adds out.old out.new (cell_part names name (line.signature blob.now text.now) ∷ []) }

@@ -4,15 +4,15 @@ ghost use Rattle.std.specs.List.{range_with_len};
 ghost use Rattle.table_schema.specs.CellColumns.{cell_count};
 ghost use Rattle.metadata.specs.Metadata.{Metadata};
 ghost use Rattle.cli_lines.specs.Printed.{Adds, Begins, Prints};
+ghost use Rattle.cli_lines.specs.Shown.{shown};
 ghost use Rattle.cli_cells.specs.RowLines.{cell_label, cell_parts, row_head, row_line};
-ghost use Rattle.cli_cells.specs.declared.row_lines.Names.TheVariants.{Hidden, Shown};
+ghost use Rattle.cli_cells.specs.declared.row_lines.Names.TheVariants.{Shown};
 
 use crate::cells::print_cell;
 use crate::columns::column_name;
 use crate::shown_rows::ShownRows;
-use cli_lines::Part::{Field, Member, Word};
-use cli_lines::Value::{self, Number, Plain};
-use cli_lines::{Name, Printer};
+use cli_lines::Part::{RowNumber, RowToken, Word};
+use cli_lines::{Name, Part, Printer};
 use opening::{TableId, Token};
 use std::alloc::Global;
 use std::io::Write;
@@ -42,44 +42,28 @@ pub(crate) fn print_row<'a, R: ShownRows<'a>, W: Write>(
     ensures line { (model : Metadata) → R.shows rows.old model → Prints out.old out.new (row_line names model table row ∷ []) }
 {
     cli_lines::laws::parts_follow::<W>();
-    begin_row(names, table, row, out);
+    begin_row(names, Token { table, row }, out);
     print_cells(alloc, names, rows, table, row, out);
     out.end();
 }
 
-/// Begins the line of a row.
-fn begin_row<W: Write>(names: Names, table: TableId, row: u32, out: &mut Printer<'_, W>)
-    ensures { Begins out.old out.new (row_head names table row) }
+/// What the line of a row begins with.
+#[inline(always)]
+fn row_head(names: Names, row: Token) -> Part<'static>
+    ensures { shown result ≡ row_head names row }
 {
     match names {
-        Names::Hidden => begin_counted(table, row, out),
-        Names::Shown => begin_named(table, row, out),
+        Names::Hidden => RowNumber(row),
+        Names::Shown => RowToken(row),
     }
 }
 
-/// Begins the line of a row with its number.
-#[tactic(auto, unfolding(crate::specs::RowLines::row_head))]
-fn begin_counted<W: Write>(table: TableId, row: u32, out: &mut Printer<'_, W>)
-    ensures { Begins out.old out.new (row_head Hidden table row) }
+/// Begins the line of a row.
+#[inline(always)]
+fn begin_row<W: Write>(names: Names, row: Token, out: &mut Printer<'_, W>)
+    ensures { Begins out.old out.new (row_head names row ∷ []) }
 {
-    out.begin(&[
-        Member(Name::Table, Plain(table.name())),
-        Field(Name::Row, Number(row as u64)),
-        Word(":"),
-        Member(Name::Token, Value::Token(Token { table, row })),
-    ]);
-}
-
-/// Begins the line of a row with its token.
-#[tactic(auto, unfolding(crate::specs::RowLines::row_head))]
-fn begin_named<W: Write>(table: TableId, row: u32, out: &mut Printer<'_, W>)
-    ensures { Begins out.old out.new (row_head Shown table row) }
-{
-    out.begin(&[
-        Member(Name::Table, Plain(table.name())),
-        Member(Name::Row, Number(row as u64)),
-        Field(Name::Token, Value::Token(Token { table, row })),
-    ]);
+    out.begin(&[row_head(names, row)]);
 }
 
 /// Adds the cells of a row.
@@ -115,6 +99,7 @@ fn print_cells<'a, R: ShownRows<'a>, W: Write>(
 
 /// Adds what a cell begins with, if columns are named: a space, the name of its column and an equals sign.
 #[tactic(auto, unfolding(crate::specs::RowLines::cell_label))]
+#[inline(always)]
 fn print_label<W: Write>(names: Names, table: TableId, cell_index: usize, out: &mut Printer<'_, W>)
     requires { cell_index < cell_count table }
     ensures { Adds out.old out.new (cell_label names table cell_index) }

@@ -1,11 +1,11 @@
 //! The text of a signature (II.15.3).
-ghost use Rattle.std.specs.Prelude.{◌≡◌, ◌++◌, IfOk, OnOk, is_some, is_ok, string_bytes};
+ghost use Rattle.std.specs.Prelude.{◌≡◌, IfOk, is_some, is_ok};
 ghost use Rattle.sig_grammar.specs.Syntax.{Body};
 ghost use Rattle.sig_grammar.specs.Encodes.{Encodes};
 ghost use Rattle.sig_text.specs.Refused.{refused_after};
-ghost use Rattle.table_schema.specs.Tokens.{token_text};
 ghost use Rattle.cli_cells.specs.SignatureText.{signature_text};
 
+use cli_lines::push_token;
 use itoa::Buffer;
 use sig_text::{SigKind, TextSink, Token, write_signature};
 use std::alloc::{AllocError, Global};
@@ -16,8 +16,10 @@ const ROOM: usize = 128;
 /// A sink that keeps the text of a signature. A type is named by its token.
 #[derive(Drop)]
 struct SignatureText {
+    /// For the digits of tokens.
+    alloc: Global,
     /// The text so far.
-    text: String,
+    text: Vec<u8>,
     /// Whether memory ran out.
     refused: bool,
 }
@@ -34,40 +36,35 @@ fn answer(refused: &mut bool, pushed: Result<(), AllocError>) -> Option<()>
     Some(())
 }
 
-/// Appends the digits of a token.
-fn push_token(token: Token, text: &mut String) -> Result<(), AllocError>
-    ensures { OnOk result (string_bytes text.new ≡ string_bytes text.old ++ token_text token) }
-{
-    write!(text, "{token}")
-}
-
 impl TextSink for SignatureText {
-    ghost use Rattle.std.specs.Prelude.{◌≡◌, ◌++◌, true, string_bytes};
+    ghost use Rattle.std.specs.Prelude.{◌≡◌, ◌++◌, true};
     ghost use Rattle.cli_cells.specs.SignatureText.{piece_bytes};
 
     ghost refused = { λ s. s.refused };
 
-    ghost gives = { λ s piece taken t. taken ≡ true → string_bytes t.text ≡ string_bytes s.text ++ piece_bytes piece };
+    ghost gives = { λ s piece taken t. taken ≡ true → t.text.items ≡ s.text.items ++ piece_bytes piece };
 
     fn text(&mut self, text: &str) -> Option<()> {
-        let pushed = self.text.push_str(text);
+        let pushed = self.text.extend_from_slice(text.as_bytes());
         answer(&mut self.refused, pushed)
     }
 
     fn number(&mut self, number: u32) -> Option<()> {
         let mut digits = Buffer::new();
-        let pushed = self.text.push_str(digits.format(number));
+        let pushed = self
+            .text
+            .extend_from_slice(digits.format(number).as_bytes());
         answer(&mut self.refused, pushed)
     }
 
     fn signed(&mut self, value: i64) -> Option<()> {
         let mut digits = Buffer::new();
-        let pushed = self.text.push_str(digits.format(value));
+        let pushed = self.text.extend_from_slice(digits.format(value).as_bytes());
         answer(&mut self.refused, pushed)
     }
 
     fn name(&mut self, token: Token) -> Option<()> {
-        let pushed = push_token(token, &mut self.text);
+        let pushed = push_token(self.alloc, token, &mut self.text);
         answer(&mut self.refused, pushed)
     }
 }
@@ -81,11 +78,12 @@ pub(crate) fn signature_text(
     alloc: Global,
     kind: SigKind,
     blob: &[u8],
-) -> Result<String, AllocError>
-    ensures { (signature : Body) → Encodes kind signature blob.now → IfOk result (λ text. string_bytes text ≡ signature_text signature) }
+) -> Result<Vec<u8>, AllocError>
+    ensures { (signature : Body) → Encodes kind signature blob.now → IfOk result (λ text. text.items ≡ signature_text signature) }
 {
-    let text = String::with_capacity(alloc, ROOM)?;
+    let text = Vec::with_capacity(alloc, ROOM)?;
     let mut sink = SignatureText {
+        alloc,
         text,
         refused: false,
     };

@@ -5,12 +5,15 @@ use Rattle.std.specs.Str.{encode_utf8_all}
 use Rattle.std.proofs.Math.Logic.{⊎_elim}
 use Rattle.json.specs.Print.{escape_byte, print_from, quoted as string_text}
 use Rattle.json.specs.Token as json
-use Rattle.cli_lines.specs.JsonTexts.{array_json, items_json, member_json, opener, units_json, value_json}
+use Rattle.cli_lines.specs.JsonTexts.{array_json, items_json, member_json, opener, row_json, units_json, value_json}
 use Rattle.cli_lines.specs.Lines.{Value, number, hex, byte, text, plain, token, reference, quoted, bytes, guid, start, signature, yes, null, json_from, line_feed, named_token, part_tokens, units_tokens, value_tokens}
+use Rattle.table_schema.specs.declared.token.Token.{Token}
+use Rattle.table_schema.specs.Tables.{table_name}
+use Rattle.table_schema.specs.Tokens.{token_text}
 use Rattle.cli_lines.specs.Names.{name_text}
 use Rattle.cli_lines.specs.Shown.{shown, shown_value}
 use Rattle.cli_lines.specs.declared.parts.Part.{Part as KeptPart}
-use Rattle.cli_lines.specs.declared.parts.Part.TheVariants.{Field, Member, Spaced}
+use Rattle.cli_lines.specs.declared.parts.Part.TheVariants.{Field, Member, Spaced, RowNumber, RowToken}
 use Rattle.cli_lines.specs.declared.parts.Value.{Value as KeptValue}
 use Rattle.cli_lines.specs.Texts.{escaped_bytes}
 use Rattle.cli_lines.specs.declared.line.Before.{Before}
@@ -92,6 +95,30 @@ value_prints (start n) more = refl
 value_prints (signature blob of) more = sym (signed (escaped_bytes blob) of (print_from true more))
 value_prints yes more = refl
 value_prints null more = refl
+
+-- the members of a row after the name of the first one
+abbrev pub row_values : Token → List json.Token
+row_values row =
+    json.string (table_name row.table) ∷ named_token name.Row ∷ json.number (decimal row.row) ∷ named_token name.Token ∷ json.string (token_text row) ∷ []
+
+row_grouped : (table digits of remainder : List ℕ)
+    → (table ++ (codes ",\"row\":" ++ (digits ++ (codes ",\"token\":" ++ of)))) ++ remainder
+    ≡ table ++ (codes ",\"row\":" ++ (digits ++ (codes ",\"token\":" ++ (of ++ remainder))))
+row_grouped table digits of remainder = simp append_assoc
+
+pub row_prints : (row : Token) → PrintAs (row_values row) (row_json row)
+unfolding print_from escape_byte
+row_prints row more = sym (row_grouped (string_text (table_name row.table)) (decimal row.row) (string_text (token_text row)) (print_from true more))
+
+pub row_joined : (line before key table digits of : List ℕ)
+    → ((((line ++ (before ++ (key ++ 58 ∷ []))) ++ (table ++ codes ",\"row\":")) ++ digits) ++ codes ",\"token\":") ++ of
+    ≡ line ++ (before ++ (key ++ 58 ∷ (table ++ (codes ",\"row\":" ++ (digits ++ (codes ",\"token\":" ++ of))))))
+row_joined line before key table digits of = simp append_assoc
+
+pub row_tokens_are : (part : KeptPart) (row : Token) → (part ≡ RowNumber row) ⊎ (part ≡ RowToken row) → part_tokens (shown part) ≡ named_token name.Table ∷ row_values row
+row_tokens_are part row =
+    let of = λ (p : KeptPart). part_tokens (shown p) in
+    ⊎_elim (λ e. ap of e) (λ e. ap of e)
 
 -- the tokens of a part that is a member
 pub tokens_are : (part : KeptPart) (key : Name) (value : KeptValue) → (part ≡ Field key value) ⊎ ((part ≡ Member key value) ⊎ (part ≡ Spaced key value))

@@ -1,5 +1,5 @@
 -- What is appended to a line, one byte after another.
-use Rattle.std.proofs.Common.{◌≡◌, ◌∙◌, ℕ, suc, ◌+◌, ◌/◌, ◌%◌, ◌<◌, Bool, true, false, IsTrue, List, [], ◌∷◌, ◌++◌, length, get_or, take, refl, ap, sym, append_assoc, arith, if◌then◌else◌}
+use Rattle.std.proofs.Common.{◌≡◌, ◌∙◌, ℕ, zero, suc, ◌+◌, ◌/◌, ◌%◌, ◌<◌, Bool, true, false, IsTrue, List, [], ◌∷◌, ◌++◌, length, get_or, take, refl, ap, sym, append_assoc, arith, codes, if◌then◌else◌}
 use Rattle.std.specs.Prelude.{Result, Ok, Err, OnOk, is_ok}
 use Rattle.std.specs.List.{flat_map}
 use Rattle.std.specs.Fmt.{digit_glyph}
@@ -23,12 +23,31 @@ pub two_bytes : (line : List ℕ) (a b : ℕ) → (line ++ a ∷ []) ++ b ∷ []
 two_bytes line a b = append_assoc line (a ∷ []) (b ∷ [])
 
 pub hexadecimal_more : (line bytes : List ℕ) (i : ℕ) → i < length bytes → get_or bytes i 0 < 256
-    → ((line ++ escaped_bytes (take i bytes)) ++ digit_glyph false (get_or bytes i 0 / 16) ∷ []) ++ digit_glyph false (get_or bytes i 0 % 16) ∷ []
+    → (line ++ escaped_bytes (take i bytes)) ++ digit_glyph false (get_or bytes i 0 / 16) ∷ digit_glyph false (get_or bytes i 0 % 16) ∷ []
     ≡ line ++ escaped_bytes (take (i + 1) bytes)
 hexadecimal_more line bytes i lt small =
-    two_bytes (line ++ escaped_bytes (take i bytes)) (digit_glyph false (get_or bytes i 0 / 16)) (digit_glyph false (get_or bytes i 0 % 16))
-    ∙ ap (λ ys. (line ++ escaped_bytes (take i bytes)) ++ ys) (sym (hex_byte false (get_or bytes i 0) small))
+    ap (λ ys. (line ++ escaped_bytes (take i bytes)) ++ ys) (sym (hex_byte false (get_or bytes i 0) small))
     ∙ items_more (hexadecimal 2) line bytes i 0 lt
+
+-- the digits in order
+pub digit_at : (n : ℕ) → n < 16 → get_or (codes "0123456789abcdef") n 0 ≡ digit_glyph false n
+digit_at zero few = refl
+digit_at (suc zero) few = refl
+digit_at (suc (suc zero)) few = refl
+digit_at (suc (suc (suc zero))) few = refl
+digit_at (suc (suc (suc (suc zero)))) few = refl
+digit_at (suc (suc (suc (suc (suc zero))))) few = refl
+digit_at (suc (suc (suc (suc (suc (suc zero)))))) few = refl
+digit_at (suc (suc (suc (suc (suc (suc (suc zero))))))) few = refl
+digit_at (suc (suc (suc (suc (suc (suc (suc (suc zero)))))))) few = refl
+digit_at (suc (suc (suc (suc (suc (suc (suc (suc (suc zero))))))))) few = refl
+digit_at (suc (suc (suc (suc (suc (suc (suc (suc (suc (suc zero)))))))))) few = refl
+digit_at (suc (suc (suc (suc (suc (suc (suc (suc (suc (suc (suc zero))))))))))) few = refl
+digit_at (suc (suc (suc (suc (suc (suc (suc (suc (suc (suc (suc (suc zero)))))))))))) few = refl
+digit_at (suc (suc (suc (suc (suc (suc (suc (suc (suc (suc (suc (suc (suc zero))))))))))))) few = refl
+digit_at (suc (suc (suc (suc (suc (suc (suc (suc (suc (suc (suc (suc (suc (suc zero)))))))))))))) few = refl
+digit_at (suc (suc (suc (suc (suc (suc (suc (suc (suc (suc (suc (suc (suc (suc (suc zero))))))))))))))) few = refl
+digit_at (suc (suc (suc (suc (suc (suc (suc (suc (suc (suc (suc (suc (suc (suc (suc (suc n)))))))))))))))) few = absurd (omega (arith, few))
 
 -- the digits of four bytes
 pub four_bytes : (a b c d : ℕ) → a < 256 → b < 256 → c < 256 → d < 256

@@ -3,6 +3,8 @@ use Rattle.std.specs.Prelude.{ℕ, List, [], ◌∷◌, ◌++◌, codes, decimal
 use Rattle.std.specs.Char.Utf16.{has_unpaired_surrogate, utf16_lossy_chars}
 use Rattle.std.specs.Str.{encode_utf8_all}
 use Rattle.json.specs.Print.{quoted as string_text}
+use Rattle.table_schema.specs.Tables.{table_name}
+use Rattle.table_schema.specs.declared.token.Token.{Token}
 use Rattle.table_schema.specs.Tokens.{hexadecimal, token_text}
 use Rattle.cli_lines.specs.Lines.{Value, number, hex, byte, text, plain, token, reference, quoted, bytes, guid, start, signature, yes, null, guid_text}
 use Rattle.cli_lines.specs.Names.{name_text}
@@ -40,6 +42,10 @@ value_json null = codes "null"
 -- a member with this name and this text of a value
 abbrev pub member_json : Name → List ℕ → List ℕ
 member_json named of = string_text (name_text named) ++ 58 ∷ of
+
+-- what follows the name of the first member of a row
+abbrev pub row_json : Token → List ℕ
+row_json of = string_text (table_name of.table) ++ (codes ",\"row\":" ++ (decimal of.row ++ (codes ",\"token\":" ++ string_text (token_text of))))
 
 -- the items after the first one, and the bracket that closes the array
 abbrev pub items_json : List ℕ → List ℕ

@@ -1,5 +1,5 @@
 -- The lines of a report, and their text in each form.
-use Rattle.std.specs.Prelude.{ℕ, Bool, true, false, if◌then◌else◌, List, [], ◌∷◌, ◌++◌, codes, decimal, map, Option, None, Some}
+use Rattle.std.specs.Prelude.{ℕ, true, if◌then◌else◌, List, [], ◌∷◌, ◌++◌, codes, decimal, map, Option, None, Some}
 use Rattle.std.specs.List.{flat_map}
 use Rattle.std.specs.Char.Utf16.{has_unpaired_surrogate, utf16_lossy_chars}
 use Rattle.std.specs.Str.{encode_utf8_all}
@@ -8,6 +8,7 @@ use Rattle.json.specs.Print.{print, print_from}
 use Rattle.uuid.specs.Text.{hyphenated_text, lower}
 use Rattle.heap_entries.specs.GuidText.{as_read}
 use Rattle.table_schema.specs.declared.token.Token.{Token}
+use Rattle.table_schema.specs.Tables.{table_name}
 use Rattle.table_schema.specs.Tokens.{hexadecimal, token_text}
 use Rattle.cli_faults.specs.Escaped.{escaped_text, escaped_unit}
 use Rattle.cli_lines.specs.Names.{name_text}
@@ -49,6 +50,9 @@ pub data Part : Type 0 where
   member : Name → Value → Part
   -- a field after a space
   spaced : Name → Value → Part
+  -- a row of a table: in a line of text its number and a colon, or its token; in JSON its table, number and token
+  row_number : Token → Part
+  row_token : Token → Part
   -- the UTF-16 units of a user string
   units : List ℕ → Part
   -- in JSON the start and the end of a member that is an object
@@ -93,6 +97,8 @@ part_text (field _ value) = value_text value
 part_text (note value) = value_text value
 part_text (member _ _) = []
 part_text (spaced _ value) = codes " " ++ value_text value
+part_text (row_number of) = decimal of.row ++ codes ":"
+part_text (row_token of) = token_text of
 part_text (units of) = flat_map escaped_unit of
 part_text (opens _) = []
 part_text closes = []
@@ -127,12 +133,19 @@ units_tokens of =
     if has_unpaired_surrogate of then named_token name.Units ∷ json.begin_array ∷ (map (λ unit. json.number (decimal unit)) of ++ json.end_array ∷ [])
     else named_token name.Text ∷ json.string (encode_utf8_all (utf16_lossy_chars of)) ∷ []
 
+abbrev pub row_tokens : Token → List json.Token
+row_tokens of =
+    named_token name.Table ∷ json.string (table_name of.table) ∷ named_token name.Row ∷ json.number (decimal of.row)
+    ∷ named_token name.Token ∷ json.string (token_text of) ∷ []
+
 abbrev pub part_tokens : Part → List json.Token
 part_tokens (word of) = []
 part_tokens (field named value) = named_token named ∷ value_tokens value
 part_tokens (note value) = []
 part_tokens (member named value) = named_token named ∷ value_tokens value
 part_tokens (spaced named value) = named_token named ∷ value_tokens value
+part_tokens (row_number of) = row_tokens of
+part_tokens (row_token of) = row_tokens of
 part_tokens (units of) = units_tokens of
 part_tokens (opens named) = named_token named ∷ json.begin_object ∷ []
 part_tokens closes = json.end_object ∷ []

@@ -4,6 +4,7 @@ use Rattle.std.specs.List.{range_with_len}
 use Rattle.json.specs.Print.{quoted}
 use Rattle.schema.specs.ColumnNames.{column_names_of}
 use Rattle.table_schema.specs.declared.table.TableId.{TableId}
+use Rattle.table_schema.specs.Tables.{table_name}
 use Rattle.table_schema.specs.CellColumns.{cell_count, column_of}
 use Rattle.cli_lines.specs.declared.names.Name.{Name}
 use Rattle.cli_lines.specs.declared.names.Name.TheVariants as name
@@ -59,6 +60,10 @@ name_text name.Token = codes "token"
 name_text name.Type = codes "type"
 name_text name.Units = codes "units"
 name_text name.Version = codes "version"
+
+-- the name of a table, and the name of the next member of its row
+abbrev pub row_start : TableId → List ℕ
+row_start table = quoted (table_name table) ++ codes ",\"row\":"
 
 -- a name after a comma and before a colon, as it follows another member
 abbrev pub key_text : List ℕ → List ℕ

@@ -2,7 +2,7 @@
 use Rattle.cli_lines.specs.Lines as line
 use Rattle.cli_lines.specs.Lines.{Part, Value}
 use Rattle.cli_lines.specs.declared.parts.Part.{Part as KeptPart}
-use Rattle.cli_lines.specs.declared.parts.Part.TheVariants.{Word, Field, Note, Member, Spaced, Units, Open, Close}
+use Rattle.cli_lines.specs.declared.parts.Part.TheVariants.{Word, Field, Note, Member, Spaced, RowNumber, RowToken, Units, Open, Close}
 use Rattle.cli_lines.specs.declared.parts.Value.{Value as KeptValue}
 use Rattle.cli_lines.specs.declared.parts.Value.TheVariants.{Number, Hex, Byte, Text, Plain, Token, Reference, Quoted, Bytes, Guid, Start, Signature, Yes, Null}
 
@@ -28,6 +28,8 @@ shown (Field name value) = line.field name (shown_value value)
 shown (Note value) = line.note (shown_value value)
 shown (Member name value) = line.member name (shown_value value)
 shown (Spaced name value) = line.spaced name (shown_value value)
+shown (RowNumber of) = line.row_number of
+shown (RowToken of) = line.row_token of
 shown (Units string) = line.units string.now.units
 shown (Open name) = line.opens name
 shown Close = line.closes

@@ -2,9 +2,10 @@
 ghost use Rattle.std.specs.Prelude.{◌≡◌, ◌++◌, ◌∷◌, [], List, OnOk, IfOk};
 ghost use Rattle.json.specs.Token as json;
 ghost use Rattle.cli_lines.specs.declared.line.Before.TheVariants as here;
+ghost use Rattle.cli_lines.specs.declared.names.Name.TheVariants as name;
 ghost use Rattle.cli_lines.specs.Lines.{json_from, part_tokens};
 ghost use Rattle.cli_lines.specs.Shown.{shown, shown_value};
-ghost use Rattle.cli_lines.specs.JsonTexts.{member_json, opener, value_json};
+ghost use Rattle.cli_lines.specs.JsonTexts.{member_json, opener, row_json, value_json};
 
 use crate::json_texts::{
     push_byte_string, push_guid_string, push_hexadecimal_string, push_reference_string,
@@ -12,24 +13,28 @@ use crate::json_texts::{
 };
 use crate::json_units::push_units_member;
 use crate::line::Before;
-use crate::names::Name;
+use crate::names::{Name, row_start};
 use crate::parts::{Part, Value};
 use crate::texts::push_decimal;
 use std::alloc::{AllocError, Global};
+use table_schema::Token;
 
 /// Appends a value.
-fn push_json_value(alloc: Global, value: &Value<'_>, line: &mut Vec<u8>) -> Result<(), AllocError>
-    ensures { OnOk result (line.new.items ≡ line.old.items ++ value_json (shown_value value.now)) }
+#[inline(always)]
+fn push_json_value(alloc: Global, value: Value<'_>, line: &mut Vec<u8>) -> Result<(), AllocError>
+    ensures { OnOk result (line.new.items ≡ line.old.items ++ value_json (shown_value value.entry)) }
 {
     match value {
-        Value::Number(number) | Value::Start(number) => push_decimal(*number, line),
-        Value::Hex(number) => push_word_string(*number, line),
-        Value::Byte(number) => push_byte_string(*number, line),
-        Value::Text(text) | Value::Plain(text) | Value::Quoted(text) => push_string(text, line),
-        Value::Token(token) => push_token_string(alloc, *token, line),
-        Value::Reference(token) => push_reference_string(alloc, *token, line),
+        Value::Number(number) | Value::Start(number) => push_decimal(number, line),
+        Value::Hex(number) => push_word_string(number, line),
+        Value::Byte(number) => push_byte_string(number, line),
+        Value::Text(text) | Value::Plain(text) | Value::Quoted(text) => {
+            push_string(text.as_bytes(), line)
+        }
+        Value::Token(token) => push_token_string(alloc, token, line),
+        Value::Reference(token) => push_reference_string(alloc, token, line),
         Value::Bytes(bytes) => push_hexadecimal_string(bytes, line),
-        Value::Guid(guid) => push_guid_string(alloc, *guid, line),
+        Value::Guid(guid) => push_guid_string(alloc, guid, line),
         Value::Signature(blob, text) => push_signature(blob, text, line),
         Value::Yes => line.extend_from_slice(b"true"),
         Value::Null => line.extend_from_slice(b"null"),
@@ -37,6 +42,7 @@ fn push_json_value(alloc: Global, value: &Value<'_>, line: &mut Vec<u8>) -> Resu
 }
 
 /// Appends the name of a member, with what is before and after it.
+#[inline(always)]
 pub(crate) fn push_name(at: Before, name: Name, line: &mut Vec<u8>) -> Result<(), AllocError>
     ensures { OnOk result (line.new.items ≡ line.old.items ++ (opener at ++ member_json name [])) }
 {
@@ -52,15 +58,28 @@ pub(crate) fn push_name(at: Before, name: Name, line: &mut Vec<u8>) -> Result<()
     }
 }
 
+/// Appends the table, the number and the token of a row.
+#[inline(never)]
+fn push_row(alloc: Global, at: Before, row: Token, line: &mut Vec<u8>) -> Result<(), AllocError>
+    ensures { OnOk result (line.new.items ≡ line.old.items ++ (opener at ++ member_json name.Table (row_json row))) }
+{
+    push_name(at, Name::Table, line)?;
+    line.extend_from_slice(row_start(row.table).as_bytes())?;
+    push_decimal(row.row as u64, line)?;
+    line.extend_from_slice(b",\"token\":")?;
+    push_token_string(alloc, row, line)
+}
+
 /// Appends a member.
+#[inline(never)]
 fn push_member(
     alloc: Global,
     at: Before,
     name: Name,
-    value: &Value<'_>,
+    value: Value<'_>,
     line: &mut Vec<u8>,
 ) -> Result<(), AllocError>
-    ensures { OnOk result (line.new.items ≡ line.old.items ++ (opener at ++ member_json name (value_json (shown_value value.now)))) }
+    ensures { OnOk result (line.new.items ≡ line.old.items ++ (opener at ++ member_json name (value_json (shown_value value.entry)))) }
 {
     push_name(at, name, line)?;
     push_json_value(alloc, value, line)
@@ -79,19 +98,23 @@ fn push_close(at: Before, line: &mut Vec<u8>) -> Result<(), AllocError>
 
 /// Appends a part of a line. Returns where the printer is then.
 #[tactic(auto, unfolding(json::specs::Print::print_from))]
-#[inline(never)]
+#[inline(always)]
 pub(crate) fn push_json_part(
     alloc: Global,
     at: Before,
-    part: &Part<'_>,
+    part: Part<'_>,
     line: &mut Vec<u8>,
 ) -> Result<Before, AllocError>
-    ensures { IfOk result (λ now. (more : List json.Token) → line.new.items ++ json_from now more ≡ line.old.items ++ json_from at (part_tokens (shown part.now) ++ more)) }
+    ensures { IfOk result (λ now. (more : List json.Token) → line.new.items ++ json_from now more ≡ line.old.items ++ json_from at (part_tokens (shown part.entry) ++ more)) }
 {
-    match part {
+    match &part {
         Part::Word(_) | Part::Note(_) => Ok(at),
         Part::Field(name, value) | Part::Member(name, value) | Part::Spaced(name, value) => {
-            push_member(alloc, at, *name, value, line)?;
+            push_member(alloc, at, *name, *value, line)?;
+            Ok(Before::Value)
+        }
+        Part::RowNumber(row) | Part::RowToken(row) => {
+            push_row(alloc, at, *row, line)?;
             Ok(Before::Value)
         }
         Part::Units(string) => {

@@ -77,11 +77,11 @@ pub(crate) fn push_escaped(text: &[u8], line: &mut Vec<u8>) -> Result<(), AllocE
 }
 
 /// Appends a string, with its quotes.
-pub(crate) fn push_string(text: &str, line: &mut Vec<u8>) -> Result<(), AllocError>
+pub(crate) fn push_string(text: &[u8], line: &mut Vec<u8>) -> Result<(), AllocError>
     ensures { OnOk result (line.new.items ≡ line.old.items ++ quoted text.now) }
 {
     line.push(b'"')?;
-    push_escaped(text.as_bytes(), line)?;
+    push_escaped(text, line)?;
     Ok(line.push(b'"')?)
 }
 
@@ -127,7 +127,7 @@ pub(crate) fn push_guid_string(
     match guid {
         Some(guid) => {
             let text = guid_text(alloc, &guid)?;
-            push_string(&text, line)
+            push_string(text.as_bytes(), line)
         }
         None => line.extend_from_slice(b"null"),
     }
@@ -158,7 +158,7 @@ pub(crate) fn push_byte_string(number: u8, line: &mut Vec<u8>) -> Result<(), All
 }
 
 /// Appends an object of the bytes and the text of a signature.
-pub(crate) fn push_signature(blob: &[u8], text: &str, line: &mut Vec<u8>) -> Result<(), AllocError>
+pub(crate) fn push_signature(blob: &[u8], text: &[u8], line: &mut Vec<u8>) -> Result<(), AllocError>
     ensures { OnOk result (line.new.items ≡ line.old.items ++ value_json (shown.signature blob.now text.now)) }
 {
     line.extend_from_slice(b"{\"blob\":")?;

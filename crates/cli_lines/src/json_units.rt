@@ -61,7 +61,7 @@ fn push_text(at: Before, text: &str, line: &mut Vec<u8>) -> Result<(), AllocErro
     ensures { OnOk result (line.new.items ≡ line.old.items ++ (opener at ++ member_json name.Text (quoted text.now))) }
 {
     push_name(at, Name::Text, line)?;
-    push_string(text, line)
+    push_string(text.as_bytes(), line)
 }
 
 /// Appends the member of units: a text, or an array if a surrogate among them has no partner.

@@ -28,3 +28,4 @@ mod units;
 pub use names::Name;
 pub use parts::{Form, Part, Value};
 pub use printer::Printer;
+pub use texts::push_token;

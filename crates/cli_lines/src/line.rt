@@ -57,6 +57,11 @@ fn push_text_part(alloc: Global, part: &Part<'_>, line: &mut Vec<u8>) -> Result<
             line.push(b' ')?;
             push_text_value(alloc, value, line)
         }
+        Part::RowNumber(row) => {
+            push_decimal(row.row as u64, line)?;
+            Ok(line.push(b':')?)
+        }
+        Part::RowToken(row) => push_token(alloc, *row, line),
         Part::Units(string) => push_units(string.units(), line),
         Part::Member(_, _) | Part::Open(_) | Part::Close => Ok(()),
     }
@@ -78,7 +83,7 @@ pub(crate) fn push_part(
             push_text_part(alloc, part, line)?;
             Ok(at)
         }
-        Form::JsonLines => push_json_part(alloc, at, part, line),
+        Form::JsonLines => push_json_part(alloc, at, *part, line),
     }
 }
 

@@ -1,6 +1,6 @@
 //! The names of members.
 ghost use Rattle.std.specs.Prelude.{◌≡◌, [], map, slice_index_or};
-ghost use Rattle.cli_lines.specs.Names.{cell_names, key_text, name_text};
+ghost use Rattle.cli_lines.specs.Names.{cell_names, key_text, name_text, row_start};
 
 use table_schema::TableId;
 
@@ -57,14 +57,27 @@ macro_rules! key {
     ($name:ident) => { concat!(",\"", stringify!($name), "\":") };
 }
 
-/// The names of the columns of the cells of a table, each as a key.
+/// What the members of a row begin with: its table with the key of its number, and the key of each cell.
+#[derive(Clone, Copy)]
+struct Keys {
+    row: &'static str,
+    cells: &'static [&'static str],
+}
+
+/// The keys of the rows of a table, from its name and those of the columns of its cells.
 macro_rules! keys {
-    ($($column:ident)+) => { &[$(key!($column)),+] };
+    ($table:ident: $($column:ident)+) => {
+        Keys {
+            row: concat!("\"", stringify!($table), "\",\"row\":"),
+            cells: &[$(key!($column)),+],
+        }
+    };
 }
 
 impl Name {
     /// The name in quotes, after a comma and before a colon.
     #[tactic(auto, unfolding(json::specs::Print::escape_byte))]
+    #[inline(always)]
     pub(crate) fn key(self) -> &'static str
         ensures { result.now ≡ key_text (name_text self) }
     {
@@ -116,60 +129,74 @@ impl Name {
 }
 
 /// The key of a cell.
+#[inline(always)]
 fn cell_key(table: TableId, index: usize) -> &'static str
     ensures { result.now ≡ key_text (slice_index_or (cell_names table) index []) }
 {
-    match cell_keys(table).get(index) {
+    match keys_of(table).cells.get(index) {
         Some(key) => *key,
         None => ",\"\":",
     }
 }
 
-/// The keys of the cells of a table.
+/// The name of a table as a string, with the key of a row's number.
+#[inline]
+pub(crate) fn row_start(table: TableId) -> &'static str
+    ensures { result.now ≡ row_start table }
+{
+    keys_of(table).row
+}
+
+/// The keys of the rows of a table.
 #[tactic(auto, unfolding(json::specs::Print::escape_byte, table_schema::specs::CellColumns::cell_columns))]
-fn cell_keys(table: TableId) -> &'static [&'static str]
-    ensures { map (λ text. text.now) result.now ≡ map key_text (cell_names table) }
+#[inline(always)]
+fn keys_of(table: TableId) -> Keys
+    ensures row { result.row.now ≡ row_start table }
+    ensures cells { map (λ text. text.now) result.cells.now ≡ map key_text (cell_names table) }
 {
     match table {
-        TableId::Module => keys!(Generation Name Mvid EncId EncBaseId),
-        TableId::TypeRef => keys!(ResolutionScope TypeName TypeNamespace),
-        TableId::TypeDef => keys!(Flags TypeName TypeNamespace Extends FieldList MethodList),
-        TableId::Field => keys!(Flags Name Signature),
-        TableId::MethodDef => keys!(RVA ImplFlags Flags Name Signature ParamList),
-        TableId::Param => keys!(Flags Sequence Name),
-        TableId::InterfaceImpl => keys!(Class Interface),
-        TableId::MemberRef => keys!(Class Name Signature),
-        TableId::Constant => keys!(Type Parent Value),
-        TableId::CustomAttribute => keys!(Parent Type Value),
-        TableId::FieldMarshal => keys!(Parent NativeType),
-        TableId::DeclSecurity => keys!(Action Parent PermissionSet),
-        TableId::ClassLayout => keys!(PackingSize ClassSize Parent),
-        TableId::FieldLayout => keys!(Offset Field),
-        TableId::StandAloneSig => keys!(Signature),
-        TableId::EventMap => keys!(Parent EventList),
-        TableId::Event => keys!(EventFlags Name EventType),
-        TableId::PropertyMap => keys!(Parent PropertyList),
-        TableId::Property => keys!(Flags Name Type),
-        TableId::MethodSemantics => keys!(Semantics Method Association),
-        TableId::MethodImpl => keys!(Class MethodBody MethodDeclaration),
-        TableId::ModuleRef => keys!(Name),
-        TableId::TypeSpec => keys!(Signature),
-        TableId::ImplMap => keys!(MappingFlags MemberForwarded ImportName ImportScope),
-        TableId::FieldRVA => keys!(RVA Field),
+        TableId::Module => keys!(Module: Generation Name Mvid EncId EncBaseId),
+        TableId::TypeRef => keys!(TypeRef: ResolutionScope TypeName TypeNamespace),
+        TableId::TypeDef =>
+            keys!(TypeDef: Flags TypeName TypeNamespace Extends FieldList MethodList),
+        TableId::Field => keys!(Field: Flags Name Signature),
+        TableId::MethodDef => keys!(MethodDef: RVA ImplFlags Flags Name Signature ParamList),
+        TableId::Param => keys!(Param: Flags Sequence Name),
+        TableId::InterfaceImpl => keys!(InterfaceImpl: Class Interface),
+        TableId::MemberRef => keys!(MemberRef: Class Name Signature),
+        TableId::Constant => keys!(Constant: Type Parent Value),
+        TableId::CustomAttribute => keys!(CustomAttribute: Parent Type Value),
+        TableId::FieldMarshal => keys!(FieldMarshal: Parent NativeType),
+        TableId::DeclSecurity => keys!(DeclSecurity: Action Parent PermissionSet),
+        TableId::ClassLayout => keys!(ClassLayout: PackingSize ClassSize Parent),
+        TableId::FieldLayout => keys!(FieldLayout: Offset Field),
+        TableId::StandAloneSig => keys!(StandAloneSig: Signature),
+        TableId::EventMap => keys!(EventMap: Parent EventList),
+        TableId::Event => keys!(Event: EventFlags Name EventType),
+        TableId::PropertyMap => keys!(PropertyMap: Parent PropertyList),
+        TableId::Property => keys!(Property: Flags Name Type),
+        TableId::MethodSemantics => keys!(MethodSemantics: Semantics Method Association),
+        TableId::MethodImpl => keys!(MethodImpl: Class MethodBody MethodDeclaration),
+        TableId::ModuleRef => keys!(ModuleRef: Name),
+        TableId::TypeSpec => keys!(TypeSpec: Signature),
+        TableId::ImplMap => keys!(ImplMap: MappingFlags MemberForwarded ImportName ImportScope),
+        TableId::FieldRVA => keys!(FieldRVA: RVA Field),
         TableId::Assembly =>
-            keys!(HashAlgId MajorVersion MinorVersion BuildNumber RevisionNumber Flags PublicKey Name Culture),
-        TableId::AssemblyProcessor => keys!(Processor),
-        TableId::AssemblyOS => keys!(OSPlatformID OSMajorVersion OSMinorVersion),
+            keys!(Assembly: HashAlgId MajorVersion MinorVersion BuildNumber RevisionNumber Flags PublicKey Name Culture),
+        TableId::AssemblyProcessor => keys!(AssemblyProcessor: Processor),
+        TableId::AssemblyOS => keys!(AssemblyOS: OSPlatformID OSMajorVersion OSMinorVersion),
         TableId::AssemblyRef =>
-            keys!(MajorVersion MinorVersion BuildNumber RevisionNumber Flags PublicKeyOrToken Name Culture HashValue),
-        TableId::AssemblyRefProcessor => keys!(Processor AssemblyRef),
-        TableId::AssemblyRefOS => keys!(OSPlatformID OSMajorVersion OSMinorVersion AssemblyRef),
-        TableId::File => keys!(Flags Name HashValue),
-        TableId::ExportedType => keys!(Flags TypeDefId TypeName TypeNamespace Implementation),
-        TableId::ManifestResource => keys!(Offset Flags Name Implementation),
-        TableId::NestedClass => keys!(NestedClass EnclosingClass),
-        TableId::GenericParam => keys!(Number Flags Owner Name),
-        TableId::MethodSpec => keys!(Method Instantiation),
-        TableId::GenericParamConstraint => keys!(Owner Constraint),
+            keys!(AssemblyRef: MajorVersion MinorVersion BuildNumber RevisionNumber Flags PublicKeyOrToken Name Culture HashValue),
+        TableId::AssemblyRefProcessor => keys!(AssemblyRefProcessor: Processor AssemblyRef),
+        TableId::AssemblyRefOS =>
+            keys!(AssemblyRefOS: OSPlatformID OSMajorVersion OSMinorVersion AssemblyRef),
+        TableId::File => keys!(File: Flags Name HashValue),
+        TableId::ExportedType =>
+            keys!(ExportedType: Flags TypeDefId TypeName TypeNamespace Implementation),
+        TableId::ManifestResource => keys!(ManifestResource: Offset Flags Name Implementation),
+        TableId::NestedClass => keys!(NestedClass: NestedClass EnclosingClass),
+        TableId::GenericParam => keys!(GenericParam: Number Flags Owner Name),
+        TableId::MethodSpec => keys!(MethodSpec: Method Instantiation),
+        TableId::GenericParamConstraint => keys!(GenericParamConstraint: Owner Constraint),
     }
 }

@@ -39,7 +39,7 @@ pub enum Value<'a> {
     /// A plus sign and a number, the number in JSON.
     Start(u64),
     /// The bytes of a signature between `<` and `>`, an object of its bytes and its text in JSON.
-    Signature(&'a [u8], &'a str),
+    Signature(&'a [u8], &'a [u8]),
     /// `true`.
     Yes,
     /// `null`.
@@ -59,6 +59,10 @@ pub enum Part<'a> {
     Member(Name, Value<'a>),
     /// A field after a space.
     Spaced(Name, Value<'a>),
+    /// A row of a table. In a line of text its number and a colon, and in JSON the members `table`, `row` and `token`.
+    RowNumber(Token),
+    /// A row of a table. In a line of text its token, and in JSON the members `table`, `row` and `token`.
+    RowToken(Token),
     /// In a line of text the UTF-16 units of a user string, escaped. In JSON the member `text`, or `units` as an array of
     /// numbers if they are not a text.
     Units(&'a UserString<'a>),

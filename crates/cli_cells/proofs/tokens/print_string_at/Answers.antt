@@ -1,5 +1,4 @@
 use Rattle.std.proofs.Common.{◌%◌, List, ℕ, refl, subst, sym}
-use Rattle.std.specs.Prelude.{IfOk}
 use Rattle.heap_entries.specs.Entries.{IsUserString}
 use Rattle.opening.specs.Views.{user_of}
 use Rattle.cli_cells.specs.TokenLines.{user_line}

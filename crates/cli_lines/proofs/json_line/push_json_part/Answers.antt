@@ -1,9 +1,17 @@
 use Rattle.std.proofs.Common.{◌++◌, ◌∙◌, ap, sym}
-use Rattle.cli_lines.specs.JsonTexts.{value_json}
+use Rattle.cli_lines.specs.JsonTexts.{row_json, value_json}
 use Rattle.cli_lines.specs.Lines.{json_from, value_tokens}
 use Rattle.cli_lines.specs.Shown.{shown_value}
-use Rattle.cli_lines.proofs.JsonLemmas.{member_printed, tokens_are, units_printed, value_prints}
+use Rattle.cli_lines.proofs.JsonLemmas.{member_printed, row_prints, row_tokens_are, row_values, tokens_are, units_printed, value_prints}
+use Rattle.cli_lines.specs.declared.names.Name.TheVariants as name
 use Rattle.cli_lines.proofs.json_line.push_json_part.Goals as goal
+
+pub returns-in_ok-push_row-in-RowNumber : goal.returns-in_ok-push_row-in-RowNumber
+returns-in_ok-push_row-in-RowNumber c = λ more.
+    let row = c.in-RowNumber.row in
+    let line = c.args.line.now.items in
+    member_printed c.args.at name.Table (row_values row) (row_json row) line c.push_row.new.line.items (row_prints row) c.in_ok-push_row-in-RowNumber.ensures more
+    ∙ ap (λ tokens. line ++ json_from c.args.at (tokens ++ more)) (sym (row_tokens_are c.args.part row c.in-RowNumber.is))
 
 pub returns-in_ok-push_units_member-in-Units : goal.returns-in_ok-push_units_member-in-Units
 returns-in_ok-push_units_member-in-Units c =
@@ -17,4 +25,4 @@ returns-in_ok-push_member-in-Field c = λ more.
     let line = c.args.line.now.items in
     member_printed c.args.at c.in-Field.name (value_tokens value) (value_json value) line c.push_member.new.line.items (value_prints value)
     c.in_ok-push_member-in-Field.ensures more
-    ∙ ap (λ tokens. line ++ json_from c.args.at (tokens ++ more)) (sym (tokens_are c.args.part.now c.in-Field.name c.in-Field.value c.in-Field.is))
+    ∙ ap (λ tokens. line ++ json_from c.args.at (tokens ++ more)) (sym (tokens_are c.args.part c.in-Field.name c.in-Field.value c.in-Field.is))

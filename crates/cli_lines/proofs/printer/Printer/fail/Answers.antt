@@ -1,4 +1,4 @@
-use Rattle.std.proofs.Common.{[], ◌∙◌, Some, subst, sym}
+use Rattle.std.proofs.Common.{◌∙◌, Some, subst, sym}
 use Rattle.std.specs.declared.io.ErrorKind.TheVariants.{OutOfMemory}
 use Rattle.cli_lines.specs.Printed.{Adds, Printed, Prints}
 use Rattle.cli_lines.proofs.PrintedLemmas.{added_cut, adds_stopped, prints_cut, prints_stopped, seen}
