@@ -3,9 +3,10 @@ ghost use Rattle.std.specs.Prelude.{◌≡◌, ◌⊎◌, ◌∷◌, [], IfErr, 
 ghost use Rattle.cli_faults.specs.Status.{IsOutput};
 ghost use Rattle.cli_lines.specs.Printed.{Prints, Sent};
 ghost use Rattle.cli_runs.specs.Rewritten.{IsDone, IsRewriting, IsUndone, wrote_line, wrote_text};
-ghost use Rattle.cli_runs.specs.Runs.{IsFileRun, IsMixed};
+ghost use Rattle.cli_runs.specs.Runs.{IsFileRun, IsMixed, IsWithin};
 
 use crate::canonical_root::canonical_root;
+use crate::print_check::is_spent;
 use cli_faults::{Failure, FileError, Reason, Stop};
 use cli_files::{Stopped, is_standard_output, read_file, write_root};
 use cli_input::Input as Given;
@@ -21,16 +22,18 @@ use std::rt::Files;
 ///
 /// # Errors
 ///
-/// The path is that of the standard output; the file cannot be read or breaks a rule, or its root is too long; out of
-/// memory; or the path or the output cannot be written.
+/// The path is that of the standard output; the file cannot be read or breaks a rule, or its root is too long; the budget
+/// is spent; out of memory; or the path or the output cannot be written.
 pub fn rewrite_file<'a, R: Files + Input + AllocGlobal, W: Write>(
     rt: &R,
     path: &'a str,
     file: &'a str,
     input: Given,
+    budget: Option<u64>,
     out: &mut W,
 ) -> Result<(), Stopped<'a>>
-    ensures { IsFileRun out.old out.new file.now (λ bytes. IsRewriting W.contents R.File.contents out.old out.new input bytes path.now) result
+    ensures { IsFileRun out.old out.new file.now
+        (λ bytes. IsWithin out.old out.new budget input bytes (IsRewriting W.contents R.File.contents out.old out.new input bytes path.now)) result
         ⊎ IsMixed out.old out.new path.now result }
 {
     if is_standard_output(rt, path) {
@@ -41,6 +44,9 @@ pub fn rewrite_file<'a, R: Files + Input + AllocGlobal, W: Write>(
     }
     let read = read_file(rt, file)?;
     let bytes: &[u8] = &read;
+    if is_spent(bytes, input, budget) {
+        return Err(Stopped::from(Stop::BudgetSpent));
+    }
     match rewrite(rt, bytes, input, file, path, out) {
         Ok(()) => Ok(()),
         Err(failure) => Err(Stopped::at(Stop::Failed(failure), None, input, bytes)),

@@ -1,4 +1,4 @@
-use Rattle.std.proofs.Common.{◌∙◌, ◌∷◌, [], Bool, List, codes, subst, sym}
+use Rattle.std.proofs.Common.{◌∷◌, [], Bool, List, codes, subst, sym}
 use Rattle.cli_lines.specs.declared.names.Name.TheVariants as name
 use Rattle.cli_lines.specs.Lines.{Part, member, plain, word}
 use Rattle.cli_lines.specs.Printed.{Prints}
