@@ -20,7 +20,8 @@ _clim() {
         *)
             local flags='--bare --help'
             if [ "${COMP_WORDS[1]}" = embed ]; then flags='--help --json --root --unsigned'; fi
-            if [ "${COMP_WORDS[1]}" = check ]; then flags="$flags --budget --files-from -0 --quiet --where"; fi
+            if [ "${COMP_WORDS[1]}" = check ]; then flags="$flags --files-from -0 --quiet --where"; fi
+            case ${COMP_WORDS[1]} in root | embed) ;; *) flags="$flags --budget" ;; esac
             case ${COMP_WORDS[1]} in root | check | show | types | outline | strings | token | where | digest | compare) flags="$flags --json" ;; esac
             if [ "${COMP_WORDS[1]}" = show ]; then flags="$flags --names --until-fault"; fi
             if [ "${COMP_WORDS[1]}" = compare ]; then flags="$flags --ignore"; fi

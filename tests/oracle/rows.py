@@ -3,7 +3,7 @@
 import json
 import uuid
 
-from walk import CODED, HEAPS, NUMBERS, TABLES, escaped
+from walk import CODED, HEAPS, NUMBERS, TABLES, escaped, packed
 
 # The columns whose cells are lists: each begins at a row of this table and ends where the next one begins (II.22).
 LISTS = {"FieldList": "Field", "MethodList": "MethodDef", "ParamList": "Param"}
@@ -52,7 +52,7 @@ class Rows:
             return f'"{escaped(found[:-1])}"'
         if kind == "guid":
             return f"{{{uuid.UUID(bytes_le=found)}}}"
-        return f"<{found[self.walk.packed(start)[1]:].hex()}>"
+        return f"<{found[packed(self.walk.data, start)[1]:].hex()}>"
 
     def first_of_list(self, table, row, column):
         """The row where a list begins. A null list begins where the next one does, and the last one after all rows."""

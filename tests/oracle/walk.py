@@ -120,14 +120,28 @@ def padded(size):
     return (size + 3) // 4 * 4
 
 
+def packed(data, at):
+    """A packed number (II.23.2), and its own number of bytes; None for neither form."""
+    first = data[at]
+    if first < 0x80:
+        return first, 1
+    if first < 0xC0:
+        return int.from_bytes(data[at:at + 2], "big") & 0x3FFF, 2
+    if first < 0xE0:
+        return int.from_bytes(data[at:at + 4], "big") & 0x1FFFFFFF, 4
+    return None
+
+
 def escaped(name):
     """Bytes as text: a quote, a backslash and what is not printable ASCII as \\x and two digits."""
     return "".join(chr(c) if 0x20 <= c < 0x7F and c not in b'"\\' else f"\\x{c:02x}" for c in name)
 
 
 def cell_words(table, row, index, column):
-    """What a cell is, in a line."""
-    return f"table {table:02X} {TABLES[table][0]} row {row} column {index} {column}"
+    """What a cell is, in a line. The padding of Constant is no column, and is not counted (II.22.9)."""
+    names = [it.split()[0] for it in TABLES[table][1].split(", ")]
+    part = f"column {index - names[:index].count('padding')} {column}" if column != "padding" else column
+    return f"table {table:02X} {TABLES[table][0]} row {row} {part}"
 
 
 def structure_line(line):
@@ -137,6 +151,8 @@ def structure_line(line):
     what = value["structure"]
     if keys[3:] == ["stream", "token"]:
         what = f"{what} {value['token']}" if value["stream"] == "#US" else None
+    elif what == "padding" and keys[3:] == ["table", "row"]:
+        what = f"table {NUMBERS[value['table']]:02X} {value['table']} row {value['row']} padding"
     elif keys[3:] in (["table", "row", "column"], ["stream", "table", "row", "column"]):
         table = NUMBERS[value["table"]]
         columns = [it.split()[0] for it in TABLES[table][1].split(", ")]
@@ -327,34 +343,25 @@ class Walk:
                             counts[offset] += 1
                             self.lines[offset].append(f"{start} {size} {word} of {cell_words(table, row, index, column)}")
 
-    def packed(self, at):
-        """A packed number (II.23.2), and its own number of bytes; None for neither form."""
-        first = self.data[at]
-        if first < 0x80:
-            return first, 1
-        if first < 0xC0:
-            return int.from_bytes(self.data[at:at + 2], "big") & 0x3FFF, 2
-        if first < 0xE0:
-            return int.from_bytes(self.data[at:at + 4], "big") & 0x1FFFFFFF, 4
-        return None
-
     def entry(self, kind, heap, index):
         start = self.streams[heap][0]
         if kind == "text":
             return start + index, self.data.index(0, start + index) + 1 - (start + index), "string"
         if kind == "guid":
             return start + 16 * (index - 1), 16, "guid"
-        return start + index, sum(self.packed(start + index)), "blob"
+        return start + index, sum(packed(self.data, start + index)), "blob"
 
     def user_strings(self):
+        """The user strings of the heap with zeros up to a multiple of four bytes. The zeros are no bytes of the stream."""
         start, size = self.streams.get(b"#US", (0, 0))
-        at = start + 1
-        while at < start + size and at - start < 1 << 24:
-            packed = self.packed(at)
-            if packed is None or at + sum(packed) > start + size:
+        heap = self.data[start:start + size] + bytes(padded(size) - size)
+        at = 1
+        while at < min(size, 1 << 24):
+            length = packed(heap, at)
+            if length is None or at + sum(length) > len(heap):
                 break
             # A string has no bytes, or an odd number of them: its units, and a last byte (II.24.2.4).
-            if packed[0] and packed[0] % 2 == 0:
+            if length[0] and length[0] % 2 == 0:
                 break
-            self.put(at, sum(packed), f"user string {0x70000000 + at - start:08x}")
-            at += sum(packed)
+            self.put(start + at, min(sum(length), size - at), f"user string {0x70000000 + at:08x}")
+            at += sum(length)

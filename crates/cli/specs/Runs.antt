@@ -14,7 +14,7 @@ use Rattle.cli_lines.specs.declared.parts.Form.{Form}
 use Rattle.cli_runs.specs.Compared.{IsComparing}
 use Rattle.cli_runs.specs.Embedded.{IsEmbedding, IsRootRun}
 use Rattle.cli_runs.specs.Rewritten.{IsRewriting}
-use Rattle.cli_runs.specs.Runs.{IsExplained, IsFileRun, IsMixed, IsRunOn, IsRunOnList}
+use Rattle.cli_runs.specs.Runs.{IsExplained, IsFileRun, IsMixed, IsWithin, IsRunOn, IsRunOnList}
 use Rattle.cli.specs.Tasks.{IsTask, form_of, input_of}
 use Rattle.cli.specs.declared.task.Task.{Task}
 use Rattle.cli.specs.declared.task.Task.TheVariants as task
@@ -47,7 +47,8 @@ module _ {W : Type 0} (contents : W → Option (List ℕ)) (before after : W) wh
   IsRunOf file_contents (task.OnFiles request) ask status = IsRunOn request contents before after (map (λ file. file.now) ask.files.items) status
   IsRunOf file_contents (task.OnList request) ask status = IsRunOnList request contents before after status
   IsRunOf file_contents (task.Rewrite file out) ask status =
-      EndsWith (λ outcome. IsFileRun before after file.now (λ bytes. IsRewriting contents file_contents before after (input_of ask.bare) bytes out.now) outcome
+      EndsWith (λ outcome. IsFileRun before after file.now
+      (λ bytes. IsWithin before after ask.budget (input_of ask.bare) bytes (IsRewriting contents file_contents before after (input_of ask.bare) bytes out.now)) outcome
       ⊎ IsMixed before after out.now outcome) status
   IsRunOf file_contents (task.Embed file options) ask status =
       EndsWith (λ outcome. IsFileRun before after file.now (λ bytes. IsRootRun before after (option_map (λ path. path.now) options.root)
@@ -55,7 +56,8 @@ module _ {W : Type 0} (contents : W → Option (List ℕ)) (before after : W) wh
       ⊎ IsMixed before after options.path.now outcome) status
   IsRunOf file_contents (task.Compare file other options) ask status =
       EndsWith (IsFileRun before after file.now (λ left. IsFileRun before after other.now
-      (λ right. IsComparing contents before after options.form options.ignored options.input left right file.now other.now))) status
+      (λ right. IsWithin before after options.budget options.input left (IsWithin before after options.budget options.input right
+      (IsComparing contents before after options.form options.ignored options.input left right file.now other.now))))) status
   IsRunOf file_contents (task.Explain rules) ask status = IsExplaining (form_of ask.json) rules.items (contents before) (contents after) status
 
   -- the run of what the arguments ask for: that of their task; or one of them is wrong, and nothing is read or printed

@@ -220,7 +220,7 @@ abbrev pub IsComparison : Ask → Bor (List ℕ) → Bor (List ℕ) → Result T
 IsComparison ask file other result =
     MatchResult result
     (λ made. (ignored : IgnoredColumns) × AreNamed ask.ignored.items ignored
-    × (made ≡ task.Compare file other (record { input = input_of ask.bare; form = form_of ask.json; ignored = ignored })))
+    × (made ≡ task.Compare file other (record { input = input_of ask.bare; form = form_of ask.json; ignored = ignored; budget = ask.budget })))
     (λ failure. (word : Bor (List ℕ)) × IsFirstUnknown NamesSome ask.ignored.items word × IsNoColumn word.now failure)
 
 -- the task of `compare`; a usage error if a file is missing

@@ -128,7 +128,7 @@ fn run_task<R: Files + Input + AllocGlobal, W: Write, E: Write>(
         Task::OnFiles(request) => run_files(rt, &request, ask.files.as_slice(), out, err),
         Task::OnList(request) => run_listed(rt, &request, out, err),
         Task::Rewrite(file, path) => {
-            let outcome = rewrite_file(rt, path, file, input_of(ask.bare), out);
+            let outcome = rewrite_file(rt, path, file, input_of(ask.bare), ask.budget, out);
             status(alloc, outcome, err)
         }
         Task::Embed(file, options) => {

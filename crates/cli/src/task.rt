@@ -313,6 +313,7 @@ fn compare_of<'a>(alloc: Global, ask: &'a Ask<'a>) -> Result<Task<'a>, Failure<'
                 input: input_of(ask.bare),
                 form: form_of(ask.json),
                 ignored,
+                budget: ask.budget,
             };
             Ok(Task::Compare(file, other, options))
         }

@@ -71,6 +71,10 @@ bare = flag (codes "bare")
 abbrev pub json : Rule
 json = flag (codes "json")
 
+-- `--budget N`, the limit of what is checked
+abbrev pub budget : Rule
+budget = number (codes "budget")
+
 -- the value after the file
 abbrev pub second : Rule
 second = required (value (codes "second"))
@@ -101,29 +105,29 @@ abbrev pub rules_of : Subcommand → List Rule
 rules_of Root = file ∷ bare ∷ json ∷ []
 -- `check [--bare] [--budget N] [--files-from LIST] [-0] [-q] [--json] [--where] [FILE]..`; the ASCII codes of `0` and `q` are 48 and 113
 rules_of Check =
-    values (codes "FILE") ∷ bare ∷ number (codes "budget") ∷ option (codes "files-from")
+    values (codes "FILE") ∷ bare ∷ budget ∷ option (codes "files-from")
     ∷ record (new_rule (codes "null")) { short = Some 48; action = Some SetTrue } ∷ record (flag (codes "quiet")) { short = Some 113 }
     ∷ json ∷ flag (codes "where") ∷ []
--- `show [--bare] [--json] [--names] [--until-fault] FILE [TABLE]`
-rules_of Show = file ∷ bare ∷ json ∷ value (codes "part") ∷ flag (codes "names") ∷ flag (codes "until-fault") ∷ []
--- `types [--bare] [--json] FILE`
-rules_of Types = file ∷ bare ∷ json ∷ []
--- `outline [--bare] [--json] FILE [NAME]`
-rules_of Outline = file ∷ bare ∷ json ∷ value (codes "part") ∷ []
--- `strings [--bare] [--json] FILE`
-rules_of Strings = file ∷ bare ∷ json ∷ []
--- `token [--bare] [--json] FILE HEX..`
-rules_of Token = file ∷ bare ∷ json ∷ required (values (codes "HEX")) ∷ []
--- `where [--bare] [--json] FILE OFFSET`
-rules_of Where = file ∷ bare ∷ json ∷ second ∷ []
--- `rewrite [--bare] FILE OUT`
-rules_of Rewrite = file ∷ bare ∷ second ∷ []
+-- `show [--bare] [--budget N] [--json] [--names] [--until-fault] FILE [TABLE]`
+rules_of Show = file ∷ bare ∷ budget ∷ json ∷ value (codes "part") ∷ flag (codes "names") ∷ flag (codes "until-fault") ∷ []
+-- `types [--bare] [--budget N] [--json] FILE`
+rules_of Types = file ∷ bare ∷ budget ∷ json ∷ []
+-- `outline [--bare] [--budget N] [--json] FILE [NAME]`
+rules_of Outline = file ∷ bare ∷ budget ∷ json ∷ value (codes "part") ∷ []
+-- `strings [--bare] [--budget N] [--json] FILE`
+rules_of Strings = file ∷ bare ∷ budget ∷ json ∷ []
+-- `token [--bare] [--budget N] [--json] FILE HEX..`
+rules_of Token = file ∷ bare ∷ budget ∷ json ∷ required (values (codes "HEX")) ∷ []
+-- `where [--bare] [--budget N] [--json] FILE OFFSET`
+rules_of Where = file ∷ bare ∷ budget ∷ json ∷ second ∷ []
+-- `rewrite [--bare] [--budget N] FILE OUT`
+rules_of Rewrite = file ∷ bare ∷ budget ∷ second ∷ []
 -- `embed [--json] [--root ROOT] [--unsigned] FILE OUT`
 rules_of Embed = file ∷ json ∷ second ∷ option (codes "root") ∷ flag (codes "unsigned") ∷ []
--- `digest [--bare] [--json] FILE..`
-rules_of Digest = required (values (codes "FILE")) ∷ bare ∷ json ∷ []
--- `compare [--bare] [--json] [--ignore TABLE.COLUMN].. FILE OTHER`
-rules_of Compare = file ∷ bare ∷ json ∷ second ∷ record (option (codes "ignore")) { action = Some Append } ∷ []
+-- `digest [--bare] [--budget N] [--json] FILE..`
+rules_of Digest = required (values (codes "FILE")) ∷ bare ∷ budget ∷ json ∷ []
+-- `compare [--bare] [--budget N] [--json] [--ignore TABLE.COLUMN].. FILE OTHER`
+rules_of Compare = file ∷ bare ∷ budget ∷ json ∷ second ∷ record (option (codes "ignore")) { action = Some Append } ∷ []
 -- `explain [--json] [CODE]..`
 rules_of Explain = values (codes "CODE") ∷ json ∷ []
 

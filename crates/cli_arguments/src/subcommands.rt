@@ -70,5 +70,9 @@ const FILE: Argument<'static> = argument!["FILE" Required("FILE") "The file to r
 /// `--bare`, the flag for a metadata root.
 const BARE: Argument<'static> = argument!["bare" Flag "FILE is a metadata root, not a PE file"];
 
+/// `--budget`, the limit of what is checked.
+const BUDGET: Argument<'static> =
+    argument!["budget" Number("N") "Check at most N bytes of signatures, or stop with exit status 3"];
+
 /// `--json`, the flag for JSON Lines.
 const JSON: Argument<'static> = argument!["json" Flag "Print a JSON value on each line"];

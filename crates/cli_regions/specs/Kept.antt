@@ -53,11 +53,11 @@ pub record Joins (old new : Searched) (later : List Region) : Type 0 where
 pub record Adds (old new : Searched) (regions : List Region) : Type 0 where
   pub joins : Joins old new (regions_at old.offset regions)
 
--- a search kept structures of this kind, too
+-- a search kept structures of this kind, too, or memory ran out
 pub record Finds (AreFound : ℕ → List Region → Type 0) (old new : Searched) : Type 0 where
-  pub found : List Region
-  pub are : AreFound old.offset found
-  pub joins : Joins old new found
+  pub offset : new.offset ≡ old.offset
+  pub found : (found : List Region) → new.found ≡ Some found
+      → (before : List Region) × (old.found ≡ Some before) × (later : List Region) × AreFound old.offset later × (found ≡ before ++ later)
 
 -- the headers of a file end within it (II.25.2 and II.25.3)
 pub record HasHeaders (file : List ℕ) : Type 0 where

@@ -1,5 +1,5 @@
 //! Looks for the structures that contain a byte.
-ghost use Rattle.std.specs.Prelude.{◌≡◌, ◌∷◌, [], ◌++◌, IfOk, Some, map};
+ghost use Rattle.std.specs.Prelude.{◌≡◌, ◌∷◌, [], ◌++◌, IfOk, None, Some, map};
 ghost use Rattle.cli_regions.specs.Kept.{Adds, Joins, name_text, seen, words_text};
 ghost use Rattle.cli_regions.specs.Regions.{has_byte, region};
 
@@ -125,6 +125,11 @@ impl<'a> Search<'a> {
         self.offset
     }
 
+    /// The allocator of what is kept.
+    pub fn alloc(&self) -> Global {
+        *self.found.allocator()
+    }
+
     /// Keeps a structure that contains the byte.
     pub fn keep(&mut self, structure: Structure<'a>)
         ensures { Joins self.old self.new (seen structure.entry ∷ []) }
@@ -135,6 +140,13 @@ impl<'a> Search<'a> {
         if self.found.push(structure).is_err() {
             self.failed = true;
         }
+    }
+
+    /// Notes that memory ran out.
+    pub fn fail(&mut self)
+        ensures { self.new ≡ record { offset = self.old.offset; found = None } }
+    {
+        self.failed = true;
     }
 
     /// Keeps a structure if it contains the byte.

@@ -96,10 +96,10 @@ IsSpent (Some most) input bytes = (most < signature_bytes_of input bytes) × Hol
 
 -- why nothing of a report is printed
 abbrev pub IsRefused : Request → List ℕ → Report → Stop → Type 0
+IsRefused request bytes of BudgetSpent = IsSpent request.budget request.input bytes
 IsRefused request bytes report.Root (Failed (Fault found)) = FirstBroken (rules_of_heads request.input bytes) found
 IsRefused request bytes (report.Check verdict) (Failed (Fault found)) =
     (is_reported verdict request.form request.naming ≡ true) × FirstBroken (rules_of request.input bytes) found
-IsRefused request bytes (report.Check verdict) BudgetSpent = IsSpent request.budget request.input bytes
 IsRefused request bytes (report.OutlineOf subject) NoSuchType = OfModel request.input bytes (λ model. (row : ℕ) → ¬ IsSubject model subject row)
 IsRefused request bytes (report.Check Explained) (Failed OutOfMemory) = Unit {0}
 IsRefused request bytes report.Strings (Failed OutOfMemory) = Unit {0}

@@ -6,7 +6,7 @@ use Rattle.packed.specs.declared.code.FaultCode.{FaultCode}
 use Rattle.cli_faults.specs.Status.{IsOutput, IsUnwritten, status_of}
 use Rattle.cli_faults.specs.Stops.{status_of_stop}
 use Rattle.cli_faults.specs.declared.failure.Failure.{Failure}
-use Rattle.cli_faults.specs.declared.stop.Stop.TheVariants.{Failed}
+use Rattle.cli_faults.specs.declared.stop.Stop.TheVariants.{BudgetSpent, Failed}
 use Rattle.cli_files.specs.declared.stopped.Stopped.{Stopped}
 use Rattle.cli_files.specs.Read.{IsRefused}
 use Rattle.cli_files.specs.Stopped.{Outcome}
@@ -14,7 +14,8 @@ use Rattle.cli_lines.specs.declared.parts.Form.{Form}
 use Rattle.cli_lines.specs.Lines.{Part, report_text}
 use Rattle.cli_lines.specs.Printed.{SendsPrefix, Sent}
 use Rattle.cli_print.specs.Explanations.{AreExplanations}
-use Rattle.cli_runs.specs.Reports.{HasEnded}
+use Rattle.cli_input.specs.declared.opened.Input.{Input}
+use Rattle.cli_runs.specs.Reports.{HasEnded, IsSpent}
 use Rattle.cli_runs.specs.declared.report.Ended.{Ended}
 use Rattle.cli_runs.specs.declared.report.Ended.TheVariants as ended
 use Rattle.cli_runs.specs.declared.report.Request.{Request}
@@ -48,6 +49,11 @@ module _ {W : Type 0} (before after : W) where
   IsFileRun file run outcome =
       (read : Result (List ℕ) Failure)
       × MatchResult read (λ bytes. run bytes outcome) (λ failure. IsRefused file failure × IsErrAnd outcome (StopsBy failure) × (after ≡ before))
+
+  -- the budget is spent, and nothing is printed; or this run
+  abbrev pub IsWithin : Option ℕ → Input → List ℕ → (Outcome → Type 0) → Outcome → Type 0
+  IsWithin budget input bytes run outcome =
+      (IsSpent budget input bytes × IsErrAnd outcome (λ stopped. (stopped.stop ≡ BudgetSpent) × (stopped.hint ≡ None)) × (after ≡ before)) ⊎ run outcome
 
   -- OUT is the standard output: nothing is read or printed
   abbrev pub IsMixed : List ℕ → Outcome → Type 0

@@ -9,8 +9,9 @@ ghost use Rattle.cli_input.specs.Checked.{IsModelOf, IsWhole};
 ghost use Rattle.cli_lines.specs.Lines.{report_text};
 ghost use Rattle.cli_lines.specs.Printed.{Sent};
 ghost use Rattle.cli_runs.specs.Compared.{IsComparing, IsRefusal, IsShown};
-ghost use Rattle.cli_runs.specs.Runs.{IsFileRun};
+ghost use Rattle.cli_runs.specs.Runs.{IsFileRun, IsWithin};
 
+use crate::print_check::is_spent;
 use cli_compare::print_differences;
 use cli_faults::{Failure, Stop};
 use cli_files::{Stopped, read_file};
@@ -34,6 +35,8 @@ pub struct CompareOptions {
     pub form: Form,
     /// The columns whose cells are not compared.
     pub ignored: IgnoredColumns,
+    /// The largest number of signature blob bytes (II.23.2) that are checked of each file, if there is a limit.
+    pub budget: Option<u64>,
 }
 
 /// A file that was read.
@@ -58,7 +61,8 @@ pub fn compare_files<'a, R: Files + Input + AllocGlobal, W: Write>(
     out: &mut W,
 ) -> Result<(), Stopped<'a>>
     ensures { IsFileRun out.old out.new file.now (λ left. IsFileRun out.old out.new other.now
-        (λ right. IsComparing W.contents out.old out.new options.now.form options.now.ignored options.now.input left right file.now other.now)) result }
+        (λ right. IsWithin out.old out.new options.now.budget options.now.input left (IsWithin out.old out.new options.now.budget options.now.input right
+        (IsComparing W.contents out.old out.new options.now.form options.now.ignored options.now.input left right file.now other.now)))) result }
 {
     let left = read_file(rt, file)?;
     let right = read_file(rt, other)?;
@@ -70,6 +74,12 @@ pub fn compare_files<'a, R: Files + Input + AllocGlobal, W: Write>(
         path: other,
         bytes: &right,
     };
+    if is_spent(left.bytes, options.input, options.budget) {
+        return Err(Stopped::from(Stop::BudgetSpent));
+    }
+    if is_spent(right.bytes, options.input, options.budget) {
+        return Err(Stopped::from(Stop::BudgetSpent));
+    }
     compare(rt.alloc(), left, right, options, out)
 }
 

@@ -1,5 +1,5 @@
 //! `clim check`: whether the bytes of a file break a rule.
-ghost use Rattle.std.specs.Prelude.{◌≡◌, ◌∷◌, ◌++◌, ℕ, [], IfErr, List, OnOk, Some, map};
+ghost use Rattle.std.specs.Prelude.{◌≡◌, ◌∷◌, ◌++◌, ℕ, [], IfErr, IsTrue, List, OnOk, Some, map};
 ghost use Rattle.std.specs.Option.{option_map};
 ghost use Rattle.cli_input.specs.Checked.{IsWhole, rules_of};
 ghost use Rattle.cli_lines.specs.Lines.{Part};
@@ -7,7 +7,7 @@ ghost use Rattle.cli_lines.specs.Printed.{Prints};
 ghost use Rattle.cli_print.specs.Verdicts.{verdict_line};
 ghost use Rattle.cli_regions.specs.Kept.{seen};
 ghost use Rattle.cli_runs.specs.Printing.{AreNone, HasPrinted, StopsWithin};
-ghost use Rattle.cli_runs.specs.Reports.{AreSaid, HasEnded, is_reported, label, verdict_lines};
+ghost use Rattle.cli_runs.specs.Reports.{AreSaid, HasEnded, IsSpent, is_reported, label, verdict_lines};
 ghost use Rattle.cli_runs.specs.declared.report.Report.TheVariants as report;
 ghost use Rattle.cli_runs.specs.declared.report.Verdict.TheVariants.{Explained, Quiet};
 ghost use Rattle.cli_where.specs.Lines.{structure_line};
@@ -76,6 +76,19 @@ fn check_within(bytes: &[u8], input: Input, budget: Option<u64>) -> Result<(), B
     match open_within(bytes, input, budget) {
         Ok(_) => Ok(()),
         Err(error) => Err(error),
+    }
+}
+
+/// Whether a budget, if there is one, is spent before all rules for the bytes are checked. Without one they are not read.
+pub(crate) fn is_spent(bytes: &[u8], input: Input, budget: Option<u64>) -> bool
+    ensures { IsTrue result → IsSpent budget input bytes.now }
+{
+    if budget.is_none() {
+        return false;
+    }
+    match check_within(bytes, input, budget) {
+        Err(BoundedError::BudgetSpent) => true,
+        Ok(()) | Err(BoundedError::Fault(_)) => false,
     }
 }
 

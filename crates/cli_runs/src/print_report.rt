@@ -10,7 +10,7 @@ ghost use Rattle.metadata.specs.Model.{IsModel};
 ghost use Rattle.packed.specs.Rule.{FirstBroken};
 
 use crate::canonical_root::canonical_root;
-use crate::print_check::print_check;
+use crate::print_check::{is_spent, print_check};
 use crate::report::{Ended, Listing, Report, Request, ended_by};
 use cli_cells::{Names, print_show, print_tokens, print_until_fault};
 use cli_faults::{Failure, Stop};
@@ -27,7 +27,8 @@ use std::io::Write;
 use std::slice;
 use table_schema::TableId;
 
-/// Prints the lines of a report on the bytes of the file with this name, and returns how it ended.
+/// Prints the lines of a report on the bytes of the file with this name, and returns how it ended. If there is a budget, the
+/// bytes are checked within it first.
 pub(crate) fn print_report<'a, W: Write>(
     alloc: Global,
     request: &Request<'_>,
@@ -38,6 +39,9 @@ pub(crate) fn print_report<'a, W: Write>(
     ensures { HasPrinted request.now name.now bytes.now out.old out.new request.now.report result }
 {
     let input = request.input;
+    if !is_check(&request.report) && is_spent(bytes, input, request.budget) {
+        return Ended::Refused(Stop::BudgetSpent);
+    }
     match &request.report {
         Report::Root => ended_by(print_root(bytes, input, out)),
         Report::Strings => print_user_strings(alloc, request, name, bytes, out),
@@ -51,6 +55,11 @@ pub(crate) fn print_report<'a, W: Write>(
         Report::Where(offset) => print_at(alloc, request, *offset, name, bytes, out),
         Report::Digest => print_digest_of(alloc, request, name, bytes, out),
     }
+}
+
+/// Whether a report is that of a check, which looks at the budget by itself.
+fn is_check(report: &Report<'_>) -> bool {
+    matches!(report, Report::Check(_))
 }
 
 /// Prints the lines of a listing.

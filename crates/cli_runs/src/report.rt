@@ -75,7 +75,7 @@ pub struct Request<'a> {
     pub naming: Naming,
     /// What its bytes are.
     pub input: Input,
-    /// The largest number of signature blob bytes (II.23.2) that a check looks at, if there is a limit.
+    /// The largest number of signature blob bytes (II.23.2) that are checked, if there is a limit.
     pub budget: Option<u64>,
 }
 

@@ -3,10 +3,11 @@ ghost use Rattle.std.specs.Prelude.{◌⊎◌, IfErr, OnOk};
 ghost use Rattle.cli_faults.specs.Status.{IsOutput};
 ghost use Rattle.cli_lines.specs.Printed.{Sent};
 ghost use Rattle.cli_runs.specs.Rewritten.{IsDone, IsRewriting, IsUndone, wrote_text};
-ghost use Rattle.cli_runs.specs.Runs.{IsFileRun, IsMixed};
+ghost use Rattle.cli_runs.specs.Runs.{IsFileRun, IsMixed, IsWithin};
 
 use crate::canonical_root::canonical_root;
 use crate::one_line::print_one;
+use crate::print_check::is_spent;
 use cli_faults::{Failure, Stop};
 use cli_files::{Stopped, check_path, read_file, write_file};
 use cli_input::Input as Given;
@@ -22,21 +23,26 @@ use std::rt::Files;
 ///
 /// # Errors
 ///
-/// The path is that of the standard output; the file cannot be read or breaks a rule, or its root is too long; out of
-/// memory; or the path or the output cannot be written.
+/// The path is that of the standard output; the file cannot be read or breaks a rule, or its root is too long; the budget
+/// is spent; out of memory; or the path or the output cannot be written.
 pub fn rewrite_file<'a, R: Files + Input + AllocGlobal, W: Write>(
     rt: &R,
     path: &'a str,
     file: &'a str,
     input: Given,
+    budget: Option<u64>,
     out: &mut W,
 ) -> Result<(), Stopped<'a>>
-    ensures { IsFileRun out.old out.new file.now (λ bytes. IsRewriting W.contents R.File.contents out.old out.new input bytes path.now) result
+    ensures { IsFileRun out.old out.new file.now
+        (λ bytes. IsWithin out.old out.new budget input bytes (IsRewriting W.contents R.File.contents out.old out.new input bytes path.now)) result
         ⊎ IsMixed out.old out.new path.now result }
 {
     check_path(rt, path)?;
     let read = read_file(rt, file)?;
     let bytes: &[u8] = &read;
+    if is_spent(bytes, input, budget) {
+        return Err(Stopped::from(Stop::BudgetSpent));
+    }
     match rewrite(rt, bytes, input, file, path, out) {
         Ok(()) => Ok(()),
         Err(failure) => Err(Stopped::at(Stop::Failed(failure), None, input, bytes)),

@@ -1,11 +1,16 @@
 -- The user strings that follow one another in a heap.
-use Rattle.std.proofs.Common.{◌≡◌, ◌∙◌, ℕ, ◌+◌, ◌<◌, ◌≤◌, List, [], ◌++◌, length, ap, sym, subst, inl, inr, arith, length-append}
+use Rattle.std.proofs.Common.{◌≡◌, ◌∙◌, ℕ, ◌+◌, ◌-◌, ◌%◌, ◌<◌, ◌≤◌, List, [], ◌++◌, length, ap, sym, subst, inl, inr, append-nil, arith, length-append, replicate}
 use Rattle.heap_entries.specs.Entries.{IsBlob, IsCounted, IsUserString, UserText}
+use Rattle.heap_entries.specs.Padding.{zero_padded}
 use Rattle.cli_where.specs.UserStrings.{AreEntries, IsEntry}
 
 blob_counted : (heap : List ℕ) (index : ℕ) (blob : List ℕ) → 1 ≤ index → IsBlob heap index blob → IsCounted heap index blob
 blob_counted heap index blob some (inl none) = absurd (omega (arith, none.0, some))
 blob_counted heap index blob some (inr is) = is.1
+
+-- a heap of a multiple of four bytes is padded
+pub padded_already : (heap : List ℕ) → length heap % 4 ≡ 0 → heap ≡ zero_padded heap
+padded_already heap even = sym (ap (λ left. heap ++ replicate ((4 - left) % 4) 0) even ∙ append-nil heap)
 
 -- a user string at an index, by the size of its blob
 pub entry_is : (heap : List ℕ) (index read size : ℕ) (string : UserText) → 1 ≤ index → read ≡ index → IsUserString heap read string

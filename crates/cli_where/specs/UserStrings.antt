@@ -1,6 +1,7 @@
 -- The user strings of a heap, and their tokens (ECMA-335 II.24.2.4 and III.1.9).
-use Rattle.std.specs.Prelude.{◌≡◌, ℕ, ◌+◌, ◌-◌, ◌*◌, ◌^◌, ◌<◌, ◌≤◌, ◌⊎◌, List, [], ◌∷◌, length, map}
+use Rattle.std.specs.Prelude.{◌≡◌, ℕ, ◌+◌, ◌-◌, ◌*◌, ◌^◌, ◌<◌, ◌≤◌, ◌⊎◌, List, [], ◌∷◌, length, map, min}
 use Rattle.heap_entries.specs.Entries.{EncodesUserText, IsCounted, UserText}
+use Rattle.heap_entries.specs.Padding.{zero_padded}
 use Rattle.cli_regions.specs.Regions.{Region, regions_at, user_string}
 use Rattle.cli_where.specs.Entries.{Heap}
 
@@ -29,10 +30,11 @@ AreEntries heap offset (entry ∷ more) =
 abbrev pub user_token : ℕ → ℕ
 user_token offset = 0x70 * 2 ^ 24 + offset
 
--- a user string of a heap at an offset of the file as a structure
-abbrev pub user_region : ℕ → Entry → Region
-user_region start entry = record { start = start + entry.offset; size = entry.next - entry.offset; what = user_string (user_token entry.offset) }
+-- the bytes that a user string has of a heap as a structure: one that needs padding ends with the heap
+abbrev pub user_region : Heap → Entry → Region
+user_region heap entry = record { start = heap.start + entry.offset; size = min entry.next (length heap.bytes) - entry.offset; what = user_string (user_token entry.offset) }
 
--- the user strings that contain the byte, of those that follow one another from offset 1 on
+-- the user strings that contain the byte, of those of the padded heap that follow one another from offset 1 on
 abbrev pub AreUsersAt : Heap → ℕ → List Region → Type 0
-AreUsersAt heap offset found = (entries : List Entry) × AreEntries heap.bytes 1 entries × (found ≡ regions_at offset (map (user_region heap.start) entries))
+AreUsersAt heap offset found =
+    (entries : List Entry) × AreEntries (zero_padded heap.bytes) 1 entries × (found ≡ regions_at offset (map (user_region heap) entries))

@@ -60,14 +60,16 @@ fn print_found<W: Write>(alloc: Global, structures: &[Structure<'_>], out: &mut 
 /// - the metadata root and its field, or a stream header and its field (II.24.2.1, II.24.2.2);
 /// - the streams of the standard, which may overlap;
 /// - the field or row count of the table stream (II.24.2.6), or the cell: its table, its row from 1, and its column from
-///   0 and by name (II.22);
+///   0 and by name (II.22), which the padding of Constant has not;
 /// - the entries of `#Strings`, `#GUID` and `#Blob` that contain the byte, each with the cell that refers to it, for the
 ///   first ten cells that refer to one. The NUL of a string and the packed length of a blob count (II.24.2.3 to II.24.2.5);
-/// - the user string that contains the byte, with its token, if `clim strings` walks over it (II.24.2.4, III.1.9).
+/// - the user string that contains the byte, with its token, if `clim strings` walks over it (II.24.2.4, III.1.9). A string
+///   that ends in the zeros with which `#US` is padded has only the bytes before them.
 ///
 /// If no structure contains the byte, or the offset is not before the end, it prints `nothing`, or no line of JSON. Of bytes
 /// that break a rule it prints the lines of the layers that break none, down to the cells. After opening it takes one pass
-/// over the sections, one over `#US`, and if a heap contains the byte one over the cells, so its time is that of opening.
+/// over the sections, one over `#US`, and if a heap contains the byte one over the cells, so its time is that of opening. It
+/// copies `#US` if its size is no multiple of four.
 ///
 /// # Errors
 ///

@@ -1,19 +1,19 @@
 //! Prints the user strings of a file.
-ghost use Rattle.std.specs.Prelude.{◌≡◌, ◌∷◌, [], ◌<◌, ◌^◌, List, IfOk, flat_map};
+ghost use Rattle.std.specs.Prelude.{◌≡◌, ◌∷◌, [], ◌<◌, ◌^◌, List, flat_map};
 ghost use Rattle.heap_entries.specs.Padding.{zero_padded};
 ghost use Rattle.cli_lines.specs.Printed.{Prints};
 ghost use Rattle.cli_where.specs.Lines.{entry_lines, string_line, string_lines};
 ghost use Rattle.cli_where.specs.Located.{AreListed, HasEntries};
 ghost use Rattle.cli_where.specs.UserStrings.{AreEntries, Entry};
 
-use crate::user_strings::{USER_STRINGS, user_entry};
+use crate::user_strings::{USER_STRINGS, padded_copy, user_entry};
 use cli_faults::Failure;
 use cli_input::{Input, open};
 use cli_lines::Part::{Field, Units, Word};
 use cli_lines::Value::Hex;
 use cli_lines::{Name, Printer};
 use heap_entries::UserString;
-use std::alloc::{AllocError, Global};
+use std::alloc::Global;
 use std::io::Write;
 
 /// Prints a line for each user string: its token, a space and its units, each escaped if needed. Strings of no bytes have
@@ -51,17 +51,6 @@ fn print_heap<W: Write>(
         }
         Err(_) => Err(Failure::OutOfMemory),
     }
-}
-
-/// A copy of a heap, with zeros up to a multiple of four bytes. A model has such a heap.
-fn padded_copy(alloc: Global, bytes: &[u8]) -> Result<Vec<u8>, AllocError>
-    ensures { IfOk result (λ copy. copy.items ≡ zero_padded bytes.now) }
-{
-    let padding = (4 - bytes.len() % 4) % 4;
-    let mut copy = Vec::with_capacity(alloc, bytes.len() + padding)?;
-    copy.extend_from_slice(bytes)?;
-    copy.resize(bytes.len() + padding, 0)?;
-    Ok(copy)
 }
 
 /// Prints a line for each entry of a heap that has bytes, up to the first offset without an entry or a token.

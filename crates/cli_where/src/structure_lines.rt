@@ -1,9 +1,11 @@
 //! Prints the lines of structures.
-ghost use Rattle.std.specs.Prelude.{◌≡◌, ◌∷◌, [], map};
+ghost use Rattle.std.specs.Prelude.{◌≡◌, ◌∷◌, [], false, map, true};
 ghost use Rattle.cli_lines.specs.Printed.{Prints};
 ghost use Rattle.cli_regions.specs.Kept.{seen, words_text};
 ghost use Rattle.cli_regions.specs.Regions.{cell as a_cell, entry, user_string, words as some_words};
-ghost use Rattle.cli_where.specs.Lines.{column_name, entry_word, line_with, structure_line};
+ghost use Rattle.table_schema.specs.CellColumns.{is_padding};
+ghost use Rattle.cli_where.specs.Entries.{kind_of};
+ghost use Rattle.cli_where.specs.Lines.{column_name, column_number, entry_word, is_counted, line_with, structure_line};
 
 use cli_lines::Part::{Field, Member, Note, Word};
 use cli_lines::Value::{Byte, Hex, Number, Plain};
@@ -13,6 +15,7 @@ use root::Kind;
 use schema::{TableCell, column_names};
 use std::alloc::Global;
 use std::io::Write;
+use table_schema::{Column, ColumnKind, columns};
 
 /// A line: the offset and the size of a structure, and parts that say what it is.
 macro_rules! line {
@@ -34,6 +37,33 @@ fn column_name(cell: TableCell) -> &'static str
     match column_names(cell.table).get(cell.column) {
         Some(name) => name,
         None => "",
+    }
+}
+
+/// Whether a column is one of the standard's, and no padding (II.22.9).
+fn is_counted(column: &Column) -> bool
+    ensures { result ≡ is_counted column.now }
+{
+    !matches!(column.kind, ColumnKind::Padding)
+}
+
+/// The number of the column of a cell, from 0. Padding has none, and is not counted.
+#[tactic(auto, using(std::proofs::lemmas::List::take_min))]
+fn column_number(cell: TableCell) -> usize
+    ensures { result ≡ column_number cell }
+{
+    let columns = columns(cell.table);
+    let (before, _) = columns.split_at(cell.column.min(columns.len()));
+    before.iter().filter(|column| is_counted(column)).count()
+}
+
+/// Whether a cell is the padding of its row (II.22.9).
+fn is_padding(cell: TableCell) -> bool
+    ensures { result ≡ is_padding (kind_of cell) }
+{
+    match columns(cell.table).get(cell.column) {
+        Some(column) => !is_counted(column),
+        None => false,
     }
 }
 
@@ -81,9 +111,29 @@ fn print_words<W: Write>(
     }
 }
 
-/// Prints the line of a cell.
+/// Prints the line of the padding of a row.
+#[tactic(auto, unfolding(crate::specs::Lines::line_with))]
+fn print_padding<W: Write>(of: Structure<'_>, cell: TableCell, out: &mut Printer<'_, W>)
+    requires { is_padding (kind_of cell) ≡ true }
+    ensures { Prints out.old out.new (line_with of.entry.start of.entry.size (a_cell cell) ∷ []) }
+{
+    out.line(line![
+        of;
+        Member(Name::Structure, Plain("padding")),
+        Word("table "),
+        Note(Byte(cell.table.number())),
+        Word(" "),
+        Field(Name::Table, Plain(cell.table.name())),
+        Word(" row "),
+        Field(Name::Row, Number(cell.row as u64)),
+        Word(" padding")
+    ]);
+}
+
+/// Prints the line of a cell that is no padding.
 #[tactic(auto, unfolding(crate::specs::Lines::line_with))]
 fn print_cell<W: Write>(of: Structure<'_>, cell: TableCell, out: &mut Printer<'_, W>)
+    requires { is_padding (kind_of cell) ≡ false }
     ensures { Prints out.old out.new (line_with of.entry.start of.entry.size (a_cell cell) ∷ []) }
 {
     out.line(line![
@@ -96,7 +146,7 @@ fn print_cell<W: Write>(of: Structure<'_>, cell: TableCell, out: &mut Printer<'_
         Word(" row "),
         Field(Name::Row, Number(cell.row as u64)),
         Word(" column "),
-        Note(Number(cell.column as u64)),
+        Note(Number(column_number(cell) as u64)),
         Word(" "),
         Field(Name::Column, Plain(column_name(cell)))
     ]);
@@ -118,7 +168,7 @@ fn print_entry<W: Write>(of: Structure<'_>, heap: Kind, cell: TableCell, out: &m
         Word(" row "),
         Field(Name::Row, Number(cell.row as u64)),
         Word(" column "),
-        Note(Number(cell.column as u64)),
+        Note(Number(column_number(cell) as u64)),
         Word(" "),
         Field(Name::Column, Plain(column_name(cell)))
     ]);
@@ -144,6 +194,7 @@ fn print_structure<W: Write>(alloc: Global, of: Structure<'_>, out: &mut Printer
 {
     match of.what {
         What::Words(words) => print_words(alloc, of, words, out),
+        What::Cell(cell) if is_padding(cell) => print_padding(of, cell, out),
         What::Cell(cell) => print_cell(of, cell, out),
         What::Entry(heap, cell) => print_entry(of, heap, cell, out),
         What::UserString(token) => print_user_string(of, token, out),
@@ -152,7 +203,8 @@ fn print_structure<W: Write>(alloc: Global, of: Structure<'_>, out: &mut Printer
 
 /// Prints a line for each structure: its offset in the file and its size in bytes, both in decimal, and what it is.
 ///
-/// In JSON it is `{"offset":672,"size":2,"structure":"cell","table":"TypeDef","row":2,"column":"TypeName"}`. An entry has the
+/// In JSON it is `{"offset":672,"size":2,"structure":"cell","table":"TypeDef","row":2,"column":"TypeName"}`. The padding of
+/// Constant has the structure `padding`, and no column (II.22.9). An entry has the
 /// structure `string`, `guid` or `blob`, its `stream`, and the members of the cell that refers to it; a user string its
 /// `stream` and its `token`. Any other structure is what its line of text says.
 pub fn print_structures<W: Write>(

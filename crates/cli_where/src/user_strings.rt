@@ -1,12 +1,14 @@
 //! The user strings of a heap, one after another (II.24.2.4).
-ghost use Rattle.std.specs.Prelude.{◌≤◌, ◌<◌, ◌^◌, [], IfNone, IfSome};
-ghost use Rattle.cli_regions.specs.Kept.{Finds};
+ghost use Rattle.std.specs.Prelude.{◌≡◌, ◌≤◌, ◌<◌, ◌^◌, ◌-◌, [], IfNone, IfOk, IfSome, List, map, min};
+ghost use Rattle.heap_entries.specs.Padding.{zero_padded};
+ghost use Rattle.cli_regions.specs.Kept.{Adds, Finds};
 ghost use Rattle.cli_where.specs.Kept.{IsLow, heap_of};
-ghost use Rattle.cli_where.specs.UserStrings.{AreEntries, AreUsersAt, IsEntry};
+ghost use Rattle.cli_where.specs.UserStrings.{AreEntries, AreUsersAt, Entry, IsEntry, user_region};
 
 use crate::entries::{Heap, blob_size};
 use cli_regions::{Search, Structure, What};
 use heap_entries::{UserString, user_string};
+use std::alloc::{AllocError, Global};
 
 /// The token of offset 0 of the user strings (III.1.9).
 pub(crate) const USER_STRINGS: u32 = 0x7000_0000;
@@ -44,18 +46,52 @@ pub(crate) fn user_entry(heap: &[u8], index: usize) -> Option<UserEntry<'_>>
     }
 }
 
-/// Keeps the user string that contains the byte, of those that follow one another from offset 1 of the heap on.
-pub(crate) fn find_user_strings(heap: &Heap<'_>, found: &mut Search<'_>)
+/// A copy of a heap, with zeros up to a multiple of four bytes. A model has such a heap.
+pub(crate) fn padded_copy(alloc: Global, bytes: &[u8]) -> Result<Vec<u8>, AllocError>
+    ensures { IfOk result (λ copy. copy.items ≡ zero_padded bytes.now) }
+{
+    let padding = (4 - bytes.len() % 4) % 4;
+    let mut copy = Vec::with_capacity(alloc, bytes.len() + padding)?;
+    copy.extend_from_slice(bytes)?;
+    copy.resize(bytes.len() + padding, 0)?;
+    Ok(copy)
+}
+
+/// Keeps the user string that contains the byte, of those that follow one another from offset 1 of the heap on, as
+/// `clim strings` prints them: the heap is padded with zeros to a multiple of four bytes, and copied if it is not.
+pub(crate) fn find_user_strings(alloc: Global, heap: &Heap<'_>, found: &mut Search<'_>)
     requires { IsLow heap.now }
     ensures { Finds (AreUsersAt (heap_of heap.now)) found.old found.new }
 {
+    if heap.bytes.len() % 4 == 0 {
+        find_in_padded(heap, heap.bytes, found);
+        return;
+    }
+    match padded_copy(alloc, heap.bytes) {
+        Ok(padded) => find_in_padded(heap, &padded, found),
+        Err(_) => found.fail(),
+    }
+}
+
+/// The number of bytes that a user string has of a heap of this length.
+fn size_within(len: usize, index: usize, next: usize) -> usize
+    ensures { result ≡ min next len - index }
+{
+    next.min(len).saturating_sub(index)
+}
+
+/// Keeps the user string that contains the byte, of those of a heap that was padded.
+fn find_in_padded(heap: &Heap<'_>, padded: &[u8], found: &mut Search<'_>)
+    requires low { IsLow heap.now }
+    ensures { (entries : List Entry) × AreEntries padded.now 1 entries × Adds found.old found.new (map (user_region (heap_of heap.now)) entries) }
+{
     let mut index = 1;
-    for _turn in 0..heap.bytes.len() {
-        match user_entry(heap.bytes, index) {
+    for _turn in 0..padded.len() {
+        match user_entry(padded, index) {
             Some(entry) => {
                 found.look_at(Structure {
                     start: heap.start + index as u64,
-                    size: (entry.next - index) as u64,
+                    size: size_within(heap.bytes.len(), index, entry.next) as u64,
                     what: What::UserString(USER_STRINGS + index as u32),
                 });
                 index = entry.next;

@@ -1,5 +1,5 @@
 //! `clim check`: checks files against the rules of the standard.
-use crate::subcommands::{BARE, JSON, Usage};
+use crate::subcommands::{BARE, BUDGET, JSON, Usage};
 
 pub(crate) const USAGE: Usage<'static> = Usage {
     name: "check",
@@ -7,7 +7,7 @@ pub(crate) const USAGE: Usage<'static> = Usage {
     arguments: &[
         argument!["FILE" AnyNumber "The files to read"],
         BARE,
-        argument!["budget" Number("N") "Check at most N bytes of signatures, or stop with exit status 3"],
+        BUDGET,
         argument!["files-from" Option("-") "Read the names of the files from standard input, each ended by a NUL"],
         argument!["null" ShortFlag('0') "The same as '--files-from -'"],
         argument!["quiet" EitherFlag('q') "Print nothing about faults; only the exit status reports them"],

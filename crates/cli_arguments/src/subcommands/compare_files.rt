@@ -1,5 +1,5 @@
 //! `clim compare`: whether two files have the same metadata.
-use crate::subcommands::{BARE, FILE, JSON, Usage};
+use crate::subcommands::{BARE, BUDGET, FILE, JSON, Usage};
 
 pub(crate) const USAGE: Usage<'static> = Usage {
     name: "compare",
@@ -7,6 +7,7 @@ pub(crate) const USAGE: Usage<'static> = Usage {
     arguments: &[
         FILE,
         BARE,
+        BUDGET,
         JSON,
         argument!["second" Required("OTHER") "The file to compare it with"],
         argument!["ignore" Repeated("TABLE.COLUMN") "Do not compare the cells of this column"],

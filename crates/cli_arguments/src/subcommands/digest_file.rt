@@ -1,10 +1,15 @@
 //! `clim digest`: the SHA-256 digests of the canonical roots of files.
-use crate::subcommands::{BARE, JSON, Usage};
+use crate::subcommands::{BARE, BUDGET, JSON, Usage};
 
 pub(crate) const USAGE: Usage<'static> = Usage {
     name: "digest",
     about: "Print the SHA-256 digest of the canonical metadata root of each file",
-    arguments: &[argument!["FILE" Several "The files to read"], BARE, JSON],
+    arguments: &[
+        argument!["FILE" Several "The files to read"],
+        BARE,
+        BUDGET,
+        JSON,
+    ],
     output: "\
 The line has the 64 hexadecimal digits of the digest, two spaces and FILE, as sha256sum prints it. The digest is
 that of the bytes that 'clim rewrite' writes: 'sha256sum OUT' has the same digits. Files with the same metadata

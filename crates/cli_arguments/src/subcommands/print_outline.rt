@@ -1,5 +1,5 @@
 //! `clim outline`: the declarations of an assembly, or of one type.
-use crate::subcommands::{BARE, FILE, JSON, Usage};
+use crate::subcommands::{BARE, BUDGET, FILE, JSON, Usage};
 
 pub(crate) const USAGE: Usage<'static> = Usage {
     name: "outline",
@@ -7,6 +7,7 @@ pub(crate) const USAGE: Usage<'static> = Usage {
     arguments: &[
         FILE,
         BARE,
+        BUDGET,
         JSON,
         argument!["part" Optional("NAME") "The type to print alone, by its full name or token"],
     ],

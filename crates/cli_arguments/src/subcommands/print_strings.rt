@@ -1,10 +1,10 @@
 //! `clim strings`: the user strings of a file.
-use crate::subcommands::{BARE, FILE, JSON, Usage};
+use crate::subcommands::{BARE, BUDGET, FILE, JSON, Usage};
 
 pub(crate) const USAGE: Usage<'static> = Usage {
     name: "strings",
     about: "Print the user strings, with their tokens",
-    arguments: &[FILE, BARE, JSON],
+    arguments: &[FILE, BARE, BUDGET, JSON],
     output: "\
 There is a line 'TOKEN TEXT' for each entry of '#US' that has bytes (ECMA-335, II.24.2.4), in the order of their
 offsets. 'clim token' prints the entry that TOKEN names. The entries follow one another from offset 1, up to the

@@ -1,5 +1,5 @@
 //! `clim token`: the rows or the user strings that tokens name.
-use crate::subcommands::{BARE, FILE, JSON, Usage};
+use crate::subcommands::{BARE, BUDGET, FILE, JSON, Usage};
 
 pub(crate) const USAGE: Usage<'static> = Usage {
     name: "token",
@@ -7,6 +7,7 @@ pub(crate) const USAGE: Usage<'static> = Usage {
     arguments: &[
         FILE,
         BARE,
+        BUDGET,
         JSON,
         argument!["HEX" Several "The tokens: one to eight hexadecimal digits each"],
     ],

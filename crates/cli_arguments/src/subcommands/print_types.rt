@@ -1,10 +1,10 @@
 //! `clim types`: the types of a file.
-use crate::subcommands::{BARE, FILE, JSON, Usage};
+use crate::subcommands::{BARE, BUDGET, FILE, JSON, Usage};
 
 pub(crate) const USAGE: Usage<'static> = Usage {
     name: "types",
     about: "Print the types, with the number of their fields and methods",
-    arguments: &[FILE, BARE, JSON],
+    arguments: &[FILE, BARE, BUDGET, JSON],
     output: "\
 There is a line 'TOKEN NAME FIELDS METHODS' for each row of TypeDef (ECMA-335, II.22.37). NAME begins with the
 namespace and a dot, if there is a namespace, and is escaped like the texts of 'clim show'. FILE is checked

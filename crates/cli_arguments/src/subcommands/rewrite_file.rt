@@ -1,5 +1,5 @@
 //! `clim rewrite`: the canonical root of a file.
-use crate::subcommands::{BARE, FILE, Usage};
+use crate::subcommands::{BARE, BUDGET, FILE, Usage};
 
 pub(crate) const USAGE: Usage<'static> = Usage {
     name: "rewrite",
@@ -7,6 +7,7 @@ pub(crate) const USAGE: Usage<'static> = Usage {
     arguments: &[
         FILE,
         BARE,
+        BUDGET,
         argument!["second" Required("OUT") "The file to write"],
     ],
     output: "\

@@ -1,5 +1,5 @@
 //! `clim show`: the rows of all tables, or of one.
-use crate::subcommands::{BARE, FILE, JSON, Usage};
+use crate::subcommands::{BARE, BUDGET, FILE, JSON, Usage};
 
 pub(crate) const USAGE: Usage<'static> = Usage {
     name: "show",
@@ -7,6 +7,7 @@ pub(crate) const USAGE: Usage<'static> = Usage {
     arguments: &[
         FILE,
         BARE,
+        BUDGET,
         JSON,
         argument!["part" Optional("TABLE") "The table to print alone, by its name or number"],
         argument!["names" Flag "Print the name of each column before its cell"],
@@ -39,10 +40,10 @@ With '--names' the line of a row begins with its token instead of its number, an
 column and an equals sign. So a line says by itself which row it is: 'clim show --names FILE | grep TypeName=' finds
 rows that 'clim token' prints.
 
-With '--until-fault' the rows of a broken FILE before its first fault are printed, too. They come before the first row that breaks a
-rule for cells (layer 5 of 'clim check --help'). There are none if a rule of layers 1 to 4 is broken, and all rows are
-printed if only a later rule is. The blob of a broken signature is printed as it is. After the rows the fault goes to
-standard error, and the exit status is 1.
+With '--until-fault' the rows of a broken FILE before its first fault are printed, too. They come before the first
+row that breaks a rule for cells (layer 5 of 'clim check --help'). There are none if a rule of layers 1 to 4 is
+broken, and all rows are printed if only a later rule is. The blob of a broken signature is printed as it is. After
+the rows the fault goes to standard error, and the exit status is 1.
 
 With '--json' there is a line for each row: a JSON object (RFC 8259) with its 'table', 'row' and 'token', and then
 its cells by the names of their columns. A signature is an object with its bytes as 'blob' and its 'text' in the

@@ -482,7 +482,7 @@ fn prints_the_layers_that_break_no_rule(rt: HostRuntime) -> Result<(), Fail> {
     Ok(())
 }
 
-/// The cells of `Constant` have the numbers of its columns, of which the second is a byte of padding (II.22.9).
+/// The byte of padding in a row of `Constant` is no column, and is not counted (II.22.9).
 #[test]
 fn prints_the_cells_of_constant(rt: HostRuntime) -> Result<(), Fail> {
     let mut builder = RootBuilder::new(rt.alloc());
@@ -497,14 +497,47 @@ fn prints_the_cells_of_constant(rt: HostRuntime) -> Result<(), Fail> {
     };
     for (at, start, words) in [
         (0, 0, "1 table 0B Constant row 1 column 0 Type"),
-        (1, 1, "1 table 0B Constant row 1 column 1 padding"),
-        (2, 2, "2 table 0B Constant row 1 column 2 Parent"),
-        (3, 2, "2 table 0B Constant row 1 column 2 Parent"),
-        (5, 4, "2 table 0B Constant row 1 column 3 Value"),
+        (1, 1, "1 table 0B Constant row 1 padding"),
+        (2, 2, "2 table 0B Constant row 1 column 1 Parent"),
+        (3, 2, "2 table 0B Constant row 1 column 1 Parent"),
+        (5, 4, "2 table 0B Constant row 1 column 2 Value"),
     ] {
         let (_, text) = printed(&rt, true, &root, (row + at) as u64)?;
         let line = format!(in rt.alloc(); "\n{} {words}\n", row + start)?;
         assert!(rt; text.ends_with(line.as_str()), "{text}");
     }
+    let (_, line) = located(rt.alloc(), Form::JsonLines, Input::BareRoot, &root, row as u64 + 1)?;
+    let words = "\"size\":1,\"structure\":\"padding\",\"table\":\"Constant\",\"row\":1}\n";
+    assert!(rt; line.ends_with(words), "{line}");
+    // The entry that a column after the padding refers to.
+    let Some(value) = root.as_slice().windows(5).position(|it| it == b"\x04\x01\0\0\0".as_slice()) else {
+        return Err("no value".into());
+    };
+    let (_, text) = printed(&rt, true, &root, value as u64)?;
+    assert!(rt; text.ends_with(" 5 blob of table 0B Constant row 1 column 2 Value\n"), "{text}");
+    Ok(())
+}
+
+/// A `#US` that is no multiple of four bytes is padded with zeros, as by `clim strings`. The zeros are no bytes of the
+/// stream, so a string that takes one has a byte less (II.24.2.2, II.24.2.4).
+#[test]
+fn prints_a_user_string_that_needs_padding(rt: HostRuntime) -> Result<(), Fail> {
+    let mut root = RootBuilder::new(rt.alloc());
+    root.row(0, b"\0\0\0\0\0\0\0\0\0\0")?;
+    root.heap("#US", b"\0\x05A\0B\0")?;
+    root.heap("#Strings", b"\0")?;
+    let root = root.finish()?;
+    let Some(heap) = root.as_slice().windows(6).position(|it| it == b"\0\x05A\0B\0".as_slice()) else {
+        return Err("no heap".into());
+    };
+    for at in 0..6 {
+        let (_, text) = printed(&rt, true, &root, (heap + at) as u64)?;
+        let line = format!(in rt.alloc(); "\n{} 5 user string 70000001\n", heap + 1)?;
+        assert_eq!(rt; text.ends_with(line.as_str()), at > 0, "{text}");
+    }
+    fs::write(&rt, "padded.root", root.as_slice())?;
+    let (_, out, _) = answer(&rt, &["clim", "strings", "--bare", "padded.root"])?;
+    assert_eq!(rt; out.as_str(), "70000001 AB\n");
+    fs::remove_file(&rt, "padded.root")?;
     Ok(())
 }

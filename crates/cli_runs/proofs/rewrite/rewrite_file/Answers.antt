@@ -9,13 +9,16 @@ returns-in_err-check_path g c = inr (mixed c.args.out.now c.args.path.now c.in_e
 pub returns-in_err-read : goal.returns-in_err-read
 returns-in_err-read g c = inl (Err c.in_err-read.field-0.0, (c.in_err-read.ensures.refused, c.from_residual-in_err-read.ensures.1, refl))
 
+pub returns-then-is_spent : goal.returns-then-is_spent
+returns-then-is_spent g c = inl (Ok c.deref-bytes.result.now, inl (c.is_spent.ensures c.if-is_spent.true, c.from-then-is_spent.ensures, refl))
+
 pub returns-in-Ok : goal.returns-in-Ok
-returns-in-Ok g c = inl (Ok c.deref-bytes.result.now, record { done = c.in-Ok.ensures.done; stopped = tt; hint = tt })
+returns-in-Ok g c = inl (Ok c.deref-bytes.result.now, inr (record { done = c.in-Ok.ensures.done; stopped = tt; hint = tt }))
 
 pub returns : goal.returns
 returns g c =
     inl (
       Ok c.deref-bytes.result.now,
-      stopped_rewriting g.W.Write.contents g.R.File.Write.contents c.args.out.now c.rewrite.new.out c.args.input c.deref-bytes.result.now c.args.path.now c.at.result c.in-Err.failure
-          c.at.ensures.stop c.at.ensures.hint c.in-Err.ensures.stopped,
+      inr (stopped_rewriting g.W.Write.contents g.R.File.Write.contents c.args.out.now c.rewrite.new.out c.args.input c.deref-bytes.result.now c.args.path.now c.at.result c.in-Err.failure
+          c.at.ensures.stop c.at.ensures.hint c.in-Err.ensures.stopped),
     )

@@ -1,7 +1,7 @@
 use Rattle.std.proofs.Common.{◌+◌, ◌∷◌, [], None, Some, refl, subst}
 use Rattle.cli_regions.specs.Regions.{cell as is_cell}
 use Rattle.cli_where.specs.Cells.{AreCellsAt, IsCellAt}
-use Rattle.cli_where.proofs.FindLemmas.{finds_none}
+use Rattle.cli_where.proofs.FindLemmas.{finds_joined, finds_none}
 use Rattle.cli_where.proofs.cells.find_cell.Goals as goal
 
 pub cell_start-requires-clause-first : goal.cell_start-requires-clause-first
@@ -20,15 +20,12 @@ pub returns-in-Some : goal.returns-in-Some
 returns-in-Some c =
     let sizes = c.args.layout.now in
     let cell = c.in-Some.cell in
-    record {
-      found = record { start = c.args.start + c.cell_start.result; size = c.cell_width.result; what = is_cell cell } ∷ [];
-      are = (
-        Some cell,
-        subst (λ offset. IsCellAt sizes c.args.start offset (Some cell)) c.offset.ensures c.in-Some.ensures,
-        (λ i. record { start = c.args.start + c.cell_start.ensures.value i; size = c.cell_width.ensures.value i; what = is_cell cell } ∷ []),
-      );
-      joins = c.keep.ensures;
-    }
+    finds_joined {AreFound = AreCellsAt sizes c.args.start} (
+      Some cell,
+      subst (λ offset. IsCellAt sizes c.args.start offset (Some cell)) c.offset.ensures c.in-Some.ensures,
+      (λ i. record { start = c.args.start + c.cell_start.ensures.value i; size = c.cell_width.ensures.value i; what = is_cell cell } ∷ []),
+    )
+    c.keep.ensures
 
 pub returns-in-None : goal.returns-in-None
 returns-in-None c =

@@ -14,10 +14,10 @@ all_found : (AreFound : ℕ → List Region → Type 0) (offset : ℕ) (start no
     → Finds AreFound start now → now.found ≡ Some found → AreFound offset found
 unfolding regions_in
 all_found AreFound offset start now found began finds is =
-    let at = finds.joins.found found is in
+    let at = finds.found found is in
     let none : at.0 ≡ [] = ap regions_in (sym at.1 ∙ ap (λ (s : Searched). s.found) began) in
     subst (λ (n : ℕ). AreFound n found) (ap (λ (s : Searched). s.offset) began)
-    (subst (λ (xs : List Region). AreFound start.offset xs) (sym (at.2 ∙ ap (λ xs. xs ++ finds.found) none)) finds.are)
+    (subst (λ (xs : List Region). AreFound start.offset xs) (sym (at.4 ∙ ap (λ xs. xs ++ at.2) none)) at.3)
 
 pub returns : goal.returns
 returns c =

@@ -25,6 +25,40 @@ fn checks_within_a_budget(rt: HostRuntime) -> Result<(), Fail> {
     Ok(())
 }
 
+/// Each report is refused if the check before it takes more bytes. Nothing is printed or written.
+#[test]
+fn reports_within_a_budget(rt: HostRuntime) -> Result<(), Fail> {
+    let reports: &[&[&str]] = &[
+        &["show"],
+        &["show", "--until-fault"],
+        &["types"],
+        &["outline"],
+        &["strings"],
+        &["digest"],
+        &["token", "02000001"],
+        &["where", "0"],
+        &["compare", "budget.root"],
+        &["rewrite", "budget.out"],
+    ];
+    fs::write(&rt, "budget.root", TWO_TYPES.as_slice())?;
+    for report in reports {
+        for (budget, spent) in [("4", true), ("5", false)] {
+            let mut words = vec![in rt.alloc(); "clim", report[0], "--bare", "--budget", budget, "budget.root"]?;
+            words.extend_from_slice(&report[1..])?;
+            let (status, out, err) = answer(&rt, &words)?;
+            if spent {
+                let want = (3, "", "error: budget spent\n");
+                assert_eq!(rt; (status, out.as_str(), err.as_str()), want, "{}", report[0]);
+            } else {
+                assert_eq!(rt; (status, err.as_str()), (0, ""), "{}", report[0]);
+            }
+        }
+    }
+    fs::remove_file(&rt, "budget.out")?;
+    fs::remove_file(&rt, "budget.root")?;
+    Ok(())
+}
+
 /// A file without signatures needs no budget, and its first fault is reported whatever that is.
 #[test]
 fn checks_a_file_within_no_budget(rt: HostRuntime) -> Result<(), Fail> {

@@ -64,7 +64,7 @@ const REFUSED: [(&[&str], &str); 95] = [
         "a value is required for '--budget <N>'",
     ),
     (
-        &["clim", "show", "--budget", "1", "lacks"],
+        &["clim", "root", "--budget", "1", "lacks"],
         "unexpected argument '--budget'",
     ),
     (&["clim", "show"], "Usage: clim show <FILE>"),
