@@ -1,0 +1,57 @@
+-- The copy of a file with another root that a C caller asks for (ECMA-335 II.25).
+use Rattle.std.specs.Prelude.{◌≡◌, ℕ, ◌-◌, ◌^◌, List, [], ◌∷◌, length}
+use Rattle.packed.specs.Rule.{FirstBroken}
+use Rattle.packed.specs.declared.fault.Fault.{Fault}
+use Rattle.cli_header.specs.declared.header.CliHeader.{CliHeader}
+use Rattle.metadata.specs.Metadata.{Metadata}
+use Rattle.metadata.specs.Model.{IsModelOfFile}
+use Rattle.metadata.specs.Rules.{rules_of_metadata}
+use Rattle.root_writer.specs.Canonical.{canonical}
+use Rattle.embedding.specs.declared.error.EmbedError.{EmbedError}
+use Rattle.embedding.specs.declared.error.EmbedError.TheVariants.{File, Root, Unlike, Headers, Occupied, NoRoom, TooLong, Memory}
+use Rattle.embedding.specs.declared.strong_name.StrongName.{StrongName}
+use Rattle.embedding.specs.declared.strong_name.StrongName.TheVariants.{Keep, Clear}
+use Rattle.embedding.specs.Embedded.{IsEmbedded}
+use Rattle.c_values.specs.Texts.{HasWhole}
+
+-- the number for C of what becomes of a strong name
+abbrev pub IsStrongName : ℕ → StrongName → Type 0
+IsStrongName number Keep = number ≡ 1
+IsStrongName number Clear = number ≡ 2
+
+-- what is returned for C if no copy is made
+abbrev pub status_of : EmbedError → ℕ
+status_of TooLong = 2 ^ 64 - 1
+status_of Memory = 2 ^ 64 - 2
+status_of (File fault) = 2 ^ 64 - 3
+status_of (Root fault) = 2 ^ 64 - 4
+status_of Unlike = 2 ^ 64 - 5
+status_of Headers = 2 ^ 64 - 6
+status_of Occupied = 2 ^ 64 - 7
+status_of NoRoom = 2 ^ 64 - 8
+
+-- the canonical root of the model of a file (II.24.2)
+abbrev pub IsCanonicalRootOf : List ℕ → List ℕ → Type 0
+IsCanonicalRootOf file root = ∥ ((header : CliHeader) × (model : Metadata) × IsModelOfFile file header model × (root ≡ canonical model)) ∥₁
+
+-- the root that is asked for: the one that is given, or the file's own canonical root if no bytes are given
+abbrev pub IsAsked : List ℕ → List ℕ → List ℕ → Type 0
+IsAsked file [] root = IsCanonicalRootOf file root
+IsAsked file (byte ∷ bytes) root = root ≡ byte ∷ bytes
+
+-- a copy of `len` bytes, which is the file with this root in the place of its own, is in the buffer if there is room for
+-- all of it; otherwise the buffer is unchanged
+pub record IsWritten (strong_name : StrongName) (file root : List ℕ) (len : ℕ) (initial buffer : List ℕ) : Type 0 where
+  pub copy : List ℕ
+  pub embedded : IsEmbedded strong_name file root copy
+  pub length_is : len ≡ length copy
+  pub whole : HasWhole initial copy buffer
+
+-- the same, with the root that is asked for
+abbrev pub IsCopied : StrongName → List ℕ → List ℕ → ℕ → List ℕ → List ℕ → Type 0
+IsCopied strong_name file given len initial buffer =
+    (root : List ℕ) × IsAsked file given root × IsWritten strong_name file root len initial buffer
+
+-- the fault of the first rule that the root breaks which is asked for
+abbrev pub IsFaultOfRoot : List ℕ → List ℕ → Fault → Type 0
+IsFaultOfRoot file given fault = (root : List ℕ) × IsAsked file given root × FirstBroken (rules_of_metadata 0 root) fault
