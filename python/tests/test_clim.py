@@ -954,12 +954,15 @@ class Embedded(unittest.TestCase):
 
 
 class Examples(doctest.DocTestParser):
-    """The examples of README.md, without those of its last section if the library is too old for them."""
+    """The examples of README.md, without those of its last sections if the library is too old for them."""
+
+    NEWER = (("## New metadata\n", "clim_tables"), ("## A copy of a file\n", "clim_embed"))
 
     def get_examples(self, string, name="<string>"):
-        text, found, _ = string.partition("## New metadata\n")
-        self_contained = string if found and clim.supports("clim_tables") else text
-        return super().get_examples(self_contained, name)
+        for heading, function in self.NEWER:
+            text, found, _ = string.partition(heading)
+            string = string if found and clim.supports(function) else text
+        return super().get_examples(string, name)
 
 
 def load_tests(loader, tests, pattern):
