@@ -1,5 +1,5 @@
 -- The copy of a file with another root that a C caller asks for (ECMA-335 II.25).
-use Rattle.std.specs.Prelude.{◌≡◌, ℕ, ◌-◌, ◌^◌, List, [], ◌∷◌, length}
+use Rattle.std.specs.Prelude.{◌≡◌, ℕ, List, [], ◌∷◌, length}
 use Rattle.packed.specs.Rule.{FirstBroken}
 use Rattle.packed.specs.declared.fault.Fault.{Fault}
 use Rattle.cli_header.specs.declared.header.CliHeader.{CliHeader}
@@ -7,8 +7,6 @@ use Rattle.metadata.specs.Metadata.{Metadata}
 use Rattle.metadata.specs.Model.{IsModelOfFile}
 use Rattle.metadata.specs.Rules.{rules_of_metadata}
 use Rattle.root_writer.specs.Canonical.{canonical}
-use Rattle.embedding.specs.declared.error.EmbedError.{EmbedError}
-use Rattle.embedding.specs.declared.error.EmbedError.TheVariants.{File, Root, Unlike, Headers, Occupied, NoRoom, TooLong, Memory}
 use Rattle.embedding.specs.declared.strong_name.StrongName.{StrongName}
 use Rattle.embedding.specs.declared.strong_name.StrongName.TheVariants.{Keep, Clear}
 use Rattle.embedding.specs.Embedded.{IsEmbedded}
@@ -18,17 +16,6 @@ use Rattle.c_values.specs.Texts.{HasWhole}
 abbrev pub IsStrongName : ℕ → StrongName → Type 0
 IsStrongName number Keep = number ≡ 1
 IsStrongName number Clear = number ≡ 2
-
--- what is returned for C if no copy is made
-abbrev pub status_of : EmbedError → ℕ
-status_of TooLong = 2 ^ 64 - 1
-status_of Memory = 2 ^ 64 - 2
-status_of (File fault) = 2 ^ 64 - 3
-status_of (Root fault) = 2 ^ 64 - 4
-status_of Unlike = 2 ^ 64 - 5
-status_of Headers = 2 ^ 64 - 6
-status_of Occupied = 2 ^ 64 - 7
-status_of NoRoom = 2 ^ 64 - 8
 
 -- the canonical root of the model of a file (II.24.2)
 abbrev pub IsCanonicalRootOf : List ℕ → List ℕ → Type 0

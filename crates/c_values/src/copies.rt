@@ -5,32 +5,32 @@ ghost use Rattle.metadata.specs.Rules.{rules_of_file, rules_of_metadata};
 ghost use Rattle.embedding.specs.declared.strong_name.StrongName.{StrongName as Name};
 ghost use Rattle.embedding.specs.Errors.{MatchFault};
 ghost use Rattle.embedding.specs.Planned.{result_of};
-ghost use Rattle.c_values.specs.Copies.{IsCanonicalRootOf, IsCopied, IsFaultOfRoot, IsStrongName, IsWritten, status_of};
+ghost use Rattle.c_values.specs.Copies.{IsCanonicalRootOf, IsCopied, IsFaultOfRoot, IsStrongName, IsWritten};
 ghost use Rattle.c_values.specs.Texts.{HasWhole};
 
-use crate::parts::{NO_MEMORY, ROOT_LIMIT, TOO_LONG};
+use crate::parts::ROOT_LIMIT;
 use embedding::{EmbedError, EmbedPlan, StrongName, plan_embedding};
 use opening::open_image;
 use std::alloc::Global;
 use writer::{Prepared, WriteError, prepare};
 
-/// The file breaks a rule.
-const BAD_FILE: usize = usize::MAX - 2;
+/// What is returned instead of a length if the file breaks a rule.
+pub const BAD_FILE: usize = usize::MAX - 2;
 
-/// The root breaks a rule.
-const BAD_ROOT: usize = usize::MAX - 3;
+/// The same if the root breaks a rule.
+pub const BAD_ROOT: usize = usize::MAX - 3;
 
-/// The root does not lead into the file.
-const UNLIKE: usize = usize::MAX - 4;
+/// The same if the root does not lead into the file.
+pub const UNLIKE: usize = usize::MAX - 4;
 
-/// The headers of the file overlap.
-const HEADERS_OVERLAP: usize = usize::MAX - 5;
+/// The same if the headers of the file overlap.
+pub const HEADERS_OVERLAP: usize = usize::MAX - 5;
 
-/// The range of the old root has something else in it.
-const OCCUPIED: usize = usize::MAX - 6;
+/// The same if the range of the old root has something else in it.
+pub const OCCUPIED: usize = usize::MAX - 6;
 
-/// There is no room for the root.
-const NO_ROOM: usize = usize::MAX - 7;
+/// The same if there is no room for the root.
+pub const NO_ROOM: usize = usize::MAX - 7;
 
 /// What becomes of a strong name, by its number in `enum clim_strong_name` of `clim.h`; `None` for any other number.
 pub fn strong_name_of(number: u8) -> Option<StrongName>
@@ -44,23 +44,8 @@ pub fn strong_name_of(number: u8) -> Option<StrongName>
     }
 }
 
-/// What is returned instead of a length if no copy is made: `CLIM_BAD_FILE` and the others of `clim.h`.
-pub fn status_of(reason: EmbedError) -> usize
-    ensures { result ≡ status_of reason }
-{
-    match reason {
-        EmbedError::TooLong => TOO_LONG,
-        EmbedError::Memory => NO_MEMORY,
-        EmbedError::File(_) => BAD_FILE,
-        EmbedError::Root(_) => BAD_ROOT,
-        EmbedError::Unlike => UNLIKE,
-        EmbedError::Headers => HEADERS_OVERLAP,
-        EmbedError::Occupied => OCCUPIED,
-        EmbedError::NoRoom => NO_ROOM,
-    }
-}
-
 /// The canonical root of a file (II.24.2).
+#[tactic(auto, using(crate::proofs::CopyLemmas::canonical_of))]
 fn canonical_root_of(alloc: Global, file: &[u8]) -> Result<Prepared, EmbedError>
     ensures sound { IfOk result (IsCanonicalRootOf file.now) }
     ensures first_error { IfErr result (MatchFault (FirstBroken (rules_of_file file.now)) (λ _. ⊥)) }
@@ -77,15 +62,18 @@ fn canonical_root_of(alloc: Global, file: &[u8]) -> Result<Prepared, EmbedError>
 }
 
 /// Writes what a plan comes to into a buffer, if there is room for all of it, and returns its length.
+#[tactic(auto, using(crate::proofs::CopyLemmas::whole_written))]
 fn write_plan(plan: &EmbedPlan<'_>, buffer: &mut [u8]) -> usize
     ensures bytes { HasWhole buffer.old (result_of plan.now) buffer.new }
     ensures length { result ≡ length (result_of plan.now) }
     ensures limit { result ≤ 2 ^ 30 }
 {
     let len = plan.len();
-    if len <= buffer.len() {
-        plan.fill(&mut buffer[..len]);
+    if len > buffer.len() {
+        return len;
     }
+    let (copy, _) = buffer.split_at_mut(len);
+    plan.fill(copy);
     len
 }
 

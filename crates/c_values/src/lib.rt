@@ -35,7 +35,9 @@ mod signature_text;
 mod user_strings;
 
 pub use cell::ClimCell;
-pub use copies::{status_of, strong_name_of, write_copy};
+pub use copies::{
+    BAD_FILE, BAD_ROOT, HEADERS_OVERLAP, NO_ROOM, OCCUPIED, UNLIKE, strong_name_of, write_copy,
+};
 pub use difference::{ClimDifference, reported_difference};
 pub use embedding::{EmbedError, StrongName};
 pub use explained::write_explanation;

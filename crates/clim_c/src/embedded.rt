@@ -4,7 +4,10 @@ ghost use Rattle.clim_c.specs.Faults.{fault_of};
 ghost use Rattle.clim_c.specs.Words.{FirstBroken, StrongName, rules_of_file};
 
 use crate::fault::ClimFault;
-use c_values::{EmbedError, status_of, strong_name_of, write_copy};
+use c_values::{
+    BAD_FILE, BAD_ROOT, EmbedError, HEADERS_OVERLAP, NO_MEMORY, NO_ROOM, OCCUPIED, TOO_LONG,
+    UNLIKE, strong_name_of, write_copy,
+};
 use std::alloc::Global;
 
 /// Writes a copy of a file with another root, which must lead into the file, into a buffer, if there is room for all of it,
@@ -36,11 +39,19 @@ pub extern "C" fn clim_embed(
     };
     match write_copy(alloc, file, root, strong_name, buffer) {
         Ok(len) => len,
-        Err(reason) => {
-            if let EmbedError::File(found) | EmbedError::Root(found) = reason {
-                fault.report(found);
-            }
-            status_of(reason)
+        Err(EmbedError::File(found)) => {
+            fault.report(found);
+            BAD_FILE
         }
+        Err(EmbedError::Root(found)) => {
+            fault.report(found);
+            BAD_ROOT
+        }
+        Err(EmbedError::Unlike) => UNLIKE,
+        Err(EmbedError::Headers) => HEADERS_OVERLAP,
+        Err(EmbedError::Occupied) => OCCUPIED,
+        Err(EmbedError::NoRoom) => NO_ROOM,
+        Err(EmbedError::TooLong) => TOO_LONG,
+        Err(EmbedError::Memory) => NO_MEMORY,
     }
 }

@@ -132,6 +132,4 @@ pub use writer::{
 };
 
 // A copy of a file with another root.
-pub use embedding::{
-    EmbedError, EmbedPlan, StrongName, embed, embed_canonical, plan_embedding,
-};
+pub use embedding::{EmbedError, EmbedPlan, StrongName, embed, embed_canonical, plan_embedding};
