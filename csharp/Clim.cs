@@ -1191,8 +1191,8 @@ namespace Clim
         /// new section, or into a longer last one.
         /// </summary>
         /// <param name="root">
-        /// The root. It must lead into the file: its methods and its fields with data are as many, with the same RVAs, its user
-        /// strings are the same, and it has at least as many rows of File. So take the rows of the file by
+        /// The root. It must lead into the file: it has the same number of methods and of fields with data, with the same RVAs,
+        /// the same user strings, and no fewer rows of File. So take the rows of the file by
         /// <see cref="Tables.Of"/>, change names, flags or signatures, and give what <see cref="Tables.Root"/> returns. Null
         /// means the file's own canonical root. The bytes are copied.
         /// </param>

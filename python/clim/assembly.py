@@ -391,8 +391,8 @@ class Assembly:
         otherwise into a new section, or into a longer last one.
 
         Args:
-            root: The root. It must lead into the file: its methods and its fields with data are as many, with the same RVAs,
-                its user strings are the same, and it has at least as many rows of File. So take the rows of the file by
+            root: The root. It must lead into the file: it has the same number of methods and of fields with data, with the
+                same RVAs, the same user strings, and no fewer rows of File. So take the rows of the file by
                 `clim.Tables.of`, change names, flags or signatures, and give what `root()` returns. `None` means the file's
                 own canonical root.
             strong_name: Whether the strong name of the file is kept or cleared. Its hash is no longer right.

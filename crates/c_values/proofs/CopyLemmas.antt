@@ -1,14 +1,23 @@
 -- Copies of files that are written into a buffer.
-use Rattle.std.proofs.Common.{◌≡◌, ℕ, ◌≤◌, ◌++◌, List, length, drop, sym, ◌∙◌, ap, subst, arith}
+use Rattle.std.proofs.Common.{◌≡◌, ℕ, ◌<◌, ◌≤◌, ◌++◌, List, [], ◌∷◌, length, drop, refl, sym, ◌∙◌, ap, subst, arith}
 use Rattle.std.proofs.Math.Logic.{∥∥₁_map}
 use Rattle.std.proofs.lemmas.List.{take_all}
+use Rattle.packed.specs.Rule.{FirstBroken}
+use Rattle.packed.specs.declared.fault.Fault.{Fault}
 use Rattle.cli_header.specs.declared.header.CliHeader.{CliHeader}
 use Rattle.metadata.specs.Metadata.{Metadata}
 use Rattle.metadata.specs.Model.{IsModel}
+use Rattle.metadata.specs.Rules.{rules_of_metadata}
 use Rattle.metadata.specs.Streams.{root_in}
 use Rattle.root_writer.specs.Canonical.{canonical}
 use Rattle.opening.specs.Views.{HasImage}
-use Rattle.c_values.specs.Copies.{IsCanonicalRootOf}
+use Rattle.embedding.specs.declared.error.EmbedError.{EmbedError}
+use Rattle.embedding.specs.declared.error.EmbedError.TheVariants as error
+use Rattle.embedding.specs.declared.strong_name.StrongName.{StrongName}
+use Rattle.embedding.specs.declared.strong_name.StrongName.TheVariants.{Keep, Clear}
+use Rattle.embedding.specs.Embedded.{IsEmbedded}
+use Rattle.embedding.specs.Errors.{MatchFault}
+use Rattle.c_values.specs.Copies.{IsAsked, IsCanonicalRootOf, IsFaultOfRoot, IsStrongName, IsWritten}
 use Rattle.c_values.specs.Texts.{HasWhole}
 
 -- the canonical root of each model of the view of a file is that of the file
@@ -26,3 +35,34 @@ whole_written buffer text first tail count first_is tail_is count_is fits = (
       ∙ ap (λ (l : List ℕ). l ++ drop (length text) buffer) (sym (take_all (length buffer) text short))),
   (λ long. absurd (omega (arith, fits, count_is, long))),
 )
+
+-- any other number than 1 and 2 is that of no choice
+pub no_choice : (number : ℕ) → (number ≡ 1 → ⊥) → (number ≡ 2 → ⊥) → (name : StrongName) → IsStrongName number name → ⊥
+no_choice number first second Keep is = first is
+no_choice number first second Clear is = second is
+
+pub written : (name : StrongName) (file root copy : List ℕ) (len : ℕ) (initial buffer : List ℕ) → IsEmbedded name file root copy
+    → len ≡ length copy → HasWhole initial copy buffer → IsWritten name file root len initial buffer
+written name file root copy len initial buffer embedded length_is whole =
+    record { copy = copy; embedded = embedded; length_is = length_is; whole = whole }
+
+-- a root that has bytes is the one that is asked for, and else the canonical root
+pub asked_given : (file given : List ℕ) → 0 < length given → IsAsked file given given
+asked_given file [] some = absurd (omega (arith, some))
+asked_given file (byte ∷ bytes) some = refl
+
+pub asked_own : (file given root : List ℕ) → length given ≡ 0 → IsCanonicalRootOf file root → IsAsked file given root
+asked_own file [] root none is = is
+asked_own file (byte ∷ bytes) root none is = absurd (omega (arith, none))
+
+-- a fault of the root that is asked for
+pub fault_of_asked : (file given root : List ℕ) (of_file : Fault → Type 0) → IsAsked file given root → (reason : EmbedError)
+    → MatchFault of_file (FirstBroken (rules_of_metadata 0 root)) reason → MatchFault of_file (IsFaultOfRoot file given) reason
+fault_of_asked file given root of_file asked (error.File fault) is = is
+fault_of_asked file given root of_file asked (error.Root fault) is = (root, asked, is)
+fault_of_asked file given root of_file asked error.Unlike is = is
+fault_of_asked file given root of_file asked error.Headers is = is
+fault_of_asked file given root of_file asked error.Occupied is = is
+fault_of_asked file given root of_file asked error.NoRoom is = is
+fault_of_asked file given root of_file asked error.TooLong is = is
+fault_of_asked file given root of_file asked error.Memory is = is

@@ -33,6 +33,7 @@ pub const OCCUPIED: usize = usize::MAX - 6;
 pub const NO_ROOM: usize = usize::MAX - 7;
 
 /// What becomes of a strong name, by its number in `enum clim_strong_name` of `clim.h`; `None` for any other number.
+#[tactic(auto, using(crate::proofs::CopyLemmas::no_choice))]
 pub fn strong_name_of(number: u8) -> Option<StrongName>
     ensures sound { IfSome result (IsStrongName number) }
     ensures none { IfNone result ((name : Name) → ¬ IsStrongName number name) }
@@ -78,6 +79,7 @@ fn write_plan(plan: &EmbedPlan<'_>, buffer: &mut [u8]) -> usize
 }
 
 /// Writes a copy of a file with a root into a buffer, if there is room for all of it, and returns its length.
+#[tactic(auto, using(crate::proofs::CopyLemmas::written))]
 fn write_with(
     file: &[u8],
     root: &[u8],

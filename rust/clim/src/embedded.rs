@@ -95,10 +95,10 @@ impl Error for EmbedError {}
 /// A copy of a file with another metadata root, which `clim embed` writes (II.25). [`View::open`](crate::View::open) opens
 /// it, with the metadata of the root.
 ///
-/// The root must lead into the file: its methods and its fields with data are as many, with the same RVAs, its user strings
-/// are the same, and it has at least as many rows of File. So take the rows of the file by [`Tables::of`](crate::Tables::of),
-/// change names, flags or signatures, and give what [`Tables::root`](crate::Tables::root) returns. It goes where the old root
-/// is, if it fits there, and otherwise into a new section, or into a longer last one.
+/// The root must lead into the file: it has the same number of methods and of fields with data, with the same RVAs, the same
+/// user strings, and no fewer rows of File. So take the rows of the file by [`Tables::of`](crate::Tables::of), change names,
+/// flags or signatures, and give what [`Tables::root`](crate::Tables::root) returns. It goes where the old root is, if it fits
+/// there, and otherwise into a new section, or into a longer last one.
 ///
 /// ```
 /// use clim::{Cell, StrongName, Table, Tables, Token, View};
