@@ -714,8 +714,8 @@ size_t clim_tables(const uint8_t *version, size_t version_len, const uint8_t *us
  *
  * If root_len is 0, the root is the file's own canonical root, as clim_canonical_root writes it, and nothing is read at
  * root. Any other root must lead into the file: it has the same number of rows of MethodDef and of FieldRVA, with the same
- * RVAs; its #US has the same bytes, padded with zeros to a multiple of four; and it has no fewer rows of File. So a program can read all cells of a file, change names, flags or signatures, make a root with clim_tables, and
- * embed that.
+ * RVAs; its #US has the same bytes, padded with zeros to a multiple of four; and it has no fewer rows of File. So a
+ * program can read all cells of a file, change names, flags or signatures, make a root with clim_tables, and embed that.
  *
  * The root goes where the old one is, if it fits there; otherwise into a new section, or else into the last section, which
  * becomes longer. All other bytes of the file stay, but for these fields of headers: where the root is, the sections and

@@ -2,12 +2,10 @@
 use Rattle.std.proofs.Common.{◌≡◌, ℕ, ◌<◌, ◌≤◌, ◌++◌, List, [], ◌∷◌, length, drop, refl, sym, ◌∙◌, ap, subst, arith}
 use Rattle.std.proofs.Math.Logic.{∥∥₁_map}
 use Rattle.std.proofs.lemmas.List.{take_all}
-use Rattle.packed.specs.Rule.{FirstBroken}
 use Rattle.packed.specs.declared.fault.Fault.{Fault}
 use Rattle.cli_header.specs.declared.header.CliHeader.{CliHeader}
 use Rattle.metadata.specs.Metadata.{Metadata}
 use Rattle.metadata.specs.Model.{IsModel}
-use Rattle.metadata.specs.Rules.{rules_of_metadata}
 use Rattle.metadata.specs.Streams.{root_in}
 use Rattle.root_writer.specs.Canonical.{canonical}
 use Rattle.opening.specs.Views.{HasImage}
@@ -17,7 +15,7 @@ use Rattle.embedding.specs.declared.strong_name.StrongName.{StrongName}
 use Rattle.embedding.specs.declared.strong_name.StrongName.TheVariants.{Keep, Clear}
 use Rattle.embedding.specs.Embedded.{IsEmbedded}
 use Rattle.embedding.specs.Errors.{MatchFault}
-use Rattle.c_values.specs.Copies.{IsAsked, IsCanonicalRootOf, IsFaultOfRoot, IsStrongName, IsWritten}
+use Rattle.c_values.specs.Copies.{IsAsked, IsCanonicalRootOf, IsStrongName, IsWritten}
 use Rattle.c_values.specs.Texts.{HasWhole}
 
 -- the canonical root of each model of the view of a file is that of the file
@@ -55,14 +53,14 @@ pub asked_own : (file given root : List ℕ) → length given ≡ 0 → IsCanoni
 asked_own file [] root none is = is
 asked_own file (byte ∷ bytes) root none is = absurd (omega (arith, none))
 
--- a fault of the root that is asked for
-pub fault_of_asked : (file given root : List ℕ) (of_file : Fault → Type 0) → IsAsked file given root → (reason : EmbedError)
-    → MatchFault of_file (FirstBroken (rules_of_metadata 0 root)) reason → MatchFault of_file (IsFaultOfRoot file given) reason
-fault_of_asked file given root of_file asked (error.File fault) is = is
-fault_of_asked file given root of_file asked (error.Root fault) is = (root, asked, is)
-fault_of_asked file given root of_file asked error.Unlike is = is
-fault_of_asked file given root of_file asked error.Headers is = is
-fault_of_asked file given root of_file asked error.Occupied is = is
-fault_of_asked file given root of_file asked error.NoRoom is = is
-fault_of_asked file given root of_file asked error.TooLong is = is
-fault_of_asked file given root of_file asked error.Memory is = is
+-- a fault is one of a root with another property
+pub fault_weaker : (of_file P Q : Fault → Type 0) → ((fault : Fault) → P fault → Q fault) → (reason : EmbedError)
+    → MatchFault of_file P reason → MatchFault of_file Q reason
+fault_weaker of_file P Q more (error.File fault) is = is
+fault_weaker of_file P Q more (error.Root fault) is = more fault is
+fault_weaker of_file P Q more error.Unlike is = is
+fault_weaker of_file P Q more error.Headers is = is
+fault_weaker of_file P Q more error.Occupied is = is
+fault_weaker of_file P Q more error.NoRoom is = is
+fault_weaker of_file P Q more error.TooLong is = is
+fault_weaker of_file P Q more error.Memory is = is

@@ -34,11 +34,11 @@ pub record IsWritten (strong_name : StrongName) (file root : List ℕ) (len : �
   pub length_is : len ≡ length copy
   pub whole : HasWhole initial copy buffer
 
--- the same, with the root that is asked for
-abbrev pub IsCopied : StrongName → List ℕ → List ℕ → ℕ → List ℕ → List ℕ → Type 0
-IsCopied strong_name file given len initial buffer =
-    (root : List ℕ) × IsAsked file given root × IsWritten strong_name file root len initial buffer
+-- the same of some root with a property
+abbrev pub IsCopied : (List ℕ → Type 0) → StrongName → List ℕ → ℕ → List ℕ → List ℕ → Type 0
+IsCopied is_root strong_name file len initial buffer =
+    (root : List ℕ) × is_root root × IsWritten strong_name file root len initial buffer
 
--- the fault of the first rule that the root breaks which is asked for
-abbrev pub IsFaultOfRoot : List ℕ → List ℕ → Fault → Type 0
-IsFaultOfRoot file given fault = (root : List ℕ) × IsAsked file given root × FirstBroken (rules_of_metadata 0 root) fault
+-- the fault of the first rule that some root with a property breaks
+abbrev pub IsFaultOfRoot : (List ℕ → Type 0) → Fault → Type 0
+IsFaultOfRoot is_root fault = (root : List ℕ) × is_root root × FirstBroken (rules_of_metadata 0 root) fault

@@ -5,7 +5,7 @@ ghost use Rattle.metadata.specs.Rules.{rules_of_file, rules_of_metadata};
 ghost use Rattle.embedding.specs.declared.strong_name.StrongName.{StrongName as Name};
 ghost use Rattle.embedding.specs.Errors.{MatchFault};
 ghost use Rattle.embedding.specs.Planned.{result_of};
-ghost use Rattle.c_values.specs.Copies.{IsCanonicalRootOf, IsCopied, IsFaultOfRoot, IsStrongName, IsWritten};
+ghost use Rattle.c_values.specs.Copies.{IsAsked, IsCanonicalRootOf, IsCopied, IsFaultOfRoot, IsStrongName, IsWritten};
 ghost use Rattle.c_values.specs.Texts.{HasWhole};
 
 use crate::parts::ROOT_LIMIT;
@@ -49,7 +49,7 @@ pub fn strong_name_of(number: u8) -> Option<StrongName>
 #[tactic(auto, using(crate::proofs::CopyLemmas::canonical_of))]
 fn canonical_root_of(alloc: Global, file: &[u8]) -> Result<Prepared, EmbedError>
     ensures sound { IfOk result (IsCanonicalRootOf file.now) }
-    ensures first_error { IfErr result (MatchFault (FirstBroken (rules_of_file file.now)) (λ _. ⊥)) }
+    ensures first_error { IfErr result (MatchFault (FirstBroken (rules_of_file file.now)) (IsFaultOfRoot (IsCanonicalRootOf file.now))) }
 {
     let view = match open_image(file) {
         Ok((_, view)) => view,
@@ -95,6 +95,22 @@ fn write_with(
     Ok(write_plan(&plan, buffer))
 }
 
+/// Writes a copy of a file with its canonical root into a buffer, if there is room for all of it, and returns its length.
+fn write_own(
+    alloc: Global,
+    file: &[u8],
+    strong_name: StrongName,
+    buffer: &mut [u8],
+) -> Result<usize, EmbedError>
+    ensures sound { IfOk result (λ len. IsCopied (IsCanonicalRootOf file.now) strong_name file.now len buffer.old buffer.new) }
+    ensures limit { IfOk result (λ len. len ≤ 2 ^ 30) }
+    ensures first_error { IfErr result (MatchFault (FirstBroken (rules_of_file file.now)) (IsFaultOfRoot (IsCanonicalRootOf file.now))) }
+    ensures same { OnErr result (buffer.new ≡ buffer.old) }
+{
+    let own = canonical_root_of(alloc, file)?;
+    write_with(file, own.bytes(), strong_name, buffer)
+}
+
 /// Writes a copy of a file with another root into a buffer, if there is room for all of it, and returns its length (II.25).
 /// The root is the file's own canonical root if no bytes are given for it (II.24.2).
 ///
@@ -108,14 +124,13 @@ pub fn write_copy(
     strong_name: StrongName,
     buffer: &mut [u8],
 ) -> Result<usize, EmbedError>
-    ensures sound { IfOk result (λ len. IsCopied strong_name file.now root.now len buffer.old buffer.new) }
+    ensures sound { IfOk result (λ len. IsCopied (IsAsked file.now root.now) strong_name file.now len buffer.old buffer.new) }
     ensures limit { IfOk result (λ len. len ≤ 2 ^ 30) }
-    ensures first_error { IfErr result (MatchFault (FirstBroken (rules_of_file file.now)) (IsFaultOfRoot file.now root.now)) }
+    ensures first_error { IfErr result (MatchFault (FirstBroken (rules_of_file file.now)) (IsFaultOfRoot (IsAsked file.now root.now))) }
     ensures same { OnErr result (buffer.new ≡ buffer.old) }
 {
-    if !root.is_empty() {
-        return write_with(file, root, strong_name, buffer);
+    if root.is_empty() {
+        return write_own(alloc, file, strong_name, buffer);
     }
-    let own = canonical_root_of(alloc, file)?;
-    write_with(file, own.bytes(), strong_name, buffer)
+    write_with(file, root, strong_name, buffer)
 }

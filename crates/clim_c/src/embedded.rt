@@ -1,5 +1,5 @@
 ghost use Rattle.std.specs.Prelude.{◌≡◌, ◌≢◌, ◌⊎◌, ◌-◌, ◌^◌, ◌<◌, ◌≤◌};
-ghost use Rattle.c_values.specs.Copies.{IsCopied, IsFaultOfRoot, IsStrongName};
+ghost use Rattle.c_values.specs.Copies.{IsAsked, IsCopied, IsFaultOfRoot, IsStrongName};
 ghost use Rattle.clim_c.specs.Faults.{fault_of};
 ghost use Rattle.clim_c.specs.Words.{FirstBroken, StrongName, rules_of_file};
 
@@ -26,10 +26,10 @@ pub extern "C" fn clim_embed(
     buffer: &mut [u8],
     fault: &mut ClimFault,
 ) -> usize
-    ensures copy { (name : StrongName) → IsStrongName strong_name name → result ≤ 2 ^ 30 → IsCopied name file.now root.now result buffer.old buffer.new }
+    ensures copy { (name : StrongName) → IsStrongName strong_name name → result ≤ 2 ^ 30 → IsCopied (IsAsked file.now root.now) name file.now result buffer.old buffer.new }
     ensures unknown { ((name : StrongName) → ¬ IsStrongName strong_name name) → (result ≡ 0) × (buffer.new ≡ buffer.old) }
     ensures bad_file { result ≡ 2 ^ 64 - 3 → FirstBroken (rules_of_file file.now) (fault_of fault.new) }
-    ensures bad_root { result ≡ 2 ^ 64 - 4 → IsFaultOfRoot file.now root.now (fault_of fault.new) }
+    ensures bad_root { result ≡ 2 ^ 64 - 4 → IsFaultOfRoot (IsAsked file.now root.now) (fault_of fault.new) }
     ensures within { (result ≤ 2 ^ 30) ⊎ (2 ^ 64 - 8 ≤ result) }
     ensures same { 2 ^ 30 < result → buffer.new ≡ buffer.old }
     ensures quiet { result ≢ 2 ^ 64 - 3 → result ≢ 2 ^ 64 - 4 → fault.new ≡ fault.old }
