@@ -1336,15 +1336,13 @@ static guarded copy_of(guarded file, clim_bytes root, uint8_t strong_name) {
     return copy;
 }
 
-/* The root of the rows of a view, with a name added to the first row of Module. The caller frees it. */
-static guarded renamed_root(const clim_view *view) {
-    static char name[2000];
+/* The root of the rows of a view, with another name in the rows of Module. The caller frees it. */
+static guarded renamed_root(const clim_view *view, const char *name) {
     clim_cell *cells = NULL;
     clim_refusal refusal = CLIM_NO_REFUSAL;
     given it = rows_of(view, &cells, false);
     guarded user = padded_user(view);
     it.user = (clim_bytes){user.at, user.len};
-    memset(name, 'n', sizeof name - 1);
     for (size_t i = 0; i < it.count; i++) {
         if (it.rows[i].table == CLIM_MODULE) cells[it.rows[i].cells - cells + CLIM_MODULE_NAME] = text_cell(name);
     }
@@ -1376,13 +1374,37 @@ static void ask_no_memory_to_embed(guarded file, clim_bytes root) {
     CHECK(as_stated && blocks > 2 && len < CLIM_NO_ROOM);
 }
 
-/* Copies of a file: with its own canonical root, and with a longer one. They open, with the metadata of the root. */
+/* A name by which a root is longer than it was. */
+static const char *long_name(void) {
+    static char name[2000];
+    memset(name, 'n', sizeof name - 1);
+    return name;
+}
+
+/* A copy with a longer root opens, with this root; or there is no room for it. */
+static void ask_longer_root(guarded file, const clim_view *view) {
+    guarded root = renamed_root(view, long_name());
+    clim_bytes longer = {root.at, root.len};
+    clim_fault fault = {7, 7, 7};
+    clim_view other = CLOSED;
+    if (clim_embed(file.at, file.len, root.at, root.len, CLIM_KEEP_STRONG_NAME, NULL_BUFFER, 0, &fault) == CLIM_NO_ROOM) {
+        CHECK(is_no_copy(file, longer, CLIM_KEEP_STRONG_NAME, CLIM_NO_ROOM, 7));
+    } else {
+        guarded copy = copy_of(file, longer, CLIM_KEEP_STRONG_NAME);
+        CHECK(copy.len > file.len && clim_open(copy.at, copy.len, &other, &fault));
+        CHECK(other.root.len == root.len && memcmp(other.root.at, root.at, root.len) == 0);
+        munmap(copy.pages, copy.room);
+    }
+    munmap(root.pages, root.room);
+}
+
+/* Copies of a file: with its own canonical root, and with another one. They open, with the metadata of the root. */
 static void ask_embed(guarded file, const clim_view *view) {
     clim_fault fault = CLIM_NO_FAULT;
     clim_header old = CLIM_NO_HEADER, header = CLIM_NO_HEADER;
     clim_view own = CLOSED, other = CLOSED;
     clim_difference difference = CLIM_NO_DIFFERENCE;
-    guarded root = renamed_root(view);
+    guarded root = renamed_root(view, "n");
     clim_bytes renamed = {root.at, root.len}, none = CLIM_NO_BYTES, short_root = {root.at, 16}, half = {root.at, root.len / 2};
     guarded same = copy_of(file, none, CLIM_KEEP_STRONG_NAME), changed = copy_of(file, renamed, CLIM_CLEAR_STRONG_NAME);
     CHECK(clim_open(same.at, same.len, &own, &fault) && clim_compare(view, &own, &difference) == CLIM_EQUAL);
@@ -1418,7 +1440,7 @@ enum { LFANEW = 0x3C, HEADER_SIZE = 84 };
 
 /* A file without room for a longer root: no header can be added, and the last section does not end the file. */
 static void ask_no_room(guarded file, const clim_view *view) {
-    guarded root = renamed_root(view), full = guard(file.len + 4);
+    guarded root = renamed_root(view, long_name()), full = guard(file.len + 4);
     uint32_t lfanew = 0;
     memcpy(&lfanew, file.at + LFANEW, sizeof lfanew);
     memcpy(full.at, file.at, file.len);
@@ -1480,6 +1502,7 @@ static void calls(guarded file, clim_view *view, bool bare) {
     ask_given(view);
     if (!bare) {
         ask_embed(file, view);
+        ask_longer_root(file, view);
         ask_no_room(file, view);
     }
 }

@@ -134,6 +134,8 @@ static class Tests
             {
                 var tables = Tables.Of(assembly);
                 tables.Set(new Token(TableId.TypeDef, 2), "TypeName", name);
+                // System.Reflection loads one assembly of a name.
+                tables.Set(new Token(TableId.Assembly, 1), "Name", "copied");
                 var root = tables.Root();
                 var copy = assembly.Embed(root);
                 Array.Clear(root, 0, root.Length);
