@@ -46,7 +46,6 @@ pub fn strong_name_of(number: u8) -> Option<StrongName>
 }
 
 /// The canonical root of a file (II.24.2).
-#[tactic(auto, using(crate::proofs::CopyLemmas::canonical_of))]
 fn canonical_root_of(alloc: Global, file: &[u8]) -> Result<Prepared, EmbedError>
     ensures sound { IfOk result (IsCanonicalRootOf file.now) }
     ensures first_error { IfErr result (MatchFault (FirstBroken (rules_of_file file.now)) (IsFaultOfRoot (IsCanonicalRootOf file.now))) }
