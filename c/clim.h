@@ -1,5 +1,5 @@
-/* clim for C: checks, opens and reads the metadata of a .NET assembly in place, and makes new metadata (ECMA-335 II.22 to
- * II.25).
+/* clim for C: checks, opens and reads the metadata of a .NET assembly in place, makes new metadata, and puts it into a
+ * copy of the file (ECMA-335 II.22 to II.25).
  *
  *     clim_view view = CLIM_CLOSED;
  *     clim_fault fault = CLIM_NO_FAULT;
@@ -13,9 +13,9 @@
  * result is what its contract in crates/clim_c says. No function keeps state between calls, so threads may call them at
  * the same time. Rows count from 1. Columns, which are the cells of a row, count from 0.
  *
- * Memory: only clim_canonical_root, clim_digest, clim_compare and clim_tables allocate. They call malloc, realloc and
- * free, and free all of it before they return. So none of them is called in a signal handler, or after fork in a process
- * with threads.
+ * Memory: only clim_canonical_root, clim_digest, clim_compare, clim_tables and clim_embed allocate; clim_embed does not
+ * if a root is given. They call malloc, realloc and free, and free all of it before they return. So none of them is
+ * called in a signal handler, or after fork in a process with threads.
  *
  * A call on a view reads the directory of the root and the row counts again, but no heap. It takes about 3
  * microseconds, for a small file and for one of 5 MB alike; a crafted root of 200 kB with 16,000 stream headers makes
@@ -24,17 +24,18 @@
  * take some 50 milliseconds for a file of 5 MB, and allocate some 12 MB then.
  *
  * Errors: clim_check, clim_open, clim_read_header and their variants return false and write a clim_fault, or say that a
- * budget is spent. clim_tables returns 0 and writes a clim_refusal. clim_canonical_root, clim_digest, clim_compare and
- * clim_tables say if memory runs out. Any other call has no error: for a view that is not open, and for a number that
+ * budget is spent. clim_tables returns 0 and writes a clim_refusal. clim_embed returns a number that says why there is
+ * no copy; for two of these it writes a clim_fault. clim_canonical_root, clim_digest, clim_compare, clim_tables and
+ * clim_embed say if memory runs out. Any other call has no error: for a view that is not open, and for a number that
  * names nothing, it returns false, 0 or no bytes. A fault has no table, row or column, only the offset of what is wrong;
  * a refusal has these, and no offset.
  *
  * Sizes: a clim_view has 5,208 bytes. No other call needs memory but its stack. None of these figures is proved:
- * up to 128 kB in the calls that check or open, up to 384 kB in clim_canonical_root, clim_digest, clim_compare and
- * clim_tables (64 kB, and more for nested types), up to 192 kB in clim_signature_text, and up to 48 kB in any other
- * call. So a thread needs CLIM_STACK bytes beside its own. The first was measured: for three assemblies, to check took
- * 44 kB, and to open 48 kB. At calls that do the same as those of this library, to check took 54 kB for a root whose types
- * are nested 127 deep in a signature. For a file with such types they add up to 61 kB.
+ * up to 128 kB in the calls that check or open, up to 384 kB in clim_canonical_root, clim_digest, clim_compare,
+ * clim_tables and clim_embed (64 kB, and more for nested types), up to 192 kB in clim_signature_text, and up to 48 kB in
+ * any other call. So a thread needs CLIM_STACK bytes beside its own. The first was measured: for three assemblies, to
+ * check took 44 kB, and to open 48 kB. At calls that do the same as those of this library, to check took 54 kB for a root
+ * whose types are nested 127 deep in a signature. For a file with such types they add up to 61 kB.
  *
  * A caller must ensure the following. Nothing checks it:
  *   - No pointer is null, even if the length after it is 0. Use "" then.
@@ -198,6 +199,12 @@ typedef struct clim_refusal {
     uint16_t code;
     uint8_t table;
 } clim_refusal;
+
+/* What becomes of the strong name in a copy of a file, whose hash is no longer right (II.25.3.3). */
+enum clim_strong_name {
+    CLIM_KEEP_STRONG_NAME = 1, /* its flag and its directory stay; a tool that has the key can write the hash again */
+    CLIM_CLEAR_STRONG_NAME = 2 /* its flag is cleared, and its directory is 0 */
+};
 
 /* The tables, by their numbers (II.22). */
 enum clim_table {
@@ -574,8 +581,8 @@ bool clim_cell_at(const clim_view *view, uint8_t table, uint32_t row, size_t col
  * Reads *view and the root. Much faster than a call of clim_cell_at for each cell. */
 size_t clim_cells(const clim_view *view, uint8_t table, uint32_t first, size_t column, clim_cell *cells, size_t room);
 
-/* What clim_signature_text returns for a text of more than 65,536 bytes, and clim_canonical_root, clim_digest and
- * clim_tables for a root of more than 2^30 bytes. */
+/* What clim_signature_text returns for a text of more than 65,536 bytes, clim_canonical_root, clim_digest and
+ * clim_tables for a root of more than 2^30 bytes, and clim_embed for such a root or such a copy. */
 #define CLIM_TOO_LONG SIZE_MAX
 
 /* Writes a signature in the notation of ILAsm (II.7.1, II.15.3), such as "method instance string *(int32, class
@@ -612,7 +619,7 @@ uint32_t clim_find_type(const clim_view *view, const uint8_t *name_space, size_t
 size_t clim_rows_by_key(const clim_view *view, uint8_t table, uint8_t key_table, uint32_t key_row, uint32_t *rows,
                         size_t room);
 
-/* What clim_canonical_root, clim_digest, clim_compare and clim_tables return if memory runs out. */
+/* What clim_canonical_root, clim_digest, clim_compare, clim_tables and clim_embed return if memory runs out. */
 #define CLIM_NO_MEMORY (SIZE_MAX - 1)
 
 /* Writes the canonical root of the view (II.24.2) into buffer[0] to buffer[room - 1], if there is room for all of it;
@@ -688,6 +695,45 @@ size_t clim_compare(const clim_view *left, const clim_view *right, clim_differen
  * what their cells point to. Allocates in proportion to these. */
 size_t clim_tables(const uint8_t *version, size_t version_len, const uint8_t *user, size_t user_len,
                    const clim_row *rows, size_t row_count, uint8_t *buffer, size_t room, clim_refusal *refusal);
+
+/* Why clim_embed makes no copy, beside CLIM_TOO_LONG and CLIM_NO_MEMORY. */
+#define CLIM_BAD_FILE (SIZE_MAX - 2)        /* the file breaks a rule: *fault is the first one */
+#define CLIM_BAD_ROOT (SIZE_MAX - 3)        /* the root breaks a rule: *fault is the first one */
+#define CLIM_UNLIKE (SIZE_MAX - 4)          /* the root does not lead into the file */
+#define CLIM_HEADERS_OVERLAP (SIZE_MAX - 5) /* the headers of the file overlap */
+#define CLIM_OCCUPIED (SIZE_MAX - 6)        /* the range of the old root contains something else of the file */
+#define CLIM_NO_ROOM (SIZE_MAX - 7)         /* there is no room for the root */
+
+/* Writes a copy of a file with another root (II.25) into buffer[0] to buffer[room - 1], if there is room for all of it;
+ * otherwise the buffer is unchanged. Returns the length of the copy, which can be more than room. It is what clim embed
+ * writes: clim_open opens it, with the metadata of the root.
+ *
+ *     size_t len = clim_embed(file, size, root, root_len, CLIM_KEEP_STRONG_NAME, buffer, room, &fault);
+ *     if (len >= CLIM_NO_ROOM) puts("no copy");
+ *     else if (len > room) puts("ask again with more room");
+ *
+ * If root_len is 0, the root is the file's own canonical root, as clim_canonical_root writes it, and nothing is read at
+ * root. Any other root must lead into the file: it has the same number of rows of MethodDef and of FieldRVA, with the same
+ * RVAs; its #US has the same bytes, padded with zeros to a multiple of four; and it has no fewer rows of File. So a
+ * program can read all cells of a file, change names, flags or signatures, make a root with clim_tables, and embed that.
+ *
+ * The root goes where the old one is, if it fits there; otherwise into a new section, or else into the last section, which
+ * becomes longer. All other bytes of the file stay, but for these fields of headers: where the root is, the sections and
+ * sizes that this changes, the strong name if it is cleared, the directory of the Certificate Table, which becomes 0, and
+ * the checksum, which is computed again if it was not 0.
+ *
+ *   - CLIM_HEADERS_OVERLAP: the PE headers begin within the MS-DOS header; or the CLI header or the metadata comes before
+ *     the end of the section headers.
+ *   - CLIM_OCCUPIED: the range of the old root contains a header, a directory, a method body or the data of a field.
+ *   - CLIM_NO_ROOM: the root is longer than the old one, there is no room for another section header, and the last section
+ *     cannot become longer.
+ *
+ * Returns 0 if strong_name is not one of enum clim_strong_name. If it returns 0 or one of the numbers for no copy, the
+ * buffer is unchanged. *fault is unchanged unless it returns CLIM_BAD_FILE or CLIM_BAD_ROOT. Each call opens the file and
+ * the root anew, so ask with a room that usually suffices, such as size + root_len + 65,536. Reads the file and the root.
+ * Allocates only if root_len is 0. */
+size_t clim_embed(const uint8_t *file, size_t size, const uint8_t *root, size_t root_len, uint8_t strong_name,
+                  uint8_t *buffer, size_t room, clim_fault *fault);
 
 #ifdef __cplusplus
 }

@@ -302,12 +302,31 @@ static void ask_tables(const opened *it) {
     EXPECT((len == 0) == (refusal.code != 7));
 }
 
+/* A copy of a file, with a root of another one or with its own. It is written as a whole or not at all, and opens. */
+static void ask_embed(const opened *it) {
+    clim_bytes root = CLIM_NO_BYTES;
+    const opened *other = &files[below(FILES)];
+    if (below(3) > 0) root = other->view.is_open ? other->view.root : part_of(other->file);
+    uint8_t strong_name = (uint8_t)(below(8) == 0 ? any() : 1 + below(2));
+    bool known = strong_name == CLIM_KEEP_STRONG_NAME || strong_name == CLIM_CLEAR_STRONG_NAME;
+    size_t room = below(ROOM);
+    uint8_t *copy = with_room(room);
+    clim_fault fault = {7, 7, 7}, none = CLIM_NO_FAULT;
+    clim_view view = CLOSED;
+    size_t len = clim_embed(it->file.at, it->file.len, root.at, root.len, strong_name, copy, room, &fault);
+    bool whole = len > 0 && len <= room;
+    EXPECT((len == 0) == !known && (len <= 1 << 30 || len >= CLIM_NO_ROOM));
+    EXPECT(is_unwritten(copy, whole ? len : 0) && (!whole || clim_open(copy, len, &view, &none)));
+    EXPECT((len == CLIM_BAD_FILE || len == CLIM_BAD_ROOT) == (fault.code != 7));
+    EXPECT(!known || (len == CLIM_BAD_FILE) == !clim_check(it->file.at, it->file.len, &none));
+}
+
 /* ---- threads */
 
 static void *call_some(void *which) {
     static some_call *const often[] = {ask_fault, ask_parts, ask_stream, ask_user_string, ask_names, ask_cell,
                                        ask_cells, ask_signature, ask_rows, ask_where};
-    static some_call *const seldom[] = {ask_root, ask_compare, ask_tables};
+    static some_call *const seldom[] = {ask_root, ask_compare, ask_tables, ask_embed};
     size_t thread = (size_t)which;
     state = (seed + 1) * 0x9E3779B97F4A7C15 + thread + 1;
     buffer = guard(ROOM);

@@ -1305,6 +1305,156 @@ static void ask_overlapping(const clim_view *view) {
     CHECK(len > 0 && len <= sizeof root && clim_open_root(root, len, &made, &fault) && has_rows(&made, &it));
 }
 
+/* ---- copies with another root */
+
+/* Whether a call makes no copy: it returns this number, and writes nothing but a fault with this code; none if it is 7. */
+static bool is_no_copy(guarded file, clim_bytes root, uint8_t strong_name, size_t wanted, uint16_t code) {
+    guarded buffer = guard(file.len + root.len + (1 << 16));
+    clim_fault fault = {7, 7, 7};
+    memset(buffer.at, 0xEE, buffer.len);
+    bool as_stated = clim_embed(file.at, file.len, root.at, root.len, strong_name, buffer.at, buffer.len, &fault) == wanted;
+    for (size_t i = 0; i < buffer.len; i++) as_stated &= buffer.at[i] == 0xEE;
+    if (fault.code != code) printf("fault of no copy: %u\n", fault.code);
+    munmap(buffer.pages, buffer.room);
+    return as_stated && fault.code == code;
+}
+
+/* A copy of a file. It is written as a whole or not at all, and nothing is written past it. The caller frees it. */
+static guarded copy_of(guarded file, clim_bytes root, uint8_t strong_name) {
+    clim_fault fault = {7, 7, 7};
+    size_t len = clim_embed(file.at, file.len, root.at, root.len, strong_name, NULL_BUFFER, 0, &fault);
+    CHECK(len > 0 && len < CLIM_NO_ROOM);
+    guarded copy = guard(len), more = guard(len + 1);
+    memset(copy.at, 0xEE, len);
+    memset(more.at, 0xEE, len + 1);
+    CHECK(clim_embed(file.at, file.len, root.at, root.len, strong_name, copy.at, len - 1, &fault) == len);
+    CHECK(memcmp(copy.at, more.at, len) == 0);
+    CHECK(clim_embed(file.at, file.len, root.at, root.len, strong_name, more.at, len + 1, &fault) == len && more.at[len] == 0xEE);
+    CHECK(clim_embed(file.at, file.len, root.at, root.len, strong_name, copy.at, len, &fault) == len && fault.code == 7);
+    CHECK(memcmp(copy.at, more.at, len) == 0);
+    munmap(more.pages, more.room);
+    return copy;
+}
+
+/* The root of the rows of a view, with another name in the rows of Module. The caller frees it. */
+static guarded renamed_root(const clim_view *view, const char *name) {
+    clim_cell *cells = NULL;
+    clim_refusal refusal = CLIM_NO_REFUSAL;
+    given it = rows_of(view, &cells, false);
+    guarded user = padded_user(view);
+    it.user = (clim_bytes){user.at, user.len};
+    for (size_t i = 0; i < it.count; i++) {
+        if (it.rows[i].table == CLIM_MODULE) cells[it.rows[i].cells - cells + CLIM_MODULE_NAME] = text_cell(name);
+    }
+    size_t len = make_root(&it, NULL_BUFFER, 0, &refusal);
+    guarded root = guard(len);
+    CHECK(make_root(&it, root.at, len, &refusal) == len);
+    munmap(user.pages, user.room);
+    free(it.rows);
+    free(cells);
+    return root;
+}
+
+/* Memory runs out at each block in turn: nothing is written then. With a root that is given none is allocated. */
+static void ask_no_memory_to_embed(guarded file, clim_bytes root) {
+    clim_fault fault = {7, 7, 7};
+    blocks_left = 0;
+    size_t len = clim_embed(file.at, file.len, root.at, root.len, CLIM_KEEP_STRONG_NAME, NULL_BUFFER, 0, &fault);
+    blocks_left = -1;
+    CHECK(len > 0 && len < CLIM_NO_ROOM);
+    long blocks = 1;
+    bool as_stated = true;
+    for (len = CLIM_NO_MEMORY; len == CLIM_NO_MEMORY; blocks++) {
+        uint8_t first = 0xEE;
+        blocks_left = blocks;
+        len = clim_embed(file.at, file.len, root.at, 0, CLIM_KEEP_STRONG_NAME, &first, 1, &fault);
+        blocks_left = -1;
+        as_stated &= first == 0xEE && fault.code == 7;
+    }
+    CHECK(as_stated && blocks > 2 && len < CLIM_NO_ROOM);
+}
+
+/* A name by which a root is longer than it was. */
+static const char *long_name(void) {
+    static char name[2000];
+    memset(name, 'n', sizeof name - 1);
+    return name;
+}
+
+/* A copy with a longer root opens, with this root; or there is no room for it. */
+static void ask_longer_root(guarded file, const clim_view *view) {
+    guarded root = renamed_root(view, long_name());
+    clim_bytes longer = {root.at, root.len};
+    clim_fault fault = {7, 7, 7};
+    clim_view other = CLOSED;
+    if (clim_embed(file.at, file.len, root.at, root.len, CLIM_KEEP_STRONG_NAME, NULL_BUFFER, 0, &fault) == CLIM_NO_ROOM) {
+        CHECK(is_no_copy(file, longer, CLIM_KEEP_STRONG_NAME, CLIM_NO_ROOM, 7));
+    } else {
+        guarded copy = copy_of(file, longer, CLIM_KEEP_STRONG_NAME);
+        CHECK(copy.len > file.len && clim_open(copy.at, copy.len, &other, &fault));
+        CHECK(other.root.len == root.len && memcmp(other.root.at, root.at, root.len) == 0);
+        munmap(copy.pages, copy.room);
+    }
+    munmap(root.pages, root.room);
+}
+
+/* Copies of a file: with its own canonical root, and with another one. They open, with the metadata of the root. */
+static void ask_embed(guarded file, const clim_view *view) {
+    clim_fault fault = CLIM_NO_FAULT;
+    clim_header old = CLIM_NO_HEADER, header = CLIM_NO_HEADER;
+    clim_view own = CLOSED, other = CLOSED;
+    clim_difference difference = CLIM_NO_DIFFERENCE;
+    guarded root = renamed_root(view, "n");
+    clim_bytes renamed = {root.at, root.len}, none = CLIM_NO_BYTES, short_root = {root.at, 16}, half = {root.at, root.len / 2};
+    guarded same = copy_of(file, none, CLIM_KEEP_STRONG_NAME), changed = copy_of(file, renamed, CLIM_CLEAR_STRONG_NAME);
+    CHECK(clim_open(same.at, same.len, &own, &fault) && clim_compare(view, &own, &difference) == CLIM_EQUAL);
+    CHECK(clim_open(changed.at, changed.len, &other, &fault));
+    CHECK(other.root.len == root.len && memcmp(other.root.at, root.at, root.len) == 0);
+    CHECK(clim_read_header(file.at, file.len, &old, &fault) && clim_read_header(changed.at, changed.len, &header, &fault));
+    CHECK(header.metadata.size == root.len && header.flags == (old.flags & ~8u) && header.strong_name_signature.size == 0);
+    CHECK(clim_read_header(same.at, same.len, &header, &fault) && header.flags == old.flags);
+    CHECK(header.strong_name_signature.size == old.strong_name_signature.size);
+    /* What makes no copy. The first reason is that of a choice that there is not, then that of the file, then of the root. */
+    guarded no_file = {file.at, 0, NULL, 0};
+    CHECK(is_no_copy(file, renamed, 0, 0, 7) && is_no_copy(no_file, renamed, 3, 0, 7) && is_no_copy(file, none, 255, 0, 7));
+    CHECK(is_no_copy(no_file, none, CLIM_KEEP_STRONG_NAME, CLIM_BAD_FILE, 102));
+    CHECK(is_no_copy(no_file, short_root, CLIM_KEEP_STRONG_NAME, CLIM_BAD_FILE, 102));
+    CHECK(!clim_check_root(half.at, half.len, &fault));
+    CHECK(is_no_copy(file, half, CLIM_CLEAR_STRONG_NAME, CLIM_BAD_ROOT, fault.code));
+    if (clim_count(view, CLIM_METHOD_DEF) > 0) {
+        /* A root without rows does not lead into a file with methods. */
+        uint8_t bytes[200];
+        clim_refusal refusal = CLIM_NO_REFUSAL;
+        given no_rows = {CLIM_NO_BYTES, CLIM_NO_BYTES, &(clim_row){&NO_CELL, 0, 0}, 0};
+        clim_bytes empty = {bytes, make_root(&no_rows, bytes, sizeof bytes, &refusal)};
+        CHECK(is_no_copy(file, empty, CLIM_KEEP_STRONG_NAME, CLIM_UNLIKE, 7));
+    }
+    if (root.len < 1 << 14) ask_no_memory_to_embed(file, renamed);
+    munmap(root.pages, root.room);
+    munmap(same.pages, same.room);
+    munmap(changed.pages, changed.room);
+}
+
+/* Where a file says where its PE headers begin (II.25.2.1), and where these say how long all headers are (II.25.2.3.2). */
+enum { LFANEW = 0x3C, HEADER_SIZE = 84 };
+
+/* A file without room for a longer root: no header can be added, and the last section does not end the file. */
+static void ask_no_room(guarded file, const clim_view *view) {
+    guarded root = renamed_root(view, long_name()), full = guard(file.len + 4);
+    uint32_t lfanew = 0;
+    memcpy(&lfanew, file.at + LFANEW, sizeof lfanew);
+    memcpy(full.at, file.at, file.len);
+    memset(full.at + lfanew + HEADER_SIZE, 0, 4);
+    memset(full.at + file.len, 7, 4);
+    clim_fault fault = CLIM_NO_FAULT;
+    CHECK(clim_check(full.at, full.len, &fault));
+    if (root.len > view->root.len) {
+        CHECK(is_no_copy(full, (clim_bytes){root.at, root.len}, CLIM_KEEP_STRONG_NAME, CLIM_NO_ROOM, 7));
+    }
+    munmap(root.pages, root.room);
+    munmap(full.pages, full.room);
+}
+
 static void calls(guarded file, clim_view *view, bool bare) {
     static const struct { uint8_t owner, column, member; } runs[] = {
         {CLIM_TYPE_DEF, 4, CLIM_FIELD}, {CLIM_TYPE_DEF, 5, CLIM_METHOD_DEF}, {CLIM_METHOD_DEF, 5, CLIM_PARAM},
@@ -1350,6 +1500,11 @@ static void calls(guarded file, clim_view *view, bool bare) {
     ask_refused_cells();
     ask_refused_rows();
     ask_given(view);
+    if (!bare) {
+        ask_embed(file, view);
+        ask_longer_root(file, view);
+        ask_no_room(file, view);
+    }
 }
 
 /* Prints the first difference of two views, as clim compare does. */

@@ -6,8 +6,8 @@
 //                 Console.WriteLine(type.TypeName + "." + method.Name);
 //
 // A file is opened if and only if it meets all rules of ECMA-335 II.22 to II.25. Then each cell is proved to be that of
-// the file's only model. Rows are structs with the names of the standard, and count from 1. Clim.Tables makes new metadata.
-// It needs C# 6.
+// the file's only model. Rows are structs with the names of the standard, and count from 1. Clim.Tables makes new metadata,
+// and Embed puts it into a copy of the file. It needs C# 6.
 //
 // The loader has to find libclim.so: in a folder of the system, next to the program, or in one of LD_LIBRARY_PATH.
 
@@ -111,6 +111,57 @@ namespace Clim
     public sealed class BudgetSpentException : Exception
     {
         internal BudgetSpentException() : base("the budget is spent") { }
+    }
+
+    /// <summary>
+    /// What <see cref="Assembly.Embed"/> does with the strong name of the file, whose hash is no longer right (II.25.3.3).
+    /// </summary>
+    public enum StrongName : byte
+    {
+        /// <summary>Its flag and its directory stay. A tool that has the key can write the hash again.</summary>
+        Keep = 1,
+        /// <summary>Its flag is cleared, and its directory becomes 0.</summary>
+        Clear = 2,
+    }
+
+    /// <summary>Why <see cref="Assembly.Embed"/> makes no copy of a file.</summary>
+    public enum EmbedReason
+    {
+        /// <summary>The root does not lead into the file: its methods, its addresses or its user strings are others.</summary>
+        Unlike,
+        /// <summary>The headers of the file overlap.</summary>
+        HeadersOverlap,
+        /// <summary>The range of the old root has something else in it: a header, a directory, a method body or data.</summary>
+        Occupied,
+        /// <summary>The root is longer than the old one, and no section can be added or become longer.</summary>
+        NoRoom,
+    }
+
+    /// <summary>Thrown by <see cref="Assembly.Embed"/> if the root cannot be put into the file.</summary>
+    public sealed class EmbedException : Exception
+    {
+        /// <summary>Why not.</summary>
+        public EmbedReason Reason { get; }
+
+        internal EmbedException(EmbedReason reason) : base(Text(reason))
+        {
+            Reason = reason;
+        }
+
+        static string Text(EmbedReason reason)
+        {
+            switch (reason)
+            {
+                case EmbedReason.Unlike:
+                    return "the root does not lead into the file: its methods, its addresses or its user strings are others";
+                case EmbedReason.HeadersOverlap:
+                    return "the headers of the file overlap";
+                case EmbedReason.Occupied:
+                    return "the range of the old root has something else in it";
+                default:
+                    return "there is no room for the root";
+            }
+        }
     }
 
     /// <summary>The tables, by their numbers (II.22).</summary>
@@ -549,6 +600,11 @@ namespace Clim
             [In, Out] byte[] buffer, UIntPtr room, ref NativeRefusal refusal);
 
         [DllImport(Library)]
+        public static extern UIntPtr clim_embed(
+            IntPtr file, UIntPtr size, byte[] root, UIntPtr rootLength, StrongName strongName,
+            [In, Out] byte[] buffer, UIntPtr room, ref NativeFault fault);
+
+        [DllImport(Library)]
         static extern uint clim_abi_version();
 
         // The interface that this file calls, CLIM_ABI_VERSION of clim.h.
@@ -559,6 +615,15 @@ namespace Clim
         public const int Equal = 1;
         // The number of bytes of a digest.
         public const int DigestLength = 32;
+        // CLIM_TOO_LONG and CLIM_NO_MEMORY.
+        const ulong TooLong = ulong.MaxValue;
+        const ulong NoMemory = TooLong - 1;
+        // CLIM_BAD_FILE and CLIM_BAD_ROOT: clim_embed wrote a fault.
+        public const ulong BadFile = NoMemory - 1;
+        public const ulong BadRoot = BadFile - 1;
+        // CLIM_UNLIKE to CLIM_NO_ROOM, the other reasons why it makes no copy.
+        public const ulong Unlike = BadRoot - 1;
+        public const ulong NoRoom = Unlike - (ulong)EmbedReason.NoRoom;
 
         static readonly Lazy<uint> version = new Lazy<uint>(ReadVersion);
 
@@ -611,11 +676,15 @@ namespace Clim
         /// <summary>The length of a canonical root, or the result of a comparison, as a call returned it.</summary>
         public static int RootLength(Func<UIntPtr> call)
         {
-            ulong length = (ulong)Newer(call);
-            // CLIM_TOO_LONG and CLIM_NO_MEMORY.
-            if (length == ulong.MaxValue)
-                throw new OverflowException("the canonical root has more than 2^30 bytes");
-            if (length == ulong.MaxValue - 1)
+            return CheckedLength((ulong)Newer(call));
+        }
+
+        /// <summary>The same of what the call returned.</summary>
+        public static int CheckedLength(ulong length)
+        {
+            if (length == TooLong)
+                throw new OverflowException("the root, or the copy with it, has more than 2^30 bytes");
+            if (length == NoMemory)
                 throw new OutOfMemoryException();
             return (int)length;
         }
@@ -727,8 +796,11 @@ namespace Clim
         const int Expected = 16;
         // The number of types in one full name.
         const int Depth = 64;
+        // The number of bytes by which a copy of a file is mostly longer than the file and its root.
+        const int Padding = 1 << 16;
 
         readonly Memory memory;
+        readonly bool isBare;
         // Texts by their addresses, for other rows that name them, and the number of characters that may be kept still. Texts
         // of a crafted file can overlap, and then have much more bytes than the file.
         readonly Dictionary<IntPtr, string> texts = new Dictionary<IntPtr, string>();
@@ -739,13 +811,14 @@ namespace Clim
 
         delegate bool Opening(IntPtr bytes, UIntPtr length, Memory view, ref NativeFault fault);
 
-        Assembly(byte[] bytes, Opening open)
+        Assembly(byte[] bytes, bool isBare, Opening open)
         {
             if (bytes == null)
                 throw new ArgumentNullException("bytes");
             Native.CheckVersion();
             var fault = new NativeFault();
             memory = new Memory(bytes);
+            this.isBare = isBare;
             unused = memory.Length;
             enclosing = new Lazy<int[]>(ReadEnclosing, LazyThreadSafetyMode.PublicationOnly);
             bool opened = false;
@@ -766,14 +839,14 @@ namespace Clim
         /// <exception cref="ClimFault">The file breaks a rule. It is that of the first one.</exception>
         public static Assembly Open(byte[] file)
         {
-            return new Assembly(file, Native.clim_open);
+            return new Assembly(file, false, Native.clim_open);
         }
 
         /// <summary>Opens a bare metadata root, without the file around it (II.24.2.1). The bytes are copied.</summary>
         /// <exception cref="ClimFault">The root breaks a rule. It is that of the first one.</exception>
         public static Assembly OpenRoot(byte[] root)
         {
-            return new Assembly(root, Native.clim_open_root);
+            return new Assembly(root, true, Native.clim_open_root);
         }
 
         /// <summary>
@@ -784,7 +857,7 @@ namespace Clim
         /// <exception cref="NotSupportedException">The library is older than this file.</exception>
         public static Assembly Open(byte[] file, ulong budget)
         {
-            return new Assembly(file, Within(Native.clim_open_within, budget));
+            return new Assembly(file, false, Within(Native.clim_open_within, budget));
         }
 
         /// <summary>Opens a bare metadata root within a budget.</summary>
@@ -793,7 +866,7 @@ namespace Clim
         /// <exception cref="NotSupportedException">The library is older than this file.</exception>
         public static Assembly OpenRoot(byte[] root, ulong budget)
         {
-            return new Assembly(root, Within(Native.clim_open_root_within, budget));
+            return new Assembly(root, true, Within(Native.clim_open_root_within, budget));
         }
 
         delegate bool BoundedOpening(
@@ -1110,6 +1183,58 @@ namespace Clim
             var digest = new byte[Native.DigestLength];
             Native.RootLength(() => Native.clim_digest(memory, digest));
             return digest;
+        }
+
+        /// <summary>
+        /// A copy of the file with another metadata root, which <c>clim embed</c> writes (II.25). <see cref="Open(byte[])"/>
+        /// opens it, with the metadata of the root. The root goes where the old one is, if it fits there, and otherwise into a
+        /// new section, or into a longer last one.
+        /// </summary>
+        /// <param name="root">
+        /// The root. It must lead into the file: it has the same number of methods and of fields with data, with the same RVAs,
+        /// the same user strings, and no fewer rows of File. So take the rows of the file by
+        /// <see cref="Tables.Of"/>, change names, flags or signatures, and give what <see cref="Tables.Root"/> returns. Null
+        /// means the file's own canonical root. The bytes are copied.
+        /// </param>
+        /// <param name="strongName">Whether the strong name of the file is kept or cleared.</param>
+        /// <exception cref="ClimFault">The root breaks a rule. Its offset counts in the root.</exception>
+        /// <exception cref="EmbedException">The root does not lead into the file, or cannot be put there.</exception>
+        /// <exception cref="InvalidOperationException">It is a bare root, without a file around it.</exception>
+        /// <exception cref="ArgumentOutOfRangeException">There is no such choice for the strong name.</exception>
+        /// <exception cref="OverflowException">The root or the copy would have more than 2^30 bytes.</exception>
+        /// <exception cref="OutOfMemoryException">Memory ran out.</exception>
+        /// <exception cref="NotSupportedException">The library is older than this file.</exception>
+        public byte[] Embed(byte[] root = null, StrongName strongName = StrongName.Keep)
+        {
+            if (isBare)
+                throw new InvalidOperationException("a bare root has no file around it");
+            if (strongName != StrongName.Keep && strongName != StrongName.Clear)
+                throw new ArgumentOutOfRangeException("strongName");
+            var given = root == null ? new byte[0] : Native.CopyOf(root);
+            // The library takes no bytes for the file's own canonical root.
+            if (root != null && given.Length == 0)
+                throw CheckRoot(given);
+            return Held(() => CopyWith(given, strongName));
+        }
+
+        byte[] CopyWith(byte[] root, StrongName strongName)
+        {
+            for (var copy = new byte[(long)memory.Length + root.Length + Padding]; ;)
+            {
+                var fault = new NativeFault();
+                ulong result = (ulong)Native.Newer(() => Native.clim_embed(
+                    memory.Bytes, (UIntPtr)memory.Length, root, Native.Length(root), strongName, copy, Native.Length(copy), ref fault));
+                if (result == Native.BadFile || result == Native.BadRoot)
+                    throw FaultOf(fault);
+                if (result >= Native.NoRoom && result <= Native.Unlike)
+                    throw new EmbedException((EmbedReason)(Native.Unlike - result));
+                int length = Native.CheckedLength(result);
+                bool fits = length <= copy.Length;
+                if (length != copy.Length)
+                    Array.Resize(ref copy, length);
+                if (fits)
+                    return copy;
+            }
         }
 
         /// <summary>

@@ -57,6 +57,13 @@ static class Stress
         { "Add, of a blob", blob => new Tables().Add(TableId.File, 0, "a", blob) },
     };
 
+    // The same of a root for a copy of a file. Each copy that is made opens.
+    static readonly Dictionary<string, Action<Assembly, byte[]>> givenTo = new Dictionary<string, Action<Assembly, byte[]>>
+    {
+        { "Embed", (it, root) => Assembly.Open(it.Embed(root)).Dispose() },
+        { "Embed without a strong name", (it, root) => Assembly.Open(it.Embed(root, StrongName.Clear)).Dispose() },
+    };
+
     static readonly Token type = new Token(TableId.TypeDef, 2);
 
     // The calls of an assembly.
@@ -84,6 +91,12 @@ static class Stress
         { "Tables.Of", it => Tables.Of(it) },
     };
 
+    // The calls of an assembly that is a file.
+    static readonly Dictionary<string, Action<Assembly>> readFile = new Dictionary<string, Action<Assembly>>
+    {
+        { "Embed", it => it.Embed() },
+    };
+
     // Makes a call again and again while another thread changes what it uses.
     static void Beside(double seconds, Action call, Action change)
     {
@@ -102,7 +115,7 @@ static class Stress
         var shared = (byte[])bytes.Clone();
         var random = new Random(7);
         string other = null;
-        var expected = new[] { typeof(ClimFault), typeof(ClimRefusal), typeof(BudgetSpentException) };
+        var expected = new[] { typeof(ClimFault), typeof(ClimRefusal), typeof(EmbedException), typeof(BudgetSpentException) };
         Beside(seconds, () => other = Ends(() => call(shared), expected) ?? other, () =>
         {
             int at = random.Next(shared.Length);
@@ -127,13 +140,13 @@ static class Stress
     }
 
     // The assembly is closed during a call of two threads. Both get ObjectDisposedException.
-    static void CloseBeside(string name, double seconds, Action<Assembly> call, byte[] root)
+    static void CloseBeside(string name, double seconds, Action<Assembly> call, Func<Assembly> open)
     {
         var random = new Random(7);
         string other = null;
         for (var time = Stopwatch.StartNew(); time.Elapsed.TotalSeconds < seconds;)
         {
-            var assembly = Assembly.OpenRoot(root);
+            var assembly = open();
             var threads = Enumerable.Range(0, 2).Select(_ => new Thread(
                 () => other = Ends(() => { for (;;) call(assembly); }, typeof(ObjectDisposedException)) ?? other)).ToArray();
             foreach (var thread in threads)
@@ -170,9 +183,14 @@ static class Stress
         foreach (var it in givenRoot)
             WriteBeside(it.Key, seconds, it.Value, root);
         foreach (var it in read)
-            CloseBeside(it.Key, seconds, it.Value, root);
+            CloseBeside(it.Key, seconds, it.Value, () => Assembly.OpenRoot(root));
+        foreach (var it in readFile)
+            CloseBeside(it.Key, seconds, it.Value, () => Assembly.Open(file));
         using (var assembly = Assembly.OpenRoot(root))
             ChangeBeside(seconds, assembly);
+        using (var assembly = Assembly.Open(file))
+            foreach (var it in givenTo)
+                WriteBeside(it.Key, seconds, given => it.Value(assembly, given), root);
     }
 
     // ---- growth

@@ -125,6 +125,67 @@ static class Tests
         }
     }
 
+    // A copy of a file with another root opens, with the metadata of the root.
+    static void Embedded(byte[] file)
+    {
+        using (var assembly = Assembly.Open(file))
+        {
+            foreach (string name in new[] { "B", new string('n', 2000) })
+            {
+                var tables = Tables.Of(assembly);
+                tables.Set(new Token(TableId.TypeDef, 2), "TypeName", name);
+                // System.Reflection loads one assembly of a name.
+                tables.Set(new Token(TableId.Assembly, 1), "Name", "copied");
+                var root = tables.Root();
+                var copy = assembly.Embed(root);
+                Array.Clear(root, 0, root.Length);
+                using (var copied = Assembly.Open(copy))
+                {
+                    Check(copied.Row<TypeDefRow>(2).TypeName == name, "a type is renamed");
+                    Check(copied.Count(TableId.MethodDef) == assembly.Count(TableId.MethodDef), "its methods");
+                }
+                if (name.Length == 1)
+                {
+                    var loaded = System.Reflection.Assembly.ReflectionOnlyLoad(copy).ManifestModule;
+                    Check(loaded.ResolveType(0x02000002).Name == name, "System.Reflection finds the name");
+                }
+            }
+            var own = assembly.Embed();
+            Check(own.SequenceEqual(assembly.Embed(assembly.CanonicalRoot())), "no root is the canonical root");
+            using (var copied = Assembly.Open(own))
+                Check(Assembly.Compare(assembly, copied) == null && copied.Embed().SequenceEqual(own), "its metadata");
+            NoCopies(assembly);
+        }
+    }
+
+    static void StrongNames(byte[] file)
+    {
+        var header = Assembly.ReadHeader(file);
+        var signed = (byte[])file.Clone();
+        signed[(long)header.Offset + 16] |= 8;
+        signed[(long)header.Offset + 36] = 4;
+        using (var assembly = Assembly.Open(signed))
+        {
+            CliHeader kept = Assembly.ReadHeader(assembly.Embed()),
+                cleared = Assembly.ReadHeader(assembly.Embed(null, StrongName.Clear));
+            Check(kept.Flags == (header.Flags | 8) && kept.StrongNameSignature.Size == 4, "a strong name that is kept");
+            Check(cleared.Flags == (header.Flags & ~8u) && cleared.StrongNameSignature.Size == 0, "one that is cleared");
+        }
+    }
+
+    static void NoCopies(Assembly assembly)
+    {
+        var fault = Throws<ClimFault>(() => assembly.Embed(new byte[0]));
+        Check(fault.Code == 301 && Throws<ClimFault>(() => assembly.Embed(new byte[16])).Code == 301, "a root that breaks a rule");
+        var tables = Tables.Of(assembly);
+        tables.Set(new Token(TableId.MethodDef, 1), "RVA", 1);
+        var error = Throws<EmbedException>(() => assembly.Embed(tables.Root()));
+        Check(error.Reason == EmbedReason.Unlike && error.Message.Contains("does not lead into the file"), "another address");
+        Throws<ArgumentOutOfRangeException>(() => assembly.Embed(null, (StrongName)0));
+        using (var bare = Assembly.OpenRoot(assembly.CanonicalRoot()))
+            Throws<InvalidOperationException>(() => bare.Embed());
+    }
+
     static void NewerFunctions(byte[] root)
     {
         Newer("clim_open_root_within", () =>
@@ -425,6 +486,11 @@ static class Tests
         ClosedHalfway(File.ReadAllBytes(Path.Combine(samples, "greeter.root")));
         Closed(File.ReadAllBytes(Path.Combine(samples, "one_module.dll")));
         NewerFunctions(File.ReadAllBytes(Path.Combine(samples, "greeter.root")));
+        Newer("clim_embed", () =>
+        {
+            StrongNames(File.ReadAllBytes(Path.Combine(samples, "members.dll")));
+            Embedded(File.ReadAllBytes(Path.Combine(samples, "members.dll")));
+        });
         Header(File.ReadAllBytes(Path.Combine(samples, "one_module.dll")));
         string folder = ".";
         AppDomain.CurrentDomain.ReflectionOnlyAssemblyResolve += (sender, wanted) => Load(wanted, folder);

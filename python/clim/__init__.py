@@ -12,7 +12,7 @@ A file is opened if and only if it meets all rules. Then each cell is proved to 
 `row.TypeName`. `clim.rows` has the classes of rows. Rows count from 1, as in the standard.
 
 `clim.Tables` has rows that a program adds, or those of an assembly, which may be changed. Its `root()` checks them against
-all rules, and returns the metadata root that they make.
+all rules, and returns the metadata root that they make. `Assembly.embed` puts a root into a copy of its file.
 
 The shared library is the file that the environment variable CLIM_LIBRARY names, or else the one that a wheel has, or
 else the one that is installed.
@@ -27,7 +27,20 @@ from ._library import Unsupported, supports
 from .assembly import Assembly, Source, Table, fault_in, fault_of, header_of, read_source
 from .rows import Row
 from .tables import Tables
-from .values import BudgetSpent, Difference, Directory, Fault, Header, Location, Refusal, Signature, Start, Token
+from .values import (
+    BudgetSpent,
+    Difference,
+    Directory,
+    EmbedError,
+    Fault,
+    Header,
+    Location,
+    Refusal,
+    Signature,
+    Start,
+    StrongName,
+    Token,
+)
 
 __version__ = "0.1.0"
 
@@ -36,6 +49,7 @@ __all__ = [
     "BudgetSpent",
     "Difference",
     "Directory",
+    "EmbedError",
     "Fault",
     "Header",
     "Location",
@@ -43,6 +57,7 @@ __all__ = [
     "Row",
     "Signature",
     "Start",
+    "StrongName",
     "Table",
     "Tables",
     "Token",

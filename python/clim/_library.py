@@ -141,6 +141,10 @@ EMPTY_AT = ctypes.addressof(_EMPTY)
 TOO_LONG = c_size_t(-1).value
 #: `CLIM_NO_MEMORY`.
 NO_MEMORY = TOO_LONG - 1
+#: `CLIM_BAD_FILE` and `CLIM_BAD_ROOT`: `clim_embed` wrote a fault.
+BAD_FILE, BAD_ROOT = NO_MEMORY - 1, NO_MEMORY - 2
+#: The other reasons why `clim_embed` makes no copy, by what it returns.
+NO_COPY = {BAD_ROOT - 1: "unlike", BAD_ROOT - 2: "headers overlap", BAD_ROOT - 3: "occupied", BAD_ROOT - 4: "no room"}
 #: What `clim_compare` returns if nothing differs.
 EQUAL = 1
 #: The kinds of a difference, `enum clim_difference_kind`.
@@ -193,6 +197,7 @@ _NEWER: dict[str, tuple[Any, ...]] = {
     "clim_where": (c_bool, _VIEW, c_size_t, POINTER(LocationStruct)),
     "clim_compare": (c_size_t, _VIEW, _VIEW, POINTER(DifferenceStruct)),
     "clim_tables": (c_size_t, *[c_void_p, c_size_t] * 4, POINTER(RefusalStruct)),
+    "clim_embed": (c_size_t, *[c_void_p, c_size_t] * 2, c_uint8, c_void_p, c_size_t, _FAULT),
 }
 
 
@@ -286,9 +291,9 @@ def explanation(code: int) -> str:
 
 
 def canonical_length(length: int) -> int:
-    """The length of a canonical root, as a call returned it; or raises what the call says."""
+    """The length of a canonical root, or of a copy with a root, as a call returned it; or raises what the call says."""
     if length == TOO_LONG:
-        raise OverflowError("the canonical root has more than 2**30 bytes")
+        raise OverflowError("the root, or the copy with it, has more than 2**30 bytes")
     if length == NO_MEMORY:
         raise MemoryError
     return length

@@ -29,7 +29,7 @@ from .rows import (
     TypeDef,
     TypeRef,
 )
-from .values import BudgetSpent, Difference, Directory, Fault, Header, Location, Start, Token
+from .values import BudgetSpent, Difference, Directory, EmbedError, Fault, Header, Location, Start, StrongName, Token
 
 #: What can be opened: a path, or the bytes themselves.
 Source = Union[str, "os.PathLike[str]", bytes, bytearray, memoryview, _mmap.mmap]
@@ -44,6 +44,8 @@ _PART = 1 << 20
 _CELLS = 1 << 14
 # The texts or blobs of a column are read at once if they have at most this number of times the bytes of the file.
 _MOST = 4
+# The number of bytes by which a copy of a file is mostly longer than the file and its root.
+_PADDING = 1 << 16
 # The number of rows that a look-up by key expects.
 _ROWS = 16
 # The streams that the standard names (II.24.2.2).
@@ -134,6 +136,22 @@ def _difference_of(it: _c.DifferenceStruct) -> Difference:
     if it.kind == _c.COUNT_DIFFERS:
         return Difference("row count", table, counts=(it.left_count, it.right_count))
     return Difference("cell", table, it.row, _c.COLUMN_NAMES[it.table][it.column])
+
+
+def _copy(data: bytes, root: bytes, strong_name: StrongName) -> bytes:
+    """A copy of a file with another root; with its own canonical root if that has no bytes."""
+    fault, room = _c.FaultStruct(), len(data) + len(root) + _PADDING
+    given = address_of(data), len(data), address_of(root), len(root), strong_name.value
+    while True:
+        copy = ctypes.create_string_buffer(room)
+        length = library.clim_embed(*given, copy, room, ctypes.byref(fault))
+        if length in (_c.BAD_FILE, _c.BAD_ROOT):
+            raise fault_of(fault)
+        if length in _c.NO_COPY:
+            raise EmbedError(_c.NO_COPY[length])
+        if _c.canonical_length(length) <= room:
+            return ctypes.string_at(copy, length)
+        room = length
 
 
 class Assembly:
@@ -361,6 +379,40 @@ class Assembly:
         digest = ctypes.create_string_buffer(32)
         _c.canonical_length(library.clim_digest(self._view(), digest))
         return digest.raw
+
+    def embed(
+        self,
+        root: Union[bytes, bytearray, memoryview, _mmap.mmap, None] = None,
+        strong_name: StrongName = StrongName.KEEP,
+    ) -> bytes:
+        """A copy of the file with another metadata root, which `clim embed` writes (II.25).
+
+        `clim.open` opens the copy, with the metadata of the root. The root goes where the old one is, if it fits there, and
+        otherwise into a new section, or into a longer last one.
+
+        Args:
+            root: The root. It must lead into the file: it has the same number of methods and of fields with data, with the
+                same RVAs, the same user strings, and no fewer rows of File. So take the rows of the file by
+                `clim.Tables.of`, change names, flags or signatures, and give what `root()` returns. `None` means the file's
+                own canonical root.
+            strong_name: Whether the strong name of the file is kept or cleared. Its hash is no longer right.
+
+        Raises:
+            Fault: The root breaks a rule. Its offset counts in the root.
+            EmbedError: The root does not lead into the file, or cannot be put there.
+            ValueError: It is a bare root, without a file around it.
+            OverflowError: The copy or its root would have more than 2**30 bytes.
+            MemoryError: Memory ran out.
+            Unsupported: The library is older than this package.
+        """
+        data, given = self._data, b"" if root is None else bytes_of(root)
+        self._view()
+        if self._bare:
+            raise ValueError("a bare root has no file around it")
+        if root is not None and not given:
+            # The library takes no bytes for the file's own canonical root.
+            raise fault_of(cast(_c.FaultStruct, fault_in("clim_check", given, True, None)))
+        return _copy(data, given, StrongName(strong_name))
 
     def where(self, offset: int) -> Optional[Location]:
         """The cell of a table that has the byte at an offset, or `None` if no cell has it (II.24.2.6).

@@ -2,6 +2,7 @@
 
 from __future__ import annotations
 
+import enum
 from typing import TYPE_CHECKING, NamedTuple, Optional, Tuple
 
 from ._library import explanation
@@ -79,6 +80,40 @@ class Refusal(Exception):
             Unsupported: The library is older than this package.
         """
         return explanation(self.code)
+
+
+class StrongName(enum.Enum):
+    """What `Assembly.embed` does with the strong name of the file, whose hash is no longer right (II.25.3.3)."""
+
+    #: Its flag and its directory stay. A tool that has the key can write the hash again.
+    KEEP = 1
+    #: Its flag is cleared, and its directory becomes 0.
+    CLEAR = 2
+
+
+class EmbedError(Exception):
+    """Why `Assembly.embed` makes no copy of a file.
+
+    Attributes:
+        reason: `"unlike"`, if the root does not lead into the file: other methods, addresses or user strings;
+            `"headers overlap"`, if the headers of the file do; `"occupied"`, if the range of the old root contains something
+            else of the file; `"no room"`, if there is none for a longer root.
+    """
+
+    def __init__(self, reason: str) -> None:
+        super().__init__(reason)
+        self.reason = reason
+
+    def __str__(self) -> str:
+        return _NO_COPY[self.reason]
+
+
+_NO_COPY = {
+    "unlike": "the root does not lead into the file: its methods, its addresses or its user strings are others",
+    "headers overlap": "the headers of the file overlap",
+    "occupied": "the range of the old root has something else in it",
+    "no room": "there is no room for the root",
+}
 
 
 class BudgetSpent(Exception):

@@ -851,13 +851,118 @@ class Built(unittest.TestCase):
             self.assertEqual(assembly.user_string(token), "b" * 10000)
 
 
+class Embedded(unittest.TestCase):
+    """Copies of a file with another root."""
+
+    def setUp(self):
+        self.path = SAMPLES / "members.dll"
+        self.file = self.path.read_bytes()
+        if not clim.supports("clim_embed"):
+            with clim.open(self.file) as assembly, self.assertRaises(clim.Unsupported) as caught:
+                assembly.embed()
+            self.assertEqual(caught.exception.function, "clim_embed")
+            self.skipTest("the library is older")
+
+    def changed(self, change):
+        """A root of the rows of the file, after a change of them."""
+        with clim.open(self.file) as assembly:
+            tables = clim.Tables.of(assembly)
+        change(tables)
+        return tables.root()
+
+    def test_a_type_is_renamed(self):
+        for name in ("B", "Renamed" * 300):
+            root = self.changed(lambda tables: tables["TypeDef"][1].update(TypeName=name))
+            with clim.open(self.path) as assembly, tempfile.NamedTemporaryFile() as written:
+                copies = {assembly.embed(it) for it in (root, bytearray(root), memoryview(root))}
+                self.assertEqual(len(copies), 1)
+                written.write(copies.pop())
+                written.flush()
+                with clim.open(written.name) as copied:
+                    self.assertEqual(copied.types[1].name, name)
+                    self.assertEqual(clim.compare(assembly, copied), clim.Difference("cell", "TypeDef", 2, "TypeName"))
+                    self.assertEqual(copied.canonical_root(), root)
+                    self.assertEqual(copied.header.entry_point_token, assembly.header.entry_point_token)
+
+    def test_the_canonical_root(self):
+        for path, bare in FILES:
+            with clim.open(path, bare) as assembly:
+                if bare:
+                    self.assertRaises(ValueError, assembly.embed)
+                    continue
+                copied = assembly.embed()
+                self.assertEqual(copied, assembly.embed(assembly.canonical_root()), path)
+                with clim.open(copied) as again:
+                    self.assertIsNone(clim.compare(assembly, again), path)
+                    self.assertEqual(again.embed(), copied, path)
+        self.assertRaises(ValueError, assembly.embed)
+
+    def test_the_strong_name(self):
+        with clim.open(self.path) as assembly:
+            flags, at = assembly.header.flags | 8, assembly.header.offset
+        signed = bytearray(self.file)
+        struct.pack_into("<I", signed, at + 16, flags)
+        struct.pack_into("<II", signed, at + 32, 0x2000, 8)
+        wanted = {clim.StrongName.KEEP: (flags, 0x2000, 8), clim.StrongName.CLEAR: (flags - 8, 0, 0)}
+        with clim.open(signed) as assembly:
+            self.assertEqual(assembly.embed(), assembly.embed(strong_name=clim.StrongName.KEEP))
+            for strong_name, parts in wanted.items():
+                header = clim.read_header(assembly.embed(None, strong_name))
+                self.assertEqual((header.flags, *header.strong_name_signature), parts)
+            self.assertRaises(ValueError, assembly.embed, None, 0)
+            self.assertRaises(ValueError, assembly.embed, None, "keep")
+
+    def test_what_makes_no_copy(self):
+        with clim.open(self.path) as assembly:
+            for root, code in ((b"", 301), (b"BSJB", 301), (assembly.canonical_root()[:-1], None)):
+                with self.assertRaises(clim.Fault) as caught:
+                    assembly.embed(root)
+                self.assertIn(code, (caught.exception.code, None))
+                self.assertEqual(str(clim.check(root, bare=True)), str(caught.exception))
+            for change in (
+                lambda tables: tables["MethodDef"][0].update(RVA=1),
+                lambda tables: tables.add_user_string("a"),
+                lambda tables: tables.add("MethodDef", Name="added", Signature=b"\0\0\x01"),
+            ):
+                with self.assertRaises(clim.EmbedError) as caught:
+                    assembly.embed(self.changed(change))
+                self.check_error(caught.exception, "unlike", "does not lead into the file")
+            self.assertRaises(TypeError, assembly.embed, 1)
+            self.assertRaises(TypeError, assembly.embed, "a.root")
+        # Method bodies are looked for in the range of the old root.
+        with clim.open(self.changed_file()) as assembly, self.assertRaises(clim.EmbedError) as caught:
+            assembly.embed()
+        self.check_error(caught.exception, "occupied", "something else in it")
+
+    def changed_file(self):
+        """The file, with a directory within its root."""
+        with clim.open(self.path) as assembly:
+            header = assembly.header
+        changed = bytearray(self.file)
+        struct.pack_into("<II", changed, header.offset + 24, header.metadata.rva + 4, 4)
+        return changed
+
+    def check_error(self, error, reason, text):
+        self.assertEqual(error.reason, reason)
+        self.assertIn(text, str(error))
+        for same in (pickle.loads(pickle.dumps(error)), copy.copy(error)):
+            self.assertEqual((str(same), vars(same)), (str(error), vars(error)))
+
+    def test_texts_of_errors(self):
+        for reason in _library.NO_COPY.values():
+            self.assertGreater(len(str(clim.EmbedError(reason))), 10)
+
+
 class Examples(doctest.DocTestParser):
-    """The examples of README.md, without those of its last section if the library is too old for them."""
+    """The examples of README.md, without those of its last sections if the library is too old for them."""
+
+    NEWER = (("## New metadata\n", "clim_tables"), ("## A copy of a file\n", "clim_embed"))
 
     def get_examples(self, string, name="<string>"):
-        text, found, _ = string.partition("## New metadata\n")
-        self_contained = string if found and clim.supports("clim_tables") else text
-        return super().get_examples(self_contained, name)
+        for heading, function in self.NEWER:
+            text, found, _ = string.partition(heading)
+            string = string if found and clim.supports(function) else text
+        return super().get_examples(string, name)
 
 
 def load_tests(loader, tests, pattern):

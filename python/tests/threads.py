@@ -127,6 +127,7 @@ READ = {
     "difference": lambda it: clim.compare(it, it),
     "Tables.of": lambda it: clim.Tables.of(it),
     "root": lambda it: clim.Tables.of(it).root(),
+    "embed": lambda it: it.embed(),
 }
 
 
@@ -171,9 +172,30 @@ def with_changes(_, data, seconds):
         beside(seconds, lambda: ends(tables.root, clim.Refusal), change)
 
 
+# The calls that take a root.
+ROOTS = {
+    "embed": lambda it, root: it.embed(root),
+    "embed without a strong name": lambda it, root: it.embed(root, clim.StrongName.CLEAR),
+}
+
+
+def with_roots(call, data, seconds):
+    """The root that the caller gives is written. Of the copies that are made, each opens."""
+    with clim.open(data) as assembly:
+        root = assembly.canonical_root()
+        shared = bytearray(root)
+
+        def embed():
+            clim.open(call(assembly, shared)).close()
+
+        write = lambda at, it: shared.__setitem__(at, it[0])
+        beside(seconds, lambda: ends(embed, clim.Fault, clim.EmbedError), lambda: spoil(write, len(root), root))
+
+
 CASES = [
     *[(how, name, call) for how in (with_bytes, with_map, with_path) for name, call in GIVEN.items()],
     *[(with_close, name, call) for name, call in READ.items()],
+    *[(with_roots, name, call) for name, call in ROOTS.items()],
     (with_changes, "root", None),
 ]
 

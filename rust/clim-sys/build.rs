@@ -24,6 +24,7 @@ const NEWER: &[&str] = &[
     "clim_where",
     "clim_compare",
     "clim_tables",
+    "clim_embed",
 ];
 
 /// The folder of the library by pkg-config, or why there is none.

@@ -9,3 +9,4 @@ pub mod OneLemmas
 pub mod RefusedLemmas
 pub mod ReasonLemmas
 pub mod StepLemmas
+pub mod CopyLemmas

@@ -4,3 +4,5 @@ pub mod SignatureTexts
 pub mod Cells
 pub mod Given
 pub mod Refused
+pub mod Differences
+pub mod Copies

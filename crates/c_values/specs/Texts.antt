@@ -7,6 +7,10 @@ use Rattle.std.specs.Borrow.{Bor}
 abbrev pub with_text : List ℕ → List ℕ → List ℕ
 with_text buffer text = take (length buffer) text ++ drop (length text) buffer
 
+-- the buffer has the text, or is unchanged if it has no room for all of it
+abbrev pub HasWhole : List ℕ → List ℕ → List ℕ → Type 0
+HasWhole initial text buffer = (length text ≤ length initial → buffer ≡ with_text initial text) × (length initial < length text → buffer ≡ initial)
+
 -- the same, if the text is written from an offset on
 abbrev pub overwritten : List ℕ → ℕ → List ℕ → List ℕ
 overwritten buffer at text = take at buffer ++ take (length buffer - at) text ++ drop (at + length text) buffer

@@ -6,6 +6,7 @@ ghost use Rattle.c_values.specs.Given.{IsGiven};
 ghost use Rattle.c_values.specs.Refused.{IsGivenValid, IsNoRoot, MatchNoRoot};
 
 use crate::no_root::NoRoot;
+use crate::parts::ROOT_LIMIT;
 use crate::read_rows::read_tables;
 use crate::row::ClimRow;
 use metadata::Refusal;
@@ -14,9 +15,6 @@ use packed::FaultCode;
 use std::alloc::Global;
 use std::str;
 use writer::{Prepared, prepare};
-
-/// The largest length of a root in bytes.
-const ROOT_LIMIT: u32 = 1 << 30;
 
 /// The canonical root of metadata that is given as a version in UTF-8, user strings that are padded to a multiple of
 /// four, and rows (II.22, II.24.2). The rows of a table are those with its number, in the order given.

@@ -5,6 +5,12 @@ ghost use Rattle.c_values.specs.Texts.{Extends, counted, joined, overwritten, wi
 /// What is returned instead of the length of what is too long.
 pub const TOO_LONG: usize = usize::MAX;
 
+/// What is returned instead of a length if memory runs out.
+pub const NO_MEMORY: usize = usize::MAX - 1;
+
+/// The largest length of a root in bytes.
+pub const ROOT_LIMIT: u32 = 1 << 30;
+
 /// Writes bytes into a buffer from an offset on, up to the end of the buffer.
 pub fn copy_at(buffer: &mut [u8], at: usize, bytes: &[u8])
     ensures { buffer.new ≡ overwritten buffer.old at bytes.now }

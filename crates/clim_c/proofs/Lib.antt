@@ -6,3 +6,4 @@ pub mod RootLemmas
 pub mod SignatureLemmas
 pub mod Texts
 pub mod Written
+pub mod EmbedLemmas

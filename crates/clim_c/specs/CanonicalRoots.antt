@@ -3,7 +3,6 @@ use Rattle.std.specs.Prelude.{◌≡◌, ◌⊎◌, ◌-◌, ◌^◌, ◌<◌, �
 use Rattle.metadata.specs.Metadata.{Metadata}
 use Rattle.metadata.specs.Model.{IsModel}
 use Rattle.root_writer.specs.Canonical.{canonical}
-use Rattle.c_values.specs.Texts.{with_text}
 
 -- no root is made: the view is not open; or its canonical root is longer than 2^30 bytes; or memory ran out
 abbrev pub IsNoRoot : Bool → List ℕ → ℕ → Type 0
@@ -11,7 +10,3 @@ IsNoRoot is_open root reason =
     ((reason ≡ 0) × (is_open ≡ false))
     ⊎ (((reason ≡ 2 ^ 64 - 1) × (is_open ≡ true) × ((model : Metadata) → IsModel root model → 2 ^ 30 < length (canonical model)))
     ⊎ ((reason ≡ 2 ^ 64 - 2) × (is_open ≡ true)))
-
--- the buffer has the text, or is unchanged if it has no room for all of it
-abbrev pub HasWhole : List ℕ → List ℕ → List ℕ → Type 0
-HasWhole initial text buffer = (length text ≤ length initial → buffer ≡ with_text initial text) × (length initial < length text → buffer ≡ initial)

@@ -34,6 +34,7 @@ pub use Rattle.opening.specs.Views.{AreFound, HasImage, HasModel, row_count, use
 pub use Rattle.opening.specs.Within.{HoldBeforeSignatures, signature_bytes_in, signature_bytes_in_file}
 pub use Rattle.cli_faults.specs.declared.explained.Explanation.{Explanation as Explained}
 pub use Rattle.root_writer.specs.Canonical.{canonical}
+pub use Rattle.embedding.specs.declared.strong_name.StrongName.{StrongName}
 pub use Rattle.c_values.specs.Cells.{IsCell}
 pub use Rattle.c_values.specs.Given.{IsGiven}
 pub use Rattle.c_values.specs.Refused.{IsGivenValid, IsRefused, refusal_of}

@@ -1,19 +1,14 @@
 ghost use Rattle.std.specs.Prelude.{◌≡◌, ◌⊎◌, ◌^◌, ◌<◌, ◌≤◌, IfOk, IfErr, OnOk, true, length};
-ghost use Rattle.clim_c.specs.CanonicalRoots.{HasWhole, IsNoRoot};
+ghost use Rattle.c_values.specs.Texts.{HasWhole};
+ghost use Rattle.clim_c.specs.CanonicalRoots.{IsNoRoot};
 ghost use Rattle.clim_c.specs.Words.{IsModel, Metadata, canonical, sha256};
 
 use crate::opened::seen;
 use crate::view::ClimView;
-use c_values::{TOO_LONG, copy_at};
+use c_values::{NO_MEMORY, ROOT_LIMIT, TOO_LONG, copy_at};
 use sha2::{Digest, Sha256};
 use std::alloc::Global;
 use writer::{Prepared, WriteError, prepare};
-
-/// The largest length of a root in bytes.
-const ROOT_LIMIT: u32 = 1 << 30;
-
-/// `CLIM_NO_MEMORY`: what is returned if memory runs out.
-pub(crate) const NO_MEMORY: usize = usize::MAX - 1;
 
 /// The canonical root of a view, or the number that says why there is none.
 fn canonical_root(alloc: Global, view: &ClimView) -> Result<Prepared, usize>

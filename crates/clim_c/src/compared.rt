@@ -3,10 +3,9 @@ ghost use Rattle.std.specs.Prelude.{◌≡◌, ◌≢◌, ◌↔◌, ◌⊎◌, 
 ghost use Rattle.clim_c.specs.Compared.{IsFirst, ReportsFirst, all_differences};
 ghost use Rattle.clim_c.specs.Words.{IsModel, Metadata};
 
-use crate::canonical_root::NO_MEMORY;
-use crate::difference::{ClimDifference, reported_difference};
 use crate::opened::seen;
 use crate::view::ClimView;
+use c_values::{ClimDifference, NO_MEMORY, reported_difference};
 use comparison::{Difference, differing_cells, outline_difference};
 use opening::View;
 use std::alloc::{AllocError, Global};

@@ -1,15 +1,15 @@
 //! The C interface of `opening`: checks a file, opens it and reads it in place (ECMA-335 II.22 to II.25).
 //!
 //! `c/clim.h` declares the exports, says what a caller must ensure, and has an example. Only `clim_canonical_root`,
-//! `clim_digest`, `clim_compare` and `clim_tables` allocate. Nothing is kept between calls, except in what the caller
-//! holds. Nothing checks that a C caller meets a precondition, so no function has one: each tests its arguments, and its
+//! `clim_digest`, `clim_compare`, `clim_tables` and `clim_embed` allocate. Nothing is kept between calls, except in what
+//! the caller holds. Nothing checks that a C caller meets a precondition, so no function has one: each tests its arguments, and its
 //! result says whether it rejected them.
 #![tactic(auto)]
 
 pub mod canonical_root;
 pub mod cells;
 pub mod compared;
-pub mod difference;
+pub mod embedded;
 pub mod explained;
 pub mod fault;
 pub mod given_tables;
@@ -26,4 +26,4 @@ pub mod user_strings;
 pub mod view;
 pub mod view_parts;
 
-pub use c_values::{ClimCell, ClimRefusal, ClimRow};
+pub use c_values::{ClimCell, ClimDifference, ClimRefusal, ClimRow};

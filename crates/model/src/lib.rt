@@ -40,6 +40,16 @@
 //! let root = prepare(alloc, &view, 1 << 30)?;          // of a view that is open: no model is made
 //! ```
 //!
+//! **Embedding** puts a root into a copy of its file: the file's own canonical root, or another that leads into the file:
+//!
+//! ```text
+//! let copy = embed_canonical(alloc, &file, StrongName::Keep)?;  // its bytes
+//! let copy = embed(alloc, &file, &root, StrongName::Clear)?;    // or why not: an `EmbedError`
+//! let plan = plan_embedding(&file, &root, StrongName::Clear)?;  // does not allocate: `plan.len()` bytes, and
+//! plan.fill(&mut buffer)                                        // into a buffer of that length, or
+//! plan.write_to(alloc, &mut Counted::new(out))?                 // through a writer that may fail
+//! ```
+//!
 //! **Comparing** says whether two views have the same model, and what differs:
 //!
 //! ```text
@@ -120,3 +130,6 @@ pub use comparison::{Difference, IgnoredColumns, differences, differences_but, d
 pub use writer::{
     Counted, Prepared, Sink, WriteError, prepare, write_root, write_root_to, write_root_within,
 };
+
+// A copy of a file with another root.
+pub use embedding::{EmbedError, EmbedPlan, StrongName, embed, embed_canonical, plan_embedding};

@@ -166,12 +166,34 @@ pub const CLIM_NO_REFUSAL: clim_refusal = clim_refusal { column: 0, row: 0, code
 /// The version of the interface that this crate declares.
 pub const CLIM_ABI_VERSION: u32 = 1;
 
-/// What `clim_signature_text` returns for a text that is too long, and `clim_canonical_root`, `clim_digest` and
-/// `clim_tables` for a root that is.
+/// What `clim_signature_text` returns for a text that is too long, `clim_canonical_root`, `clim_digest` and `clim_tables`
+/// for a root that is, and `clim_embed` for such a root or such a copy.
 pub const CLIM_TOO_LONG: usize = usize::MAX;
 
-/// What `clim_canonical_root`, `clim_digest`, `clim_compare` and `clim_tables` return if memory runs out.
+/// What `clim_canonical_root`, `clim_digest`, `clim_compare`, `clim_tables` and `clim_embed` return if memory runs out.
 pub const CLIM_NO_MEMORY: usize = usize::MAX - 1;
+
+/// What `clim_embed` returns if the file breaks a rule.
+pub const CLIM_BAD_FILE: usize = usize::MAX - 2;
+
+/// What `clim_embed` returns if the root breaks a rule.
+pub const CLIM_BAD_ROOT: usize = usize::MAX - 3;
+
+/// What `clim_embed` returns if the root does not lead into the file.
+pub const CLIM_UNLIKE: usize = usize::MAX - 4;
+
+/// What `clim_embed` returns if the headers of the file overlap.
+pub const CLIM_HEADERS_OVERLAP: usize = usize::MAX - 5;
+
+/// What `clim_embed` returns if the range of the old root contains something else of the file.
+pub const CLIM_OCCUPIED: usize = usize::MAX - 6;
+
+/// What `clim_embed` returns if there is no room for the root.
+pub const CLIM_NO_ROOM: usize = usize::MAX - 7;
+
+/// What becomes of the strong name in a copy of a file: it is kept, or cleared.
+pub const CLIM_KEEP_STRONG_NAME: u8 = 1;
+pub const CLIM_CLEAR_STRONG_NAME: u8 = 2;
 
 pub const CLIM_NO_BYTES: clim_bytes = clim_bytes { at: b"".as_ptr(), len: 0 };
 pub const CLIM_NO_FAULT: clim_fault = clim_fault { offset: 0, code: 0, layer: 0 };
@@ -247,6 +269,7 @@ newer! {
     HAS_WHERE: fn clim_where(view: *const clim_view, offset: usize, location: *mut clim_location) -> bool;
     HAS_COMPARE: fn clim_compare(left: *const clim_view, right: *const clim_view, difference: *mut clim_difference) -> usize;
     HAS_TABLES: fn clim_tables(version: *const u8, version_len: usize, user: *const u8, user_len: usize, rows: *const clim_row, row_count: usize, buffer: *mut u8, room: usize, refusal: *mut clim_refusal) -> usize;
+    HAS_EMBED: fn clim_embed(file: *const u8, size: usize, root: *const u8, root_len: usize, strong_name: u8, buffer: *mut u8, room: usize, fault: *mut clim_fault) -> usize;
 }
 
 // The layout of the structs, as tests of the C library have it.

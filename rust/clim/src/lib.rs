@@ -49,13 +49,14 @@
 //! may still form circles, and names may be any text: see `docs/CLIENTS.md`.
 //!
 //! [`Tables`] has rows that a program adds, or those of a view, which may be changed. [`Tables::root`] checks them against
-//! all rules, and makes a metadata root of them.
+//! all rules, and makes a metadata root of them. [`embed`] puts a root into a copy of a file.
 #![warn(missing_docs)]
 
 mod building;
 mod cells;
 mod chunks;
 mod compared;
+mod embedded;
 mod fault;
 mod library;
 mod refusal;
@@ -67,6 +68,7 @@ pub use building::Tables;
 pub use cells::{Cell, Guid, Signature};
 pub use chunks::{Cells, Rows};
 pub use compared::{CompareError, Difference, Location};
+pub use embedded::{embed, embed_canonical, EmbedError, StrongName};
 pub use fault::{BoundedError, Fault, RootError, Unsupported};
 pub use refusal::{BuildError, Refusal};
 pub use rows::Row;

@@ -275,6 +275,15 @@ fn a_canonical_root_is_its_own() {
 }
 
 #[test]
+fn a_copy_of_a_file() {
+    let file = sample("one_module.dll");
+    if has(clim_sys::HAS_EMBED, "clim_embed", clim::embed_canonical(&file, clim::StrongName::Keep)) {
+        let copy = clim::embed_canonical(&file, clim::StrongName::Keep).expect("a copy");
+        assert_eq!(View::open(&copy).expect("a file").count(Table::Module), 1);
+    }
+}
+
+#[test]
 fn tables_of_a_view() {
     each(|view| match Tables::of(view).root() {
         Err(error) => assert!(matches!(error, BuildError::Unsupported(_)) && !clim_sys::HAS_TABLES),

@@ -1,5 +1,5 @@
 ghost use Rattle.std.specs.Prelude.{◌≡◌};
-ghost use Rattle.clim_c.specs.Compared.{HasParts, ReportsDifference};
+ghost use Rattle.c_values.specs.Differences.{HasParts, ReportsDifference};
 
 use comparison::Difference;
 
@@ -36,7 +36,7 @@ fn of_whole(kind: u8) -> ClimDifference
 }
 
 /// A difference as a C caller receives it.
-pub(crate) fn reported_difference(difference: Difference) -> ClimDifference
+pub fn reported_difference(difference: Difference) -> ClimDifference
     ensures { ReportsDifference result difference }
 {
     match difference {

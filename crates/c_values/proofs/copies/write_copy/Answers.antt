@@ -1,0 +1,31 @@
+use Rattle.std.proofs.Common.{◌≡◌, ◌<◌, length, arith}
+use Rattle.std.proofs.lemmas.Bool.Decides.{nat_tests}
+use Rattle.std.proofs.lemmas.Result.{IfErr-weaker, IfOk-weaker}
+use Rattle.packed.specs.Rule.{FirstBroken}
+use Rattle.metadata.specs.Rules.{rules_of_file}
+use Rattle.c_values.proofs.CopyLemmas.{asked_given, asked_own, fault_weaker}
+use Rattle.c_values.proofs.copies.write_copy.Goals as goal
+
+pub returns-then-is_empty-clause-sound : goal.returns-then-is_empty-clause-sound
+returns-then-is_empty-clause-sound c =
+    let none : length c.args.root.now ≡ 0 = grind (arith, nat_tests, c.is_empty.ensures, c.if-is_empty.true) in
+    IfOk-weaker c.write_own.result _ _ (λ len it. (it.0, asked_own c.args.file.now c.args.root.now it.0 none it.1, it.2)) c.write_own.ensures.sound
+
+pub returns-then-is_empty-clause-first_error : goal.returns-then-is_empty-clause-first_error
+returns-then-is_empty-clause-first_error c =
+    let none : length c.args.root.now ≡ 0 = grind (arith, nat_tests, c.is_empty.ensures, c.if-is_empty.true) in
+    IfErr-weaker c.write_own.result _ _
+    (λ reason it. fault_weaker (FirstBroken (rules_of_file c.args.file.now)) _ _ (λ fault of. (of.0, asked_own c.args.file.now c.args.root.now of.0 none of.1, of.2)) reason it)
+    c.write_own.ensures.first_error
+
+pub returns-clause-sound : goal.returns-clause-sound
+returns-clause-sound c =
+    let some : 0 < length c.args.root.now = grind (arith, nat_tests, c.is_empty.ensures, c.if-is_empty.false) in
+    IfOk-weaker c.write_with.result _ _ (λ len it. (c.args.root.now, asked_given c.args.file.now c.args.root.now some, it)) c.write_with.ensures.sound
+
+pub returns-clause-first_error : goal.returns-clause-first_error
+returns-clause-first_error c =
+    let some : 0 < length c.args.root.now = grind (arith, nat_tests, c.is_empty.ensures, c.if-is_empty.false) in
+    IfErr-weaker c.write_with.result _ _
+    (λ reason it. fault_weaker (FirstBroken (rules_of_file c.args.file.now)) _ _ (λ fault broken. (c.args.root.now, asked_given c.args.file.now c.args.root.now some, broken)) reason it)
+    c.write_with.ensures.first_error

@@ -1,0 +1,18 @@
+use Rattle.std.proofs.Common.{List, ℕ, sym, subst}
+use Rattle.std.proofs.lemmas.Result.{IfErr-weaker, IfOk-weaker}
+use Rattle.packed.specs.Rule.{FirstBroken}
+use Rattle.metadata.specs.Rules.{rules_of_file}
+use Rattle.c_values.specs.Copies.{IsCanonicalRootOf}
+use Rattle.c_values.proofs.CopyLemmas.{fault_weaker}
+use Rattle.c_values.proofs.copies.write_own.Goals as goal
+
+pub returns-clause-sound : goal.returns-clause-sound
+returns-clause-sound c =
+    let own = subst (λ (root : List ℕ). IsCanonicalRootOf c.args.file.now root) (sym c.bytes.ensures) c.in_ok-own.ensures.sound in
+    IfOk-weaker c.write_with.result _ _ (λ len it. (c.bytes.result.now, own, it)) c.write_with.ensures.sound
+
+pub returns-clause-first_error : goal.returns-clause-first_error
+returns-clause-first_error c =
+    let own = subst (λ (root : List ℕ). IsCanonicalRootOf c.args.file.now root) (sym c.bytes.ensures) c.in_ok-own.ensures.sound in
+    IfErr-weaker c.write_with.result _ _ (λ reason it. fault_weaker (FirstBroken (rules_of_file c.args.file.now)) _ _ (λ fault broken. (c.bytes.result.now, own, broken)) reason it)
+    c.write_with.ensures.first_error
