@@ -3,7 +3,7 @@ use Rattle.std.proofs.Common.{◌≡◌, ◌∙◌, ◌≤◌, ◌<◌, ◌+◌,
 use Rattle.std.specs.Borrow.{Bor}
 use Rattle.std.proofs.lemmas.List.{drop_all}
 use Rattle.cli_faults.specs.declared.failure.Failure.{Failure}
-use Rattle.cli_faults.specs.declared.failure.Failure.TheVariants.{Fault, NoSuchRow, Usage, NotUtf8, CannotRead, CannotWriteOutput, CannotWriteFile, OutOfMemory}
+use Rattle.cli_faults.specs.declared.failure.Failure.TheVariants.{Fault, NoSuchRow, Usage, NotUtf8, CannotRead, CannotWriteOutput, CannotWriteFile, CannotEmbed, OutOfMemory}
 use Rattle.cli_faults.specs.Status.{IsOutput, status_of}
 use Rattle.cli_runs.specs.Runs.{AreRun, IsCutAt, IsRun}
 use Rattle.cli_runs.specs.declared.report.Request.{Request}
@@ -17,6 +17,7 @@ output_code (NotUtf8 name) is = absurd is
 output_code (CannotRead error) is = absurd is
 output_code CannotWriteOutput is = refl
 output_code (CannotWriteFile error) is = absurd is
+output_code (CannotEmbed misfit) is = absurd is
 output_code OutOfMemory is = refl
 
 abbrev pub names_of : List (Bor (List ℕ)) → List (List ℕ)

@@ -52,7 +52,7 @@ const VALUES: [(Value<'static>, &str, &str); 24] = [
     (Guid(Some(GUID)), "{00010203-0405-0607-0809-0a0b0c0d0e0f}", "\"00010203-0405-0607-0809-0a0b0c0d0e0f\""),
     (Guid(None), "null", "null"),
     (Start(4_294_967_295), "+4294967295", "4294967295"),
-    (Signature(&[6, 8], "int32"), "<0608>", "{\"blob\":\"0608\",\"text\":\"int32\"}"),
+    (Signature(&[6, 8], b"int32"), "<0608>", "{\"blob\":\"0608\",\"text\":\"int32\"}"),
     (Yes, "true", "true"),
     (Null, "null", "null"),
 ];

@@ -10,7 +10,7 @@ pub returns-in_err-read : goal.returns-in_err-read
 returns-in_err-read g c = inl (Err c.in_err-read.field-0.0, (c.in_err-read.ensures.refused, c.from_residual-in_err-read.ensures.1, refl))
 
 pub returns-then-is_spent : goal.returns-then-is_spent
-returns-then-is_spent g c = inl (Ok c.deref-bytes.result.now, inl (c.is_spent.ensures c.if-is_spent.true, c.from-then-is_spent.ensures, refl))
+returns-then-is_spent g c = inl (Ok c.deref-bytes.result.now, inl (c.is_spent.ensures c.if-is_spent.true, c.from.ensures, refl))
 
 pub returns-in-Ok : goal.returns-in-Ok
 returns-in-Ok g c = inl (Ok c.deref-bytes.result.now, inr (record { done = c.in-Ok.ensures.done; stopped = tt; hint = tt }))
