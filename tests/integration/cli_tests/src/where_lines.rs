@@ -526,10 +526,15 @@ fn prints_a_user_string_that_needs_padding(rt: HostRuntime) -> Result<(), Fail> 
     root.row(0, b"\0\0\0\0\0\0\0\0\0\0")?;
     root.heap("#US", b"\0\x05A\0B\0")?;
     root.heap("#Strings", b"\0")?;
-    let root = root.finish()?;
+    let mut root = root.finish()?;
     let Some(heap) = root.as_slice().windows(6).position(|it| it == b"\0\x05A\0B\0".as_slice()) else {
         return Err("no heap".into());
     };
+    // The stream's size, which is before its name, without the padding.
+    let Some(name) = root.as_slice().windows(4).position(|it| it == b"#US\0".as_slice()) else {
+        return Err("no stream".into());
+    };
+    root[name - 4] = 6;
     for at in 0..6 {
         let (_, text) = printed(&rt, true, &root, (heap + at) as u64)?;
         let line = format!(in rt.alloc(); "\n{} 5 user string 70000001\n", heap + 1)?;

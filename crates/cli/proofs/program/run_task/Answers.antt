@@ -1,18 +1,36 @@
-use Rattle.std.proofs.Common.{inr}
+use Rattle.std.proofs.Common.{◌⊎◌, ℕ, inr, subst, sym}
 use Rattle.std.specs.Prelude.{option_map}
+use Rattle.cli_input.specs.declared.opened.Input.{Input}
 use Rattle.cli_runs.specs.Embedded.{IsEmbedding, WarnsOf}
+use Rattle.cli_runs.specs.Rewritten.{IsRewriting}
+use Rattle.cli_runs.specs.Runs.{IsFileRun, IsMixed, IsWithin}
+use Rattle.cli.specs.Runs.{IsRunOf, MayWarn}
+use Rattle.cli.specs.declared.task.Task.{Task}
 use Rattle.cli.proofs.EmbedRuns.{embed_run}
 use Rattle.cli.proofs.program.run_task.Goals as goal
 
+pub returns-in-Rewrite-clause-run : goal.returns-in-Rewrite-clause-run
+returns-in-Rewrite-clause-run g c =
+    let before = c.args.out.now in
+    let after = c.rewrite_file-outcome.new.out in
+    let ask = c.args.ask.now in
+    let path = c.in-Rewrite.path.now in
+    let run = subst (λ (input : Input). IsFileRun before after c.in-Rewrite.file.now
+        (λ bytes. IsWithin before after ask.budget input bytes (IsRewriting g.W.Write.contents g.R.File.Write.contents before after input bytes path)) c.rewrite_file-outcome.result
+        ⊎ IsMixed before after path c.rewrite_file-outcome.result) c.input_of.ensures c.rewrite_file-outcome.ensures in
+    subst (λ (task : Task). IsRunOf g.W.Write.contents before after g.R.File.Write.contents task ask c.status.result) (sym c.in-Rewrite.is)
+    (c.rewrite_file-outcome.result, run, c.status.ensures.status)
+
 pub returns-in-Embed-clause-run : goal.returns-in-Embed-clause-run
 returns-in-Embed-clause-run g c =
-    let options = c.in-Embed.options in (
-      c.embed_file.result,
-      embed_run c.args.out.now c.embed_file.new.out c.embed_file.result c.in-Embed.file.now options.path.now (option_map (λ path. path.now) options.root)
-          (λ bytes. IsEmbedding g.W.Write.contents g.R.File.Write.contents c.args.out.now c.embed_file.new.out options.form options.strong_name bytes options.path.now)
-          (λ bytes given outcome. WarnsOf options.strong_name bytes c.args.err.now c.embed_file.new.err) c.embed_file.ensures,
-      c.status-in-Embed.ensures.status,
-    )
+    let before = c.args.out.now in
+    let after = c.embed_file-outcome.new.out in
+    let options = c.in-Embed.options in
+    let run = embed_run before after c.embed_file-outcome.result c.in-Embed.file.now options.path.now (option_map (λ path. path.now) options.root)
+        (λ bytes. IsEmbedding g.W.Write.contents g.R.File.Write.contents before after options.form options.strong_name bytes options.path.now)
+        (λ bytes given outcome. WarnsOf options.strong_name bytes c.args.err.now c.embed_file-outcome.new.err) c.embed_file-outcome.ensures in
+    subst (λ (task : Task). IsRunOf g.W.Write.contents before after g.R.File.Write.contents task c.args.ask.now c.status-in-Embed.result) (sym c.in-Embed.is)
+    (c.embed_file-outcome.result, run, c.status-in-Embed.ensures.status)
 
 pub returns-in-Embed-clause-quiet : goal.returns-in-Embed-clause-quiet
-returns-in-Embed-clause-quiet g c = λ success. inr tt
+returns-in-Embed-clause-quiet g c = λ success. inr (subst MayWarn (sym c.in-Embed.is) tt)
