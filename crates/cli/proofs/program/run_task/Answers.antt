@@ -16,8 +16,8 @@ returns-in-Rewrite-clause-run g c =
     let ask = c.args.ask.now in
     let path = c.in-Rewrite.path.now in
     let run = subst (λ (input : Input). IsFileRun before after c.in-Rewrite.file.now
-        (λ bytes. IsWithin before after ask.budget input bytes (IsRewriting g.W.Write.contents g.R.File.Write.contents before after input bytes path)) c.rewrite_file-outcome.result
-        ⊎ IsMixed before after path c.rewrite_file-outcome.result) c.input_of.ensures c.rewrite_file-outcome.ensures in
+    (λ bytes. IsWithin before after ask.budget input bytes (IsRewriting g.W.Write.contents g.R.File.Write.contents before after input bytes path)) c.rewrite_file-outcome.result
+    ⊎ IsMixed before after path c.rewrite_file-outcome.result) c.input_of.ensures c.rewrite_file-outcome.ensures in
     subst (λ (task : Task). IsRunOf g.W.Write.contents before after g.R.File.Write.contents task ask c.status.result) (sym c.in-Rewrite.is)
     (c.rewrite_file-outcome.result, run, c.status.ensures.status)
 
@@ -27,8 +27,8 @@ returns-in-Embed-clause-run g c =
     let after = c.embed_file-outcome.new.out in
     let options = c.in-Embed.options in
     let run = embed_run before after c.embed_file-outcome.result c.in-Embed.file.now options.path.now (option_map (λ path. path.now) options.root)
-        (λ bytes. IsEmbedding g.W.Write.contents g.R.File.Write.contents before after options.form options.strong_name bytes options.path.now)
-        (λ bytes given outcome. WarnsOf options.strong_name bytes c.args.err.now c.embed_file-outcome.new.err) c.embed_file-outcome.ensures in
+    (λ bytes. IsEmbedding g.W.Write.contents g.R.File.Write.contents before after options.form options.strong_name bytes options.path.now)
+    (λ bytes given outcome. WarnsOf options.strong_name bytes c.args.err.now c.embed_file-outcome.new.err) c.embed_file-outcome.ensures in
     subst (λ (task : Task). IsRunOf g.W.Write.contents before after g.R.File.Write.contents task c.args.ask.now c.status-in-Embed.result) (sym c.in-Embed.is)
     (c.embed_file-outcome.result, run, c.status-in-Embed.ensures.status)
 
