@@ -127,7 +127,7 @@ READ = {
     "difference": lambda it: clim.compare(it, it),
     "Tables.of": lambda it: clim.Tables.of(it),
     "root": lambda it: clim.Tables.of(it).root(),
-    "embed": lambda it: it.embed(),
+    "embed": lambda it: ends(it.embed, clim.EmbedError),
 }
 
 
