@@ -1,5 +1,5 @@
 //! The bytes of the result, part by part.
-ghost use Rattle.std.specs.Prelude.{◌≡◌, ◌+◌, ◌≤◌, length};
+ghost use Rattle.std.specs.Prelude.{◌≡◌, ◌+◌, ◌≤◌, length, take};
 ghost use Rattle.file_ranges.specs.Fields.{headers_end};
 ghost use Rattle.embedding.specs.Bytes.{changed, with_bytes};
 ghost use Rattle.embedding.specs.Embedded.{copied, strong_name_changes, certificate_changes, with_checksum};
@@ -35,6 +35,15 @@ impl<'a> EmbedPlan<'a> {
         ensures { out.new ≡ result_of self.now }
     {
         self.copy_file(out);
+        self.put_changes(out);
+    }
+
+    /// Writes what changes over the bytes of the file that stay.
+    pub(crate) fn put_changes(&self, out: &mut [u8])
+        requires long { length out.old ≡ (target_in self.now).len }
+        requires copied { out.old ≡ copied self.now.file (target_in self.now) }
+        ensures { out.new ≡ result_of self.now }
+    {
         self.put_slot(out);
         self.put_metadata(out);
         self.put_strong_name(out);
@@ -52,6 +61,17 @@ impl<'a> EmbedPlan<'a> {
         let (bytes, _) = self.headers.file().split_at(kept);
         out[..kept].copy_from_slice(bytes);
         out[kept..].fill(0);
+    }
+
+    /// The bytes of the file that stay.
+    pub(crate) fn kept(&self) -> &[u8]
+        ensures bytes { result.now ≡ take (target_in self.now).kept self.now.file }
+        ensures length { length result.now ≡ (target_in self.now).kept }
+        ensures whole { length (result_of self.now) ≡ (target_in self.now).len }
+        ensures within { (target_in self.now).kept ≤ (target_in self.now).len }
+    {
+        let (bytes, _) = self.headers.file().split_at(self.target.kept as usize);
+        bytes
     }
 
     /// Changes the PE headers for the slot of the root (II.25.2, II.25.3).

@@ -102,8 +102,9 @@ impl<'a> EmbedPlan<'a> {
         ensures { IfOk result (λ bytes. bytes.items ≡ result_of self.now) }
     {
         let mut bytes = Vec::with_capacity(alloc, self.len())?;
+        bytes.extend_from_slice(self.kept())?;
         bytes.resize(self.len(), 0)?;
-        self.fill(&mut bytes);
+        self.put_changes(&mut bytes);
         Ok(bytes)
     }
 }

@@ -4,7 +4,7 @@ use Rattle.embedding.specs.Embedded.{certificate_changes, copied, strong_name_ch
 use Rattle.embedding.specs.Slots.{metadata_changes, slot_changes, root_bytes}
 use Rattle.embedding.specs.Planned.{target_in}
 use Rattle.embedding.proofs.Results.{changed_in_parts}
-use Rattle.embedding.proofs.plan.EmbedPlan.put_parts.Goals as goal
+use Rattle.embedding.proofs.plan.EmbedPlan.put_changes.Goals as goal
 
 pub returns : goal.returns
 returns c =
@@ -16,5 +16,5 @@ returns c =
     ∙ ap (changed (certificate_changes plan.file)) (c.put_strong_name.ensures
     ∙ ap (changed (strong_name_changes plan.header plan.strong_name)) (c.put_metadata.ensures
     ∙ ap (changed (metadata_changes plan.header (length plan.root) target)) (c.put_slot.ensures
-    ∙ ap (changed (slot_changes plan.file (length plan.root) plan.slot target)) c.copy_file.ensures)))
+    ∙ ap (changed (slot_changes plan.file (length plan.root) plan.slot target)) c.requires.copied)))
     ∙ changed_in_parts plan (copied plan.file target)))
