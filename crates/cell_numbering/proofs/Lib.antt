@@ -7,3 +7,4 @@ pub mod WrittenLemmas
 pub mod TextLemmas
 pub mod StartLemmas
 pub mod PlainLemmas
+pub mod EqualUseLemmas

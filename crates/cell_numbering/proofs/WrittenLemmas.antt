@@ -32,6 +32,9 @@ module _ (uses : List BlobUse) (blobs : List (List ℕ)) (all : AllZip IsUseOf u
   short_blobs count = All-take (λ blob. length blob < 2 ^ 29) count blobs
       (All-from_get_or (λ blob. length blob < 2 ^ 29) blobs [] (λ k h. (zip_at IsUseOf uses blobs k found [] all (omega (arith, h, zip_length IsUseOf uses blobs all))).short))
 
+pub next_has : (bytes : List BlobBytes) (next : BlobBytes) → bytes_at (bytes ++ next ∷ []) (length bytes) ≡ bytes_in next
+next_has bytes next = ap bytes_in (get_or_push bytes next no_bytes (length bytes) refl)
+
 module _ (bytes : List BlobBytes) (firsts : List ℕ) (are : AreWritten bytes firsts) where
   abbrev used : List (List ℕ)
   used = all_bytes bytes firsts
@@ -41,42 +44,71 @@ module _ (bytes : List BlobBytes) (firsts : List ℕ) (are : AreWritten bytes fi
 
   -- ---- one more use
 
-  module _ (next : BlobBytes) where
+  module _ (next : BlobBytes) (at : ℕ) (blob : List ℕ) (within : at ≤ length bytes) (has : bytes_at (bytes ++ next ∷ []) at ≡ blob) where
     -- its blob is the last one
-    pub bytes_push : all_bytes (bytes ++ next ∷ []) (firsts ++ length bytes ∷ []) ≡ all_bytes bytes firsts ++ bytes_in next ∷ []
+    pub bytes_push : all_bytes (bytes ++ next ∷ []) (firsts ++ at ∷ []) ≡ all_bytes bytes firsts ++ blob ∷ []
     bytes_push =
         let more = bytes ++ next ∷ [] in
-        map_push (bytes_at more) firsts (length bytes)
-        ∙ ap (λ blob. map (bytes_at more) firsts ++ blob ∷ []) (ap bytes_in (get_or_push bytes next no_bytes (length bytes) refl))
-        ∙ ap (λ list. list ++ bytes_in next ∷ []) (same_map (λ (k : ℕ). k < length bytes) (bytes_at more) (bytes_at bytes)
+        map_push (bytes_at more) firsts at ∙ ap (λ b. map (bytes_at more) firsts ++ b ∷ []) has
+        ∙ ap (λ list. list ++ blob ∷ []) (same_map (λ (k : ℕ). k < length bytes) (bytes_at more) (bytes_at bytes)
         (λ k low. ap bytes_in (get_or_append_left bytes (next ∷ []) no_bytes k low)) firsts
         (All-from_get_or (λ (k : ℕ). k < length bytes) firsts 0 (λ k h. omega (arith, (are.each k h).within, h, are.len))))
 
-    pub written_push : AreWritten (bytes ++ next ∷ []) (firsts ++ length bytes ∷ [])
-    written_push =
-        let blob = bytes_in next in
+    pub written_push : HasText (used ++ blob ∷ []) (length firsts) at → (length blob ≡ 0 → at ≡ length firsts) → AreWritten (bytes ++ next ∷ []) (firsts ++ at ∷ [])
+    written_push is none =
         let all = used ++ blob ∷ [] in
-        let others = firsts ++ length bytes ∷ [] in
-        let long = length_push firsts (length bytes) in
-        let old : (k : ℕ) → k < length firsts → slice_index others k ≡ slice_index firsts k = λ k h. get_or_append_left firsts (length bytes ∷ []) 0 k h in
-        let last : slice_index others (length firsts) ≡ length firsts = get_or_push firsts (length bytes) 0 (length firsts) refl ∙ sym are.len in
+        let others = firsts ++ at ∷ [] in
+        let long = length_push firsts at in
+        let old : (k : ℕ) → k < length firsts → slice_index others k ≡ slice_index firsts k = λ k h. get_or_append_left firsts (at ∷ []) 0 k h in
+        let last : slice_index others (length firsts) ≡ at = get_or_push firsts at 0 (length firsts) refl in
+        let own : used_at all (length firsts) ≡ blob = get_or_push used blob [] (length firsts) count in
         let read : (k : ℕ) → k < length firsts → used_at all k ≡ used_at used k = λ k h. get_or_append_left used (blob ∷ []) [] k (omega (arith, h, count)) in
         let each : (k : ℕ) → k < length others → HasText all k (slice_index others k) = λ k h. ⊎_elim
         (λ (low : k < length firsts).
-        let has = are.each k low in
-        subst (HasText all k) (sym (old k low)) (record { within = has.within; same = read (slice_index firsts k) (omega (arith, has.within, low)) ∙ has.same ∙ sym (read k low) }))
-        (λ (at : k ≡ length firsts). subst (λ i. HasText all i (slice_index others i)) (sym at)
-        (subst (HasText all (length firsts)) (sym last) (record { within = omega arith; same = refl })))
+        let old_has = are.each k low in
+        subst (HasText all k) (sym (old k low)) (record { within = old_has.within; same = read (slice_index firsts k) (omega (arith, old_has.within, low)) ∙ old_has.same ∙ sym (read k low) }))
+        (λ (here : k ≡ length firsts). subst (λ i. HasText all i (slice_index others i)) (sym here) (subst (HasText all (length firsts)) (sym last) is))
         (last_cases k (length firsts) (omega (arith, h, long))) in
-        let empty : (k : ℕ) → k < length others → length (used_at all k) ≡ 0 → slice_index others k ≡ k = λ k h none. ⊎_elim
-        (λ (low : k < length firsts). old k low ∙ are.empty k low (ap length (sym (read k low)) ∙ none))
-        (λ (at : k ≡ length firsts). subst (λ i. slice_index others i ≡ i) (sym at) last)
+        let empty : (k : ℕ) → k < length others → length (used_at all k) ≡ 0 → slice_index others k ≡ k = λ k h void. ⊎_elim
+        (λ (low : k < length firsts). old k low ∙ are.empty k low (ap length (sym (read k low)) ∙ void))
+        (λ (here : k ≡ length firsts). subst (λ i. slice_index others i ≡ i) (sym here) (last ∙ none (ap length (sym own ∙ ap (used_at all) (sym here)) ∙ void)))
         (last_cases k (length firsts) (omega (arith, h, long))) in
         record {
           len = omega (arith, long, are.len, length_push bytes next);
           each = subst (λ (list : List (List ℕ)). (k : ℕ) → k < length others → HasText list k (slice_index others k)) (sym bytes_push) each;
           empty = subst (λ (list : List (List ℕ)). (k : ℕ) → k < length others → length (used_at list k) ≡ 0 → slice_index others k ≡ k) (sym bytes_push) empty;
         }
+
+  -- the next use is its own
+  pub next_text : (blob : List ℕ) → HasText (used ++ blob ∷ []) (length firsts) (length bytes)
+  next_text blob = subst (HasText (used ++ blob ∷ []) (length firsts)) are.len (record { within = omega arith; same = refl })
+
+  -- the blob of the use is another one's, which is not empty
+  module _ (known : ℕ) (low : known < length firsts) (some : 0 < length (used_at used known)) where
+    abbrev known_first : ℕ
+    known_first = slice_index firsts known
+
+    known_within : known_first < length bytes
+    known_within = omega (arith, (are.each known low).within, low, are.len)
+
+    pub known_has : (next : BlobBytes) → bytes_at (bytes ++ next ∷ []) known_first ≡ used_at used known
+    known_has next = ap bytes_in (get_or_append_left bytes (next ∷ []) no_bytes known_first known_within) ∙ sym (bytes_read bytes firsts known low)
+
+    pub known_written : (next : BlobBytes) → AreWritten (bytes ++ next ∷ []) (firsts ++ known_first ∷ [])
+    known_written next =
+        let blob = used_at used known in
+        let all = used ++ blob ∷ [] in
+        let old = are.each known low in
+        let below : known_first < length used = omega (arith, old.within, low, count) in
+        written_push next known_first blob (omega (arith, known_within)) (known_has next)
+        (record {
+          within = omega (arith, old.within, low);
+          same = get_or_append_left used (blob ∷ []) [] known_first below ∙ old.same ∙ sym (get_or_push used blob [] (length firsts) count);
+        })
+        (λ none. absurd (omega (arith, none, some)))
+
+    pub known_push : (next : BlobBytes) → all_bytes (bytes ++ next ∷ []) (firsts ++ known_first ∷ []) ≡ used ++ used_at used known ∷ []
+    known_push next = bytes_push next known_first (used_at used known) (omega (arith, known_within)) (known_has next)
 
   -- ---- the bytes of the first uses alone
 

@@ -1,3 +1,4 @@
+pub mod EqualUses
 pub mod BlobBytes
 pub mod BlobUses
 pub mod CellIndexes

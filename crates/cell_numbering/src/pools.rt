@@ -8,9 +8,11 @@ ghost use Rattle.metadata.specs.Metadata.{Metadata};
 ghost use Rattle.root_writer.specs.Pools.{pools_of as pools_in};
 ghost use Rattle.root_writer.specs.Numbered.{IsNumbering, IsTooLong};
 ghost use Rattle.cell_numbering.specs.BlobUses.{AreBlobUses};
+ghost use Rattle.cell_numbering.specs.EqualUses.{AreEqualUses};
 ghost use Rattle.cell_numbering.specs.HeapUses.{IsUseOf};
 
 use crate::blob_uses::BlobUses;
+use crate::equal_uses::equal_uses;
 use crate::heap_uses::heap_uses;
 use crate::numbers::numbers_of;
 use crate::numbers_so_far::Indexes;
@@ -31,16 +33,22 @@ fn guid_plan(alloc: Global, guids: &[Option<[u8; 16]>]) -> Result<HeapPlan, Pool
     SortedGuids::sort(alloc, guids)?.lay_out(alloc)
 }
 
-/// The blob heap of the canonical root, planned from all blobs, and the index of each use (II.24.2.4).
-fn blob_plan(alloc: Global, uses: &BlobUses<'_>) -> Result<(HeapPlan, Vec<u32>), PoolError>
-    requires { ¬ (¬ ((blobs : List (List ℕ)) × AreBlobUses IsUseOf uses.now blobs)) }
+/// The blob heap of the canonical root, planned from all blobs, and the index of each use (II.24.2.4). For each kept use
+/// an earlier one with the same blob is given, or itself.
+fn blob_plan(
+    alloc: Global,
+    uses: &BlobUses<'_>,
+    equal: &[usize],
+) -> Result<(HeapPlan, Vec<u32>), PoolError>
+    requires equal { AreEqualUses uses.now.kept.items equal.now }
+    requires uses { ¬ (¬ ((blobs : List (List ℕ)) × AreBlobUses IsUseOf uses.now blobs)) }
     ensures heap { (blobs : List (List ℕ)) → AreBlobUses IsUseOf uses.now blobs → IfOk result (λ plan. plan.0.heap ≡ blob_heap (distinct blobs)) }
     ensures indexes { (blobs : List (List ℕ)) → AreBlobUses IsUseOf uses.now blobs
         → IfOk result (λ plan. plan.1.items ≡ map (blob_index (distinct blobs)) blobs) }
     ensures full { (blobs : List (List ℕ)) → AreBlobUses IsUseOf uses.now blobs → result ≡ Err PoolError.Full
         → 2 ^ 30 < length (blob_heap (distinct blobs)) }
 {
-    let WrittenBlobs { bytes, firsts, .. } = written_blobs(alloc, &uses.kept)?;
+    let WrittenBlobs { bytes, firsts, .. } = written_blobs(alloc, &uses.kept, equal)?;
     let blobs = slices_of(alloc, &bytes, &firsts)?;
     let plan = SortedBlobs::sort_from(alloc, &blobs, firsts)?.lay_out(alloc)?;
     let indexes = indexes_of_uses(alloc, &uses.of_use, plan.indexes())?;
@@ -67,7 +75,9 @@ pub fn pools_of<S: ReadCells>(alloc: Global, source: &S) -> Result<(TextPool, Nu
     let uses = heap_uses(alloc, source)?;
     let (texts, text_indexes) = uses.texts.plan(alloc)?;
     let guids = guid_plan(alloc, &uses.guids)?;
-    let (blobs, blob_indexes) = blob_plan(alloc, &uses.blobs)?;
+    let equal = equal_uses(alloc, source, &uses.blobs.kept)?;
+    let (blobs, blob_indexes) = blob_plan(alloc, &uses.blobs, &equal)?;
+    drop(equal);
     drop(uses);
     let indexes = Indexes {
         texts: &text_indexes,

@@ -1,9 +1,11 @@
-ghost use Rattle.std.specs.Prelude.{◌≡◌, ◌^◌, ◌<◌, ◌≤◌, ◌++◌, ◌∷◌, [], ℕ, List, All, Err, IfOk, length, slice_index};
+ghost use Rattle.std.specs.Prelude.{◌≡◌, ◌^◌, ◌<◌, ◌≤◌, ◌++◌, ◌∷◌, [], ℕ, ◌+◌, List, All, Err, IfOk, length, take, vec_len, slice_index};
 ghost use Rattle.std.specs.List.{AllZip};
 ghost use Rattle.heap_pools.specs.declared.pool_error.PoolError.TheVariants.{Full};
 ghost use Rattle.heap_pools.specs.BlobHeap.{blob_heap};
 ghost use Rattle.heap_pools.specs.Distinct.{distinct};
+ghost use Rattle.heap_pools.specs.Ranking.{used_at};
 ghost use Rattle.heap_pools.specs.Uses.{bytes_of};
+ghost use Rattle.cell_numbering.specs.EqualUses.{AreEqualUses, IsEqualUse};
 ghost use Rattle.cell_numbering.specs.HeapUses.{IsUseOf};
 ghost use Rattle.cell_numbering.specs.BlobBytes.{AreWritten, all_bytes, bytes_at, bytes_in};
 
@@ -123,7 +125,57 @@ fn with_next<'u>(
     })
 }
 
-/// The blobs that are written for these uses.
+/// The blobs with that of one more use, which is the blob of an earlier one.
+fn with_known<'u>(written: WrittenBlobs<'u>, known: usize) -> Result<WrittenBlobs<'u>, AllocError>
+    requires written { AreWritten written.bytes.items written.firsts.items }
+    requires known { known < vec_len written.firsts }
+    requires some { 0 < length (used_at (all_bytes written.bytes.items written.firsts.items) known) }
+    ensures written { IfOk result (λ after. AreWritten after.bytes.items after.firsts.items) }
+    ensures next { IfOk result (λ after. all_bytes after.bytes.items after.firsts.items
+        ≡ all_bytes written.entry.bytes.items written.entry.firsts.items ++ used_at (all_bytes written.entry.bytes.items written.entry.firsts.items) known ∷ []) }
+{
+    let WrittenBlobs {
+        mut bytes,
+        mut firsts,
+        room,
+    } = written;
+    let first = firsts[known];
+    firsts.push(first)?;
+    bytes.push(BlobBytes::Found(&[]))?;
+    Ok(WrittenBlobs {
+        bytes,
+        firsts,
+        room,
+    })
+}
+
+/// The blobs with that of the next use. At `first` is an earlier use of the same blob, or the next use itself.
+fn with_use<'u>(
+    alloc: Global,
+    written: WrittenBlobs<'u>,
+    uses: &'u [BlobUse<'_>],
+    use_index: usize,
+    first: usize,
+) -> Result<WrittenBlobs<'u>, PoolError>
+    requires use_index { use_index < length uses.now }
+    requires equal { IsEqualUse uses.now use_index first }
+    requires uses { ¬ (¬ ((blobs : List (List ℕ)) × AllZip IsUseOf uses.now blobs)) }
+    requires written { AreWritten written.bytes.items written.firsts.items }
+    requires blobs { (blobs : List (List ℕ)) → AllZip IsUseOf uses.now blobs → all_bytes written.bytes.items written.firsts.items ≡ take use_index blobs }
+    ensures written { IfOk result (λ after. AreWritten after.bytes.items after.firsts.items) }
+    ensures blobs { (blobs : List (List ℕ)) → AllZip IsUseOf uses.now blobs
+        → IfOk result (λ after. all_bytes after.bytes.items after.firsts.items ≡ take (use_index + 1) blobs) }
+    ensures full { (blobs : List (List ℕ)) → AllZip IsUseOf uses.now blobs → result ≡ Err PoolError.Full
+        → 2 ^ 30 < length (blob_heap (distinct (take (use_index + 1) blobs))) }
+{
+    if first < use_index {
+        return Ok(with_known(written, first)?);
+    }
+    let next = written_bytes(alloc, &uses[use_index])?;
+    merged(alloc, with_next(written, next)?)
+}
+
+/// The blobs that are written for these uses. For each an earlier one with the same blob is given, or itself.
 ///
 /// Their encodings take memory in proportion to the number of uses and to the heap of these blobs.
 ///
@@ -133,8 +185,10 @@ fn with_next<'u>(
 pub fn written_blobs<'u>(
     alloc: Global,
     uses: &'u [BlobUse<'_>],
+    firsts: &[usize],
 ) -> Result<WrittenBlobs<'u>, PoolError>
-    requires { ¬ (¬ ((blobs : List (List ℕ)) × AllZip IsUseOf uses.now blobs)) }
+    requires equal { AreEqualUses uses.now firsts.now }
+    requires uses { ¬ (¬ ((blobs : List (List ℕ)) × AllZip IsUseOf uses.now blobs)) }
     ensures written { IfOk result (λ written. AreWritten written.bytes.items written.firsts.items) }
     ensures blobs { (blobs : List (List ℕ)) → AllZip IsUseOf uses.now blobs → IfOk result (λ written. all_bytes written.bytes.items written.firsts.items ≡ blobs) }
     ensures full { (blobs : List (List ℕ)) → AllZip IsUseOf uses.now blobs → result ≡ Err PoolError.Full
@@ -146,10 +200,8 @@ pub fn written_blobs<'u>(
         firsts: Vec::with_capacity(alloc, uses.len())?,
         room: room_for(uses.len(), 0),
     };
-    for found in uses {
-        let next = written_bytes(alloc, found)?;
-        written = with_next(written, next)?;
-        written = merged(alloc, written)?;
+    for use_index in 0..uses.len() {
+        written = with_use(alloc, written, uses, use_index, firsts[use_index])?;
     }
     Ok(written)
 }

@@ -6,3 +6,4 @@ pub mod FirstsLemmas
 pub mod GuidPlanLemmas
 pub mod BytesLemmas
 pub mod UserHeapLemmas
+pub mod OverlappingLemmas

@@ -4,3 +4,4 @@ pub mod GuidPoolView
 pub mod HeapPlanView
 pub mod UserEntries
 pub mod UserHeap
+pub mod OverlappingBlobs

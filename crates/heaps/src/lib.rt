@@ -28,6 +28,7 @@ mod first_byte;
 mod guid_pool;
 mod heap_plan;
 pub mod laws;
+mod overlapping_blobs;
 mod user_heap;
 mod user_laws;
 
@@ -39,5 +40,6 @@ pub use heap_entries::{
 };
 pub use heap_plan::{HeapPlan, SortedBlobs, SortedGuids};
 pub use heap_pools::{HEAP_LIMIT, PoolError, SortedTexts, TextPool};
+pub use overlapping_blobs::equal_blobs;
 pub use packed::{Fault, FaultCode};
 pub use user_heap::UserHeap;

@@ -80,6 +80,10 @@ impl ReadCells for Neighbours<'_, '_> {
         self.view.strings_heap()
     }
 
+    fn blobs_heap(&self) -> Option<&[u8]> {
+        self.view.blobs_heap()
+    }
+
     fn run_cursors(&self) -> RunCursors {
         self.view.run_cursors()
     }

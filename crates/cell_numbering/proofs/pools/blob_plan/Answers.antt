@@ -7,12 +7,16 @@ use Rattle.heap_pools.specs.Uses.{bytes_of}
 use Rattle.cell_numbering.specs.declared.blob_use.BlobUse.{BlobUse}
 use Rattle.cell_numbering.specs.declared.blob_bytes.BlobBytes.{BlobBytes}
 use Rattle.cell_numbering.specs.BlobBytes.{all_bytes}
+use Rattle.cell_numbering.specs.EqualUses.{AreEqualUses}
 use Rattle.cell_numbering.specs.HeapUses.{IsUseOf}
 use Rattle.cell_numbering.proofs.BlobLemmas.{indexes_are}
 use Rattle.cell_numbering.proofs.pools.blob_plan.Goals as goal
 
-pub written_blobs-requires : goal.written_blobs-requires
-written_blobs-requires c = λ none. c.requires (λ some.
+pub written_blobs-requires-clause-equal : goal.written_blobs-requires-clause-equal
+written_blobs-requires-clause-equal c = subst (λ (uses : List BlobUse). AreEqualUses uses c.args.equal.now) (sym c.deref.ensures.value) c.requires.equal
+
+pub written_blobs-requires-clause-uses : goal.written_blobs-requires-clause-uses
+written_blobs-requires-clause-uses c = λ none. c.requires.uses (λ some.
     none (some.1.kept, subst (λ (uses : List BlobUse). AllZip IsUseOf uses some.1.kept) (sym c.deref.ensures.value) some.1.each))
 
 pub returns-clause-indexes : goal.returns-clause-indexes

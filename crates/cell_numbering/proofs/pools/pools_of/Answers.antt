@@ -1,5 +1,6 @@
 use Rattle.std.proofs.Common.{◌≡◌, ◌≢◌, ◌<◌, ◌^◌, ℕ, List, [], All, Err, inl, inr, length, get_or, map, sym, ap, subst, ◌∙◌, rules}
 use Rattle.std.specs.Prelude.{flat_map}
+use Rattle.std.specs.List.{AllZip}
 use Rattle.std.proofs.lemmas.Grind.{not_there}
 use Rattle.std.proofs.lemmas.List.Elements.{All-get_or, All-from_get_or}
 use Rattle.heap_entries.specs.Entries.{HasNoNul}
@@ -10,7 +11,9 @@ use Rattle.heap_pools.specs.TextHeap.{holders, text_heap, text_index}
 use Rattle.heap_pools.specs.declared.pool_error.PoolError.TheVariants.{Full}
 use Rattle.root_writer.specs.Pools.{blobs_of, guids_of, texts_of, used}
 use Rattle.cell_numbering.specs.declared.numbers_so_far.Indexes.{Indexes}
-use Rattle.cell_numbering.specs.HeapUses.{AreIndexes, all_cells, guid_of}
+use Rattle.cell_numbering.specs.declared.blob_use.BlobUse.{BlobUse}
+use Rattle.cell_numbering.specs.EqualUses.{AreEqualUses}
+use Rattle.cell_numbering.specs.HeapUses.{AreIndexes, IsUseIn, all_cells, guid_of}
 use Rattle.cell_numbering.specs.TextUses.{used_texts}
 use Rattle.cell_numbering.proofs.UseLemmas.{guids_are, used_is, uses_of}
 use Rattle.cell_numbering.proofs.pools.pools_of.Goals as goal
@@ -38,8 +41,18 @@ returns-in_err-guids-clause-full g c = λ model is e.
     let same = ap (flat_map given) (c.deref.ensures.value ∙ (c.in_ok-uses.ensures model is).guids) ∙ guids_are (all_cells model) ∙ sym (used_is guids_of model) in
     inr (inr (subst (λ (l : List (List ℕ)). 2 ^ 30 < length (guid_heap (distinct l))) same (c.guid_plan.ensures.full full)))
 
-pub blob_plan-requires : goal.blob_plan-requires
-blob_plan-requires g c = λ none. not_there c.holds_one.ensures.shown (λ some.
+pub equal_uses-requires : goal.equal_uses-requires
+equal_uses-requires g c = λ model is.
+    let are = (c.in_ok-uses.ensures model is).blobs in
+    (are.kept, subst (λ (uses : List BlobUse). AllZip (IsUseIn (g.S.ReadCells.heap_index c.args.source.now) model) uses are.kept) (sym c.deref-2.ensures.value) are.each)
+
+pub blob_plan-requires-clause-equal : goal.blob_plan-requires-clause-equal
+blob_plan-requires-clause-equal g c =
+    subst (λ (firsts : List ℕ). AreEqualUses c.in_ok-uses.uses.blobs.kept.items firsts) (sym c.deref-3.ensures.value)
+    (subst (λ (uses : List BlobUse). AreEqualUses uses c.in_ok-equal.equal.items) c.deref-2.ensures.value c.in_ok-equal.ensures)
+
+pub blob_plan-requires-clause-uses : goal.blob_plan-requires-clause-uses
+blob_plan-requires-clause-uses g c = λ none. not_there c.holds_one.ensures.shown (λ some.
     let blobs = flat_map blobs_of (all_cells some.0) in
     none (
       blobs,
@@ -63,13 +76,13 @@ returns-clause-pools g c = λ model is.
     let texts_are : used_texts c.in_ok-uses.uses.texts ≡ texts = in_uses.texts.texts in
     let guids_given : flat_map given guids ≡ used guids_of model = guids_are (all_cells model) ∙ sym (used_is guids_of model) in
     let guids_is = c.deref.ensures.value ∙ in_uses.guids in
-    let indexes : Indexes = record { texts = c.deref-2.result; guids = c.indexes.result; blobs = c.deref-3.result } in
+    let indexes : Indexes = record { texts = c.deref-4.result; guids = c.indexes.result; blobs = c.deref-5.result } in
     let are : AreIndexes model indexes = record {
-      texts = c.deref-2.ensures.value ∙ c.in_ok-texts.ensures.indexes ∙ ap (λ (l : List (List ℕ)). map (text_index (holders l)) l) texts_are
+      texts = c.deref-4.ensures.value ∙ c.in_ok-texts.ensures.indexes ∙ ap (λ (l : List (List ℕ)). map (text_index (holders l)) l) texts_are
           ∙ ap (λ (l : List (List ℕ)). map (text_index (holders l)) texts) (sym (used_is texts_of model));
       guids = c.indexes.ensures ∙ c.in_ok-guids.ensures.indexes ∙ ap (λ l. map (guid_index (distinct (flat_map given l))) l) guids_is
           ∙ ap (λ (l : List (List ℕ)). map (guid_index (distinct l)) guids) guids_given;
-      blobs = c.deref-3.ensures.value ∙ c.in_ok-blobs.ensures.indexes blobs uses ∙ ap (λ (l : List (List ℕ)). map (blob_index (distinct l)) blobs) (sym (used_is blobs_of model));
+      blobs = c.deref-5.ensures.value ∙ c.in_ok-blobs.ensures.indexes blobs uses ∙ ap (λ (l : List (List ℕ)). map (blob_index (distinct l)) blobs) (sym (used_is blobs_of model));
     } in (
       c.in_ok-texts.ensures.entries ∙ ap holders (texts_are ∙ sym (used_is texts_of model)),
       record {
