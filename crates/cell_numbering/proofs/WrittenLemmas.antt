@@ -1,7 +1,7 @@
 -- The bytes of the blobs that are written, use by use, and without those of equal ones.
 use Rattle.std.proofs.Common.{◌≡◌, ℕ, ◌+◌, ◌<◌, ◌^◌, List, [], ◌∷◌, ◌++◌, All, length, get_or, map, take, slice_index, refl, sym, ap, subst, ◌∙◌, ⊎_elim, arith}
 use Rattle.std.specs.List.{AllZip}
-use Rattle.std.proofs.lemmas.List.{take_more, ext_get_or, get_or-map, get_or_append_left, get_or_push, length-map, length_push, map_push}
+use Rattle.std.proofs.lemmas.List.{take_more, ext_get_or, get_or-map, get_or_append_left, get_or_push, length-map, length-take-le, length_push, map_push}
 use Rattle.std.proofs.lemmas.List.Elements.{All-from_get_or, All-take}
 use Rattle.heap_pools.specs.Ranking.{HasText, IsFirstUse, used_at}
 use Rattle.heap_pools.proofs.FirstLemmas.{last_cases}
@@ -12,7 +12,7 @@ use Rattle.cell_numbering.specs.BlobBytes.{AreWritten, all_bytes, bytes_at, byte
 use Rattle.cell_numbering.specs.declared.blob_use.BlobUse.{BlobUse}
 use Rattle.cell_numbering.specs.HeapUses.{IsUseOf}
 use Rattle.cell_numbering.proofs.BlobLemmas.{same_map}
-use Rattle.cell_numbering.proofs.UseLemmas.{zip_at, zip_length}
+use Rattle.cell_numbering.proofs.UseLemmas.{some_use, zip_at, zip_length}
 
 abbrev pub no_bytes : BlobBytes
 no_bytes = Found (record { ref_ptr = (0, 0); now = [] })
@@ -20,17 +20,20 @@ no_bytes = Found (record { ref_ptr = (0, 0); now = [] })
 pub bytes_read : (bytes : List BlobBytes) (firsts : List ℕ) (k : ℕ) → k < length firsts → used_at (all_bytes bytes firsts) k ≡ bytes_at bytes (slice_index firsts k)
 bytes_read bytes firsts k h = get_or-map (bytes_at bytes) firsts k 0 [] h
 
-module _ (uses : List BlobUse) (blobs : List (List ℕ)) (all : AllZip IsUseOf uses blobs) (i : ℕ) (found : BlobUse) (below : i < length uses) (here : found ≡ get_or uses i found) where
+module _ (uses : List BlobUse) (blobs : List (List ℕ)) (all : AllZip IsUseOf uses blobs) (i : ℕ) (below : i < length uses) where
   -- the blob of one more use
-  pub next_blob : (before : List (List ℕ)) (blob : List ℕ) → before ≡ take i blobs → ((b : List ℕ) → IsUseOf found b → blob ≡ b) → before ++ blob ∷ [] ≡ take (i + 1) blobs
+  pub next_blob : (before : List (List ℕ)) (blob : List ℕ) → before ≡ take i blobs → blob ≡ used_at blobs i → before ++ blob ∷ [] ≡ take (i + 1) blobs
   next_blob before blob are is =
-      ap (λ list. list ++ blob ∷ []) are
-      ∙ ap (λ b. take i blobs ++ b ∷ []) (is (get_or blobs i []) (subst (λ (u : BlobUse). IsUseOf u (get_or blobs i [])) (sym here) (zip_at IsUseOf uses blobs i found [] all below)))
-      ∙ sym (take_more blobs i [] (omega (arith, below, zip_length IsUseOf uses blobs all)))
+      ap (λ list. list ++ blob ∷ []) are ∙ ap (λ b. take i blobs ++ b ∷ []) is ∙ sym (take_more blobs i [] (omega (arith, below, zip_length IsUseOf uses blobs all)))
 
   pub short_blobs : (count : ℕ) → All (λ blob. length blob < 2 ^ 29) (take count blobs)
   short_blobs count = All-take (λ blob. length blob < 2 ^ 29) count blobs
-      (All-from_get_or (λ blob. length blob < 2 ^ 29) blobs [] (λ k h. (zip_at IsUseOf uses blobs k found [] all (omega (arith, h, zip_length IsUseOf uses blobs all))).short))
+      (All-from_get_or (λ blob. length blob < 2 ^ 29) blobs [] (λ k h. (zip_at IsUseOf uses blobs k (some_use uses i below) [] all (omega (arith, h, zip_length IsUseOf uses blobs all))).short))
+
+  -- the uses so far
+  pub count_so_far : (bytes : List BlobBytes) (firsts : List ℕ) → all_bytes bytes firsts ≡ take i blobs → length firsts ≡ i
+  count_so_far bytes firsts are =
+      sym (length-map firsts (bytes_at bytes)) ∙ ap length are ∙ length-take-le i blobs (omega (arith, below, zip_length IsUseOf uses blobs all))
 
 pub next_has : (bytes : List BlobBytes) (next : BlobBytes) → bytes_at (bytes ++ next ∷ []) (length bytes) ≡ bytes_in next
 next_has bytes next = ap bytes_in (get_or_push bytes next no_bytes (length bytes) refl)
