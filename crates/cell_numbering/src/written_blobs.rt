@@ -172,7 +172,8 @@ fn with_use<'u>(
         return Ok(with_known(written, first)?);
     }
     let next = written_bytes(alloc, &uses[use_index])?;
-    merged(alloc, with_next(written, next)?)
+    let written = with_next(written, next)?;
+    merged(alloc, written)
 }
 
 /// The blobs that are written for these uses. For each an earlier one with the same blob is given, or itself.
