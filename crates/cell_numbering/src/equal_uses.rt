@@ -1,4 +1,4 @@
-ghost use Rattle.std.specs.Prelude.{◌≡◌, ◌×◌, ℕ, List, IfOk, OnOk, length, map, vec_len, slice_index};
+ghost use Rattle.std.specs.Prelude.{◌≡◌, ℕ, List, IfOk, OnOk, length, map, vec_len, slice_index};
 ghost use Rattle.std.specs.List.{AllZip};
 ghost use Rattle.metadata.specs.Metadata.{Metadata};
 ghost use Rattle.cell_numbering.specs.EqualUses.{AreEqualUses, plain_index_of};
