@@ -10,9 +10,11 @@ use Rattle.metadata.specs.Model.{IsModel, IsModelOfFile, has_native_entry_point}
 use Rattle.cli_input.specs.declared.opened.Input.{Input}
 use Rattle.cli_input.specs.declared.opened.Input.TheVariants.{BareRoot, File}
 use Rattle.cli_lines.specs.declared.names.Name.TheVariants as name
-use Rattle.cli_lines.specs.Lines.{Part, word, field, number, hex, text, guid}
+use Rattle.cli_lines.specs.Lines.{Part, word, field, number, text, guid}
 use Rattle.cli_outline.specs.Parts.{bytes_of, number_of, text_of}
 use Rattle.cli_print.specs.RootLines.{version_line}
+use Rattle.pe.specs.Headers.{magic}
+use Rattle.cli_info.specs.ImageLines.{debug_size, entry_line, flags_line, image_line, machine, machine_digits, sizes_line}
 use Rattle.cli_info.specs.Identities.{identity_text, token_of_key, token_of_reference}
 use Rattle.cli_info.specs.declared.row_lines.Kind.{Kind}
 use Rattle.cli_info.specs.declared.row_lines.Kind.TheVariants.{Assembly, Module, Reference}
@@ -77,19 +79,7 @@ row_line Reference model row = reference_line (reference_identity model row)
 abbrev pub row_lines : Kind → Metadata → List (List Part)
 row_lines kind model = map (row_line kind model) (range_with_len 1 (count_in model (table_of kind)))
 
--- ---- lines of the CLI header (II.25.3.3)
-
--- a word, if the flag with this value is set
-abbrev pub flag_word : ℕ → ℕ → List ℕ → List ℕ
-flag_word flags flag of = if flags / flag % 2 == 1 then of else []
-
--- the flags of the runtime; the last word is not the standard's (II.25.3.3.1)
-unfoldable pub flags_line : ℕ → List Part
-flags_line flags =
-    word (codes "flags ") ∷ field name.Flags (hex flags)
-    ∷ word (flag_word flags 0x1 (codes " ILONLY")) ∷ word (flag_word flags 0x2 (codes " 32BITREQUIRED"))
-    ∷ word (flag_word flags 0x8 (codes " STRONGNAMESIGNED")) ∷ word (flag_word flags 0x10 (codes " NATIVE_ENTRYPOINT"))
-    ∷ word (flag_word flags 0x10000 (codes " TRACKDEBUGDATA")) ∷ word (flag_word flags 0x20000 (codes " 32BITPREFERRED")) ∷ []
+-- ---- lines of a file (II.25)
 
 -- the text in a cell, if its row exists
 abbrev pub text_in : Metadata → TableId → ℕ → ℕ → List ℕ
@@ -105,20 +95,12 @@ entry_name token model =
 abbrev pub name_of_entry : CliHeader → Metadata → List ℕ
 name_of_entry header model = if has_native_entry_point header then [] else entry_name header.entry_point_token model
 
-unfoldable pub entry_line : ℕ → List ℕ → List Part
-entry_line token [] = word (codes "entry ") ∷ field name.Entry (hex token) ∷ []
-entry_line token of = word (codes "entry ") ∷ field name.Entry (hex token) ∷ word (codes " ") ∷ field name.Name (text of) ∷ []
-
--- the sizes of the strong name signature and of the managed native header, 0 if there is none
-unfoldable pub sizes_line : CliHeader → List Part
-sizes_line header =
-    word (codes "signature ") ∷ field name.Signature (number header.strong_name_signature.size)
-    ∷ word (codes " native ") ∷ field name.Native (number header.managed_native_header.size) ∷ []
-
-abbrev pub header_lines : Option CliHeader → Metadata → List (List Part)
-header_lines None model = []
-header_lines (Some header) model =
-    flags_line header.flags ∷ entry_line header.entry_point_token (name_of_entry header model) ∷ sizes_line header ∷ []
+-- the lines of a file with a CLI header, and none of a bare root
+abbrev pub file_lines : List ℕ → Option CliHeader → Metadata → List (List Part)
+file_lines file None model = []
+file_lines file (Some header) model =
+    image_line (magic file) (machine_digits (machine file)) (machine file) ∷ flags_line header.flags
+    ∷ entry_line header.entry_point_token (name_of_entry header model) ∷ sizes_line header (debug_size file) ∷ []
 
 -- ---- the report
 
@@ -130,7 +112,8 @@ counts_line model =
     ∷ word (codes " fields ") ∷ field name.Fields (number (count_in model table.Field))
     ∷ word (codes " resources ") ∷ field name.Resources (number (count_in model table.ManifestResource)) ∷ []
 
-abbrev pub info_lines : Option CliHeader → Metadata → List (List Part)
-info_lines header model =
-    row_lines Assembly model ++ (row_lines Module model ++ (version_line model.version ∷ (header_lines header model
+-- of the bytes of a file only those of its PE headers are looked at
+abbrev pub info_lines : List ℕ → Option CliHeader → Metadata → List (List Part)
+info_lines bytes header model =
+    row_lines Assembly model ++ (row_lines Module model ++ (version_line model.version ∷ (file_lines bytes header model
     ++ (counts_line model ∷ row_lines Reference model))))

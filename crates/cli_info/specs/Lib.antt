@@ -1,2 +1,3 @@
 pub mod Identities
+pub mod ImageLines
 pub mod InfoLines

@@ -1,6 +1,7 @@
 //! `clim info`: what one wants to know first of an assembly.
-ghost use Rattle.std.specs.Prelude.{◌≡◌, ◌++◌, ◌∷◌, [], IfErr, IfOk, OnErr, OnOk, Option};
+ghost use Rattle.std.specs.Prelude.{◌≡◌, ◌++◌, ◌∷◌, [], IfErr, IfOk, OnErr, OnOk, Option, Some};
 ghost use Rattle.cli_header.specs.declared.header.CliHeader.{CliHeader as Header};
+ghost use Rattle.cli_info.specs.ImageLines.{HasRoom};
 ghost use Rattle.cli_info.specs.InfoLines.{AreFacts, counts_line, info_lines};
 ghost use Rattle.cli_input.specs.Checked.{IsWhole, rules_of};
 ghost use Rattle.cli_lines.specs.Printed.{Prints};
@@ -8,7 +9,7 @@ ghost use Rattle.metadata.specs.Metadata.{Metadata};
 ghost use Rattle.metadata.specs.Model.{IsModel};
 ghost use Rattle.packed.specs.Rule.{FirstBroken};
 
-use crate::header_lines::print_header;
+use crate::file_lines::print_file;
 use crate::row_lines::{Kind, print_rows};
 use cli_header::CliHeader;
 use cli_input::Input;
@@ -40,10 +41,10 @@ pub fn print_info<W: Write>(
     ensures untouched { OnErr result (out.new ≡ out.old) }
     ensures whole { OnOk result (IsWhole input bytes.now) }
     ensures printed { OnOk result ((header : Option Header) (model : Metadata) → AreFacts input bytes.now header model
-        → Prints out.old out.new (info_lines header model)) }
+        → Prints out.old out.new (info_lines bytes.now header model)) }
 {
     let (header, view) = open_facts(bytes, input)?;
-    print_facts(alloc, &header, &view, out);
+    print_facts(alloc, bytes, &header, &view, out);
     Ok(())
 }
 
@@ -53,7 +54,9 @@ fn open_facts(bytes: &[u8], input: Input) -> Result<(Option<CliHeader>, View<'_>
     ensures whole { IfOk result (λ _. IsWhole input bytes.now) }
     ensures facts { IfOk result (λ opened. (header : Option Header) (model : Metadata) → AreFacts input bytes.now header model
         → (opened.0 ≡ header) × IsModel opened.1 model) }
+    ensures room { IfOk result (λ opened. (header : Header) → opened.0 ≡ Some header → HasRoom bytes.now) }
 {
+    pe::laws::images_are_read();
     match input {
         Input::BareRoot => Ok((None, open_root(bytes)?)),
         Input::File => {
@@ -87,17 +90,19 @@ fn print_counts<W: Write>(view: &View<'_>, out: &mut Printer<'_, W>)
 /// Prints the lines of a CLI header, if there is one, and of the metadata.
 fn print_facts<W: Write>(
     alloc: Global,
+    bytes: &[u8],
     header: &Option<CliHeader>,
     view: &View<'_>,
     out: &mut Printer<'_, W>,
 )
-    ensures { (model : Metadata) → IsModel view.now model → Prints out.old out.new (info_lines header.now model) }
+    requires { (of : Header) → header.now ≡ Some of → HasRoom bytes.now }
+    ensures { (model : Metadata) → IsModel view.now model → Prints out.old out.new (info_lines bytes.now header.now model) }
 {
     cli_lines::laws::lines_follow::<W>();
     print_rows(alloc, view, Kind::Assembly, out);
     print_rows(alloc, view, Kind::Module, out);
     print_version(view.version(), out);
-    print_header(header, view, out);
+    print_file(alloc, bytes, header, view, out);
     print_counts(view, out);
     print_rows(alloc, view, Kind::Reference, out);
 }

@@ -11,8 +11,9 @@
 //! ```
 #![tactic(auto)]
 
-mod header_lines;
+mod file_lines;
 mod identity;
+mod image;
 mod info;
 mod row_lines;
 

@@ -33,7 +33,7 @@ module _ {W : Type 0} (request : Request) (name bytes : List ℕ) (old new : Pri
 
   pub info_ended : (done : Result (Unit {0}) Fault) → OnOk done (IsWhole request.input bytes) → IfErr done (FirstBroken (rules_of request.input bytes))
       → OnErr done (new ≡ old)
-      → OnOk done ((header : Option CliHeader) (model : Metadata) → AreFacts request.input bytes header model → Prints old new (info_lines header model))
+      → OnOk done ((header : Option CliHeader) (model : Metadata) → AreFacts request.input bytes header model → Prints old new (info_lines bytes header model))
       → HasPrinted request name bytes old new report.Info (ended_by done)
   info_ended (Ok done) whole first same printed = (whole, (λ header model are. (printed header model are, (λ live. tt))))
   info_ended (Err found) whole first same printed = (first, same)

@@ -154,7 +154,7 @@ module _ (Out : Type 0 → List (List Part) → Type 0) where
         × ((header : Option CliHeader) (root : RootRead) → AreHeads request.input bytes header root → AreOut (heads_lines header root))
     IsPrinted report.Info =
         IsWhole request.input bytes
-        × ((header : Option CliHeader) (model : Metadata) → AreFacts request.input bytes header model → AreOut (info_lines header model))
+        × ((header : Option CliHeader) (model : Metadata) → AreFacts request.input bytes header model → AreOut (info_lines bytes header model))
     IsPrinted report.Strings =
         OfModel request.input bytes (λ model. (entries : List Entry) × AreEntries model.user 1 entries × AreOut (flat_map entry_lines entries))
     IsPrinted (report.Listing listing) = OfModel request.input bytes (IsListed listing)

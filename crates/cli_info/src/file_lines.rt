@@ -1,17 +1,22 @@
-//! Prints the lines of the CLI header (II.25.3.3).
-ghost use Rattle.std.specs.Prelude.{◌≡◌, ◌<◌, ◌++◌, ◌∷◌, []};
-ghost use Rattle.cli_info.specs.InfoLines.{entry_line, entry_name, flag_word, flags_line, header_lines, name_of_entry, sizes_line, text_in};
+//! Prints the lines of a PE file: its format and machine (II.25.2), and its CLI header (II.25.3.3).
+ghost use Rattle.std.specs.Prelude.{◌≡◌, ◌<◌, ◌∷◌, [], Some};
+ghost use Rattle.cli_header.specs.declared.header.CliHeader.{CliHeader as Header};
+ghost use Rattle.cli_info.specs.ImageLines.{HasRoom, entry_line, flag_word, flags_line, image_line, machine, machine_digits, sizes_line};
+ghost use Rattle.cli_info.specs.InfoLines.{entry_name, file_lines, name_of_entry, text_in};
 ghost use Rattle.cli_lines.specs.Printed.{Prints};
 ghost use Rattle.metadata.specs.Metadata.{Metadata};
 ghost use Rattle.metadata.specs.Model.{IsModel};
+ghost use Rattle.pe.specs.Headers.{magic};
 ghost use Rattle.table_schema.specs.CellColumns.{cell_count};
 
+use crate::image::{debug_size, format_text, machine, machine_digits, machine_name, magic};
 use cli_header::CliHeader;
 use cli_lines::Part::{Field, Word};
-use cli_lines::Value::{Hex, Number, Text};
+use cli_lines::Value::{Hex, Number, Plain, Text};
 use cli_lines::{Name, Printer};
 use cli_outline::text;
 use opening::{TableId, View};
+use std::alloc::Global;
 use std::io::Write;
 
 /// The flag of a native entry point, which is no token (II.25.3.3.1).
@@ -41,7 +46,7 @@ fn flag_word(flags: u32, flag: u32, word: &'static str) -> &'static str
 }
 
 /// Prints the line of the flags (II.25.3.3.1).
-#[tactic(auto, unfolding(crate::specs::InfoLines::flags_line))]
+#[tactic(auto, unfolding(crate::specs::ImageLines::flags_line))]
 fn print_flags<W: Write>(flags: u32, out: &mut Printer<'_, W>)
     ensures { Prints out.old out.new (flags_line flags ∷ []) }
 {
@@ -96,7 +101,7 @@ fn name_of_entry<'a>(header: &CliHeader, view: &View<'a>) -> &'a str
 }
 
 /// Prints the line of an entry point.
-#[tactic(auto, unfolding(crate::specs::InfoLines::entry_line))]
+#[tactic(auto, unfolding(crate::specs::ImageLines::entry_line))]
 fn print_entry<W: Write>(token: u32, name: &str, out: &mut Printer<'_, W>)
     ensures { Prints out.old out.new (entry_line token name.now ∷ []) }
 {
@@ -109,10 +114,10 @@ fn print_entry<W: Write>(token: u32, name: &str, out: &mut Printer<'_, W>)
     }
 }
 
-/// Prints the line of the sizes of what the header refers to.
-#[tactic(auto, unfolding(crate::specs::InfoLines::sizes_line))]
-fn print_sizes<W: Write>(header: &CliHeader, out: &mut Printer<'_, W>)
-    ensures { Prints out.old out.new (sizes_line header.now ∷ []) }
+/// Prints the line of the sizes of what the headers refer to.
+#[tactic(auto, unfolding(crate::specs::ImageLines::sizes_line))]
+fn print_sizes<W: Write>(header: &CliHeader, debug: u32, out: &mut Printer<'_, W>)
+    ensures { Prints out.old out.new (sizes_line header.now debug ∷ []) }
 {
     let signature = header.strong_name_signature.size as u64;
     let native = header.managed_native_header.size as u64;
@@ -121,23 +126,55 @@ fn print_sizes<W: Write>(header: &CliHeader, out: &mut Printer<'_, W>)
         Field(Name::Signature, Number(signature)),
         Word(" native "),
         Field(Name::Native, Number(native)),
+        Word(" debug "),
+        Field(Name::Debug, Number(debug as u64)),
     ]);
 }
 
-/// Prints the lines of a CLI header, if there is one.
-pub(crate) fn print_header<W: Write>(
+/// Prints the line of the format and the machine, with the digits of the machine.
+#[tactic(auto, unfolding(crate::specs::ImageLines::image_line))]
+fn print_machine<W: Write>(magic: u16, digits: &str, machine: u16, out: &mut Printer<'_, W>)
+    ensures { Prints out.old out.new (image_line magic digits.now machine ∷ []) }
+{
+    out.line(&[
+        Word("format "),
+        Field(Name::Format, Plain(format_text(magic))),
+        Word(" machine "),
+        Field(Name::Machine, Plain(digits)),
+        Word(machine_name(machine)),
+    ]);
+}
+
+/// Prints the line of the format and the machine of a file.
+fn print_image<W: Write>(alloc: Global, file: &[u8], out: &mut Printer<'_, W>)
+    requires { HasRoom file.now }
+    ensures { Prints out.old out.new (image_line (magic file.now) (machine_digits (machine file.now)) (machine file.now) ∷ []) }
+{
+    let machine = machine(file);
+    match machine_digits(alloc, machine) {
+        Ok(digits) => print_machine(magic(file), &digits, machine, out),
+        Err(_) => out.fail(),
+    }
+}
+
+/// Prints the lines of a file with a CLI header, and none of a bare root.
+pub(crate) fn print_file<W: Write>(
+    alloc: Global,
+    file: &[u8],
     header: &Option<CliHeader>,
     view: &View<'_>,
     out: &mut Printer<'_, W>,
 )
-    ensures { (model : Metadata) → IsModel view.now model → Prints out.old out.new (header_lines header.now model) }
+    requires { (of : Header) → header.now ≡ Some of → HasRoom file.now }
+    ensures { (model : Metadata) → IsModel view.now model → Prints out.old out.new (file_lines file.now header.now model) }
 {
     cli_lines::laws::lines_follow::<W>();
     match header {
         Some(header) => {
+            print_image(alloc, file, out);
             print_flags(header.flags, out);
             print_entry(header.entry_point_token, name_of_entry(header, view), out);
-            print_sizes(header, out);
+            print_sizes(header, debug_size(file), out);
         }
         None => {}
     }
