@@ -2,7 +2,7 @@
 
 _clim() {
     local word=${COMP_WORDS[COMP_CWORD]}
-    local subcommands='root check show types outline strings token where rewrite digest compare explain help'
+    local subcommands='root info check show types outline strings token where rewrite digest compare explain help'
     local line
     COMPREPLY=()
     if [ "$COMP_CWORD" -eq 1 ]; then
@@ -20,7 +20,7 @@ _clim() {
         *)
             local flags='--bare --help'
             if [ "${COMP_WORDS[1]}" = check ]; then flags="$flags --budget --files-from -0 --quiet --where"; fi
-            case ${COMP_WORDS[1]} in root | check | show | types | outline | strings | token | where | digest | compare) flags="$flags --json" ;; esac
+            case ${COMP_WORDS[1]} in root | info | check | show | types | outline | strings | token | where | digest | compare) flags="$flags --json" ;; esac
             if [ "${COMP_WORDS[1]}" = show ]; then flags="$flags --names --until-fault"; fi
             if [ "${COMP_WORDS[1]}" = compare ]; then flags="$flags --ignore"; fi
             # A list of files comes from the standard input alone. The budget is a number, and a column a name.

@@ -1,5 +1,5 @@
 //! What the PE headers of a file say (II.25.2).
-ghost use Rattle.std.specs.Prelude.{◌≡◌, IfOk, string_bytes};
+ghost use Rattle.std.specs.Prelude.{◌≡◌, ◌≤◌, IfOk, string_bytes};
 ghost use Rattle.cli_info.specs.ImageLines.{HasRoom, debug_size, format_text, machine, machine_digits, machine_name};
 ghost use Rattle.pe.specs.Headers.{lfanew, magic, wider};
 
@@ -51,7 +51,8 @@ pub(crate) fn machine(file: &[u8]) -> u16
 /// The number of bytes that a file has more than one of format PE32 before the data directories.
 fn wider(file: &[u8]) -> usize
     requires { HasRoom file.now }
-    ensures { result ≡ wider file.now }
+    ensures value { result ≡ wider file.now }
+    ensures few { result ≤ 16 }
 {
     if magic(file) == PE32_PLUS { WIDER } else { 0 }
 }

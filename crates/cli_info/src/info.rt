@@ -58,7 +58,10 @@ fn open_facts(bytes: &[u8], input: Input) -> Result<(Option<CliHeader>, View<'_>
 {
     pe::laws::images_are_read();
     match input {
-        Input::BareRoot => Ok((None, open_root(bytes)?)),
+        Input::BareRoot => {
+            let view = open_root(bytes)?;
+            Ok((None, view))
+        }
         Input::File => {
             let (header, view) = open_image(bytes)?;
             Ok((Some(header), view))

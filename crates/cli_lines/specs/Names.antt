@@ -19,7 +19,6 @@ cell_names table = map (column_name table) (range_with_len 0 (cell_count table))
 abbrev pub name_text : Name → List ℕ
 name_text (name.Cell table index) = slice_index_or (cell_names table) index []
 name_text name.Assembly = codes "assembly"
-name_text name.Attribute = codes "attribute"
 name_text name.Blob = codes "blob"
 name_text name.Cause = codes "cause"
 name_text name.Cli = codes "cli"

@@ -10,7 +10,6 @@ pub enum Name {
     /// The name of the column of a cell, by the index of the cell in its row (ECMA-335 II.22).
     Cell(TableId, usize),
     Assembly,
-    Attribute,
     Blob,
     Cause,
     Cli,
@@ -82,7 +81,6 @@ impl Name {
         match self {
             Name::Cell(table, index) => cell_key(table, index),
             Name::Assembly => key!(assembly),
-            Name::Attribute => key!(attribute),
             Name::Blob => key!(blob),
             Name::Cause => key!(cause),
             Name::Cli => key!(cli),

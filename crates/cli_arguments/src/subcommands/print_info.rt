@@ -3,8 +3,37 @@ use crate::subcommands::{BARE, FILE, JSON, Usage};
 
 pub(crate) const USAGE: Usage<'static> = Usage {
     name: "info",
-    about: "Print what an assembly is: its identity, its CLI header and its references",
+    about: "Print what an assembly is: its identity, its headers and its references",
     arguments: &[FILE, BARE, JSON],
     output: "\
-TODO",
+Each line begins with a word that says what follows:
+  assembly   the identity of the assembly, as .NET writes it; a module alone has none
+  module     the name and the Mvid of the module
+  version    the version of the runtime, from the metadata root
+  format     PE32 or PE32+, the machine in hexadecimal, and its name if it is one of .NET
+  flags      the flags of the CLI header, and the name of each that is set
+  entry      the token of the entry point, 00000000 if there is none, and its name
+  signature  the sizes of the strong name signature, of the managed native header (ReadyToRun) and of
+             the debug directory, in bytes; 0 if there is none
+  types      the numbers of types, methods, fields and resources
+  reference  the identity of an assembly that this one refers to
+With '--bare' there are no lines from 'format' to 'signature'. Texts are escaped like those of 'clim show'.
+PublicKeyToken is computed from the key; it is '?' if the key has more than 4,096 bytes. FILE is checked
+first, as by 'clim check'.
+
+With '--json' each line is a JSON object (RFC 8259) with the same values. A fault is printed to standard
+error as without it.
+
+Examples:
+  $ clim info one_module.dll
+  module a.dll {03020100-0504-0706-0809-0a0b0c0d0e0f}
+  version v4.0.30319
+  format PE32 machine 014c i386
+  flags 00000001 ILONLY
+  entry 00000000
+  signature 0 native 0 debug 0
+  types 0 methods 0 fields 0 resources 0
+  $ clim info --json --bare two_types.root
+  {\"version\":\"v4.0.30319\"}
+  {\"types\":2,\"methods\":1,\"fields\":2,\"resources\":0}",
 };
