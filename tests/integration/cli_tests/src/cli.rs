@@ -1,4 +1,4 @@
-//! Tests of `cli`: budgets, `rewrite`, `digest`, `compare`, `check` of several files, the standard input, hints, escaped
+//! Tests of `cli`: budgets, `rewrite`, `digest`, `compare`, `check` of several files, `info`, the standard input, hints, escaped
 //! arguments, and files and outputs that fail.
 
 mod budgets;
@@ -7,6 +7,7 @@ mod disks;
 mod escaping;
 mod fault_answers;
 mod hints;
+mod info;
 mod json;
 mod one_type;
 mod replacing;
