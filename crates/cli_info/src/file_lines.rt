@@ -63,15 +63,15 @@ fn print_flags<W: Write>(flags: u32, out: &mut Printer<'_, W>)
 }
 
 /// The text in a cell, if its row exists.
+#[tactic(auto, using(crate::proofs::TokenLemmas::text_found, crate::proofs::TokenLemmas::text_missing))]
 fn text_in<'a>(view: &View<'a>, table: TableId, row: u32, cell: usize) -> &'a str
     requires cell { cell < cell_count table }
     ensures { (model : Metadata) → IsModel view.now model → result.now ≡ text_in model table row cell }
 {
-    if 1 <= row && row <= view.count(table) {
-        text(view, table, row, cell)
-    } else {
-        ""
+    if row == 0 || row > view.count(table) {
+        return "";
     }
+    text(view, table, row, cell)
 }
 
 /// The name of a method or of a file, by its token.

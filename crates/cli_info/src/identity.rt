@@ -45,7 +45,7 @@ fn digits_of_token(alloc: Global, token: &[u8]) -> Result<String, AllocError>
 
 /// The token of a public key in hexadecimal: the last eight bytes of its SHA-1 in reverse order. `null` for no key, and
 /// `?` for one that is too long.
-#[tactic(auto, unfolding(crate::specs::Identities::token_of_key))]
+#[tactic(auto, using(crate::proofs::TokenLemmas::token_of_long, crate::proofs::TokenLemmas::token_of_short), unfolding(crate::specs::Identities::token_of_key))]
 pub(crate) fn token_of_key(alloc: Global, key: &[u8]) -> Result<String, AllocError>
     ensures { IfOk result (λ text. string_bytes text ≡ token_of_key key.now) }
 {
@@ -81,7 +81,11 @@ pub(crate) fn token_of_reference(
 fn culture_text(culture: &str) -> &str
     ensures { result.now ≡ culture_text culture.now }
 {
-    if culture.is_empty() { "neutral" } else { culture }
+    if culture.is_empty() {
+        "neutral"
+    } else {
+        culture
+    }
 }
 
 /// Appends a number in decimal.
