@@ -1,6 +1,7 @@
 //! Prints the lines of the assembly, the module and the references.
 ghost use Rattle.std.specs.Prelude.{◌≡◌, ◌≤◌, ◌∷◌, [], IfOk, string_bytes};
 ghost use Rattle.cli_info.specs.InfoLines.{assembly_identity, assembly_line, guid_of, module_line, reference_identity, reference_line, row_line, row_lines, table_of};
+ghost use Rattle.cli_info.specs.declared.row_lines.Kind.TheVariants as kind;
 ghost use Rattle.cli_lines.specs.Printed.{Prints};
 ghost use Rattle.metadata.specs.Metadata.{Metadata, cell_in};
 ghost use Rattle.metadata.specs.Model.{IsModel};
@@ -49,13 +50,18 @@ fn assembly_identity(alloc: Global, view: &View<'_>, row: u32) -> Result<String,
     requires last { row ≤ row_count view.now table.Assembly }
     ensures { (model : Metadata) → IsModel view.now model → IfOk result (λ text. string_bytes text ≡ assembly_identity model row) }
 {
+    let major = number(view, TableId::Assembly, row, 1);
+    let minor = number(view, TableId::Assembly, row, 2);
+    let build = number(view, TableId::Assembly, row, 3);
+    let revision = number(view, TableId::Assembly, row, 4);
     let version = Version {
-        major: number(view, TableId::Assembly, row, 1),
-        minor: number(view, TableId::Assembly, row, 2),
-        build: number(view, TableId::Assembly, row, 3),
-        revision: number(view, TableId::Assembly, row, 4),
+        major,
+        minor,
+        build,
+        revision,
     };
-    let token = token_of_key(alloc, bytes(view, TableId::Assembly, row, 6))?;
+    let key = bytes(view, TableId::Assembly, row, 6);
+    let token = token_of_key(alloc, key)?;
     let name = text(view, TableId::Assembly, row, 7);
     let culture = text(view, TableId::Assembly, row, 8);
     identity_text(alloc, name, version, culture, &token)
@@ -68,31 +74,46 @@ fn reference_identity(alloc: Global, view: &View<'_>, row: u32) -> Result<String
     requires last { row ≤ row_count view.now table.AssemblyRef }
     ensures { (model : Metadata) → IsModel view.now model → IfOk result (λ text. string_bytes text ≡ reference_identity model row) }
 {
+    let major = number(view, TableId::AssemblyRef, row, 0);
+    let minor = number(view, TableId::AssemblyRef, row, 1);
+    let build = number(view, TableId::AssemblyRef, row, 2);
+    let revision = number(view, TableId::AssemblyRef, row, 3);
     let version = Version {
-        major: number(view, TableId::AssemblyRef, row, 0),
-        minor: number(view, TableId::AssemblyRef, row, 1),
-        build: number(view, TableId::AssemblyRef, row, 2),
-        revision: number(view, TableId::AssemblyRef, row, 3),
+        major,
+        minor,
+        build,
+        revision,
     };
     let flags = number(view, TableId::AssemblyRef, row, 4);
-    let token = token_of_reference(alloc, flags, bytes(view, TableId::AssemblyRef, row, 5))?;
+    let key = bytes(view, TableId::AssemblyRef, row, 5);
+    let token = token_of_reference(alloc, flags, key)?;
     let name = text(view, TableId::AssemblyRef, row, 6);
     let culture = text(view, TableId::AssemblyRef, row, 7);
     identity_text(alloc, name, version, culture, &token)
 }
 
-/// Prints the line of the assembly with this identity.
-fn print_assembly<W: Write>(identity: &str, out: &mut Printer<'_, W>)
-    ensures { Prints out.old out.new (assembly_line identity.now ∷ []) }
+/// Prints the line of the assembly in a row of Assembly.
+fn print_assembly<W: Write>(alloc: Global, view: &View<'_>, row: u32, out: &mut Printer<'_, W>)
+    requires first { 1 ≤ row }
+    requires last { row ≤ row_count view.now table.Assembly }
+    ensures { (model : Metadata) → IsModel view.now model → Prints out.old out.new (assembly_line (assembly_identity model row) ∷ []) }
 {
-    out.line(&[Word("assembly "), Field(Name::Assembly, Text(identity))]);
+    match assembly_identity(alloc, view, row) {
+        Ok(identity) => out.line(&[Word("assembly "), Field(Name::Assembly, Text(&identity))]),
+        Err(_) => out.fail(),
+    }
 }
 
-/// Prints the line of a reference to the assembly with this identity.
-fn print_reference<W: Write>(identity: &str, out: &mut Printer<'_, W>)
-    ensures { Prints out.old out.new (reference_line identity.now ∷ []) }
+/// Prints the line of the assembly that a row of AssemblyRef refers to.
+fn print_reference<W: Write>(alloc: Global, view: &View<'_>, row: u32, out: &mut Printer<'_, W>)
+    requires first { 1 ≤ row }
+    requires last { row ≤ row_count view.now table.AssemblyRef }
+    ensures { (model : Metadata) → IsModel view.now model → Prints out.old out.new (reference_line (reference_identity model row) ∷ []) }
 {
-    out.line(&[Word("reference "), Field(Name::Reference, Text(identity))]);
+    match reference_identity(alloc, view, row) {
+        Ok(identity) => out.line(&[Word("reference "), Field(Name::Reference, Text(&identity))]),
+        Err(_) => out.fail(),
+    }
 }
 
 /// The Mvid of a module.
@@ -110,7 +131,7 @@ fn mvid_of(view: &View<'_>, row: u32) -> Option<[u8; 16]>
 
 /// Prints the line of the module with this name and this Mvid.
 #[tactic(auto, unfolding(crate::specs::InfoLines::module_line))]
-fn print_module<W: Write>(name: &str, mvid: Option<[u8; 16]>, out: &mut Printer<'_, W>)
+fn print_name<W: Write>(name: &str, mvid: Option<[u8; 16]>, out: &mut Printer<'_, W>)
     ensures { Prints out.old out.new (module_line name.now mvid ∷ []) }
 {
     out.line(&[
@@ -121,8 +142,18 @@ fn print_module<W: Write>(name: &str, mvid: Option<[u8; 16]>, out: &mut Printer<
     ]);
 }
 
-/// Prints the line of a row.
+/// Prints the line of the module in a row of Module.
 #[tactic(auto, unfolding(table_schema::specs::CellColumns::cell_columns))]
+fn print_module<W: Write>(view: &View<'_>, row: u32, out: &mut Printer<'_, W>)
+    requires first { 1 ≤ row }
+    requires last { row ≤ row_count view.now table.Module }
+    ensures { (model : Metadata) → IsModel view.now model → Prints out.old out.new (row_line kind.Module model row ∷ []) }
+{
+    let name = text(view, TableId::Module, row, 1);
+    print_name(name, mvid_of(view, row), out);
+}
+
+/// Prints the line of a row.
 fn print_row<W: Write>(
     alloc: Global,
     view: &View<'_>,
@@ -135,18 +166,9 @@ fn print_row<W: Write>(
     ensures { (model : Metadata) → IsModel view.now model → Prints out.old out.new (row_line kind model row ∷ []) }
 {
     match kind {
-        Kind::Assembly => match assembly_identity(alloc, view, row) {
-            Ok(identity) => print_assembly(&identity, out),
-            Err(_) => out.fail(),
-        },
-        Kind::Module => {
-            let name = text(view, TableId::Module, row, 1);
-            print_module(name, mvid_of(view, row), out);
-        }
-        Kind::Reference => match reference_identity(alloc, view, row) {
-            Ok(identity) => print_reference(&identity, out),
-            Err(_) => out.fail(),
-        },
+        Kind::Assembly => print_assembly(alloc, view, row, out),
+        Kind::Module => print_module(view, row, out),
+        Kind::Reference => print_reference(alloc, view, row, out),
     }
 }
 
