@@ -99,7 +99,10 @@ fn print_assembly<W: Write>(alloc: Global, view: &View<'_>, row: u32, out: &mut 
     ensures { (model : Metadata) → IsModel view.now model → Prints out.old out.new (assembly_line (assembly_identity model row) ∷ []) }
 {
     match assembly_identity(alloc, view, row) {
-        Ok(identity) => out.line(&[Word("assembly "), Field(Name::Assembly, Text(&identity))]),
+        Ok(identity) => out.line(&[
+            Word("assembly "),
+            Field(Name::Assembly, Text(identity.as_str())),
+        ]),
         Err(_) => out.fail(),
     }
 }
@@ -111,7 +114,10 @@ fn print_reference<W: Write>(alloc: Global, view: &View<'_>, row: u32, out: &mut
     ensures { (model : Metadata) → IsModel view.now model → Prints out.old out.new (reference_line (reference_identity model row) ∷ []) }
 {
     match reference_identity(alloc, view, row) {
-        Ok(identity) => out.line(&[Word("reference "), Field(Name::Reference, Text(&identity))]),
+        Ok(identity) => out.line(&[
+            Word("reference "),
+            Field(Name::Reference, Text(identity.as_str())),
+        ]),
         Err(_) => out.fail(),
     }
 }

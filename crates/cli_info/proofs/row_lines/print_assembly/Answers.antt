@@ -5,7 +5,7 @@ use Rattle.cli_info.proofs.row_lines.print_assembly.Goals as goal
 
 pub returns-in-Ok : goal.returns-in-Ok
 returns-in-Ok g c = λ model is.
-    subst (λ (t : List ℕ). Prints c.args.out.now c.line.new.out (assembly_line t ∷ [])) (c.deref.ensures.value ∙ c.in-Ok.ensures model is) c.line.ensures
+    subst (λ (t : List ℕ). Prints c.args.out.now c.line.new.out (assembly_line t ∷ [])) (c.as_str.ensures.value ∙ c.in-Ok.ensures model is) c.line.ensures
 
 pub returns-in-Err : goal.returns-in-Err
 returns-in-Err g c = λ model is. c.fail.ensures.lines _
