@@ -23,22 +23,22 @@ debug_size file = little_endian (part file (lfanew file + 172 + wider file) 4)
 
 -- the format by Magic (II.25.2.3.1)
 abbrev pub format_text : ℕ → List ℕ
-format_text magic = if magic == 0x20B then codes "PE32+" else codes "PE32"
+format_text code = if code == 0x20B then codes "PE32+" else codes "PE32"
 
 -- a machine as four hexadecimal digits
 abbrev pub machine_digits : ℕ → List ℕ
-machine_digits machine = encode_lower (machine / 256 ∷ machine % 256 ∷ [])
+machine_digits code = encode_lower (code / 256 ∷ code % 256 ∷ [])
 
 -- the names of the machines of .NET, from Microsoft's PE format
 abbrev pub machine_name : ℕ → List ℕ
-machine_name machine =
-    if machine == 0x14C then codes " i386" else if machine == 0x8664 then codes " amd64"
-    else if machine == 0x1C4 then codes " arm" else if machine == 0xAA64 then codes " arm64" else []
+machine_name code =
+    if code == 0x14C then codes " i386" else if code == 0x8664 then codes " amd64"
+    else if code == 0x1C4 then codes " arm" else if code == 0xAA64 then codes " arm64" else []
 
 unfoldable pub image_line : ℕ → List ℕ → ℕ → List Part
-image_line magic digits machine =
-    word (codes "format ") ∷ field name.Format (plain (format_text magic))
-    ∷ word (codes " machine ") ∷ field name.Machine (plain digits) ∷ word (machine_name machine) ∷ []
+image_line format digits code =
+    word (codes "format ") ∷ field name.Format (plain (format_text format))
+    ∷ word (codes " machine ") ∷ field name.Machine (plain digits) ∷ word (machine_name code) ∷ []
 
 -- a word, if the flag with this value is set
 abbrev pub flag_word : ℕ → ℕ → List ℕ → List ℕ

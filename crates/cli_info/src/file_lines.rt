@@ -133,15 +133,15 @@ fn print_sizes<W: Write>(header: &CliHeader, debug: u32, out: &mut Printer<'_, W
 
 /// Prints the line of the format and the machine, with the digits of the machine.
 #[tactic(auto, unfolding(crate::specs::ImageLines::image_line))]
-fn print_machine<W: Write>(magic: u16, digits: &str, machine: u16, out: &mut Printer<'_, W>)
-    ensures { Prints out.old out.new (image_line magic digits.now machine ∷ []) }
+fn print_machine<W: Write>(format: u16, digits: &str, code: u16, out: &mut Printer<'_, W>)
+    ensures { Prints out.old out.new (image_line format digits.now code ∷ []) }
 {
     out.line(&[
         Word("format "),
-        Field(Name::Format, Plain(format_text(magic))),
+        Field(Name::Format, Plain(format_text(format))),
         Word(" machine "),
         Field(Name::Machine, Plain(digits)),
-        Word(machine_name(machine)),
+        Word(machine_name(code)),
     ]);
 }
 
@@ -150,9 +150,9 @@ fn print_image<W: Write>(alloc: Global, file: &[u8], out: &mut Printer<'_, W>)
     requires { HasRoom file.now }
     ensures { Prints out.old out.new (image_line (magic file.now) (machine_digits (machine file.now)) (machine file.now) ∷ []) }
 {
-    let machine = machine(file);
-    match machine_digits(alloc, machine) {
-        Ok(digits) => print_machine(magic(file), &digits, machine, out),
+    let code = machine(file);
+    match machine_digits(alloc, code) {
+        Ok(digits) => print_machine(magic(file), &digits, code, out),
         Err(_) => out.fail(),
     }
 }

@@ -66,24 +66,24 @@ pub(crate) fn debug_size(file: &[u8]) -> u32
 }
 
 /// The format by Magic.
-pub(crate) fn format_text(magic: u16) -> &'static str
-    ensures { result.now ≡ format_text magic }
+pub(crate) fn format_text(code: u16) -> &'static str
+    ensures { result.now ≡ format_text code }
 {
-    if magic == PE32_PLUS { "PE32+" } else { "PE32" }
+    if code == PE32_PLUS { "PE32+" } else { "PE32" }
 }
 
 /// A machine as four hexadecimal digits.
-pub(crate) fn machine_digits(alloc: Global, machine: u16) -> Result<String, AllocError>
-    ensures { IfOk result (λ text. string_bytes text ≡ machine_digits machine) }
+pub(crate) fn machine_digits(alloc: Global, code: u16) -> Result<String, AllocError>
+    ensures { IfOk result (λ text. string_bytes text ≡ machine_digits code) }
 {
-    hex::encode(alloc, [(machine / 256) as u8, (machine % 256) as u8])
+    hex::encode(alloc, [(code / 256) as u8, (code % 256) as u8])
 }
 
 /// The name of a machine after a space, if it is one of .NET.
-pub(crate) fn machine_name(machine: u16) -> &'static str
-    ensures { result.now ≡ machine_name machine }
+pub(crate) fn machine_name(code: u16) -> &'static str
+    ensures { result.now ≡ machine_name code }
 {
-    match machine {
+    match code {
         0x14C => " i386",
         0x8664 => " amd64",
         0x1C4 => " arm",

@@ -1,7 +1,7 @@
 //! Prints the lines of the assembly, the module and the references.
 ghost use Rattle.std.specs.Prelude.{◌≡◌, ◌≤◌, ◌∷◌, [], IfOk, string_bytes};
 ghost use Rattle.cli_info.specs.InfoLines.{assembly_identity, assembly_line, guid_of, module_line, reference_identity, reference_line, row_line, row_lines, table_of};
-ghost use Rattle.cli_info.specs.declared.row_lines.Kind.TheVariants as kind;
+ghost use Rattle.cli_info.specs.declared.row_lines.Kind.TheVariants as row_kind;
 ghost use Rattle.cli_lines.specs.Printed.{Prints};
 ghost use Rattle.metadata.specs.Metadata.{Metadata, cell_in};
 ghost use Rattle.metadata.specs.Model.{IsModel};
@@ -153,7 +153,7 @@ fn print_name<W: Write>(name: &str, mvid: Option<[u8; 16]>, out: &mut Printer<'_
 fn print_module<W: Write>(view: &View<'_>, row: u32, out: &mut Printer<'_, W>)
     requires first { 1 ≤ row }
     requires last { row ≤ row_count view.now table.Module }
-    ensures { (model : Metadata) → IsModel view.now model → Prints out.old out.new (row_line kind.Module model row ∷ []) }
+    ensures { (model : Metadata) → IsModel view.now model → Prints out.old out.new (row_line row_kind.Module model row ∷ []) }
 {
     let name = text(view, TableId::Module, row, 1);
     print_name(name, mvid_of(view, row), out);
