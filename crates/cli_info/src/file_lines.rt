@@ -105,12 +105,15 @@ fn name_of_entry<'a>(header: &CliHeader, view: &View<'a>) -> &'a str
 fn print_entry<W: Write>(token: u32, name: &str, out: &mut Printer<'_, W>)
     ensures { Prints out.old out.new (entry_line token name.now ∷ []) }
 {
-    let entry = Field(Name::Entry, Hex(token));
     if name.is_empty() {
-        out.line(&[Word("entry "), entry]);
+        out.line(&[Word("entry "), Field(Name::Entry, Hex(token))]);
     } else {
-        let name = Field(Name::Name, Text(name));
-        out.line(&[Word("entry "), entry, Word(" "), name]);
+        out.line(&[
+            Word("entry "),
+            Field(Name::Entry, Hex(token)),
+            Word(" "),
+            Field(Name::Name, Text(name)),
+        ]);
     }
 }
 
