@@ -1,6 +1,5 @@
 -- The token of a key, by its length (ECMA-335 II.6.3); and the text in a cell, by whether its row exists.
-use Rattle.std.proofs.Common.{◌≡◌, ◌∙◌, ◌≤◌, ◌<◌, ◌⊎◌, ◌&&◌, ℕ, Bool, true, false, List, [], ◌∷◌, codes, cond, leb, length, take, ap, arith, inl, inr, refl}
-use Rattle.std.specs.List.{reverse}
+use Rattle.std.proofs.Common.{◌≡◌, ◌∙◌, ◌≤◌, ◌<◌, ◌⊎◌, ◌&&◌, ℕ, Bool, true, false, List, [], ◌∷◌, codes, cond, leb, length, take, ap, arith, inl, inr, refl, reverse}
 use Rattle.std.proofs.lemmas.Bool.{le-leb, le-ltb, lt-leb, lt-ltb}
 use Rattle.hex.specs.Hex.{encode_lower}
 use Rattle.sha1.specs.Sha1.{sha1}

@@ -1,6 +1,5 @@
 -- The identity of an assembly as .NET prints it: name, version, culture and public key token (ECMA-335 II.22.2 and II.22.5).
-use Rattle.std.specs.Prelude.{ℕ, ◌%◌, ◌==◌, nat_lt, if◌then◌else◌, List, [], ◌++◌, codes, decimal, length, take}
-use Rattle.std.specs.List.{reverse}
+use Rattle.std.specs.Prelude.{ℕ, ◌%◌, ◌==◌, nat_lt, if◌then◌else◌, List, [], ◌++◌, codes, decimal, length, reverse, take}
 use Rattle.hex.specs.Hex.{encode_lower}
 use Rattle.sha1.specs.Sha1.{sha1}
 use Rattle.cli_info.specs.declared.identity.Version.{Version}
