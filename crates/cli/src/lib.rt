@@ -15,4 +15,5 @@ mod task;
 mod usage_text;
 
 pub use cli_arguments::{Ask, Subcommand, ask};
-pub use program::{go, refuse_words};
+pub use cli_files::out_of_memory;
+pub use program::go;

@@ -3,7 +3,7 @@ use Rattle.std.specs.Prelude.{ℕ, List, ◌∷◌, ◌++◌, codes}
 use Rattle.std.specs.declared.io.ErrorKind.{ErrorKind}
 use Rattle.std.specs.declared.io.ErrorKind.TheVariants as cause
 use Rattle.cli_faults.specs.declared.file_error.Reason.{Reason}
-use Rattle.cli_faults.specs.declared.file_error.Reason.TheVariants.{NoSuchFile, Directory, PermissionDenied, NoSpace, Leftover, StandardOutput, Input, Other}
+use Rattle.cli_faults.specs.declared.file_error.Reason.TheVariants.{NoSuchFile, Directory, PermissionDenied, NoSpace, BadName, Leftover, StandardOutput, Input, Other}
 use Rattle.cli_faults.specs.declared.file_error.FileError.{FileError}
 use Rattle.cli_faults.specs.Escaped.{escaped_text}
 
@@ -15,6 +15,7 @@ reason_of cause.PermissionDenied = PermissionDenied
 reason_of cause.StorageFull = NoSpace
 reason_of cause.QuotaExceeded = NoSpace
 reason_of cause.AlreadyExists = Leftover
+reason_of cause.InvalidFilename = BadName
 reason_of _ = Other
 
 -- the words for a reason
@@ -23,6 +24,7 @@ reason_text NoSuchFile = codes "no such file"
 reason_text Directory = codes "a directory"
 reason_text PermissionDenied = codes "permission denied"
 reason_text NoSpace = codes "no space left"
+reason_text BadName = codes "its name is too long, or is not UTF-8"
 reason_text Leftover = codes "too many files OUT.clim-new, OUT.clim-new2 .. exist"
 reason_text StandardOutput = codes "the standard output, which takes the line 'wrote N bytes'"
 reason_text Input = codes "FILE itself, which cannot be replaced"

@@ -51,6 +51,8 @@ pub enum Reason {
     PermissionDenied,
     /// The disk is full, or a quota is used up.
     NoSpace,
+    /// No file can have this name, or none can be opened by it.
+    BadName,
     /// All files that could be written first, and then renamed, are there already.
     Leftover,
     /// The file to write is the standard output, so that two outputs would be mixed.
@@ -76,6 +78,7 @@ impl Reason {
             ErrorKind::StorageFull => Reason::NoSpace,
             ErrorKind::QuotaExceeded => Reason::NoSpace,
             ErrorKind::AlreadyExists => Reason::Leftover,
+            ErrorKind::InvalidFilename => Reason::BadName,
             _ => Reason::Other,
         }
     }
@@ -90,6 +93,7 @@ impl fmt::Display for Reason {
             Reason::Directory => "a directory",
             Reason::PermissionDenied => "permission denied",
             Reason::NoSpace => "no space left",
+            Reason::BadName => "its name is too long, or is not UTF-8",
             Reason::Leftover => "too many files OUT.clim-new, OUT.clim-new2 .. exist",
             Reason::StandardOutput => "the standard output, which takes the line 'wrote N bytes'",
             Reason::Input => "FILE itself, which cannot be replaced",

@@ -50,12 +50,16 @@ pub fn read_into<'a, R: Files + Input>(
     }
 }
 
-/// Reads a file, or its first 2^30 + 1 bytes if it has more, and returns the number of bytes.
+/// Reads a file, or its first 2^30 + 1 bytes if it has more, and returns the number of bytes. No file has a path with a NUL,
+/// which stands for a byte of an argument that is not UTF-8.
 fn read_prefix<R: Files + Input>(rt: &R, path: &str, bytes: &mut Vec<u8>) -> io::Result<usize>
     ensures { OnOk result (IsRead R.File.remaining R.Reader.remaining path.now bytes.new.items) }
 {
     if path == STANDARD_INPUT {
         return read_first(rt.reader(), 0, bytes);
+    }
+    if path.as_bytes().contains(&0) {
+        return Err(io::Error::from(io::ErrorKind::InvalidFilename));
     }
     let file = fs::open(rt, path)?;
     let reported = match file.metadata() {

@@ -2,22 +2,26 @@
 //! else.
 #![tactic(auto)]
 
-use cli::{go, refuse_words};
+mod words;
+
+use cli::{go, out_of_memory};
+use std::alloc::AllocError;
+use std::io;
 use std::process::ExitCode;
-use std::{env, io};
+use words::words_of;
 
 fn main(rt: HostRuntime) -> ExitCode {
     let status = match run(&rt) {
         Ok(status) => status,
-        Err(error) => refuse_words(rt.alloc(), &error, &mut rt.stderr()),
+        Err(_) => out_of_memory(rt.alloc(), &mut rt.stderr()),
     };
     ExitCode::from(status)
 }
 
-/// Collects the arguments and runs the program on them. An error is always one of the collection.
-fn run(rt: &HostRuntime) -> io::Result<u8> {
+/// Collects the arguments and runs the program on them. It fails only if memory for them runs out.
+fn run(rt: &HostRuntime) -> Result<u8, AllocError> {
     let alloc = rt.alloc();
-    let words: Vec<String> = env::args(rt)?.collect(alloc)?;
+    let words = words_of(rt, alloc)?;
     let words: Vec<&str> = words.iter().map(|word| word.as_str()).collect(alloc)?;
     Ok(go(rt, &words, &mut io::writer(rt), &mut rt.stderr()))
 }

@@ -1,8 +1,6 @@
 use crate::named::file_named;
 use crate::runs::answer;
-use cli::{Ask, Subcommand, ask, refuse_words};
-use std::io;
-use std::io::ErrorKind;
+use cli::{Ask, Subcommand, ask};
 use std::test::Fail;
 
 /// How help shows the lines.
