@@ -4,9 +4,9 @@ use Rattle.embedding.specs.Planned.{target_in}
 use Rattle.embedding.proofs.plan.EmbedPlan.make.Goals as goal
 
 -- the bytes that stay, and zeros up to a length
-filled : (file : List ℕ) (kept len all count : ℕ) → all ≡ len → kept ≤ len → length (take kept file) ≡ kept → count ≡ kept
+padded_to : (file : List ℕ) (kept len all count : ℕ) → all ≡ len → kept ≤ len → length (take kept file) ≡ kept → count ≡ kept
     → take all (take kept file) ++ replicate (all - count) 0 ≡ take kept file ++ replicate (len - kept) 0
-filled file kept len all count same within long counted =
+padded_to file kept len all count same within long counted =
     ap (λ (l : List ℕ). l ++ replicate (all - count) 0) (take_all all (take kept file) (omega (arith, long)))
     ∙ ap (λ (n : ℕ). take kept file ++ replicate n 0) (omega (arith, counted))
 
@@ -25,5 +25,5 @@ put_changes-requires-clause-copied c =
     c.deref_mut.ensures.value
     ∙ c.in_ok-resize.ensures.items
     ∙ ap (λ (l : List ℕ). take all l ++ replicate (all - count) 0) (extended ∙ c.kept.ensures.bytes)
-    ∙ filled plan.file (target_in plan).kept (target_in plan).len all count (c.len-2.ensures.value ∙ c.kept.ensures.whole) c.kept.ensures.within
+    ∙ padded_to plan.file (target_in plan).kept (target_in plan).len all count (c.len-2.ensures.value ∙ c.kept.ensures.whole) c.kept.ensures.within
     (omega (arith, ap length c.kept.ensures.bytes, c.kept.ensures.length)) counted
