@@ -3,7 +3,7 @@ use Rattle.std.proofs.Common.{◌≡◌, ◌+◌, ◌<◌, ℕ, List, [], ◌∷
 use Rattle.std.specs.Borrow.{Bor}
 use Rattle.std.proofs.lemmas.List.Elements.{All-cons, All-nil}
 use Rattle.packed.specs.declared.code.FaultCode.{FaultCode}
-use Rattle.cli_files.specs.Names.{NamesCode}
+use Rattle.cli_names.specs.Names.{NamesCode}
 use Rattle.cli.specs.Tasks.{AreRules, NamesFault}
 use Rattle.cli.proofs.Explaining.{take_more}
 

@@ -4,7 +4,7 @@ use Rattle.std.specs.Borrow.{Bor}
 use Rattle.std.specs.Str.Parse.{digits_value}
 use Rattle.std.proofs.lemmas.List.{map-append}
 use Rattle.std.proofs.lemmas.List.Elements.{All-nil}
-use Rattle.cli_files.specs.Numbers.{IsHexNumber}
+use Rattle.cli_names.specs.Numbers.{IsHexNumber}
 use Rattle.cli.specs.Tasks.{AreTokens}
 use Rattle.cli.proofs.Explaining.{one_more, take_more}
 

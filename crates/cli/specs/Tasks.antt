@@ -17,8 +17,8 @@ use Rattle.table_schema.specs.declared.table.TableId.{TableId}
 use Rattle.comparison.specs.declared.ignored.IgnoredColumns.{IgnoredColumns}
 use Rattle.cli_cells.specs.declared.row_lines.Names.{Names}
 use Rattle.cli_cells.specs.declared.row_lines.Names.TheVariants.{Hidden, Shown}
-use Rattle.cli_files.specs.Names.{IsFullName, NamesCode, NamesTable}
-use Rattle.cli_files.specs.Numbers.{IsHexNumber, IsOffset, IsTypeToken}
+use Rattle.cli_names.specs.Names.{IsFullName, NamesCode, NamesTable}
+use Rattle.cli_names.specs.Numbers.{IsHexNumber, IsOffset, IsTypeToken}
 use Rattle.cli_input.specs.declared.opened.Input.{Input}
 use Rattle.cli_input.specs.declared.opened.Input.TheVariants.{BareRoot, File}
 use Rattle.cli_lines.specs.declared.parts.Form.{Form}

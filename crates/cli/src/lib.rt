@@ -15,4 +15,4 @@ mod task;
 mod usage_text;
 
 pub use cli_arguments::{Ask, Subcommand, ask};
-pub use program::{go, refuse_words};
+pub use program::go;

@@ -1,7 +1,5 @@
 //! A run of the program, from its arguments to the exit code.
-ghost use Rattle.std.specs.Prelude.{◌≡◌, ◌≢◌, ◌≤◌, ◌⊎◌, map};
-ghost use Rattle.std.specs.IoError.{error_kind};
-ghost use Rattle.std.specs.declared.io.ErrorKind.TheVariants as cause;
+ghost use Rattle.std.specs.Prelude.{◌≡◌, ◌≤◌, ◌⊎◌, map};
 ghost use Rattle.clap.specs.Words.{kind_of};
 ghost use Rattle.cli_arguments.specs.Asked.{Gives};
 ghost use Rattle.cli_arguments.specs.declared.asked.Ask.{Ask as Asked};
@@ -50,19 +48,6 @@ pub fn go<R: Files + Input + AllocGlobal, W: Write, E: Write>(
         Ok(ask) => run(rt, &ask, out, err),
         Err(usage_error) => report_usage_error(rt.alloc(), &usage_error, &*words, out, err),
     }
-}
-
-/// Reports why the arguments could not be collected, and returns the exit code: 2 if one is not UTF-8, 3 if out of
-/// memory.
-pub fn refuse_words<E: Write>(alloc: Global, error: &io::Error, err: &mut E) -> u8
-    ensures memory { error_kind error.now ≡ cause.OutOfMemory → result ≡ 3 }
-    ensures words { error_kind error.now ≢ cause.OutOfMemory → result ≡ 2 }
-{
-    if error.kind() == io::ErrorKind::OutOfMemory {
-        return out_of_memory(alloc, err);
-    }
-    let _ = err.write_all(b"error: an argument is not UTF-8\n");
-    2
 }
 
 /// Reports what `clap` returned instead of matches: a usage error, or help or the version.

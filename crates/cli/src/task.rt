@@ -6,11 +6,10 @@ use crate::columns::columns_of;
 use cli_arguments::{Ask, Subcommand};
 use cli_cells::Names;
 use cli_faults::{Failure, UsageError};
-use cli_files::{
-    STANDARD_INPUT, code_of, names_of_type, offset_of, table_of, token_of, type_row_of,
-};
+use cli_files::STANDARD_INPUT;
 use cli_input::Input;
 use cli_lines::Form;
+use cli_names::{code_of, names_of_type, offset_of, table_of, token_of, type_row_of};
 use cli_nearest::{nearest_code, nearest_column, nearest_table};
 use cli_outline::Subject;
 use cli_runs::{CompareOptions, EmbedOptions, Listing, Naming, Report, Request, Verdict};

@@ -75,3 +75,7 @@ failure_text CannotWriteOutput = codes "error: cannot write output"
 failure_text (CannotWriteFile error) = codes "error: cannot write " ++ file_error_text error
 failure_text (CannotEmbed misfit) = codes "error: cannot embed the root" ++ 10 ∷ codes "  reason: " ++ misfit_text misfit
 failure_text OutOfMemory = codes "error: out of memory"
+
+-- what is printed of a file that breaks no rule
+abbrev pub ok_text : List ℕ
+ok_text = codes "ok"

@@ -2,8 +2,8 @@
 //!
 //! A [`Failure`] is the result of a run that failed. Its `Display` is the line for standard error, and
 //! [`Failure::status`] is the exit code. [`explain`] returns the texts of a rule, [`code_of_number`] the rule with a
-//! number, and [`all_codes`] all rules. [`Escaped`] is a text of a stranger as the program prints it. Nothing here
-//! allocates.
+//! number, and [`all_codes`] all rules. [`Escaped`] is a text of a stranger as the program prints it. [`OK`] is printed of a
+//! file without a fault. Nothing here allocates.
 //!
 //! ```text
 //! let code = code_of_number(501)?;
@@ -28,6 +28,7 @@ mod stop;
 mod stream_faults;
 mod table_faults;
 mod usage_error;
+mod verdict;
 
 pub use escaped::{Escaped, EscapedBytes, EscapedUnit};
 pub use explained::{Explanation, explain};
@@ -38,3 +39,4 @@ pub use numbered::{all_codes, code_of_number};
 pub use packed::FaultCode;
 pub use stop::Stop;
 pub use usage_error::UsageError;
+pub use verdict::OK;

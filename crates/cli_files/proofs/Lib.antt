@@ -1,4 +1,1 @@
-pub mod Finding
-pub mod NumbersRead
-pub mod TypeNames
 pub mod Reading

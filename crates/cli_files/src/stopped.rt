@@ -7,9 +7,9 @@ ghost use Rattle.cli_faults.specs.Stops.{status_of_stop};
 ghost use Rattle.cli_faults.specs.declared.stop.Stop.TheVariants.{Failed};
 
 use crate::hint::{Hint, hint_of};
-use crate::message::send_message;
 use cli_faults::{Escaped, Failure, Stop};
 use cli_input::Input;
+use cli_sending::send_message;
 use std::alloc::Global;
 use std::io::Write;
 use std::{fmt, io};

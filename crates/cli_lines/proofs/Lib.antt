@@ -1,7 +1,6 @@
 pub mod DigitLemmas
 pub mod PlainLemmas
 pub mod TextLemmas
-pub mod SentLemmas
 pub mod NameLemmas
 pub mod JsonLemmas
 pub mod LineLemmas

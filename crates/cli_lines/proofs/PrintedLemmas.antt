@@ -1,14 +1,15 @@
 -- What a printer was asked to print.
-use Rattle.std.proofs.Common.{◌≡◌, ◌∙◌, ℕ, true, false, List, [], ◌∷◌, ◌++◌, Option, None, Some, refl, ap, sym, subst, append_assoc, append-nil}
-use Rattle.std.specs.Prelude.{is_some}
+use Rattle.std.proofs.Common.{◌≡◌, ◌∙◌, ℕ, true, false, List, [], ◌∷◌, ◌++◌, Option, None, Some, Result, Ok, Err, refl, ap, sym, subst, append_assoc, append-nil}
+use Rattle.std.specs.Prelude.{IsErr, is_some}
 use Rattle.std.specs.Borrow.{GName}
 use Rattle.std.specs.declared.io.ErrorKind.{ErrorKind}
 use Rattle.std.proofs.lemmas.Grind.{flat_map-append}
 use Rattle.cli_lines.specs.declared.line.Before.{Before}
 use Rattle.cli_lines.specs.declared.parts.Form.{Form}
 use Rattle.cli_lines.specs.Lines.{Part, line_from, line_text, report_text}
-use Rattle.cli_lines.specs.Printed.{Adds, Asked, Awaits, Begins, Completes, Ends, Printed, Prints, Same, Sends, SendsPrefix, waits}
-use Rattle.cli_lines.proofs.SentLemmas.{prefix_longer, prefix_more, sends_more}
+use Rattle.cli_lines.specs.Printed.{Adds, Asked, Awaits, Begins, Completes, Ends, Moves, Printed, Prints, Same, waits}
+use Rattle.cli_sending.specs.Sent.{Sends, SendsPrefix}
+use Rattle.cli_sending.proofs.SentLemmas.{prefix_longer, prefix_more, sends_more}
 
 no_report : (form : Form) → report_text form [] ≡ []
 unfolding report_text
@@ -192,3 +193,9 @@ completed old now next lines left all completes printed = λ later more. complet
 
 pub all_completed : {W : Type 0} (old new : Printed W) (all : List (List Part)) → Completes old new [] all → Prints old new all
 all_completed old new all completes = completes new (prints_nothing new)
+
+-- a prefix went out, and then it failed
+pub cut_moved : {T E : Type 0} (result : Result T E) (before after : Option (List ℕ)) (bytes left : List ℕ) → IsErr result → SendsPrefix before after bytes
+    → Moves before after result bytes left
+cut_moved (Ok done) before after bytes left is cut = cc
+cut_moved (Err error) before after bytes left is cut = cut

@@ -2,13 +2,15 @@
 ghost use Rattle.std.specs.Prelude.{◌≡◌, ◌∷◌, ◌++◌, [], ℕ, IfErr, IsSome, List, None, OnOk, Option, map};
 ghost use Rattle.cli_faults.specs.Status.{IsOutput};
 ghost use Rattle.cli_lines.specs.Lines.{Part as ThePart, line_from};
-ghost use Rattle.cli_lines.specs.Printed.{Adds, Asked, Begins, Ends, Moves, Prints, SendsOrFails, SendsPrefix, Sent, waits};
+ghost use Rattle.cli_lines.specs.Printed.{Adds, Asked, Begins, Ends, Moves, Prints, SendsOrFails, waits};
+ghost use Rattle.cli_sending.specs.Sent.{SendsPrefix, Sent};
 ghost use Rattle.cli_lines.specs.Shown.{shown};
 
 use crate::line::{Before, push_end, push_part, push_parts};
 use crate::parts::{Form, Part};
-use crate::sending::{finish, send_full};
+use crate::sending::send_full;
 use cli_faults::Failure;
+use cli_sending::finish;
 use std::alloc::Global;
 use std::io::{self, ErrorKind, Write};
 use std::marker::Model;

@@ -1,47 +1,11 @@
-//! Sends lines to a writer.
-ghost use Rattle.std.specs.Prelude.{OnOk};
-ghost use Rattle.std.specs.Io.{WritesAtMost};
-ghost use Rattle.std.specs.Io.KnownBytes.{WriteAppends};
-ghost use Rattle.cli_lines.specs.Printed.{Moves, Sent};
+//! Sends lines to a writer, many at a time.
+ghost use Rattle.cli_lines.specs.Printed.{Moves};
 
-use std::io::{self, ErrorKind, Write};
+use cli_sending::send;
+use std::io::{self, Write};
 
 /// The number of waiting bytes from which they are sent.
 const FULL: usize = 1 << 16;
-
-/// One call of `write`. Returns the number of bytes that went out: 0 if the call was interrupted.
-fn send_some<W: Write>(bytes: &[u8], out: &mut W) -> io::Result<usize>
-    ensures bound { WritesAtMost result bytes.now }
-    ensures bytes { WriteAppends (W.contents out.old) (W.contents out.new) result bytes.now }
-{
-    match out.write(bytes) {
-        Ok(0) => Err(io::Error::from(ErrorKind::WriteZero)),
-        Ok(count) => Ok(count),
-        Err(error) => {
-            if error.kind() == ErrorKind::Interrupted {
-                Ok(0)
-            } else {
-                Err(error)
-            }
-        }
-    }
-}
-
-/// Sends all bytes, as `write_all` does. Its contract also says what went out if it fails.
-pub(crate) fn send<W: Write>(bytes: &[u8], out: &mut W) -> io::Result<()>
-    ensures { Sent (W.contents out.old) (W.contents out.new) result bytes.now }
-{
-    let mut tail = bytes;
-    for _turn in 0..u64::MAX {
-        if tail.is_empty() {
-            return Ok(());
-        }
-        let count = send_some(tail, out)?;
-        let (_, later) = tail.split_at(count);
-        tail = later;
-    }
-    Err(io::Error::from(ErrorKind::Interrupted))
-}
 
 /// Sends the waiting lines if they are many.
 pub(crate) fn send_full<W: Write>(lines: &mut Vec<u8>, out: &mut W) -> io::Result<()>
@@ -53,12 +17,4 @@ pub(crate) fn send_full<W: Write>(lines: &mut Vec<u8>, out: &mut W) -> io::Resul
     send(lines, out)?;
     lines.clear();
     Ok(())
-}
-
-/// Sends the last lines, and flushes the writer.
-pub(crate) fn finish<W: Write>(lines: &[u8], out: &mut W) -> io::Result<()>
-    ensures { Sent (W.contents out.old) (W.contents out.new) result lines.now }
-{
-    send(lines, out)?;
-    out.flush()
 }

@@ -6,10 +6,10 @@ ghost use Rattle.opening.specs.Views.{HasModel, row_count};
 
 use crate::nearest::{LONGEST_NAME, edits_below, limit_of};
 use cli_faults::{Escaped, Stop};
-use cli_files::send_message;
 use cli_input::{Input, open};
 use cli_outline::Subject;
 use cli_print::{NAME, NAMESPACE, text_of};
+use cli_sending::send_message;
 use opening::{ReadCells, TableId, View};
 use std::alloc::Global;
 use std::fmt;

@@ -11,7 +11,7 @@ use Rattle.cli_input.specs.Checked.{IsModelOf, IsWhole}
 use Rattle.cli_input.specs.declared.opened.Input.{Input}
 use Rattle.cli_lines.specs.declared.parts.Form.{Form}
 use Rattle.cli_lines.specs.Lines.{report_text}
-use Rattle.cli_lines.specs.Printed.{SendsPrefix}
+use Rattle.cli_sending.specs.Sent.{SendsPrefix}
 use Rattle.comparison.specs.declared.difference.Difference.{Difference}
 use Rattle.comparison.specs.declared.ignored.IgnoredColumns.{IgnoredColumns}
 use Rattle.comparison.specs.Differences.{first_differences_but}

@@ -9,12 +9,12 @@ use Rattle.embedding.specs.Planned.{IsPlanOf, Planned, result_of}
 use Rattle.cli_faults.specs.declared.failure.Failure.{Failure}
 use Rattle.cli_faults.specs.Status.{IsOutput, IsUnwritten}
 use Rattle.cli_files.specs.Stopped.{Outcome}
-use Rattle.cli_files.specs.Written.{IsGiven}
+use Rattle.cli_output.specs.Written.{IsGiven}
 use Rattle.cli_files.specs.declared.stopped.Stopped.{Stopped}
 use Rattle.cli_input.specs.declared.opened.Input.TheVariants.{File}
 use Rattle.cli_lines.specs.declared.parts.Form.{Form}
 use Rattle.cli_lines.specs.Lines.{report_text}
-use Rattle.cli_lines.specs.Printed.{SendsPrefix, Sent}
+use Rattle.cli_sending.specs.Sent.{SendsPrefix, Sent}
 use Rattle.cli_runs.specs.Embedded.{HasNoRoot, IsEmbedding, IsLineOf, IsPut, IsPutDone, IsPutUndone, IsRootFor, IsSent, WarnsOf, embed_line}
 use Rattle.cli_runs.specs.Rewritten.{ReportsUnwritten}
 use Rattle.cli_runs.specs.Runs.{IsMixed, StopsBy}

@@ -10,7 +10,8 @@ use Rattle.cli_faults.specs.declared.stop.Stop.{Stop}
 use Rattle.cli_input.specs.declared.opened.Input.{Input}
 use Rattle.cli_lines.specs.declared.parts.Form.{Form}
 use Rattle.cli_lines.specs.Lines.{Part, report_text}
-use Rattle.cli_lines.specs.Printed.{Asked, Printed, Sent}
+use Rattle.cli_lines.specs.Printed.{Asked, Printed}
+use Rattle.cli_sending.specs.Sent.{Sent}
 use Rattle.cli_runs.specs.Printing.{AreNone, Hands, HasPrinted}
 use Rattle.cli_runs.specs.Reports.{AreDeclared, AreNamed, HasEnded, IsFaultOut, IsListed, IsPrinted, IsStopped, OfModel, verdict_lines}
 use Rattle.cli_runs.specs.Runs.{AreCut, AreSent, IsReported}

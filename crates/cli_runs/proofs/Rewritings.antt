@@ -15,11 +15,11 @@ use Rattle.cli_faults.specs.Status.{IsOutput}
 use Rattle.cli_faults.specs.declared.stop.Stop.{Stop}
 use Rattle.cli_faults.specs.declared.stop.Stop.TheVariants.{Failed}
 use Rattle.cli_files.specs.Hints.{hint_for}
-use Rattle.cli_files.specs.Written.{IsGiven}
+use Rattle.cli_output.specs.Written.{IsGiven}
 use Rattle.cli_files.specs.declared.stopped.Stopped.{Stopped}
 use Rattle.cli_input.specs.Checked.{IsOpened}
 use Rattle.cli_input.specs.declared.opened.Input.{Input}
-use Rattle.cli_lines.specs.Printed.{SendsPrefix, Sent}
+use Rattle.cli_sending.specs.Sent.{SendsPrefix, Sent}
 use Rattle.cli_runs.specs.Rewritten.{IsDone, IsRewriting, IsRewritten, IsTooLong, IsUndone, wrote_text}
 
 module _ (input : Input) (bytes root : List ℕ) (opened : IsOpened input bytes root) (has : HasModel root) where

@@ -22,7 +22,7 @@ use Rattle.cli_input.specs.Checked.{IsModelOf, IsWhole, rules_of}
 use Rattle.cli_input.specs.declared.opened.Input.{Input}
 use Rattle.cli_lines.specs.declared.parts.Form.{Form}
 use Rattle.cli_lines.specs.Lines.{report_text}
-use Rattle.cli_lines.specs.Printed.{SendsPrefix}
+use Rattle.cli_sending.specs.Sent.{SendsPrefix}
 
 -- no column is ignored
 abbrev pub IgnoresNone : IgnoredColumns → Type 0

@@ -15,12 +15,12 @@ use Rattle.cli_faults.specs.declared.failure.Failure.TheVariants as failed
 use Rattle.cli_faults.specs.declared.misfit.Misfit.TheVariants as misfit
 use Rattle.cli_faults.specs.Status.{IsOutput, IsUnwritten}
 use Rattle.cli_files.specs.Stopped.{Outcome}
-use Rattle.cli_files.specs.Written.{IsGiven}
+use Rattle.cli_output.specs.Written.{IsGiven}
 use Rattle.cli_input.specs.declared.opened.Input.TheVariants.{File}
 use Rattle.cli_lines.specs.declared.names.Name.TheVariants as name
 use Rattle.cli_lines.specs.declared.parts.Form.{Form}
 use Rattle.cli_lines.specs.Lines.{Part, field, member, number, report_text, word}
-use Rattle.cli_lines.specs.Printed.{SendsPrefix}
+use Rattle.cli_sending.specs.Sent.{SendsPrefix}
 use Rattle.cli_runs.specs.Rewritten.{IsRewritten, ReportsUnwritten}
 use Rattle.cli_runs.specs.Runs.{IsFileRun, StopsBy}
 

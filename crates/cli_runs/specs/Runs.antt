@@ -12,7 +12,7 @@ use Rattle.cli_files.specs.Read.{IsRefused}
 use Rattle.cli_files.specs.Stopped.{Outcome}
 use Rattle.cli_lines.specs.declared.parts.Form.{Form}
 use Rattle.cli_lines.specs.Lines.{Part, report_text}
-use Rattle.cli_lines.specs.Printed.{SendsPrefix, Sent}
+use Rattle.cli_sending.specs.Sent.{SendsPrefix, Sent}
 use Rattle.cli_print.specs.Explanations.{AreExplanations}
 use Rattle.cli_input.specs.declared.opened.Input.{Input}
 use Rattle.cli_runs.specs.Reports.{HasEnded, IsSpent}

@@ -7,7 +7,7 @@ ghost use Rattle.cli_faults.specs.Status.{IsOutput};
 ghost use Rattle.cli_compare.specs.ComparedLines.{compared_lines};
 ghost use Rattle.cli_input.specs.Checked.{IsModelOf, IsWhole};
 ghost use Rattle.cli_lines.specs.Lines.{report_text};
-ghost use Rattle.cli_lines.specs.Printed.{Sent};
+ghost use Rattle.cli_sending.specs.Sent.{Sent};
 ghost use Rattle.cli_runs.specs.Compared.{IsComparing, IsRefusal, IsShown};
 ghost use Rattle.cli_runs.specs.Runs.{IsFileRun, IsWithin};
 

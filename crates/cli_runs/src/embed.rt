@@ -3,7 +3,7 @@ ghost use Rattle.std.specs.Prelude.{◌≡◌, ◌⊎◌, IfErr, OnOk, Some, opt
 ghost use Rattle.std.specs.Io.KnownBytes.{Appends};
 ghost use Rattle.cli_faults.specs.Status.{IsOutput, IsUnwritten};
 ghost use Rattle.cli_faults.specs.declared.failure.Failure.{Failure as Why};
-ghost use Rattle.cli_lines.specs.Printed.{SendsPrefix, Sent};
+ghost use Rattle.cli_sending.specs.Sent.{SendsPrefix, Sent};
 ghost use Rattle.cli_runs.specs.Embedded.{IsEmbedding, IsLineOf, IsPutDone, IsPutUndone, IsRootRun, IsSent, WarnsOf, failure_of, line_if, warnings};
 ghost use Rattle.cli_runs.specs.Runs.{IsFileRun, IsMixed, StopsBy};
 
@@ -11,11 +11,13 @@ use crate::canonical_root::canonical_root;
 use crate::compare::ReadFile;
 use crate::one_line::print_one;
 use cli_faults::{Failure, Misfit, Stop};
-use cli_files::{Stopped, check_path, read_file, send_message, write_file};
+use cli_files::{Stopped, read_file};
 use cli_input::Input as Given;
 use cli_lines::Part::{Field, Member, Word};
 use cli_lines::Value::Number;
 use cli_lines::{Form, Name};
+use cli_output::{check_path, write_file};
+use cli_sending::send_message;
 use embedding::{EmbedError, EmbedPlan, StrongName, plan_embedding};
 use std::alloc::Global;
 use std::fmt;

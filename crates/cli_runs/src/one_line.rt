@@ -2,7 +2,7 @@
 ghost use Rattle.std.specs.Prelude.{◌∷◌, [], IfErr, map};
 ghost use Rattle.cli_faults.specs.Status.{IsOutput};
 ghost use Rattle.cli_lines.specs.Lines.{report_text};
-ghost use Rattle.cli_lines.specs.Printed.{Sent};
+ghost use Rattle.cli_sending.specs.Sent.{Sent};
 ghost use Rattle.cli_lines.specs.Shown.{shown};
 
 use cli_faults::Failure;

@@ -1,7 +1,7 @@
 //! `clim rewrite`: the canonical root of a file.
 ghost use Rattle.std.specs.Prelude.{◌⊎◌, IfErr, OnOk};
 ghost use Rattle.cli_faults.specs.Status.{IsOutput};
-ghost use Rattle.cli_lines.specs.Printed.{Sent};
+ghost use Rattle.cli_sending.specs.Sent.{Sent};
 ghost use Rattle.cli_runs.specs.Rewritten.{IsDone, IsRewriting, IsUndone, wrote_text};
 ghost use Rattle.cli_runs.specs.Runs.{IsFileRun, IsMixed, IsWithin};
 
@@ -9,11 +9,12 @@ use crate::canonical_root::canonical_root;
 use crate::one_line::print_one;
 use crate::print_check::is_spent;
 use cli_faults::{Failure, Stop};
-use cli_files::{Stopped, check_path, read_file, write_file};
+use cli_files::{Stopped, read_file};
 use cli_input::Input as Given;
 use cli_lines::Form;
 use cli_lines::Part::{Note, Word};
 use cli_lines::Value::Number;
+use cli_output::{check_path, write_file};
 use std::alloc::Global;
 use std::io::Write;
 use std::rt::Files;

@@ -2,7 +2,8 @@
 //! else.
 #![tactic(auto)]
 
-use cli::{go, refuse_words};
+use cli::go;
+use cli_files::refuse_words;
 use std::process::ExitCode;
 use std::{env, io};
 

@@ -1,6 +1,7 @@
 use Rattle.std.proofs.Common.{◌++◌, []}
 use Rattle.cli_lines.specs.Lines.{line_from}
-use Rattle.cli_lines.proofs.SentLemmas.{cut_moved, prefix_of_nothing}
+use Rattle.cli_sending.proofs.SentLemmas.{prefix_of_nothing}
+use Rattle.cli_lines.proofs.PrintedLemmas.{cut_moved}
 use Rattle.cli_lines.proofs.printer.end_line.Goals as goal
 
 pub returns-in_err-push_end : goal.returns-in_err-push_end

@@ -1,7 +1,7 @@
 use Rattle.std.proofs.Common.{Option, subst}
 use Rattle.std.specs.declared.io.ErrorKind.{ErrorKind}
 use Rattle.cli_lines.specs.Printed.{SendsOrFails, waits}
-use Rattle.cli_lines.proofs.SentLemmas.{tail_printed}
+use Rattle.cli_sending.proofs.SentLemmas.{tail_printed}
 use Rattle.cli_lines.proofs.printer.finish_unless.Goals as goal
 
 pub returns-in-Some-clause-sent : goal.returns-in-Some-clause-sent

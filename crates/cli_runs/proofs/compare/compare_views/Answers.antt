@@ -5,7 +5,7 @@ use Rattle.metadata.specs.Model.{IsModel}
 use Rattle.comparison.specs.declared.difference.Difference.{Difference}
 use Rattle.comparison.specs.Differences.{IsThere}
 use Rattle.cli_faults.specs.declared.failure.Failure.TheVariants.{OutOfMemory}
-use Rattle.cli_lines.specs.Printed.{SendsPrefix}
+use Rattle.cli_sending.specs.Sent.{SendsPrefix}
 use Rattle.cli_runs.specs.Compared.{compare_text}
 use Rattle.cli_runs.proofs.Comparing.{are_same, compared, prefix_of_none, shows_cut, shows_different, shows_same}
 use Rattle.cli_runs.proofs.compare.compare_views.Goals as goal

@@ -2,7 +2,8 @@ use Rattle.std.proofs.Common.{[], rules, subst}
 use Rattle.cli_compare.specs.ComparedLines.{compared_lines}
 use Rattle.cli_lines.specs.declared.parts.Form.{Form}
 use Rattle.cli_lines.specs.Lines.{report_text}
-use Rattle.cli_lines.specs.Printed.{Asked, Sent}
+use Rattle.cli_lines.specs.Printed.{Asked}
+use Rattle.cli_sending.specs.Sent.{Sent}
 use Rattle.cli_runs.proofs.compare.print_found.Goals as goal
 
 pub returns-clause-printed : goal.returns-clause-printed

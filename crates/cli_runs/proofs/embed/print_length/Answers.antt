@@ -1,6 +1,6 @@
 use Rattle.std.proofs.Common.{◌≡◌, ◌-◌, ℕ, [], ◌∷◌, arith, length, subst}
 use Rattle.cli_lines.specs.Lines.{report_text}
-use Rattle.cli_lines.specs.Printed.{Sent}
+use Rattle.cli_sending.specs.Sent.{Sent}
 use Rattle.embedding.specs.Planned.{result_of}
 use Rattle.cli_runs.specs.Embedded.{embed_line}
 use Rattle.cli_runs.proofs.embed.print_length.Goals as goal

@@ -1,6 +1,6 @@
 use Rattle.std.proofs.Common.{◌≡◌, ℕ, List, subst}
 use Rattle.cli_faults.specs.Status.{IsUnwritten}
-use Rattle.cli_files.specs.Written.{IsGiven}
+use Rattle.cli_output.specs.Written.{IsGiven}
 use Rattle.embedding.specs.Planned.{result_of}
 use Rattle.cli_runs.proofs.Embeddings.{line_cut, line_done}
 use Rattle.cli_runs.proofs.embed.write.Goals as goal

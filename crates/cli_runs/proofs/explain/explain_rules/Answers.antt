@@ -4,7 +4,8 @@ use Rattle.cli_faults.specs.declared.failure.Failure.{Failure}
 use Rattle.cli_faults.specs.Status.{IsOutput}
 use Rattle.cli_lines.specs.declared.parts.Form.{Form}
 use Rattle.cli_lines.specs.Lines.{report_text}
-use Rattle.cli_lines.specs.Printed.{Asked, Sent}
+use Rattle.cli_lines.specs.Printed.{Asked}
+use Rattle.cli_sending.specs.Sent.{Sent}
 use Rattle.cli_runs.proofs.explain.explain_rules.Goals as goal
 
 of_output : (result : Result (Unit {0}) Failure) → IfErr result IsOutput → MatchResult result (λ done. Unit {0}) IsOutput

@@ -1,7 +1,8 @@
 use Rattle.std.proofs.Common.{[], ◌∷◌, map, rules, subst}
 use Rattle.cli_lines.specs.declared.parts.Form.{Form}
 use Rattle.cli_lines.specs.Lines.{report_text}
-use Rattle.cli_lines.specs.Printed.{Asked, Sent}
+use Rattle.cli_lines.specs.Printed.{Asked}
+use Rattle.cli_sending.specs.Sent.{Sent}
 use Rattle.cli_lines.specs.Shown.{shown}
 use Rattle.cli_runs.proofs.one_line.print_one.Goals as goal
 

@@ -1,5 +1,5 @@
 use Rattle.std.proofs.Common.{ℕ, List, subst}
-use Rattle.cli_files.specs.Written.{IsGiven}
+use Rattle.cli_output.specs.Written.{IsGiven}
 use Rattle.cli_runs.proofs.Rewritings.{printed_cut, printed_done}
 use Rattle.cli_runs.proofs.rewrite.rewrite.Goals as goal
 

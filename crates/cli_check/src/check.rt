@@ -1,0 +1,79 @@
+//! Checks a file.
+ghost use Rattle.std.specs.Prelude.{◌≡◌, ◌≤◌, IfErr};
+ghost use Rattle.cli_check.specs.Checked.{IsCheckOfBytes, IsCheckOfFile, ok_line};
+ghost use Rattle.cli_faults.specs.Status.{IsOutput};
+ghost use Rattle.cli_files.specs.Stopped.{status_of_outcome};
+ghost use Rattle.cli_sending.specs.Sent.{Sent};
+
+use cli_faults::{Failure, OK, Stop, printed};
+use cli_files::{Stopped, read_into, status};
+use cli_input::{Input, open};
+use cli_sending::finish;
+use std::alloc::{AllocError, Global};
+use std::io::Write;
+use std::rt::Files;
+
+/// Checks a file, and returns the exit code:
+///
+/// - 0: it breaks no rule, and the line `ok` went to `out`;
+/// - 1: it breaks a rule; the fault of the first one is reported to `err`;
+/// - 3: it cannot be read, the output cannot be written, or memory ran out; that is reported to `err`.
+pub fn check_one<R: Files + Input + AllocGlobal, W: Write, E: Write>(
+    rt: &R,
+    file: &str,
+    out: &mut W,
+    err: &mut E,
+) -> u8
+    ensures limit { result ≤ 3 }
+    ensures checked { IsCheckOfFile W.contents out.old out.new R.File.remaining R.Reader.remaining file.now result }
+    ensures quiet { result ≡ 0 → err.new ≡ err.old }
+{
+    let outcome = check_file(rt, file, out);
+    status(rt.alloc(), outcome, err)
+}
+
+/// Reads a file, checks it, and prints `ok` if it breaks no rule.
+fn check_file<'a, R: Files + Input + AllocGlobal, W: Write>(
+    rt: &R,
+    file: &'a str,
+    out: &mut W,
+) -> Result<(), Stopped<'a>>
+    ensures { IsCheckOfFile W.contents out.old out.new R.File.remaining R.Reader.remaining file.now (status_of_outcome result) }
+{
+    let mut bytes = Vec::new(rt.alloc());
+    match read_into(rt, file, &mut bytes) {
+        Ok(()) => check_bytes(rt.alloc(), bytes.as_slice(), out),
+        Err(failure) => Err(Stopped::from(failure)),
+    }
+}
+
+/// Checks the bytes of a file, and prints `ok` if they break no rule.
+fn check_bytes<'a, W: Write>(
+    alloc: Global,
+    bytes: &[u8],
+    out: &mut W,
+) -> Result<(), Stopped<'a>>
+    ensures { IsCheckOfBytes W.contents out.old out.new bytes.now (status_of_outcome result) }
+{
+    match open(bytes, Input::File) {
+        Ok(_) => match print_ok(alloc, out) {
+            Ok(()) => Ok(()),
+            Err(failure) => Err(Stopped::from(failure)),
+        },
+        Err(fault) => {
+            let stop = Stop::Failed(Failure::Fault(fault));
+            Err(Stopped::at(stop, None, Input::File, bytes))
+        }
+    }
+}
+
+/// Prints the line `ok`, by one write.
+fn print_ok<'a, W: Write>(alloc: Global, out: &mut W) -> Result<(), Failure<'a>>
+    ensures sent { Sent (W.contents out.old) (W.contents out.new) result ok_line }
+    ensures failed { IfErr result IsOutput }
+{
+    match format!(in alloc; "{OK}\n") {
+        Ok(line) => printed(finish(line.as_bytes(), out)),
+        Err(AllocError) => Err(Failure::OutOfMemory),
+    }
+}

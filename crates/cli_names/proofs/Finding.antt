@@ -1,0 +1,46 @@
+-- The first item of a list that passes a test, as the rule with a name is.
+use Rattle.std.proofs.Common.{◌≡◌, ◌∙◌, ◌+◌, ◌<◌, ℕ, zero, suc, Bool, true, false, cond, eqb, List, [], ◌∷◌, Some, None, length, take, get_or, ap, refl, arith}
+use Rattle.std.specs.Prelude.{find}
+use Rattle.std.specs.Str.{bytes_eq}
+use Rattle.packed.specs.Codes.{name_of, number_of_code}
+use Rattle.cli_faults.specs.Codes.{codes_in_order}
+use Rattle.cli_names.specs.Names.{code_named}
+
+module _ {X : Type 0} (passes : X → Bool) where
+  next_none : (xs : List X) (k : ℕ) (d : X) → k < length xs → find passes (take k xs) ≡ None → passes (get_or xs k d) ≡ false → find passes (take (suc k) xs) ≡ None
+  next_none [] k d lt none fails = absurd (omega (arith, lt))
+  next_none (x ∷ xs) zero d lt none fails = go (passes x) fails
+    where
+      go : (b : Bool) → b ≡ false → cond b (Some x) (find passes (take zero xs)) ≡ None
+      go true is = cc
+      go false is = refl
+  next_none (x ∷ xs) (suc k) d lt none fails = go (passes x) none (λ earlier. next_none xs k d (omega (arith, lt)) earlier fails)
+    where
+      go : (b : Bool) → cond b (Some x) (find passes (take k xs)) ≡ None → (find passes (take k xs) ≡ None → find passes (take (suc k) xs) ≡ None)
+          → cond b (Some x) (find passes (take (suc k) xs)) ≡ None
+      go true is later = cc
+      go false is later = later is
+
+  -- none of the items up to one passes
+  pub none_more : (xs : List X) (k : ℕ) (d : X) → k < length xs → find passes (take k xs) ≡ None → passes (get_or xs k d) ≡ false → find passes (take (k + 1) xs) ≡ None
+  none_more xs k d lt none fails = let next : k + 1 ≡ suc k = omega arith in ap (λ n. find passes (take n xs)) next ∙ next_none xs k d lt none fails
+
+  -- the first one that passes
+  pub found_at : (xs : List X) (k : ℕ) (d : X) → k < length xs → find passes (take k xs) ≡ None → passes (get_or xs k d) ≡ true → find passes xs ≡ Some (get_or xs k d)
+  found_at [] k d lt none met = absurd (omega (arith, lt))
+  found_at (x ∷ xs) zero d lt none met = go (passes x) met
+    where
+      go : (b : Bool) → b ≡ true → cond b (Some x) (find passes xs) ≡ Some x
+      go true is = refl
+      go false is = cc
+  found_at (x ∷ xs) (suc k) d lt none met = go (passes x) none (λ earlier. found_at xs k d (omega (arith, lt)) earlier met)
+    where
+      go : (b : Bool) → cond b (Some x) (find passes (take k xs)) ≡ None → (find passes (take k xs) ≡ None → find passes xs ≡ Some (get_or xs k d))
+          → cond b (Some x) (find passes xs) ≡ Some (get_or xs k d)
+      go true is later = cc
+      go false is later = later is
+
+-- a name that is not empty is looked for among all rules
+pub among_all : (name : List ℕ) → eqb (length name) 0 ≡ false → code_named name ≡ find (λ code. bytes_eq (name_of (number_of_code code)) name) codes_in_order
+among_all [] some = cc
+among_all (first ∷ tail) some = refl

@@ -1,0 +1,101 @@
+-- The number that digits denote, for an argument without a leading plus sign.
+use Rattle.std.proofs.Common.{◌≡◌, ◌≢◌, ◌∙◌, ◌==◌, ℕ, ◌^◌, ◌<◌, ◌≤◌, ◌++◌, Bool, true, false, cond, List, [], ◌∷◌, codes, drop, length, Result, Ok, Err, Option, None, Some, ap, arith, eqb-true, inl, inr, refl, subst, sym, ⊎_elim}
+use Rattle.std.specs.Prelude.{slice_index, MatchOption}
+use Rattle.std.specs.Char.{digit_value}
+use Rattle.std.specs.Option.{SomeIff}
+use Rattle.std.specs.Result.{result_ok}
+use Rattle.std.specs.Str.Parse.{IsNumeral, ParsesUnsigned, digits_value}
+use Rattle.std.proofs.Math.Nat.{pow-le-pow_right}
+use Rattle.std.proofs.lemmas.Int.Digits.{digits_value-lt}
+use Rattle.cli_names.specs.Numbers.{IsCodeNumber, IsHexNumber, IsOffset, IsTableNumber}
+
+plus_free : (led : Bool) (word : List ℕ) → led ≡ false → drop (cond led 1 0) word ≡ word
+plus_free true word none = cc
+plus_free false word none = refl
+
+-- an argument of at most eight bytes without a leading plus is read as a number if and only if it is hexadecimal digits
+pub token_read : {E : Type 0} (word : List ℕ) (read : Result ℕ E) (answer : Option ℕ) → length word ≤ 8 → (slice_index word 0 == 43) ≡ false
+    → ParsesUnsigned 32 16 word read → answer ≡ result_ok read → SomeIff answer (IsHexNumber word) (digits_value 16 word)
+token_read word (Ok number) answer short none parses is =
+    let P : List ℕ → Type 0 = λ ds. (IsNumeral 16 ds × (digits_value 16 ds < 2 ^ 32)) × (number ≡ digits_value 16 ds) in
+    let read = subst P (plus_free (slice_index word 0 == 43) word none) parses in
+    rw is ((read.0.0, short), read.1)
+token_read word (Err error) answer short none parses is =
+    let P : List ℕ → Type 0 = λ ds. ¬ (IsNumeral 16 ds × (digits_value 16 ds < 2 ^ 32)) in
+    let refused = subst P (plus_free (slice_index word 0 == 43) word none) parses in
+    rw is (λ hex. refused (hex.0, omega (arith, digits_value-lt 16 word hex.0.1, pow-le-pow_right {n = 16} (omega arith) short)))
+
+-- an argument of three bytes without a leading plus is read as a number if and only if it is decimal digits
+pub code_read : {E : Type 0} (word : List ℕ) (read : Result ℕ E) (answer : Option ℕ) → length word ≡ 3 → (slice_index word 0 == 43) ≡ false
+    → ParsesUnsigned 16 10 word read → answer ≡ result_ok read → SomeIff answer (IsCodeNumber word) (digits_value 10 word)
+code_read word (Ok number) answer three none parses is =
+    let P : List ℕ → Type 0 = λ ds. (IsNumeral 10 ds × (digits_value 10 ds < 2 ^ 16)) × (number ≡ digits_value 10 ds) in
+    let read = subst P (plus_free (slice_index word 0 == 43) word none) parses in
+    rw is ((read.0.0, three), read.1)
+code_read word (Err error) answer three none parses is =
+    let P : List ℕ → Type 0 = λ ds. ¬ (IsNumeral 10 ds × (digits_value 10 ds < 2 ^ 16)) in
+    let refused = subst P (plus_free (slice_index word 0 == 43) word none) parses in
+    rw is (λ digits.
+    let below : digits_value 10 word < 10 ^ 3 = subst (λ (n : ℕ). digits_value 10 word < 10 ^ n) three (digits_value-lt 10 word digits.0.1) in
+    refused (digits.0, omega (arith, below)))
+
+-- an argument of two bytes without a leading plus is read as a number if and only if it is hexadecimal digits
+pub table_read : {E : Type 0} (word : List ℕ) (read : Result ℕ E) (answer : Option ℕ) → length word ≡ 2 → (slice_index word 0 == 43) ≡ false
+    → ParsesUnsigned 8 16 word read → answer ≡ result_ok read → SomeIff answer (IsTableNumber word) (digits_value 16 word)
+table_read word (Ok number) answer two none parses is =
+    let P : List ℕ → Type 0 = λ ds. (IsNumeral 16 ds × (digits_value 16 ds < 2 ^ 8)) × (number ≡ digits_value 16 ds) in
+    let read = subst P (plus_free (slice_index word 0 == 43) word none) parses in
+    rw is ((read.0.0, two), read.1)
+table_read word (Err error) answer two none parses is =
+    let P : List ℕ → Type 0 = λ ds. ¬ (IsNumeral 16 ds × (digits_value 16 ds < 2 ^ 8)) in
+    let refused = subst P (plus_free (slice_index word 0 == 43) word none) parses in
+    rw is (λ digits.
+    let below : digits_value 16 word < 16 ^ 2 = subst (λ (n : ℕ). digits_value 16 word < 16 ^ n) two (digits_value-lt 16 word digits.0.1) in
+    refused (digits.0, omega (arith, below)))
+
+-- an argument without a leading plus is read as a number of 64 bits if and only if it is digits of one
+pub number_read : {E : Type 0} (radix : ℕ) (word : List ℕ) (read : Result ℕ E) (answer : Option ℕ) → (slice_index word 0 == 43) ≡ false
+    → ParsesUnsigned 64 radix word read → answer ≡ result_ok read → SomeIff answer (IsNumeral radix word × (digits_value radix word < 2 ^ 64)) (digits_value radix word)
+number_read radix word (Ok number) answer none parses is =
+    let P : List ℕ → Type 0 = λ ds. (IsNumeral radix ds × (digits_value radix ds < 2 ^ 64)) × (number ≡ digits_value radix ds) in
+    let read = subst P (plus_free (slice_index word 0 == 43) word none) parses in
+    rw is (read.0, read.1)
+number_read radix word (Err error) answer none parses is =
+    let P : List ℕ → Type 0 = λ ds. ¬ (IsNumeral radix ds × (digits_value radix ds < 2 ^ 64)) in
+    let refused = subst P (plus_free (slice_index word 0 == 43) word none) parses in
+    rw is (λ digits. refused digits)
+
+-- digits do not begin with a plus
+plus_no_numeral : (radix : ℕ) (word : List ℕ) → radix ≤ 36 → (slice_index word 0 == 43) ≡ true → ¬ IsNumeral radix word
+plus_no_numeral radix [] low is = λ numeral. cc
+plus_no_numeral radix (c ∷ cs) low is = λ numeral.
+    let plus : c ≡ 43 = eqb-true c 43 is in
+    let below : digit_value 43 < radix = subst (λ (b : ℕ). digit_value b < radix) plus numeral.1.0 in
+    absurd (omega (arith, below, low))
+
+pub plus_denotes_none : (radix : ℕ) (word : List ℕ) → radix ≤ 36 → (slice_index word 0 == 43) ≡ true
+    → ¬ (IsNumeral radix word × (digits_value radix word < 2 ^ 64))
+plus_denotes_none radix word low is = λ digits. plus_no_numeral radix word low is digits.0
+
+-- decimal digits have no `x`
+pub no_x : (digits : List ℕ) → ¬ IsNumeral 10 (codes "0x" ++ digits)
+no_x digits = λ numeral. absurd (omega (arith, numeral.1.1.0))
+
+-- an argument after `0x` is read as hexadecimal digits
+pub hexadecimal_read : (word digits : List ℕ) (answer : Option ℕ) → word ≡ codes "0x" ++ digits
+    → SomeIff answer (IsNumeral 16 digits × (digits_value 16 digits < 2 ^ 64)) (digits_value 16 digits)
+    → MatchOption answer ((number : ℕ) → ¬ IsOffset word number) (IsOffset word)
+hexadecimal_read word digits (Some number) is read = inr (digits, is, (read.0.0, read.0.1, read.1))
+hexadecimal_read word digits None is read = λ number denotes. ⊎_elim
+    (λ decimal. no_x digits (subst (λ (w : List ℕ). IsNumeral 10 w) is decimal.0))
+    (λ other. let same : other.0 ≡ digits = ap (drop 2) (sym other.1 ∙ is) in
+    read (subst (λ (ds : List ℕ). IsNumeral 16 ds × (digits_value 16 ds < 2 ^ 64)) same (other.2.0, other.2.1)))
+    denotes
+
+-- any other argument is read as decimal digits
+pub decimal_read : (word : List ℕ) (answer : Option ℕ) → ((digits : List ℕ) → word ≢ codes "0x" ++ digits)
+    → SomeIff answer (IsNumeral 10 word × (digits_value 10 word < 2 ^ 64)) (digits_value 10 word)
+    → MatchOption answer ((number : ℕ) → ¬ IsOffset word number) (IsOffset word)
+decimal_read word (Some number) lacks read = inl (read.0.0, read.0.1, read.1)
+decimal_read word None lacks read = λ number denotes. ⊎_elim
+    (λ decimal. read (decimal.0, decimal.1)) (λ other. lacks other.0 other.1) denotes

@@ -1,0 +1,35 @@
+-- The arguments that name a fault or a table.
+use Rattle.std.specs.Prelude.{◌≡◌, ◌≢◌, ℕ, ◌⊎◌, List, [], ◌∷◌, ◌++◌, Option, None, Some, find}
+use Rattle.std.specs.List.{All}
+use Rattle.std.specs.Str.{bytes_eq}
+use Rattle.std.specs.Str.Parse.{digits_value}
+use Rattle.packed.specs.declared.code.FaultCode.{FaultCode}
+use Rattle.packed.specs.Codes.{name_of, number_of_code}
+use Rattle.table_schema.specs.declared.table.TableId.{TableId}
+use Rattle.table_schema.specs.Tables.{table_name, table_number, tables}
+use Rattle.cli_faults.specs.Codes.{codes_in_order}
+use Rattle.cli_names.specs.Numbers.{IsCodeNumber, IsTableNumber}
+
+-- the rule with this name; some rules have none
+abbrev pub code_named : List ℕ → Option FaultCode
+code_named [] = None
+code_named name = find (λ code. bytes_eq (name_of (number_of_code code)) name) codes_in_order
+
+-- the argument is the number of a rule in three decimal digits, or else its name
+abbrev pub NamesCode : List ℕ → FaultCode → Type 0
+NamesCode word code =
+    (IsCodeNumber word × (number_of_code code ≡ digits_value 10 word)) ⊎ ((¬ IsCodeNumber word) × (code_named word ≡ Some code))
+
+-- the table with this name (ECMA-335 II.22)
+abbrev pub table_named : List ℕ → Option TableId
+table_named name = find (λ table. bytes_eq (table_name table) name) tables
+
+-- the argument is the number of a table in two hexadecimal digits, or else its name
+abbrev pub NamesTable : List ℕ → TableId → Type 0
+NamesTable word table =
+    (IsTableNumber word × (table_number table ≡ digits_value 16 word)) ⊎ ((¬ IsTableNumber word) × (table_named word ≡ Some table))
+
+-- the full name of a type: its namespace, a dot and its name; or its name alone. A name has no dot, whose ASCII code is 46
+abbrev pub IsFullName : List ℕ → List ℕ → List ℕ → Type 0
+IsFullName word namespace name =
+    All (λ byte. byte ≢ 46) name × ((word ≡ namespace ++ 46 ∷ name) ⊎ ((namespace ≡ []) × (word ≡ name)))

@@ -1,0 +1,107 @@
+-- What goes out to a writer, one part after another.
+use Rattle.std.proofs.Common.{◌≡◌, ◌∙◌, ℕ, true, List, [], ◌∷◌, ◌++◌, length, Option, None, Some, Result, Ok, Err, refl, ap, sym, subst, append_assoc, append-nil, arith, eqb-true}
+use Rattle.std.specs.Prelude.{IsErr, IsOk, ◌==◌, ◌↔◌}
+use Rattle.std.specs.Io.KnownBytes.{Appends, Keeps}
+use Rattle.cli_sending.specs.Sent.{Sends, SendsPrefix, Sent}
+
+pub appends_nothing : (known : Option (List ℕ)) → Appends known known []
+appends_nothing None = tt
+appends_nothing (Some xs) = sym (append-nil xs)
+
+pub appends_more : (before between after : Option (List ℕ)) (xs ys : List ℕ) → Appends before between xs → Appends between after ys → Appends before after (xs ++ ys)
+appends_more None between after xs ys first second = tt
+appends_more (Some x) None after xs ys first second = absurd first
+appends_more (Some x) (Some y) None xs ys first second = absurd second
+appends_more (Some x) (Some y) (Some z) xs ys first second = second ∙ ap (λ bytes. bytes ++ ys) first ∙ append_assoc x xs ys
+
+pub appends_kept : (before between after : Option (List ℕ)) (xs : List ℕ) → Appends before between xs → Keeps between after → Appends before after xs
+appends_kept None between after xs first second = tt
+appends_kept (Some x) None after xs first second = absurd first
+appends_kept (Some x) (Some y) None xs first second = absurd second
+appends_kept (Some x) (Some y) (Some z) xs first second = second ∙ first
+
+pub sends_nothing : (known : Option (List ℕ)) (bytes : List ℕ) → Sends known known bytes bytes
+sends_nothing known bytes = ([], refl, appends_nothing known)
+
+pub sends_more : (before between after : Option (List ℕ)) (bytes left more tail : List ℕ) → Sends before between bytes left → Sends between after (left ++ more) tail
+    → Sends before after (bytes ++ more) tail
+sends_more before between after bytes left more tail first second = (
+  first.0 ++ second.0,
+  ap (λ xs. xs ++ more) first.1 ∙ append_assoc first.0 left more ∙ ap (λ xs. first.0 ++ xs) second.1 ∙ sym (append_assoc first.0 second.0 tail),
+  appends_more before between after first.0 second.0 first.2 second.2,
+)
+
+pub prefix_longer : (before after : Option (List ℕ)) (bytes more : List ℕ) → SendsPrefix before after bytes → SendsPrefix before after (bytes ++ more)
+prefix_longer before after bytes more cut =
+    (cut.0 ++ more, (cut.1.0, ap (λ xs. xs ++ more) cut.1.1 ∙ append_assoc cut.1.0 cut.0 more, cut.1.2))
+
+pub prefix_more : (before between after : Option (List ℕ)) (bytes left more : List ℕ) → Sends before between bytes left → SendsPrefix between after (left ++ more)
+    → SendsPrefix before after (bytes ++ more)
+prefix_more before between after bytes left more first second = (second.0, sends_more before between after bytes left more second.0 first second.1)
+
+-- nothing went out
+pub prefix_of_nothing : (known : Option (List ℕ)) (bytes : List ℕ) → SendsPrefix known known bytes
+prefix_of_nothing known bytes = (bytes, sends_nothing known bytes)
+
+-- all that was left is nothing
+pub all_sent : (before after : Option (List ℕ)) (bytes left : List ℕ) → Sends before after bytes left → left ≡ [] → Appends before after bytes
+all_sent before after bytes left sends none =
+    let same : bytes ≡ sends.0 = sends.1 ∙ ap (λ xs. sends.0 ++ xs) none ∙ append-nil sends.0 in
+    subst (λ (xs : List ℕ). Appends before after xs) (sym same) sends.2
+
+-- what is left is sent last
+pub tail_sent : (before between after : Option (List ℕ)) (bytes left : List ℕ) → Sends before between bytes left → Appends between after left → Appends before after bytes
+tail_sent before between after bytes left first last =
+    subst (λ (xs : List ℕ). Appends before after xs) (sym first.1) (appends_more before between after first.0 left first.2 last)
+
+-- a prefix of what is left is sent last
+pub tail_cut : (before between after : Option (List ℕ)) (bytes left : List ℕ) → Sends before between bytes left → SendsPrefix between after left → SendsPrefix before after bytes
+tail_cut before between after bytes left first cut =
+    (cut.0, (first.0 ++ cut.1.0, first.1 ∙ ap (λ xs. first.0 ++ xs) cut.1.1 ∙ sym (append_assoc first.0 cut.1.0 cut.0), appends_more before between after first.0 cut.1.0 first.2 cut.1.2))
+
+pub nothing_left : (left : List ℕ) → true ≡ (length left == 0) → left ≡ []
+nothing_left [] is = refl
+nothing_left (byte ∷ bytes) is = let none = eqb-true (length (byte ∷ bytes)) 0 (sym is) in absurd (omega arith)
+
+-- some of what is left is sent
+pub some_sent : (before between after : Option (List ℕ)) (bytes left some tail : List ℕ) → Sends before between bytes left → Appends between after some → left ≡ some ++ tail
+    → Sends before after bytes tail
+some_sent before between after bytes left some tail first more whole =
+    (first.0 ++ some, first.1 ∙ ap (λ xs. first.0 ++ xs) whole ∙ sym (append_assoc first.0 some tail), appends_more before between after first.0 some first.2 more)
+
+-- nothing more is sent
+pub cut_here : (before between after : Option (List ℕ)) (bytes left : List ℕ) → Sends before between bytes left → Keeps between after → SendsPrefix before after bytes
+cut_here before between after bytes left first kept = (left, (first.0, first.1, appends_kept before between after first.0 first.2 kept))
+
+module _ {T E : Type 0} where
+  pub cut_printed : (result : Result T E) (before after : Option (List ℕ)) (bytes : List ℕ) → IsErr result → SendsPrefix before after bytes → Sent before after result bytes
+  cut_printed (Ok done) before after bytes is cut = cc
+  cut_printed (Err error) before after bytes is cut = cut
+
+  pub tail_printed : (result : Result T E) (before between after : Option (List ℕ)) (bytes left : List ℕ) → Sends before between bytes left
+      → Sent between after result left → Sent before after result bytes
+  tail_printed (Ok done) before between after bytes left first last = tail_sent before between after bytes left first last
+  tail_printed (Err error) before between after bytes left first last = tail_cut before between after bytes left first last
+
+  -- a flush changes nothing of what went out
+  pub flushed : (result : Result T E) (before between after : Option (List ℕ)) (bytes : List ℕ) → Appends before between bytes → Keeps between after
+      → Sent before after result bytes
+  flushed (Ok done) before between after bytes first kept = appends_kept before between after bytes first kept
+  flushed (Err error) before between after bytes first kept = ([], (bytes, sym (append-nil bytes), appends_kept before between after bytes first kept))
+
+not_ok : {T E : Type 0} (result : Result T E) (error : E) → result ≡ Err error → IsOk result → ⊥
+not_ok (Ok done) error same is = cc
+not_ok (Err other) error same is = cc
+
+-- another result that is `Ok` if and only if the first one is
+pub same_printed : {T E F : Type 0} (first : Result T E) (second : Result T F) (before after : Option (List ℕ)) (text : List ℕ) → IsOk second ↔ IsOk first
+    → Sent before after first text → Sent before after second text
+same_printed (Ok done) (Ok more) before after text same printed = printed
+same_printed {T = T} {F = F} (Ok done) (Err error) before after text same printed = absurd (not_ok {T = T} {E = F} (Err error) error refl (same.1 refl))
+same_printed {T = T} {E = E} (Err error) (Ok more) before after text same printed = absurd (not_ok {T = T} {E = E} (Err error) error refl (same.0 refl))
+same_printed (Err error) (Err other) before after text same printed = printed
+
+-- nothing was to be sent
+pub nothing_sent : {T E : Type 0} (result : Result T E) (before after : Option (List ℕ)) (text : List ℕ) → Sent before after result [] → SendsPrefix before after text
+nothing_sent (Ok done) before after text sent = (text, ([], refl, sent))
+nothing_sent (Err error) before after text cut = prefix_longer before after [] text cut
