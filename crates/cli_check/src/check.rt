@@ -7,7 +7,7 @@ ghost use Rattle.cli_sending.specs.Sent.{Sent};
 
 use cli_faults::{Failure, OK, Stop, printed};
 use cli_files::{Stopped, read_into, status};
-use cli_input::{Input, open};
+use cli_input::{Input as Given, open};
 use cli_sending::finish;
 use std::alloc::{AllocError, Global};
 use std::io::Write;
@@ -55,14 +55,14 @@ fn check_bytes<'a, W: Write>(
 ) -> Result<(), Stopped<'a>>
     ensures { IsCheckOfBytes W.contents out.old out.new bytes.now (status_of_outcome result) }
 {
-    match open(bytes, Input::File) {
+    match open(bytes, Given::File) {
         Ok(_) => match print_ok(alloc, out) {
             Ok(()) => Ok(()),
             Err(failure) => Err(Stopped::from(failure)),
         },
         Err(fault) => {
             let stop = Stop::Failed(Failure::Fault(fault));
-            Err(Stopped::at(stop, None, Input::File, bytes))
+            Err(Stopped::at(stop, None, Given::File, bytes))
         }
     }
 }

@@ -2,6 +2,7 @@
 use Rattle.std.specs.Prelude.{ℕ, List, [], ◌∷◌, ◌++◌, codes, Option, None, Some}
 use Rattle.packed.specs.declared.fault.Fault.{Fault}
 use Rattle.packed.specs.Codes.{name_of}
+use Rattle.cli_faults.specs.Texts.{ok_text}
 use Rattle.cli_lines.specs.declared.names.Name.TheVariants as name
 use Rattle.cli_lines.specs.Lines.{Part, word, field, member, number, plain, text, yes}
 
@@ -18,7 +19,7 @@ fault_parts found =
 
 -- `ok` if no rule is broken
 abbrev pub outcome_parts : Option Fault → List Part
-outcome_parts None = word (codes "ok") ∷ member name.Ok yes ∷ []
+outcome_parts None = word ok_text ∷ member name.Ok yes ∷ []
 outcome_parts (Some found) = fault_parts found
 
 -- the line of a file that was checked

@@ -4,6 +4,7 @@ ghost use Rattle.std.specs.Option.{option_map};
 ghost use Rattle.cli_lines.specs.Printed.{Adds, Begins, Prints};
 ghost use Rattle.cli_print.specs.Verdicts.{fault_parts, file_parts, outcome_parts, verdict_line};
 
+use cli_faults::OK;
 use cli_lines::Part::{Field, Member, Word};
 use cli_lines::Value::{Number, Plain, Text, Yes};
 use cli_lines::{Name, Printer};
@@ -45,7 +46,7 @@ fn add_ok<W: Write>(out: &mut Printer<'_, W>)
     ensures { Adds out.old out.new (outcome_parts None) }
 {
     cli_lines::laws::parts_follow::<W>();
-    out.part(&Word("ok"));
+    out.part(&Word(OK));
     out.part(&Member(Name::Ok, Yes));
 }
 
