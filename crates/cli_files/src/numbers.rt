@@ -1,5 +1,5 @@
 //! Parses the numbers in arguments.
-ghost use Rattle.std.specs.Prelude.{◌<◌, ◌^◌, ◌%◌, ◌≤◌, ℕ, MatchOption};
+ghost use Rattle.std.specs.Prelude.{◌≡◌, ◌<◌, ◌^◌, ◌%◌, ◌≤◌, ℕ, MatchOption};
 ghost use Rattle.std.specs.Option.{SomeIff};
 ghost use Rattle.std.specs.Str.Parse.{IsNumeral, digits_value};
 ghost use Rattle.cli_files.specs.Numbers.{IsCodeNumber, IsHexNumber, IsOffset, IsTableNumber, IsTypeToken, digits_of};
@@ -23,7 +23,10 @@ pub fn token_of(word: &str) -> Option<u32>
 fn digits_of(word: &str) -> &str
     ensures { result.now ≡ digits_of word.now }
 {
-    word.strip_prefix("0x").unwrap_or(word)
+    let Some(digits) = word.strip_prefix("0x") else {
+        return word;
+    };
+    digits
 }
 
 /// The row of the token of a type with these eight hexadecimal digits, in either case, of which the first two are `02`
