@@ -1,10 +1,14 @@
 -- The columns that arguments name, one after another.
-use Rattle.std.proofs.Common.{◌≡◌, ◌≢◌, ◌∙◌, ◌+◌, ◌<◌, ℕ, Bool, true, false, List, [], ◌∷◌, ◌++◌, All, take, get_or, length, refl, ap, sym, subst, arith, inl, inr, ◌⊎◌}
+use Rattle.std.proofs.Common.{◌≡◌, ◌≢◌, ◌∙◌, ◌+◌, ◌<◌, ◌≤◌, ℕ, Bool, true, false, cond, List, [], ◌∷◌, ◌++◌, All, map, drop, take, get_or, length, refl, ap, sym, subst, arith, inl, inr, ◌⊎◌}
 use Rattle.std.specs.Prelude.{Option, None, Some, IfNone, IfSome, slice_index_or}
 use Rattle.std.specs.List.{Any}
+use Rattle.std.specs.Char.{to_ascii_lowercase}
 use Rattle.std.specs.Borrow.{Bor}
+use Rattle.std.proofs.Math.Dec.{ltb}
+use Rattle.std.proofs.Math.Seq.{drop-append_seam, take-append_seam}
+use Rattle.std.proofs.lemmas.Bool.{ltb-false}
 use Rattle.std.proofs.lemmas.Bool.Decides.{Decides-eqb}
-use Rattle.std.proofs.lemmas.List.{append_cancel_left, get_or_append_left, length-append}
+use Rattle.std.proofs.lemmas.List.{append_cancel_left, get_or_append_left, length-append, length-map, map-append}
 use Rattle.std.proofs.lemmas.List.Elements.{All-get_or, All-weaker}
 use Rattle.std.proofs.lemmas.List.Quantifiers.{Any-push}
 use Rattle.std.specs.Bool.{Decides}
@@ -44,37 +48,80 @@ pub when_none : (P : Type 0) (found : Option ℕ) → P → IfNone found P
 when_none P None holds = holds
 when_none P (Some value) holds = tt
 
+-- a byte that is a dot in lower case is a dot
+dot_is : (b : ℕ) → to_ascii_lowercase b ≡ 46 → b ≡ 46
+dot_is b is = go (ltb b 65) (ltb b 91) (ltb-false b 65) is
+  where
+    go : (below within : Bool) → (below ≡ false → 65 ≤ b) → cond below b (cond within (b + 32) b) ≡ 46 → b ≡ 46
+    go true within from same = same
+    go false true from same = absurd (omega (arith, from refl, same))
+    go false false from same = same
+
+-- a text that does not begin with a dot does not in lower case
+dotless : (tail : List ℕ) → ((more : List ℕ) → tail ≢ 46 ∷ more) → (rest : List ℕ) → map to_ascii_lowercase tail ≡ 46 ∷ rest → ⊥
+dotless [] none rest is = cc
+dotless (b ∷ bs) none rest is = none bs (ap (λ c. c ∷ bs) (dot_is b (ap (λ (xs : List ℕ). get_or xs 0 0) is)))
+
 -- an argument, and the name of a table
 module _ (word : List ℕ) (table : TableId) where
-  -- it does not start with that name
-  pub no_table : ((tail : List ℕ) → word ≢ table_name table ++ tail) → (cell_index : ℕ) → NamesColumn word table cell_index → ⊥
-  no_table none cell_index named = none (46 ∷ column_name table cell_index) named.1
+  -- it is shorter than that name
+  pub too_short : length word < length (table_name table) → (cell_index : ℕ) → NamesColumn word table cell_index → ⊥
+  too_short short cell_index named =
+      let full = table_name table ++ 46 ∷ column_name table cell_index in
+      let same : length word ≡ length (table_name table) + length (46 ∷ column_name table cell_index) =
+          sym (length-map word to_ascii_lowercase) ∙ ap length named.1 ∙ length-map full to_ascii_lowercase ∙ length-append (table_name table) (46 ∷ column_name table cell_index) in
+      absurd (omega (arith, short, same))
 
-  module _ (tail : List ℕ) (is : word ≡ table_name table ++ tail) where
-    after_name : (cell_index : ℕ) → NamesColumn word table cell_index → tail ≡ 46 ∷ column_name table cell_index
-    after_name cell_index named = append_cancel_left (table_name table) tail (46 ∷ column_name table cell_index) (sym is ∙ named.1)
+  -- the part of it that is as long as that name, and the rest
+  module _ (first tail : List ℕ) (is : word ≡ first ++ tail) (long : length first ≡ length (table_name table)) where
+    halves : (cell_index : ℕ) → NamesColumn word table cell_index
+        → (map to_ascii_lowercase first ≡ map to_ascii_lowercase (table_name table)) × (map to_ascii_lowercase tail ≡ 46 ∷ map to_ascii_lowercase (column_name table cell_index))
+    halves cell_index named =
+        let column = 46 ∷ column_name table cell_index in
+        let whole = sym (map-append to_ascii_lowercase first tail) ∙ ap (map to_ascii_lowercase) (sym is) ∙ named.1 ∙ map-append to_ascii_lowercase (table_name table) column in
+        let same = length-map first to_ascii_lowercase ∙ long ∙ sym (length-map (table_name table) to_ascii_lowercase) in (
+          sym (take-append_seam (map to_ascii_lowercase first) (map to_ascii_lowercase tail)) ∙ (λ k. take (same k) (whole k))
+          ∙ take-append_seam (map to_ascii_lowercase (table_name table)) (map to_ascii_lowercase column),
+          sym (drop-append_seam (map to_ascii_lowercase first) (map to_ascii_lowercase tail)) ∙ (λ k. drop (same k) (whole k))
+          ∙ drop-append_seam (map to_ascii_lowercase (table_name table)) (map to_ascii_lowercase column),
+        )
 
-    -- no dot follows that name
+    -- no dot follows that part
     pub no_dot : ((more : List ℕ) → tail ≢ 46 ∷ more) → (cell_index : ℕ) → NamesColumn word table cell_index → ⊥
-    no_dot none cell_index named = none (column_name table cell_index) (after_name cell_index named)
+    no_dot none cell_index named = dotless tail none (map to_ascii_lowercase (column_name table cell_index)) (halves cell_index named).1
+
+    -- that part is not that name
+    pub no_table : (map to_ascii_lowercase first ≢ map to_ascii_lowercase (table_name table)) → (cell_index : ℕ) → NamesColumn word table cell_index → ⊥
+    no_table none cell_index named = none (halves cell_index named).0
 
     module _ (name : List ℕ) (dotted : tail ≡ 46 ∷ name) where
       -- the name of a column follows
-      pub column_there : (cell_index : ℕ) → cell_index < cell_count table → name ≡ column_name table cell_index → NamesColumn word table cell_index
-      column_there cell_index within same = (within, is ∙ ap (λ (xs : List ℕ). table_name table ++ xs) (dotted ∙ ap (λ (xs : List ℕ). 46 ∷ xs) same))
+      column_there : map to_ascii_lowercase first ≡ map to_ascii_lowercase (table_name table) → (cell_index : ℕ) → cell_index < cell_count table
+          → map to_ascii_lowercase name ≡ map to_ascii_lowercase (column_name table cell_index) → NamesColumn word table cell_index
+      column_there begins cell_index within same =
+          let rest : map to_ascii_lowercase tail ≡ 46 ∷ map to_ascii_lowercase (column_name table cell_index) =
+              ap (map to_ascii_lowercase) dotted ∙ ap (λ (xs : List ℕ). 46 ∷ xs) same in
+          (within, ap (map to_ascii_lowercase) is ∙ map-append to_ascii_lowercase first tail ∙ (λ k. begins k ++ rest k)
+          ∙ sym (map-append to_ascii_lowercase (table_name table) (46 ∷ column_name table cell_index)))
 
       -- or that of none
-      pub no_column : ((cell_index : ℕ) → cell_index < cell_count table → name ≢ column_name table cell_index) → (cell_index : ℕ) → NamesColumn word table cell_index → ⊥
+      no_column : ((cell_index : ℕ) → cell_index < cell_count table → map to_ascii_lowercase name ≢ map to_ascii_lowercase (column_name table cell_index))
+          → (cell_index : ℕ) → NamesColumn word table cell_index → ⊥
       no_column none cell_index named =
-          none cell_index named.0 (append_cancel_left (46 ∷ []) name (column_name table cell_index) (sym dotted ∙ after_name cell_index named))
+          none cell_index named.0
+          (append_cancel_left (46 ∷ []) (map to_ascii_lowercase name) (map to_ascii_lowercase (column_name table cell_index))
+          (ap (map to_ascii_lowercase) (sym dotted) ∙ (halves cell_index named).1))
 
       -- what is found is a column
-      pub found_there : (found : Option ℕ) → IfSome found (λ cell_index. (cell_index < cell_count table) × (name ≡ column_name table cell_index)) → IfSome found (NamesColumn word table)
-      found_there None is = tt
-      found_there (Some cell_index) is = column_there cell_index is.0 is.1
+      pub found_there : map to_ascii_lowercase first ≡ map to_ascii_lowercase (table_name table) → (found : Option ℕ)
+          → IfSome found (λ cell_index. (cell_index < cell_count table) × (map to_ascii_lowercase name ≡ map to_ascii_lowercase (column_name table cell_index)))
+          → IfSome found (NamesColumn word table)
+      found_there begins None is = tt
+      found_there begins (Some cell_index) is = column_there begins cell_index is.0 is.1
 
       -- and if nothing is, there is none
-      pub found_none : (found : Option ℕ) → IfNone found ((cell_index : ℕ) → cell_index < cell_count table → name ≢ column_name table cell_index)
+      pub found_none : (found : Option ℕ)
+          → IfNone found ((cell_index : ℕ) → cell_index < cell_count table → map to_ascii_lowercase name ≢ map to_ascii_lowercase (column_name table cell_index))
           → IfNone found ((cell_index : ℕ) → NamesColumn word table cell_index → ⊥)
       found_none None none = no_column none
       found_none (Some cell_index) none = tt
@@ -86,11 +133,13 @@ of_each_table P stand within count all table =
     subst P (stand table) (All-get_or P tables (table_index_of table) Module (subst (λ (n : ℕ). table_index_of table < n) (sym count) (within table)) all)
 
 -- no column before an index has a name, and the one at it has not
-pub next_differs : (name : List ℕ) (table : TableId) (k : ℕ) → ((index : ℕ) → index < k → name ≢ column_name table index) → name ≢ column_name table k
-    → (index : ℕ) → index < k + 1 → name ≢ column_name table index
+pub next_differs : (name : List ℕ) (table : TableId) (k : ℕ)
+    → ((index : ℕ) → index < k → map to_ascii_lowercase name ≢ map to_ascii_lowercase (column_name table index))
+    → map to_ascii_lowercase name ≢ map to_ascii_lowercase (column_name table k)
+    → (index : ℕ) → index < k + 1 → map to_ascii_lowercase name ≢ map to_ascii_lowercase (column_name table index)
 next_differs name table k before at index lt =
     elim (same_or_not index k _ (Decides-eqb index k)) [
-      | inl is ↦ subst (λ (i : ℕ). name ≢ column_name table i) (sym is) at
+      | inl is ↦ subst (λ (i : ℕ). map to_ascii_lowercase name ≢ map to_ascii_lowercase (column_name table i)) (sym is) at
       | inr is_not ↦ before index (omega (arith, lt, is_not))
     ]
 

@@ -2,6 +2,7 @@
 use Rattle.std.specs.Prelude.{◌≡◌, ◌<◌, ℕ, true, List, ◌∷◌, ◌++◌}
 use Rattle.std.specs.List.{All, Any}
 use Rattle.std.specs.Borrow.{Bor}
+use Rattle.std.specs.Str.{str_to_ascii_lowercase}
 use Rattle.table_schema.specs.declared.table.TableId.{TableId}
 use Rattle.table_schema.specs.CellColumns.{cell_count}
 use Rattle.table_schema.specs.Tables.{table_name}
@@ -10,9 +11,10 @@ use Rattle.comparison.specs.declared.ignored.IgnoredColumns.{IgnoredColumns}
 use Rattle.cli_lines.specs.Names.{column_name}
 
 -- the argument names this column: the name of the table, a dot, whose ASCII code is 46, and the name of a column that has
--- cells
+-- cells, in any case
 abbrev pub NamesColumn : List ℕ → TableId → ℕ → Type 0
-NamesColumn word table cell_index = (cell_index < cell_count table) × (word ≡ table_name table ++ 46 ∷ column_name table cell_index)
+NamesColumn word table cell_index =
+    (cell_index < cell_count table) × (str_to_ascii_lowercase word ≡ str_to_ascii_lowercase (table_name table ++ 46 ∷ column_name table cell_index))
 
 -- the argument names a column
 abbrev pub NamesSome : Bor (List ℕ) → Type 0

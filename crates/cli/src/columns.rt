@@ -1,5 +1,6 @@
 //! The columns that arguments name.
 ghost use Rattle.std.specs.Prelude.{◌≡◌, ◌≢◌, ◌<◌, ℕ, IfErr, IfNone, IfOk, IfSome};
+ghost use Rattle.std.specs.Str.{str_to_ascii_lowercase};
 ghost use Rattle.table_schema.specs.declared.table.TableId.{TableId as Table};
 ghost use Rattle.table_schema.specs.CellColumns.{cell_count};
 ghost use Rattle.cli_lines.specs.Names.{column_name};
@@ -10,7 +11,7 @@ use cli_cells::column_name;
 use comparison::IgnoredColumns;
 use table_schema::{TableId, cell_count};
 
-/// The columns that arguments name, each by the name of its table, a dot and its own name (II.22).
+/// The columns that arguments name, each by the name of its table, a dot and its own name, in any case (II.22).
 ///
 /// # Errors
 ///
@@ -50,18 +51,21 @@ fn cell_in(table: TableId, word: &[u8]) -> Option<usize>
     ensures sound { IfSome result (NamesColumn word.now table) }
     ensures complete { IfNone result ((cell_index : ℕ) → ¬ NamesColumn word.now table cell_index) }
 {
-    let tail = word.strip_prefix(table.name().as_bytes())?;
+    let (first, tail) = word.split_at_checked(table.name().len())?;
     let name = tail.strip_prefix(b".")?;
+    if !first.eq_ignore_ascii_case(table.name().as_bytes()) {
+        return None;
+    }
     cell_named(table, name)
 }
 
-/// The index of the cell whose column has a name.
+/// The index of the cell whose column has a name, in any case.
 fn cell_named(table: TableId, name: &[u8]) -> Option<usize>
-    ensures sound { IfSome result (λ cell_index. (cell_index < cell_count table) × (name.now ≡ column_name table cell_index)) }
-    ensures complete { IfNone result ((cell_index : ℕ) → cell_index < cell_count table → name.now ≢ column_name table cell_index) }
+    ensures sound { IfSome result (λ cell_index. (cell_index < cell_count table) × (str_to_ascii_lowercase name.now ≡ str_to_ascii_lowercase (column_name table cell_index))) }
+    ensures complete { IfNone result ((cell_index : ℕ) → cell_index < cell_count table → str_to_ascii_lowercase name.now ≢ str_to_ascii_lowercase (column_name table cell_index)) }
 {
     for cell_index in 0..cell_count(table) {
-        if column_name(table, cell_index).as_bytes() == name {
+        if name.eq_ignore_ascii_case(column_name(table, cell_index).as_bytes()) {
             return Some(cell_index);
         }
     }

@@ -42,7 +42,7 @@ hint_of_column (Some column) = hint_with (table_name column.0 ++ codes "." ++ co
 -- the line that reports an argument that is wrong, without its line feed; arguments in it are escaped, and a line with a
 -- hint follows if a name is near
 abbrev pub usage_text : UsageError → List ℕ
-usage_text (NoToken word) = codes "error: HEX is one to eight hexadecimal digits, not '" ++ escaped_text word.now ++ codes "'"
+usage_text (NoToken word) = codes "error: HEX is one to eight hexadecimal digits, as '06001d06', not '" ++ escaped_text word.now ++ codes "'"
 usage_text (NoCode word code) =
     codes "error: CODE is the number or the name of a fault, which 'clim explain' lists, not '" ++ escaped_text word.now ++ codes "'" ++ hint_of_code code
 usage_text NoFile = codes "error: FILE is missing, and so is '--files-from -'"

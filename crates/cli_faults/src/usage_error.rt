@@ -98,7 +98,7 @@ impl fmt::Display for UsageError<'_> {
         match self {
             UsageError::NoToken(word) => write!(
                 f,
-                "error: HEX is one to eight hexadecimal digits, not '{}'",
+                "error: HEX is one to eight hexadecimal digits, as '06001d06', not '{}'",
                 Escaped(word)
             ),
             UsageError::NoCode(word, nearest) => write!(

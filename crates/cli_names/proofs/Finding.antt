@@ -1,10 +1,23 @@
 -- The first item of a list that passes a test, as the rule with a name is.
-use Rattle.std.proofs.Common.{◌≡◌, ◌∙◌, ◌+◌, ◌<◌, ℕ, zero, suc, Bool, true, false, cond, eqb, List, [], ◌∷◌, Some, None, length, take, get_or, ap, refl, arith}
-use Rattle.std.specs.Prelude.{find}
-use Rattle.std.specs.Str.{bytes_eq}
+use Rattle.std.proofs.Common.{◌≡◌, ◌∙◌, ◌+◌, ◌<◌, ℕ, zero, suc, Bool, true, false, cond, eqb, List, [], ◌∷◌, Some, None, length, map, take, get_or, ap, refl, arith}
+use Rattle.std.specs.Prelude.{◌↔◌, IsTrue, find}
+use Rattle.std.specs.Bool.{Decides}
+use Rattle.std.specs.Char.{to_ascii_lowercase}
+use Rattle.std.specs.Str.{str_eq_ignore_ascii_case}
+use Rattle.std.proofs.lemmas.Slice.Eq.{bytes_eq-Decides}
 use Rattle.packed.specs.Codes.{name_of, number_of_code}
 use Rattle.cli_faults.specs.Codes.{codes_in_order}
 use Rattle.cli_names.specs.Names.{code_named}
+
+-- the test of two texts without regard to case
+pub same_but_for_case : (xs ys : List ℕ) (r : Bool) → (IsTrue r ↔ (map to_ascii_lowercase xs ≡ map to_ascii_lowercase ys)) → r ≡ str_eq_ignore_ascii_case xs ys
+same_but_for_case xs ys r test = go r (str_eq_ignore_ascii_case xs ys) test (bytes_eq-Decides (map to_ascii_lowercase xs) (map to_ascii_lowercase ys))
+  where
+    go : (r s : Bool) → (IsTrue r ↔ (map to_ascii_lowercase xs ≡ map to_ascii_lowercase ys)) → Decides s (map to_ascii_lowercase xs ≡ map to_ascii_lowercase ys) → r ≡ s
+    go true true test decides = refl
+    go false false test decides = refl
+    go true false test decides = let wrong = decides.1 (test.0 refl) in cc
+    go false true test decides = let wrong = test.1 (decides.0 refl) in cc
 
 module _ {X : Type 0} (passes : X → Bool) where
   next_none : (xs : List X) (k : ℕ) (d : X) → k < length xs → find passes (take k xs) ≡ None → passes (get_or xs k d) ≡ false → find passes (take (suc k) xs) ≡ None
@@ -41,6 +54,6 @@ module _ {X : Type 0} (passes : X → Bool) where
       go false is later = later is
 
 -- a name that is not empty is looked for among all rules
-pub among_all : (name : List ℕ) → eqb (length name) 0 ≡ false → code_named name ≡ find (λ code. bytes_eq (name_of (number_of_code code)) name) codes_in_order
+pub among_all : (name : List ℕ) → eqb (length name) 0 ≡ false → code_named name ≡ find (λ code. str_eq_ignore_ascii_case (name_of (number_of_code code)) name) codes_in_order
 among_all [] some = cc
 among_all (first ∷ tail) some = refl

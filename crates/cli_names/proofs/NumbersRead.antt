@@ -1,13 +1,17 @@
 -- The number that digits denote, for an argument without a leading plus sign.
-use Rattle.std.proofs.Common.{◌≡◌, ◌≢◌, ◌∙◌, ◌==◌, ℕ, ◌^◌, ◌<◌, ◌≤◌, ◌++◌, Bool, true, false, cond, List, [], ◌∷◌, codes, drop, length, Result, Ok, Err, Option, None, Some, ap, arith, eqb-true, inl, inr, refl, subst, sym, ⊎_elim}
+use Rattle.std.proofs.Common.{◌≡◌, ◌≢◌, ◌∙◌, ◌==◌, ℕ, ◌^◌, ◌<◌, ◌≤◌, ◌++◌, Bool, true, false, cond, List, [], ◌∷◌, codes, drop, length, take, Result, Ok, Err, Option, None, Some, ap, arith, eqb-true, inl, inr, refl, subst, sym, ⊎_elim}
 use Rattle.std.specs.Prelude.{slice_index, MatchOption}
+use Rattle.std.specs.Bool.{Decides}
 use Rattle.std.specs.Char.{digit_value}
 use Rattle.std.specs.Option.{SomeIff}
 use Rattle.std.specs.Result.{result_ok}
+use Rattle.std.specs.Str.{bytes_eq}
 use Rattle.std.specs.Str.Parse.{IsNumeral, ParsesUnsigned, digits_value}
 use Rattle.std.proofs.Math.Nat.{pow-le-pow_right}
 use Rattle.std.proofs.lemmas.Int.Digits.{digits_value-lt}
-use Rattle.cli_names.specs.Numbers.{IsCodeNumber, IsHexNumber, IsOffset, IsTableNumber}
+use Rattle.std.proofs.lemmas.List.{take-append-drop}
+use Rattle.std.proofs.lemmas.Slice.Eq.{bytes_eq-Decides}
+use Rattle.cli_names.specs.Numbers.{IsCodeNumber, IsHexNumber, IsOffset, IsTableNumber, digits_of}
 
 plus_free : (led : Bool) (word : List ℕ) → led ≡ false → drop (cond led 1 0) word ≡ word
 plus_free true word none = cc
@@ -99,3 +103,15 @@ pub decimal_read : (word : List ℕ) (answer : Option ℕ) → ((digits : List �
 decimal_read word (Some number) lacks read = inl (read.0.0, read.0.1, read.1)
 decimal_read word None lacks read = λ number denotes. ⊎_elim
     (λ decimal. read (decimal.0, decimal.1)) (λ other. lacks other.0 other.1) denotes
+
+-- what stands after `0x` are the digits of an argument
+pub after_prefix : (word digits : List ℕ) → word ≡ codes "0x" ++ digits → digits ≡ digits_of word
+after_prefix word digits is = sym (ap digits_of is)
+
+-- without `0x` all of it is
+pub without_prefix : (word : List ℕ) → ((digits : List ℕ) → word ≢ codes "0x" ++ digits) → word ≡ digits_of word
+without_prefix word lacks = go (bytes_eq (take 2 word) (codes "0x")) (bytes_eq-Decides (take 2 word) (codes "0x"))
+  where
+    go : (begins : Bool) → Decides begins (take 2 word ≡ codes "0x") → word ≡ cond begins (drop 2 word) word
+    go true decides = absurd (lacks (drop 2 word) (sym (take-append-drop 2 word) ∙ ap (λ front. front ++ drop 2 word) (decides.0 refl)))
+    go false decides = refl

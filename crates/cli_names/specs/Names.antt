@@ -1,7 +1,7 @@
 -- The arguments that name a fault or a table.
 use Rattle.std.specs.Prelude.{◌≡◌, ◌≢◌, ℕ, ◌⊎◌, List, [], ◌∷◌, ◌++◌, Option, None, Some, find}
 use Rattle.std.specs.List.{All}
-use Rattle.std.specs.Str.{bytes_eq}
+use Rattle.std.specs.Str.{str_eq_ignore_ascii_case}
 use Rattle.std.specs.Str.Parse.{digits_value}
 use Rattle.packed.specs.declared.code.FaultCode.{FaultCode}
 use Rattle.packed.specs.Codes.{name_of, number_of_code}
@@ -10,19 +10,19 @@ use Rattle.table_schema.specs.Tables.{table_name, table_number, tables}
 use Rattle.cli_faults.specs.Codes.{codes_in_order}
 use Rattle.cli_names.specs.Numbers.{IsCodeNumber, IsTableNumber}
 
--- the rule with this name; some rules have none
+-- the rule with this name, in any case; some rules have none
 abbrev pub code_named : List ℕ → Option FaultCode
 code_named [] = None
-code_named name = find (λ code. bytes_eq (name_of (number_of_code code)) name) codes_in_order
+code_named name = find (λ code. str_eq_ignore_ascii_case (name_of (number_of_code code)) name) codes_in_order
 
 -- the argument is the number of a rule in three decimal digits, or else its name
 abbrev pub NamesCode : List ℕ → FaultCode → Type 0
 NamesCode word code =
     (IsCodeNumber word × (number_of_code code ≡ digits_value 10 word)) ⊎ ((¬ IsCodeNumber word) × (code_named word ≡ Some code))
 
--- the table with this name (ECMA-335 II.22)
+-- the table with this name, in any case (ECMA-335 II.22)
 abbrev pub table_named : List ℕ → Option TableId
-table_named name = find (λ table. bytes_eq (table_name table) name) tables
+table_named name = find (λ table. str_eq_ignore_ascii_case (table_name table) name) tables
 
 -- the argument is the number of a table in two hexadecimal digits, or else its name
 abbrev pub NamesTable : List ℕ → TableId → Type 0

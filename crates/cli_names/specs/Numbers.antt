@@ -1,14 +1,19 @@
 -- The arguments that are numbers.
-use Rattle.std.specs.Prelude.{◌≡◌, ◌⊎◌, ℕ, ◌<◌, ◌≤◌, ◌^◌, ◌/◌, List, ◌++◌, codes, length}
+use Rattle.std.specs.Prelude.{if◌then◌else◌, drop, take, ◌≡◌, ◌⊎◌, ℕ, ◌<◌, ◌≤◌, ◌^◌, ◌/◌, List, ◌++◌, codes, length}
+use Rattle.std.specs.Str.{bytes_eq}
 use Rattle.std.specs.Str.Parse.{IsNumeral, digits_value}
 
 -- one to eight hexadecimal digits, in either case
 abbrev pub IsHexNumber : List ℕ → Type 0
 IsHexNumber word = IsNumeral 16 word × (length word ≤ 8)
 
+-- the digits of an argument, which may stand after `0x`
+abbrev pub digits_of : List ℕ → List ℕ
+digits_of word = if bytes_eq (take 2 word) (codes "0x") then drop 2 word else word
+
 -- eight hexadecimal digits of a token of TypeDef, table 2 (II.22.37, III.1.9)
 abbrev pub IsTypeToken : List ℕ → Type 0
-IsTypeToken word = IsNumeral 16 word × (length word ≡ 8) × (digits_value 16 word / 2 ^ 24 ≡ 2)
+IsTypeToken digits = IsNumeral 16 digits × (length digits ≡ 8) × (digits_value 16 digits / 2 ^ 24 ≡ 2)
 
 -- three decimal digits
 abbrev pub IsCodeNumber : List ℕ → Type 0

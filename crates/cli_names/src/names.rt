@@ -9,7 +9,7 @@ use cli_faults::{all_codes, code_of_number};
 use packed::{Fault, FaultCode};
 use table_schema::TableId;
 
-/// The rule that an argument names: by its number in three decimal digits, or by its name. `None` for any other
+/// The rule that an argument names: by its number in three decimal digits, or by its name in any case. `None` for any other
 /// argument.
 pub fn code_of(word: &str) -> Option<FaultCode>
     ensures sound { IfSome result (λ code. NamesCode word.now code) }
@@ -21,7 +21,7 @@ pub fn code_of(word: &str) -> Option<FaultCode>
     }
 }
 
-/// The rule with a name.
+/// The rule with a name, in any case.
 fn code_named(name: &str) -> Option<FaultCode>
     ensures { result ≡ code_named name.now }
 {
@@ -30,15 +30,15 @@ fn code_named(name: &str) -> Option<FaultCode>
         return None;
     }
     for code in all_codes() {
-        if Fault::new(*code, 0).name() == name {
+        if Fault::new(*code, 0).name().eq_ignore_ascii_case(name) {
             return Some(*code);
         }
     }
     None
 }
 
-/// The table that an argument names: by its number in two hexadecimal digits, or by its name (II.22). `None` for any
-/// other argument.
+/// The table that an argument names: by its number in two hexadecimal digits, or by its name in any case (II.22). `None` for
+/// any other argument.
 pub fn table_of(word: &str) -> Option<TableId>
     ensures sound { IfSome result (λ table. NamesTable word.now table) }
     ensures complete { (table : Table) → NamesTable word.now table → result ≡ Some table }
@@ -49,12 +49,12 @@ pub fn table_of(word: &str) -> Option<TableId>
     }
 }
 
-/// The table with a name.
+/// The table with a name, in any case.
 fn table_named(name: &str) -> Option<TableId>
     ensures { result ≡ table_named name.now }
 {
     for table in TableId::all() {
-        if table.name() == name {
+        if table.name().eq_ignore_ascii_case(name) {
             return Some(*table);
         }
     }

@@ -1,8 +1,8 @@
 //! Parses the numbers in arguments.
-ghost use Rattle.std.specs.Prelude.{◌<◌, ◌^◌, ◌%◌, ◌≤◌, ℕ, MatchOption};
+ghost use Rattle.std.specs.Prelude.{◌≡◌, ◌<◌, ◌^◌, ◌%◌, ◌≤◌, ℕ, MatchOption};
 ghost use Rattle.std.specs.Option.{SomeIff};
 ghost use Rattle.std.specs.Str.Parse.{IsNumeral, digits_value};
-ghost use Rattle.cli_names.specs.Numbers.{IsCodeNumber, IsHexNumber, IsOffset, IsTableNumber, IsTypeToken};
+ghost use Rattle.cli_names.specs.Numbers.{IsCodeNumber, IsHexNumber, IsOffset, IsTableNumber, IsTypeToken, digits_of};
 
 use table_schema::TableId;
 
@@ -19,15 +19,32 @@ pub fn token_of(word: &str) -> Option<u32>
     u32::from_str_radix(word, 16).ok()
 }
 
-/// The row of the token of a type with these eight hexadecimal digits, in either case, of which the first two are `02`
-/// (II.22.37); `None` for any other argument.
-pub fn type_row_of(word: &str) -> Option<u32>
-    ensures { SomeIff result (IsTypeToken word.now) (digits_value 16 word.now % 2 ^ 24) }
+/// The digits of an argument, which may stand after `0x`.
+fn digits_of(word: &str) -> &str
+    ensures { result.now ≡ digits_of word.now }
 {
-    if word.len() != 8 {
+    let Some(digits) = word.strip_prefix("0x") else {
+        return word;
+    };
+    digits
+}
+
+/// The row of the token of a type with these eight hexadecimal digits, in either case, of which the first two are `02`
+/// (II.22.37). They may stand after `0x`. `None` for any other argument.
+pub fn type_row_of(word: &str) -> Option<u32>
+    ensures { SomeIff result (IsTypeToken (digits_of word.now)) (digits_value 16 (digits_of word.now) % 2 ^ 24) }
+{
+    type_row(digits_of(word))
+}
+
+/// The row of the token of a type with these eight hexadecimal digits; `None` for any other text.
+fn type_row(digits: &str) -> Option<u32>
+    ensures { SomeIff result (IsTypeToken digits.now) (digits_value 16 digits.now % 2 ^ 24) }
+{
+    if digits.len() != 8 {
         return None;
     }
-    let token = token_of(word)?;
+    let token = token_of(digits)?;
     if token / ROWS != u32::from(TableId::TypeDef.number()) {
         return None;
     }

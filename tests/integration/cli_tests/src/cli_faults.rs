@@ -60,7 +60,7 @@ fn lists_all_faults(rt: HostRuntime) -> Result<(), Fail> {
 #[test]
 fn refuses_what_is_no_fault(rt: HostRuntime) -> Result<(), Fail> {
     for code in [
-        "", "50", "5010", "+50", "0501", "500", "999", "0x1", "badguid", "BadCell", "BadGuid ", "\u{e9}1",
+        "", "50", "5010", "+50", "0501", "500", "999", "0x1", "bad guid", "BadCell", "BadGuid ", "\u{e9}1",
     ] {
         let (status, out, err) = answer(&rt, &["clim", "explain", code])?;
         assert_eq!(rt; status, 2, "{code}");
@@ -81,6 +81,7 @@ fn explains_several_faults(rt: HostRuntime) -> Result<(), Fail> {
     let (_, limit, _) = answer(&rt, &["clim", "explain", "101"])?;
     for (words, reported) in [
         (["clim", "explain", "BadGuid"].as_slice(), format!(in rt.alloc(); "{guid}")?),
+        (&["clim", "explain", "badGUID"], format!(in rt.alloc(); "{guid}")?),
         (
             &["clim", "explain", "BadGuid", "101"],
             format!(in rt.alloc(); "{guid}\n{limit}")?,

@@ -1,16 +1,17 @@
-use Rattle.std.proofs.Common.{◌∙◌, ◌<◌, ℕ, sym, subst}
-use Rattle.std.proofs.lemmas.Bool.Decides.{Decides-eqb}
-use Rattle.std.proofs.lemmas.Slice.Eq.{slice_eq-Decides}
+use Rattle.std.proofs.Common.{◌∙◌, ◌<◌, List, ℕ, ap, map, subst, sym}
+use Rattle.std.specs.Char.{to_ascii_lowercase}
 use Rattle.cli.proofs.ColumnsNamed.{next_differs}
 use Rattle.cli.proofs.columns.cell_named.Goals as goal
 
-pub returns-then-eq-clause-sound : goal.returns-then-eq-clause-sound
-returns-then-eq-clause-sound c =
-    let same = (slice_eq-Decides Decides-eqb c.as_bytes.result.now c.args.name.now c.eq.result c.eq.ensures).0 c.if-eq.true in
-    (subst (λ (n : ℕ). c.loop-cell_index.cell_index < n) c.cell_count-cell_index-end.ensures c.loop-cell_index-test.true, sym same ∙ c.as_bytes.ensures.value ∙ c.column_name.ensures)
+pub returns-then-eq_ignore_ascii_case-clause-sound : goal.returns-then-eq_ignore_ascii_case-clause-sound
+returns-then-eq_ignore_ascii_case-clause-sound c =
+    let is = c.as_bytes.ensures.value ∙ c.column_name.ensures in (
+      subst (λ (n : ℕ). c.loop-cell_index.cell_index < n) c.cell_count-cell_index-end.ensures c.loop-cell_index-test.true,
+      c.eq_ignore_ascii_case.ensures.test.0 c.if-eq_ignore_ascii_case.true ∙ ap (map to_ascii_lowercase) is,
+    )
 
 pub loop-cell_index-preserved : goal.loop-cell_index-preserved
 loop-cell_index-preserved c =
-    let decides = slice_eq-Decides Decides-eqb c.as_bytes.result.now c.args.name.now c.eq.result c.eq.ensures in
+    let is = c.as_bytes.ensures.value ∙ c.column_name.ensures in
     next_differs c.args.name.now c.args.table c.loop-cell_index.cell_index c.loop-cell_index.invariant
-    (λ is. let yes = decides.1 (c.as_bytes.ensures.value ∙ c.column_name.ensures ∙ sym is) in let no = sym c.if-eq.false ∙ yes in cc)
+    (λ same. let yes = c.eq_ignore_ascii_case.ensures.test.1 (same ∙ ap (map to_ascii_lowercase) (sym is)) in let no = sym c.if-eq_ignore_ascii_case.false ∙ yes in cc)

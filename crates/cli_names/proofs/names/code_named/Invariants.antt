@@ -1,9 +1,9 @@
 use Rattle.std.proofs.Common.{◌≡◌, None, take}
 use Rattle.std.specs.Prelude.{find}
-use Rattle.std.specs.Str.{bytes_eq}
+use Rattle.std.specs.Str.{str_eq_ignore_ascii_case}
 use Rattle.packed.specs.Codes.{name_of, number_of_code}
 use Rattle.cli_faults.specs.Codes.{codes_in_order}
 use Rattle.cli_names.proofs.names.code_named.Given as goal
 
 abbrev pub invariant-loop-code : goal.invariant-loop-code
-invariant-loop-code l = find (λ code. bytes_eq (name_of (number_of_code code)) l.fn.name) (take l.code-index codes_in_order) ≡ None
+invariant-loop-code l = find (λ code. str_eq_ignore_ascii_case (name_of (number_of_code code)) l.fn.name) (take l.code-index codes_in_order) ≡ None

@@ -145,6 +145,7 @@ fn leaves_out_columns(rt: HostRuntime) -> Result<(), Fail> {
     for (columns, status, printed) in [
         (["TypeDef.TypeName"].as_slice(), 1, both.as_str()),
         (&["Module.Mvid"], 1, name),
+        (&["module.MVID"], 1, name),
         (&["Module.Name"], 1, mvid),
         (&["Module.Name", "Module.Mvid"], 0, "equal\n"),
         (&["Module.Mvid", "Module.Name", "Module.Mvid"], 0, "equal\n"),

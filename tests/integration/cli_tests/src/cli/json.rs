@@ -28,6 +28,7 @@ fn prints_json_of_a_root(rt: HostRuntime) -> Result<(), Fail> {
         (&["clim", "show", "--json", "--bare", "json.root"], MODULE),
         (&["clim", "show", "--json", "--bare", "json.root", "Module"], MODULE),
         (&["clim", "show", "--json", "--bare", "json.root", "TypeDef"], ""),
+        (&["clim", "show", "--json", "--bare", "json.root", "typeDEF"], ""),
         (&["clim", "token", "--json", "--bare", "json.root", "1"], MODULE),
         (&["clim", "types", "--json", "--bare", "json.root"], ""),
         (&["clim", "check", "--json", "--bare", "json.root"], OK),

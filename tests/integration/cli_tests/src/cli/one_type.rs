@@ -33,6 +33,7 @@ fn outlines_one_type(rt: HostRuntime) -> Result<(), Fail> {
     for (name, want) in [
         ("N.C", (0, CLASS, "")),
         ("02000002", (0, CLASS, "")),
+        ("0x02000002", (0, CLASS, "")),
         ("<Module>", (0, MODULE, "")),
         ("02000001", (0, MODULE, "")),
         ("C", (1, "", NEAR)),
@@ -48,6 +49,8 @@ fn outlines_one_type(rt: HostRuntime) -> Result<(), Fail> {
         ("02000003", (1, "", NONE)),
         ("02000000", (1, "", NONE)),
         ("2000002", (1, "", NONE)),
+        ("0x2000002", (1, "", NONE)),
+        ("0x0x02000002", (1, "", NONE)),
         ("01000002", (1, "", NONE)),
         ("+2000002", (1, "", NONE)),
     ] {

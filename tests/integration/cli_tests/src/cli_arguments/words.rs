@@ -123,11 +123,11 @@ const REFUSED: [(&[&str], &str); 95] = [
     (&["clim", "token", "lacks"], "  <HEX>...\n"),
     (
         &["clim", "token", "lacks", "1", "2", "g"],
-        "error: HEX is one to eight hexadecimal digits, not 'g'\n",
+        "error: HEX is one to eight hexadecimal digits, as '06001d06', not 'g'\n",
     ),
     (
         &["clim", "token", "--json", "lacks", "", "1"],
-        "error: HEX is one to eight hexadecimal digits, not ''\n",
+        "error: HEX is one to eight hexadecimal digits, as '06001d06', not ''\n",
     ),
     (&["clim", "where"], "Usage: clim where <FILE> <OFFSET>"),
     (&["clim", "where", "lacks"], "  <OFFSET>\n"),

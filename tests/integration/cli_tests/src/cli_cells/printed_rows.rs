@@ -217,7 +217,7 @@ fn refuses_what_is_no_token(rt: HostRuntime) -> Result<(), Fail> {
         assert_eq!(rt; status, 2, "{hex}");
         assert!(rt; out.is_empty());
         assert!(rt;
-            err.contains("error: HEX is one to eight hexadecimal digits, not '"),
+            err.contains("error: HEX is one to eight hexadecimal digits, as '06001d06', not '"),
             "{err}"
         );
     }
