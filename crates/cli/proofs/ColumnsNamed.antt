@@ -8,7 +8,7 @@ use Rattle.std.proofs.Math.Dec.{ltb}
 use Rattle.std.proofs.Math.Seq.{drop-append_seam, take-append_seam}
 use Rattle.std.proofs.lemmas.Bool.{ltb-false}
 use Rattle.std.proofs.lemmas.Bool.Decides.{Decides-eqb}
-use Rattle.std.proofs.lemmas.List.{append_cancel_left, get_or_append_left, length-append, length-map, map-append}
+use Rattle.std.proofs.lemmas.List.{append_cancel_left, get_or_append_left, length-append, length-map, map-append, take-append-drop}
 use Rattle.std.proofs.lemmas.List.Elements.{All-get_or, All-weaker}
 use Rattle.std.proofs.lemmas.List.Quantifiers.{Any-push}
 use Rattle.std.specs.Bool.{Decides}
@@ -48,6 +48,10 @@ pub when_none : (P : Type 0) (found : Option ℕ) → P → IfNone found P
 when_none P None holds = holds
 when_none P (Some value) holds = tt
 
+-- a text is its two parts, one after the other
+pub joined : (word first tail : List ℕ) (mid : ℕ) → first ≡ take mid word → tail ≡ drop mid word → word ≡ first ++ tail
+joined word first tail mid is also = sym (take-append-drop mid word) ∙ (λ k. sym is k ++ sym also k)
+
 -- a byte that is a dot in lower case is a dot
 dot_is : (b : ℕ) → to_ascii_lowercase b ≡ 46 → b ≡ 46
 dot_is b is = go (ltb b 65) (ltb b 91) (ltb-false b 65) is
@@ -69,7 +73,7 @@ module _ (word : List ℕ) (table : TableId) where
   too_short short cell_index named =
       let full = table_name table ++ 46 ∷ column_name table cell_index in
       let same : length word ≡ length (table_name table) + length (46 ∷ column_name table cell_index) =
-          sym (length-map word to_ascii_lowercase) ∙ ap length named.1 ∙ length-map full to_ascii_lowercase ∙ length-append (table_name table) (46 ∷ column_name table cell_index) in
+      sym (length-map word to_ascii_lowercase) ∙ ap length named.1 ∙ length-map full to_ascii_lowercase ∙ length-append (table_name table) (46 ∷ column_name table cell_index) in
       absurd (omega (arith, short, same))
 
   -- the part of it that is as long as that name, and the rest
@@ -81,9 +85,9 @@ module _ (word : List ℕ) (table : TableId) where
         let whole = sym (map-append to_ascii_lowercase first tail) ∙ ap (map to_ascii_lowercase) (sym is) ∙ named.1 ∙ map-append to_ascii_lowercase (table_name table) column in
         let same = length-map first to_ascii_lowercase ∙ long ∙ sym (length-map (table_name table) to_ascii_lowercase) in (
           sym (take-append_seam (map to_ascii_lowercase first) (map to_ascii_lowercase tail)) ∙ (λ k. take (same k) (whole k))
-          ∙ take-append_seam (map to_ascii_lowercase (table_name table)) (map to_ascii_lowercase column),
+              ∙ take-append_seam (map to_ascii_lowercase (table_name table)) (map to_ascii_lowercase column),
           sym (drop-append_seam (map to_ascii_lowercase first) (map to_ascii_lowercase tail)) ∙ (λ k. drop (same k) (whole k))
-          ∙ drop-append_seam (map to_ascii_lowercase (table_name table)) (map to_ascii_lowercase column),
+              ∙ drop-append_seam (map to_ascii_lowercase (table_name table)) (map to_ascii_lowercase column),
         )
 
     -- no dot follows that part
@@ -100,9 +104,11 @@ module _ (word : List ℕ) (table : TableId) where
           → map to_ascii_lowercase name ≡ map to_ascii_lowercase (column_name table cell_index) → NamesColumn word table cell_index
       column_there begins cell_index within same =
           let rest : map to_ascii_lowercase tail ≡ 46 ∷ map to_ascii_lowercase (column_name table cell_index) =
-              ap (map to_ascii_lowercase) dotted ∙ ap (λ (xs : List ℕ). 46 ∷ xs) same in
-          (within, ap (map to_ascii_lowercase) is ∙ map-append to_ascii_lowercase first tail ∙ (λ k. begins k ++ rest k)
-          ∙ sym (map-append to_ascii_lowercase (table_name table) (46 ∷ column_name table cell_index)))
+          ap (map to_ascii_lowercase) dotted ∙ ap (λ (xs : List ℕ). 46 ∷ xs) same in (
+            within,
+            ap (map to_ascii_lowercase) is ∙ map-append to_ascii_lowercase first tail ∙ (λ k. begins k ++ rest k)
+                ∙ sym (map-append to_ascii_lowercase (table_name table) (46 ∷ column_name table cell_index)),
+          )
 
       -- or that of none
       no_column : ((cell_index : ℕ) → cell_index < cell_count table → map to_ascii_lowercase name ≢ map to_ascii_lowercase (column_name table cell_index))
