@@ -10,6 +10,7 @@
 
 mod digest_line;
 mod explanations;
+pub mod laws;
 mod root_lines;
 mod type_lines;
 mod verdicts;

@@ -1,5 +1,6 @@
 use crate::samples::many_rows;
-use cli::{go, refuse_words};
+use cli::go;
+use cli_files::refuse_words;
 use sample_roots::{ONE_MODULE, TWO_TYPES};
 use std::io::{ErrorKind, Write};
 use std::test::Fail;
