@@ -10,7 +10,9 @@ use Rattle.embedding.specs.declared.error.EmbedError.{EmbedError}
 use Rattle.embedding.specs.declared.error.EmbedError.TheVariants as error
 use Rattle.embedding.specs.declared.slot.Slot.{Slot}
 use Rattle.embedding.specs.declared.slot.Slot.TheVariants.{Reused, Appended, Extended}
-use Rattle.embedding.specs.Errors.{IsMisfit, IsReason}
+use Rattle.opening.specs.Views.{HasImage, HasModel}
+use Rattle.embedding.specs.Embedded.{IsHeaderOf}
+use Rattle.embedding.specs.Errors.{AreOpen, IsMisfit, IsReason}
 use Rattle.embedding.specs.Slots.{FitsAt, HasRoom, IsLongerSection, IsNewSection}
 
 -- a new section would be too far
@@ -33,21 +35,26 @@ no_longer_section file len header source longer none far Reused fits = omega (ar
 no_longer_section file len header source longer none far (Appended address offset) fits = none fits.is_slot.1
 no_longer_section file len header source longer none far (Extended within) fits = omega (arith, fits.address, far within fits.is_slot.2)
 
-reasons : (file root : List ℕ) (reason : EmbedError)
+-- a file whose header was read opens with the header of its bytes
+pub opens_by : (file : List ℕ) (header : CliHeader) → IsHeaderOf file header → HasImage file (header_of (image_of file))
+opens_by file header of = subst (λ (h : CliHeader). HasImage file h) of.header_is of.model
+
+reasons : (file root : List ℕ) (reason : EmbedError) → AreOpen file root
     → IsMisfit file (length root) (header_of (image_of file)) (source_of (root_in file (header_of (image_of file)))) reason → IsReason file root reason
-reasons file root (error.File fault) none = absurd none
-reasons file root (error.Root fault) none = absurd none
-reasons file root error.Unlike none = absurd none
-reasons file root error.Headers none = absurd none
-reasons file root error.Occupied is = is
-reasons file root error.NoRoom is = is
-reasons file root error.TooLong is = is
-reasons file root error.Memory none = none
+reasons file root (error.File fault) both none = absurd none
+reasons file root (error.Root fault) both none = absurd none
+reasons file root error.Unlike both none = absurd none
+reasons file root error.Headers both none = absurd none
+reasons file root error.Occupied both is = (both, is)
+reasons file root error.NoRoom both is = (both, is)
+reasons file root error.TooLong both is = (both, is)
+reasons file root error.Memory both none = none
 
 -- a misfit is the reason why the root is not put into the file
-pub misfit_is_reason : (file root view : List ℕ) (header : CliHeader) → header ≡ header_of (image_of file) → view ≡ root_in file header
+pub misfit_is_reason : (file root view : List ℕ) (header : CliHeader) → IsHeaderOf file header → view ≡ root_in file header → HasModel root
     → (reason : EmbedError) → IsMisfit file (length root) header (source_of view) reason → IsReason file root reason
-misfit_is_reason file root view header header_is view_is reason misfit =
+misfit_is_reason file root view header of view_is has reason misfit =
     let at : IsMisfit file (length root) header (source_of (root_in file header)) reason =
     subst (λ (v : List ℕ). IsMisfit file (length root) header (source_of v) reason) view_is misfit in
-    reasons file root reason (subst (λ (h : CliHeader). IsMisfit file (length root) h (source_of (root_in file h)) reason) header_is at)
+    reasons file root reason (opens_by file header of, has)
+    (subst (λ (h : CliHeader). IsMisfit file (length root) h (source_of (root_in file h)) reason) of.header_is at)

@@ -8,6 +8,7 @@ use Rattle.cli_header.specs.Said.{header_of}
 use Rattle.metadata.specs.Source.{Source}
 use Rattle.metadata.specs.SourceAt.{source_of}
 use Rattle.metadata.specs.Streams.{root_in}
+use Rattle.opening.specs.Views.{HasImage, HasModel}
 use Rattle.embedding.specs.declared.error.EmbedError.{EmbedError}
 use Rattle.embedding.specs.declared.error.EmbedError.TheVariants as error
 use Rattle.embedding.specs.declared.slot.Slot.{Slot}
@@ -34,11 +35,18 @@ IsMisfit file len header source error.TooLong =
     (slot : Slot) × IsSlot file len header source slot × (byte_limit < (target_of file header len slot).len)
 IsMisfit file len header source _ = ⊥
 
--- the reason why a root that has a model is not put into a file that opens
+-- the file opens, and the root has a model
+abbrev pub AreOpen : List ℕ → List ℕ → Type 0
+AreOpen file root = HasImage file (header_of (image_of file)) × HasModel root
+
+-- The reason why a root is not put into a file. The root has a fault only if the file opens, and any other reason is one of
+-- a file that opens and of a root that has a model. Which faults they have is said by the rules.
 abbrev pub IsReason : List ℕ → List ℕ → EmbedError → Type 0
 IsReason file root (error.File fault) = Unit {0}
-IsReason file root (error.Root fault) = Unit {0}
-IsReason file root error.Unlike = ¬ LeadsAlike root (root_in file (header_of (image_of file)))
-IsReason file root error.Headers = ¬ AreHeadersApart file (header_of (image_of file))
+IsReason file root (error.Root fault) = HasImage file (header_of (image_of file))
+IsReason file root error.Memory = ⊥
+IsReason file root error.Unlike = AreOpen file root × ¬ LeadsAlike root (root_in file (header_of (image_of file)))
+IsReason file root error.Headers = AreOpen file root × ¬ AreHeadersApart file (header_of (image_of file))
 IsReason file root reason =
-    let header = header_of (image_of file) in IsMisfit file (length root) header (source_of (root_in file header)) reason
+    let header = header_of (image_of file) in
+    AreOpen file root × IsMisfit file (length root) header (source_of (root_in file header)) reason

@@ -6,7 +6,7 @@ ghost use Rattle.metadata.specs.Metadata.{Metadata};
 ghost use Rattle.metadata.specs.Model.{IsModel, IsModelOfFile};
 ghost use Rattle.metadata.specs.Rules.{rules_of_file, rules_of_metadata};
 ghost use Rattle.opening.specs.Views.{HasModel};
-ghost use Rattle.embedding.specs.Embedded.{IsEmbedded};
+ghost use Rattle.embedding.specs.Embedded.{AreHeadersApart, IsEmbedded};
 ghost use Rattle.embedding.specs.Matching.{LeadsAlike};
 ghost use Rattle.embedding.specs.Planned.{HasCertificate, HasStaleName, IsOpened, IsPlanOf, result_of};
 ghost use Rattle.embedding.specs.Errors.{MatchFault, IsNoFault, IsReason};
@@ -137,6 +137,14 @@ pub(crate) fn open_file(file: &[u8]) -> Result<Opened<'_>, Fault>
     })
 }
 
+/// Whether the headers of a file do not overlap (II.25.2.1, II.25.3).
+fn are_headers_apart(headers: &Headers, header: &CliHeader) -> bool
+    ensures { IsTrue result ↔ AreHeadersApart headers.now header.now }
+{
+    let end = headers.headers_end();
+    DOS_HEADER <= headers.lfanew() && end <= header.place && end <= header.root.start
+}
+
 /// Plans a file with a root that leads into it.
 pub(crate) fn plan_opened<'a>(
     file: Opened<'a>,
@@ -152,9 +160,7 @@ pub(crate) fn plan_opened<'a>(
     ensures fault { IfErr result IsNoFault }
     ensures refused { IfErr result (IsReason file.entry.headers root.now) }
 {
-    let end = file.headers.headers_end();
-    let (header, root_start) = (file.header.place, file.header.root.start);
-    if file.headers.lfanew() < DOS_HEADER || header < end || root_start < end {
+    if !are_headers_apart(&file.headers, &file.header) {
         return Err(EmbedError::Headers);
     }
     let slot = slot_of(&file, root.len())?;

@@ -1,3 +1,4 @@
 pub mod BodyLemmas
 pub mod FieldLemmas
 pub mod Lowest
+pub mod SizeLemmas

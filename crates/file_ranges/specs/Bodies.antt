@@ -1,5 +1,5 @@
 -- The length of a method body (ECMA-335 II.25.4).
-use Rattle.std.specs.Prelude.{ℕ, zero, suc, ◌+◌, ◌*◌, ◌%◌, ◌/◌, ◌≤◌, ◌==◌, nat_le, nat_lt, if◌then◌else◌, List, [], ◌∷◌, Option, Some, None, IfSome, MatchOption, length}
+use Rattle.std.specs.Prelude.{ℕ, zero, suc, ◌+◌, ◌*◌, ◌%◌, ◌/◌, ◌≤◌, ◌==◌, nat_lt, if◌then◌else◌, List, Option, Some, None, MatchOption, length}
 use Rattle.packed.specs.Number.{little_endian}
 use Rattle.packed.specs.Offsets.{part}
 use Rattle.file_ranges.specs.Fields.{aligned, number_at}

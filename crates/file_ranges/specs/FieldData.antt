@@ -1,5 +1,5 @@
 -- The size of the data of a field with an RVA, by its signature (ECMA-335 II.22.18, II.23.1.16 and II.23.2.4).
-use Rattle.std.specs.Prelude.{ℕ, ◌%◌, ◌/◌, ◌==◌, ◌||◌, ◌&&◌, nat_le, if◌then◌else◌, List, [], ◌∷◌, Option, Some, None}
+use Rattle.std.specs.Prelude.{ℕ, ◌%◌, ◌/◌, ◌==◌, ◌||◌, if◌then◌else◌, List, [], ◌∷◌, Option, Some, None}
 use Rattle.packed.specs.Prefix.{unsigned_at}
 
 -- the size of a value of a simple type, in bytes (II.23.1.16); 1 for all others

@@ -1,15 +1,16 @@
 -- When the bytes that MetaData names have nothing but the metadata in them (ECMA-335 II.25).
-use Rattle.std.specs.Prelude.{◌≡◌, ◌≢◌, ℕ, ◌+◌, ◌-◌, ◌*◌, ◌^◌, ◌%◌, ◌<◌, ◌≤◌, ◌⊎◌, List, [], ◌∷◌, length}
+use Rattle.std.specs.Prelude.{◌≡◌, ◌≢◌, ℕ, ◌+◌, ◌-◌, ◌*◌, ◌%◌, ◌<◌, ◌≤◌, ◌⊎◌, List, [], ◌∷◌}
 use Rattle.packed.specs.Offsets.{part}
 use Rattle.pe.specs.Headers.{section_count, directory_count, optional_header_size, wider}
 use Rattle.cli_header.specs.declared.header.CliHeader.{CliHeader}
 use Rattle.cli_header.specs.declared.header.DataDirectory.{DataDirectory}
-use Rattle.table_schema.specs.declared.table.TableId.TheVariants.{MethodDef, Field, FieldRVA, ClassLayout}
+use Rattle.table_schema.specs.declared.table.TableId.TheVariants.{MethodDef, Field, FieldRVA}
 use Rattle.heap_entries.specs.Entries.{IsBlob}
 use Rattle.metadata.specs.Source.{Source, rows_in, number_of}
 use Rattle.file_ranges.specs.Bodies.{EndsWithin}
+use Rattle.file_ranges.specs.ClassSizes.{MayHaveLayout, class_size}
 use Rattle.file_ranges.specs.FieldData.{value_type, signature_size}
-use Rattle.file_ranges.specs.Fields.{number_at, directory_offset, virtual_address, raw_size, raw_offset, raw_end}
+use Rattle.file_ranges.specs.Fields.{number_at, directory_offset, virtual_address, raw_size, raw_offset}
 
 -- two ranges have no byte in common: each is given by its begin and its size
 abbrev pub AreApart : ℕ → ℕ → ℕ → ℕ → Type 0
@@ -69,12 +70,9 @@ AreBodiesApart header file source lowest =
     (row : ℕ) → 1 ≤ row → row ≤ rows_in source MethodDef
     → IsCodeApart header file lowest (number_of source MethodDef row 0) (number_of source MethodDef row 1)
 
--- data at an address is apart if it has the type of a row of TypeDef: it has the ClassSize of its row of ClassLayout
--- (II.22.8)
+-- data at an address is apart if it has the type of a row of TypeDef: it has a ClassSize that the type may have (II.22.8)
 abbrev pub IsTypeApart : CliHeader → Source → ℕ → ℕ → Type 0
-IsTypeApart header source rva row =
-    (layout : ℕ) → 1 ≤ layout → layout ≤ rows_in source ClassLayout → number_of source ClassLayout layout 2 ≡ row
-    → IsApart header rva (number_of source ClassLayout layout 1)
+IsTypeApart header source rva row = (layout : ℕ) → MayHaveLayout source row layout → IsApart header rva (class_size source layout)
 
 -- Data of a field with a signature is apart: it has a simple type, or a type that has a row of ClassLayout. Of any other
 -- data only the first byte is known.
@@ -90,10 +88,9 @@ pub record IsRowApart (header : CliHeader) (source : Source) (row : ℕ) : Type 
   pub is_signature : IsBlob source.blobs (number_of source Field (number_of source FieldRVA row 1) 2) signature
   pub apart : IsValueApart header source (number_of source FieldRVA row 0) signature
 
--- the data of each row of FieldRVA; nothing is known of it if the product of the rows that are looked at is too large
-pub record IsDataApart (header : CliHeader) (source : Source) : Type 0 where
-  pub few : rows_in source FieldRVA * rows_in source ClassLayout ≤ 2 ^ 26
-  pub apart : (row : ℕ) → 1 ≤ row → row ≤ rows_in source FieldRVA → IsRowApart header source row
+-- the data of each row of FieldRVA
+abbrev pub IsDataApart : CliHeader → Source → Type 0
+IsDataApart header source = (row : ℕ) → 1 ≤ row → row ≤ rows_in source FieldRVA → IsRowApart header source row
 
 -- a section has all of the metadata, at its address and its file offset (II.25.3)
 pub record HasMetadata (header : CliHeader) (file : List ℕ) (index : ℕ) : Type 0 where

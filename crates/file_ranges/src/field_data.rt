@@ -2,10 +2,12 @@
 ghost use Rattle.std.specs.Prelude.{◌≡◌, ◌↔◌, ◌≤◌, ◌<◌, IsTrue};
 ghost use Rattle.table_schema.specs.declared.table.TableId.TheVariants.{FieldRVA};
 ghost use Rattle.metadata.specs.Source.{rows_in};
+ghost use Rattle.file_ranges.specs.ClassSizes.{AreSizes};
 ghost use Rattle.file_ranges.specs.FieldData.{simple_size, value_type, signature_size};
 ghost use Rattle.file_ranges.specs.Occupied.{IsDataApart, IsRowApart, IsValueApart, IsTypeApart};
 
 use crate::addresses::is_apart;
+use crate::class_sizes::ClassSizes;
 use cli_header::CliHeader;
 use heap_entries::blob;
 use opening::{Source, TableId};
@@ -14,20 +16,13 @@ use packed::read_unsigned;
 /// The first byte of the type of a field that is a value type (II.23.1.16).
 const VALUE_TYPE: u8 = 0x11;
 
-/// The largest number of rows of ClassLayout that are looked at for all fields together. Otherwise the time would grow with
-/// the product of both tables.
-const LOOK_UPS: u64 = 1 << 26;
-
 /// Whether the data of all fields is apart from the metadata (II.22.18).
 pub fn is_data_apart(header: &CliHeader, source: &Source) -> bool
     ensures { IsTrue result ↔ IsDataApart header.now source.now.source }
 {
-    let count = source.count(TableId::FieldRVA);
-    if count as u64 * source.count(TableId::ClassLayout) as u64 > LOOK_UPS {
-        return false;
-    }
-    for row in 1..count + 1 {
-        if !is_row_apart(header, source, row) {
+    let sizes = ClassSizes::of(source);
+    for row in 1..source.count(TableId::FieldRVA) + 1 {
+        if !is_row_apart(header, source, sizes, row) {
             return false;
         }
     }
@@ -35,7 +30,8 @@ pub fn is_data_apart(header: &CliHeader, source: &Source) -> bool
 }
 
 /// Whether the data of a row of FieldRVA is apart from the metadata.
-fn is_row_apart(header: &CliHeader, source: &Source, row: u32) -> bool
+fn is_row_apart(header: &CliHeader, source: &Source, sizes: ClassSizes, row: u32) -> bool
+    requires sizes { AreSizes source.now.source sizes }
     requires first { 1 ≤ row }
     requires last { row ≤ rows_in source.now.source FieldRVA }
     ensures { IsTrue result ↔ IsRowApart header.now source.now.source row }
@@ -47,31 +43,32 @@ fn is_row_apart(header: &CliHeader, source: &Source, row: u32) -> bool
     }
     let index = source.number(TableId::Field, field, 2);
     match blob(source.blobs(), index) {
-        Ok(signature) => is_value_apart(header, source, rva, signature),
+        Ok(signature) => is_value_apart(header, source, sizes, rva, signature),
         Err(_) => false,
     }
 }
 
 /// Whether the data at an address of a field with this signature is apart from the metadata.
-fn is_value_apart(header: &CliHeader, source: &Source, rva: u32, signature: &[u8]) -> bool
+fn is_value_apart(
+    header: &CliHeader,
+    source: &Source,
+    sizes: ClassSizes,
+    rva: u32,
+    signature: &[u8],
+) -> bool
+    requires { AreSizes source.now.source sizes }
     ensures { IsTrue result ↔ IsValueApart header.now source.now.source rva signature.now }
 {
     is_apart(header, rva, signature_size(signature))
-        && is_type_apart(header, source, rva, value_type(signature))
+        && is_type_apart(header, source, sizes, rva, value_type(signature))
 }
 
-/// Whether data of the type in this row of TypeDef is apart from the metadata, by its rows of ClassLayout (II.22.8).
-fn is_type_apart(header: &CliHeader, source: &Source, rva: u32, row: u32) -> bool
+/// Whether data of the type in this row of TypeDef is apart from the metadata, by the size of the type (II.22.8).
+fn is_type_apart(header: &CliHeader, source: &Source, sizes: ClassSizes, rva: u32, row: u32) -> bool
+    requires { AreSizes source.now.source sizes }
     ensures { IsTrue result ↔ IsTypeApart header.now source.now.source rva row }
 {
-    for layout in 1..source.count(TableId::ClassLayout) + 1 {
-        let size = source.number(TableId::ClassLayout, layout, 1);
-        let is_other = source.number(TableId::ClassLayout, layout, 2) != row;
-        if !is_other && !is_apart(header, rva, size) {
-            return false;
-        }
-    }
-    true
+    is_apart(header, rva, sizes.size_of(source, row))
 }
 
 /// The size of a value of a simple type in bytes (II.23.1.16); 1 for all others.

@@ -2,8 +2,8 @@
 //!
 //! [`Headers`] reads the fields of the PE headers that a writer of a file has to follow, the data directories and the
 //! section headers. [`is_free`] says whether the range of the metadata has nothing else in it: no header, no directory, no
-//! method body and no data of a field that a row names. Nothing here allocates, and the time is linear in the rows and
-//! their bodies.
+//! method body and no data of a field that a row names. Nothing here allocates. The time is linear in the rows and
+//! their bodies, and logarithmic in ClassLayout for each field with data.
 //!
 //! ```text
 //! let headers = Headers::read(&file);  // of a file that is an image
@@ -15,6 +15,7 @@
 mod addresses;
 mod alignment;
 mod bodies;
+mod class_sizes;
 mod field;
 mod field_data;
 mod headers;

@@ -1,9 +1,8 @@
-use Rattle.std.proofs.Common.{◌≡◌, rules, List, ℕ, Bool, true, false, min, refl, sym, ap, ◌∙◌, drop, take, length, replicate, subst, arith}
+use Rattle.std.proofs.Common.{◌≡◌, rules, List, ℕ, Bool, true, false, min, refl, sym, ap, ◌∙◌, drop, length, replicate, subst, arith}
 use mathlib.Core.Bool.{not}
 use Rattle.std.proofs.lemmas.Bool.{false≢true, true≢false}
 use Rattle.std.proofs.lemmas.Bool.Decides.{Decides-eqb}
 use Rattle.std.proofs.lemmas.Slice.Eq.{slice_eq-Decides}
-use Rattle.heap_entries.specs.Padding.{zero_padded}
 use Rattle.embedding.proofs.Padded.{padded_alike, same_begin, same_fours, zeros_after}
 use Rattle.embedding.proofs.matching.are_padded_alike.Goals as goal
 

@@ -1,7 +1,14 @@
-use Rattle.std.proofs.Common.{List, ℕ, subst}
+use Rattle.std.proofs.Common.{◌≡◌, List, ℕ, subst, sym, ap, ◌∙◌}
+use Rattle.std.proofs.lemmas.Bool.{false≢true}
 use Rattle.std.proofs.Math.Logic.{∥∥₁_elim}
 use Rattle.std.specs.Coded.{le_prop}
-use Rattle.std.specs.Result.{IfOk}
+use Rattle.std.specs.Result.{IfErr, IfOk}
+use Rattle.pe.specs.Headers.{image_of}
+use Rattle.cli_header.specs.Said.{header_of}
+use Rattle.metadata.specs.Streams.{root_in}
+use Rattle.embedding.specs.Errors.{IsReason}
+use Rattle.embedding.specs.Matching.{LeadsAlike}
+use Rattle.embedding.proofs.Misfits.{opens_by}
 use Rattle.embedding.specs.Embedded.{IsEmbedded}
 use Rattle.embedding.specs.Planned.{Planned, result_of}
 use Rattle.packed.specs.Rule.{FirstBroken}
@@ -20,3 +27,23 @@ returns-then-leads_alike-clause-sound c =
 pub returns-then-leads_alike-clause-first_error : goal.returns-then-leads_alike-clause-first_error
 returns-then-leads_alike-clause-first_error c =
     no_fault c.plan_opened.result (FirstBroken (rules_of_file c.args.file.now)) (FirstBroken (rules_of_metadata 0 c.args.root.now)) c.plan_opened.ensures.fault
+
+pub returns-then-leads_alike-clause-refused : goal.returns-then-leads_alike-clause-refused
+returns-then-leads_alike-clause-refused c =
+    subst (λ (file : List ℕ). IfErr c.plan_opened.result (IsReason file c.args.root.now)) c.in_ok-opened.ensures.opened.headers c.plan_opened.ensures.refused
+
+pub returns-else-leads_alike-clause-refused : goal.returns-else-leads_alike-clause-refused
+returns-else-leads_alike-clause-refused c =
+    let opened = c.in_ok-opened.opened in
+    let is = c.in_ok-opened.ensures.opened in
+    let view : opened.view ≡ root_in c.args.file.now (header_of (image_of c.args.file.now)) = is.view ∙ ap (root_in c.args.file.now) is.header.header_is in (
+      (opens_by c.args.file.now opened.header is.header, c.in-Ok.ensures.sound.1),
+      λ leads.
+          let of_views : LeadsAlike c.in-Ok.view opened.view =
+          subst (λ (root : List ℕ). LeadsAlike root opened.view) (sym c.in-Ok.ensures.sound.0)
+          (subst (λ (old : List ℕ). LeadsAlike c.args.root.now old) (sym view) leads) in
+          false≢true (sym c.if-leads_alike.false ∙ c.leads_alike.ensures.1 of_views),
+    )
+
+pub returns-in-Err-clause-refused : goal.returns-in-Err-clause-refused
+returns-in-Err-clause-refused c = opens_by c.args.file.now c.in_ok-opened.opened.header c.in_ok-opened.ensures.opened.header

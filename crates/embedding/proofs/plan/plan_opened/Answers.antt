@@ -1,10 +1,13 @@
-use Rattle.std.proofs.Common.{List, ℕ, length, subst, arith}
+use Rattle.std.proofs.Common.{List, ℕ, length, subst, sym, ◌∙◌}
+use Rattle.std.proofs.lemmas.Bool.{false≢true}
 use Rattle.std.proofs.lemmas.Result.{err_from_is_err_and}
+use Rattle.cli_header.specs.declared.header.CliHeader.{CliHeader}
 use Rattle.metadata.specs.SourceAt.{source_of}
+use Rattle.embedding.specs.Embedded.{AreHeadersApart}
 use Rattle.embedding.specs.Matching.{LeadsAlike}
 use Rattle.embedding.specs.Slots.{FitsAt}
 use Rattle.embedding.specs.Planned.{Planned, IsPlanned}
-use Rattle.embedding.proofs.Misfits.{misfit_is_reason}
+use Rattle.embedding.proofs.Misfits.{misfit_is_reason, opens_by}
 use Rattle.embedding.proofs.Results.{embedded_of}
 use Rattle.embedding.proofs.plan.plan_opened.Goals as goal
 
@@ -26,11 +29,7 @@ is_planned c =
     let opened = c.requires.opened in
     record {
       header = opened.header;
-      apart = record {
-        dos = omega (arith, c.lfanew.ensures);
-        cli_header = omega (arith, c.headers_end-end.ensures.offset);
-        root = omega (arith, c.headers_end-end.ensures.offset);
-      };
+      apart = c.are_headers_apart.ensures.0 c.if-not-are_headers_apart.false;
       fits = subst (λ (old : List ℕ). FitsAt file (length root) header (source_of old) c.in_ok-slot.slot) opened.view c.in_ok-slot.ensures.fits;
       leads = subst (λ (old : List ℕ). LeadsAlike root old) opened.view c.requires.leads;
       model = c.requires.model;
@@ -44,9 +43,18 @@ pub returns-clause-sound : goal.returns-clause-sound
 unfolding planned
 returns-clause-sound c = embedded_of (planned c) (is_planned c)
 
+pub returns-then-not-are_headers_apart-clause-refused : goal.returns-then-not-are_headers_apart-clause-refused
+returns-then-not-are_headers_apart-clause-refused c =
+    let file = c.args.file.headers in
+    let of = c.requires.opened.header in (
+      (opens_by file c.args.file.header of, c.requires.model),
+      λ apart. false≢true (sym c.if-not-are_headers_apart.true
+          ∙ c.are_headers_apart.ensures.1 (subst (λ (header : CliHeader). AreHeadersApart file header) (sym of.header_is) apart)),
+    )
+
 pub returns-in_err-slot-clause-refused : goal.returns-in_err-slot-clause-refused
 returns-in_err-slot-clause-refused c =
     let opened = c.requires.opened in
     let p = err_from_is_err_and c.from_residual.result c.from_residual.ensures.1 in
-    rw (p.1, p.2) (misfit_is_reason c.args.file.headers c.args.root.now c.args.file.view c.args.file.header opened.header.header_is opened.view c.in_err-slot.field-0.0
-    c.in_err-slot.ensures.misfit)
+    rw (p.1, p.2) (misfit_is_reason c.args.file.headers c.args.root.now c.args.file.view c.args.file.header opened.header opened.view c.requires.model
+    c.in_err-slot.field-0.0 c.in_err-slot.ensures.misfit)

@@ -1,4 +1,4 @@
-use Rattle.std.proofs.Common.{◌≡◌, ℕ, eq-eqb, sym, subst, ◌∙◌}
+use Rattle.std.proofs.Common.{eq-eqb, sym, subst, ◌∙◌}
 use Rattle.std.proofs.lemmas.Bool.{false≢true}
 use Rattle.pe.specs.Image.{Image}
 use Rattle.pe.specs.Offset.{IsFileOffset}

@@ -1,7 +1,5 @@
-use Rattle.std.proofs.Common.{rules, ◌*◌, ◌^◌, ◌≤◌, ℕ, refl, subst, arith}
+use Rattle.std.proofs.Common.{rules, ◌≤◌, ℕ, refl, arith}
 use borrow.Author.Count.{below_more}
-use Rattle.table_schema.specs.declared.table.TableId.TheVariants.{ClassLayout}
-use Rattle.metadata.specs.Source.{rows_in}
 use Rattle.file_ranges.specs.Occupied.{IsRowApart}
 use Rattle.file_ranges.proofs.field_data.is_data_apart.Goals as goal
 
@@ -12,13 +10,4 @@ loop-row-preserved c = λ k first below.
     (λ n before from. c.loop-row.invariant n from before) (λ from. here) k below first
 
 pub returns : goal.returns
-returns c =
-    let source = c.args.source.now.source in (
-      λ yes. record {
-        few =
-            subst (λ (n : ℕ). n * rows_in source ClassLayout ≤ 2 ^ 26) c.count-count.ensures.value
-            (subst (λ (n : ℕ). c.count-count.result * n ≤ 2 ^ 26) c.count.ensures.value (omega (arith, c.if-count-gt-LOOK_UPS.false)));
-        apart = λ row first last. c.loop-row.invariant row first (omega (arith, c.count-count.ensures.value));
-      },
-      λ apart. refl,
-    )
+returns c = (λ yes row first last. c.loop-row.invariant row first (omega (arith, c.count-row-end.ensures.value)), λ apart. refl)

@@ -1,4 +1,4 @@
-use Rattle.std.proofs.Common.{◌<◌, ℕ, sym, ◌∙◌, arith}
+use Rattle.std.proofs.Common.{ℕ, sym, ◌∙◌, arith}
 use Rattle.std.proofs.lemmas.Bool.{false≢true}
 use borrow.Author.Count.{below_more}
 use Rattle.file_ranges.specs.Occupied.{HasMetadata}
