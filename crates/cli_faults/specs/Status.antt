@@ -13,14 +13,14 @@ status_of NoSuchRow = 1
 status_of (Usage usage_error) = 2
 status_of (NotUtf8 name) = 3
 status_of (CannotRead error) = 3
-status_of CannotWriteOutput = 3
+status_of (CannotWriteOutput reason) = 3
 status_of (CannotWriteFile error) = 3
 status_of (CannotEmbed misfit) = 1
 status_of OutOfMemory = 3
 
 -- the output could not be written, or memory ran out
 abbrev pub IsOutput : Failure → Type 0
-IsOutput CannotWriteOutput = Unit {0}
+IsOutput (CannotWriteOutput reason) = Unit {0}
 IsOutput OutOfMemory = Unit {0}
 IsOutput _ = ⊥
 
@@ -40,8 +40,9 @@ IsUnwritten file _ = ⊥
 abbrev pub ReportsKind : ErrorKind → Failure → Type 0
 ReportsKind kind failure = (kind ≡ cause.OutOfMemory) ↔ (failure ≡ OutOfMemory)
 
--- a failure about a file has the reason for an error of this kind
+-- a failure about a file or the output has the reason for an error of this kind
 abbrev pub HasReason : ErrorKind → Failure → Type 0
 HasReason kind (CannotRead error) = error.reason ≡ reason_of kind
 HasReason kind (CannotWriteFile error) = error.reason ≡ reason_of kind
+HasReason kind (CannotWriteOutput reason) = reason ≡ reason_of kind
 HasReason kind _ = Unit {0}

@@ -6,7 +6,7 @@ use Rattle.packed.specs.declared.code.FaultCode.{FaultCode}
 use Rattle.table_schema.specs.declared.table.TableId.{TableId}
 use Rattle.table_schema.specs.Tables.{table_name}
 use Rattle.cli_faults.specs.Escaped.{escaped_text}
-use Rattle.cli_faults.specs.FileErrors.{file_error_text}
+use Rattle.cli_faults.specs.FileErrors.{file_error_text, reason_text}
 use Rattle.cli_faults.specs.declared.failure.Failure.{Failure}
 use Rattle.cli_faults.specs.declared.failure.Failure.TheVariants.{Fault, NoSuchRow, Usage, NotUtf8, CannotRead, CannotWriteOutput, CannotWriteFile, CannotEmbed, OutOfMemory}
 use Rattle.cli_faults.specs.declared.misfit.Misfit.{Misfit}
@@ -64,14 +64,14 @@ misfit_text NoRoom = codes "the root is longer than FILE's, and FILE has no room
 misfit_text TooLong = codes "OUT would have more than 2^30 bytes"
 
 -- the line that reports a failure, without its last line feed; arguments in it are escaped, and a line with the reason
--- follows the name of a file
+-- follows the name of a file, or the output
 abbrev pub failure_text : Failure → List ℕ
 failure_text (Fault found) = fault_text found
 failure_text NoSuchRow = codes "no such row"
 failure_text (Usage usage_error) = usage_text usage_error
 failure_text (NotUtf8 name) = codes "error: cannot read " ++ escaped_text name.now ++ 10 ∷ codes "  reason: its name is not UTF-8"
 failure_text (CannotRead error) = codes "error: cannot read " ++ file_error_text error
-failure_text CannotWriteOutput = codes "error: cannot write output"
+failure_text (CannotWriteOutput reason) = codes "error: cannot write output" ++ 10 ∷ codes "  reason: " ++ reason_text reason
 failure_text (CannotWriteFile error) = codes "error: cannot write " ++ file_error_text error
 failure_text (CannotEmbed misfit) = codes "error: cannot embed the root" ++ 10 ∷ codes "  reason: " ++ misfit_text misfit
 failure_text OutOfMemory = codes "error: out of memory"

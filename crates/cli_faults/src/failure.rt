@@ -1,12 +1,12 @@
 //! Why the program failed, and the line that reports it.
 ghost use Rattle.std.specs.Prelude.{◌≡◌, ◌↔◌, IfErr, IsOk, Some};
 ghost use Rattle.std.specs.IoError.{error_kind};
-ghost use Rattle.cli_faults.specs.Status.{IsOutput, ReportsKind};
+ghost use Rattle.cli_faults.specs.Status.{HasReason, IsOutput, ReportsKind};
 ghost use Rattle.cli_faults.specs.Texts.{failure_text};
 ghost use Rattle.cli_faults.specs.declared.failure.Failure.TheVariants.{Fault, Usage};
 
 use crate::escaped::{Escaped, EscapedBytes};
-use crate::file_error::FileError;
+use crate::file_error::{FileError, Reason};
 use crate::misfit::Misfit;
 use crate::usage_error::UsageError;
 use packed::Fault;
@@ -15,7 +15,7 @@ use std::{fmt, io};
 
 /// Why the program could not do what it was asked to do. `Display` gives the line for standard error, without the last
 /// line feed: for a fault `fault LAYER CODE at OFFSET: NAME`. Paths and other arguments in it are [`Escaped`]. If a file
-/// could not be used, a second line has the reason.
+/// or the output could not be used, a second line has the reason.
 #[derive(Clone, Copy, Debug, PartialEq, Eq)]
 pub enum Failure<'a> {
     /// The file breaks a rule of the standard.
@@ -29,7 +29,7 @@ pub enum Failure<'a> {
     /// This file could not be opened or read to its end.
     CannotRead(FileError<'a>),
     /// The output could not be written, or not completely.
-    CannotWriteOutput,
+    CannotWriteOutput(Reason),
     /// This file could not be created, truncated or written to its end.
     CannotWriteFile(FileError<'a>),
     /// The root does not fit into the file.
@@ -74,10 +74,11 @@ impl<'a> Failure<'a> {
     pub fn of_printing(error: &io::Error) -> Failure<'a>
         ensures reported { IsOutput result }
         ensures kind { ReportsKind (error_kind error.now) result }
+        ensures reason { HasReason (error_kind error.now) result }
     {
         match error.kind() {
             ErrorKind::OutOfMemory => Failure::OutOfMemory,
-            _ => Failure::CannotWriteOutput,
+            kind => Failure::CannotWriteOutput(Reason::of(kind)),
         }
     }
 
@@ -91,7 +92,7 @@ impl<'a> Failure<'a> {
             Failure::Usage(_) => 2,
             Failure::NotUtf8(_)
             | Failure::CannotRead(_)
-            | Failure::CannotWriteOutput
+            | Failure::CannotWriteOutput(_)
             | Failure::CannotWriteFile(_)
             | Failure::OutOfMemory => 3,
         }
@@ -107,6 +108,7 @@ pub fn printed(outcome: io::Result<()>) -> Result<(), Failure<'static>>
     ensures ok { IsOk result ↔ IsOk outcome }
     ensures reported { IfErr result IsOutput }
     ensures kind { IfErr outcome (λ error. IfErr result (ReportsKind (error_kind error))) }
+    ensures reason { IfErr outcome (λ error. IfErr result (HasReason (error_kind error))) }
 {
     match outcome {
         Ok(()) => Ok(()),
@@ -144,7 +146,9 @@ impl fmt::Display for Failure<'_> {
                 EscapedBytes(name)
             ),
             Failure::CannotRead(error) => write!(f, "error: cannot read {error}"),
-            Failure::CannotWriteOutput => f.write_str("error: cannot write output"),
+            Failure::CannotWriteOutput(reason) => {
+                write!(f, "error: cannot write output\n  reason: {reason}")
+            }
             Failure::CannotWriteFile(error) => write!(f, "error: cannot write {error}"),
             Failure::CannotEmbed(misfit) => {
                 write!(f, "error: cannot embed the root\n  reason: {misfit}")

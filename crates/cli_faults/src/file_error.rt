@@ -1,4 +1,4 @@
-//! Why a file could not be read or written.
+//! Why a file or the output could not be read or written.
 ghost use Rattle.std.specs.Prelude.{◌≡◌, Some};
 ghost use Rattle.cli_faults.specs.FileErrors.{file_error_text, reason_text};
 
@@ -39,8 +39,8 @@ impl fmt::Display for FileError<'_> {
     }
 }
 
-/// Why a file could not be read or written: the kinds of error that a user can do something about. `Display` gives a
-/// few words.
+/// Why a file or the output could not be read or written: the kinds of error that a user can do something about. `Display`
+/// gives a few words.
 #[derive(Clone, Copy, Debug, PartialEq, Eq)]
 pub enum Reason {
     /// No file has this path, or no folder is where it should be created.
@@ -57,6 +57,8 @@ pub enum Reason {
     StandardOutput,
     /// The file to write is what was read, and cannot be replaced by another: a device, or a file that was removed.
     Input,
+    /// The other end of the pipe is closed, so that nobody reads the output.
+    ClosedPipe,
     /// Any other error.
     Other,
 }
@@ -76,6 +78,7 @@ impl Reason {
             ErrorKind::StorageFull => Reason::NoSpace,
             ErrorKind::QuotaExceeded => Reason::NoSpace,
             ErrorKind::AlreadyExists => Reason::Leftover,
+            ErrorKind::BrokenPipe => Reason::ClosedPipe,
             _ => Reason::Other,
         }
     }
@@ -93,6 +96,7 @@ impl fmt::Display for Reason {
             Reason::Leftover => "too many files OUT.clim-new, OUT.clim-new2 .. exist",
             Reason::StandardOutput => "the standard output, which takes the line 'wrote N bytes'",
             Reason::Input => "FILE itself, which cannot be replaced",
+            Reason::ClosedPipe => "a closed pipe",
             Reason::Other => "another error of the system",
         })
     }

@@ -1,8 +1,9 @@
 -- The lines that report why a run stopped early.
-use Rattle.std.specs.Prelude.{◌≡◌, ℕ, Bool, true, false, if◌then◌else◌, List, ◌∷◌, [], ◌++◌, codes, Option, Some, None, Result, Ok, Err}
+use Rattle.std.specs.Prelude.{ℕ, Bool, true, false, if◌then◌else◌, List, ◌∷◌, [], ◌++◌, codes, Option, Some, None, Result, Ok, Err}
 use Rattle.std.specs.Borrow.{Bor}
 use Rattle.cli_faults.specs.Escaped.{escaped_text}
-use Rattle.cli_faults.specs.declared.failure.Failure.{Failure}
+use Rattle.cli_faults.specs.declared.failure.Failure.TheVariants.{CannotWriteOutput}
+use Rattle.cli_faults.specs.declared.file_error.Reason.TheVariants.{ClosedPipe}
 use Rattle.cli_faults.specs.declared.stop.Stop.{Stop}
 use Rattle.cli_faults.specs.declared.stop.Stop.TheVariants.{Failed, Different, NothingAt, Broken}
 use Rattle.cli_faults.specs.Stops.{status_of_stop, stop_text}
@@ -10,16 +11,17 @@ use Rattle.cli_files.specs.Hints.{hint_text}
 use Rattle.cli_files.specs.declared.hint.Hint.{Hint}
 use Rattle.cli_files.specs.declared.stopped.Stopped.{Stopped}
 
--- standard output says why it stopped; for private clauses
-abbrev pub is_printed : Stop → Bool
-is_printed Different = true
-is_printed (NothingAt offset) = true
-is_printed Broken = true
-is_printed _ = false
+-- nothing is reported: standard output says why it stopped, or nobody reads it; for private clauses
+abbrev pub is_silent : Stop → Bool
+is_silent Different = true
+is_silent (NothingAt offset) = true
+is_silent Broken = true
+is_silent (Failed (CannotWriteOutput ClosedPipe)) = true
+is_silent _ = false
 
--- the line of a stop, unless standard output says why it stopped
+-- the line of a stop, if it is reported
 abbrev pub stop_line : Stop → List ℕ
-stop_line stop = if is_printed stop then [] else stop_text stop ++ 10 ∷ []
+stop_line stop = if is_silent stop then [] else stop_text stop ++ 10 ∷ []
 
 -- the line that names the file, if several are read
 abbrev pub file_line : Option (Bor (List ℕ)) → List ℕ

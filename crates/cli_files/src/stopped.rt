@@ -2,12 +2,12 @@
 ghost use Rattle.std.specs.Prelude.{◌≡◌, ◌≤◌, ◌++◌, ◌∷◌, [], IfErr, IfOk, None, OnOk, Some};
 ghost use Rattle.std.specs.Fmt.{WritesOnOk};
 ghost use Rattle.std.specs.Io.KnownBytes.{Appends};
-ghost use Rattle.cli_files.specs.Stopped.{file_line, hint_line, is_printed, status_of_outcome, stop_line, stopped_text};
+ghost use Rattle.cli_files.specs.Stopped.{file_line, hint_line, is_silent, status_of_outcome, stop_line, stopped_text};
 ghost use Rattle.cli_faults.specs.Stops.{status_of_stop};
 ghost use Rattle.cli_faults.specs.declared.stop.Stop.TheVariants.{Failed};
 
 use crate::hint::{Hint, hint_of};
-use cli_faults::{Escaped, Failure, Stop};
+use cli_faults::{Escaped, Failure, Reason, Stop};
 use cli_input::Input;
 use cli_sending::send_message;
 use std::alloc::Global;
@@ -15,7 +15,7 @@ use std::io::Write;
 use std::{fmt, io};
 
 /// Why a run stopped early, and what the user may have meant. `Display` gives the lines for standard error: that of the
-/// stop, unless standard output says why it stopped, then that of the file, then that of the hint.
+/// stop, unless standard output says why it stopped or nobody reads it, then that of the file, then that of the hint.
 #[derive(Clone, Copy, Debug, PartialEq, Eq)]
 pub struct Stopped<'a> {
     /// Why it stopped.
@@ -76,11 +76,17 @@ fn report<E: Write>(alloc: Global, stopped: &Stopped<'_>, err: &mut E) -> io::Re
     send_message(alloc, stopped, err)
 }
 
-/// Whether the output says why the run stopped.
-fn is_printed(stop: &Stop<'_>) -> bool
-    ensures { result ≡ is_printed stop.now }
+/// Whether nothing is reported: the output says why the run stopped, or nobody reads it.
+fn is_silent(stop: &Stop<'_>) -> bool
+    ensures { result ≡ is_silent stop.now }
 {
-    matches!(stop, Stop::Different | Stop::NothingAt(_) | Stop::Broken)
+    matches!(
+        stop,
+        Stop::Different
+            | Stop::NothingAt(_)
+            | Stop::Broken
+            | Stop::Failed(Failure::CannotWriteOutput(Reason::ClosedPipe))
+    )
 }
 
 impl<'a> From<Stop<'a>> for Stopped<'a> {
@@ -117,11 +123,11 @@ impl fmt::Display for Stopped<'_> {
     }
 }
 
-/// Writes the line of a stop, unless standard output says why the run stopped.
+/// Writes the line of a stop, if it is reported.
 fn write_stop<W: fmt::Write>(stop: &Stop<'_>, f: &mut fmt::Formatter<W>) -> fmt::Result
     ensures { WritesOnOk W.write_str_gives f.old result (stop_line stop.now) f.new }
 {
-    if is_printed(stop) {
+    if is_silent(stop) {
         return Ok(());
     }
     write!(f, "{stop}\n")

@@ -38,7 +38,7 @@ fn digests_what_rewrite_writes(rt: HostRuntime) -> Result<(), Fail> {
     let mut err = Vec::new(rt.alloc());
     let words = ["clim", "digest", "--bare", "whole.root"];
     assert_eq!(rt; go(&rt, &words, &mut Full { late: false }, &mut err), 3);
-    assert_eq!(rt; err.as_slice(), b"error: cannot write output\n".as_slice());
+    assert_eq!(rt; err.as_slice(), b"error: cannot write output\n  reason: no space left\n".as_slice());
     fs::remove_file(&rt, "whole.dll")?;
     fs::remove_file(&rt, "whole.root")?;
     Ok(())
@@ -74,7 +74,7 @@ fault 1 102 at 0: DosHeader
     let mut err = Vec::new(rt.alloc());
     let words = ["clim", "digest", "one.dll", "lacks"];
     assert_eq!(rt; go(&rt, &words, &mut Full { late: true }, &mut err), 3);
-    assert_eq!(rt; err.as_slice(), b"error: cannot write output\n".as_slice());
+    assert_eq!(rt; err.as_slice(), b"error: cannot write output\n  reason: no space left\n".as_slice());
     for file in ["one.dll", "two.dll", "bare.dll"] {
         fs::remove_file(&rt, file)?;
     }
@@ -182,7 +182,7 @@ fn names_the_file_with_a_fault(rt: HostRuntime) -> Result<(), Fail> {
     assert!(rt; ends(&rt, &bare("lacks", "whole.root"), 3, "", missing)?);
     let mut err = Vec::new(rt.alloc());
     assert_eq!(rt; go(&rt, &bare("whole.root", "whole.root"), &mut Full { late: false }, &mut err), 3);
-    assert_eq!(rt; err.as_slice(), b"error: cannot write output\n".as_slice());
+    assert_eq!(rt; err.as_slice(), b"error: cannot write output\n  reason: no space left\n".as_slice());
     fs::remove_file(&rt, "whole.root")?;
     fs::remove_file(&rt, "cut.root")?;
     Ok(())

@@ -93,7 +93,7 @@ fn reports_what_it_cannot_write(rt: HostRuntime) -> Result<(), Fail> {
         &mut err,
     );
     assert_eq!(rt; status, 3);
-    assert_eq!(rt; err.as_slice(), b"error: cannot write output\n".as_slice());
+    assert_eq!(rt; err.as_slice(), b"error: cannot write output\n  reason: no space left\n".as_slice());
     assert_eq!(rt; fs::read(&rt, "sent.root")?.as_slice(), ONE_MODULE.as_slice());
     fs::remove_file(&rt, "whole.root")?;
     fs::remove_file(&rt, "sent.root")?;

@@ -215,7 +215,7 @@ fn stops_if_the_output_fails(rt: HostRuntime) -> Result<(), Fail> {
         let mut err = Vec::new(rt.alloc());
         assert_eq!(rt; go(&rt, &words, &mut out, &mut err), 3, "{room}");
         assert_eq!(rt; out.taken.as_slice(), &whole.as_slice()[..room.min(65)]);
-        let is_cut = err.as_slice().ends_with(b"error: cannot write output\n");
+        let is_cut = err.as_slice().ends_with(b"error: cannot write output\n  reason: no space left\n");
         assert_eq!(rt; is_cut, room < 65, "{room}");
         // The file that is not there follows the first line.
         assert_eq!(rt; err.as_slice().starts_with(LACKS.as_bytes()), 13 <= room, "{room}");
@@ -223,7 +223,7 @@ fn stops_if_the_output_fails(rt: HostRuntime) -> Result<(), Fail> {
     for late in [false, true] {
         let mut err = Vec::new(rt.alloc());
         assert_eq!(rt; go(&rt, &words, &mut Full { late }, &mut err), 3);
-        assert_eq!(rt; err.as_slice(), b"error: cannot write output\n".as_slice());
+        assert_eq!(rt; err.as_slice(), b"error: cannot write output\n  reason: no space left\n".as_slice());
     }
     remove_files(&rt)
 }

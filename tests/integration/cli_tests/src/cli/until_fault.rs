@@ -128,7 +128,7 @@ fn reports_as_show_does(rt: HostRuntime) -> Result<(), Fail> {
     for late in [false, true] {
         let mut err = Vec::new(rt.alloc());
         assert_eq!(rt; go(&rt, &ALL, &mut Full { late }, &mut err), 3);
-        assert_eq!(rt; err.as_slice(), b"error: cannot write output\n".as_slice());
+        assert_eq!(rt; err.as_slice(), b"error: cannot write output\n  reason: no space left\n".as_slice());
     }
     fs::remove_file(&rt, "until.root")?;
     let (status, _, err) = answer(&rt, &["clim", "show", "--until-fault", "lacks"])?;

@@ -66,7 +66,7 @@ fn stands_full_devices(rt: HostRuntime) -> Result<(), Fail> {
             let mut err = Vec::new(rt.alloc());
             let status = go(&rt, words, &mut Full { late }, &mut err);
             assert_eq!(rt; status, 3);
-            assert_eq!(rt; err.as_slice(), b"error: cannot write output\n".as_slice());
+            assert_eq!(rt; err.as_slice(), b"error: cannot write output\n  reason: no space left\n".as_slice());
         }
     }
     for (file, status) in [("b.root", 0), ("c.root", 1), ("--other", 2), ("lacks", 3)] {
@@ -106,7 +106,7 @@ impl Write for Narrow {
     fn write(&mut self, buf: &[u8]) -> io::Result<usize> {
         let count = buf.len().min(self.room).min(7);
         if count == 0 {
-            return Err(io::Error::from(ErrorKind::BrokenPipe));
+            return Err(io::Error::from(ErrorKind::StorageFull));
         }
         self.taken.extend_from_slice(&buf[..count])?;
         self.room -= count;
@@ -138,7 +138,7 @@ fn stands_a_device_that_fails_at_each_byte(rt: HostRuntime) -> Result<(), Fail> 
         if room < whole.len() {
             assert_eq!(rt; status, 3, "{room}");
             assert_eq!(rt; out.taken.len(), room);
-            assert_eq!(rt; err.as_slice(), b"error: cannot write output\n".as_slice());
+            assert_eq!(rt; err.as_slice(), b"error: cannot write output\n  reason: no space left\n".as_slice());
         } else {
             assert_eq!(rt; status, 0, "{room}");
             assert_eq!(rt; out.taken.as_slice(), whole.as_slice());
