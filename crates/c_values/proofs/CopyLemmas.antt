@@ -1,5 +1,5 @@
 -- Copies of files that are written into a buffer.
-use Rattle.std.proofs.Common.{◌≡◌, ℕ, ◌<◌, ◌≤◌, ◌++◌, List, [], ◌∷◌, length, drop, refl, sym, ◌∙◌, ap, subst, arith}
+use Rattle.std.proofs.Common.{◌≡◌, ℕ, ◌<◌, ◌≤◌, ◌++◌, List, [], ◌∷◌, length, drop, refl, sym, ◌∙◌, ap, subst, inl, inr, arith}
 use Rattle.std.proofs.Math.Logic.{∥∥₁_map}
 use Rattle.std.proofs.lemmas.List.{take_all}
 use Rattle.packed.specs.declared.fault.Fault.{Fault}
@@ -14,8 +14,8 @@ use Rattle.embedding.specs.declared.error.EmbedError.TheVariants as error
 use Rattle.embedding.specs.declared.strong_name.StrongName.{StrongName}
 use Rattle.embedding.specs.declared.strong_name.StrongName.TheVariants.{Keep, Clear}
 use Rattle.embedding.specs.Embedded.{IsEmbedded}
-use Rattle.embedding.specs.Errors.{MatchFault}
-use Rattle.c_values.specs.Copies.{IsAsked, IsCanonicalRootOf, IsStrongName, IsWritten}
+use Rattle.embedding.specs.Errors.{IsReason, MatchFault}
+use Rattle.c_values.specs.Copies.{IsAsked, IsCanonicalRootOf, IsNoCopy, IsStrongName, IsWritten}
 use Rattle.c_values.specs.Texts.{HasWhole}
 
 -- the canonical root of each model of the view of a file is that of the file
@@ -64,3 +64,30 @@ fault_weaker of_file P Q more error.Occupied is = is
 fault_weaker of_file P Q more error.NoRoom is = is
 fault_weaker of_file P Q more error.TooLong is = is
 fault_weaker of_file P Q more error.Memory is = is
+
+-- the file has a canonical root, of which a reason is true
+pub own_refused : (file view : List ℕ) (header : CliHeader) → HasImage file header → view ≡ root_in file header → (P : List ℕ → Type 0)
+    → ((model : Metadata) → IsModel view model → P (canonical model)) → ∥ ((root : List ℕ) × IsCanonicalRootOf file root × P root) ∥₁
+own_refused file view header has is P holds = ∥∥₁_map has (λ some.
+    (canonical some.0, ∣ (header, some.0, some.1, refl) ∣₁, holds some.0 (subst (λ (bytes : List ℕ). IsModel bytes some.0) (sym is) some.1.root)))
+
+-- the canonical root is not put into the file
+pub own_not_put : (file own : List ℕ) → IsCanonicalRootOf file own → (error : EmbedError) → IsReason file own error → IsNoCopy file [] error
+own_not_put file own is (error.File fault) reason = tt
+own_not_put file own is (error.Root fault) reason = ∣ (own, is, inr (inr reason)) ∣₁
+own_not_put file own is error.Unlike reason = ∣ (own, is, inr (inr reason)) ∣₁
+own_not_put file own is error.Headers reason = ∣ (own, is, inr (inr reason)) ∣₁
+own_not_put file own is error.Occupied reason = ∣ (own, is, inr (inr reason)) ∣₁
+own_not_put file own is error.NoRoom reason = ∣ (own, is, inr (inr reason)) ∣₁
+own_not_put file own is error.TooLong reason = ∣ (own, is, inr (inr reason)) ∣₁
+own_not_put file own is error.Memory reason = ∣ (own, is, inr (inl refl)) ∣₁
+
+-- the root that is given is not put into the file
+pub given_not_put : (file given : List ℕ) → 0 < length given → (error : EmbedError) → IsReason file given error → IsNoCopy file given error
+given_not_put file [] some error reason = absurd (omega (arith, some))
+given_not_put file (byte ∷ bytes) some error reason = reason
+
+-- no root is given
+pub own_asked : (file given : List ℕ) → length given ≡ 0 → (error : EmbedError) → IsNoCopy file [] error → IsNoCopy file given error
+own_asked file [] none error is = is
+own_asked file (byte ∷ bytes) none error is = absurd (omega (arith, none))

@@ -1,11 +1,11 @@
 //! A copy of a file with another root, in a caller's buffer.
-ghost use Rattle.std.specs.Prelude.{◌≡◌, ◌≤◌, ◌^◌, IfErr, IfNone, IfOk, IfSome, OnErr, length};
+ghost use Rattle.std.specs.Prelude.{◌≡◌, ◌≤◌, ◌^◌, IfErr, IfNone, IfOk, IfSome, OnErr, [], length};
 ghost use Rattle.packed.specs.Rule.{FirstBroken};
 ghost use Rattle.metadata.specs.Rules.{rules_of_file, rules_of_metadata};
 ghost use Rattle.embedding.specs.declared.strong_name.StrongName.{StrongName as Name};
-ghost use Rattle.embedding.specs.Errors.{MatchFault};
+ghost use Rattle.embedding.specs.Errors.{IsReason, MatchFault};
 ghost use Rattle.embedding.specs.Planned.{result_of};
-ghost use Rattle.c_values.specs.Copies.{IsAsked, IsCanonicalRootOf, IsCopied, IsFaultOfRoot, IsStrongName, IsWritten};
+ghost use Rattle.c_values.specs.Copies.{IsAsked, IsCanonicalRootOf, IsCopied, IsFaultOfRoot, IsNoCopy, IsStrongName, IsWritten};
 ghost use Rattle.c_values.specs.Texts.{HasWhole};
 
 use crate::parts::ROOT_LIMIT;
@@ -49,6 +49,7 @@ pub fn strong_name_of(number: u8) -> Option<StrongName>
 fn canonical_root_of(alloc: Global, file: &[u8]) -> Result<Prepared, EmbedError>
     ensures sound { IfOk result (IsCanonicalRootOf file.now) }
     ensures first_error { IfErr result (MatchFault (FirstBroken (rules_of_file file.now)) (IsFaultOfRoot (IsCanonicalRootOf file.now))) }
+    ensures refused { IfErr result (IsNoCopy file.now []) }
 {
     let view = match open_image(file) {
         Ok((_, view)) => view,
@@ -88,6 +89,7 @@ fn write_with(
     ensures sound { IfOk result (λ len. IsWritten strong_name file.now root.now len buffer.old buffer.new) }
     ensures limit { IfOk result (λ len. len ≤ 2 ^ 30) }
     ensures first_error { IfErr result (MatchFault (FirstBroken (rules_of_file file.now)) (FirstBroken (rules_of_metadata 0 root.now))) }
+    ensures refused { IfErr result (IsReason file.now root.now) }
     ensures same { OnErr result (buffer.new ≡ buffer.old) }
 {
     let plan = plan_embedding(file, root, strong_name)?;
@@ -104,6 +106,7 @@ fn write_own(
     ensures sound { IfOk result (λ len. IsCopied (IsCanonicalRootOf file.now) strong_name file.now len buffer.old buffer.new) }
     ensures limit { IfOk result (λ len. len ≤ 2 ^ 30) }
     ensures first_error { IfErr result (MatchFault (FirstBroken (rules_of_file file.now)) (IsFaultOfRoot (IsCanonicalRootOf file.now))) }
+    ensures refused { IfErr result (IsNoCopy file.now []) }
     ensures same { OnErr result (buffer.new ≡ buffer.old) }
 {
     let own = canonical_root_of(alloc, file)?;
@@ -126,6 +129,8 @@ pub fn write_copy(
     ensures sound { IfOk result (λ len. IsCopied (IsAsked file.now root.now) strong_name file.now len buffer.old buffer.new) }
     ensures limit { IfOk result (λ len. len ≤ 2 ^ 30) }
     ensures first_error { IfErr result (MatchFault (FirstBroken (rules_of_file file.now)) (IsFaultOfRoot (IsAsked file.now root.now))) }
+    // Any other reason is true of the file and the root.
+    ensures refused { IfErr result (IsNoCopy file.now root.now) }
     ensures same { OnErr result (buffer.new ≡ buffer.old) }
 {
     if root.is_empty() {

@@ -1,5 +1,6 @@
 ghost use Rattle.std.specs.Prelude.{◌≡◌, ◌≢◌, ◌⊎◌, ◌-◌, ◌^◌, ◌<◌, ◌≤◌};
-ghost use Rattle.c_values.specs.Copies.{IsAsked, IsCopied, IsFaultOfRoot, IsStrongName};
+ghost use Rattle.embedding.specs.declared.error.EmbedError.{EmbedError as Reason};
+ghost use Rattle.c_values.specs.Copies.{IsAsked, IsCopied, IsFaultOfRoot, IsNoCopy, IsStrongName, number_of_reason};
 ghost use Rattle.clim_c.specs.Faults.{fault_of};
 ghost use Rattle.clim_c.specs.Words.{FirstBroken, StrongName, rules_of_file};
 
@@ -30,6 +31,8 @@ pub extern "C" fn clim_embed(
     ensures unknown { ((name : StrongName) → ¬ IsStrongName strong_name name) → (result ≡ 0) × (buffer.new ≡ buffer.old) }
     ensures bad_file { result ≡ 2 ^ 64 - 3 → FirstBroken (rules_of_file file.now) (fault_of fault.new) }
     ensures bad_root { result ≡ 2 ^ 64 - 4 → IsFaultOfRoot (IsAsked file.now root.now) (fault_of fault.new) }
+    // Any other reason, by its number, is true of the file and the root.
+    ensures refused { 2 ^ 30 < result → (reason : Reason) × (result ≡ number_of_reason reason) × IsNoCopy file.now root.now reason }
     ensures within { (result ≤ 2 ^ 30) ⊎ (2 ^ 64 - 8 ≤ result) }
     ensures same { 2 ^ 30 < result → buffer.new ≡ buffer.old }
     ensures quiet { result ≢ 2 ^ 64 - 3 → result ≢ 2 ^ 64 - 4 → fault.new ≡ fault.old }

@@ -1,6 +1,32 @@
-use Rattle.c_values.proofs.CopyLemmas.{canonical_of}
+use Rattle.std.proofs.Common.{◌<◌, ◌^◌, inl, inr, List, ℕ, length, refl, subst}
+use Rattle.std.specs.Bool.{⊤}
+use Rattle.root_writer.specs.Canonical.{canonical}
+use Rattle.embedding.specs.declared.error.EmbedError.TheVariants.{TooLong, Memory}
+use Rattle.writer.specs.declared.error.WriteError.{WriteError}
+use Rattle.writer.specs.Errors.{MatchError}
+use Rattle.c_values.specs.Copies.{IsOwnReason}
+use Rattle.c_values.proofs.CopyLemmas.{canonical_of, own_refused}
 use Rattle.c_values.proofs.copies.canonical_root_of.Goals as goal
 
 pub returns-in-Ok-prepare-clause-sound : goal.returns-in-Ok-prepare-clause-sound
 returns-in-Ok-prepare-clause-sound c =
     canonical_of c.args.file.now c.in-Ok-prepare.root c.in-Ok.view c.in-Ok.field-0-0 c.in-Ok.ensures.sound c.in-Ok.ensures.view (λ model is. c.in-Ok-prepare.ensures.root model is)
+
+pub returns-in-Err-TooLarge-clause-refused : goal.returns-in-Err-TooLarge-clause-refused
+returns-in-Err-TooLarge-clause-refused c =
+    own_refused c.args.file.now c.in-Ok.view c.in-Ok.field-0-0 c.in-Ok.ensures.sound c.in-Ok.ensures.view (λ (root : List ℕ). IsOwnReason c.args.file.now root TooLong)
+    (λ model is.
+    inl (
+      refl,
+      subst (λ (e : WriteError). MatchError (2 ^ 30 < length (canonical model)) ⊤ (λ given. ⊥) e) c.in-Err-TooLarge.field-0-is
+          (c.in-Err-TooLarge.ensures.refused model is),
+    ))
+
+pub returns-in-Err-prepare : goal.returns-in-Err-prepare
+returns-in-Err-prepare c = record {
+  sound = tt;
+  first_error = tt;
+  refused =
+      own_refused c.args.file.now c.in-Ok.view c.in-Ok.field-0-0 c.in-Ok.ensures.sound c.in-Ok.ensures.view (λ (root : List ℕ). IsOwnReason c.args.file.now root Memory)
+      (λ model is. inr (inl refl));
+}

@@ -3,7 +3,7 @@ use Rattle.std.proofs.lemmas.Bool.Decides.{nat_tests}
 use Rattle.std.proofs.lemmas.Result.{IfErr-weaker, IfOk-weaker}
 use Rattle.packed.specs.Rule.{FirstBroken}
 use Rattle.metadata.specs.Rules.{rules_of_file}
-use Rattle.c_values.proofs.CopyLemmas.{asked_given, asked_own, fault_weaker}
+use Rattle.c_values.proofs.CopyLemmas.{asked_given, asked_own, fault_weaker, given_not_put, own_asked}
 use Rattle.c_values.proofs.copies.write_copy.Goals as goal
 
 pub returns-then-is_empty-clause-sound : goal.returns-then-is_empty-clause-sound
@@ -29,3 +29,13 @@ returns-clause-first_error c =
     IfErr-weaker c.write_with.result _ _
     (λ reason it. fault_weaker (FirstBroken (rules_of_file c.args.file.now)) _ _ (λ fault broken. (c.args.root.now, asked_given c.args.file.now c.args.root.now some, broken)) reason it)
     c.write_with.ensures.first_error
+
+pub returns-then-is_empty-clause-refused : goal.returns-then-is_empty-clause-refused
+returns-then-is_empty-clause-refused c =
+    let none : length c.args.root.now ≡ 0 = grind (arith, nat_tests, c.is_empty.ensures, c.if-is_empty.true) in
+    IfErr-weaker c.write_own.result _ _ (own_asked c.args.file.now c.args.root.now none) c.write_own.ensures.refused
+
+pub returns-clause-refused : goal.returns-clause-refused
+returns-clause-refused c =
+    let some : 0 < length c.args.root.now = grind (arith, nat_tests, c.is_empty.ensures, c.if-is_empty.false) in
+    IfErr-weaker c.write_with.result _ _ (given_not_put c.args.file.now c.args.root.now some) c.write_with.ensures.refused
