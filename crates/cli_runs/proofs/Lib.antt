@@ -6,3 +6,4 @@ pub mod Printings
 pub mod Reporting
 pub mod Rewritings
 pub mod Running
+pub mod OneCheck

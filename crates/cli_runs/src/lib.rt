@@ -15,6 +15,7 @@ mod compare;
 mod embed;
 mod explain;
 mod files;
+pub mod laws;
 mod listed;
 mod one_line;
 mod print_check;

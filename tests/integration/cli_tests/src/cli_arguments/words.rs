@@ -1,7 +1,6 @@
 use crate::named::file_named;
 use crate::runs::answer;
 use cli::{Ask, Subcommand, ask};
-use cli_files::refuse_words;
 use std::io;
 use std::io::ErrorKind;
 use std::test::Fail;
