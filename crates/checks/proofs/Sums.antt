@@ -1,5 +1,5 @@
 -- Sums of the numbers below one, and the lengths of blobs.
-use Rattle.std.proofs.Common.{◌≡◌, ℕ, zero, suc, ◌+◌, ◌-◌, ◌<◌, ◌≤◌, List, ◌++◌, length, drop, Some, inl, inr, refl, subst, sym, ap, ◌∙◌, true, add-one, arith}
+use Rattle.std.proofs.Common.{◌≡◌, ℕ, zero, suc, ◌+◌, ◌<◌, ◌≤◌, List, ◌++◌, length, drop, Some, inl, inr, refl, subst, sym, ap, ◌∙◌, true, add-one, arith}
 use Rattle.std.specs.Prelude.{nat_le}
 use Rattle.std.proofs.lemmas.Bool.{cases_eq}
 use Rattle.std.proofs.lemmas.Bool.Decides.{nat_tests}
@@ -8,12 +8,7 @@ use Rattle.std.proofs.Math.Seq.{drop-append_seam}
 use Rattle.packed.specs.Prefix.{unsigned_at}
 use Rattle.packed.specs.Packed.{IsPacked}
 use Rattle.heap_entries.specs.Entries.{IsBlob, IsCounted}
-use Rattle.table_schema.specs.declared.table.TableId.{TableId}
-use Rattle.table_schema.specs.declared.column.SigKind.{SigKind}
-use Rattle.table_schema.specs.declared.column.ColumnKind.TheVariants as kind
-use Rattle.table_schema.specs.Columns.{column_at}
-use Rattle.metadata.specs.Source.{Source, number_of}
-use Rattle.checks.specs.Signatures.{sum_below, counted_length, blob_length, cell_bytes}
+use Rattle.checks.specs.Signatures.{sum_below, counted_length, blob_length}
 
 pub sum_none : (f : ℕ → ℕ) → sum_below f 0 ≡ 0
 unfolding sum_below
@@ -56,12 +51,3 @@ module _ (read : (n : ℕ) (prefix tail : List ℕ) → IsPacked n prefix → un
       ap (λ n. drop n heap) (sym at.at) ∙ ap (λ (h : List ℕ). drop (length at.before) h) at.whole
       ∙ drop-append_seam at.before (at.count ++ (blob ++ at.after)) in
       ap counted_length behind ∙ counted_is at.count blob at.after at.counts
-
--- a signature cell has the same number of bytes as the blob of its number
-pub cell_is : ((n : ℕ) (prefix tail : List ℕ) → IsPacked n prefix → unsigned_at (prefix ++ tail) ≡ Some (n, length prefix))
-    → (source : Source) (table : TableId) (column row number : ℕ) (encoded : SigKind) (blob : List ℕ) → 1 ≤ row → (column_at table column).kind ≡ kind.Signature encoded
-    → number ≡ number_of source table row column → IsBlob source.blobs number blob → cell_bytes source table column (row - 1) ≡ length blob
-unfolding cell_bytes
-cell_is read source table column row number encoded blob first of_kind is_number at =
-    let again : row - 1 + 1 ≡ row = omega arith in
-    rw (of_kind, again, ← is_number) (blob_is read source.blobs number blob at)

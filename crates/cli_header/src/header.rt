@@ -7,6 +7,7 @@ ghost use Rattle.cli_header.specs.Said.{directory_at, header_offset, header_of};
 use crate::laws;
 use packed::{Fault, FaultCode, u16_at, u32_at};
 use pe::Pe;
+use std::alloc::AllocError;
 use std::ops::Range;
 
 /// The least size of a CLI header, in bytes.
@@ -24,7 +25,7 @@ pub struct DataDirectory {
 }
 
 /// The CLI header of an image (II.25.3.3).
-#[derive(Clone, Debug, PartialEq, Eq, Drop)]
+#[derive(Debug, PartialEq, Eq, Drop)]
 pub struct CliHeader {
     /// The file offset of the header, in bytes.
     pub place: usize,
@@ -54,6 +55,18 @@ pub struct CliHeader {
     pub managed_native_header: DataDirectory,
     /// The span of the metadata root in the file, as `metadata` gives it.
     pub root: Range<usize>,
+}
+
+impl Clone for CliHeader {
+    ghost use Rattle.std.specs.Prelude.{◌≡◌};
+
+    ghost is_clone = { λ from to. to ≡ from };
+
+    /// The same value. It does not allocate.
+    fn clone(&self) -> Result<Self, AllocError> {
+        let root = self.root.start..self.root.end;
+        Ok(CliHeader { root, ..*self })
+    }
 }
 
 impl DataDirectory {

@@ -1,5 +1,5 @@
 -- The name of a row, from that of its table.
-use Rattle.std.proofs.Common.{◌≡◌, ℕ, ◌≤◌, ◌<◌, false, List, Option, None, refl, subst, arith, ⊎_elim}
+use Rattle.std.proofs.Common.{◌≡◌, ℕ, ◌≤◌, ◌<◌, false, List, Option, None, refl, subst, sym, arith, ⊎_elim}
 use Rattle.std.proofs.lemmas.Bool.{cases_lt}
 use Rattle.table_schema.specs.declared.table.TableId.{TableId}
 use Rattle.table_schema.specs.declared.table.TableId.TheVariants.{TypeDef, TypeRef, TypeSpec, Field, MethodDef, Event, Property, MemberRef, ModuleRef, AssemblyRef, File, ExportedType, GenericParam}
@@ -27,6 +27,14 @@ plain_name model Property row text a b c d e f g h is = absurd (g refl)
 plain_name model MemberRef row text a b c d e f g h is = absurd (h refl)
 plain_name model _ row text a b c d e f g h is = is
 
+-- a row that exists has this name
+pub row_named : (model : Metadata) (table : TableId) (token : Token) → token.table ≡ table → 1 ≤ token.row → token.row ≤ count_in model token.table → (text : List ℕ)
+    → IsNameIn model table token.row text → IsRowName model token text
+row_named model table token is first last text name = record {
+  there = λ _. subst (λ (t : TableId). IsNameIn model t token.row text) (sym is) name;
+  missing = λ not. absurd (not (first, last));
+}
+
 -- a row of another table has no name
 pub no_name : (model : Metadata) (table : TableId) (row : ℕ) → (table ≡ ModuleRef → ⊥) → (table ≡ AssemblyRef → ⊥) → (table ≡ File → ⊥) → (table ≡ ExportedType → ⊥) → (table ≡ GenericParam → ⊥)
     → IsPlainName model table row (codes "..")
@@ -36,13 +44,6 @@ no_name model File row a b c d e = absurd (c refl)
 no_name model ExportedType row a b c d e = absurd (d refl)
 no_name model GenericParam row a b c d e = absurd (e refl)
 no_name model _ row a b c d e = refl
-
--- the name of a row that exists is its name
-pub row_named : (model : Metadata) (token : Token) (text : List ℕ) → HasRow model token.table token.row → IsNameIn model token.table token.row text → IsRowName model token text
-row_named model token text there is = record {
-  there = λ _. is;
-  missing = λ not. absurd (not there);
-}
 
 -- a type to which a row of a map refers exists
 module _ (model : Metadata) (valid : IsValid model) where

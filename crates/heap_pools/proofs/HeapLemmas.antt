@@ -1,5 +1,5 @@
 -- The heap of the flagged texts, extended by one use index.
-use Rattle.std.proofs.Common.{◌≡◌, ℕ, zero, suc, ◌+◌, ◌<◌, ◌≤◌, Bool, true, false, List, [], ◌∷◌, ◌++◌, length, take, drop, get_or, slice_index_or, refl, sym, ap, subst, ◌∙◌, ⊎_elim, true≢false, arith, length-append, add-one}
+use Rattle.std.proofs.Common.{◌≡◌, ℕ, zero, suc, ◌+◌, ◌<◌, ◌≤◌, Bool, true, false, List, [], ◌∷◌, ◌++◌, length, take, drop, get_or, slice_index_or, refl, sym, ap, ◌∙◌, ⊎_elim, true≢false, arith, length-append, add-one}
 use Rattle.std.proofs.lemmas.Bool.{cases_lt, false≢true}
 use Rattle.std.proofs.lemmas.List.{append_assoc, get_or_push, get_or_append_left, drop_at, take_at}
 use Rattle.heap_pools.specs.TextHeap.{ended}
@@ -60,15 +60,6 @@ pub values_more : (f : ℕ → ℕ) (xs : List ℕ) (i x : ℕ) → length xs �
 values_more f xs i x long new old k h = ⊎_elim
     (λ (lt : k < i). get_or_append_left xs (x ∷ []) 0 k (omega arith) ∙ old k lt)
     (λ (ge : i ≤ k). let e : i ≡ k = omega arith in get_or_push xs x 0 k (long ∙ e) ∙ new ∙ ap f e)
-    (cases_lt k i)
-
--- one more number at the end of a list of numbers that are related to their indexes
-pub related_more : (R : ℕ → ℕ → Type 0) (xs : List ℕ) (i x : ℕ) → length xs ≡ i → R i x → ((k : ℕ) → k < i → R k (get_or xs k 0)) → (k : ℕ) → k < i + 1 → R k (get_or (xs ++ x ∷ []) k 0)
-related_more R xs i x long new old k h = ⊎_elim
-    (λ (lt : k < i). subst (R k) (sym (get_or_append_left xs (x ∷ []) 0 k (omega arith))) (old k lt))
-    (λ (ge : i ≤ k).
-    let e : i ≡ k = omega arith in
-    subst (λ n. R n (get_or (xs ++ x ∷ []) n 0)) e (subst (R i) (sym (get_or_push xs x 0 i long)) new))
     (cases_lt k i)
 
 -- a text at the end of an entry is at its index in the heap

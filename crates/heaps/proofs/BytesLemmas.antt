@@ -1,6 +1,6 @@
 -- The first byte of a heap, and bytes that are appended.
 use Rattle.std.proofs.Common.{◌≡◌, ◌≤◌, ℕ, max, List, [], ◌∷◌, ◌++◌, length, take, Result, Ok, Err, OnErr, refl, sym, ap, ◌∙◌, arith, length-append}
-use Rattle.std.proofs.lemmas.List.{take_at, take_all, take-take}
+use Rattle.std.proofs.lemmas.List.{take_at, take-take}
 use Rattle.heaps.specs.FirstByte.{begun}
 
 pub length-begun : (heap : List ℕ) → length (begun heap) ≡ max (length heap) 1
@@ -15,10 +15,6 @@ begun-longer (byte ∷ bytes) = omega arith
 pub take_begun : (heap tail : List ℕ) → take (length heap) (begun heap ++ tail) ≡ heap
 take_begun [] tail = refl
 take_begun (byte ∷ bytes) tail = take_at (byte ∷ bytes) tail (length (byte ∷ bytes)) refl
-
-pub take_begun-alone : (heap : List ℕ) → take (length heap) (begun heap) ≡ heap
-take_begun-alone [] = refl
-take_begun-alone (byte ∷ bytes) = take_all (length (byte ∷ bytes)) (byte ∷ bytes) (omega arith)
 
 -- the old bytes of the heap are a prefix also if a longer prefix is kept
 pub take_shorter : (heap middle new : List ℕ) (len n : ℕ) → len ≡ length heap → n ≡ length (begun heap ++ middle) → take n new ≡ begun heap ++ middle → take len new ≡ heap

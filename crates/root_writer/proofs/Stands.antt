@@ -20,7 +20,7 @@ use Rattle.heap_pools.specs.GuidHeap.{guid_index}
 use Rattle.sig_grammar.specs.Parts.{is_table}
 use Rattle.sig_grammar.specs.Encodes.{short, tokens}
 use Rattle.metadata.specs.Cell.{Cell}
-use Rattle.metadata.specs.Cell.{Number, Start}
+use Rattle.metadata.specs.Cell.{Start}
 use Rattle.metadata.specs.Metadata.{Metadata, count_in}
 use Rattle.metadata.specs.Source.{Source, IsThere}
 use Rattle.metadata.specs.Stands.{StandsFor, Refers}
@@ -148,9 +148,6 @@ low_start count start low = ⊎_elim
     (λ (e : ltb count (2 ^ 16) ≡ false). let less : start % 4294967296 ≤ count + 1 =
     omega arith in subst (λ b. start % 256 ^ narrow_or_wide b ≤ count + 1) (sym e) less)
     (cases_Bool (ltb count (2 ^ 16)))
-
-number_stands : (limit : ℕ) (number : ℕ) (cell : Cell) → number < limit → cell ≡ Number number → cell ≡ Number (number % limit)
-number_stands limit number cell fits e = e ∙ ap Number (sym (mod-eq_of_lt fits))
 
 -- the number of a valid cell encodes the cell
 pub stands : Facts → (model : Metadata) → IsWithin model
