@@ -1,0 +1,4 @@
+pub mod HeaderLines
+pub mod Identities
+pub mod InfoLines
+pub mod Tokens
