@@ -7,6 +7,7 @@ Read, check and rewrite the metadata of .NET assemblies (ECMA-335, Partition II)
 Usage: clim <COMMAND>
 
 Look:
+  info     Print what an assembly is: its identity, its headers and its references
   root     Print the CLI header, and the version and the stream headers of the metadata root
   show     Print the rows of all tables, or of one
   types    Print the types, with the number of their fields and methods

@@ -1,8 +1,9 @@
 //! `clim info`: what one wants to know first of an assembly.
 ghost use Rattle.std.specs.Prelude.{◌≡◌, ◌≤◌, ◌∷◌, [], IfErr, IfOk, OnErr, OnOk, Option, Some};
+ghost use Rattle.std.specs.Option.{option_map};
 ghost use Rattle.cli_header.specs.declared.header.CliHeader.{CliHeader as Header};
 ghost use Rattle.cli_info.specs.HeaderLines.{HasRoom};
-ghost use Rattle.cli_info.specs.InfoLines.{AreFacts, counts_line, guid_of, info_lines, module_lines};
+ghost use Rattle.cli_info.specs.InfoLines.{AreFacts, counts_line, fact_lines, file_lines, guid_of, info_lines, module_lines};
 ghost use Rattle.cli_input.specs.Checked.{IsWhole, rules_of};
 ghost use Rattle.cli_lines.specs.Printed.{Prints};
 ghost use Rattle.metadata.specs.Metadata.{Metadata, cell_in};
@@ -29,7 +30,7 @@ use std::io::Write;
 const MODULE_NAME: usize = 1;
 const MVID: usize = 2;
 
-/// Prints what one wants to know first: the identity of the assembly, its module, the version of the runtime, the headers
+/// Prints what one wants to know first: the name of the file, if there is one, the identity of the assembly, its module, the version of the runtime, the headers
 /// unless the bytes are a bare root, the numbers of types, methods, fields and resources, and the identity of each assembly
 /// that it refers to.
 ///
@@ -42,15 +43,17 @@ pub fn print_info<W: Write>(
     alloc: Global,
     bytes: &[u8],
     input: Input,
+    file: Option<&str>,
     out: &mut Printer<'_, W>,
 ) -> Result<(), Fault>
     ensures first_error { IfErr result (FirstBroken (rules_of input bytes.now)) }
     ensures untouched { OnErr result (out.new ≡ out.old) }
     ensures whole { OnOk result (IsWhole input bytes.now) }
     ensures printed { OnOk result ((header : Option Header) (model : Metadata) → AreFacts input bytes.now header model
-        → Prints out.old out.new (info_lines bytes.now header model)) }
+        → Prints out.old out.new (info_lines (option_map (λ name. name.now) file.entry) bytes.now header model)) }
 {
     let (header, view) = open_facts(bytes, input)?;
+    print_file(file, out);
     print_facts(alloc, bytes, &header, &view, out);
     Ok(())
 }
@@ -76,6 +79,16 @@ fn open_facts(bytes: &[u8], input: Input) -> Result<(Option<CliHeader>, View<'_>
     }
 }
 
+/// Prints the name of a file, if there is one.
+fn print_file<W: Write>(file: Option<&str>, out: &mut Printer<'_, W>)
+    ensures { Prints out.old out.new (file_lines (option_map (λ name. name.now) file.entry)) }
+{
+    cli_lines::laws::lines_follow::<W>();
+    if let Some(name) = file {
+        out.line(&[Word("file "), Field(Name::File, Text(name))]);
+    }
+}
+
 /// Prints the lines of a CLI header, if there is one, and of the metadata.
 fn print_facts<W: Write>(
     alloc: Global,
@@ -85,7 +98,7 @@ fn print_facts<W: Write>(
     out: &mut Printer<'_, W>,
 )
     requires { (of : Header) → header.now ≡ Some of → HasRoom bytes.now }
-    ensures { (model : Metadata) → IsModel view.now model → Prints out.old out.new (info_lines bytes.now header.now model) }
+    ensures { (model : Metadata) → IsModel view.now model → Prints out.old out.new (fact_lines bytes.now header.now model) }
 {
     cli_lines::laws::lines_follow::<W>();
     print_identities(alloc, view, Kind::Assembly, out);

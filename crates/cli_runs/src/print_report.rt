@@ -10,10 +10,11 @@ ghost use Rattle.metadata.specs.Model.{IsModel};
 ghost use Rattle.packed.specs.Rule.{FirstBroken};
 
 use crate::canonical_root::canonical_root;
-use crate::print_check::{is_spent, print_check};
+use crate::print_check::{is_spent, label_of, print_check};
 use crate::report::{Ended, Listing, Report, Request, ended_by};
 use cli_cells::{Names, print_show, print_tokens, print_until_fault};
 use cli_faults::{Failure, Stop};
+use cli_info::print_info;
 use cli_input::{Input, open};
 use cli_lines::Printer;
 use cli_outline::{Outcome, Subject, print_outline, print_outline_of};
@@ -44,6 +45,7 @@ pub(crate) fn print_report<'a, W: Write>(
     }
     match &request.report {
         Report::Root => ended_by(print_root(bytes, input, out)),
+        Report::Info => ended_by(print_info(alloc, bytes, input, label_of(request.naming, name), out)),
         Report::Strings => print_user_strings(alloc, request, name, bytes, out),
         Report::Listing(listing) => ended_by(print_listing(alloc, *listing, bytes, input, out)),
         Report::Check(verdict) => print_check(alloc, request, *verdict, name, bytes, out),
