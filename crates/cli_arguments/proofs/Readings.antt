@@ -53,7 +53,7 @@ named_back word s e =
     (named_by word (bytes_eq word (name_of Digest)) Digest _ s (bytes_eq-Decides word (name_of Digest)).0
     (named_by word (bytes_eq word (name_of Compare)) Compare _ s (bytes_eq-Decides word (name_of Compare)).0
     (named_by word (bytes_eq word (name_of Explain)) Explain _ s (bytes_eq-Decides word (name_of Explain)).0
-    (λ none. cc))))))))))))) e
+    (λ none. cc)))))))))))))) e
 
 -- a flag is read as true if and only if its text is `true`
 flag_reads : (E : Type 0) (o : Option Text) (r : Option Bool) → (o ≡ None → r ≡ None)

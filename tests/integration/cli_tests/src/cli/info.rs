@@ -18,7 +18,7 @@ const BARE_JSON: &str = "\
 const NATIVE: &str = "\
 module a.dll {03020100-0504-0706-0809-0a0b0c0d0e0f}
 version v4.0.30319
-format PE32 machine 8664 amd64
+format PE32 machine 00008664 amd64
 flags 0003001b ILONLY 32BITREQUIRED STRONGNAMESIGNED NATIVE_ENTRYPOINT TRACKDEBUGDATA 32BITPREFERRED
 entry 00002008
 signature 128 native 7 debug 28
@@ -28,7 +28,7 @@ types 0 methods 0 fields 0 resources 0
 const WIDER_JSON: &str = "\
 {\"module\":\"a.dll\",\"mvid\":\"03020100-0504-0706-0809-0a0b0c0d0e0f\"}
 {\"version\":\"v4.0.30319\"}
-{\"format\":\"PE32+\",\"machine\":\"0200\"}
+{\"format\":\"PE32+\",\"machine\":\"00000200\"}
 {\"flags\":\"00000001\"}
 {\"entry\":\"00000000\"}
 {\"signature\":0,\"native\":0,\"debug\":28}

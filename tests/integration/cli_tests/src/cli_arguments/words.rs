@@ -14,7 +14,7 @@ const LINES_IN_HELP: &str = "\
 ";
 
 /// Arguments that are a usage error, and what the program prints for them.
-const REFUSED: [(&[&str], &str); 95] = [
+const REFUSED: [(&[&str], &str); 96] = [
     (&[], "Usage: clim <COMMAND>"),
     (&["clim"], "Usage: clim <COMMAND>"),
     (&["clim", "lacks"], "unrecognized subcommand 'lacks'"),
@@ -95,8 +95,7 @@ const REFUSED: [(&[&str], &str); 95] = [
         "unexpected argument '70000001'",
     ),
     (&["clim", "types"], "Usage: clim types <FILE>"),
-    (&["clim", "info"], "Usage: clim info <FILE>"),
-    (&["clim", "info", "a", "b"], "unexpected argument 'b'"),
+    (&["clim", "info"], "Usage: clim info <FILE>..."),
     (&["clim", "outline"], "Usage: clim outline <FILE>"),
     (&["clim", "outline", "lacks", "A", "B"], "unexpected argument 'B'"),
     (&["clim", "check", "--json"], "error: FILE is missing"),
@@ -358,8 +357,8 @@ fn helps_with_each_subcommand(rt: HostRuntime) -> Result<(), Fail> {
         ),
         (
             "info",
-            "Usage: clim info [OPTIONS] <FILE>",
-            "\n  format PE32 machine 014c i386\n",
+            "Usage: clim info [OPTIONS] <FILE>...",
+            "\n  format PE32 machine 0000014c i386\n",
         ),
         (
             "check",
