@@ -1,4 +1,3 @@
 pub mod HeaderLines
 pub mod Identities
 pub mod InfoLines
-pub mod Tokens

@@ -1,7 +1,7 @@
 //! Prints the lines of a PE file: its format and machine (II.25.2), and its CLI header (II.25.3.3).
-ghost use Rattle.std.specs.Prelude.{◌≡◌, ◌<◌, ◌∷◌, [], Some};
+ghost use Rattle.std.specs.Prelude.{◌≡◌, ◌≤◌, ◌<◌, ◌∷◌, [], Some};
 ghost use Rattle.cli_header.specs.declared.header.CliHeader.{CliHeader as Header};
-ghost use Rattle.cli_info.specs.HeaderLines.{HasRoom, debug_size, entry_line, entry_name, flag_word, flags_line, format_name, header_lines, image_line, machine, machine_word, method_name, sizes_line};
+ghost use Rattle.cli_info.specs.HeaderLines.{HasRoom, debug_size, entry_line, entry_name, flag_word, flags_line, format_name, header_lines, image_line, machine, machine_word, method_name, sizes_line, wider_by};
 ghost use Rattle.cli_lines.specs.Printed.{Prints};
 ghost use Rattle.metadata.specs.Metadata.{Metadata};
 ghost use Rattle.metadata.specs.Model.{IsModel};
@@ -16,22 +16,18 @@ use opening::{TableId, View};
 use packed::{u16_at, u32_at};
 use std::io::Write;
 
-/// The offset of lfanew, which is that of the PE signature (II.25.2.1).
+/// The offset of lfanew, which is that of the PE signature (II.25.2.1). The next three offsets are relative to this signature.
 const LFANEW: usize = 0x3C;
-
-/// The offset of Machine, relative to the PE signature (II.25.2.2).
+/// The offset of Machine (II.25.2.2).
 const MACHINE: usize = 4;
-
-/// The offset of Magic, relative to the PE signature (II.25.2.3.1).
+/// The offset of Magic (II.25.2.3.1).
 const MAGIC: usize = 24;
-
-/// The offset of the size of debug data in an image of format PE32, relative to the PE signature (II.25.2.3.3).
+/// The offset of the size of debug data in PE32 (II.25.2.3.3).
 const DEBUG_SIZE: usize = 172;
 
-/// Magic of PE32+.
+/// Magic of PE32+, and the number of bytes that it has more than PE32 before the data directories.
 const PE32_PLUS: u16 = 0x20B;
 
-/// The number of bytes that PE32+ has more than PE32 before the data directories.
 const WIDER: usize = 16;
 
 /// The flag of a native entry point, which is no token (II.25.3.3.1).
@@ -42,13 +38,20 @@ const ROWS: u32 = 1 << 24;
 
 /// The number of MethodDef in a token, and the index of the cell with the name of a method (II.22.26).
 const METHOD_DEF: u32 = 0x06;
+
 const METHOD_NAME: usize = 3;
 
-/// The name of a format.
-fn format_name(magic: u16) -> &'static str
-    ensures { result.now ≡ format_name magic }
+/// The name of a format, and the number of bytes that it has more than PE32 before the data directories.
+fn format_of(magic: u16) -> (&'static str, usize)
+    ensures name { result.0.now ≡ format_name magic }
+    ensures wider { result.1 ≡ wider_by magic }
+    ensures few { result.1 ≤ 16 }
 {
-    if magic == PE32_PLUS { "PE32+" } else { "PE32" }
+    if magic == PE32_PLUS {
+        ("PE32+", WIDER)
+    } else {
+        ("PE32", 0)
+    }
 }
 
 /// The name of a machine after a space, if it is one of .NET.
@@ -64,36 +67,25 @@ fn machine_word(machine: u16) -> &'static str
     }
 }
 
-/// Prints the line of the format and the machine of a file.
+/// Prints the line of the PE headers of a file.
 #[tactic(auto, unfolding(crate::specs::HeaderLines::image_line))]
 fn print_image<W: Write>(file: &[u8], out: &mut Printer<'_, W>)
     requires { HasRoom file.now }
-    ensures { Prints out.old out.new (image_line (magic file.now) (machine file.now) ∷ []) }
+    ensures { Prints out.old out.new (image_line (magic file.now) (machine file.now) (debug_size file.now) ∷ []) }
 {
     let start = u32_at(file, LFANEW) as usize;
-    let magic = u16_at(file, start + MAGIC);
     let machine = u16_at(file, start + MACHINE);
+    let (format, wider) = format_of(u16_at(file, start + MAGIC));
+    let debug = u32_at(file, start + DEBUG_SIZE + wider);
     out.line(&[
         Word("format "),
-        Field(Name::Format, Plain(format_name(magic))),
+        Field(Name::Format, Plain(format)),
         Word(" machine "),
         Field(Name::Machine, Hex(machine as u32)),
         Word(machine_word(machine)),
+        Word(" debug "),
+        Field(Name::Debug, Number(debug as u64)),
     ]);
-}
-
-/// The size of the debug directory of a file, in bytes.
-fn debug_size(file: &[u8]) -> u32
-    requires { HasRoom file.now }
-    ensures { result ≡ debug_size file.now }
-{
-    let start = u32_at(file, LFANEW) as usize;
-    let wider = if u16_at(file, start + MAGIC) == PE32_PLUS {
-        WIDER
-    } else {
-        0
-    };
-    u32_at(file, start + DEBUG_SIZE + wider)
 }
 
 /// A word, if the flag is set.
@@ -163,18 +155,18 @@ fn print_entry<W: Write>(token: u32, name: &str, out: &mut Printer<'_, W>)
     }
 }
 
-/// Prints the line of the sizes of what the headers refer to.
+/// Prints the line of the sizes of what the CLI header refers to.
 #[tactic(auto, unfolding(crate::specs::HeaderLines::sizes_line))]
-fn print_sizes<W: Write>(header: &CliHeader, debug: u32, out: &mut Printer<'_, W>)
-    ensures { Prints out.old out.new (sizes_line header.now debug ∷ []) }
+fn print_sizes<W: Write>(header: &CliHeader, out: &mut Printer<'_, W>)
+    ensures { Prints out.old out.new (sizes_line header.now ∷ []) }
 {
+    let signature = header.strong_name_signature.size as u64;
+    let native = header.managed_native_header.size as u64;
     out.line(&[
         Word("signature "),
-        Field(Name::Signature, Number(header.strong_name_signature.size as u64)),
+        Field(Name::Signature, Number(signature)),
         Word(" native "),
-        Field(Name::Native, Number(header.managed_native_header.size as u64)),
-        Word(" debug "),
-        Field(Name::Debug, Number(debug as u64)),
+        Field(Name::Native, Number(native)),
     ]);
 }
 
@@ -194,7 +186,7 @@ pub(crate) fn print_headers<W: Write>(
             print_image(file, out);
             print_flags(header.flags, out);
             print_entry(header.entry_point_token, entry_name(header, view), out);
-            print_sizes(header, debug_size(file), out);
+            print_sizes(header, out);
         }
         None => {}
     }

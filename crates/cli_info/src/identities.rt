@@ -1,19 +1,25 @@
 //! Prints the identities of assemblies, as .NET prints them (II.22.2 and II.22.5).
-ghost use Rattle.std.specs.Prelude.{◌≡◌, ◌≤◌, ◌<◌, ◌+◌, ◌∷◌, []};
-ghost use Rattle.cli_info.specs.Identities.{culture_text, first_cell, identity_line, identity_lines, key_of, name_of, table_of, word_of};
+ghost use Rattle.std.specs.Prelude.{◌≡◌, ◌≤◌, ◌∷◌, [], IfOk, string_bytes};
+ghost use Rattle.cli_info.specs.Identities.{culture_text, identity_line, identity_lines, table_of, token_text};
 ghost use Rattle.cli_lines.specs.Printed.{Prints};
 ghost use Rattle.metadata.specs.Metadata.{Metadata};
 ghost use Rattle.metadata.specs.Model.{IsModel};
 ghost use Rattle.opening.specs.Views.{row_count};
 
-use crate::token::{Key, token_text};
 use cli_lines::Part::{Field, Word};
 use cli_lines::Value::{Number, Plain, Text};
 use cli_lines::{Name, Printer};
 use cli_outline::{bytes, number, text};
 use opening::{TableId, View};
-use std::alloc::Global;
+use sha1::Sha1;
+use std::alloc::{AllocError, Global};
 use std::io::Write;
+
+/// The largest key whose token is printed, in bytes. A key of .NET has at most 2,080.
+const KEY_LIMIT: usize = 4096;
+
+/// The number of bytes of the token of a key.
+const TOKEN_SIZE: usize = 8;
 
 /// Whose identity is printed.
 #[derive(Clone, Copy)]
@@ -27,7 +33,7 @@ pub(crate) enum Kind {
 impl Kind {
     ghost use Rattle.std.specs.Prelude.{◌<◌, ◌+◌};
     ghost use Rattle.table_schema.specs.CellColumns.{cell_count};
-    ghost use Rattle.cli_info.specs.Identities.{first_cell, key_of, name_of, table_of, word_of};
+    ghost use Rattle.cli_info.specs.Identities.{first_cell, has_token, name_of, table_of, word_of};
 
     /// The table, and the index of the cell with the major version. From it on eight cells are the same in both tables.
     #[tactic(auto, unfolding(table_schema::specs::CellColumns::cell_columns))]
@@ -53,15 +59,37 @@ impl Kind {
         }
     }
 
-    /// What a row with these flags says of the key: that of a reference has the whole key if the lowest flag is set (II.23.1.2).
-    fn key(self, flags: u32) -> Key
-        ensures { result ≡ key_of self flags }
+    /// Whether a row with these flags has a token in place of the key: that of a reference, unless the lowest flag is set
+    /// (II.23.1.2).
+    fn has_token(self, flags: u32) -> bool
+        ensures { result ≡ has_token self flags }
     {
         match self {
-            Kind::Reference if flags % 2 == 0 => Key::Token,
-            _ => Key::Whole,
+            Kind::Assembly => false,
+            Kind::Reference => flags % 2 == 0,
         }
     }
+}
+
+/// The token of a key in hexadecimal: the last eight bytes of its SHA-1 in reverse order (II.6.3), unless it is a token
+/// already. It is `null` if there is no key, and `?` if it is too long.
+#[tactic(auto, using(crate::proofs::TokenLemmas::token_of_long, crate::proofs::TokenLemmas::token_of_token, crate::proofs::TokenLemmas::token_of_key), unfolding(crate::specs::Identities::token_text))]
+fn token_text(alloc: Global, kind: Kind, flags: u32, key: &[u8]) -> Result<String, AllocError>
+    ensures { IfOk result (λ text. string_bytes text ≡ token_text kind flags key.now) }
+{
+    if key.is_empty() {
+        return String::from_str(alloc, "null");
+    }
+    if key.len() > KEY_LIMIT {
+        return String::from_str(alloc, "?");
+    }
+    if kind.has_token(flags) {
+        return hex::encode(alloc, key);
+    }
+    let mut digest = Sha1::digest(key);
+    digest.reverse();
+    let (token, _) = digest.split_at(TOKEN_SIZE);
+    hex::encode(alloc, token)
 }
 
 /// The culture, or the word for none.
@@ -98,7 +126,7 @@ fn print_identity<W: Write>(
     let key = bytes(view, table, row, first + 5);
     let own_name = text(view, table, row, first + 6);
     let culture = text(view, table, row, first + 7);
-    match token_text(alloc, kind.key(flags), key) {
+    match token_text(alloc, kind, flags, key) {
         Ok(token) => out.line(&[
             Word(word),
             Field(name, Text(own_name)),

@@ -28,6 +28,7 @@ use std::io::Write;
 
 /// The indexes of the cells with the name and the Mvid of a module (II.22.30).
 const MODULE_NAME: usize = 1;
+
 const MVID: usize = 2;
 
 /// Prints what one wants to know first: the name of the file, if there is one, the identity of the assembly, its module, the version of the runtime, the headers
@@ -128,9 +129,10 @@ fn print_module<W: Write>(view: &View<'_>, out: &mut Printer<'_, W>)
 {
     cli_lines::laws::lines_follow::<W>();
     if view.count(TableId::Module) > 0 {
+        let name = text(view, TableId::Module, 1, MODULE_NAME);
         out.line(&[
             Word("module "),
-            Field(Name::Module, Text(text(view, TableId::Module, 1, MODULE_NAME))),
+            Field(Name::Module, Text(name)),
             Word(" "),
             Field(Name::Mvid, Guid(mvid_of(view))),
         ]);
@@ -142,6 +144,7 @@ fn print_module<W: Write>(view: &View<'_>, out: &mut Printer<'_, W>)
 fn print_counts<W: Write>(view: &View<'_>, out: &mut Printer<'_, W>)
     ensures { (model : Metadata) → IsModel view.now model → Prints out.old out.new (counts_line model ∷ []) }
 {
+    let resources = view.count(TableId::ManifestResource) as u64;
     out.line(&[
         Word("types "),
         Field(Name::Types, Number(view.count(TableId::TypeDef) as u64)),
@@ -150,6 +153,6 @@ fn print_counts<W: Write>(view: &View<'_>, out: &mut Printer<'_, W>)
         Word(" fields "),
         Field(Name::Fields, Number(view.count(TableId::Field) as u64)),
         Word(" resources "),
-        Field(Name::Resources, Number(view.count(TableId::ManifestResource) as u64)),
+        Field(Name::Resources, Number(resources)),
     ]);
 }

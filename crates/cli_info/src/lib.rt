@@ -7,7 +7,7 @@
 //! assembly Mono.Cecil, Version=0.11.0.0, Culture=neutral, PublicKeyToken=0738eb9f132ed756
 //! module Mono.Cecil.dll {cbbb9aa0-a4b8-4d76-a2cb-a2b9b4e9c1b5}
 //! version v4.0.30319
-//! format PE32 machine 0000014c i386
+//! format PE32 machine 0000014c i386 debug 28
 //! flags 00000009 ILONLY STRONGNAMESIGNED
 //! ```
 #![tactic(auto)]
@@ -15,6 +15,5 @@
 mod headers;
 mod identities;
 mod info;
-mod token;
 
 pub use info::print_info;

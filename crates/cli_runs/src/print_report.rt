@@ -43,9 +43,10 @@ pub(crate) fn print_report<'a, W: Write>(
     if !is_check(&request.report) && is_spent(bytes, input, request.budget) {
         return Ended::Refused(Stop::BudgetSpent);
     }
+    let file = label_of(request.naming, name);
     match &request.report {
         Report::Root => ended_by(print_root(bytes, input, out)),
-        Report::Info => ended_by(print_info(alloc, bytes, input, label_of(request.naming, name), out)),
+        Report::Info => ended_by(print_info(alloc, bytes, input, file, out)),
         Report::Strings => print_user_strings(alloc, request, name, bytes, out),
         Report::Listing(listing) => ended_by(print_listing(alloc, *listing, bytes, input, out)),
         Report::Check(verdict) => print_check(alloc, request, *verdict, name, bytes, out),
@@ -80,13 +81,9 @@ fn print_listing<W: Write>(
     ensures untouched { OnErr result (out.new ≡ out.old) }
     ensures printed { OnOk result (OfModel input bytes.now (IsListed (Hands out.old out.new) listing)) }
 {
-    match open(bytes, input) {
-        Ok(view) => {
-            print_view(alloc, listing, &view, out);
-            Ok(())
-        }
-        Err(fault) => Err(fault),
-    }
+    let view = open(bytes, input)?;
+    print_view(alloc, listing, &view, out);
+    Ok(())
 }
 
 /// Prints the lines of a listing of a view.

@@ -8,7 +8,7 @@ pub returns-in-Some : goal.returns-in-Some
 returns-in-Some g c = λ model is.
     let more = c.lines_follow.ensures.more in
     subst (λ (h : Option CliHeader). Prints c.args.out.now c.print_sizes.new.out (header_lines c.args.file.now h model)) (sym c.in-Some.is)
-    (rw (← c.entry_name.ensures model is, ← c.debug_size.ensures)
+    (rw (← c.entry_name.ensures model is)
     (more _ _ _ _ _ c.print_image.ensures (more _ _ _ _ _ c.print_flags.ensures (more _ _ _ _ _ c.print_entry.ensures c.print_sizes.ensures))))
 
 pub returns-in-None : goal.returns-in-None

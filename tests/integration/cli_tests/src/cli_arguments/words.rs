@@ -358,7 +358,7 @@ fn helps_with_each_subcommand(rt: HostRuntime) -> Result<(), Fail> {
         (
             "info",
             "Usage: clim info [OPTIONS] <FILE>...",
-            "\n  format PE32 machine 0000014c i386\n",
+            "\n  format PE32 machine 0000014c i386 debug 0\n",
         ),
         (
             "check",
