@@ -48,7 +48,7 @@ pub fn bytes<'a>(view: &View<'a>, table: TableId, row: u32, cell: usize) -> &'a 
 }
 
 /// The reference in a cell, otherwise null.
-pub fn reference(view: &View<'_>, table: TableId, row: u32, cell: usize) -> Option<Token>
+pub(crate) fn reference(view: &View<'_>, table: TableId, row: u32, cell: usize) -> Option<Token>
     requires first { 1 ≤ row }
     requires last { row ≤ row_count view.now table }
     requires cell { cell < cell_count table }
