@@ -53,6 +53,7 @@ pub fn print_info<W: Write>(
     ensures printed { OnOk result ((header : Option Header) (model : Metadata) → AreFacts input bytes.now header model
         → Prints out.old out.new (info_lines (option_map (λ name. name.now) file.entry) bytes.now header model)) }
 {
+    cli_lines::laws::lines_follow::<W>();
     let (header, view) = open_facts(bytes, input)?;
     print_file(file, out);
     print_facts(alloc, bytes, &header, &view, out);
@@ -85,8 +86,9 @@ fn print_file<W: Write>(file: Option<&str>, out: &mut Printer<'_, W>)
     ensures { Prints out.old out.new (file_lines (option_map (λ name. name.now) file.entry)) }
 {
     cli_lines::laws::lines_follow::<W>();
-    if let Some(name) = file {
-        out.line(&[Word("file "), Field(Name::File, Text(name))]);
+    match file {
+        Some(name) => out.line(&[Word("file "), Field(Name::File, Text(name))]),
+        None => {}
     }
 }
 

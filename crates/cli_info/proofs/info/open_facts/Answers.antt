@@ -3,7 +3,7 @@ use Rattle.metadata.specs.Model.{IsModel}
 use Rattle.metadata.specs.Streams.{root_in}
 use Rattle.cli_input.specs.declared.opened.Input.{Input}
 use Rattle.cli_info.specs.InfoLines.{AreFacts}
-use Rattle.cli_info.proofs.ImageLemmas.{room_of}
+use Rattle.cli_info.proofs.HeaderLemmas.{room_of}
 use Rattle.cli_info.proofs.info.open_facts.Goals as goal
 
 pub returns-in_ok-view-in-BareRoot-clause-facts : goal.returns-in_ok-view-in-BareRoot-clause-facts
