@@ -27,13 +27,13 @@ returns-in-Ok g c = λ model is.
     let token = c.deref.ensures ∙ c.in-Ok.ensures ∙ (λ i. token_text kind (flags i) (key i)) in
     subst (λ (line : List Part). Prints c.args.out.now c.line.new.self (line ∷ []))
     (λ i.
-      word (c.label-name.ensures.word i) ∷ field (c.label-name.ensures.name i) (text (own_name i))
-      ∷ word (codes ", Version=") ∷ field name.Major (number (major i))
-      ∷ word (codes ".") ∷ field name.Minor (number (minor i))
-      ∷ word (codes ".") ∷ field name.Build (number (build i))
-      ∷ word (codes ".") ∷ field name.Revision (number (revision i))
-      ∷ word (codes ", Culture=") ∷ field name.Culture (text (culture i))
-      ∷ word (codes ", PublicKeyToken=") ∷ field name.Token (plain (token i)) ∷ [])
+    word (c.label-name.ensures.word i) ∷ field (c.label-name.ensures.name i) (text (own_name i))
+    ∷ word (codes ", Version=") ∷ field name.Major (number (major i))
+    ∷ word (codes ".") ∷ field name.Minor (number (minor i))
+    ∷ word (codes ".") ∷ field name.Build (number (build i))
+    ∷ word (codes ".") ∷ field name.Revision (number (revision i))
+    ∷ word (codes ", Culture=") ∷ field name.Culture (text (culture i))
+    ∷ word (codes ", PublicKeyToken=") ∷ field name.Token (plain (token i)) ∷ [])
     c.line.ensures
 
 pub returns-in-Err : goal.returns-in-Err

@@ -10,8 +10,8 @@ unfolding counts_line
 returns g c = λ model is.
     subst (λ (line : List Part). Prints c.args.out.now c.line.new.self (line ∷ []))
     (λ i.
-      word (codes "types ") ∷ field name.Types (number (c.count.ensures.model model is i))
-      ∷ word (codes " methods ") ∷ field name.Methods (number (c.count-2.ensures.model model is i))
-      ∷ word (codes " fields ") ∷ field name.Fields (number (c.count-3.ensures.model model is i))
-      ∷ word (codes " resources ") ∷ field name.Resources (number (c.count-resources.ensures.model model is i)) ∷ [])
+    word (codes "types ") ∷ field name.Types (number (c.count.ensures.model model is i))
+    ∷ word (codes " methods ") ∷ field name.Methods (number (c.count-2.ensures.model model is i))
+    ∷ word (codes " fields ") ∷ field name.Fields (number (c.count-3.ensures.model model is i))
+    ∷ word (codes " resources ") ∷ field name.Resources (number (c.count-resources.ensures.model model is i)) ∷ [])
     c.line.ensures
