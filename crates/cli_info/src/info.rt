@@ -31,9 +31,9 @@ const MODULE_NAME: usize = 1;
 
 const MVID: usize = 2;
 
-/// Prints what one wants to know first: the name of the file, if there is one, the identity of the assembly, its module, the version of the runtime, the headers
-/// unless the bytes are a bare root, the numbers of types, methods, fields and resources, and the identity of each assembly
-/// that it refers to.
+/// Prints what one wants to know first: the name of the file, if it is given; the identity of the assembly; its module; the
+/// version of the runtime; the headers, unless the bytes are a bare root; the numbers of types, methods, fields and resources;
+/// and the identity of each assembly that it refers to.
 ///
 /// Its time is that of the lines, and of the SHA-1 of each key, of which at most 4,096 bytes are read for a row.
 ///

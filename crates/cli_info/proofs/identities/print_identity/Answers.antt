@@ -14,8 +14,8 @@ returns-in-Ok g c = λ model is.
     let row = c.args.row in
     let own = c.columns-table.result.0 in
     let from = c.columns-table.result.1 in
-    let at : (index place : ℕ) → place ≡ from + index → cell_in model own row place ≡ cell_in model (table_of kind) row (first_cell kind + index) =
-    λ index place is_at. ap (cell_in model own row) is_at ∙ (λ i. cell_in model (c.columns-table.ensures.table i) row (c.columns-table.ensures.first i + index)) in
+    let at : (index cell_index : ℕ) → cell_index ≡ from + index → cell_in model own row cell_index ≡ cell_in model (table_of kind) row (first_cell kind + index) =
+    λ index cell_index is_at. ap (cell_in model own row) is_at ∙ (λ i. cell_in model (c.columns-table.ensures.table i) row (c.columns-table.ensures.first i + index)) in
     let major = c.number-major.ensures model is ∙ ap number_of (at 0 from (omega arith)) in
     let minor = c.number-minor.ensures model is ∙ ap number_of (at 1 (from + 1) refl) in
     let build = c.number-build.ensures model is ∙ ap number_of (at 2 (from + 2) refl) in
