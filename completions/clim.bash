@@ -2,7 +2,7 @@
 
 _clim() {
     local word=${COMP_WORDS[COMP_CWORD]}
-    local subcommands='root check show types outline strings token where rewrite embed digest compare explain help'
+    local subcommands='root info check show types outline strings token where rewrite embed digest compare explain help'
     local line
     COMPREPLY=()
     if [ "$COMP_CWORD" -eq 1 ]; then
@@ -22,7 +22,7 @@ _clim() {
             if [ "${COMP_WORDS[1]}" = embed ]; then flags='--help --json --root --unsigned'; fi
             if [ "${COMP_WORDS[1]}" = check ]; then flags="$flags --files-from -0 --quiet --where"; fi
             case ${COMP_WORDS[1]} in root | embed) ;; *) flags="$flags --budget" ;; esac
-            case ${COMP_WORDS[1]} in root | check | show | types | outline | strings | token | where | digest | compare) flags="$flags --json" ;; esac
+            case ${COMP_WORDS[1]} in root | info | check | show | types | outline | strings | token | where | digest | compare) flags="$flags --json" ;; esac
             if [ "${COMP_WORDS[1]}" = show ]; then flags="$flags --names --until-fault"; fi
             if [ "${COMP_WORDS[1]}" = compare ]; then flags="$flags --ignore"; fi
             # A list of files comes from the standard input alone. The budget is a number, and a column a name.

@@ -1,12 +1,13 @@
 # Completions of clim for fish.
 
-set -l readers root check show types outline strings token where rewrite embed digest compare
+set -l readers root info check show types outline strings token where rewrite embed digest compare
 set -l subcommands $readers explain help
 
 complete -c clim -f
 complete -c clim -s h -l help -d 'Print help'
 complete -c clim -n "not __fish_seen_subcommand_from $subcommands" -s V -l version -d 'Print version'
 complete -c clim -n "not __fish_seen_subcommand_from $subcommands" -a root -d 'Print the CLI header, and the version and the stream headers of the metadata root'
+complete -c clim -n "not __fish_seen_subcommand_from $subcommands" -a info -d 'Print what an assembly is: its identity, its headers and its references'
 complete -c clim -n "not __fish_seen_subcommand_from $subcommands" -a check -d 'Check files against the rules of the standard'
 complete -c clim -n "not __fish_seen_subcommand_from $subcommands" -a show -d 'Print the rows of all tables, or of one'
 complete -c clim -n "not __fish_seen_subcommand_from $subcommands" -a types -d 'Print the types, with the number of their fields and methods'
@@ -21,9 +22,9 @@ complete -c clim -n "not __fish_seen_subcommand_from $subcommands" -a compare -d
 complete -c clim -n "not __fish_seen_subcommand_from $subcommands" -a explain -d 'Explain faults, or list all'
 complete -c clim -n "not __fish_seen_subcommand_from $subcommands" -a help -d 'Print this message or the help of the given subcommand(s)'
 complete -c clim -n "__fish_seen_subcommand_from $readers" -F
-complete -c clim -n "__fish_seen_subcommand_from root check show types outline strings token where rewrite digest compare" -l bare -d 'FILE is a metadata root, not a PE file'
-complete -c clim -n "__fish_seen_subcommand_from root check show types outline strings token where embed digest compare explain" -l json -d 'Print a JSON value on each line'
-complete -c clim -n "__fish_seen_subcommand_from check show types outline strings token where rewrite digest compare" -l budget -x -d 'Check at most N bytes of signatures, or stop with exit status 3'
+complete -c clim -n "__fish_seen_subcommand_from root info check show types outline strings token where rewrite digest compare" -l bare -d 'FILE is a metadata root, not a PE file'
+complete -c clim -n "__fish_seen_subcommand_from root info check show types outline strings token where embed digest compare explain" -l json -d 'Print a JSON value on each line'
+complete -c clim -n "__fish_seen_subcommand_from info check show types outline strings token where rewrite digest compare" -l budget -x -d 'Check at most N bytes of signatures, or stop with exit status 3'
 complete -c clim -n "__fish_seen_subcommand_from check" -l files-from -x -a - -d 'Read the names of the files from standard input, each ended by a NUL'
 complete -c clim -n "__fish_seen_subcommand_from check" -s 0 -d "The same as '--files-from -'"
 complete -c clim -n "__fish_seen_subcommand_from check" -s q -l quiet -d 'Print nothing about faults; only the exit status reports them'

@@ -51,6 +51,8 @@ COMMANDS = """
 1 show --until-fault --names FILE TABLE
 1 show --until-fault --json FILE
 1 show --until-fault --json FILE TABLE
+2 info FILE
+2 info --json FILE
 3 types FILE
 3 types --json FILE
 4 outline FILE
@@ -83,7 +85,7 @@ COMMANDS = """
 """
 CHOICES = [tuple(it.split(" ", 1)) for it in COMMANDS.strip().splitlines()]
 # Commands that are run once. The last one is as long as reading 2^30 bytes takes.
-SUBCOMMANDS = ["root", "check", "show", "types", "outline", "strings", "token", "where", "rewrite", "embed", "digest", "compare", "explain", "help"]
+SUBCOMMANDS = ["root", "info", "check", "show", "types", "outline", "strings", "token", "where", "rewrite", "embed", "digest", "compare", "explain", "help"]
 ONCE = [
     [], ["--help"], ["-h"], ["help"], ["--version"], ["-V"], ["explain"], ["help", "help"], ["help", "chekc"], ["help", "root", "x"], ["explain", "--json"],
     *([it, "--help"] for it in SUBCOMMANDS), *([it, "-h"] for it in SUBCOMMANDS), *(["help", it] for it in SUBCOMMANDS),

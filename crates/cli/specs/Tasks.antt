@@ -255,6 +255,7 @@ IsExplainTask words result = MatchResult result (IsExplanation words) (IsFirstNo
 -- the task of a subcommand
 abbrev pub IsTask : Subcommand → Ask → Result Task Failure → Type 0
 IsTask word.Root ask result = result ≡ report_task ask (Ok report.Root)
+IsTask word.Info ask result = result ≡ report_task ask (Ok report.Info)
 IsTask word.Check ask result = result ≡ check_task ask
 IsTask word.Show ask result = IsReportTask ask (IsShow ask) result
 IsTask word.Types ask result = result ≡ report_task ask (Ok (report.Listing listing.Types))

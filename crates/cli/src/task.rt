@@ -44,6 +44,7 @@ pub(crate) fn task_of<'a>(alloc: Global, ask: &'a Ask<'a>) -> Result<Task<'a>, F
 {
     match ask.subcommand {
         Subcommand::Root => on_files(ask, Ok(Report::Root)),
+        Subcommand::Info => on_files(ask, Ok(Report::Info)),
         Subcommand::Check => check_of(ask),
         Subcommand::Show => on_files(ask, show_of(alloc, ask)),
         Subcommand::Types => on_files(ask, Ok(Report::Listing(Listing::Types))),

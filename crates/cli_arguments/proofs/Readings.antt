@@ -13,7 +13,7 @@ use Rattle.clap.specs.declared.ArgMatches.TheViews.{out-ArgMatches}
 use Rattle.cli_arguments.specs.Asked.{IsCountOf, subcommand_named}
 use Rattle.cli_arguments.specs.CommandLine.{name_of}
 use Rattle.cli_arguments.specs.declared.asked.Subcommand.{Subcommand}
-use Rattle.cli_arguments.specs.declared.asked.Subcommand.TheVariants.{Root, Check, Show, Types, Outline, Strings, Token, Where, Rewrite, Embed, Digest, Compare, Explain}
+use Rattle.cli_arguments.specs.declared.asked.Subcommand.TheVariants.{Root, Info, Check, Show, Types, Outline, Strings, Token, Where, Rewrite, Embed, Digest, Compare, Explain}
 
 option_map_map : {A B C : Type 0} (f : B → C) (g : A → B) (o : Option A) → option_map f (option_map g o) ≡ option_map (λ x. f (g x)) o
 option_map_map f g None = refl
@@ -40,6 +40,7 @@ named_by word false t tail s is later e = later e
 pub named_back : (word : Text) (s : Subcommand) → subcommand_named word ≡ Some s → word ≡ name_of s
 named_back word s e =
     named_by word (bytes_eq word (name_of Root)) Root _ s (bytes_eq-Decides word (name_of Root)).0
+    (named_by word (bytes_eq word (name_of Info)) Info _ s (bytes_eq-Decides word (name_of Info)).0
     (named_by word (bytes_eq word (name_of Check)) Check _ s (bytes_eq-Decides word (name_of Check)).0
     (named_by word (bytes_eq word (name_of Show)) Show _ s (bytes_eq-Decides word (name_of Show)).0
     (named_by word (bytes_eq word (name_of Types)) Types _ s (bytes_eq-Decides word (name_of Types)).0
@@ -52,7 +53,7 @@ named_back word s e =
     (named_by word (bytes_eq word (name_of Digest)) Digest _ s (bytes_eq-Decides word (name_of Digest)).0
     (named_by word (bytes_eq word (name_of Compare)) Compare _ s (bytes_eq-Decides word (name_of Compare)).0
     (named_by word (bytes_eq word (name_of Explain)) Explain _ s (bytes_eq-Decides word (name_of Explain)).0
-    (λ none. cc))))))))))))) e
+    (λ none. cc)))))))))))))) e
 
 -- a flag is read as true if and only if its text is `true`
 flag_reads : (E : Type 0) (o : Option Text) (r : Option Bool) → (o ≡ None → r ≡ None)

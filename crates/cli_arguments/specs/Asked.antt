@@ -7,12 +7,13 @@ use Rattle.clap.specs.Words.{Row, Text, all_of, first_of, one_of, subcommand_of}
 use Rattle.cli_arguments.specs.CommandLine.{clim, name_of}
 use Rattle.cli_arguments.specs.declared.asked.Ask.{Ask}
 use Rattle.cli_arguments.specs.declared.asked.Subcommand.{Subcommand}
-use Rattle.cli_arguments.specs.declared.asked.Subcommand.TheVariants.{Root, Check, Show, Types, Outline, Strings, Token, Where, Rewrite, Embed, Digest, Compare, Explain}
+use Rattle.cli_arguments.specs.declared.asked.Subcommand.TheVariants.{Root, Info, Check, Show, Types, Outline, Strings, Token, Where, Rewrite, Embed, Digest, Compare, Explain}
 
 -- the subcommand with this name
 abbrev pub subcommand_named : Text → Option Subcommand
 subcommand_named word =
     if bytes_eq word (name_of Root) then Some Root
+    else if bytes_eq word (name_of Info) then Some Info
     else if bytes_eq word (name_of Check) then Some Check
     else if bytes_eq word (name_of Show) then Some Show
     else if bytes_eq word (name_of Types) then Some Types

@@ -10,7 +10,7 @@ use Rattle.cli_arguments.specs.declared.argument.Argument.{Argument}
 use Rattle.cli_arguments.specs.declared.argument.Kind.{Kind}
 use Rattle.cli_arguments.specs.declared.argument.Kind.TheVariants as kind
 use Rattle.cli_arguments.specs.declared.asked.Subcommand.{Subcommand}
-use Rattle.cli_arguments.specs.declared.asked.Subcommand.TheVariants.{Root, Check, Show, Types, Outline, Strings, Token, Where, Rewrite, Embed, Digest, Compare, Explain}
+use Rattle.cli_arguments.specs.declared.asked.Subcommand.TheVariants.{Root, Info, Check, Show, Types, Outline, Strings, Token, Where, Rewrite, Embed, Digest, Compare, Explain}
 use Rattle.cli_arguments.specs.declared.subcommands.Usage.{Usage}
 
 -- `NAME`, one value
@@ -86,6 +86,7 @@ without_subcommands = on_top (λ s. record s { has_version = true; has_long_vers
 -- the name of a subcommand
 abbrev pub name_of : Subcommand → Text
 name_of Root = codes "root"
+name_of Info = codes "info"
 name_of Check = codes "check"
 name_of Show = codes "show"
 name_of Types = codes "types"
@@ -103,6 +104,8 @@ name_of Explain = codes "explain"
 abbrev pub rules_of : Subcommand → List Rule
 -- `root [--bare] [--json] FILE`
 rules_of Root = file ∷ bare ∷ json ∷ []
+-- `info [--bare] [--budget N] [--json] FILE..`
+rules_of Info = required (values (codes "FILE")) ∷ bare ∷ budget ∷ json ∷ []
 -- `check [--bare] [--budget N] [--files-from LIST] [-0] [-q] [--json] [--where] [FILE]..`; the ASCII codes of `0` and `q` are 48 and 113
 rules_of Check =
     values (codes "FILE") ∷ bare ∷ budget ∷ option (codes "files-from")
@@ -137,7 +140,7 @@ shape_of of = shape_with (name_of of) (rules_of of)
 
 -- the subcommands
 abbrev pub subcommands : List Subcommand
-subcommands = Root ∷ Check ∷ Show ∷ Types ∷ Outline ∷ Strings ∷ Token ∷ Where ∷ Rewrite ∷ Embed ∷ Digest ∷ Compare ∷ Explain ∷ []
+subcommands = Root ∷ Info ∷ Check ∷ Show ∷ Types ∷ Outline ∷ Strings ∷ Token ∷ Where ∷ Rewrite ∷ Embed ∷ Digest ∷ Compare ∷ Explain ∷ []
 
 -- the command line with its subcommands; `clap` adds `help`
 abbrev pub clim : App

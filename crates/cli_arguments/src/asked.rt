@@ -50,6 +50,8 @@ pub struct Ask<'a> {
 pub enum Subcommand {
     /// `root`: print the CLI header, and the version and the stream headers of the metadata root.
     Root,
+    /// `info`: print what one wants to know first of an assembly.
+    Info,
     /// `check`: check the file against the rules of the standard.
     Check,
     /// `show`: print each row of each table, or of one table.
@@ -80,6 +82,7 @@ impl Subcommand {
     /// All subcommands, in the order of help.
     pub(crate) const ALL: &'static [Subcommand] = &[
         Subcommand::Root,
+        Subcommand::Info,
         Subcommand::Check,
         Subcommand::Show,
         Subcommand::Types,
@@ -100,6 +103,7 @@ impl Subcommand {
     {
         match word {
             "root" => Some(Subcommand::Root),
+            "info" => Some(Subcommand::Info),
             "check" => Some(Subcommand::Check),
             "show" => Some(Subcommand::Show),
             "types" => Some(Subcommand::Types),

@@ -7,6 +7,7 @@ Read, check and rewrite the metadata of .NET assemblies (ECMA-335, Partition II)
 Usage: clim <COMMAND>
 
 Look:
+  info     Print what an assembly is: its identity, its headers and its references
   root     Print the CLI header, and the version and the stream headers of the metadata root
   show     Print the rows of all tables, or of one
   types    Print the types, with the number of their fields and methods
@@ -43,5 +44,5 @@ Exit status:
      root has more than 2^30 bytes; or FILE and OTHER differ; or ROOT is refused, or does not fit
   2  usage error; FILE was not read
   3  I/O error, out of memory, or budget spent
-The status of 'clim check' and 'clim digest' for several files is the greatest of theirs.
+The status of 'clim check', 'clim info' and 'clim digest' for several files is the greatest of theirs.
 FILE may be '-', the standard input.";

@@ -21,6 +21,7 @@ pub(crate) mod compare_files;
 pub(crate) mod digest_file;
 pub(crate) mod embed_root;
 pub(crate) mod explain_fault;
+pub(crate) mod print_info;
 pub(crate) mod print_outline;
 pub(crate) mod print_root;
 pub(crate) mod print_strings;
@@ -49,6 +50,7 @@ pub(crate) fn usage_of<'a>(subcommand: Subcommand) -> Usage<'a>
 {
     match subcommand {
         Subcommand::Root => print_root::USAGE,
+        Subcommand::Info => print_info::USAGE,
         Subcommand::Check => check_file::USAGE,
         Subcommand::Show => show_tables::USAGE,
         Subcommand::Types => print_types::USAGE,

@@ -82,9 +82,9 @@ pub fn nearest_column(alloc: Global, word: &str) -> Option<(TableId, &'static st
 }
 
 /// The names of all subcommands, that of `help` too.
-const COMMANDS: [&str; 13] = [
-    "root", "check", "show", "types", "outline", "strings", "token", "where", "rewrite", "digest",
-    "compare", "explain", "help",
+const COMMANDS: [&str; 15] = [
+    "root", "info", "check", "show", "types", "outline", "strings", "token", "where", "rewrite",
+    "embed", "digest", "compare", "explain", "help",
 ];
 
 /// The subcommand whose name is nearest to the one that `help` is asked for, by these arguments, the program name not among

@@ -9,7 +9,7 @@ ghost use Rattle.cli_outline.specs.Parts.{bytes_of, number_of, reference_of, tex
 use opening::{CellRef, TableId, Token, View};
 
 /// The number in a cell, otherwise 0.
-pub(crate) fn number(view: &View<'_>, table: TableId, row: u32, cell: usize) -> u32
+pub fn number(view: &View<'_>, table: TableId, row: u32, cell: usize) -> u32
     requires first { 1 ≤ row }
     requires last { row ≤ row_count view.now table }
     requires cell { cell < cell_count table }
@@ -22,7 +22,7 @@ pub(crate) fn number(view: &View<'_>, table: TableId, row: u32, cell: usize) -> 
 }
 
 /// The text in a cell, otherwise an empty one.
-pub(crate) fn text<'a>(view: &View<'a>, table: TableId, row: u32, cell: usize) -> &'a str
+pub fn text<'a>(view: &View<'a>, table: TableId, row: u32, cell: usize) -> &'a str
     requires first { 1 ≤ row }
     requires last { row ≤ row_count view.now table }
     requires cell { cell < cell_count table }
@@ -35,7 +35,7 @@ pub(crate) fn text<'a>(view: &View<'a>, table: TableId, row: u32, cell: usize) -
 }
 
 /// The bytes in a cell, otherwise none.
-pub(crate) fn bytes<'a>(view: &View<'a>, table: TableId, row: u32, cell: usize) -> &'a [u8]
+pub fn bytes<'a>(view: &View<'a>, table: TableId, row: u32, cell: usize) -> &'a [u8]
     requires first { 1 ≤ row }
     requires last { row ≤ row_count view.now table }
     requires cell { cell < cell_count table }

@@ -17,6 +17,6 @@ mod verdicts;
 
 pub use digest_line::print_digest;
 pub use explanations::{print_explanation, print_explanations};
-pub use root_lines::print_root;
+pub use root_lines::{print_root, print_version};
 pub use type_lines::{NAME, NAMESPACE, print_types, text_of};
 pub use verdicts::print_verdict;

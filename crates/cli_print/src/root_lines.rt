@@ -87,7 +87,7 @@ fn print_cli_header<W: Write>(header: &CliHeader, out: &mut Printer<'_, W>)
 
 /// Prints the line of a version.
 #[tactic(auto, unfolding(crate::specs::RootLines::version_line))]
-fn print_version<W: Write>(version: &str, out: &mut Printer<'_, W>)
+pub fn print_version<W: Write>(version: &str, out: &mut Printer<'_, W>)
     ensures { Prints out.old out.new (version_line version.now ∷ []) }
 {
     out.line(&[Word("version "), Field(Name::Version, Text(version))]);

@@ -1,11 +1,13 @@
 -- The printer of a report keeps its writer.
-use Rattle.std.proofs.Common.{◌≡◌, ℕ, List, Option, ap, inl, inr}
+use Rattle.std.proofs.Common.{◌≡◌, ℕ, List, Option, None, Some, ap, inl, inr, refl}
 use Rattle.std.proofs.Math.Logic.{∥∥₁_elim}
 use Rattle.std.proofs.Math.Nat.{ℕ_set}
 use Rattle.packed.specs.declared.fault.Fault.{Fault}
 use Rattle.table_schema.specs.declared.token.Token.{Token}
 use Rattle.metadata.specs.Metadata.{Metadata}
 use Rattle.cli_faults.specs.declared.stop.Stop.{Stop}
+use Rattle.cli_header.specs.declared.header.CliHeader.{CliHeader}
+use Rattle.cli_info.specs.InfoLines.{AreFacts}
 use Rattle.cli_input.specs.Checked.{IsModelOf, IsWhole}
 use Rattle.cli_input.specs.declared.opened.Input.{Input}
 use Rattle.cli_input.specs.declared.opened.Input.TheVariants.{BareRoot, File}
@@ -26,6 +28,13 @@ use Rattle.cli_runs.specs.declared.report.Verdict.TheVariants as verdict
 of_model : (m n : ℕ) (input : Input) (bytes : List ℕ) → IsWhole input bytes → ((model : Metadata) → IsModelOf input bytes model → m ≡ n) → m ≡ n
 of_model m n BareRoot bytes whole is = ∥∥₁_elim whole (ℕ_set _ _) (λ some. is some.0 some.1)
 of_model m n File bytes whole is = ∥∥₁_elim whole (ℕ_set _ _) (λ of. ∥∥₁_elim of.1 (ℕ_set _ _) (λ some. is some.0 (of.0, some.1)))
+
+-- the same of the CLI header and the model
+of_facts : (m n : ℕ) (input : Input) (bytes : List ℕ) → IsWhole input bytes
+    → ((header : Option CliHeader) (model : Metadata) → AreFacts input bytes header model → m ≡ n) → m ≡ n
+of_facts m n BareRoot bytes whole is = ∥∥₁_elim whole (ℕ_set _ _) (λ some. is None some.0 (refl, some.1))
+of_facts m n File bytes whole is =
+    ∥∥₁_elim whole (ℕ_set _ _) (λ of. ∥∥₁_elim of.1 (ℕ_set _ _) (λ some. is (Some of.0) some.0 (of.0, refl, some.1)))
 
 module _ {W : Type 0} (old new : Printed W) where
   -- the printer has the writer that it had
@@ -48,6 +57,7 @@ module _ {W : Type 0} (old new : Printed W) where
   module _ (request : Request) (name bytes : List ℕ) where
     printed_keeps : (of : Report) → IsPrinted (Hands old new) request name bytes of → Keeps
     printed_keeps report.Root out = (out.1 out.0.0 out.0.1 out.0.2).0.same.borrow
+    printed_keeps report.Info out = of_facts _ _ request.input bytes out.0 (λ header model are. (out.1 header model are).0.same.borrow)
     printed_keeps report.Strings out = of_model _ _ request.input bytes out.0 (λ model is. (out.1 model is).2.0.same.borrow)
     printed_keeps (report.Listing of) out = of_model _ _ request.input bytes out.0 (λ model is. listed_keeps of model (out.1 model is))
     printed_keeps (report.Check of) out = out.1.0.same.borrow
@@ -60,6 +70,7 @@ module _ {W : Type 0} (old new : Printed W) where
 
     stopped_keeps : (of : Report) (why : Stop) → IsStopped (Hands old new) request name bytes of why → Keeps
     stopped_keeps report.Root why out = absurd out
+    stopped_keeps report.Info why out = absurd out
     stopped_keeps report.Strings why out = absurd out
     stopped_keeps (report.Listing of) why out = absurd out
     stopped_keeps (report.Check of) why out = fault_keeps of request.input bytes _ out.2.0 out.2.2

@@ -47,6 +47,7 @@ module _ (P Q : Type 0 → List (List Part) → Type 0) (weaker : (all : Type 0)
 
     printed_weaker : (of : Report) → IsPrinted P request name bytes of → IsPrinted Q request name bytes of
     printed_weaker report.Root out = (out.0, (λ header root are. weaker _ _ (out.1 header root are)))
+    printed_weaker report.Info out = (out.0, (λ header model are. weaker _ _ (out.1 header model are)))
     printed_weaker report.Strings out = (out.0, (λ model is. let at = out.1 model is in (at.0, at.1, weaker _ _ at.2)))
     printed_weaker (report.Listing of) out = (out.0, (λ model is. listed_weaker of model (out.1 model is)))
     printed_weaker (report.Check of) out = (out.0, weaker _ _ out.1)
@@ -59,6 +60,7 @@ module _ (P Q : Type 0 → List (List Part) → Type 0) (weaker : (all : Type 0)
 
     stopped_weaker : (of : Report) (why : Stop) → IsStopped P request name bytes of why → IsStopped Q request name bytes of why
     stopped_weaker report.Root why out = absurd out
+    stopped_weaker report.Info why out = absurd out
     stopped_weaker report.Strings why out = absurd out
     stopped_weaker (report.Listing of) why out = absurd out
     stopped_weaker (report.Check of) why out = (out.0, out.1, (out.2.0, out.2.1, fault_weaker of request.input bytes _ out.2.0 out.2.2))

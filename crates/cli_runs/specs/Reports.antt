@@ -26,6 +26,7 @@ use Rattle.cli_input.specs.Heads.{AreHeads, HasHeads, rules_of_heads}
 use Rattle.cli_cells.specs.Before.{AreLinesBefore}
 use Rattle.cli_cells.specs.RowLines.{show_lines}
 use Rattle.cli_cells.specs.TokenLines.{AreTokenLines, IsNamed}
+use Rattle.cli_info.specs.InfoLines.{AreFacts, info_lines}
 use Rattle.cli_outline.specs.Outline.{class_rows, outline_rows}
 use Rattle.cli_outline.specs.Printed.{AreLines}
 use Rattle.cli_outline.specs.Subjects.{IsSubject}
@@ -151,6 +152,9 @@ module _ (Out : Type 0 → List (List Part) → Type 0) where
     IsPrinted report.Root =
         HasHeads request.input bytes
         × ((header : Option CliHeader) (root : RootRead) → AreHeads request.input bytes header root → AreOut (heads_lines header root))
+    IsPrinted report.Info =
+        IsWhole request.input bytes
+        × ((header : Option CliHeader) (model : Metadata) → AreFacts request.input bytes header model → AreOut (info_lines (label request.naming name) bytes header model))
     IsPrinted report.Strings =
         OfModel request.input bytes (λ model. (entries : List Entry) × AreEntries model.user 1 entries × AreOut (flat_map entry_lines entries))
     IsPrinted (report.Listing listing) = OfModel request.input bytes (IsListed listing)

@@ -93,7 +93,7 @@ pub(crate) fn is_spent(bytes: &[u8], input: Input, budget: Option<u64>) -> bool
 }
 
 /// The name of a file, if it is printed.
-fn label_of(naming: Naming, name: &str) -> Option<&str>
+pub(crate) fn label_of(naming: Naming, name: &str) -> Option<&str>
     ensures { option_map (λ file. file.now) result ≡ label naming name.now }
 {
     match naming {

@@ -10,10 +10,11 @@ ghost use Rattle.metadata.specs.Model.{IsModel};
 ghost use Rattle.packed.specs.Rule.{FirstBroken};
 
 use crate::canonical_root::canonical_root;
-use crate::print_check::{is_spent, print_check};
+use crate::print_check::{is_spent, label_of, print_check};
 use crate::report::{Ended, Listing, Report, Request, ended_by};
 use cli_cells::{Names, print_show, print_tokens, print_until_fault};
 use cli_faults::{Failure, Stop};
+use cli_info::print_info;
 use cli_input::{Input, open};
 use cli_lines::Printer;
 use cli_outline::{Outcome, Subject, print_outline, print_outline_of};
@@ -42,8 +43,10 @@ pub(crate) fn print_report<'a, W: Write>(
     if !is_check(&request.report) && is_spent(bytes, input, request.budget) {
         return Ended::Refused(Stop::BudgetSpent);
     }
+    let file = label_of(request.naming, name);
     match &request.report {
         Report::Root => ended_by(print_root(bytes, input, out)),
+        Report::Info => ended_by(print_info(alloc, bytes, input, file, out)),
         Report::Strings => print_user_strings(alloc, request, name, bytes, out),
         Report::Listing(listing) => ended_by(print_listing(alloc, *listing, bytes, input, out)),
         Report::Check(verdict) => print_check(alloc, request, *verdict, name, bytes, out),
@@ -78,13 +81,9 @@ fn print_listing<W: Write>(
     ensures untouched { OnErr result (out.new ≡ out.old) }
     ensures printed { OnOk result (OfModel input bytes.now (IsListed (Hands out.old out.new) listing)) }
 {
-    match open(bytes, input) {
-        Ok(view) => {
-            print_view(alloc, listing, &view, out);
-            Ok(())
-        }
-        Err(fault) => Err(fault),
-    }
+    let view = open(bytes, input)?;
+    print_view(alloc, listing, &view, out);
+    Ok(())
 }
 
 /// Prints the lines of a listing of a view.

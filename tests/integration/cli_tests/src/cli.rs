@@ -1,4 +1,4 @@
-//! Tests of `cli`: budgets, `rewrite`, `embed`, `digest`, `compare`, `check` of several files, the standard input, hints, escaped
+//! Tests of `cli`: budgets, `rewrite`, `embed`, `info`, `digest`, `compare`, `check` of several files, the standard input, hints, escaped
 //! arguments, and files and outputs that fail.
 
 mod budgets;
@@ -8,6 +8,7 @@ mod embedding;
 mod escaping;
 mod fault_answers;
 mod hints;
+mod info;
 mod json;
 mod one_type;
 mod replacing;

@@ -1,4 +1,4 @@
-use Rattle.cli_runs.proofs.Printings.{listing_ended, root_ended}
+use Rattle.cli_runs.proofs.Printings.{info_ended, listing_ended, root_ended}
 use Rattle.cli_runs.proofs.print_report.print_report.Goals as goal
 
 pub returns-in-Root : goal.returns-in-Root
@@ -6,6 +6,12 @@ returns-in-Root g c =
     rw (c.in-Root.is, c.ended_by.ensures)
     (root_ended c.args.request.now c.args.name.now c.args.bytes.now c.args.out.now c.print_root.new.out c.print_root.result
     c.print_root.ensures.sound c.print_root.ensures.first_error c.print_root.ensures.untouched c.print_root.ensures.printed)
+
+pub returns-in-Info : goal.returns-in-Info
+returns-in-Info g c =
+    rw (c.in-Info.is, c.ended_by-in-Info.ensures)
+    (info_ended c.args.request.now c.args.name.now c.args.bytes.now c.args.out.now c.print_info.new.out _ c.print_info.result c.label_of-file.ensures
+    c.print_info.ensures.whole c.print_info.ensures.first_error c.print_info.ensures.untouched c.print_info.ensures.printed)
 
 pub returns-in-Listing : goal.returns-in-Listing
 returns-in-Listing g c =

@@ -14,7 +14,7 @@ const LINES_IN_HELP: &str = "\
 ";
 
 /// Arguments that are a usage error, and what the program prints for them.
-const REFUSED: [(&[&str], &str); 95] = [
+const REFUSED: [(&[&str], &str); 96] = [
     (&[], "Usage: clim <COMMAND>"),
     (&["clim"], "Usage: clim <COMMAND>"),
     (&["clim", "lacks"], "unrecognized subcommand 'lacks'"),
@@ -95,6 +95,7 @@ const REFUSED: [(&[&str], &str); 95] = [
         "unexpected argument '70000001'",
     ),
     (&["clim", "types"], "Usage: clim types <FILE>"),
+    (&["clim", "info"], "Usage: clim info <FILE>..."),
     (&["clim", "outline"], "Usage: clim outline <FILE>"),
     (&["clim", "outline", "lacks", "A", "B"], "unexpected argument 'B'"),
     (&["clim", "check", "--json"], "error: FILE is missing"),
@@ -294,6 +295,7 @@ fn helps(rt: HostRuntime) -> Result<(), Fail> {
     let texts = [
         "Usage: clim <COMMAND>",
         "\n  root ",
+        "\n  info ",
         "\n  check ",
         "\n  show ",
         "\n  types ",
@@ -319,7 +321,7 @@ fn helps(rt: HostRuntime) -> Result<(), Fail> {
 fn helps_with_the_same_words(rt: HostRuntime) -> Result<(), Fail> {
     let (_, help, _) = answer(&rt, &["clim", "help"])?;
     for name in [
-        "root", "show", "types", "outline", "strings", "token", "where", "check", "explain", "compare", "digest",
+        "root", "info", "show", "types", "outline", "strings", "token", "where", "check", "explain", "compare", "digest",
         "rewrite", "embed",
     ] {
         let (_, own, _) = answer(&rt, &["clim", name, "--help"])?;
@@ -352,6 +354,11 @@ fn helps_with_each_subcommand(rt: HostRuntime) -> Result<(), Fail> {
             "root",
             "Usage: clim root [OPTIONS] <FILE>",
             "\n  $ clim root --bare ",
+        ),
+        (
+            "info",
+            "Usage: clim info [OPTIONS] <FILE>...",
+            "\n  format PE32 machine 0000014c i386 debug 0\n",
         ),
         (
             "check",
@@ -588,6 +595,7 @@ fn asks_for_json(rt: HostRuntime) -> Result<(), Fail> {
         (&["clim", "check", "--json", "a"], true),
         (&["clim", "show", "--json", "a", "02"], true),
         (&["clim", "types", "--json", "a"], true),
+        (&["clim", "info", "--json", "a"], true),
         (&["clim", "token", "a", "--json", "1"], true),
         (&["clim", "outline", "--json", "a", "N.C"], true),
         (&["clim", "where", "a", "1", "--json"], true),

@@ -1,0 +1,11 @@
+use Rattle.metadata.specs.Metadata.{Metadata, count_in}
+use Rattle.metadata.specs.Model.{IsModel}
+use Rattle.cli_lines.specs.Printed.{Printed, Prints, rows_after}
+use Rattle.cli_info.specs.Identities.{identity_line, identity_lines, table_of}
+use Rattle.cli_info.proofs.identities.print_identities.Given as goal
+
+-- the lines of the rows that are left complete those of all
+abbrev pub invariant-loop-earlier : goal.invariant-loop-earlier
+invariant-loop-earlier g l =
+    (model : Metadata) (later : Printed _) → IsModel l.view model
+    → Prints l.out later (rows_after (identity_line l.kind model) l.earlier (count_in model (table_of l.kind))) → Prints l.initial.out later (identity_lines l.kind model)

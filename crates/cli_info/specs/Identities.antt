@@ -1,0 +1,73 @@
+-- The identity of an assembly as .NET prints it: its name, version, culture and public key token (ECMA-335 II.22.2 and II.22.5).
+use Rattle.std.specs.Prelude.{ℕ, ◌+◌, ◌%◌, ◌==◌, nat_lt, Bool, false, if◌then◌else◌, List, [], ◌∷◌, codes, length, map, reverse, take}
+use Rattle.std.specs.List.{range_with_len}
+use Rattle.hex.specs.Hex.{encode_lower}
+use Rattle.sha1.specs.Sha1.{sha1}
+use Rattle.table_schema.specs.declared.table.TableId.{TableId}
+use Rattle.table_schema.specs.declared.table.TableId.TheVariants as table
+use Rattle.metadata.specs.Cell.{Cell}
+use Rattle.metadata.specs.Metadata.{Metadata, cell_in, count_in}
+use Rattle.cli_lines.specs.declared.names.Name.{Name}
+use Rattle.cli_lines.specs.declared.names.Name.TheVariants as name
+use Rattle.cli_lines.specs.Lines.{Part, word, field, number, plain, text}
+use Rattle.cli_outline.specs.Parts.{bytes_of, number_of, text_of}
+use Rattle.cli_info.specs.declared.identities.Kind.{Kind}
+use Rattle.cli_info.specs.declared.identities.Kind.TheVariants.{Assembly, Reference}
+
+-- the table of a kind, and the index of the cell with the major version; from it on eight cells are the same in both tables
+abbrev pub table_of : Kind → TableId
+table_of Assembly = table.Assembly
+table_of Reference = table.AssemblyRef
+
+abbrev pub first_cell : Kind → ℕ
+first_cell Assembly = 1
+first_cell Reference = 0
+
+-- the word and the name that the line of a kind begins with
+abbrev pub word_of : Kind → List ℕ
+word_of Assembly = codes "assembly "
+word_of Reference = codes "reference "
+
+abbrev pub name_of : Kind → Name
+name_of Assembly = name.Assembly
+name_of Reference = name.Reference
+
+-- a reference has the token of a key, unless the lowest of its flags is set (II.23.1.2)
+abbrev pub has_token : Kind → ℕ → Bool
+has_token Assembly flags = false
+has_token Reference flags = flags % 2 == 0
+
+-- the largest key whose token is printed, in bytes; a key of .NET has at most 2,080
+abbrev pub key_limit : ℕ
+key_limit = 4096
+
+-- the token of a key: the last eight bytes of its SHA-1, in reverse order (II.6.3)
+abbrev pub token_of : Kind → ℕ → List ℕ → List ℕ
+token_of kind flags key = if has_token kind flags then key else take 8 (reverse (sha1 key))
+
+-- the same in hexadecimal: `null` if there is no key, and `?` if it is too long
+unfoldable pub token_text : Kind → ℕ → List ℕ → List ℕ
+token_text kind flags [] = codes "null"
+token_text kind flags key = if nat_lt key_limit (length key) then codes "?" else encode_lower (token_of kind flags key)
+
+abbrev pub culture_text : List ℕ → List ℕ
+culture_text [] = codes "neutral"
+culture_text culture = culture
+
+-- the identity in these cells of a row, in this order: four numbers of the version, flags, key, name and culture
+abbrev pub identity_in : Kind → (ℕ → Cell) → List Part
+identity_in kind cell =
+    word (word_of kind) ∷ field (name_of kind) (text (text_of (cell 6)))
+    ∷ word (codes ", Version=") ∷ field name.Major (number (number_of (cell 0)))
+    ∷ word (codes ".") ∷ field name.Minor (number (number_of (cell 1)))
+    ∷ word (codes ".") ∷ field name.Build (number (number_of (cell 2)))
+    ∷ word (codes ".") ∷ field name.Revision (number (number_of (cell 3)))
+    ∷ word (codes ", Culture=") ∷ field name.Culture (text (culture_text (text_of (cell 7))))
+    ∷ word (codes ", PublicKeyToken=") ∷ field name.Token (plain (token_text kind (number_of (cell 4)) (bytes_of (cell 5)))) ∷ []
+
+unfoldable pub identity_line : Kind → Metadata → ℕ → List Part
+identity_line kind model row = identity_in kind (λ index. cell_in model (table_of kind) row (first_cell kind + index))
+
+-- the identities in all rows of a table, in order
+abbrev pub identity_lines : Kind → Metadata → List (List Part)
+identity_lines kind model = map (identity_line kind model) (range_with_len 1 (count_in model (table_of kind)))

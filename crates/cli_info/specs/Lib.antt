@@ -1,0 +1,3 @@
+pub mod HeaderLines
+pub mod Identities
+pub mod InfoLines

@@ -1,0 +1,165 @@
+//! Prints the identities of assemblies, as .NET prints them (II.22.2 and II.22.5).
+ghost use Rattle.std.specs.Prelude.{◌≡◌, ◌≤◌, ◌∷◌, [], IfOk, string_bytes};
+ghost use Rattle.cli_info.specs.Identities.{culture_text, identity_line, identity_lines, table_of, token_text};
+ghost use Rattle.cli_lines.specs.Printed.{Prints};
+ghost use Rattle.metadata.specs.Metadata.{Metadata};
+ghost use Rattle.metadata.specs.Model.{IsModel};
+ghost use Rattle.opening.specs.Views.{row_count};
+
+use cli_lines::Part::{Field, Word};
+use cli_lines::Value::{Number, Plain, Text};
+use cli_lines::{Name, Printer};
+use cli_outline::{bytes, number, text};
+use opening::{TableId, View};
+use sha1::Sha1;
+use std::alloc::{AllocError, Global};
+use std::io::Write;
+
+/// The largest key whose token is printed, in bytes. A key of .NET has at most 2,080.
+const KEY_LIMIT: usize = 4096;
+
+/// The number of bytes of the token of a key.
+const TOKEN_SIZE: usize = 8;
+
+/// Whose identity is printed.
+#[derive(Clone, Copy)]
+pub(crate) enum Kind {
+    /// The assembly itself (II.22.2).
+    Assembly,
+    /// An assembly that it refers to (II.22.5).
+    Reference,
+}
+
+impl Kind {
+    ghost use Rattle.std.specs.Prelude.{◌<◌, ◌+◌};
+    ghost use Rattle.table_schema.specs.CellColumns.{cell_count};
+    ghost use Rattle.cli_info.specs.Identities.{first_cell, has_token, name_of, table_of, word_of};
+
+    /// The table, and the index of the cell with the major version. From it on eight cells are the same in both tables.
+    #[tactic(auto, unfolding(table_schema::specs::CellColumns::cell_columns))]
+    fn columns(self) -> (TableId, usize)
+        ensures table { result.0 ≡ table_of self }
+        ensures first { result.1 ≡ first_cell self }
+        ensures within { result.1 + 7 < cell_count result.0 }
+    {
+        match self {
+            Kind::Assembly => (TableId::Assembly, 1),
+            Kind::Reference => (TableId::AssemblyRef, 0),
+        }
+    }
+
+    /// The word and the name that its line begins with.
+    fn label(self) -> (&'static str, Name)
+        ensures word { result.0.now ≡ word_of self }
+        ensures name { result.1 ≡ name_of self }
+    {
+        match self {
+            Kind::Assembly => ("assembly ", Name::Assembly),
+            Kind::Reference => ("reference ", Name::Reference),
+        }
+    }
+
+    /// Whether a row with these flags has a token in place of the key: that of a reference, unless the lowest flag is set
+    /// (II.23.1.2).
+    fn has_token(self, flags: u32) -> bool
+        ensures { result ≡ has_token self flags }
+    {
+        match self {
+            Kind::Assembly => false,
+            Kind::Reference => flags % 2 == 0,
+        }
+    }
+}
+
+/// The token of a key in hexadecimal: the last eight bytes of its SHA-1 in reverse order (II.6.3), unless it is a token
+/// already. It is `null` if there is no key, and `?` if it is too long.
+#[tactic(auto, using(crate::proofs::TokenLemmas::token_of_long, crate::proofs::TokenLemmas::token_of_token, crate::proofs::TokenLemmas::token_of_key), unfolding(crate::specs::Identities::token_text))]
+fn token_text(alloc: Global, kind: Kind, flags: u32, key: &[u8]) -> Result<String, AllocError>
+    ensures { IfOk result (λ text. string_bytes text ≡ token_text kind flags key.now) }
+{
+    if key.is_empty() {
+        return String::from_str(alloc, "null");
+    }
+    if key.len() > KEY_LIMIT {
+        return String::from_str(alloc, "?");
+    }
+    if kind.has_token(flags) {
+        return hex::encode(alloc, key);
+    }
+    let mut digest = Sha1::digest(key);
+    digest.reverse();
+    let (token, _) = digest.split_at(TOKEN_SIZE);
+    hex::encode(alloc, token)
+}
+
+/// The culture, or the word for none.
+fn culture_text(culture: &str) -> &str
+    ensures { result.now ≡ culture_text culture.now }
+{
+    if culture.is_empty() {
+        "neutral"
+    } else {
+        culture
+    }
+}
+
+/// Prints the identity in a row.
+#[tactic(auto, unfolding(crate::specs::Identities::identity_line))]
+fn print_identity<W: Write>(
+    alloc: Global,
+    view: &View<'_>,
+    kind: Kind,
+    row: u32,
+    out: &mut Printer<'_, W>,
+)
+    requires first { 1 ≤ row }
+    requires last { row ≤ row_count view.now (table_of kind) }
+    ensures { (model : Metadata) → IsModel view.now model → Prints out.old out.new (identity_line kind model row ∷ []) }
+{
+    let (table, first) = kind.columns();
+    let (word, name) = kind.label();
+    let major = number(view, table, row, first);
+    let minor = number(view, table, row, first + 1);
+    let build = number(view, table, row, first + 2);
+    let revision = number(view, table, row, first + 3);
+    let flags = number(view, table, row, first + 4);
+    let key = bytes(view, table, row, first + 5);
+    let own_name = text(view, table, row, first + 6);
+    let culture = text(view, table, row, first + 7);
+    match token_text(alloc, kind, flags, key) {
+        Ok(token) => out.line(&[
+            Word(word),
+            Field(name, Text(own_name)),
+            Word(", Version="),
+            Field(Name::Major, Number(major as u64)),
+            Word("."),
+            Field(Name::Minor, Number(minor as u64)),
+            Word("."),
+            Field(Name::Build, Number(build as u64)),
+            Word("."),
+            Field(Name::Revision, Number(revision as u64)),
+            Word(", Culture="),
+            Field(Name::Culture, Text(culture_text(culture))),
+            Word(", PublicKeyToken="),
+            Field(Name::Token, Plain(&token)),
+        ]),
+        Err(_) => out.fail(),
+    }
+}
+
+/// Prints the identities in all rows of a table.
+pub(crate) fn print_identities<W: Write>(
+    alloc: Global,
+    view: &View<'_>,
+    kind: Kind,
+    out: &mut Printer<'_, W>,
+)
+    ensures { (model : Metadata) → IsModel view.now model → Prints out.old out.new (identity_lines kind model) }
+{
+    cli_lines::laws::lines_follow::<W>();
+    cli_lines::laws::rows_follow::<W>();
+    let (table, _) = kind.columns();
+    for earlier in 0..view.count(table) {
+        print_identity(alloc, view, kind, earlier + 1, out);
+    }
+}

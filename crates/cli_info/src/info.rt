@@ -1,0 +1,160 @@
+//! `clim info`: what one wants to know first of an assembly.
+ghost use Rattle.std.specs.Prelude.{◌≡◌, ◌≤◌, ◌∷◌, [], IfErr, IfOk, OnErr, OnOk, Option, Some};
+ghost use Rattle.std.specs.Option.{option_map};
+ghost use Rattle.cli_header.specs.declared.header.CliHeader.{CliHeader as Header};
+ghost use Rattle.cli_info.specs.HeaderLines.{HasRoom};
+ghost use Rattle.cli_info.specs.InfoLines.{AreFacts, counts_line, fact_lines, file_lines, guid_of, info_lines, module_lines};
+ghost use Rattle.cli_input.specs.Checked.{IsWhole, rules_of};
+ghost use Rattle.cli_lines.specs.Printed.{Prints};
+ghost use Rattle.metadata.specs.Metadata.{Metadata, cell_in};
+ghost use Rattle.metadata.specs.Model.{IsModel};
+ghost use Rattle.opening.specs.Views.{row_count};
+ghost use Rattle.packed.specs.Rule.{FirstBroken};
+ghost use Rattle.table_schema.specs.declared.table.TableId.TheVariants.{Module};
+
+use crate::headers::print_headers;
+use crate::identities::{Kind, print_identities};
+use cli_header::CliHeader;
+use cli_input::Input;
+use cli_lines::Part::{Field, Word};
+use cli_lines::Value::{Guid, Number, Text};
+use cli_lines::{Name, Printer};
+use cli_outline::text;
+use cli_print::print_version;
+use opening::{CellRef, TableId, View, open_image, open_root};
+use packed::Fault;
+use std::alloc::Global;
+use std::io::Write;
+
+/// The indexes of the cells with the name and the Mvid of a module (II.22.30).
+const MODULE_NAME: usize = 1;
+
+const MVID: usize = 2;
+
+/// Prints what one wants to know first: the name of the file, if it is given; the identity of the assembly; its module; the
+/// version of the runtime; the headers, unless the bytes are a bare root; the numbers of types, methods, fields and resources;
+/// and the identity of each assembly that it refers to.
+///
+/// Its time is that of the lines, and of the SHA-1 of each key, of which at most 4,096 bytes are read for a row.
+///
+/// # Errors
+///
+/// The fault of the first rule that fails. Then nothing was printed.
+pub fn print_info<W: Write>(
+    alloc: Global,
+    bytes: &[u8],
+    input: Input,
+    file: Option<&str>,
+    out: &mut Printer<'_, W>,
+) -> Result<(), Fault>
+    ensures first_error { IfErr result (FirstBroken (rules_of input bytes.now)) }
+    ensures untouched { OnErr result (out.new ≡ out.old) }
+    ensures whole { OnOk result (IsWhole input bytes.now) }
+    ensures printed { OnOk result ((header : Option Header) (model : Metadata) → AreFacts input bytes.now header model
+        → Prints out.old out.new (info_lines (option_map (λ name. name.now) file.entry) bytes.now header model)) }
+{
+    cli_lines::laws::lines_follow::<W>();
+    let (header, view) = open_facts(bytes, input)?;
+    print_file(file, out);
+    print_facts(alloc, bytes, &header, &view, out);
+    Ok(())
+}
+
+/// Opens the metadata of the bytes, and returns their CLI header, if there is one.
+fn open_facts(bytes: &[u8], input: Input) -> Result<(Option<CliHeader>, View<'_>), Fault>
+    ensures first_error { IfErr result (FirstBroken (rules_of input bytes.now)) }
+    ensures whole { IfOk result (λ _. IsWhole input bytes.now) }
+    ensures facts { IfOk result (λ opened. (header : Option Header) (model : Metadata) → AreFacts input bytes.now header model
+        → (opened.0 ≡ header) × IsModel opened.1 model) }
+    ensures room { IfOk result (λ opened. (header : Header) → opened.0 ≡ Some header → HasRoom bytes.now) }
+{
+    pe::laws::images_are_read();
+    match input {
+        Input::BareRoot => {
+            let view = open_root(bytes)?;
+            Ok((None, view))
+        }
+        Input::File => {
+            let (header, view) = open_image(bytes)?;
+            Ok((Some(header), view))
+        }
+    }
+}
+
+/// Prints the name of a file, if there is one.
+fn print_file<W: Write>(file: Option<&str>, out: &mut Printer<'_, W>)
+    ensures { Prints out.old out.new (file_lines (option_map (λ name. name.now) file.entry)) }
+{
+    cli_lines::laws::lines_follow::<W>();
+    match file {
+        Some(name) => out.line(&[Word("file "), Field(Name::File, Text(name))]),
+        None => {}
+    }
+}
+
+/// Prints the lines of a CLI header, if there is one, and of the metadata.
+fn print_facts<W: Write>(
+    alloc: Global,
+    bytes: &[u8],
+    header: &Option<CliHeader>,
+    view: &View<'_>,
+    out: &mut Printer<'_, W>,
+)
+    requires { (of : Header) → header.now ≡ Some of → HasRoom bytes.now }
+    ensures { (model : Metadata) → IsModel view.now model → Prints out.old out.new (fact_lines bytes.now header.now model) }
+{
+    cli_lines::laws::lines_follow::<W>();
+    print_identities(alloc, view, Kind::Assembly, out);
+    print_module(view, out);
+    print_version(view.version(), out);
+    print_headers(bytes, header, view, out);
+    print_counts(view, out);
+    print_identities(alloc, view, Kind::Reference, out);
+}
+
+/// The Mvid of a module.
+#[tactic(auto, unfolding(table_schema::specs::CellColumns::cell_columns))]
+fn mvid_of(view: &View<'_>) -> Option<[u8; 16]>
+    requires { 1 ≤ row_count view.now Module }
+    ensures { (model : Metadata) → IsModel view.now model → result ≡ guid_of (cell_in model Module 1 2) }
+{
+    match view.cell(TableId::Module, 1, MVID) {
+        CellRef::Guid(guid) => guid,
+        _ => None,
+    }
+}
+
+/// Prints the name and the Mvid of the module, if there is one.
+#[tactic(auto, unfolding(crate::specs::InfoLines::module_line, table_schema::specs::CellColumns::cell_columns))]
+fn print_module<W: Write>(view: &View<'_>, out: &mut Printer<'_, W>)
+    ensures { (model : Metadata) → IsModel view.now model → Prints out.old out.new (module_lines model) }
+{
+    cli_lines::laws::lines_follow::<W>();
+    if view.count(TableId::Module) > 0 {
+        let name = text(view, TableId::Module, 1, MODULE_NAME);
+        out.line(&[
+            Word("module "),
+            Field(Name::Module, Text(name)),
+            Word(" "),
+            Field(Name::Mvid, Guid(mvid_of(view))),
+        ]);
+    }
+}
+
+/// Prints the numbers of types, methods, fields and resources.
+#[tactic(auto, unfolding(crate::specs::InfoLines::counts_line))]
+fn print_counts<W: Write>(view: &View<'_>, out: &mut Printer<'_, W>)
+    ensures { (model : Metadata) → IsModel view.now model → Prints out.old out.new (counts_line model ∷ []) }
+{
+    let resources = view.count(TableId::ManifestResource) as u64;
+    out.line(&[
+        Word("types "),
+        Field(Name::Types, Number(view.count(TableId::TypeDef) as u64)),
+        Word(" methods "),
+        Field(Name::Methods, Number(view.count(TableId::MethodDef) as u64)),
+        Word(" fields "),
+        Field(Name::Fields, Number(view.count(TableId::Field) as u64)),
+        Word(" resources "),
+        Field(Name::Resources, Number(resources)),
+    ]);
+}

@@ -1,0 +1,19 @@
+//! What one wants to know first of an assembly: its identity, its module, the runtime that it was made for, its headers, how
+//! many types it has, and the assemblies that it refers to.
+//!
+//! `specs/InfoLines.antt` defines the lines as a function of the CLI header and the model. They go to a [`cli_lines::Printer`].
+//!
+//! ```text
+//! assembly Mono.Cecil, Version=0.11.0.0, Culture=neutral, PublicKeyToken=0738eb9f132ed756
+//! module Mono.Cecil.dll {cbbb9aa0-a4b8-4d76-a2cb-a2b9b4e9c1b5}
+//! version v4.0.30319
+//! format PE32 machine 0000014c i386 debug 28
+//! flags 00000009 ILONLY STRONGNAMESIGNED
+//! ```
+#![tactic(auto)]
+
+mod headers;
+mod identities;
+mod info;
+
+pub use info::print_info;
