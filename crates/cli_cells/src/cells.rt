@@ -76,17 +76,24 @@ fn print_value<W: Write>(
     ensures { (cell : Cell) → Shows kind value.entry cell → Adds out.old out.new (cell_part names name (cell_value cell) ∷ []) }
 {
     match value {
-        CellRef::Number(number) => out.part(&cell_part(names, name, Number(number as u64))),
-        CellRef::Text(text) => out.part(&cell_part(names, name, Quoted(text))),
-        CellRef::Bytes(bytes) => out.part(&cell_part(names, name, Bytes(bytes))),
-        CellRef::Guid(guid) => out.part(&cell_part(names, name, Guid(guid))),
-        CellRef::Ref(token) => out.part(&cell_part(names, name, Reference(token))),
-        CellRef::Start(start) => out.part(&cell_part(names, name, Start(start as u64))),
+        CellRef::Number(number) => print_part(names, name, Number(number as u64), out),
+        CellRef::Text(text) => print_part(names, name, Quoted(text), out),
+        CellRef::Bytes(bytes) => print_part(names, name, Bytes(bytes), out),
+        CellRef::Guid(guid) => print_part(names, name, Guid(guid), out),
+        CellRef::Ref(token) => print_part(names, name, Reference(token), out),
+        CellRef::Start(start) => print_part(names, name, Start(start as u64), out),
         CellRef::Sig(blob) => match kind {
             ColumnKind::Signature(kind) => print_signature(alloc, names, name, kind, blob, out),
             _ => unreachable!(),
         },
     }
+}
+
+/// Adds a value.
+fn print_part<W: Write>(names: Names, name: Name, value: Value<'_>, out: &mut Printer<'_, W>)
+    ensures { Adds out.old out.new (cell_part names name (shown_value value.entry) ∷ []) }
+{
+    out.part(&cell_part(names, name, value));
 }
 
 /// Adds the signature in a blob. Most blobs are their canonical encoding themselves.
@@ -141,19 +148,12 @@ fn print_encoding<W: Write>(
         → Adds out.old out.new (cell_part names name (line.signature encoding.now (signature_text signature)) ∷ []) }
 {
     match out.form() {
-        Form::Text => print_bytes(names, name, encoding, out),
+        Form::Text => print_part(names, name, Bytes(encoding), out),
         Form::JsonLines => match signature_text(alloc, kind, blob) {
             Ok(text) => print_both(names, name, encoding, &text, out),
             Err(_) => out.fail(),
         },
     }
-}
-
-/// Adds bytes.
-fn print_bytes<W: Write>(names: Names, name: Name, bytes: &[u8], out: &mut Printer<'_, W>)
-    ensures { Adds out.old out.new (cell_part names name (line.bytes bytes.now) ∷ []) }
-{
-    out.part(&cell_part(names, name, Bytes(bytes)));
 }
 
 /// Adds the encoding and the text of a signature.
@@ -166,5 +166,5 @@ fn print_both<'a, W: Write>(
 )
     ensures { Adds out.old out.new (cell_part names name (line.signature blob.now text.now) ∷ []) }
 {
-    out.part(&cell_part(names, name, Signature(blob, text)));
+    print_part(names, name, Signature(blob, text), out);
 }

@@ -6,13 +6,11 @@ ghost use Rattle.metadata.specs.Metadata.{Metadata};
 ghost use Rattle.cli_lines.specs.Printed.{Adds, Begins, Prints};
 ghost use Rattle.cli_lines.specs.Shown.{shown};
 ghost use Rattle.cli_cells.specs.RowLines.{cell_label, cell_parts, row_head, row_line};
-ghost use Rattle.cli_cells.specs.declared.row_lines.Names.TheVariants.{Shown};
 
 use crate::cells::print_cell;
-use crate::columns::column_name;
 use crate::shown_rows::ShownRows;
 use cli_lines::Part::{RowNumber, RowToken, Word};
-use cli_lines::{Name, Part, Printer};
+use cli_lines::{Name, Part, Printer, cell_label};
 use opening::{TableId, Token};
 use std::alloc::Global;
 use std::io::Write;
@@ -101,24 +99,11 @@ fn print_cells<'a, R: ShownRows<'a>, W: Write>(
 #[tactic(auto, unfolding(crate::specs::RowLines::cell_label))]
 #[inline(always)]
 fn print_label<W: Write>(names: Names, table: TableId, cell_index: usize, out: &mut Printer<'_, W>)
-    requires { cell_index < cell_count table }
     ensures { Adds out.old out.new (cell_label names table cell_index) }
 {
     cli_lines::laws::parts_follow::<W>();
     match names {
         Names::Hidden => {}
-        Names::Shown => print_name(table, cell_index, out),
+        Names::Shown => out.part(&Word(cell_label(table, cell_index))),
     }
-}
-
-/// Adds a space, the name of the column of a cell, and an equals sign.
-#[tactic(auto, unfolding(crate::specs::RowLines::cell_label))]
-fn print_name<W: Write>(table: TableId, cell_index: usize, out: &mut Printer<'_, W>)
-    requires { cell_index < cell_count table }
-    ensures { Adds out.old out.new (cell_label Shown table cell_index) }
-{
-    cli_lines::laws::parts_follow::<W>();
-    out.part(&Word(" "));
-    out.part(&Word(column_name(table, cell_index)));
-    out.part(&Word("="));
 }
