@@ -1,11 +1,13 @@
 //! The values of cells.
-ghost use Rattle.std.specs.Prelude.{◌≡◌, ◌≤◌, ◌<◌, ◌∷◌, [], IfOk};
+ghost use Rattle.std.specs.Prelude.{◌≡◌, ◌≢◌, ◌≤◌, ◌<◌, ◌∷◌, [], IfOk};
 ghost use Rattle.table_schema.specs.CellColumns.{cell_count};
 ghost use Rattle.sig_grammar.specs.Syntax.{Body};
 ghost use Rattle.sig_grammar.specs.Encodes.{Encodes, short};
 ghost use Rattle.metadata.specs.Cell.{Cell};
 ghost use Rattle.metadata.specs.Metadata.{Metadata, cell_in};
 ghost use Rattle.reading.specs.Shown.{Shows};
+ghost use Rattle.reading.specs.declared.cell_ref.CellRef.TheVariants as seen;
+ghost use Rattle.table_schema.specs.declared.column.ColumnKind.{ColumnKind as Kind};
 ghost use Rattle.cli_lines.specs.Shown.{shown, shown_value};
 ghost use Rattle.cli_lines.specs.Lines as line;
 ghost use Rattle.cli_lines.specs.Printed.{Adds};
@@ -57,9 +59,8 @@ pub fn print_cell<'a, R: ShownRows<'a>, W: Write>(
     ensures part { (model : Metadata) → R.shows rows.old model
         → Adds out.old out.new (cell_part names name (cell_value (cell_in model table row cell_index)) ∷ []) }
 {
-    let kind = kind_of(table, cell_index);
     let value = rows.cell(table, row, cell_index);
-    print_value(alloc, names, name, kind, value, out);
+    print_value(alloc, names, name, kind_of(table, cell_index), value, out);
 }
 
 /// Adds the value of a cell in a column of a kind.
@@ -76,16 +77,27 @@ fn print_value<W: Write>(
     ensures { (cell : Cell) → Shows kind value.entry cell → Adds out.old out.new (cell_part names name (cell_value cell) ∷ []) }
 {
     match value {
-        CellRef::Number(number) => print_part(names, name, Number(number as u64), out),
-        CellRef::Text(text) => print_part(names, name, Quoted(text), out),
-        CellRef::Bytes(bytes) => print_part(names, name, Bytes(bytes), out),
-        CellRef::Guid(guid) => print_part(names, name, Guid(guid), out),
-        CellRef::Ref(token) => print_part(names, name, Reference(token), out),
-        CellRef::Start(start) => print_part(names, name, Start(start as u64), out),
         CellRef::Sig(blob) => match kind {
             ColumnKind::Signature(kind) => print_signature(alloc, names, name, kind, blob, out),
             _ => unreachable!(),
         },
+        _ => print_part(names, name, value_of(value), out),
+    }
+}
+
+/// The value of a cell that is no signature.
+#[inline(always)]
+fn value_of(cell: CellRef<'_>) -> Value<'_>
+    ensures { (kind : Kind) (held : Cell) → ((blob : _) → cell.entry ≢ seen.Sig blob) → Shows kind cell.entry held
+        → shown_value result ≡ cell_value held }
+{
+    match cell {
+        CellRef::Number(number) => Number(number as u64),
+        CellRef::Text(text) => Quoted(text),
+        CellRef::Bytes(bytes) | CellRef::Sig(bytes) => Bytes(bytes),
+        CellRef::Guid(guid) => Guid(guid),
+        CellRef::Ref(token) => Reference(token),
+        CellRef::Start(start) => Start(start as u64),
     }
 }
 

@@ -6,6 +6,7 @@ ghost use Rattle.metadata.specs.Metadata.{Metadata};
 ghost use Rattle.cli_lines.specs.Printed.{Adds, Begins, Prints};
 ghost use Rattle.cli_lines.specs.Shown.{shown};
 ghost use Rattle.cli_cells.specs.RowLines.{cell_label, cell_parts, row_head, row_line};
+ghost use Rattle.cli_cells.specs.declared.row_lines.Names.TheVariants.{Shown};
 
 use crate::cells::print_cell;
 use crate::shown_rows::ShownRows;
@@ -104,6 +105,14 @@ fn print_label<W: Write>(names: Names, table: TableId, cell_index: usize, out: &
     cli_lines::laws::parts_follow::<W>();
     match names {
         Names::Hidden => {}
-        Names::Shown => out.part(&Word(cell_label(table, cell_index))),
+        Names::Shown => print_name(table, cell_index, out),
     }
+}
+
+/// Adds a space, the name of the column of a cell, and an equals sign.
+#[tactic(auto, unfolding(crate::specs::RowLines::cell_label))]
+fn print_name<W: Write>(table: TableId, cell_index: usize, out: &mut Printer<'_, W>)
+    ensures { Adds out.old out.new (cell_label Shown table cell_index) }
+{
+    out.part(&Word(cell_label(table, cell_index)));
 }
