@@ -10,7 +10,7 @@ use Rattle.metadata.specs.Cell.{Cell, Number, Text, Bytes, Guid, Ref, Start, Sig
 use Rattle.metadata.specs.Metadata.{Metadata, cell_in, count_in}
 use Rattle.cli_lines.specs.Lines as line
 use Rattle.cli_lines.specs.Lines.{Part, Value, word, field, note, row_number, row_token, spaced}
-use Rattle.cli_lines.specs.Names.{column_name}
+use Rattle.cli_lines.specs.Names.{label_text, name_text}
 use Rattle.cli_lines.specs.declared.names.Name.{Name}
 use Rattle.cli_lines.specs.declared.names.Name.TheVariants as name
 use Rattle.cli_cells.specs.SignatureText.{signature_text}
@@ -30,7 +30,7 @@ cell_value (Sig signature) = line.signature (short signature) (signature_text si
 -- what a cell begins with, if columns are named: a space, the name of its column and an equals sign
 unfoldable pub cell_label : Names → TableId → ℕ → List Part
 cell_label Hidden table cell_index = []
-cell_label Shown table cell_index = word (codes " ") ∷ word (column_name table cell_index) ∷ word (codes "=") ∷ []
+cell_label Shown table cell_index = word (label_text (name_text (name.Cell table cell_index))) ∷ []
 
 -- the value of a cell: if columns are not named, after a space
 abbrev pub cell_part : Names → Name → Value → Part

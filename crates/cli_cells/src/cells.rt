@@ -1,11 +1,13 @@
 //! The values of cells.
-ghost use Rattle.std.specs.Prelude.{◌≡◌, ◌≤◌, ◌<◌, ◌∷◌, [], IfOk};
+ghost use Rattle.std.specs.Prelude.{◌≡◌, ◌≢◌, ◌≤◌, ◌<◌, ◌∷◌, [], IfOk};
 ghost use Rattle.table_schema.specs.CellColumns.{cell_count};
 ghost use Rattle.sig_grammar.specs.Syntax.{Body};
 ghost use Rattle.sig_grammar.specs.Encodes.{Encodes, short};
 ghost use Rattle.metadata.specs.Cell.{Cell};
 ghost use Rattle.metadata.specs.Metadata.{Metadata, cell_in};
 ghost use Rattle.reading.specs.Shown.{Shows};
+ghost use Rattle.reading.specs.declared.cell_ref.CellRef.TheVariants as seen;
+ghost use Rattle.table_schema.specs.declared.column.ColumnKind.{ColumnKind as Kind};
 ghost use Rattle.cli_lines.specs.Shown.{shown, shown_value};
 ghost use Rattle.cli_lines.specs.Lines as line;
 ghost use Rattle.cli_lines.specs.Printed.{Adds};
@@ -57,9 +59,8 @@ pub fn print_cell<'a, R: ShownRows<'a>, W: Write>(
     ensures part { (model : Metadata) → R.shows rows.old model
         → Adds out.old out.new (cell_part names name (cell_value (cell_in model table row cell_index)) ∷ []) }
 {
-    let kind = kind_of(table, cell_index);
     let value = rows.cell(table, row, cell_index);
-    print_value(alloc, names, name, kind, value, out);
+    print_value(alloc, names, name, kind_of(table, cell_index), value, out);
 }
 
 /// Adds the value of a cell in a column of a kind.
@@ -76,17 +77,35 @@ fn print_value<W: Write>(
     ensures { (cell : Cell) → Shows kind value.entry cell → Adds out.old out.new (cell_part names name (cell_value cell) ∷ []) }
 {
     match value {
-        CellRef::Number(number) => out.part(&cell_part(names, name, Number(number as u64))),
-        CellRef::Text(text) => out.part(&cell_part(names, name, Quoted(text))),
-        CellRef::Bytes(bytes) => out.part(&cell_part(names, name, Bytes(bytes))),
-        CellRef::Guid(guid) => out.part(&cell_part(names, name, Guid(guid))),
-        CellRef::Ref(token) => out.part(&cell_part(names, name, Reference(token))),
-        CellRef::Start(start) => out.part(&cell_part(names, name, Start(start as u64))),
         CellRef::Sig(blob) => match kind {
             ColumnKind::Signature(kind) => print_signature(alloc, names, name, kind, blob, out),
             _ => unreachable!(),
         },
+        _ => print_part(names, name, value_of(value), out),
     }
+}
+
+/// The value of a cell that is no signature.
+#[inline(always)]
+fn value_of(cell: CellRef<'_>) -> Value<'_>
+    ensures { (kind : Kind) (held : Cell) → ((blob : _) → cell.entry ≢ seen.Sig blob) → Shows kind cell.entry held
+        → shown_value result ≡ cell_value held }
+{
+    match cell {
+        CellRef::Number(number) => Number(number as u64),
+        CellRef::Text(text) => Quoted(text),
+        CellRef::Bytes(bytes) | CellRef::Sig(bytes) => Bytes(bytes),
+        CellRef::Guid(guid) => Guid(guid),
+        CellRef::Ref(token) => Reference(token),
+        CellRef::Start(start) => Start(start as u64),
+    }
+}
+
+/// Adds a value.
+fn print_part<W: Write>(names: Names, name: Name, value: Value<'_>, out: &mut Printer<'_, W>)
+    ensures { Adds out.old out.new (cell_part names name (shown_value value.entry) ∷ []) }
+{
+    out.part(&cell_part(names, name, value));
 }
 
 /// Adds the signature in a blob. Most blobs are their canonical encoding themselves.
@@ -141,19 +160,12 @@ fn print_encoding<W: Write>(
         → Adds out.old out.new (cell_part names name (line.signature encoding.now (signature_text signature)) ∷ []) }
 {
     match out.form() {
-        Form::Text => print_bytes(names, name, encoding, out),
+        Form::Text => print_part(names, name, Bytes(encoding), out),
         Form::JsonLines => match signature_text(alloc, kind, blob) {
             Ok(text) => print_both(names, name, encoding, &text, out),
             Err(_) => out.fail(),
         },
     }
-}
-
-/// Adds bytes.
-fn print_bytes<W: Write>(names: Names, name: Name, bytes: &[u8], out: &mut Printer<'_, W>)
-    ensures { Adds out.old out.new (cell_part names name (line.bytes bytes.now) ∷ []) }
-{
-    out.part(&cell_part(names, name, Bytes(bytes)));
 }
 
 /// Adds the encoding and the text of a signature.
@@ -166,5 +178,5 @@ fn print_both<'a, W: Write>(
 )
     ensures { Adds out.old out.new (cell_part names name (line.signature blob.now text.now) ∷ []) }
 {
-    out.part(&cell_part(names, name, Signature(blob, text)));
+    print_part(names, name, Signature(blob, text), out);
 }

@@ -9,10 +9,9 @@ ghost use Rattle.cli_cells.specs.RowLines.{cell_label, cell_parts, row_head, row
 ghost use Rattle.cli_cells.specs.declared.row_lines.Names.TheVariants.{Shown};
 
 use crate::cells::print_cell;
-use crate::columns::column_name;
 use crate::shown_rows::ShownRows;
 use cli_lines::Part::{RowNumber, RowToken, Word};
-use cli_lines::{Name, Part, Printer};
+use cli_lines::{Name, Part, Printer, cell_label};
 use opening::{TableId, Token};
 use std::alloc::Global;
 use std::io::Write;
@@ -101,7 +100,6 @@ fn print_cells<'a, R: ShownRows<'a>, W: Write>(
 #[tactic(auto, unfolding(crate::specs::RowLines::cell_label))]
 #[inline(always)]
 fn print_label<W: Write>(names: Names, table: TableId, cell_index: usize, out: &mut Printer<'_, W>)
-    requires { cell_index < cell_count table }
     ensures { Adds out.old out.new (cell_label names table cell_index) }
 {
     cli_lines::laws::parts_follow::<W>();
@@ -114,11 +112,7 @@ fn print_label<W: Write>(names: Names, table: TableId, cell_index: usize, out: &
 /// Adds a space, the name of the column of a cell, and an equals sign.
 #[tactic(auto, unfolding(crate::specs::RowLines::cell_label))]
 fn print_name<W: Write>(table: TableId, cell_index: usize, out: &mut Printer<'_, W>)
-    requires { cell_index < cell_count table }
     ensures { Adds out.old out.new (cell_label Shown table cell_index) }
 {
-    cli_lines::laws::parts_follow::<W>();
-    out.part(&Word(" "));
-    out.part(&Word(column_name(table, cell_index)));
-    out.part(&Word("="));
+    out.part(&Word(cell_label(table, cell_index)));
 }

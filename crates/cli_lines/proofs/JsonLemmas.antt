@@ -60,18 +60,6 @@ member_printed before named values of line new prints is more =
     ∙ ap (λ xs. xs ++ line_feed) (sym (ap (print_from false) (append_assoc values more (json.end_object ∷ [])) ∙ prints (closed more))))
     ∙ ap (λ xs. line ++ xs) (sym (name_from before named (values ++ more)))
 
--- the name of a member that is an object was appended, and its brace
-pub object_begun : (before : Before) (named : Name) (line between new : List ℕ) → between ≡ line ++ (opener before ++ member_json named []) → new ≡ between ++ 123 ∷ []
-    → (more : List json.Token) → new ++ json_from Brace more ≡ line ++ json_from before (named_token named ∷ json.begin_object ∷ more)
-unfolding print_from
-object_begun before named line between new is brace more =
-    let s = string_text (name_text named) in
-    let remainder = json_from Brace more in
-    ap (λ xs. xs ++ remainder) (brace ∙ ap (λ xs. xs ++ 123 ∷ []) is)
-    ∙ append_assoc (line ++ (opener before ++ (s ++ 58 ∷ []))) (123 ∷ []) remainder
-    ∙ regrouped line (opener before) s [] (123 ∷ remainder)
-    ∙ ap (λ xs. line ++ xs) (sym (name_from before named (json.begin_object ∷ more)))
-
 -- the text of a value
 signed : (blob of remainder : List ℕ) → (codes "{\"blob\":" ++ string_text blob ++ codes ",\"text\":" ++ string_text of ++ codes "}") ++ remainder
     ≡ codes "{\"blob\":" ++ (string_text blob ++ (codes ",\"text\":" ++ (string_text of ++ (125 ∷ remainder))))

@@ -1,5 +1,6 @@
 -- What is appended to a line, one byte after another.
-use Rattle.std.proofs.Common.{◌≡◌, ◌∙◌, ℕ, zero, suc, ◌+◌, ◌/◌, ◌%◌, ◌<◌, Bool, true, false, IsTrue, List, [], ◌∷◌, ◌++◌, length, get_or, take, refl, ap, sym, append_assoc, arith, codes, if◌then◌else◌}
+use Rattle.std.proofs.Common.{◌≡◌, ◌∙◌, ℕ, zero, suc, ◌+◌, ◌-◌, ◌*◌, ◌/◌, ◌%◌, ◌<◌, Bool, true, false, ◌&&◌, T, eqb, eqb→eq, eq-zero-or-pos, IsTrue, List, [], ◌∷◌, ◌++◌, length, get_or, take, refl, ap, sym, inl, inr, append_assoc, arith, if◌then◌else◌}
+use lib.Ieee.Fits.{and_l, and_r}
 use Rattle.std.specs.Prelude.{Result, Ok, Err, OnOk, is_ok}
 use Rattle.std.specs.List.{flat_map}
 use Rattle.std.specs.Fmt.{digit_glyph}
@@ -9,7 +10,7 @@ use Rattle.std.proofs.Math.Seq.{take-suc}
 use Rattle.table_schema.specs.Tokens.{hexadecimal}
 use Rattle.cli_faults.specs.Escaped.{escaped_text, is_plain}
 use Rattle.cli_faults.specs.Hexadecimal.{upper_hexadecimal}
-use Rattle.cli_lines.specs.Texts.{escaped_bytes}
+use Rattle.cli_lines.specs.declared.texts.TheConstants.{PAIRS}
 
 pub take_more : {X : Type 0} (xs : List X) (i : ℕ) (d : X) → i < length xs → take (i + 1) xs ≡ take i xs ++ get_or xs i d ∷ []
 take_more xs i d lt = let e : i + 1 ≡ suc i = omega arith in ap (λ n. take n xs) e ∙ take-suc xs i d lt
@@ -22,40 +23,23 @@ items_more f line xs i d lt = flat_map_more f line (take i xs) (get_or xs i d) �
 pub two_bytes : (line : List ℕ) (a b : ℕ) → (line ++ a ∷ []) ++ b ∷ [] ≡ line ++ a ∷ b ∷ []
 two_bytes line a b = append_assoc line (a ∷ []) (b ∷ [])
 
-pub hexadecimal_more : (line bytes : List ℕ) (i : ℕ) → i < length bytes → get_or bytes i 0 < 256
-    → (line ++ escaped_bytes (take i bytes)) ++ digit_glyph false (get_or bytes i 0 / 16) ∷ digit_glyph false (get_or bytes i 0 % 16) ∷ []
-    ≡ line ++ escaped_bytes (take (i + 1) bytes)
-hexadecimal_more line bytes i lt small =
-    ap (λ ys. (line ++ escaped_bytes (take i bytes)) ++ ys) (sym (hex_byte false (get_or bytes i 0) small))
-    ∙ items_more (hexadecimal 2) line bytes i 0 lt
+-- the pairs of digits in order
+abbrev are_pairs : ℕ → Bool
+are_pairs zero = true
+are_pairs (suc n) = (eqb (get_or PAIRS (n * 2) 0) (digit_glyph false (n / 16)) && eqb (get_or PAIRS (n * 2 + 1) 0) (digit_glyph false (n % 16))) && are_pairs n
 
--- the digits in order
-pub digit_at : (n : ℕ) → n < 16 → get_or (codes "0123456789abcdef") n 0 ≡ digit_glyph false n
-digit_at zero few = refl
-digit_at (suc zero) few = refl
-digit_at (suc (suc zero)) few = refl
-digit_at (suc (suc (suc zero))) few = refl
-digit_at (suc (suc (suc (suc zero)))) few = refl
-digit_at (suc (suc (suc (suc (suc zero))))) few = refl
-digit_at (suc (suc (suc (suc (suc (suc zero)))))) few = refl
-digit_at (suc (suc (suc (suc (suc (suc (suc zero))))))) few = refl
-digit_at (suc (suc (suc (suc (suc (suc (suc (suc zero)))))))) few = refl
-digit_at (suc (suc (suc (suc (suc (suc (suc (suc (suc zero))))))))) few = refl
-digit_at (suc (suc (suc (suc (suc (suc (suc (suc (suc (suc zero)))))))))) few = refl
-digit_at (suc (suc (suc (suc (suc (suc (suc (suc (suc (suc (suc zero))))))))))) few = refl
-digit_at (suc (suc (suc (suc (suc (suc (suc (suc (suc (suc (suc (suc zero)))))))))))) few = refl
-digit_at (suc (suc (suc (suc (suc (suc (suc (suc (suc (suc (suc (suc (suc zero))))))))))))) few = refl
-digit_at (suc (suc (suc (suc (suc (suc (suc (suc (suc (suc (suc (suc (suc (suc zero)))))))))))))) few = refl
-digit_at (suc (suc (suc (suc (suc (suc (suc (suc (suc (suc (suc (suc (suc (suc (suc zero))))))))))))))) few = refl
-digit_at (suc (suc (suc (suc (suc (suc (suc (suc (suc (suc (suc (suc (suc (suc (suc (suc n)))))))))))))))) few = absurd (omega (arith, few))
+pair_below : (count n : ℕ) → T (are_pairs count) → n < count
+    → (get_or PAIRS (n * 2) 0 ≡ digit_glyph false (n / 16)) × (get_or PAIRS (n * 2 + 1) 0 ≡ digit_glyph false (n % 16))
+pair_below zero n are few = absurd (omega arith)
+pair_below (suc count) n are few =
+    elim (eq-zero-or-pos (count - n)) [
+      | inl none ↦ let last : n ≡ count = omega arith in let both = and_l _ (are_pairs count) are in
+          rw last (eqb→eq _ _ (and_l _ _ both), eqb→eq _ _ (and_r _ _ both))
+      | inr more ↦ pair_below count n (and_r _ (are_pairs count) are) (omega arith)
+    ]
 
--- the digits of four bytes
-pub four_bytes : (a b c d : ℕ) → a < 256 → b < 256 → c < 256 → d < 256
-    → digit_glyph false (a / 16) ∷ digit_glyph false (a % 16) ∷ digit_glyph false (b / 16) ∷ digit_glyph false (b % 16)
-    ∷ digit_glyph false (c / 16) ∷ digit_glyph false (c % 16) ∷ digit_glyph false (d / 16) ∷ digit_glyph false (d % 16) ∷ []
-    ≡ escaped_bytes (a ∷ b ∷ c ∷ d ∷ [])
-four_bytes a b c d first second third last =
-    sym (λ i. hex_byte false a first i ++ (hex_byte false b second i ++ (hex_byte false c third i ++ (hex_byte false d last i ++ []))))
+pub pair_at : (n : ℕ) → n < 256 → get_or PAIRS (n * 2) 0 ∷ get_or PAIRS (n * 2 + 1) 0 ∷ [] ≡ hexadecimal 2 n
+pair_at n small = let digits = pair_below 256 n tt small in (λ i. digits.0 i ∷ digits.1 i ∷ []) ∙ sym (hex_byte false n small)
 
 pub upper_more : (line : List ℕ) (n : ℕ) → n < 256
     → (line ++ digit_glyph true (n / 16) ∷ []) ++ digit_glyph true (n % 16) ∷ [] ≡ line ++ upper_hexadecimal n

@@ -80,3 +80,7 @@ row_start table = quoted (table_name table) ++ codes ",\"row\":"
 -- a name after a comma and before a colon, as it follows another member
 abbrev pub key_text : List ℕ → List ℕ
 key_text of = 44 ∷ (quoted of ++ 58 ∷ [])
+
+-- a name between a space and an equals sign, as before a cell in a line of text
+abbrev pub label_text : List ℕ → List ℕ
+label_text of = 32 ∷ (of ++ 61 ∷ [])

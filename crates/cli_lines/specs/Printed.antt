@@ -78,7 +78,3 @@ module _ {W : Type 0} where
 -- the lines of the rows after the first `earlier` ones
 unfoldable pub rows_after : (ℕ → List Part) → ℕ → ℕ → List (List Part)
 rows_after line earlier count = map line (range_with_len (earlier + 1) (count - earlier))
-
--- the parts of the cells from an index on
-unfoldable pub parts_after : (ℕ → Part) → ℕ → ℕ → List Part
-parts_after part index count = map part (range_with_len index (count - index))

@@ -71,7 +71,7 @@ fn push_row(alloc: Global, at: Before, row: Token, line: &mut Vec<u8>) -> Result
 }
 
 /// Appends a member.
-#[inline(never)]
+#[inline(always)]
 fn push_member(
     alloc: Global,
     at: Before,

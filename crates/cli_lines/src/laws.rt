@@ -2,7 +2,7 @@
 ghost use Rattle.std.specs.Prelude.{◌≤◌, ◌++◌, ◌∷◌, ◌+◌, ◌<◌, [], ℕ, List, map};
 ghost use Rattle.std.specs.List.{range_with_len};
 ghost use Rattle.cli_lines.specs.Lines.{Part};
-ghost use Rattle.cli_lines.specs.Printed.{Adds, Begins, Completes, Ends, Printed, Prints, parts_after, rows_after};
+ghost use Rattle.cli_lines.specs.Printed.{Adds, Begins, Completes, Ends, Printed, Prints, rows_after};
 
 use std::io::Write;
 
@@ -34,12 +34,4 @@ pub fn parts_follow<W: Write>()
     ensures begun { (old between new : Printed W) (first second : List Part) → Begins old between first → Adds between new second → Begins old new (first ++ second) }
     ensures line { (old begun added new : Printed W) (first second : List Part) → Begins old begun first → Adds begun added second → Ends added new
         → Prints old new ((first ++ second) ∷ []) }
-{}
-
-/// A line takes the parts of cells one after another.
-pub fn cells_follow<W: Write>()
-    ensures all { (old new : Printed W) (part : ℕ → Part) (count : ℕ) → Adds old new (parts_after part 0 count) → Adds old new (map part (range_with_len 0 count)) }
-    ensures more { (old between new : Printed W) (part : ℕ → Part) (index count : ℕ) → index < count → Adds old between (part index ∷ [])
-        → Adds between new (parts_after part (index + 1) count) → Adds old new (parts_after part index count) }
-    ensures none { (printer : Printed W) (part : ℕ → Part) (index count : ℕ) → count ≤ index → Adds printer printer (parts_after part index count) }
 {}

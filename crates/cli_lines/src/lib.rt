@@ -25,7 +25,7 @@ mod sending;
 mod texts;
 mod units;
 
-pub use names::Name;
+pub use names::{Name, cell_label};
 pub use parts::{Form, Part, Value};
 pub use printer::Printer;
 pub use texts::push_token;

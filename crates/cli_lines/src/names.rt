@@ -1,6 +1,7 @@
 //! The names of members.
 ghost use Rattle.std.specs.Prelude.{◌≡◌, [], map, slice_index_or};
-ghost use Rattle.cli_lines.specs.Names.{cell_names, key_text, name_text, row_start};
+ghost use Rattle.cli_lines.specs.Names.{cell_names, key_text, label_text, name_text, row_start};
+ghost use Rattle.cli_lines.specs.declared.names.Name.TheVariants as name;
 
 use table_schema::TableId;
 
@@ -69,11 +70,13 @@ macro_rules! key {
     ($name:ident) => { concat!(",\"", stringify!($name), "\":") };
 }
 
-/// What the members of a row begin with: its table with the key of its number, and the key of each cell.
+/// What the members of a row begin with: its table with the key of its number, and the key of each cell; and the label of
+/// each cell in a line of text.
 #[derive(Clone, Copy)]
 struct Keys {
     row: &'static str,
     cells: &'static [&'static str],
+    labels: &'static [&'static str],
 }
 
 /// The keys of the rows of a table, from its name and those of the columns of its cells.
@@ -82,6 +85,7 @@ macro_rules! keys {
         Keys {
             row: concat!("\"", stringify!($table), "\",\"row\":"),
             cells: &[$(key!($column)),+],
+            labels: &[$(concat!(" ", stringify!($column), "=")),+],
         }
     };
 }
@@ -163,6 +167,17 @@ fn cell_key(table: TableId, index: usize) -> &'static str
     }
 }
 
+/// The name of a cell's column, between a space and an equals sign.
+#[inline(always)]
+pub fn cell_label(table: TableId, index: usize) -> &'static str
+    ensures { result.now ≡ label_text (name_text (name.Cell table index)) }
+{
+    match keys_of(table).labels.get(index) {
+        Some(label) => *label,
+        None => " =",
+    }
+}
+
 /// The name of a table as a string, with the key of a row's number.
 #[inline]
 pub(crate) fn row_start(table: TableId) -> &'static str
@@ -177,6 +192,7 @@ pub(crate) fn row_start(table: TableId) -> &'static str
 fn keys_of(table: TableId) -> Keys
     ensures row { result.row.now ≡ row_start table }
     ensures cells { map (λ text. text.now) result.cells.now ≡ map key_text (cell_names table) }
+    ensures labels { map (λ text. text.now) result.labels.now ≡ map label_text (cell_names table) }
 {
     match table {
         TableId::Module => keys!(Module: Generation Name Mvid EncId EncBaseId),
