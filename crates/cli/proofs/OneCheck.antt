@@ -5,13 +5,14 @@ use Rattle.cli_check.specs.Checked.{IsCheckOfBytes, IsCheckOfFile, ok_line}
 use Rattle.cli_faults.specs.Status.{status_of}
 use Rattle.cli_faults.specs.declared.failure.Failure.{Failure}
 use Rattle.cli_faults.specs.declared.failure.Failure.TheVariants as failed
+use Rattle.cli_faults.specs.declared.file_error.Reason.TheVariants.{Other}
 use Rattle.cli_faults.specs.declared.stop.Stop.TheVariants.{Failed}
 use Rattle.cli_files.specs.Read.{IsRefused}
 use Rattle.cli_lines.specs.Lines.{report_text}
 use Rattle.cli_lines.specs.declared.parts.Form.TheVariants.{Text}
 use Rattle.cli_print.specs.Verdicts.{verdict_line}
 use Rattle.cli_sending.specs.Sent.{SendsPrefix}
-use Rattle.cli_runs.specs.OneCheck.{check_of_one}
+use Rattle.cli.specs.OneCheck.{check_of_one}
 use Rattle.cli_runs.specs.Runs.{AreRun, IsRunOn}
 use Rattle.cli_runs.specs.declared.report.Ended.TheVariants.{Printed, Refused}
 
@@ -21,7 +22,7 @@ unread file failed.NoSuchRow refused = absurd refused
 unread file (failed.Usage usage_error) refused = absurd refused
 unread file (failed.NotUtf8 name) refused = refl
 unread file (failed.CannotRead error) refused = refl
-unread file failed.CannotWriteOutput refused = absurd refused
+unread file (failed.CannotWriteOutput reason) refused = absurd refused
 unread file (failed.CannotWriteFile error) refused = absurd refused
 unread file (failed.CannotEmbed misfit) refused = absurd refused
 unread file failed.OutOfMemory refused = refl
@@ -33,7 +34,7 @@ module _ {W : Type 0} (contents : W → Option (List ℕ)) (before after : W) (s
       inl (after, 0, 0, (Ok bytes, (Printed, (done.0, (tt, out)), refl)), (refl, refl), done.2)
   of_bytes name bytes status (inr (inl cut)) =
       let out = subst (λ (text : List ℕ). SendsPrefix (contents before) (contents after) text) (sym same) cut.1 in
-      inr ((bytes, failed.CannotWriteOutput, (tt, (Printed, (cut.0, out)))), cut.2)
+      inr ((bytes, failed.CannotWriteOutput Other, (tt, (Printed, (cut.0, out)))), cut.2)
   of_bytes name bytes status (inr (inr broken)) =
       inl (after, 1, 0, (Ok bytes, (Refused (Failed (failed.Fault broken.0.0)), ((refl, broken.0.1), broken.1), refl)), (refl, refl), broken.2)
 
