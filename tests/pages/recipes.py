@@ -24,8 +24,11 @@ import re
 import sys
 
 TOP = os.path.dirname(os.path.dirname(os.path.dirname(os.path.realpath(__file__))))
-PAGES = ["README.md", "CONTRIBUTING.md", "CHANGELOG.md", "docs/CLIENTS.md", "docs/ARCHITECTURE.md", "docs/STABILITY.md", "docs/TRUST.md"]
-MORE_PAGES = ["edits/README.md", "tests/README.md", "samples/README.md"]
+PAGES = [
+    "README.md", "CONTRIBUTING.md", "CHANGELOG.md", "docs/CLIENTS.md", "docs/RATTLE.md", "docs/ARCHITECTURE.md", "docs/STABILITY.md",
+    "docs/TRUST.md", "c/README.md", "csharp/README.md", "python/README.md", "rust/README.md",
+]
+MORE_PAGES = ["edits/README.md", "tests/README.md", "tests/oracle/outline/README.md", "samples/README.md"]
 README_LINES = 80
 # What these pages say of printing.
 PRINTING_PAGES = ["README.md", "CHANGELOG.md", "docs/PROVED.md", "docs/TRUST.md"]

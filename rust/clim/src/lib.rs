@@ -74,3 +74,8 @@ pub use refusal::{BuildError, Refusal};
 pub use rows::Row;
 pub use tables::{Table, Token};
 pub use view::{check, check_root, check_root_within, check_within, read_header, Header, View, DEPTH};
+
+/// The examples of `rust/README.md`, which have to compile.
+#[cfg(doctest)]
+#[doc = include_str!("../../README.md")]
+struct Readme;
