@@ -12,7 +12,7 @@
 - docs/TRUST.md: its files are there, and its counts of lines are those of the definitions.
 - edits/README.md: each edit that its examples name is there.
 - edits/each.txt says what each of its edits does, and each is there. Each crate with edits has one there or in must-fail/.
-- Each relative link of a page leads to a file, and to a heading if it names one.
+- Each relative link of a page leads to a file, and to a heading if it names one. Each path of a file that a page quotes is there.
 
 With --lines it only prints the definitions that docs/TRUST.md counts, with their lines. The last line is otherwise
 'N passed, M failed'.
@@ -42,6 +42,8 @@ RULES = ["Rattle.metadata.specs.Rules"]
 OWNERS = {"tables", "owned_model", "type_records", "records"}
 # The modules of c_values that make tables of the rows of a C caller.
 TABLE_MAKERS = {"made_root", "read_cell", "read_rows"}
+# The program that docs/RATTLE.md tells its reader to make.
+MADE = "crates/list_types/src/main.rt"
 # How far a count on a page may be from the count of the files.
 TOLERANCE = 0.05
 
@@ -102,6 +104,14 @@ def check_contract(counts):
     block = re.search(r"^```text\n(.*?)^```", text_of("CONTRIBUTING.md"), re.M | re.S)[1]
     for line in block.splitlines():
         counts.expect(f"{line}\n" in code, f"CONTRIBUTING.md: crates/root/src/root.rt has no line {line.strip()}")
+
+
+def check_paths(counts):
+    """Each file that a page names by its path is there, but for the one that a reader of the page makes."""
+    for page in sorted({*PAGES, *MORE_PAGES, *glob.glob("docs/*.md", root_dir=TOP)}):
+        for path in in_backticks(re.sub(r"^```.*?^```", "", text_of(page), flags=re.M | re.S)):
+            if re.fullmatch(r"(?:c|crates|csharp|docs|edits|python|rust|samples|tests)/[\w/.]*\.\w+", path) and path != MADE:
+                counts.expect(os.path.isfile(f"{TOP}/{path}"), f"{page}: {path} is not there")
 
 
 def check_commands(counts):
@@ -267,8 +277,8 @@ def main():
             print(f"{page} is not there\n0 passed, 1 failed")
             return 1
     checks = [
-        check_recipes, check_contract, check_commands, check_crates, check_readme, check_printing, check_version, check_trust,
-        check_edits, check_each, check_links,
+        check_recipes, check_contract, check_paths, check_commands, check_crates, check_readme, check_printing, check_version,
+        check_trust, check_edits, check_each, check_links,
     ]
     for check in checks:
         check(counts)
