@@ -42,7 +42,7 @@ RULES = ["Rattle.metadata.specs.Rules"]
 OWNERS = {"tables", "owned_model", "type_records", "records"}
 # The modules of c_values that make tables of the rows of a C caller.
 TABLE_MAKERS = {"made_root", "read_cell", "read_rows"}
-# The program that docs/RATTLE.md tells its reader to make.
+# The program that a reader of docs/RATTLE.md makes.
 MADE = "crates/list_types/src/main.rt"
 # How far a count on a page may be from the count of the files.
 TOLERANCE = 0.05
