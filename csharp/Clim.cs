@@ -1578,8 +1578,8 @@ namespace Clim
         }
 
         /// <summary>
-        /// Adds a user string, and returns its token, such as 0x70000001, which <c>ldstr</c> has (II.24.2.4). Surrogates that
-        /// have no partner may be in it.
+        /// Adds a user string, and returns its token, such as 0x70000001, as <c>ldstr</c> uses it (II.24.2.4). It may
+        /// contain unpaired surrogates.
         /// </summary>
         /// <exception cref="ArgumentException">It is too long, or <c>#US</c> has too many bytes for a token.</exception>
         public int AddUserString(string text)
