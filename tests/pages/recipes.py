@@ -7,7 +7,7 @@
 - docs/ARCHITECTURE.md has a line for each crate of crates.txt, and for no other. The program and the library for C stand on
   no crate that owns cells.
 - README.md has at most 80 lines, and the line of the toolchain that proves the crates.
-- README.md, CHANGELOG.md, docs/PROVED.md and docs/TRUST.md say the same, word for word, of what is proved of printing.
+- README.md and docs/PROVED.md say the same, word for word, of what is proved of printing.
 - CHANGELOG.md begins with the version of the program, which is in one place, in cli_arguments.
 - docs/TRUST.md: its files are there, and its counts of lines are those of the definitions.
 - edits/README.md: each edit that its examples name is there.
@@ -31,7 +31,7 @@ PAGES = [
 MORE_PAGES = ["edits/README.md", "tests/README.md", "tests/oracle/outline/README.md", "samples/README.md"]
 README_LINES = 80
 # What these pages say of printing.
-PRINTING_PAGES = ["README.md", "CHANGELOG.md", "docs/PROVED.md", "docs/TRUST.md"]
+PRINTING_PAGES = ["README.md", "docs/PROVED.md"]
 PRINTING = """The calls for `root`, `check`, `show`, `types`, `outline`, `strings`, `token`, `where`, `digest` and `compare` write \
 exactly the text that `specs/` defines, to a writer whose bytes are known; if writing fails, a prefix of it. The toolchain states \
 nothing about the bytes that reach standard output, so what the program prints is tested. Its exit code is proved."""
