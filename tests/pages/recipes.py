@@ -28,7 +28,7 @@ PAGES = [
     "README.md", "CONTRIBUTING.md", "CHANGELOG.md", "docs/CLIENTS.md", "docs/RATTLE.md", "docs/ARCHITECTURE.md", "docs/STABILITY.md",
     "docs/TRUST.md", "c/README.md", "csharp/README.md", "python/README.md", "rust/README.md",
 ]
-MORE_PAGES = ["edits/README.md", "tests/README.md", "tests/oracle/outline/README.md", "samples/README.md"]
+MORE_PAGES = ["edits/README.md", "tests/README.md", "samples/README.md"]
 README_LINES = 80
 # What these pages say of printing.
 PRINTING_PAGES = ["README.md", "docs/PROVED.md"]
