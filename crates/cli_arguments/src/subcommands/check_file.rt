@@ -29,17 +29,18 @@ LAYER is one of these, with the sections whose rules it checks:
 'clim explain CODE' explains a fault. 'clim explain' lists all faults. '--where' also prints the row of
 a fault.
 
-Signature blobs may overlap, so the check of a FILE of a few kilobytes can take a long time. '--budget
-N' limits the number of signature bytes to check. A check that needs more ends with 'error: budget
-spent' and exit status 3.
+Signature blobs may overlap, so the check of a FILE of a few kilobytes can take a long time.
+'--budget N' limits the number of signature bytes to check. A check that needs more ends with
+'error: budget spent' and exit status 3.
 
 For several FILEs, or if their names are read from standard input, it prints one line for each, in the
 order given: 'FILE: ok' or 'FILE: fault LAYER CODE at OFFSET: NAME'. Each has its own budget. If a FILE
-cannot be read or checked, it says so on standard error and goes on with the next. The exit status is
-the greatest. 'find . -name '*.dll' -print0 | clim check -0' checks all assemblies of a folder.
+cannot be read or checked, it prints the reason to standard error and goes on with the next. The exit
+status is the greatest. 'find . -name '*.dll' -print0 | clim check -0' checks all assemblies of a
+folder.
 
-'--quiet' prints neither these lines nor the faults. The exit status is the same. It still says on
-standard error if a FILE cannot be read or checked.
+'--quiet' prints neither these lines nor the faults. The exit status is the same. Errors of reading and
+checking are still printed to standard error.
 
 '--json' prints one JSON object (RFC 8259) on a line: '{\"ok\":true}' or the fault, such as
 '{\"layer\":1,\"code\":102,\"offset\":0,\"name\":\"DosHeader\"}'. Nothing is written to standard error, unless

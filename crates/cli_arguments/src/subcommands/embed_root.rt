@@ -25,8 +25,8 @@ fit, OUT is not changed, and the exit status is 1. 'error: cannot embed the root
 not fit. OUT may be FILE or ROOT, which is then replaced when OUT is complete, as by 'clim rewrite'. OUT
 must not be '-' or the standard output, which takes the line 'wrote N bytes'.
 
-A strong name and a certificate no longer fit the bytes of OUT. A line on standard error says so if FILE
-has one. The directory of the certificate is cleared. '--unsigned' also clears the strong name.
+A strong name and a certificate no longer fit the bytes of OUT. A warning on standard error reports this
+if FILE has one. The directory of the certificate is cleared. '--unsigned' also clears the strong name.
 
 '--json' prints a JSON object (RFC 8259): 'length' is the number of bytes of OUT, and 'offset' and
 'size' say where the root is in OUT.

@@ -38,8 +38,8 @@ TABLE is the name or the number of a table. Only its rows are printed. The table
   2C GenericParamConstraint
 
 '--names' begins the line of a row with its token instead of its number, and prints the name of the
-column and an equals sign before each cell. So each line says which row it is: 'clim show --names FILE |
-grep TypeName=' finds rows that 'clim token' prints.
+column and an equals sign before each cell. So each line says which row it is:
+'clim show --names FILE | grep TypeName=' finds rows that 'clim token' prints.
 
 '--until-fault' also prints the rows of a broken FILE, up to the first row with a bad cell (layer 5 of
 'clim check --help'). It prints no row if a rule of layers 1 to 4 is broken, and all rows if only a
