@@ -4,6 +4,7 @@
 - CONTRIBUTING.md: each file of a recipe is there, and contains each text that its line quotes at the end; the contract that
   it explains is that of the code.
 - Each command of these pages that is a file of the repository is there and can be run.
+- c/README.md names only what c/clim.h declares, and the calls in the table of docs/RATTLE.md are those of the crates.
 - docs/ARCHITECTURE.md has a line for each crate of crates.txt, and for no other. The program and the library for C stand on
   no crate that owns cells.
 - README.md has at most 80 lines, and the line of the toolchain that proves the crates.
@@ -121,6 +122,17 @@ def check_commands(counts):
             path = f"{TOP}/{command}"
             if not os.path.isdir(path):
                 counts.expect(os.access(path, os.X_OK), f"{page}: {command} is not there, or cannot be run")
+
+
+def check_calls(counts):
+    """The functions and types that the pages for C and Rattle name are there."""
+    header = text_of("c/clim.h")
+    for name in sorted({*re.findall(r"`(clim_\w+|CLIM_\w+)`", text_of("c/README.md"))}):
+        counts.expect(re.search(rf"\b{name}\b", header), f"c/README.md: c/clim.h has no {name}")
+    sources = "".join(map(text_of, sorted(glob.glob("crates/*/src/**/*.rt", root_dir=TOP, recursive=True))))
+    for name in sorted({*re.findall(r"`(?:\w+::)?(\w+)`", "".join(row[1] for row in table_rows(text_of("docs/RATTLE.md"))))}):
+        is_there = re.search(rf"\b(?:fn|struct|trait|enum) {name}\b", sources)
+        counts.expect(is_there, f"docs/RATTLE.md: no crate has {name}")
 
 
 def libraries():
@@ -277,8 +289,8 @@ def main():
             print(f"{page} is not there\n0 passed, 1 failed")
             return 1
     checks = [
-        check_recipes, check_contract, check_paths, check_commands, check_crates, check_readme, check_printing, check_version,
-        check_trust, check_edits, check_each, check_links,
+        check_recipes, check_contract, check_paths, check_commands, check_calls, check_crates, check_readme, check_printing,
+        check_version, check_trust, check_edits, check_each, check_links,
     ]
     for check in checks:
         check(counts)
