@@ -10,43 +10,43 @@
  *                 printf("%.*s\n", (int)cell.bytes.len, (const char *)cell.bytes.at);
  *
  * Each function is proved for any bytes and any numbers. It returns, it writes only what is stated below, and its
- * result is what its contract in crates/clim_c says. No function keeps state between calls, so threads may call them at
- * the same time. Rows count from 1. Columns, which are the cells of a row, count from 0.
+ * result is what its contract in crates/clim_c states. No function keeps state between calls, so threads may call them
+ * at the same time. Rows count from 1. Columns, which are the cells of a row, count from 0.
  *
  * Memory: only clim_canonical_root, clim_digest, clim_compare, clim_tables and clim_embed allocate; clim_embed does not
- * if a root is given. They call malloc, realloc and free, and free all of it before they return. So none of them is
- * called in a signal handler, or after fork in a process with threads.
+ * if a root is given. They call malloc, realloc and free, and free all of it before they return. So do not call them in
+ * a signal handler, or after fork in a process with threads.
  *
  * A call on a view reads the directory of the root and the row counts again, but no heap. It takes about 3
  * microseconds, for a small file and for one of 5 MB alike; a crafted root of 200 kB with 16,000 stream headers makes
  * it 3 to 6 milliseconds. clim_find_type also scans a table, at 6 nanoseconds per type. In a call of clim_cells a
- * cell takes about 7 nanoseconds. So read whole columns if you need many cells. clim_canonical_root and clim_digest
+ * cell takes about 7 nanoseconds. So read entire columns if you need many cells. clim_canonical_root and clim_digest
  * take some 50 milliseconds for a file of 5 MB, and allocate some 12 MB then.
  *
- * Errors: clim_check, clim_open, clim_read_header and their variants return false and write a clim_fault, or say that a
- * budget is spent. clim_tables returns 0 and writes a clim_refusal. clim_embed returns a number that says why there is
- * no copy; for two of these it writes a clim_fault. clim_canonical_root, clim_digest, clim_compare, clim_tables and
- * clim_embed say if memory runs out. Any other call has no error: for a view that is not open, and for a number that
- * names nothing, it returns false, 0 or no bytes. A fault has no table, row or column, only the offset of what is wrong;
- * a refusal has these, and no offset.
+ * Errors: clim_check, clim_open, clim_read_header and their variants return false and write a clim_fault, or say that
+ * a budget is spent. clim_tables returns 0 and writes a clim_refusal. clim_embed returns a number that says why there
+ * is no copy; for two of these it writes a clim_fault. clim_canonical_root, clim_digest, clim_compare, clim_tables
+ * and clim_embed say if memory runs out. Any other call has no error: for a view that is not open, and for a number
+ * that refers to nothing, it returns false, 0 or no bytes. A fault has no table, row or column, only the offset of
+ * what is wrong; a refusal has these, and no offset.
  *
- * Sizes: a clim_view has 5,208 bytes. No other call needs memory but its stack. None of these figures is proved:
- * up to 128 kB in the calls that check or open, up to 384 kB in clim_canonical_root, clim_digest, clim_compare,
- * clim_tables and clim_embed (64 kB, and more for nested types), up to 192 kB in clim_signature_text, and up to 48 kB in
- * any other call. So a thread needs CLIM_STACK bytes beside its own. The first was measured: for three assemblies, to
- * check took 44 kB, and to open 48 kB. At calls that do the same as those of this library, to check took 54 kB for a root
- * whose types are nested 127 deep in a signature. For a file with such types they add up to 61 kB.
+ * Sizes: a clim_view has 5,208 bytes. All other memory is stack. These figures are not proved: up to 128 kB in the
+ * calls that check or open, up to 384 kB in clim_canonical_root, clim_digest, clim_compare, clim_tables and
+ * clim_embed (64 kB, and more for nested types), up to 192 kB in clim_signature_text, and up to 48 kB in any other call.
+ * So a thread needs CLIM_STACK bytes beside its own. Measured on three assemblies: 44 kB to check,
+ * 48 kB to open. Equivalent calls took 54 kB to check a root whose types nest 127 deep in a signature. For a file
+ * with such types they add up to 61 kB.
  *
  * A caller must ensure the following. Nothing checks it:
  *   - No pointer is null, even if the length after it is 0. Use "" then.
  *   - A pointer and a length describe that number of bytes or items. Nobody writes them during the call.
- *   - What a call writes through a pointer does not overlap its other arguments. It has a value before the call:
+ *   - What a call writes through a pointer does not overlap its other arguments. It is initialised before the call:
  *     initialise a clim_view, a clim_cell, a clim_bytes, a clim_fault, a clim_header, a clim_stream_header, a
  *     clim_location, a clim_difference and a clim_refusal with CLIM_CLOSED, CLIM_NO_CELL, CLIM_NO_BYTES, CLIM_NO_FAULT,
  *     CLIM_NO_HEADER, CLIM_NO_STREAM, CLIM_NO_LOCATION, CLIM_NO_DIFFERENCE and CLIM_NO_REFUSAL.
- *   - A clim_view is copied as a whole. Only calls write its fields.
+ *   - Copy a clim_view only as a whole. Only calls write its fields.
  *   - The bytes that were opened do not change and do not move, while a view of them, or a text or a blob from
- *     that view, is in use. So they are no map of a file that another process can write.
+ *     that view, is in use. So do not pass a map of a file that another process can write.
  */
 #ifndef CLIM_H
 #define CLIM_H
@@ -122,8 +122,8 @@ typedef struct clim_view {
     bool is_open;
 } clim_view;
 
-/* The kind of a cell, and the fields of clim_cell that belong to it. The other fields of a cell that a call writes are 0
- * or no bytes. Those of a cell that is given to clim_tables are not read. */
+/* The kind of a cell, and the fields of clim_cell that belong to it. The other fields of a cell that a call writes
+ * are 0 or no bytes. Those of a cell that is given to clim_tables are not read. */
 enum clim_kind {
     CLIM_NO_KIND = 0,   /* no cell: the kind in CLIM_NO_CELL */
     CLIM_NUMBER = 1,    /* number */
@@ -133,7 +133,7 @@ enum clim_kind {
     CLIM_GUID = 5,      /* guid, in the byte order of the file */
     CLIM_NULL_ROW = 6,
     CLIM_ROW = 7,       /* table, and the row in number */
-    CLIM_START = 8,     /* number: the first row of a run; clim_members returns the whole run */
+    CLIM_START = 8,     /* number: the first row of a run; clim_members returns the entire run */
     CLIM_SIGNATURE = 9  /* bytes: the blob of a signature (II.23.2) */
 };
 
@@ -155,8 +155,8 @@ typedef struct clim_stream_header {
     uint32_t size;
 } clim_stream_header;
 
-/* The cell of a table that has a byte: its offset in bytes from the start of the root, its size in bytes, which is 1, 2
- * or 4, its column and row, and its table. */
+/* The cell of a table that contains a byte: its offset in bytes from the start of the root, its size in bytes, which
+ * is 1, 2 or 4, its column and row, and its table. */
 typedef struct clim_location {
     size_t offset;
     size_t size;
@@ -192,7 +192,7 @@ typedef struct clim_row {
 } clim_row;
 
 /* The first rule that tables break: its number, and the table, the row and the column where they break it. Rows count
- * from 1 in their table, and columns from 0. What the rule is not about is 0. */
+ * from 1 in their table, and columns from 0. Fields that the rule does not concern are 0. */
 typedef struct clim_refusal {
     size_t column;
     uint32_t row;
@@ -474,14 +474,14 @@ uint32_t clim_abi_version(void);
 /* sizeof(clim_view) in the library, for callers that do not include this header. */
 size_t clim_view_size(void);
 
-/* Whether a file meets all rules of II.22 to II.25. Otherwise writes *fault, the first rule that it breaks.
+/* Whether a file satisfies all rules of II.22 to II.25. Otherwise writes *fault, the first rule that it breaks.
  * Reads the len bytes at file. */
 bool clim_check(const uint8_t *file, size_t len, clim_fault *fault);
 
 /* The same for a bare metadata root, without the file around it (II.24.2.1). */
 bool clim_check_root(const uint8_t *root, size_t len, clim_fault *fault);
 
-/* True if the file's headers and the directory of its root meet their rules; *header is then the file's CLI header.
+/* True if the file's headers and the directory of its root satisfy their rules; *header is then the file's CLI header.
  * Otherwise writes *fault, and *header is unchanged. Does not check tables. Reads the len bytes at file. */
 bool clim_read_header(const uint8_t *file, size_t len, clim_header *header, clim_fault *fault);
 
@@ -493,14 +493,13 @@ bool clim_open(const uint8_t *file, size_t len, clim_view *view, clim_fault *fau
 bool clim_open_root(const uint8_t *root, size_t len, clim_view *view, clim_fault *fault);
 
 /* The same as clim_check, within a budget: the number of bytes of signatures that it may check at most. Use these
- * four calls for files of strangers, which can be made such that the time of a check grows with the square of their
- * size.
+ * four calls for untrusted files: the time to check a crafted file can grow with the square of its size.
  *
- * *spent is set to whether the budget did not suffice. If it did not, the call returns false and *fault is unchanged.
- * That happens only if the signature blobs of all rows together are longer than the budget, and the rules before
- * those of signatures hold. In any other case the call returns and writes what clim_check does. A blob counts its
- * length each time that it is checked; one that was accepted shortly before is free. The samples of this library need
- * a budget below their own size. */
+ * If the budget does not suffice, *spent becomes true, the call returns false, and *fault is unchanged. Otherwise
+ * *spent becomes false. The budget is spent only if the signature blobs of all rows together are longer than the
+ * budget, and the rules before those of signatures hold. In any other case the call returns and writes what
+ * clim_check does. A blob counts its length each time that it is checked; one that was accepted shortly before is
+ * free. The samples of this library need a budget below their own size. */
 bool clim_check_within(const uint8_t *file, size_t len, uint64_t budget, clim_fault *fault, bool *spent);
 
 /* The same for a bare metadata root. */
@@ -521,7 +520,7 @@ void clim_fault_name(uint16_t code, clim_bytes *name);
 /* Writes the text that explains a rule into buffer[0] to buffer[room - 1]; characters that do not fit are left out.
  * It is what clim explain prints, but no line is broken: the number and the name of the rule and what is wrong, an
  * empty line, and a line each for the rule, its section, where the offset of a fault points, and the usual cause,
- * each ending in a line feed. Returns the length of the whole text, which can be more than room, and is below
+ * each ending in a line feed. Returns the length of the entire text, which can be more than room, and is below
  * 1,000 today. No NUL follows it. Returns 0 if no rule has the number; the buffer is then unchanged. */
 size_t clim_explain(uint16_t code, uint8_t *buffer, size_t room);
 
@@ -548,18 +547,18 @@ size_t clim_stream_count(const clim_view *view);
 
 /* Writes *stream, the stream header with an index, from 0, in the order of the root. False if the view is not open, or
  * has fewer headers; then *stream is unchanged. Reads *view and all headers. So reading them one after another takes
- * time that grows with the square of their number: of a root of a stranger, read no more than you need. */
+ * time that grows with the square of their number: of an untrusted root, read no more than you need. */
 bool clim_stream(const clim_view *view, size_t index, clim_stream_header *stream);
 
 /* The flag of a user string of no bytes, which has no last byte. */
 #define CLIM_NO_FLAG 256
 
-/* Writes the UTF-16 units of the user string that a token names (II.24.2.4) into units[0] to units[room - 1]; units
+/* Writes the UTF-16 units of the user string of a token (II.24.2.4) into units[0] to units[room - 1]; units
  * that do not fit are left out, and the other elements are unchanged. Writes *count, the number of units of the
  * string, which can be more than room, and *flag, its last byte, or CLIM_NO_FLAG for a string of no bytes. The units
  * need not be valid UTF-16. The high byte of the token is 0x70, and the others are the offset in #US, which counts as
- * padded with zeros to a multiple of four. False if the view is not open, the token is another, or the offset has no
- * user string; then nothing is written. Reads *view and the root. */
+ * padded with zeros to a multiple of four. False if the view is not open, the token has another high byte, or no user
+ * string is at the offset; then nothing is written. Reads *view and the root. */
 bool clim_user_string(const clim_view *view, uint32_t token, uint16_t *units, size_t room, size_t *count,
                       uint16_t *flag);
 
@@ -586,13 +585,13 @@ size_t clim_cells(const clim_view *view, uint8_t table, uint32_t first, size_t c
 #define CLIM_TOO_LONG SIZE_MAX
 
 /* Writes a signature in the notation of ILAsm (II.7.1, II.15.3), such as "method instance string *(int32, class
- * 01000007)", into buffer[0] to buffer[room - 1]; characters that do not fit are left out. A type is named by its
+ * 01000007)", into buffer[0] to buffer[room - 1]; characters that do not fit are left out. A type is written as its
  * token: two hexadecimal digits of the table and six of the row, which clim_cell_at reads. The text is ASCII. Returns
- * the length of the whole text, which can be more than room: so ask with room 0 for the length. No NUL follows the
- * text. Returns 0 if the view is not open, or has no such table, row or column, or the column has no signatures; the
- * buffer is then unchanged. Returns CLIM_TOO_LONG for a text of more than 65,536 bytes, which a crafted file can ask
- * for; the buffer then has the first 65,536 bytes of it, or those that fit. It checks the entire blob first. So its time
- * is linear in the blob, also for a text that is too long. Reads *view and the root. */
+ * the length of the entire text, which can be more than room: so call with room 0 to get the length. No NUL follows
+ * the text. Returns 0 if the view is not open, or has no such table, row or column, or the column has no signatures;
+ * the buffer is then unchanged. Returns CLIM_TOO_LONG for a text of more than 65,536 bytes, which a crafted file can
+ * require; the buffer then contains the first 65,536 bytes of it, or those that fit. It checks the entire blob first.
+ * So its time is linear in the blob, even if the text is too long. Reads *view and the root. */
 size_t clim_signature_text(const clim_view *view, uint8_t table, uint32_t row, size_t column, uint8_t *buffer,
                            size_t room);
 
@@ -627,7 +626,7 @@ size_t clim_rows_by_key(const clim_view *view, uint8_t table, uint8_t key_table,
  * rewrite writes: a root with the same metadata and nothing else, each text and blob once, in an order that depends on
  * the metadata alone. So two files have the same canonical root if and only if they have the same metadata.
  *
- * Each call makes the root anew, so ask with a room that usually suffices, such as view->root.len. Returns 0 if the
+ * Each call makes the root anew, so pass a room that usually suffices, such as view->root.len. Returns 0 if the
  * view is not open, CLIM_TOO_LONG for a root of more than 2^30 bytes, and CLIM_NO_MEMORY if memory runs out; the buffer
  * is then unchanged. Reads *view and the root. Allocates. */
 size_t clim_canonical_root(const clim_view *view, uint8_t *buffer, size_t room);
@@ -637,10 +636,10 @@ size_t clim_canonical_root(const clim_view *view, uint8_t *buffer, size_t room);
  * the digest is then unchanged. Reads *view and the root. Allocates. */
 size_t clim_digest(const clim_view *view, uint8_t *digest);
 
-/* Writes *location, the cell that has the byte at an offset (II.24.2.6). The offset is in bytes from the start of the
- * root: of a file that was opened, its root_start in clim_header counts less. At most one cell has a byte. False if the
- * view is not open, or no cell has the byte: it is outside the tables, or is the padding byte of Constant (II.22.9); then
- * *location is unchanged. Reads *view and the headers in the root. */
+/* Writes *location, the cell that contains the byte at an offset (II.24.2.6). The offset counts from the start of the
+ * root: from an offset in a file, subtract its root_start in clim_header. At most one cell contains a byte. False if
+ * the view is not open, or no cell contains the byte: it is outside the tables, or is the padding byte of Constant
+ * (II.22.9); then *location is unchanged. Reads *view and the headers in the root. */
 bool clim_where(const clim_view *view, size_t offset, clim_location *location);
 
 /* What clim_compare returns if both views have the same metadata, and if they do not. */
@@ -648,19 +647,19 @@ bool clim_where(const clim_view *view, size_t offset, clim_location *location);
 #define CLIM_DIFFERENT 2
 
 /* Returns CLIM_EQUAL if two views have the same metadata, and so the same canonical root. Otherwise returns
- * CLIM_DIFFERENT and writes *difference, the first that differs: the version string, the user strings, the number of rows
- * of a table, in the order of the tables, or a cell, in the order of tables, rows and columns. Texts, blobs and signatures
- * are compared by what they are, and not by where they are in the root.
+ * CLIM_DIFFERENT and writes *difference, the first that differs: the version string, the user strings, the number of
+ * rows of a table, in the order of the tables, or a cell, in the order of tables, rows and columns. Texts, blobs and
+ * signatures are compared by what they are, and not by where they are in the root.
  *
  * Returns 0 if one of the views is not open, and CLIM_NO_MEMORY if memory runs out; then, and if nothing differs,
  * *difference is unchanged. Reads both views and their roots, the cells up to the first that differs. Allocates only to
  * decode signatures whose blobs have other bytes, and for that one cell. */
 size_t clim_compare(const clim_view *left, const clim_view *right, clim_difference *difference);
 
-/* Checks that rows meet all rules (II.22, II.24.2), and writes the canonical root of the metadata that they are into
- * buffer[0] to buffer[room - 1], if there is room for all of it; otherwise the buffer is unchanged. Returns the length of
- * the root, which can be more than room. clim_open_root opens the root. It then has these rows with these cells, the
- * version and the user strings, and clim_canonical_root writes the same bytes.
+/* Checks that rows satisfy all rules (II.22, II.24.2), and writes the canonical root of the metadata that they form
+ * into buffer[0] to buffer[room - 1], if there is room for all of it; otherwise the buffer is unchanged. Returns the
+ * length of the root, which can be more than room. clim_open_root opens the root. It then has these rows with these
+ * cells, the version and the user strings, and clim_canonical_root writes the same bytes.
  *
  *     clim_cell cells[] = {{CLIM_NO_BYTES, 0, CLIM_NUMBER, 0, {0}},                                  // Generation
  *                          {{(const uint8_t *)"one.dll", 7}, 0, CLIM_TEXT, 0, {0}},                  // Name
@@ -672,27 +671,28 @@ size_t clim_compare(const clim_view *left, const clim_view *right, clim_differen
  *     clim_refusal refusal = CLIM_NO_REFUSAL;
  *     size_t len = clim_tables((const uint8_t *)"v4.0.30319", 10, (const uint8_t *)"", 0, rows, 1, root, 1000, &refusal);
  *
- * The version is that of the root, in UTF-8 without its NUL (II.24.2.1). The user strings are the bytes of #US (II.24.2.4),
- * as clim_user writes them, with zeros after them up to a multiple of four. Rows of different tables may be mixed; those
- * of one table are its rows in the order given, from 1 on. A cell has the kind that clim_cell_at writes for its column;
- * fields that do not belong to its kind are not read. So a cell that clim_cell_at wrote can be given as it is. A signature
- * is the bytes of its blob, in any encoding; the root has its canonical one.
+ * The version is that of the root, in UTF-8 without its NUL (II.24.2.1). The user strings are the bytes of #US
+ * (II.24.2.4), as clim_user writes them, with zeros after them up to a multiple of four. Rows of different tables may
+ * be mixed; those of one table are its rows in the order given, from 1 on. A cell has the kind that clim_cell_at
+ * writes for its column; fields that do not belong to its kind are not read. So a cell that clim_cell_at wrote can be
+ * given as it is. A signature consists of the bytes of its blob, in any encoding; the root contains its canonical
+ * one.
  *
  * Returns 0 and writes *refusal if a rule is broken. It is the first of these:
  *   - 302 without a table, if the version is not UTF-8.
- *   - That of the first row, in the order given, that cannot be read. 509 with row and column 0, if no table has the number
- *     of the row. Otherwise at its first such cell: 509 for a kind of no cell, a text that is not UTF-8, a CLIM_ROW whose
- *     table is none, or a CLIM_SIGNATURE in a column that has none; 701 for a CLIM_SIGNATURE whose bytes are no signature
- *     of that column.
- *   - That of the first rule that the tables break: 302 and 510, for the version and the user strings; 406, for the number
- *     of rows of a table; 509, 506 and 507, for a cell; 602 and 603, for runs of members; 604, for nested types; and 702,
- *     for the rows that a signature names. clim_explain says what each means.
+ *   - That of the first row, in the order given, that cannot be read. 509 with row and column 0, if no table has the
+ *     number of the row. Otherwise at its first such cell: 509 for a kind of no cell, a text that is not UTF-8, a
+ *     CLIM_ROW whose table does not exist, or a CLIM_SIGNATURE in a column that has none; 701 for a CLIM_SIGNATURE
+ *     whose bytes are no signature of that column.
+ *   - That of the first rule that the tables break: 302 and 510, for the version and the user strings; 406, for the
+ *     number of rows of a table; 509, 506 and 507, for a cell; 602 and 603, for runs of members; 604, for nested
+ *     types; and 702, for the rows that a signature refers to. clim_explain explains each.
  *
  * Returns CLIM_TOO_LONG for a root of more than 2^30 bytes, and CLIM_NO_MEMORY if memory runs out. Then, and if it
- * returns 0, the buffer is unchanged; if it returns another number, *refusal is. Ask with a room that usually suffices, for
- * each call checks the rows and makes the root anew: 4 bytes for each cell, the lengths of all texts and blobs and 5 for
- * each, 16 for each GUID, the user strings, and 1,000 are always enough. Reads the version, the user strings, the rows, and
- * what their cells point to. Allocates in proportion to these. */
+ * returns 0, the buffer is unchanged; if it returns another number, *refusal is. Call it with a room that usually
+ * suffices, for each call checks the rows and makes the root anew: 4 bytes for each cell, the lengths of all texts
+ * and blobs and 5 for each, 16 for each GUID, the user strings, and 1,000 are always enough. Reads the version, the
+ * user strings, the rows, and what their cells point to. Allocates in proportion to these. */
 size_t clim_tables(const uint8_t *version, size_t version_len, const uint8_t *user, size_t user_len,
                    const clim_row *rows, size_t row_count, uint8_t *buffer, size_t room, clim_refusal *refusal);
 
@@ -712,26 +712,27 @@ size_t clim_tables(const uint8_t *version, size_t version_len, const uint8_t *us
  *     if (len >= CLIM_NO_ROOM) puts("no copy");
  *     else if (len > room) puts("ask again with more room");
  *
- * If root_len is 0, the root is the file's own canonical root, as clim_canonical_root writes it, and nothing is read at
- * root. Any other root must lead into the file: it has the same number of rows of MethodDef and of FieldRVA, with the same
- * RVAs; its #US has the same bytes, padded with zeros to a multiple of four; and it has no fewer rows of File. So a
- * program can read all cells of a file, change names, flags or signatures, make a root with clim_tables, and embed that.
+ * If root_len is 0, the root is the file's own canonical root, as clim_canonical_root writes it, and nothing is read
+ * at root. Any other root must lead into the file: it has the same number of rows of MethodDef and of FieldRVA, with
+ * the same RVAs; its #US has the same bytes, padded with zeros to a multiple of four; and it has no fewer rows of
+ * File. So a program can read all cells of a file, change names, flags or signatures, make a root with clim_tables,
+ * and embed that.
  *
- * The root goes where the old one is, if it fits there; otherwise into a new section, or else into the last section, which
- * becomes longer. All other bytes of the file stay, but for these fields of headers: where the root is, the sections and
- * sizes that this changes, the strong name if it is cleared, the directory of the Certificate Table, which becomes 0, and
- * the checksum, which is computed again if it was not 0.
+ * The root goes where the old one is, if it fits there; otherwise into a new section, or else into the last section,
+ * which becomes longer. All other bytes of the file stay, but for these fields of headers: where the root is, the
+ * sections and sizes that this changes, the strong name if it is cleared, the directory of the Certificate Table,
+ * which becomes 0, and the checksum, which is computed again if it was not 0.
  *
- *   - CLIM_HEADERS_OVERLAP: the PE headers begin within the MS-DOS header; or the CLI header or the metadata comes before
- *     the end of the section headers.
+ *   - CLIM_HEADERS_OVERLAP: the PE headers begin within the MS-DOS header; or the CLI header or the metadata comes
+ *     before the end of the section headers.
  *   - CLIM_OCCUPIED: the range of the old root contains a header, a directory, a method body or the data of a field.
- *   - CLIM_NO_ROOM: the root is longer than the old one, there is no room for another section header, and the last section
- *     cannot become longer.
+ *   - CLIM_NO_ROOM: the root is longer than the old one, there is no room for another section header, and the last
+ *     section cannot become longer.
  *
- * Returns 0 if strong_name is not one of enum clim_strong_name. If it returns 0 or one of the numbers for no copy, the
- * buffer is unchanged. *fault is unchanged unless it returns CLIM_BAD_FILE or CLIM_BAD_ROOT. Each call opens the file and
- * the root anew, so ask with a room that usually suffices, such as size + root_len + 65,536. Reads the file and the root.
- * Allocates only if root_len is 0. */
+ * Returns 0 if strong_name is not one of enum clim_strong_name. If it returns 0 or one of the numbers for no copy,
+ * the buffer is unchanged. *fault is unchanged unless it returns CLIM_BAD_FILE or CLIM_BAD_ROOT. Each call opens the
+ * file and the root anew, so pass a room that usually suffices, such as size + root_len + 65,536. Reads the file and
+ * the root. Allocates only if root_len is 0. */
 size_t clim_embed(const uint8_t *file, size_t size, const uint8_t *root, size_t root_len, uint8_t strong_name,
                   uint8_t *buffer, size_t room, clim_fault *fault);
 

@@ -5,7 +5,7 @@
 //             foreach (var method in assembly.Methods(type))
 //                 Console.WriteLine(type.TypeName + "." + method.Name);
 //
-// A file is opened if and only if it meets all rules of ECMA-335 II.22 to II.25. Then each cell is proved to be that of
+// A file is opened if and only if it satisfies all rules of ECMA-335 II.22 to II.25. Then each cell is proved to be that of
 // the file's only model. Rows are structs with the names of the standard, and count from 1. Clim.Tables makes new metadata,
 // and Embed puts it into a copy of the file. It needs C# 6.
 //
@@ -67,7 +67,7 @@ namespace Clim
         public int? Row { get; }
 
         /// <summary>
-        /// The column, counted from 0; null if the rule is about no row. A rule about a whole row is reported at column 0.
+        /// The column, counted from 0; null if the rule is about no row. A rule about an entire row is reported at column 0.
         /// </summary>
         public int? Column { get; }
 
@@ -270,7 +270,7 @@ namespace Clim
         public override string ToString() { return Value.ToString("x8"); }
     }
 
-    /// <summary>The cell of a table that has a byte (II.24.2.6).</summary>
+    /// <summary>The cell of a table that contains a byte (II.24.2.6).</summary>
     public struct Location
     {
         /// <summary>The row.</summary>
@@ -309,7 +309,7 @@ namespace Clim
         Cell,
     }
 
-    /// <summary>The first that differs between two assemblies. What does not belong to its kind is 0.</summary>
+    /// <summary>The first difference between two assemblies. Fields that do not belong to its kind are 0.</summary>
     public struct Difference
     {
         /// <summary>What differs.</summary>
@@ -801,11 +801,11 @@ namespace Clim
 
         readonly Memory memory;
         readonly bool isBare;
-        // Texts by their addresses, for other rows that name them, and the number of characters that may be kept still. Texts
-        // of a crafted file can overlap, and then have much more bytes than the file.
+        // Texts by their addresses, for other rows that refer to them, and the number of characters that may be kept still. Texts
+        // of a crafted file can overlap, and then are much longer than the file.
         readonly Dictionary<IntPtr, string> texts = new Dictionary<IntPtr, string>();
         int unused;
-        // The type that encloses each type, by their rows; 0 if none does. A look-up for each type would walk the whole table,
+        // The type that encloses each type, by their rows; 0 if none does. A look-up for each type would walk the entire table,
         // if its rows are not in order.
         readonly Lazy<int[]> enclosing;
 
@@ -886,7 +886,7 @@ namespace Clim
             };
         }
 
-        /// <summary>The fault of the first rule that a file breaks, or null if it meets all rules.</summary>
+        /// <summary>The fault of the first rule that a file breaks, or null if it satisfies all rules.</summary>
         public static ClimFault Check(byte[] file)
         {
             var fault = new NativeFault();
@@ -1106,8 +1106,8 @@ namespace Clim
 
         /// <summary>
         /// The signature of a row in the notation of ILAsm (II.7.1, II.15.3), such as "method instance string *(int32, class
-        /// 01000007)". A type is named by its token. It is null if there is no such row, if it has no signature, or if the
-        /// text has more than 65,536 bytes, as those of crafted files can have.
+        /// 01000007)". A type is written as its token. It is null if there is no such row, if it has no signature, or if the
+        /// text has more than 65,536 bytes, as in crafted files.
         /// </summary>
         /// <exception cref="NotSupportedException">The library is older than this file.</exception>
         public string SignatureText(Token row)
@@ -1238,7 +1238,7 @@ namespace Clim
         }
 
         /// <summary>
-        /// The cell of a table that has the byte at an offset; null if no cell has it (II.24.2.6). The offset counts from
+        /// The cell of a table that contains the byte at an offset; null if no cell contains it (II.24.2.6). The offset counts from
         /// the start of the metadata root: of a file, subtract <c>RootStart</c> of its header first.
         /// </summary>
         /// <exception cref="NotSupportedException">The library is older than this file.</exception>
@@ -1252,7 +1252,7 @@ namespace Clim
         }
 
         /// <summary>
-        /// The first that differs between two assemblies; null if both have the same metadata, and so the same canonical
+        /// The first difference between two assemblies; null if both have the same metadata, and so the same canonical
         /// root: the version, the user strings, the number of rows of a table, or a cell.
         /// </summary>
         /// <exception cref="OutOfMemoryException">Memory ran out.</exception>
@@ -1266,7 +1266,7 @@ namespace Clim
 
         /// <summary>
         /// The namespace and the names of a type and of those that enclose it: <c>Namespace.Outer/Inner</c>. At most 64
-        /// types are named; <c>..</c> stands for those that enclose them.
+        /// types are written; <c>..</c> stands for those that enclose them.
         /// </summary>
         public string FullName(TypeDefRow type)
         {
@@ -1483,7 +1483,7 @@ namespace Clim
             }
         }
 
-        // It throws if a text has a surrogate without a partner.
+        // It throws if a text has an unpaired surrogate.
         static readonly Encoding utf8 = new UTF8Encoding(false, true);
         static readonly byte[] none = new byte[0];
 
@@ -1578,8 +1578,8 @@ namespace Clim
         }
 
         /// <summary>
-        /// Adds a user string, and returns its token, such as 0x70000001, which <c>ldstr</c> has (II.24.2.4). Surrogates that
-        /// have no partner may be in it.
+        /// Adds a user string, and returns its token, such as 0x70000001, as <c>ldstr</c> uses it (II.24.2.4). It may
+        /// contain unpaired surrogates.
         /// </summary>
         /// <exception cref="ArgumentException">It is too long, or <c>#US</c> has too many bytes for a token.</exception>
         public int AddUserString(string text)
@@ -1619,7 +1619,7 @@ namespace Clim
         /// opens it, with these rows.
         /// </summary>
         /// <exception cref="ClimRefusal">The tables break a rule. It is that of the first one.</exception>
-        /// <exception cref="ArgumentException">The version has a surrogate without a partner.</exception>
+        /// <exception cref="ArgumentException">The version has an unpaired surrogate.</exception>
         /// <exception cref="OverflowException">The root would have more than 2^30 bytes.</exception>
         /// <exception cref="OutOfMemoryException">Memory ran out.</exception>
         /// <exception cref="NotSupportedException">The library is older than this file.</exception>

@@ -7,7 +7,7 @@
             for method in type.methods:
                 print(type.full_name, method.name)
 
-A file is opened if and only if it meets all rules. Then each cell is proved to be that of the file's only model. What
+A file is opened if and only if it satisfies all rules. Then each cell is proved to be that of the file's only model. What
 `clim.open` returns has the tables by name, `assembly["TypeDef"]`, and their rows with a cell for each column,
 `row.TypeName`. `clim.rows` has the classes of rows. Rows count from 1, as in the standard.
 
@@ -79,10 +79,10 @@ def open(source: Source, bare: bool = False, *, mmap: bool = False, budget: Opti
             `bytes` are read in place. All others may change, so they are copied.
         bare: Whether it is a bare metadata root, without the file around it (II.24.2.1).
         mmap: Has no effect. The file of a path is read, and not mapped, since others could change it while it is open.
-        budget: The number of bytes of signatures that may be checked at most. Without it a crafted file can take long.
+        budget: The number of bytes of signatures that may be checked at most. Without it a crafted file can take a long time.
 
     Raises:
-        Fault: The bytes break a rule of the standard. It has the number, name and offset of the first one.
+        Fault: The bytes break a rule of the standard. The error states number, name and offset of the first one.
         BudgetSpent: The budget is spent.
         OSError: The file cannot be read.
         ValueError: The budget is negative, or has more than 64 bits.
@@ -92,7 +92,7 @@ def open(source: Source, bare: bool = False, *, mmap: bool = False, budget: Opti
 
 
 def check(source: Source, bare: bool = False, *, budget: Optional[int] = None) -> Optional[Fault]:
-    """`None` if a file, or a bare metadata root, meets all rules; else the fault of the first rule that it breaks.
+    """`None` if a file, or a bare metadata root, satisfies all rules; else the fault of the first rule that it breaks.
 
     `budget` is that of `open`.
 
@@ -107,9 +107,9 @@ def check(source: Source, bare: bool = False, *, budget: Optional[int] = None) -
 
 
 def compare(left: Assembly, right: Assembly) -> Optional[Difference]:
-    """The first that differs between two assemblies; `None` if they have the same metadata (II.22, II.24.2).
+    """The first difference between two assemblies; `None` if they have the same metadata (II.22, II.24.2).
 
-    Assemblies with the same metadata have the same canonical root. If not, the version string comes first, then the user
+    Assemblies with the same metadata have the same canonical root. Otherwise the version string is compared first, then the user
     strings, the numbers of rows in the order of the tables, and the cells in the order of tables, rows and columns.
 
     Raises:

@@ -161,7 +161,7 @@ class Assembly:
     or by number: `assembly["TypeDef"]`. Iterating gives the tables that have rows, in the order of their numbers.
 
     After `close`, each access to a table, a row or a heap is a `ValueError`. Values that were read before stay valid.
-    Threads may use one assembly at the same time, and close it.
+    Several threads may read one assembly; one of them may close it.
 
     Raises:
         Fault: The bytes break a rule of the standard. It is the first one in the order of docs/FAULTS.md.
@@ -312,7 +312,7 @@ class Assembly:
 
     @property
     def header(self) -> Optional[Header]:
-        """The CLI header (II.25.3.3), or `None` of a bare root."""
+        """The CLI header (II.25.3.3), or `None` for a bare root."""
         data = self._data
         self._view()
         return None if self._bare else header_of(data)
@@ -324,7 +324,7 @@ class Assembly:
 
     @property
     def heaps(self) -> Dict[str, bytes]:
-        """The bytes of the streams `#~`, `#Strings`, `#US`, `#GUID` and `#Blob` that the root has, by name (II.24.2.2)."""
+        """The bytes of the streams `#~`, `#Strings`, `#US`, `#GUID` and `#Blob` that the root contains, by name (II.24.2.2)."""
         data = self._data
         self._view()
         root = 0 if self._bare else header_of(data).root_start
@@ -342,9 +342,9 @@ class Assembly:
         return self.types.row(row) if row else None
 
     def user_string(self, token: int) -> str:
-        """The user string of a token such as `0x70000001`, which `ldstr` has (II.24.2.4).
+        """The user string of a token such as `0x70000001`, as `ldstr` uses it (II.24.2.4).
 
-        Surrogates that have no partner stay as they are.
+        Unpaired surrogates stay unchanged.
 
         Raises:
             KeyError: The token is another one, or `#US` has no user string there.
@@ -415,9 +415,9 @@ class Assembly:
         return _copy(data, given, StrongName(strong_name))
 
     def where(self, offset: int) -> Optional[Location]:
-        """The cell of a table that has the byte at an offset, or `None` if no cell has it (II.24.2.6).
+        """The cell of a table that contains the byte at an offset, or `None` if no cell contains it (II.24.2.6).
 
-        The offset counts from the start of the metadata root. Of a file, subtract `header.root_start` first.
+        The offset counts from the start of the metadata root. From an offset in a file, subtract `header.root_start` first.
 
         Raises:
             Unsupported: The library is older than this package.
@@ -430,7 +430,7 @@ class Assembly:
         return Location(_c.TABLE_NAMES[it.table], it.row, _c.COLUMN_NAMES[it.table][it.column], it.offset, it.size)
 
     def difference(self, other: Assembly) -> Optional[Difference]:
-        """The first that differs from another assembly; `None` if both have the same metadata. See `clim.compare`."""
+        """The first difference from another assembly; `None` if both have the same metadata. See `clim.compare`."""
         it = _c.DifferenceStruct()
         result = _c.canonical_length(library.clim_compare(self._view(), other._view(), ctypes.byref(it)))
         return None if result == _c.EQUAL else _difference_of(it)
@@ -540,7 +540,7 @@ class Assembly:
 class Blobs(Sequence[Any]):
     """The blobs of a column, each read when it is used.
 
-    Blobs and texts of a crafted file can overlap, and then have much more bytes than the file.
+    Blobs and texts of a crafted file can overlap, and then are much longer than the file.
     """
 
     def __init__(self, assembly: Assembly, addresses: List[int], lengths: List[int]) -> None:
@@ -559,7 +559,7 @@ class Blobs(Sequence[Any]):
         return self._addresses[index], self._lengths[index]
 
     def read(self) -> Sequence[Any]:
-        """All values, unless they have much more bytes than the file."""
+        """All values, unless they are much longer than the file."""
         data, base = self._assembly._data, self._assembly._at
         most = _MOST * len(data)
         if sum(self._lengths) <= most:

@@ -12,8 +12,8 @@
 
 Attributes in lower case follow the cells: `type.methods` are rows of MethodDef, `type.base` is a row or `None`.
 
-The first access to a cell reads the whole column, and the table keeps it. After `Assembly.close` each access is a
-`ValueError`. A file that meets all rules may still have rows that form circles, and names may be any text: see
+The first access to a cell reads the entire column, and the table stores it. After `Assembly.close` each access is a
+`ValueError`. A file that satisfies all rules may still have rows that form circles, and names may be any text: see
 docs/CLIENTS.md.
 """
 

@@ -90,7 +90,7 @@ class _Heap:
 
 
 class _SharedRow(MutableMapping[str, Any]):
-    """A row of an assembly whose names or blobs have much more bytes than the file. Each is read when it is used."""
+    """A row of an assembly whose names or blobs are much longer than the file. Each is read when it is used."""
 
     __slots__ = ("_columns", "_index", "_own")
 
@@ -236,7 +236,7 @@ class Tables:
     def of(cls, assembly: Assembly) -> Tables:
         """The tables of an assembly, copied: its version, its user strings and all rows.
 
-        Each row is a `dict`. If the names or blobs of a crafted assembly have much more bytes than the file, the rows are
+        Each row is a `dict`. If the names or blobs of a crafted assembly are much longer than the file, the rows are
         other mappings, whose cells are read when they are used.
         """
         shared = assembly._shared()
@@ -256,8 +256,8 @@ class Tables:
     def add(self, table: Union[str, int], *cells: Value, **columns: Value) -> Token:
         """Adds a row at the end of a table, and returns its token.
 
-        The cells are given in the order of the columns, or by the names of the columns. A column that is not named has 0, an
-        empty text or blob, or `None`. A run that is not named begins with the next row that its table gets: so add a type,
+        The cells are given in the order of the columns, or by the names of the columns. A column that you leave out is 0, an
+        empty text or blob, or `None`. A run that you leave out begins with the next row of its table: so add a type,
         then its fields and its methods, then the next type. A signature must be given.
 
         Raises:
@@ -284,15 +284,15 @@ class Tables:
         return Token.of(number, len(rows))
 
     def _default(self, column: str, kind: int) -> Value:
-        """The cell of a column that is not named."""
+        """The cell of a column that was left out."""
         if kind == _c.SIGNATURE:
             raise TypeError(f"the signature {column} is missing")
         return len(self[_MEMBERS[column]]) + 1 if kind == _c.START else _DEFAULTS[kind]
 
     def add_user_string(self, text: str) -> int:
-        """Adds a user string, and returns its token, such as 0x70000001, which `ldstr` has (II.24.2.4).
+        """Adds a user string, and returns its token, such as 0x70000001, as `ldstr` uses it (II.24.2.4).
 
-        Surrogates that have no partner may be in it.
+        It may contain unpaired surrogates.
 
         Raises:
             ValueError: It has 2**28 UTF-16 units or more, or `#US` has too many bytes for a token.

@@ -42,14 +42,14 @@ class Fault(Exception):
 
 
 class Refusal(Exception):
-    """The first rule that tables break, as `Tables.root` raises it. What the rule is not about is `None`.
+    """The first rule that tables break, as `Tables.root` raises it. Attributes that the rule does not concern are `None`.
 
     Attributes:
         code: The number of the rule, for example 506. docs/FAULTS.md explains each.
         name: The name of the rule, for example `"BadIndex"`.
         table: The name of the table, for example `"TypeDef"`.
         row: The row, counted from 1.
-        column: The name of the column, for example `"Extends"`. A rule about a whole row is reported at its first column.
+        column: The name of the column, for example `"Extends"`. A rule about an entire row is reported at its first column.
     """
 
     def __init__(
@@ -121,7 +121,7 @@ class BudgetSpent(Exception):
 
 
 class Location(NamedTuple):
-    """The cell of a table that has a byte, as `Assembly.where` returns it."""
+    """The cell of a table that contains a byte, as `Assembly.where` returns it."""
 
     #: The name of the table, for example `"TypeDef"`.
     table: str
@@ -136,7 +136,7 @@ class Location(NamedTuple):
 
 
 class Difference(NamedTuple):
-    """The first that differs between two assemblies, as `clim.compare` returns it. What does not belong to it is `None`."""
+    """The first difference between two assemblies, as `clim.compare` returns it. Attributes that do not belong to it are `None`."""
 
     #: What differs: `"version"`, `"user strings"`, `"row count"` or `"cell"`.
     kind: str
@@ -196,11 +196,11 @@ class Signature(bytes):
     def text(self) -> str:
         """The signature in the notation of ILAsm (II.7.1, II.15.3): `"method instance string *(int32, class 01000007)"`.
 
-        A type is named by its token, `assembly.row(0x01000007)`.
+        A type is written as its token, `assembly.row(0x01000007)`.
 
         Raises:
             Unsupported: The library is older than this package.
-            OverflowError: The text has more than 65,536 bytes, as those of crafted files can have.
+            OverflowError: The text has more than 65,536 bytes, as in crafted files.
             ValueError: The signature was not read from a row, or the assembly is closed.
         """
         if self.row is None:

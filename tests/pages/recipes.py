@@ -4,15 +4,16 @@
 - CONTRIBUTING.md: each file of a recipe is there, and contains each text that its line quotes at the end; the contract that
   it explains is that of the code.
 - Each command of these pages that is a file of the repository is there and can be run.
+- c/README.md names only what c/clim.h declares, and the calls in the table of docs/RATTLE.md are those of the crates.
 - docs/ARCHITECTURE.md has a line for each crate of crates.txt, and for no other. The program and the library for C stand on
   no crate that owns cells.
 - README.md has at most 80 lines, and the line of the toolchain that proves the crates.
-- README.md, CHANGELOG.md, docs/PROVED.md and docs/TRUST.md say the same, word for word, of what is proved of printing.
+- README.md and docs/PROVED.md say the same, word for word, of what is proved of printing.
 - CHANGELOG.md begins with the version of the program, which is in one place, in cli_arguments.
 - docs/TRUST.md: its files are there, and its counts of lines are those of the definitions.
 - edits/README.md: each edit that its examples name is there.
 - edits/each.txt says what each of its edits does, and each is there. Each crate with edits has one there or in must-fail/.
-- Each relative link of a page leads to a file, and to a heading if it names one.
+- Each relative link of a page leads to a file, and to a heading if it names one. Each path of a file that a page quotes is there.
 
 With --lines it only prints the definitions that docs/TRUST.md counts, with their lines. The last line is otherwise
 'N passed, M failed'.
@@ -24,11 +25,14 @@ import re
 import sys
 
 TOP = os.path.dirname(os.path.dirname(os.path.dirname(os.path.realpath(__file__))))
-PAGES = ["README.md", "CONTRIBUTING.md", "CHANGELOG.md", "docs/CLIENTS.md", "docs/ARCHITECTURE.md", "docs/STABILITY.md", "docs/TRUST.md"]
+PAGES = [
+    "README.md", "CONTRIBUTING.md", "CHANGELOG.md", "docs/CLIENTS.md", "docs/RATTLE.md", "docs/ARCHITECTURE.md", "docs/STABILITY.md",
+    "docs/TRUST.md", "c/README.md", "csharp/README.md", "python/README.md", "rust/README.md",
+]
 MORE_PAGES = ["edits/README.md", "tests/README.md", "samples/README.md"]
 README_LINES = 80
 # What these pages say of printing.
-PRINTING_PAGES = ["README.md", "CHANGELOG.md", "docs/PROVED.md", "docs/TRUST.md"]
+PRINTING_PAGES = ["README.md", "docs/PROVED.md"]
 PRINTING = """The calls for `root`, `check`, `show`, `types`, `outline`, `strings`, `token`, `where`, `digest` and `compare` write \
 exactly the text that `specs/` defines, to a writer whose bytes are known; if writing fails, a prefix of it. The toolchain states \
 nothing about the bytes that reach standard output, so what the program prints is tested. Its exit code is proved."""
@@ -39,6 +43,8 @@ RULES = ["Rattle.metadata.specs.Rules"]
 OWNERS = {"tables", "owned_model", "type_records", "records"}
 # The modules of c_values that make tables of the rows of a C caller.
 TABLE_MAKERS = {"made_root", "read_cell", "read_rows"}
+# The program that a reader of docs/RATTLE.md makes.
+MADE = "crates/list_types/src/main.rt"
 # How far a count on a page may be from the count of the files.
 TOLERANCE = 0.05
 
@@ -101,6 +107,14 @@ def check_contract(counts):
         counts.expect(f"{line}\n" in code, f"CONTRIBUTING.md: crates/root/src/root.rt has no line {line.strip()}")
 
 
+def check_paths(counts):
+    """Each file that a page names by its path is there, but for the one that a reader of the page makes."""
+    for page in sorted({*PAGES, *MORE_PAGES, *glob.glob("docs/*.md", root_dir=TOP)}):
+        for path in in_backticks(re.sub(r"^```.*?^```", "", text_of(page), flags=re.M | re.S)):
+            if re.fullmatch(r"(?:c|crates|csharp|docs|edits|python|rust|samples|tests)/[\w/.]*\.\w+", path) and path != MADE:
+                counts.expect(os.path.isfile(f"{TOP}/{path}"), f"{page}: {path} is not there")
+
+
 def check_commands(counts):
     """Each command of the repository that a page names is there, and can be run."""
     for page in PAGES:
@@ -108,6 +122,17 @@ def check_commands(counts):
             path = f"{TOP}/{command}"
             if not os.path.isdir(path):
                 counts.expect(os.access(path, os.X_OK), f"{page}: {command} is not there, or cannot be run")
+
+
+def check_calls(counts):
+    """The functions and types that the pages for C and Rattle name are there."""
+    header = text_of("c/clim.h")
+    for name in sorted({*re.findall(r"`(clim_\w+|CLIM_\w+)`", text_of("c/README.md"))}):
+        counts.expect(re.search(rf"\b{name}\b", header), f"c/README.md: c/clim.h has no {name}")
+    sources = "".join(map(text_of, sorted(glob.glob("crates/*/src/**/*.rt", root_dir=TOP, recursive=True))))
+    for name in sorted({*re.findall(r"`(?:\w+::)?(\w+)`", "".join(row[1] for row in table_rows(text_of("docs/RATTLE.md"))))}):
+        is_there = re.search(rf"\b(?:fn|struct|trait|enum) {name}\b", sources)
+        counts.expect(is_there, f"docs/RATTLE.md: no crate has {name}")
 
 
 def libraries():
@@ -264,8 +289,8 @@ def main():
             print(f"{page} is not there\n0 passed, 1 failed")
             return 1
     checks = [
-        check_recipes, check_contract, check_commands, check_crates, check_readme, check_printing, check_version, check_trust,
-        check_edits, check_each, check_links,
+        check_recipes, check_contract, check_paths, check_commands, check_calls, check_crates, check_readme, check_printing,
+        check_version, check_trust, check_edits, check_each, check_links,
     ]
     for check in checks:
         check(counts)

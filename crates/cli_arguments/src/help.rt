@@ -11,9 +11,9 @@ Look:
   root     Print the CLI header, and the version and the stream headers of the metadata root
   show     Print the rows of all tables, or of one
   types    Print the types, with the number of their fields and methods
-  outline  Print the declarations of the assembly, or of one type, as ILAsm writes them
+  outline  Print the declarations of the assembly, or of one type, in a notation close to ILAsm
   strings  Print the user strings, with their tokens
-  token    Print the row or the user string that each token names
+  token    Print the row or the user string of each token
   where    Print what the byte at an offset belongs to: a header, a stream or a cell
 
 Check:
@@ -35,12 +35,12 @@ Options:
   -h, --help     Print help
   -V, --version  Print version
 
-'clim <COMMAND> --help' has examples of each command. 'clim explain CODE' explains a fault.
+'clim <COMMAND> --help' shows examples of each command. 'clim explain CODE' explains a fault.
 
 Exit status:
   0  success
   1  FILE breaks a rule of the standard, printed as 'fault LAYER CODE at OFFSET: NAME';
-     or FILE has nothing that HEX names, no type NAME, or nothing at OFFSET; or its canonical
+     or there is no row or string for HEX, no type NAME, or nothing at OFFSET; or the canonical
      root has more than 2^30 bytes; or FILE and OTHER differ; or ROOT is refused, or does not fit
   2  usage error; FILE was not read
   3  I/O error, out of memory, or budget spent

@@ -1,4 +1,5 @@
-//! The name that an argument may have meant: the one that the fewest edits lead to.
+//! The name that an argument may have meant: the one that the fewest edits lead to (Levenshtein, ignoring case). An
+//! argument of more than 64 bytes gets no hint.
 //!
 //! [`nearest_table`], [`nearest_code`], [`nearest_column`] and [`nearest_command`] look for the name of a table, a rule, a column
 //! or a subcommand. [`report_missing_type`] reports that a file has no such type, with the name of the nearest one.

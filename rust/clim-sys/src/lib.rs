@@ -104,7 +104,7 @@ pub const CLIM_ROW: u8 = 7;
 pub const CLIM_START: u8 = 8;
 pub const CLIM_SIGNATURE: u8 = 9;
 
-/// The cell of a table that has a byte.
+/// The cell of a table that contains a byte.
 #[repr(C)]
 #[derive(Clone, Copy)]
 pub struct clim_location {

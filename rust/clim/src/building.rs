@@ -204,7 +204,7 @@ impl Tables {
     }
 }
 
-/// The range of a part in the root that has it.
+/// The range of a part in the root that contains it.
 fn range_of(part: &[u8], root: &[u8]) -> Range<usize> {
     if part.is_empty() {
         return 0..0;
@@ -213,7 +213,7 @@ fn range_of(part: &[u8], root: &[u8]) -> Range<usize> {
     start..start + part.len()
 }
 
-/// What a cell has. Its text, blob or signature is kept by `keep`, which returns where that is.
+/// What a cell contains. `keep` stores its text, blob or signature, and returns where that is.
 fn kept(cell: &Cell, keep: impl FnOnce(&[u8]) -> Range<usize>) -> KeptCell {
     let kept = KeptCell { content: 0..0, number: 0, kind: 0, table: 0, guid: [0; 16] };
     match *cell {

@@ -9,7 +9,7 @@ use clim_sys::{
 use std::error::Error;
 use std::fmt;
 
-/// The cell of a table that has a byte (II.24.2.6).
+/// The cell of a table that contains a byte (II.24.2.6).
 #[derive(Clone, Copy, Debug, PartialEq, Eq, Hash)]
 pub struct Location {
     /// The row.

@@ -1,6 +1,6 @@
 //! Reads the metadata of .NET assemblies (ECMA-335 II.22 to II.25), in place and proved, and makes new metadata.
 //!
-//! A file is opened if and only if it meets all rules. Then each cell is proved to be that of the file's only model. The
+//! A file is opened if and only if it satisfies all rules. Then each cell is proved to be that of the file's only model. The
 //! rows of the 38 tables are structs with a field for each column.
 //!
 //! ```
@@ -74,3 +74,8 @@ pub use refusal::{BuildError, Refusal};
 pub use rows::Row;
 pub use tables::{Table, Token};
 pub use view::{check, check_root, check_root_within, check_within, read_header, Header, View, DEPTH};
+
+/// The examples of `rust/README.md`, which have to compile.
+#[cfg(doctest)]
+#[doc = include_str!("../../README.md")]
+struct Readme;

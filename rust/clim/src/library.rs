@@ -11,7 +11,7 @@ pub(crate) const USUAL: usize = 256;
 ///
 /// # Safety
 ///
-/// `bytes` was written by a call of the library, and the bytes that it names live and do not change for `'a`.
+/// `bytes` was written by a call of the library, and the bytes that it points to live and do not change for `'a`.
 pub(crate) unsafe fn bytes<'a>(bytes: &clim_bytes) -> &'a [u8] {
     // SAFETY: The library writes an address that is not null, with the number of bytes that are there.
     unsafe { slice::from_raw_parts(bytes.at, bytes.len) }
@@ -51,7 +51,7 @@ pub(crate) fn written(write: impl Fn(&mut [u8]) -> usize) -> Option<String> {
     }
 }
 
-/// What `clim explain` prints of a rule, in lines that are not broken.
+/// What `clim explain` prints for a rule, in lines that are not broken.
 pub(crate) fn explanation(code: u16) -> Result<String, Unsupported> {
     Unsupported::unless(clim_sys::HAS_EXPLAIN, "clim_explain")?;
     // SAFETY: The pointer is valid for that number of bytes during the call.

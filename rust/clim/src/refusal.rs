@@ -10,7 +10,7 @@ use std::fmt;
 /// The rules that are about no table: those of the version and of the user strings.
 const WHOLE: [u16; 2] = [302, 510];
 
-/// The first rule that tables break. What the rule is not about is `None`.
+/// The first rule that tables break. Attributes that the rule does not concern are `None`.
 #[derive(Clone, Copy, Debug, PartialEq, Eq, Hash)]
 pub struct Refusal {
     /// The number of the rule, for example 506. `docs/FAULTS.md` explains each.
@@ -19,7 +19,7 @@ pub struct Refusal {
     pub table: Option<Table>,
     /// The row, counted from 1.
     pub row: Option<u32>,
-    /// The column, counted from 0. A rule about a whole row is reported at column 0.
+    /// The column, counted from 0. A rule about an entire row is reported at column 0.
     pub column: Option<usize>,
 }
 
@@ -79,7 +79,7 @@ impl fmt::Display for Refusal {
 
 impl Error for Refusal {}
 
-/// Why no root is made of tables.
+/// Why tables make no root.
 #[derive(Clone, Copy, Debug, PartialEq, Eq, Hash)]
 pub enum BuildError {
     /// The tables break a rule.

@@ -117,7 +117,7 @@ pub fn read_header(file: &[u8]) -> Result<Header, Fault> {
 #[derive(Clone)]
 pub struct View<'a> {
     view: clim_view,
-    /// The type that encloses each type, once it was asked for. A look-up for each type would walk the whole table, if its
+    /// The type that encloses each type, once it was asked for. A look-up for each type would walk the entire table, if its
     /// rows are not in order.
     enclosing: OnceLock<Vec<u32>>,
     bytes: PhantomData<&'a [u8]>,
@@ -325,8 +325,8 @@ impl<'a> View<'a> {
     }
 
     /// The signature of a row in the notation of ILAsm (II.7.1, II.15.3), such as `method instance string *(int32, class
-    /// 01000007)`. A type is named by its token. `None` if there is no such row, if it has no signature, or if the text has
-    /// more than 65,536 bytes, as those of crafted files can have.
+    /// 01000007)`. A type is written as its token. `None` if there is no such row, if it has no signature, or if the text has
+    /// more than 65,536 bytes, as in crafted files.
     ///
     /// # Errors
     ///
@@ -344,7 +344,7 @@ impl<'a> View<'a> {
         Ok(text.filter(|it| !it.is_empty()))
     }
 
-    /// The UTF-16 units of the user string of a token such as 0x70000001, which `ldstr` has (II.24.2.4). `None` if the
+    /// The UTF-16 units of the user string of a token such as 0x70000001, as `ldstr` uses it (II.24.2.4). `None` if the
     /// token is another one, or `#US` has no user string there. The units need not be valid UTF-16.
     ///
     /// # Errors
@@ -409,7 +409,7 @@ impl<'a> View<'a> {
         Ok(digest)
     }
 
-    /// The cell of a table that has the byte at an offset (II.24.2.6). `None` if no cell has it. The offset is in bytes from
+    /// The cell of a table that contains the byte at an offset (II.24.2.6). `None` if no cell contains it. The offset counts from
     /// the start of the metadata root: of a file, subtract [`Header`]'s `root_start` first.
     ///
     /// # Errors
@@ -423,7 +423,7 @@ impl<'a> View<'a> {
         Ok(if found { Location::new(&location) } else { None })
     }
 
-    /// The first that differs from another view: the version, the user strings, the number of rows of a table, or a cell.
+    /// The first difference from another view: the version, the user strings, the number of rows of a table, or a cell.
     /// `None` if both have the same metadata, and so the same canonical root.
     ///
     /// # Errors
@@ -441,7 +441,7 @@ impl<'a> View<'a> {
     }
 
     /// The namespace and the names of a type and of those that enclose it: `Namespace.Outer/Inner`. Empty if there is no
-    /// such type. At most [`DEPTH`] types are named; `..` stands for those that enclose them.
+    /// such type. At most [`DEPTH`] types are written; `..` stands for those that enclose them.
     pub fn full_name(&self, type_row: u32) -> String {
         let mut parts = Vec::new();
         let mut next = Some(type_row);

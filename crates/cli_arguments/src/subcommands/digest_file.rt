@@ -11,16 +11,17 @@ pub(crate) const USAGE: Usage<'static> = Usage {
         JSON,
     ],
     output: "\
-The line has the 64 hexadecimal digits of the digest, two spaces and FILE, as sha256sum prints it. The digest is
-that of the bytes that 'clim rewrite' writes: 'sha256sum OUT' has the same digits. Files with the same metadata
-have the same digest, whatever tool wrote them. Method bodies and resources do not count. In FILE, a quote, a
-backslash and a byte that is not printable ASCII become \\x and two hexadecimal digits. FILE is checked first, as
-by 'clim check'.
+Prints the 64 hexadecimal digits of the digest, two spaces and FILE, like sha256sum. The digest is that
+of the bytes that 'clim rewrite' writes: 'sha256sum OUT' prints the same digits. Files with the same
+rows in the same order have the same digest. Method bodies and resources do not count. In FILE, a quote,
+a backslash and a byte that is not printable ASCII become \\x and two hexadecimal digits. FILE is checked
+first, as by 'clim check'.
 
-Several FILEs have a line each, in the order given. A FILE that has none is reported to standard error with its
-name, and the next one follows. The exit status is the greatest.
+Several FILEs have a line each, in the order given. A FILE without a digest (it breaks a rule, or cannot
+be read) is reported to standard error with its name, and the next one follows. The exit status is the
+greatest.
 
-With '--json' each line is a JSON object (RFC 8259) with the 'digest' and the 'file'.
+'--json' prints a JSON object (RFC 8259) on each line, with the 'digest' and the 'file'.
 
 Examples:
   $ clim digest one_module.dll

@@ -9,12 +9,12 @@ pub(crate) const USAGE: Usage<'static> = Usage {
         JSON,
     ],
     output: "\
-The first line has the number of the fault, its name and what is wrong. The items after it are the rule,
-the section of ECMA-335, what OFFSET points to, and the usual cause if it is known. An empty line is between two
-faults. Without CODE there is one line for each fault.
+The first line has the number of the fault, its name and what is wrong. Then come the rule, the section
+of ECMA-335, what OFFSET points to, and the usual cause if it is known. An empty line separates two
+faults. Without CODE it prints one line for each fault.
 
-With '--json' there is a JSON object (RFC 8259) on a line for each fault: its 'code', 'name' and 'summary', and the
-'rule', the 'offset' and, if they are known, the 'section' and the 'cause'.
+'--json' prints a JSON object (RFC 8259) on a line for each fault: its 'code', 'name' and 'summary', and
+the 'rule', the 'offset' and, if they are known, the 'section' and the 'cause'.
 
 Examples:
   $ clim explain BadGuid

@@ -3,7 +3,7 @@ use crate::subcommands::{BARE, BUDGET, FILE, JSON, Usage};
 
 pub(crate) const USAGE: Usage<'static> = Usage {
     name: "outline",
-    about: "Print the declarations of the assembly, or of one type, as ILAsm writes them",
+    about: "Print the declarations of the assembly, or of one type, in a notation close to ILAsm",
     arguments: &[
         FILE,
         BARE,
@@ -12,21 +12,24 @@ pub(crate) const USAGE: Usage<'static> = Usage {
         argument!["part" Optional("NAME") "The type to print alone, by its full name or token"],
     ],
     output: "\
-There is a line for each declaration, in the notation of ILAsm (ECMA-335, II.5 to II.22). It ends with the token of its
-row in a comment. First come the assembly, what it refers to, the module, files, resources and exported types; then the
-types in the order of their rows, each with its fields, methods, events and properties, and accessors below these; then
-interfaces, generic parameters and their constraints, overrides, imports and custom attributes, table by table. Texts of
-FILE are escaped like the texts of 'clim show'. Of a name or signature of more than 65,536 bytes the first ones are
-printed, and '..'. FILE is checked first, as by 'clim check'.
+Prints a line for each declaration, in a notation close to ILAsm (ECMA-335, II.5 to II.22). A line ends
+with the token of its row in a comment. First come the assembly, what it refers to, the module, files,
+resources and exported types. Then come the types in the order of their rows, each with its fields,
+methods, events and properties, and accessors below these. Events, properties and accessors whose rows
+are out of order follow the types. Last come interfaces, generic parameters and their constraints,
+overrides, imports and custom attributes, table by table. Texts of FILE are escaped like the texts of
+'clim show'. Names and signatures longer than 65,536 bytes are cut and end in '..'. FILE is checked
+first, as by 'clim check'.
 
-NAME is the full name of a type: its namespace, a dot and its name, or its name alone. It is divided at its last dot. A
-nested type has no namespace. If several types have the same names, the first one is printed. Eight hexadecimal digits
-that begin with 02 are a token instead. Then there are only the lines of that type, its fields, methods, events and
-properties. If FILE has no such type, 'no such type' goes to standard error, and the exit status is 1.
+NAME is the full name of a type: its namespace, a dot and its name, or its name alone. It is divided at
+its last dot. A nested type has no namespace. If several types have the same names, the first one is
+printed. Eight hexadecimal digits that begin with 02 are a token instead. Only that type, its fields,
+methods, events and properties are printed. If FILE has no such type, 'no such type' is written to
+standard error, and the exit status is 1.
 
-With '--json' each line is a JSON object (RFC 8259) with the 'token' of the row, the 'directive' and the 'text' of the
-declaration. The directive is its first word, and the text is the line without spaces before it and without the comment.
-A field, method, event or property also has the token of its 'type'.
+'--json' prints a JSON object (RFC 8259) on each line, with the 'token' of the row, the 'directive' and
+the 'text' of the declaration. The directive is its first word. The text is the line without spaces
+before it and without the comment. A field, method, event or property also has the token of its 'type'.
 
 Examples:
   $ clim outline --bare two_types.root

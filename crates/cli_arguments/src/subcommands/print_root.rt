@@ -6,14 +6,14 @@ pub(crate) const USAGE: Usage<'static> = Usage {
     about: "Print the CLI header, and the version and the stream headers of the metadata root",
     arguments: &[FILE, BARE, JSON],
     output: "\
-For a PE file the first line is 'cli MAJOR.MINOR flags F entry E root OFFSET SIZE' (ECMA-335, II.25.3.3).
-F and E are hexadecimal, and OFFSET is an offset in the file. Then there is 'version TEXT', and for each
-stream header 'stream OFFSET SIZE NAME' (II.24.2.1 and II.24.2.2), with an OFFSET in the root. In TEXT and
-NAME, a quote, a backslash and a byte that is not printable ASCII become \\x and two hexadecimal digits.
-Tables, heaps and signatures are not checked.
+For a PE file the first line is 'cli MAJOR.MINOR flags F entry E root OFFSET SIZE' (ECMA-335,
+II.25.3.3). F and E are hexadecimal, and OFFSET is an offset in the file. Then it prints 'version TEXT',
+and for each stream header 'stream OFFSET SIZE NAME' (II.24.2.1 and II.24.2.2), with an OFFSET in the
+root. In TEXT and NAME, a quote, a backslash and a byte that is not printable ASCII become \\x and two
+hexadecimal digits. Tables, heaps and signatures are not checked.
 
-With '--json' each line is a JSON object (RFC 8259), whose one member is 'cli', 'version' or 'stream'. A fault
-is printed to standard error as without it.
+'--json' prints a JSON object (RFC 8259) on each line, whose one member is 'cli', 'version' or 'stream'.
+A fault is printed to standard error as without the option.
 
 Examples:
   $ clim root one_module.dll

@@ -6,13 +6,15 @@ pub(crate) const USAGE: Usage<'static> = Usage {
     about: "Print the user strings, with their tokens",
     arguments: &[FILE, BARE, BUDGET, JSON],
     output: "\
-There is a line 'TOKEN TEXT' for each entry of '#US' that has bytes (ECMA-335, II.24.2.4), in the order of their
-offsets. 'clim token' prints the entry that TOKEN names. The entries follow one another from offset 1, up to the
-end, to offset 0x1000000, or to bytes that are no user string. In TEXT, a backslash and a unit that
-is not printable ASCII become \\u and four hexadecimal digits. FILE is checked first, as by 'clim check'.
+Prints a line 'TOKEN TEXT' for each entry of '#US' that is not empty (ECMA-335, II.24.2.4), in the order
+of their offsets. 'clim token' prints the entry of a TOKEN. The entries follow one another from offset
+1, up to the end, to offset 0x1000000, or to bytes that are no user string. In TEXT, a backslash and a
+unit that is not printable ASCII become \\u and four hexadecimal digits. FILE is checked first, as by
+'clim check'.
 
-With '--json' each line is a JSON object (RFC 8259) with the 'token' and the 'text', or the numbers of the text as
-'units' if it is not well-formed UTF-16. A fault is printed to standard error as without it.
+'--json' prints a JSON object (RFC 8259) on each line, with the 'token' and the 'text', or the numbers
+of the text as 'units' if it is not well-formed UTF-16. A fault is printed to standard error as without
+the option.
 
 Examples:
   $ clim strings --bare two_strings.root

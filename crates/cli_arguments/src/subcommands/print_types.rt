@@ -6,12 +6,12 @@ pub(crate) const USAGE: Usage<'static> = Usage {
     about: "Print the types, with the number of their fields and methods",
     arguments: &[FILE, BARE, BUDGET, JSON],
     output: "\
-There is a line 'TOKEN NAME FIELDS METHODS' for each row of TypeDef (ECMA-335, II.22.37). NAME begins with the
-namespace and a dot, if there is a namespace, and is escaped like the texts of 'clim show'. FILE is checked
-first, as by 'clim check'.
+Prints a line 'TOKEN NAME FIELDS METHODS' for each row of TypeDef (ECMA-335, II.22.37). NAME begins with
+the namespace and a dot, if there is a namespace, and is escaped like the texts of 'clim show'. FILE is
+checked first, as by 'clim check'.
 
-With '--json' each line is a JSON object (RFC 8259) with the same values, the namespace apart. A fault is
-printed to standard error as without it.
+'--json' prints a JSON object (RFC 8259) on each line with the same values, the namespace apart. A fault
+is printed to standard error as without the option.
 
 Examples:
   $ clim types --bare two_types.root

@@ -1,4 +1,4 @@
-//! `clim where`: what has the byte at an offset of a file.
+//! `clim where`: what contains the byte at an offset of a file.
 use crate::subcommands::{BARE, BUDGET, FILE, JSON, Usage};
 
 pub(crate) const USAGE: Usage<'static> = Usage {
@@ -12,22 +12,28 @@ pub(crate) const USAGE: Usage<'static> = Usage {
         argument!["second" Required("OFFSET") "The offset: decimal, or hexadecimal after '0x'"],
     ],
     output: "\
-There is a line 'START SIZE WHAT' for each structure that has the byte, the outermost first. START is its offset in
-FILE. OFFSET counts from the first byte of FILE, like the OFFSET of a fault. The structures are the headers of the PE
-file with their fields and data directories (ECMA-335, II.25.2), section headers and sections (II.25.3), the CLI header
-with its fields and what it names (II.25.3.3), the metadata root and its fields, the stream headers (II.24.2.1,
-II.24.2.2), the streams of the standard, and the fields, row counts and cells of the table stream (II.24.2.6). A
-section has its number from 1 and its name. A cell has its table, its row from 1, and its column from 0 and by name
-(II.22); the padding byte of Constant has no column. A string, GUID or blob of a heap has the cell that names it; there
-are lines of the first ten cells (II.24.2.3 to II.24.2.5). A user string has its token. The names of streams and
-sections are escaped like the texts of 'clim show'. If no structure has the byte, the output is 'nothing', and the exit
-status is 1. FILE is checked first, as by 'clim check'. If it breaks a rule, the lines are those of what breaks none,
-down to the cells. The fault follows on standard error.
+Prints a line 'START SIZE WHAT' for each structure that contains the byte, the outermost first. START is
+its offset in FILE. OFFSET counts from the first byte of FILE, like the OFFSET of a fault. If nothing
+contains the byte, it prints the word 'nothing' and exits with status 1.
 
-With '--json' each line is a JSON object (RFC 8259) with the 'offset', the 'size' and the 'structure' that has the
-byte. A 'cell' also has its 'table', 'row' and 'column', and 'padding' the first two. A 'string', 'guid' or 'blob' has
-its 'stream' and those of the cell that names it, and a 'user string' its 'stream' and 'token'. If no structure has the
-byte, there is no line.
+Structures are the headers of the PE file with their fields and data directories (ECMA-335, II.25.2),
+section headers and sections (II.25.3), the CLI header with its fields and the parts that it refers to
+(II.25.3.3), the metadata root and its fields, the stream headers (II.24.2.1, II.24.2.2), the streams of
+the standard, and the fields, row counts and cells of the table stream (II.24.2.6). Lines of these heap
+entries follow: a string, GUID or blob with each of the first ten cells that refer to it, and a user
+string with its token (II.24.2.3 to II.24.2.5).
+
+A section has its number from 1 and its name. A cell has its table, its row from 1, and its column from
+0 and by name (II.22); the padding byte of Constant has no column. The names of streams and sections are
+escaped like the texts of 'clim show'.
+
+FILE is checked first, as by 'clim check'. If it breaks a rule, only the parts that are valid are
+described, down to the cells. The fault follows on standard error, and the exit status is 1.
+
+'--json' prints a JSON object (RFC 8259) on each line, with the 'offset', the 'size' and the 'structure'
+that contains the byte. A 'cell' also has its 'table', 'row' and 'column', and 'padding' the first two.
+A 'string', 'guid' or 'blob' has its 'stream' and those of the cell that refers to it. A 'user string'
+has its 'stream' and 'token'. If nothing contains the byte, nothing is printed.
 
 Examples:
   $ clim where one_module.dll 0x208

@@ -14,8 +14,9 @@ pub(crate) const USAGE: Usage<'static> = Usage {
         argument!["until-fault" Flag "Print the rows before the first fault, too, and then the fault"],
     ],
     output: "\
-For each table that has rows (ECMA-335, II.22) there is a line 'table NN NAME COUNT', with the number NN of the
-table in hexadecimal. Then there is a line for each row: its number and its cells. A cell is one of these:
+Prints for each table that has rows (ECMA-335, II.22) a line 'table NN NAME COUNT', with the number NN
+of the table in hexadecimal. Then it prints a line for each row: its number and its cells. A cell is one
+of these:
   \"..\"  a text; a quote, a backslash and a byte that is not printable ASCII become \\x and two hexadecimal
         digits
   <..>  bytes in hexadecimal, or a signature in its canonical encoding (II.23.2)
@@ -25,7 +26,7 @@ table in hexadecimal. Then there is a line for each row: its number and its cell
   a decimal number, or the token of a row in eight hexadecimal digits
 FILE is checked first, as by 'clim check'. If it breaks a rule, only the fault is printed.
 
-TABLE is the name or the number of a table. Then there is nothing if it has no rows. The tables are:
+TABLE is the name or the number of a table. Only its rows are printed. The tables are:
   00 Module          01 TypeRef         02 TypeDef         04 Field           06 MethodDef
   08 Param           09 InterfaceImpl   0A MemberRef       0B Constant        0C CustomAttribute
   0D FieldMarshal    0E DeclSecurity    0F ClassLayout     10 FieldLayout     11 StandAloneSig
@@ -36,18 +37,18 @@ TABLE is the name or the number of a table. Then there is nothing if it has no r
   28 ManifestResource                   29 NestedClass     2A GenericParam    2B MethodSpec
   2C GenericParamConstraint
 
-With '--names' the line of a row begins with its token instead of its number, and each cell follows the name of its
-column and an equals sign. So a line says by itself which row it is: 'clim show --names FILE | grep TypeName=' finds
-rows that 'clim token' prints.
+'--names' begins the line of a row with its token instead of its number, and prints the name of the
+column and an equals sign before each cell. So each line says which row it is:
+'clim show --names FILE | grep TypeName=' finds rows that 'clim token' prints.
 
-With '--until-fault' the rows of a broken FILE before its first fault are printed, too. They come before the first
-row that breaks a rule for cells (layer 5 of 'clim check --help'). There are none if a rule of layers 1 to 4 is
-broken, and all rows are printed if only a later rule is. The blob of a broken signature is printed as it is. After
-the rows the fault goes to standard error, and the exit status is 1.
+'--until-fault' also prints the rows of a broken FILE, up to the first row with a bad cell (layer 5 of
+'clim check --help'). It prints no row if a rule of layers 1 to 4 is broken, and all rows if only a
+later rule is. The blob of a broken signature is printed as bytes. After the rows the fault is written
+to standard error, and the exit status is 1.
 
-With '--json' there is a line for each row: a JSON object (RFC 8259) with its 'table', 'row' and 'token', and then
-its cells by the names of their columns. A signature is an object with its bytes as 'blob' and its 'text' in the
-notation of ILAsm. A fault is printed to standard error as without it.
+'--json' prints a JSON object (RFC 8259) for each row, with its 'table', 'row' and 'token', and then its
+cells by the names of their columns. A signature is an object with its bytes as 'blob' and its 'text' in
+the notation of ILAsm. A fault is printed to standard error as without the option.
 
 Examples:
   $ clim show --bare one_module.root
