@@ -62,9 +62,9 @@ dot_is b is = go (ltb b 65) (ltb b 91) (ltb-false b 65) is
     go false false from same = same
 
 -- a text that does not begin with a dot does not in lower case
-dotless : (tail : List ℕ) → ((more : List ℕ) → tail ≢ 46 ∷ more) → (rest : List ℕ) → map to_ascii_lowercase tail ≡ 46 ∷ rest → ⊥
-dotless [] none rest is = cc
-dotless (b ∷ bs) none rest is = none bs (ap (λ c. c ∷ bs) (dot_is b (ap (λ (xs : List ℕ). get_or xs 0 0) is)))
+dotless : (tail : List ℕ) → ((more : List ℕ) → tail ≢ 46 ∷ more) → (after : List ℕ) → map to_ascii_lowercase tail ≡ 46 ∷ after → ⊥
+dotless [] none after is = cc
+dotless (b ∷ bs) none after is = none bs (ap (λ c. c ∷ bs) (dot_is b (ap (λ (xs : List ℕ). get_or xs 0 0) is)))
 
 -- an argument, and the name of a table
 module _ (word : List ℕ) (table : TableId) where
@@ -76,7 +76,7 @@ module _ (word : List ℕ) (table : TableId) where
       sym (length-map word to_ascii_lowercase) ∙ ap length named.1 ∙ length-map full to_ascii_lowercase ∙ length-append (table_name table) (46 ∷ column_name table cell_index) in
       absurd (omega (arith, short, same))
 
-  -- the part of it that is as long as that name, and the rest
+  -- the part of it that is as long as that name, and the after
   module _ (first tail : List ℕ) (is : word ≡ first ++ tail) (long : length first ≡ length (table_name table)) where
     halves : (cell_index : ℕ) → NamesColumn word table cell_index
         → (map to_ascii_lowercase first ≡ map to_ascii_lowercase (table_name table)) × (map to_ascii_lowercase tail ≡ 46 ∷ map to_ascii_lowercase (column_name table cell_index))
@@ -103,10 +103,10 @@ module _ (word : List ℕ) (table : TableId) where
       column_there : map to_ascii_lowercase first ≡ map to_ascii_lowercase (table_name table) → (cell_index : ℕ) → cell_index < cell_count table
           → map to_ascii_lowercase name ≡ map to_ascii_lowercase (column_name table cell_index) → NamesColumn word table cell_index
       column_there begins cell_index within same =
-          let rest : map to_ascii_lowercase tail ≡ 46 ∷ map to_ascii_lowercase (column_name table cell_index) =
+          let after : map to_ascii_lowercase tail ≡ 46 ∷ map to_ascii_lowercase (column_name table cell_index) =
           ap (map to_ascii_lowercase) dotted ∙ ap (λ (xs : List ℕ). 46 ∷ xs) same in (
             within,
-            ap (map to_ascii_lowercase) is ∙ map-append to_ascii_lowercase first tail ∙ (λ k. begins k ++ rest k)
+            ap (map to_ascii_lowercase) is ∙ map-append to_ascii_lowercase first tail ∙ (λ k. begins k ++ after k)
                 ∙ sym (map-append to_ascii_lowercase (table_name table) (46 ∷ column_name table cell_index)),
           )
 

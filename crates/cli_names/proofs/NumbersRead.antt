@@ -113,5 +113,5 @@ pub without_prefix : (word : List ℕ) → ((digits : List ℕ) → word ≢ cod
 without_prefix word lacks = go (bytes_eq (take 2 word) (codes "0x")) (bytes_eq-Decides (take 2 word) (codes "0x"))
   where
     go : (begins : Bool) → Decides begins (take 2 word ≡ codes "0x") → word ≡ cond begins (drop 2 word) word
-    go true decides = absurd (lacks (drop 2 word) (sym (take-append-drop 2 word) ∙ ap (λ front. front ++ drop 2 word) (decides.0 refl)))
+    go true decides = absurd (lacks (drop 2 word) (sym (take-append-drop 2 word) ∙ ap (λ prefix. prefix ++ drop 2 word) (decides.0 refl)))
     go false decides = refl
