@@ -76,7 +76,7 @@ module _ (word : List ℕ) (table : TableId) where
       sym (length-map word to_ascii_lowercase) ∙ ap length named.1 ∙ length-map full to_ascii_lowercase ∙ length-append (table_name table) (46 ∷ column_name table cell_index) in
       absurd (omega (arith, short, same))
 
-  -- the part of it that is as long as that name, and the after
+  -- the part of it that is as long as that name, and what follows it
   module _ (first tail : List ℕ) (is : word ≡ first ++ tail) (long : length first ≡ length (table_name table)) where
     halves : (cell_index : ℕ) → NamesColumn word table cell_index
         → (map to_ascii_lowercase first ≡ map to_ascii_lowercase (table_name table)) × (map to_ascii_lowercase tail ≡ 46 ∷ map to_ascii_lowercase (column_name table cell_index))
