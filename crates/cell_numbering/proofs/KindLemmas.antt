@@ -178,16 +178,6 @@ no_value k (seen.Ref reference) cell column other shown = subst IsInNoHeap (sym 
 no_value k (seen.Start start) cell column other shown = subst IsInNoHeap (sym shown) tt
 no_value k (seen.Sig blob) cell column other shown = absurd (no_signature k blob.now cell column shown)
 
--- in a column of texts, each value is a text
-pub is_text : (value : CellRef) (cell : Cell) → Shows kind.Text value cell → IsOfKind kind.Text cell → ((text : Bor (List ℕ)) → value ≡ seen.Text text → ⊥) → ⊥
-is_text (seen.Number number) cell shown of none = subst (IsOfKind kind.Text) shown of
-is_text (seen.Text text) cell shown of none = none text refl
-is_text (seen.Bytes blob) cell shown of none = subst (IsOfKind kind.Text) shown of
-is_text (seen.Guid guid) cell shown of none = subst (IsOfKind kind.Text) shown of
-is_text (seen.Ref token) cell shown of none = subst (IsOfKind kind.Text) shown of
-is_text (seen.Start start) cell shown of none = subst (IsOfKind kind.Text) shown of
-is_text (seen.Sig blob) cell shown of none = shown
-
 -- a cell in a column of texts has no GUID and no blob
 pub record IsOnlyText (cell : Cell) : Type 0 where
   pub guids : guid_of cell ≡ []
@@ -201,7 +191,3 @@ text_alone cell of = absurd of
 pub record IsNoText (cell : Cell) : Type 0 where
   pub texts : texts_of cell ≡ []
   pub guids : guid_of cell ≡ []
-
-pub signature_has_none : (encoded : SigKind) (bytes : SignatureBytes) (cell : Cell) → AreBytesOf encoded bytes cell → IsNoText cell
-signature_has_none encoded (Stored blob) cell are = record { texts = ap texts_of are.2; guids = ap guid_of are.2 }
-signature_has_none encoded (Canonical bytes) cell are = record { texts = ap texts_of are.2; guids = ap guid_of are.2 }

@@ -40,8 +40,3 @@ ended_same heap start a b x y =
 pub no_text : (heap : List ℕ) (start : ℕ) (bytes : List ℕ) → 0 < start → IsEnded heap start bytes → ¬ IsUtf8 bytes → ¬ ((text : List ℕ) × IsText heap start text)
 no_text heap start bytes some ended not (text, inl none) = absurd (omega (arith, none.0))
 no_text heap start bytes some ended not (text, inr is) = not (subst IsUtf8 (ended_same heap start text bytes is.1 ended) is.2)
-
--- a text above 0 is ended bytes
-pub text_ended : (heap : List ℕ) (start : ℕ) (text : List ℕ) → 0 < start → IsText heap start text → IsEnded heap start text × IsUtf8 text
-text_ended heap start text some (inl none) = absurd (omega (arith, none.0))
-text_ended heap start text some (inr is) = (is.1, is.2)

@@ -56,12 +56,3 @@ module _ (read : (n : ℕ) (prefix tail : List ℕ) → IsPacked n prefix → un
       ap (λ n. drop n heap) (sym at.at) ∙ ap (λ (h : List ℕ). drop (length at.before) h) at.whole
       ∙ drop-append_seam at.before (at.count ++ (blob ++ at.after)) in
       ap counted_length behind ∙ counted_is at.count blob at.after at.counts
-
--- a signature cell has the same number of bytes as the blob of its number
-pub cell_is : ((n : ℕ) (prefix tail : List ℕ) → IsPacked n prefix → unsigned_at (prefix ++ tail) ≡ Some (n, length prefix))
-    → (source : Source) (table : TableId) (column row number : ℕ) (encoded : SigKind) (blob : List ℕ) → 1 ≤ row → (column_at table column).kind ≡ kind.Signature encoded
-    → number ≡ number_of source table row column → IsBlob source.blobs number blob → cell_bytes source table column (row - 1) ≡ length blob
-unfolding cell_bytes
-cell_is read source table column row number encoded blob first of_kind is_number at =
-    let again : row - 1 + 1 ≡ row = omega arith in
-    rw (of_kind, again, ← is_number) (blob_is read source.blobs number blob at)

@@ -59,11 +59,6 @@ encoded_in kind (Canonical bytes) cell signature short_encodes (other, items, is
 pub held_in : (column : SigKind) (signature : Body) → IsHeld (kind.Signature column) (Sig signature) → Holds column signature × IsEncodable signature
 held_in column signature held = held
 
--- what holds if a sink took all holds if the result is `Ok`
-pub when_ok : {E : Type 0} {P : Type 0} {result : Result (Unit {0}) E} (written : Option (Unit {0})) (e : E) → result ≡ ok_or written e → (is_some written ≡ true → P) → OnOk result P
-when_ok {P = P} None e is holds = rw is tt
-when_ok {P = P} (Some u) e is holds = rw is (holds refl)
-
 pub when_taken : {P : Type 0} (written : Option (Unit {0})) → (is_some written ≡ true → P) → OnSome written P
 when_taken None holds = tt
 when_taken (Some u) holds = holds refl

@@ -13,10 +13,6 @@ guid_stands heap number start tail guid at within behind enough is = record {
   long = ap length is ∙ length-take-le 16 tail enough;
 }
 
--- an entry ends within the heap, and is the sixteen bytes at its offset
-pub guid_within : (heap : List ℕ) (number : ℕ) (guid : List ℕ) → IsGuidEntry heap number guid → 16 * (number - 1) + 16 ≤ length heap
-guid_within heap number guid e = omega (arith, ap length e.whole, length-append e.before (guid ++ e.after), length-append guid e.after, e.at, e.long)
-
 pub guid_is : (heap : List ℕ) (number start : ℕ) (guid : List ℕ) → start ≡ 16 * (number - 1) → IsGuidEntry heap number guid → take 16 (drop start heap) ≡ guid
 guid_is heap number start guid at e = ap (take 16) (ap (drop start) e.whole ∙ drop_at e.before (guid ++ e.after) start (e.at ∙ sym at)) ∙ take_at guid e.after 16 e.long
 
@@ -24,7 +20,3 @@ guid_is heap number start guid at e = ap (take 16) (ap (drop start) e.whole ∙ 
 pub only_guid : (heap : List ℕ) (index start : ℕ) (found : List ℕ) (guid : Option (List ℕ)) → 0 < index → start ≡ 16 * (index - 1) → found ≡ take 16 (drop start heap) → IsGuid heap index guid → Some found ≡ guid
 only_guid heap index start found None some at is null = absurd (omega (arith, null))
 only_guid heap index start found (Some guid) some at is entry = ap Some (is ∙ guid_is heap index start guid at entry.1)
-
-pub no_guid : (heap : List ℕ) (index : ℕ) (guid : Option (List ℕ)) → 0 < index → length heap < 16 * (index - 1) + 16 → IsGuid heap index guid → ⊥
-no_guid heap index None some short null = omega (arith, null)
-no_guid heap index (Some guid) some short entry = omega (arith, guid_within heap index guid entry.1)

@@ -62,15 +62,6 @@ values_more f xs i x long new old k h = ⊎_elim
     (λ (ge : i ≤ k). let e : i ≡ k = omega arith in get_or_push xs x 0 k (long ∙ e) ∙ new ∙ ap f e)
     (cases_lt k i)
 
--- one more number at the end of a list of numbers that are related to their indexes
-pub related_more : (R : ℕ → ℕ → Type 0) (xs : List ℕ) (i x : ℕ) → length xs ≡ i → R i x → ((k : ℕ) → k < i → R k (get_or xs k 0)) → (k : ℕ) → k < i + 1 → R k (get_or (xs ++ x ∷ []) k 0)
-related_more R xs i x long new old k h = ⊎_elim
-    (λ (lt : k < i). subst (R k) (sym (get_or_append_left xs (x ∷ []) 0 k (omega arith))) (old k lt))
-    (λ (ge : i ≤ k).
-    let e : i ≡ k = omega arith in
-    subst (λ n. R n (get_or (xs ++ x ∷ []) n 0)) e (subst (R i) (sym (get_or_push xs x 0 i long)) new))
-    (cases_lt k i)
-
 -- a text at the end of an entry is at its index in the heap
 pub stands_in : (before : List (List ℕ)) (entry : List ℕ) (after : List (List ℕ)) (prefix text : List ℕ) → entry ≡ prefix ++ text
     → take (length text) (drop (1 + length (ended before) + length prefix) (0 ∷ ended (before ++ entry ∷ after))) ≡ text

@@ -34,10 +34,6 @@ pub not_true : (b : Bool) → not b ≡ true → b ≡ false
 not_true true h = absurd (true≢false (sym h))
 not_true false h = refl
 
-pub not_false : (b : Bool) → not b ≡ false → b ≡ true
-not_false true h = refl
-not_false false h = absurd (true≢false h)
-
 pub differ_from_false : (x y : List ℕ) → bytes_eq x y ≡ false → x ≡ y → ⊥
 differ_from_false x y h e = true≢false (sym (nat_list_eq_equiv.refl x) ∙ ap (bytes_eq x) e ∙ h)
 

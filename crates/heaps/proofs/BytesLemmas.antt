@@ -16,10 +16,6 @@ pub take_begun : (heap tail : List ℕ) → take (length heap) (begun heap ++ ta
 take_begun [] tail = refl
 take_begun (byte ∷ bytes) tail = take_at (byte ∷ bytes) tail (length (byte ∷ bytes)) refl
 
-pub take_begun-alone : (heap : List ℕ) → take (length heap) (begun heap) ≡ heap
-take_begun-alone [] = refl
-take_begun-alone (byte ∷ bytes) = take_all (length (byte ∷ bytes)) (byte ∷ bytes) (omega arith)
-
 -- the old bytes of the heap are a prefix also if a longer prefix is kept
 pub take_shorter : (heap middle new : List ℕ) (len n : ℕ) → len ≡ length heap → n ≡ length (begun heap ++ middle) → take n new ≡ begun heap ++ middle → take len new ≡ heap
 take_shorter heap middle new len n short long same =

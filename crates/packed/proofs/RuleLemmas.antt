@@ -11,14 +11,6 @@ none_fails [] found all first = first
 none_fails (d ∷ ds) found all (inl fails) = fails.0 all.0
 none_fails (d ∷ ds) found all (inr later) = none_fails ds found all.1 later.1
 
--- at most one error is the first
-pub first_is_one : {F : Type 0} (ds : List (Rule F)) (a b : F) → FirstBroken ds a → FirstBroken ds b → a ≡ b
-first_is_one [] a b x y = absurd x
-first_is_one (d ∷ ds) a b (inl x) (inl y) = x.1 ∙ sym y.1
-first_is_one (d ∷ ds) a b (inl x) (inr y) = absurd (x.0 y.0)
-first_is_one (d ∷ ds) a b (inr x) (inl y) = absurd (y.0 x.0)
-first_is_one (d ∷ ds) a b (inr x) (inr y) = first_is_one ds a b x.1 y.1
-
 -- the error of a result is that of the first broken rule
 pub reports_first : {X F : Type 0} (ds : List (Rule F)) (r : Result X F) → Reports ds r → IfErr r (FirstBroken ds)
 reports_first ds (Ok x) all = tt

@@ -66,24 +66,7 @@ pub all_weaker : {X : Type 0} (P Q : X → Type 0) → ((x : X) → P x → Q x)
 all_weaker P Q each [] all = tt
 all_weaker P Q each (x ∷ xs) all = (each x all.0, all_weaker P Q each xs all.1)
 
-pub all_at : {X : Type 0} (P : X → Type 0) (xs : List X) (k : ℕ) (d : X) → k < length xs → AllByRecursion P xs → P (get_or xs k d)
-all_at P [] k d below all = absurd (omega arith)
-all_at P (x ∷ xs) zero d below all = all.0
-all_at P (x ∷ xs) (suc k) d below all = all_at P xs k d (omega arith) all.1
-
 -- ---- items from an index on
-
-pub from_length : {X : Type 0} (P : ℕ → X → Type 0) (i n : ℕ) (xs : List X) → AreFrom P i n xs → length xs ≡ n
-from_length P i zero [] are = refl
-from_length P i zero (x ∷ xs) are = absurd are
-from_length P i (suc n) [] are = absurd are
-from_length P i (suc n) (x ∷ xs) are = ap suc (from_length P (i + 1) n xs are.1)
-
-pub from_at : {X : Type 0} (P : ℕ → X → Type 0) (i n : ℕ) (xs : List X) (k j : ℕ) (d : X) → AreFrom P i n xs → k < n → j ≡ i + k → P j (get_or xs k d)
-from_at P i zero xs k j d are below e = absurd (omega arith)
-from_at P i (suc n) [] k j d are below e = absurd are
-from_at P i (suc n) (x ∷ xs) zero j d are below e = let same : i ≡ j = omega arith in subst (λ m. P m x) same are.0
-from_at P i (suc n) (x ∷ xs) (suc k) j d are below e = from_at P (i + 1) n xs k j d are.1 (omega arith) (omega arith)
 
 pub are_from : {X : Type 0} (P : ℕ → X → Type 0) (i n : ℕ) (xs : List X) (d : X) → length xs ≡ n → ((k j : ℕ) → k < n → j ≡ i + k → P j (get_or xs k d))
     → AreFrom P i n xs

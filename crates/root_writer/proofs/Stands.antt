@@ -149,9 +149,6 @@ low_start count start low = ⊎_elim
     omega arith in subst (λ b. start % 256 ^ narrow_or_wide b ≤ count + 1) (sym e) less)
     (cases_Bool (ltb count (2 ^ 16)))
 
-number_stands : (limit : ℕ) (number : ℕ) (cell : Cell) → number < limit → cell ≡ Number number → cell ≡ Number (number % limit)
-number_stands limit number cell fits e = e ∙ ap Number (sym (mod-eq_of_lt fits))
-
 -- the number of a valid cell encodes the cell
 pub stands : Facts → (model : Metadata) → IsWithin model
     → (numbers : List (List (List ℕ))) (k : ColumnKind) (nullable : Bool) (start : TableId → ℕ) (cell : Cell)

@@ -96,17 +96,6 @@ pub table_layout_kept : (sizes : Sizes) (kept : List TableLayout) → AreTableLa
 table_layout_kept sizes kept are table n none e =
     rw e (rw table_at_index at (are.each (table_index_of table) none (table_index_below table)))
 
--- a row has an offset of at most 2^36
-pub row_low : (start row count width : ℕ) → start ≤ 2 ^ 35 → row ≤ count + 1 → count ≤ 0xFFFFFF → width ≤ 36 → start + (row - 1) * width ≤ 2 ^ 36
-row_low start row count width s r c w =
-    let few : row - 1 ≤ 0xFFFFFF = omega arith in
-    let below : (row - 1) * width ≤ 0xFFFFFF * 36 = mul-le-mul few w in
-    omega arith
-
--- the row count of a table is limited
-pub count_low : (sizes now : Sizes) (table : TableId) → AreFew sizes → sizes ≡ now → count_of now table ≤ 0xFFFFFF
-count_low sizes now table few e = let P : Sizes → Type 0 = λ s. count_of s table ≤ 0xFFFFFF in subst P e (few.counts table)
-
 -- the row offset that is computed from the offsets of a table
 pub row_at : (sizes now : Sizes) (table : TableId) (row : ℕ) (table_layout : TableLayout) → IsTableLayout sizes table table_layout → sizes ≡ now → table_layout.start + (row - 1) * table_layout.row_width ≡ row_start now table row
 row_at sizes now table row table_layout is e =

@@ -66,17 +66,6 @@ pub pushed_length : (g : Option Frame) (fs : List Frame) → length (pushed g fs
 pushed_length None fs = omega arith
 pushed_length (Some f) fs = omega (arith, length-append fs (f ∷ []))
 
-within_frame : (n d : ℕ) (g : Option Frame) → n + d ≤ 129 → IfSome g (λ f. frame_depth f < d) → IfSome g (λ f. n + frame_depth f < 129)
-within_frame n d None h k = tt
-within_frame n d (Some f) h k = omega arith
-
-within_position : (n k d : ℕ) (p : Option Position) → n + d ≤ 129 → IfSome p (λ q. position_depth q + k ≤ d) → IfSome p (λ q. n + k + position_depth q ≤ 129)
-within_position n k d None h e = tt
-within_position n k d (Some q) h e = omega arith
-
-pub room_within : (d : ℕ) (fs : List Frame) (s : Step) → length fs + d ≤ 129 → IsWithin d s → HasRoom fs s
-room_within d fs s h k = record { frame = within_frame (length fs) d s.frame h k.frame; position = within_position (length fs) (framed s.frame) d s.position h k.position }
-
 resumed_frame : (n : ℕ) (f : Frame) (g : Option Frame) → n + frame_depth f < 129 → IfSome g (λ h. frame_depth h ≤ frame_depth f) → IfSome g (λ h. n + frame_depth h < 129)
 resumed_frame n f None h k = tt
 resumed_frame n f (Some g) h k = omega arith

@@ -1,10 +1,25 @@
-use Rattle.std.proofs.Common.{◌≡◌, ◌≢◌, ℕ, ◌+◌, ◌*◌, ◌≤◌, ◌<◌, ◌/◌, List, length, slice_index, ap, sym, subst, ◌∙◌, arith}
+use Rattle.std.proofs.Common.{◌≡◌, ◌≢◌, ℕ, ◌+◌, ◌*◌, ◌≤◌, ◌<◌, ◌/◌, List, ◌∷◌, ◌++◌, length, slice_index, ap, sym, subst, ◌∙◌, arith}
 use Rattle.std.proofs.lemmas.Nat.{div-add-mod', mod_below, mul-le}
-use Rattle.std.proofs.lemmas.List.{length-set, get_or-set_other}
-use Rattle.checks.specs.Texts.{AreStarts}
+use Rattle.std.proofs.lemmas.List.{length-set, length-append, get_or-set_other}
+use Rattle.checks.specs.Texts.{AreStarts, Reaches}
 use Rattle.checks.proofs.TextLemmas.{starts_set, part_reached, ending_reaches}
 use Rattle.checks.proofs.texts.keep_endings.Goals as goal
 use Rattle.checks.proofs.texts.keep_endings.Goals.{in-Some, in_default}
+
+-- a part that a text reaches is in the heap
+part_within : (heap : List ℕ) (index part reach later : ℕ) → Reaches heap index reach → later < reach / part → later * part + part ≤ length heap
+part_within heap index part reach later reaches below =
+    let is = reaches.ended in
+    omega (arith, part_reached later part reach below, reaches.long, is.at, ap length is.whole, length-append is.before (reaches.text ++ 0 ∷ is.after), length-append reaches.text (0 ∷ is.after))
+
+pub overflow_mul-begin : goal.overflow_mul-begin
+overflow_mul-begin c = omega (arith, part_within c.args.heap.now c.args.index c.args.part c.args.reach c.loop-later.later c.requires.reaches (omega (arith, c.loop-later.auto.later-end)))
+
+pub overflow_add-begin : goal.overflow_add-begin
+overflow_add-begin c = omega (arith, part_within c.args.heap.now c.args.index c.args.part c.args.reach c.loop-later.later c.requires.reaches (omega (arith, c.loop-later.auto.later-end)))
+
+pub first_character-requires : goal.first_character-requires
+first_character-requires c = part_within c.args.heap.now c.args.index c.args.part c.args.reach c.loop-later.later c.requires.reaches (omega (arith, c.loop-later.auto.later-end))
 
 pub loop-later-preserved : goal.loop-later-preserved
 loop-later-preserved c =
