@@ -13,7 +13,7 @@ use table_schema::{SigKind, TableId};
 use tables::{Cell, Signature, Token};
 
 /// A field of a type of this module (II.22.15).
-#[derive(Clone, Copy, Debug, PartialEq, Eq)]
+#[derive(Copy, Debug, PartialEq, Eq)]
 pub struct Field<'m, S = &'m Signature> {
     /// FieldAttributes (II.23.1.5).
     pub flags: u32,
@@ -21,6 +21,13 @@ pub struct Field<'m, S = &'m Signature> {
     pub name: &'m str,
     /// Its type (II.23.2.4).
     pub signature: S,
+}
+
+impl<'m, S: Clone> Clone for Field<'m, S> {
+    fn clone(&self) -> Result<Self, AllocError> {
+        let signature = self.signature.clone()?;
+        Ok(Field { signature, ..*self })
+    }
 }
 
 impl<'m, S: IsSignature, W: Row<'m, Signature = S>> FromRow<'m, W> for Field<'m, S> {
@@ -175,7 +182,7 @@ impl<'m> Record<'m> for FieldRVA {
 }
 
 /// A field or method of another module, or a call with variable arguments (II.22.25).
-#[derive(Clone, Copy, Debug, PartialEq, Eq)]
+#[derive(Copy, Debug, PartialEq, Eq)]
 pub struct MemberRef<'m, S = &'m Signature> {
     /// The parent of the member: a TypeDef, TypeRef, TypeSpec or ModuleRef, or the MethodDef that is called.
     pub class: Option<Token>,
@@ -183,6 +190,13 @@ pub struct MemberRef<'m, S = &'m Signature> {
     pub name: &'m str,
     /// The type of the field, or the signature of the method or call (II.23.2.2, II.23.2.4).
     pub signature: S,
+}
+
+impl<'m, S: Clone> Clone for MemberRef<'m, S> {
+    fn clone(&self) -> Result<Self, AllocError> {
+        let signature = self.signature.clone()?;
+        Ok(MemberRef { signature, ..*self })
+    }
 }
 
 impl<'m, S: IsSignature, W: Row<'m, Signature = S>> FromRow<'m, W> for MemberRef<'m, S> {

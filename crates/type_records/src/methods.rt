@@ -13,7 +13,7 @@ use table_schema::{SigKind, TableId};
 use tables::{Cell, Signature, Token};
 
 /// A method of a type of this module (II.22.26).
-#[derive(Clone, Copy, Debug, PartialEq, Eq)]
+#[derive(Copy, Debug, PartialEq, Eq)]
 pub struct MethodDef<'m, S = &'m Signature> {
     /// The relative virtual address of its body; 0 if it has none.
     pub rva: u32,
@@ -27,6 +27,13 @@ pub struct MethodDef<'m, S = &'m Signature> {
     pub signature: S,
     /// The first of its parameters, in Param.
     pub param_list: u32,
+}
+
+impl<'m, S: Clone> Clone for MethodDef<'m, S> {
+    fn clone(&self) -> Result<Self, AllocError> {
+        let signature = self.signature.clone()?;
+        Ok(MethodDef { signature, ..*self })
+    }
 }
 
 impl<'m, S: IsSignature, W: Row<'m, Signature = S>> FromRow<'m, W> for MethodDef<'m, S> {

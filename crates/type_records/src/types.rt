@@ -14,6 +14,22 @@ use std::fmt;
 use table_schema::{SigKind, TableId};
 use tables::{Cell, Signature, Token};
 
+/// The namespace and the name of a type.
+#[derive(Clone, Copy)]
+struct FullName<'m>(&'m str, &'m str);
+
+impl fmt::Display for FullName<'_> {
+    ghost output = { λ r. Some (full_name r.0.now r.1.now) };
+
+    fn fmt<W: fmt::Write>(&self, f: &mut fmt::Formatter<W>) -> fmt::Result {
+        let FullName(namespace, name) = *self;
+        if namespace.is_empty() {
+            return write!(f, "{name}");
+        }
+        write!(f, "{namespace}.{name}")
+    }
+}
+
 /// This module, the only row of its table (II.22.30).
 #[derive(Clone, Copy, Debug, PartialEq, Eq)]
 pub struct Module<'m> {
@@ -117,11 +133,7 @@ impl fmt::Display for TypeRef<'_> {
     ghost output = { λ r. Some (full_name r.type_namespace.now r.type_name.now) };
 
     fn fmt<W: fmt::Write>(&self, f: &mut fmt::Formatter<W>) -> fmt::Result {
-        let (namespace, name) = (self.type_namespace, self.type_name);
-        if namespace.is_empty() {
-            return write!(f, "{name}");
-        }
-        write!(f, "{namespace}.{name}")
+        FullName(self.type_namespace, self.type_name).fmt(f)
     }
 }
 
@@ -187,11 +199,7 @@ impl fmt::Display for TypeDef<'_> {
     ghost output = { λ r. Some (full_name r.type_namespace.now r.type_name.now) };
 
     fn fmt<W: fmt::Write>(&self, f: &mut fmt::Formatter<W>) -> fmt::Result {
-        let (namespace, name) = (self.type_namespace, self.type_name);
-        if namespace.is_empty() {
-            return write!(f, "{name}");
-        }
-        write!(f, "{namespace}.{name}")
+        FullName(self.type_namespace, self.type_name).fmt(f)
     }
 }
 
