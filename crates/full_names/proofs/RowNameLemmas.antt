@@ -24,8 +24,6 @@ no_name model ExportedType row a b c d e = absurd (d refl)
 no_name model GenericParam row a b c d e = absurd (e refl)
 no_name model _ row a b c d e = refl
 
-}
-
 -- a type to which a row of a map refers exists
 module _ (model : Metadata) (valid : IsValid model) where
   pub mapped_there : (map : TableId) (class row : ℕ) → 0 < cell_count map → IsMapOf model map class row → class ≤ count_in model TypeDef

@@ -3,13 +3,14 @@ ghost use Rattle.table_schema.specs.declared.coded.Coded.TheVariants as coded;
 ghost use Rattle.table_schema.specs.declared.table.TableId.TheVariants as table;
 
 use crate::references::ModuleRef;
+use std::alloc::AllocError;
 use table_schema::Coded;
 use type_records::{
     CodedRow, FromRow, IsSignature, MemberRef, MethodDef, Row, TableId, TypeDef, TypeRef, TypeSpec,
 };
 
 /// The parent of a member of another module, which a MemberRefParent names (II.24.2.6).
-#[derive(Clone, Copy, Debug)]
+#[derive(Copy, Debug)]
 pub enum MemberRefParent<'m, S> {
     /// A type of this module.
     TypeDef(TypeDef<'m>),
@@ -21,6 +22,18 @@ pub enum MemberRefParent<'m, S> {
     MethodDef(MethodDef<'m, S>),
     /// A type that is given by a signature.
     TypeSpec(TypeSpec<S>),
+}
+
+impl<'m, S: Clone> Clone for MemberRefParent<'m, S> {
+    fn clone(&self) -> Result<Self, AllocError> {
+        Ok(match self {
+            MemberRefParent::TypeDef(row) => MemberRefParent::TypeDef(*row),
+            MemberRefParent::TypeRef(row) => MemberRefParent::TypeRef(*row),
+            MemberRefParent::ModuleRef(row) => MemberRefParent::ModuleRef(*row),
+            MemberRefParent::MethodDef(row) => MemberRefParent::MethodDef(row.clone()?),
+            MemberRefParent::TypeSpec(row) => MemberRefParent::TypeSpec(row.clone()?),
+        })
+    }
 }
 
 impl<'m, S: IsSignature, W: Row<'m, Signature = S>> CodedRow<'m, W> for MemberRefParent<'m, S> {
@@ -129,12 +142,21 @@ impl<'m, S: IsSignature, W: Row<'m, Signature = S>> CodedRow<'m, W> for CustomAt
 }
 
 /// The owner of generic parameters, which a TypeOrMethodDef names (II.24.2.6).
-#[derive(Clone, Copy, Debug)]
+#[derive(Copy, Debug)]
 pub enum TypeOrMethodDef<'m, S> {
     /// A type of this module.
     TypeDef(TypeDef<'m>),
     /// A method of this module.
     MethodDef(MethodDef<'m, S>),
+}
+
+impl<'m, S: Clone> Clone for TypeOrMethodDef<'m, S> {
+    fn clone(&self) -> Result<Self, AllocError> {
+        Ok(match self {
+            TypeOrMethodDef::TypeDef(row) => TypeOrMethodDef::TypeDef(*row),
+            TypeOrMethodDef::MethodDef(row) => TypeOrMethodDef::MethodDef(row.clone()?),
+        })
+    }
 }
 
 impl<'m, S: IsSignature, W: Row<'m, Signature = S>> CodedRow<'m, W> for TypeOrMethodDef<'m, S> {

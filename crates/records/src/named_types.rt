@@ -4,13 +4,14 @@ ghost use Rattle.table_schema.specs.declared.table.TableId.TheVariants as table;
 
 use crate::files::{ExportedType, File};
 use crate::references::{AssemblyRef, ModuleRef};
+use std::alloc::AllocError;
 use table_schema::Coded;
 use type_records::{
     CodedRow, FromRow, IsSignature, Module, Row, TableId, TypeDef, TypeRef, TypeSpec,
 };
 
 /// A type that a TypeDefOrRef names (II.24.2.6).
-#[derive(Clone, Copy, Debug)]
+#[derive(Copy, Debug)]
 pub enum TypeDefOrRef<'m, S> {
     /// A type of this module.
     TypeDef(TypeDef<'m>),
@@ -18,6 +19,16 @@ pub enum TypeDefOrRef<'m, S> {
     TypeRef(TypeRef<'m>),
     /// A type that is given by a signature.
     TypeSpec(TypeSpec<S>),
+}
+
+impl<'m, S: Clone> Clone for TypeDefOrRef<'m, S> {
+    fn clone(&self) -> Result<Self, AllocError> {
+        Ok(match self {
+            TypeDefOrRef::TypeDef(row) => TypeDefOrRef::TypeDef(*row),
+            TypeDefOrRef::TypeRef(row) => TypeDefOrRef::TypeRef(*row),
+            TypeDefOrRef::TypeSpec(row) => TypeDefOrRef::TypeSpec(row.clone()?),
+        })
+    }
 }
 
 impl<'m, S: IsSignature, W: Row<'m, Signature = S>> CodedRow<'m, W> for TypeDefOrRef<'m, S> {

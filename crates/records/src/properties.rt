@@ -53,7 +53,7 @@ impl<'m> Record<'m> for PropertyMap {
 }
 
 /// A property of a type (II.22.34).
-#[derive(Clone, Copy, Debug, PartialEq, Eq)]
+#[derive(Copy, Debug, PartialEq, Eq)]
 pub struct Property<'m, S = &'m Signature> {
     /// PropertyAttributes (II.23.1.14).
     pub flags: u32,
@@ -61,6 +61,13 @@ pub struct Property<'m, S = &'m Signature> {
     pub name: &'m str,
     /// Its type and parameters (II.23.2.5), in the column Type.
     pub kind: S,
+}
+
+impl<'m, S: Clone> Clone for Property<'m, S> {
+    fn clone(&self) -> Result<Self, AllocError> {
+        let kind = self.kind.clone()?;
+        Ok(Property { kind, ..*self })
+    }
 }
 
 impl<'m, S: IsSignature, W: Row<'m, Signature = S>> FromRow<'m, W> for Property<'m, S> {
