@@ -1,4 +1,4 @@
-ghost use Rattle.std.specs.Prelude.{◌≡◌, ◌^◌, ◌<◌, ◌⊎◌, ℕ, List, Err, IfOk, flat_map, length, map};
+ghost use Rattle.std.specs.Prelude.{◌≡◌, ◌^◌, ◌<◌, ◌⊎◌, ℕ, All, List, Err, IfOk, flat_map, length, map};
 ghost use Rattle.heap_pools.specs.declared.pool_error.PoolError.TheVariants.{Full};
 ghost use Rattle.heap_pools.specs.BlobHeap.{blob_heap, blob_index};
 ghost use Rattle.heap_pools.specs.Distinct.{distinct};
@@ -7,6 +7,7 @@ ghost use Rattle.heap_pools.specs.TextHeap.{text_heap};
 ghost use Rattle.metadata.specs.Metadata.{Metadata};
 ghost use Rattle.root_writer.specs.Pools.{pools_of as pools_in};
 ghost use Rattle.root_writer.specs.Numbered.{IsNumbering, IsTooLong};
+ghost use Rattle.cell_numbering.specs.BlobBytes.{AreWritten, all_bytes};
 ghost use Rattle.cell_numbering.specs.BlobUses.{AreBlobUses};
 ghost use Rattle.cell_numbering.specs.HeapUses.{IsUseOf};
 
@@ -31,6 +32,20 @@ fn guid_plan(alloc: Global, guids: &[Option<[u8; 16]>]) -> Result<HeapPlan, Pool
     SortedGuids::sort(alloc, guids)?.lay_out(alloc)
 }
 
+/// The blob heap of the canonical root, planned from the blobs that were written (II.24.2.4).
+fn written_plan(alloc: Global, written: WrittenBlobs<'_>) -> Result<HeapPlan, PoolError>
+    requires written { AreWritten written.bytes.items written.firsts.items }
+    requires short { All (λ blob. length blob < 2 ^ 29) (all_bytes written.bytes.items written.firsts.items) }
+    ensures heap { IfOk result (λ plan. plan.heap ≡ blob_heap (distinct (all_bytes written.entry.bytes.items written.entry.firsts.items))) }
+    ensures indexes { IfOk result (λ plan. plan.indexes
+        ≡ map (blob_index (distinct (all_bytes written.entry.bytes.items written.entry.firsts.items))) (all_bytes written.entry.bytes.items written.entry.firsts.items)) }
+    ensures full { result ≡ Err PoolError.Full → 2 ^ 30 < length (blob_heap (distinct (all_bytes written.entry.bytes.items written.entry.firsts.items))) }
+{
+    let WrittenBlobs { bytes, firsts, .. } = written;
+    let blobs = slices_of(alloc, &bytes, &firsts)?;
+    SortedBlobs::sort_from(alloc, &blobs, firsts)?.lay_out(alloc)
+}
+
 /// The blob heap of the canonical root, planned from all blobs, and the index of each use (II.24.2.4).
 fn blob_plan(alloc: Global, uses: &BlobUses<'_>) -> Result<(HeapPlan, Vec<u32>), PoolError>
     requires { ¬ (¬ ((blobs : List (List ℕ)) × AreBlobUses IsUseOf uses.now blobs)) }
@@ -40,9 +55,8 @@ fn blob_plan(alloc: Global, uses: &BlobUses<'_>) -> Result<(HeapPlan, Vec<u32>),
     ensures full { (blobs : List (List ℕ)) → AreBlobUses IsUseOf uses.now blobs → result ≡ Err PoolError.Full
         → 2 ^ 30 < length (blob_heap (distinct blobs)) }
 {
-    let WrittenBlobs { bytes, firsts, .. } = written_blobs(alloc, &uses.kept)?;
-    let blobs = slices_of(alloc, &bytes, &firsts)?;
-    let plan = SortedBlobs::sort_from(alloc, &blobs, firsts)?.lay_out(alloc)?;
+    let written = written_blobs(alloc, &uses.kept)?;
+    let plan = written_plan(alloc, written)?;
     let indexes = indexes_of_uses(alloc, &uses.of_use, plan.indexes())?;
     Ok((plan, indexes))
 }

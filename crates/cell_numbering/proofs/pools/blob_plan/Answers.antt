@@ -1,12 +1,12 @@
-use Rattle.std.proofs.Common.{◌≡◌, ℕ, List, map, ap, sym, subst, ◌∙◌}
+use Rattle.std.proofs.Common.{◌≡◌, ◌^◌, ◌<◌, ℕ, List, All, Err, map, length, ap, sym, subst, ◌∙◌, arith}
+use Rattle.std.proofs.Math.Nat.{lt_of_not-le}
+use Rattle.std.proofs.lemmas.Result.{err_from_is_err_and}
 use Rattle.std.specs.Prelude.{slice_index}
 use Rattle.std.specs.List.{AllZip}
-use Rattle.heap_pools.specs.BlobHeap.{blob_index}
+use Rattle.heap_pools.specs.declared.pool_error.PoolError.TheVariants.{Full}
+use Rattle.heap_pools.specs.BlobHeap.{blob_heap, blob_index}
 use Rattle.heap_pools.specs.Distinct.{distinct}
-use Rattle.heap_pools.specs.Uses.{bytes_of}
 use Rattle.cell_numbering.specs.declared.blob_use.BlobUse.{BlobUse}
-use Rattle.cell_numbering.specs.declared.blob_bytes.BlobBytes.{BlobBytes}
-use Rattle.cell_numbering.specs.BlobBytes.{all_bytes}
 use Rattle.cell_numbering.specs.HeapUses.{IsUseOf}
 use Rattle.cell_numbering.proofs.BlobLemmas.{indexes_are}
 use Rattle.cell_numbering.proofs.pools.blob_plan.Goals as goal
@@ -15,18 +15,32 @@ pub written_blobs-requires : goal.written_blobs-requires
 written_blobs-requires c = λ none. c.requires (λ some.
     none (some.1.kept, subst (λ (uses : List BlobUse). AllZip IsUseOf uses some.1.kept) (sym c.deref.ensures.value) some.1.each))
 
+pub written_plan-requires-clause-short : goal.written_plan-requires-clause-short
+written_plan-requires-clause-short c = λ k d h. lt_of_not-le (λ long. c.requires (λ some.
+    let all = some.1 in
+    let written = c.in_ok-written.ensures.blobs all.kept (subst (λ (uses : List BlobUse). AllZip IsUseOf uses all.kept) (sym c.deref.ensures.value) all.each) in
+    let short = subst (λ (list : List (List ℕ)). All (λ (blob : List ℕ). length blob < 2 ^ 29) list) (sym written) all.refer.short in
+    absurd (omega (arith, long, short k d h))))
+
+pub returns-in_err-plan-clause-full : goal.returns-in_err-plan-clause-full
+returns-in_err-plan-clause-full c = λ blobs all.
+    let written = c.in_ok-written.ensures.blobs all.kept (subst (λ (uses : List BlobUse). AllZip IsUseOf uses all.kept) (sym c.deref.ensures.value) all.each) in
+    let p = err_from_is_err_and c.from_residual-in_err-plan.result c.from_residual-in_err-plan.ensures.1 in
+    rw (p.1, p.2) (λ full.
+    let same : c.in_err-plan.field-0.0 ≡ Full = cc in
+    subst (λ (l : List (List ℕ)). 2 ^ 30 < length (blob_heap l)) (ap distinct written ∙ all.refer.firsts) (c.in_err-plan.ensures.full (ap Err same)))
+
+pub returns-clause-heap : goal.returns-clause-heap
+returns-clause-heap c = λ blobs all.
+    let written = c.in_ok-written.ensures.blobs all.kept (subst (λ (uses : List BlobUse). AllZip IsUseOf uses all.kept) (sym c.deref.ensures.value) all.each) in
+    c.in_ok-plan.ensures.heap ∙ ap blob_heap (ap distinct written ∙ all.refer.firsts)
+
 pub returns-clause-indexes : goal.returns-clause-indexes
 returns-clause-indexes c = λ blobs all.
     let index = blob_index (distinct blobs) in
-    let bytes = c.in_ok-bytes.field-0.bytes.items in
-    let firsts = c.in_ok-bytes.field-0.firsts.items in
-    let written : all_bytes bytes firsts ≡ all.kept =
-    c.in_ok-bytes.ensures.blobs all.kept (subst (λ (uses : List BlobUse). AllZip IsUseOf uses all.kept) (sym c.deref.ensures.value) all.each) in
-    let sorted : c.in_ok-sort_from.field-0 ≡ all.kept =
-    c.in_ok-sort_from.ensures ∙ ap bytes_of c.deref-4.ensures.value ∙ c.in_ok-blobs.ensures
-    ∙ ap (λ (b : List BlobBytes). all_bytes b c.deref-3.result.now) c.deref-2.ensures.value ∙ ap (all_bytes bytes) c.deref-3.ensures.value ∙ written in
+    let written = c.in_ok-written.ensures.blobs all.kept (subst (λ (uses : List BlobUse). AllZip IsUseOf uses all.kept) (sym c.deref.ensures.value) all.each) in
     let plan : c.in_ok-plan.plan.indexes ≡ map index all.kept =
-    c.in_ok-plan.ensures.indexes ∙ ap (λ (l : List (List ℕ)). map (blob_index (distinct l)) l) sorted
+    c.in_ok-plan.ensures.indexes ∙ ap (λ (l : List (List ℕ)). map (blob_index (distinct l)) l) written
     ∙ ap (λ (l : List (List ℕ)). map (blob_index l) all.kept) all.refer.firsts in
-    c.in_ok-indexes.ensures ∙ ap (λ (l : List ℕ). map (slice_index l) c.deref-5.result.now) (c.indexes.ensures ∙ plan)
-    ∙ ap (map (slice_index (map index all.kept))) c.deref-5.ensures.value ∙ indexes_are index all.kept c.args.uses.now.of_use.items blobs all.refer
+    c.in_ok-indexes.ensures ∙ ap (λ (l : List ℕ). map (slice_index l) c.deref-2.result.now) (c.indexes.ensures ∙ plan)
+    ∙ ap (map (slice_index (map index all.kept))) c.deref-2.ensures.value ∙ indexes_are index all.kept c.args.uses.now.of_use.items blobs all.refer
