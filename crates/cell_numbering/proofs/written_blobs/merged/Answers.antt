@@ -1,4 +1,6 @@
-use Rattle.std.proofs.Common.{◌≡◌, ℕ, List, length, slice_index, sym, ap, subst, ◌∙◌, arith}
+use Rattle.std.proofs.Common.{◌≡◌, ◌^◌, ◌<◌, ℕ, List, All, length, slice_index, sym, ap, subst, ◌∙◌, arith}
+use Rattle.heap_pools.specs.BlobHeap.{blob_heap}
+use Rattle.heap_pools.specs.Distinct.{distinct}
 use Rattle.heap_pools.specs.Uses.{bytes_of}
 use Rattle.heap_pools.proofs.UseLemmas.{written_back}
 use Rattle.heaps.specs.HeapPlanView.{AreFirsts}
@@ -6,6 +8,18 @@ use Rattle.cell_numbering.specs.declared.blob_bytes.BlobBytes.{BlobBytes}
 use Rattle.cell_numbering.specs.BlobBytes.{AreWritten, all_bytes, bytes_at}
 use Rattle.cell_numbering.proofs.WrittenLemmas.{bytes_same, written_same}
 use Rattle.cell_numbering.proofs.written_blobs.merged.Goals as goal
+
+pub sort_from-requires-clause-short : goal.sort_from-requires-clause-short
+sort_from-requires-clause-short c =
+    let slices = ap bytes_of c.deref-3.ensures.value ∙ c.in_ok-slices.ensures
+    ∙ ap (λ (b : List BlobBytes). all_bytes b c.deref-2.result.now) c.deref.ensures.value ∙ ap (all_bytes c.args.written.bytes.items) c.deref-2.ensures.value in
+    subst (λ (list : List (List ℕ)). All (λ (blob : List ℕ). length blob < 2 ^ 29) list) (sym slices) c.requires.short
+
+pub returns-in_err-heap_len-clause-full : goal.returns-in_err-heap_len-clause-full
+returns-in_err-heap_len-clause-full c = λ full.
+    let sorted = c.in_ok-sorted.ensures ∙ ap bytes_of c.deref-3.ensures.value ∙ c.in_ok-slices.ensures
+    ∙ ap (λ (b : List BlobBytes). all_bytes b c.deref-2.result.now) c.deref.ensures.value ∙ ap (all_bytes c.args.written.bytes.items) c.deref-2.ensures.value in
+    subst (λ (l : List (List ℕ)). 2 ^ 30 < length (blob_heap (distinct l))) sorted c.in_err-heap_len.ensures.full.1
 
 pub returns-clause-written : goal.returns-clause-written
 returns-clause-written c =

@@ -1,6 +1,15 @@
-use Rattle.std.proofs.Common.{◌∙◌, sym}
+use Rattle.std.proofs.Common.{◌∙◌, sym, arith}
+use Rattle.std.proofs.lemmas.List.Sums.{sum_by-drop_more}
+use Rattle.root.specs.declared.kind.Kind.TheVariants.{Tables}
+use Rattle.root_writer.specs.Heading.{header_length}
 use Rattle.root_writer.proofs.HeadingLemmas.{at_end, heading_size_is, heading_is_long}
 use Rattle.root_writer.proofs.heading.heading_len.Goals as goal
+
+pub loop-kind-preserved : goal.loop-kind-preserved
+loop-kind-preserved c = record {
+  whole = omega (arith, c.loop-kind.invariant.whole, c.header_len-len.ensures.len, sum_by-drop_more header_length c.args.kinds.now c.loop-kind.kind-index Tables c.loop-kind-test.true);
+  low = omega (arith, c.loop-kind.invariant.low, c.header_len-len.ensures.limit);
+}
 
 pub returns-clause-offset : goal.returns-clause-offset
 returns-clause-offset c size =

@@ -1,0 +1,16 @@
+use Rattle.std.proofs.Common.{length, ap, arith}
+use Rattle.std.proofs.lemmas.List.{length-map}
+use Rattle.metadata.specs.Metadata.{row_of}
+use Rattle.tables.specs.Said.{said}
+use Rattle.owned_model.proofs.CellLemmas.{item_said}
+use Rattle.owned_model.proofs.valid_model.Model.cell.Goals as goal
+
+pub bounds-cells-cell_index : goal.bounds-cells-cell_index
+bounds-cells-cell_index c =
+    omega (arith, c.requires.cell_index, c.tables-tables.ensures.valid.long c.args.table c.args.row (c.requires.first, c.requires.last), ap length c.cells.ensures, length-map c.cells.result.now said)
+
+pub returns : goal.returns
+returns c =
+    let within = c.tables-tables.ensures.valid.long c.args.table c.args.row (c.requires.first, c.requires.last) in
+    item_said c.cells.result.now (row_of c.args.self.now c.args.table c.args.row) c.args.cell_index c.index-cells-cell_index.result c.cells.ensures
+    (omega (arith, c.requires.cell_index, within, ap length c.cells.ensures, length-map c.cells.result.now said)) c.index-cells-cell_index.is
