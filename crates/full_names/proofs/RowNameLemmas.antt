@@ -1,5 +1,5 @@
 -- The name of a row, from that of its table.
-use Rattle.std.proofs.Common.{◌≡◌, ℕ, ◌≤◌, ◌<◌, false, List, Option, None, refl, subst, arith, ⊎_elim}
+use Rattle.std.proofs.Common.{◌≡◌, ℕ, ◌≤◌, ◌<◌, false, List, Option, None, refl, subst, sym, arith, ⊎_elim}
 use Rattle.std.proofs.lemmas.Bool.{cases_lt}
 use Rattle.table_schema.specs.declared.table.TableId.{TableId}
 use Rattle.table_schema.specs.declared.table.TableId.TheVariants.{TypeDef, TypeRef, TypeSpec, Field, MethodDef, Event, Property, MemberRef, ModuleRef, AssemblyRef, File, ExportedType, GenericParam}
@@ -13,6 +13,27 @@ use Rattle.metadata.specs.Valid.{IsValid, MayRefer, nullable_at}
 use Rattle.navigation.specs.Maps.{IsMapOf}
 use Rattle.full_names.specs.RowNames.{IsMemberOf, IsNameIn, IsNameUnder, IsPlainName, IsRowName}
 use Rattle.full_names.specs.Texts.{IsMethodName}
+
+-- a row of a table that is none of these has a plain name
+pub plain_name : (model : Metadata) (table : TableId) (row : ℕ) (text : List ℕ) → (table ≡ TypeDef → ⊥) → (table ≡ TypeRef → ⊥) → (table ≡ TypeSpec → ⊥) → (table ≡ Field → ⊥)
+    → (table ≡ MethodDef → ⊥) → (table ≡ Event → ⊥) → (table ≡ Property → ⊥) → (table ≡ MemberRef → ⊥) → IsPlainName model table row text → IsNameIn model table row text
+plain_name model TypeDef row text a b c d e f g h is = absurd (a refl)
+plain_name model TypeRef row text a b c d e f g h is = absurd (b refl)
+plain_name model TypeSpec row text a b c d e f g h is = absurd (c refl)
+plain_name model Field row text a b c d e f g h is = absurd (d refl)
+plain_name model MethodDef row text a b c d e f g h is = absurd (e refl)
+plain_name model Event row text a b c d e f g h is = absurd (f refl)
+plain_name model Property row text a b c d e f g h is = absurd (g refl)
+plain_name model MemberRef row text a b c d e f g h is = absurd (h refl)
+plain_name model _ row text a b c d e f g h is = is
+
+-- a row that exists has this name
+pub row_named : (model : Metadata) (table : TableId) (token : Token) → token.table ≡ table → 1 ≤ token.row → token.row ≤ count_in model token.table → (text : List ℕ)
+    → IsNameIn model table token.row text → IsRowName model token text
+row_named model table token is first last text name = record {
+  there = λ _. subst (λ (t : TableId). IsNameIn model t token.row text) (sym is) name;
+  missing = λ not. absurd (not (first, last));
+}
 
 -- a row of another table has no name
 pub no_name : (model : Metadata) (table : TableId) (row : ℕ) → (table ≡ ModuleRef → ⊥) → (table ≡ AssemblyRef → ⊥) → (table ≡ File → ⊥) → (table ≡ ExportedType → ⊥) → (table ≡ GenericParam → ⊥)
