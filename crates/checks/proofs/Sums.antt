@@ -1,5 +1,5 @@
 -- Sums of the numbers below one, and the lengths of blobs.
-use Rattle.std.proofs.Common.{◌≡◌, ℕ, zero, suc, ◌+◌, ◌-◌, ◌<◌, ◌≤◌, List, ◌++◌, length, drop, Some, inl, inr, refl, subst, sym, ap, ◌∙◌, true, add-one, arith}
+use Rattle.std.proofs.Common.{◌≡◌, ℕ, zero, suc, ◌+◌, ◌<◌, ◌≤◌, List, ◌++◌, length, drop, Some, inl, inr, refl, subst, sym, ap, ◌∙◌, true, add-one, arith}
 use Rattle.std.specs.Prelude.{nat_le}
 use Rattle.std.proofs.lemmas.Bool.{cases_eq}
 use Rattle.std.proofs.lemmas.Bool.Decides.{nat_tests}
@@ -8,12 +8,7 @@ use Rattle.std.proofs.Math.Seq.{drop-append_seam}
 use Rattle.packed.specs.Prefix.{unsigned_at}
 use Rattle.packed.specs.Packed.{IsPacked}
 use Rattle.heap_entries.specs.Entries.{IsBlob, IsCounted}
-use Rattle.table_schema.specs.declared.table.TableId.{TableId}
-use Rattle.table_schema.specs.declared.column.SigKind.{SigKind}
-use Rattle.table_schema.specs.declared.column.ColumnKind.TheVariants as kind
-use Rattle.table_schema.specs.Columns.{column_at}
-use Rattle.metadata.specs.Source.{Source, number_of}
-use Rattle.checks.specs.Signatures.{sum_below, counted_length, blob_length, cell_bytes}
+use Rattle.checks.specs.Signatures.{sum_below, counted_length, blob_length}
 
 pub sum_none : (f : ℕ → ℕ) → sum_below f 0 ≡ 0
 unfolding sum_below

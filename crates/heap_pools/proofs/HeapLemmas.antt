@@ -1,5 +1,5 @@
 -- The heap of the flagged texts, extended by one use index.
-use Rattle.std.proofs.Common.{◌≡◌, ℕ, zero, suc, ◌+◌, ◌<◌, ◌≤◌, Bool, true, false, List, [], ◌∷◌, ◌++◌, length, take, drop, get_or, slice_index_or, refl, sym, ap, subst, ◌∙◌, ⊎_elim, true≢false, arith, length-append, add-one}
+use Rattle.std.proofs.Common.{◌≡◌, ℕ, zero, suc, ◌+◌, ◌<◌, ◌≤◌, Bool, true, false, List, [], ◌∷◌, ◌++◌, length, take, drop, get_or, slice_index_or, refl, sym, ap, ◌∙◌, ⊎_elim, true≢false, arith, length-append, add-one}
 use Rattle.std.proofs.lemmas.Bool.{cases_lt, false≢true}
 use Rattle.std.proofs.lemmas.List.{append_assoc, get_or_push, get_or_append_left, drop_at, take_at}
 use Rattle.heap_pools.specs.TextHeap.{ended}

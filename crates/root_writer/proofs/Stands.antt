@@ -20,7 +20,7 @@ use Rattle.heap_pools.specs.GuidHeap.{guid_index}
 use Rattle.sig_grammar.specs.Parts.{is_table}
 use Rattle.sig_grammar.specs.Encodes.{short, tokens}
 use Rattle.metadata.specs.Cell.{Cell}
-use Rattle.metadata.specs.Cell.{Number, Start}
+use Rattle.metadata.specs.Cell.{Start}
 use Rattle.metadata.specs.Metadata.{Metadata, count_in}
 use Rattle.metadata.specs.Source.{Source, IsThere}
 use Rattle.metadata.specs.Stands.{StandsFor, Refers}
