@@ -7,9 +7,6 @@ use Rattle.table_schema.specs.declared.column.ColumnKind.TheVariants as kind
 use Rattle.sig_grammar.specs.Syntax.{Body}
 use Rattle.metadata.specs.Cell.{Cell, Number, Text, Bytes, Guid, Ref, Start, Sig}
 use Rattle.metadata.specs.Kinds.{IsOfKind}
-use Rattle.metadata_source.specs.SignatureBytes.{AreBytesOf}
-use Rattle.metadata_source.specs.declared.signature_bytes.SignatureBytes.{SignatureBytes}
-use Rattle.metadata_source.specs.declared.signature_bytes.SignatureBytes.TheVariants.{Stored, Canonical}
 use Rattle.reading.specs.Shown.{Shows, ShowsSignature}
 use Rattle.reading.specs.declared.cell_ref.CellRef.{CellRef}
 use Rattle.reading.specs.declared.cell_ref.CellRef.TheVariants as seen

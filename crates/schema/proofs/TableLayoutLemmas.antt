@@ -1,5 +1,5 @@
 -- The offsets of tables, rows and columns.
-use Rattle.std.proofs.Common.{◌≡◌, ℕ, ◌+◌, ◌-◌, ◌*◌, ◌^◌, ◌<◌, ◌≤◌, ◌≢◌, List, [], length, take, get_or, refl, sym, ◌∙◌, ap, subst, arith, inl, inr, lit<, Bool, true, false, mul-le-mul, below_more, get_or-set_other, get_or-set_same}
+use Rattle.std.proofs.Common.{◌≡◌, ℕ, ◌+◌, ◌-◌, ◌*◌, ◌<◌, ◌≤◌, ◌≢◌, List, [], length, take, get_or, refl, sym, ◌∙◌, ap, arith, inl, inr, lit<, Bool, true, false, mul-le-mul, below_more, get_or-set_other, get_or-set_same}
 use Rattle.std.proofs.Math.ListN.{set}
 use Rattle.std.proofs.lemmas.List.{take_all}
 use Rattle.std.proofs.lemmas.List.Sums.{sum_by_more, sum_by_more_le}
@@ -13,7 +13,7 @@ use Rattle.table_schema.specs.Tables.{table_index_of, tables}
 use Rattle.table_schema.specs.Columns.{columns_of}
 use Rattle.schema.specs.Sizes.{Sizes, count_of, width_of, kind_width, narrow_or_wide, IsWidth}
 use Rattle.schema.specs.Offsets.{columns_width, tables_size, table_size, row_width, table_start, row_start, cell_start, tables_end}
-use Rattle.schema.specs.Kept.{IsTableLayout, AreTableLayouts, AreFew}
+use Rattle.schema.specs.Kept.{IsTableLayout, AreTableLayouts}
 use Rattle.table_schema.proofs.TableFacts.{table_index_below, table_index_at, table_at_index, length-tables}
 
 -- one more column, one more table

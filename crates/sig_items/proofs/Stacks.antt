@@ -11,7 +11,7 @@ use Rattle.sig_items.specs.declared.position.Frame.{Frame}
 use Rattle.sig_items.specs.declared.step.Step.{Step}
 use Rattle.sig_items.specs.ItemsOf.{items_of}
 use Rattle.sig_items.specs.Positions.{Reported, before_reported, and_report, joined, item_then, position_at, frame_at, next_at, stack_at, position_depth, frame_depth}
-use Rattle.sig_items.specs.Steps.{reported_by, IsWithin, framed, pushed, all_at, items_in, items_left, HasRoom, IsStacked, IsRoomy, IsReady}
+use Rattle.sig_items.specs.Steps.{reported_by, framed, pushed, all_at, items_in, items_left, HasRoom, IsStacked, IsRoomy, IsReady}
 use Rattle.sig_items.proofs.Joins.{joined_assoc, item_and}
 use Rattle.sig_items.proofs.Counts.{joined_same}
 

@@ -21,3 +21,18 @@ returns-clause-sound c = λ first second is also.
     let room : length c.args.found.now.items ≢ c.args.limit = λ full. c.if-len-limit.false (omega (arith, c.len.ensures, full)) in
     cell_differs c.args.ignored.now first second c.args.table c.args.row c.args.cell_index c.in_ok-same.same (sym c.contains.ensures ∙ c.if-contains.false) tested c.args.limit c.args.found.now.items c.push.new.self.items c.requires.few room c.if-same.false
     c.in_ok-push.ensures.items
+
+pub returns-then-contains-clause-compared : goal.returns-then-contains-clause-compared
+returns-then-contains-clause-compared c = c.requires.compared
+
+pub is_same_in_row-requires-clause-compared : goal.is_same_in_row-requires-clause-compared
+is_same_in_row-requires-clause-compared c = c.requires.compared
+
+pub returns-then-same-clause-compared : goal.returns-then-same-clause-compared
+returns-then-same-clause-compared c = c.in_ok-same.ensures.compared
+
+pub returns-then-len-limit-clause-compared : goal.returns-then-len-limit-clause-compared
+returns-then-len-limit-clause-compared c = c.in_ok-same.ensures.compared
+
+pub returns-clause-compared : goal.returns-clause-compared
+returns-clause-compared c = c.in_ok-same.ensures.compared

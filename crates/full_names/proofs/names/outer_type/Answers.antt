@@ -1,5 +1,4 @@
-use Rattle.std.proofs.Common.{ℕ}
-use Rattle.navigation.specs.Nesting.{IsEnclosed, IsNesting}
+use Rattle.navigation.specs.Nesting.{IsEnclosed}
 use Rattle.full_names.specs.Names.{IsOuter}
 use Rattle.full_names.proofs.PieceLemmas.{on_none, on_some}
 use Rattle.full_names.proofs.names.outer_type.Goals as goal

@@ -39,6 +39,9 @@ pub returns-in_ok-write_plain-in_default : goal.returns-in_ok-write_plain-in_def
 returns-in_ok-write_plain-in_default g c = λ model shown.
     let rows = c.holds_one.ensures.rows model shown c.args.token.table in
     let wrote = c.in_ok-write_plain-in_default.ensures model shown in
-    let not = c.in_default in
-    (wrote.0, row_named model c.args.token.table c.args.token refl (omega (arith, c.if-token-eq0.false)) (omega (arith, c.if-token-count.false, c.count.ensures.rows, rows)) wrote.0
-    (plain_name model c.args.token.table c.args.token.row wrote.0 not.not-TypeDef not.not-TypeRef not.not-TypeSpec not.not-Field not.not-MethodDef not.not-Event not.not-Property not.not-MemberRef wrote.1), wrote.2)
+    let not = c.in_default in (
+      wrote.0,
+      row_named model c.args.token.table c.args.token refl (omega (arith, c.if-token-eq0.false)) (omega (arith, c.if-token-count.false, c.count.ensures.rows, rows)) wrote.0
+          (plain_name model c.args.token.table c.args.token.row wrote.0 not.not-TypeDef not.not-TypeRef not.not-TypeSpec not.not-Field not.not-MethodDef not.not-Event not.not-Property not.not-MemberRef wrote.1),
+      wrote.2,
+    )

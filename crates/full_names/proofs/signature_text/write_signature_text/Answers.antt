@@ -1,4 +1,4 @@
-use Rattle.std.proofs.Common.{◌≡◌, sym, subst, rules}
+use Rattle.std.proofs.Common.{sym, subst, rules}
 use Rattle.sig_text.specs.SignatureText.{text_of}
 use Rattle.full_names.specs.Names.{Wrote}
 use Rattle.full_names.specs.Texts.{ArePiecesText, IsFullName, IsPieceText}

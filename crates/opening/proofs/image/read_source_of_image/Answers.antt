@@ -1,4 +1,3 @@
-use Rattle.std.proofs.Common.{IfOk}
 use Rattle.std.proofs.lemmas.Result.{err_from_is_err_and, IfOk-weaker}
 use Rattle.opening.proofs.Files.{heads_break, heads_root, before_cells_report, source_is}
 use Rattle.opening.proofs.image.read_source_of_image.Goals as goal

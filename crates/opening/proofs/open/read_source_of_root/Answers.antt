@@ -1,6 +1,4 @@
-use Rattle.std.proofs.Common.{Result, Ok, Err}
 use Rattle.std.proofs.lemmas.Result.{err_from_is_err_and}
-use Rattle.packed.specs.Rule.{Reports}
 use Rattle.opening.proofs.SourceAt.{directory_breaks, before_cells_report}
 use Rattle.opening.proofs.open.read_source_of_root.Goals as goal
 

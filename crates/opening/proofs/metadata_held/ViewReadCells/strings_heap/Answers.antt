@@ -1,4 +1,4 @@
-use Rattle.std.proofs.Common.{◌≤◌, ℕ, List, refl, sym, ap, subst, ◌∙◌, arith}
+use Rattle.std.proofs.Common.{ℕ, List, refl, sym, ap, subst, ◌∙◌, arith}
 use Rattle.table_schema.specs.CellColumns.{column_of}
 use Rattle.heap_entries.specs.Entries.{IsText}
 use Rattle.metadata.specs.Source.{Source, number_of}
