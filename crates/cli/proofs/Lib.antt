@@ -3,3 +3,4 @@ pub mod ColumnsNamed
 pub mod TokensRead
 pub mod RulesNamed
 pub mod EmbedRuns
+pub mod OneCheck

@@ -1,3 +1,4 @@
 pub mod Columns
 pub mod Runs
 pub mod Tasks
+pub mod OneCheck

@@ -6,4 +6,3 @@ pub mod Printings
 pub mod Reporting
 pub mod Rewritings
 pub mod Running
-pub mod OneCheck

@@ -4,4 +4,3 @@ pub mod Reports
 pub mod Rewritten
 pub mod Embedded
 pub mod Runs
-pub mod OneCheck

@@ -15,7 +15,6 @@ mod compare;
 mod embed;
 mod explain;
 mod files;
-pub mod laws;
 mod listed;
 mod one_line;
 mod print_check;

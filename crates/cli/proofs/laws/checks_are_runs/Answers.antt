@@ -1,5 +1,5 @@
-use Rattle.cli_runs.proofs.OneCheck.{of_file}
-use Rattle.cli_runs.proofs.laws.checks_are_runs.Goals as goal
+use Rattle.cli.proofs.OneCheck.{of_file}
+use Rattle.cli.proofs.laws.checks_are_runs.Goals as goal
 
 pub returns : goal.returns
 returns g c =
