@@ -2,3 +2,4 @@ pub mod Columns
 pub mod OneCheck
 pub mod Runs
 pub mod Tasks
+pub mod OneCheck

@@ -48,11 +48,7 @@ fn check_file<'a, R: Files + Input + AllocGlobal, W: Write>(
 }
 
 /// Checks the bytes of a file, and prints `ok` if they break no rule.
-fn check_bytes<'a, W: Write>(
-    alloc: Global,
-    bytes: &[u8],
-    out: &mut W,
-) -> Result<(), Stopped<'a>>
+fn check_bytes<'a, W: Write>(alloc: Global, bytes: &[u8], out: &mut W) -> Result<(), Stopped<'a>>
     ensures { IsCheckOfBytes W.contents out.old out.new bytes.now (status_of_outcome result) }
 {
     match open(bytes, Given::File) {

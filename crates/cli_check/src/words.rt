@@ -25,7 +25,9 @@ pub fn go<R: Files + Input + AllocGlobal, W: Write, E: Write>(
     match file_in(words) {
         Some(file) => check_one(rt, file, out, err),
         None => {
-            let _ = err.write_all(b"usage: clim_check check FILE, where '-' is the standard input\n");
+            let _ = err.write_all(
+                b"usage: clim_check check FILE, where '-' is the standard input\n",
+            );
             2
         }
     }
