@@ -33,7 +33,7 @@ MORE_PAGES = ["edits/README.md", "tests/README.md", "samples/README.md"]
 README_LINES = 80
 # What these pages say of printing.
 PRINTING_PAGES = ["README.md", "docs/PROVED.md"]
-PRINTING = """The calls for `root`, `check`, `show`, `types`, `outline`, `strings`, `token`, `where`, `digest` and `compare` write \
+PRINTING = """The calls for `root`, `info`, `check`, `show`, `types`, `outline`, `strings`, `token`, `where`, `digest` and `compare` write \
 exactly the text that `specs/` defines, to a writer whose bytes are known; if writing fails, a prefix of it. The toolchain states \
 nothing about the bytes that reach standard output, so what the program prints is tested. Its exit code is proved."""
 # What the clauses of `open_image` and `open_root` cite: what a model is, and the rules in order.

@@ -86,6 +86,11 @@ fn prints_identities(rt: HostRuntime) -> Result<(), Fail> {
     Ok(())
 }
 
+const NOT_A_FILE: &str = "\
+fault 1 102 at 0: DosHeader
+  hint: FILE begins like a metadata root; try it with '--bare'
+";
+
 /// The file with a native entry point, and with each flag that has a name.
 fn native_image() -> [u8; 1024] {
     let mut file = image();
@@ -114,7 +119,7 @@ fn prints_what_an_assembly_is(rt: HostRuntime) -> Result<(), Fail> {
         (&["clim", "info", "--json", "--bare", "info.root"], (0, BARE_JSON, "")),
         (&["clim", "info", "native.dll"], (0, NATIVE, "")),
         (&["clim", "info", "--json", "wider.dll"], (0, WIDER_JSON, "")),
-        (&["clim", "info", "info.root"], (1, "", "fault 1 102 at 0: DosHeader\n")),
+        (&["clim", "info", "info.root"], (1, "", NOT_A_FILE)),
     ] {
         let (status, out, err) = answer(&rt, words)?;
         assert_eq!(rt; (status, out.as_str(), err.as_str()), want);
