@@ -1,5 +1,5 @@
 -- The rows before the first one that breaks a rule for cells.
-use Rattle.std.proofs.Common.{◌≡◌, ◌∙◌, ℕ, ◌+◌, ◌-◌, ◌<◌, ◌≤◌, ◌==◌, Bool, true, false, Option, Some, None, IfSome, refl, sym, ap, subst, arith, nat_lt, if◌then◌else◌}
+use Rattle.std.proofs.Common.{◌≡◌, ◌∙◌, ℕ, ◌+◌, ◌-◌, ◌<◌, ◌≤◌, ◌==◌, Bool, true, false, Option, Some, None, refl, sym, ap, subst, arith, nat_lt, if◌then◌else◌}
 use Rattle.std.specs.Prelude.{slice_index_or}
 use Rattle.std.proofs.Math.Logic.{⊎_elim}
 use Rattle.std.proofs.lemmas.Bool.{cases_lt, eqb-true, ltb-true}
@@ -15,11 +15,6 @@ use Rattle.metadata.specs.Rules.{rules_of_cells, rules_of_table, rules_of_table_
 use Rattle.checks.specs.Broken.{IsBroken, IsBrokenRow, IsFirstBroken}
 use Rattle.checks.specs.declared.cell_checks.BrokenRow.{BrokenRow}
 use Rattle.cli_cells.specs.MetRows.{rows_before}
-
--- a broken row counts from 1
-pub broken_first : (here : SourceAt) (broken : Option BrokenRow) → IsFirstBroken here broken → IfSome broken (λ at. 1 ≤ at.row)
-broken_first here None all = tt
-broken_first here (Some at) is = is.row.first
 
 module _ (here : SourceAt) where
   table_holds : AllHold (rules_of_cells here) → (table_index : ℕ) → table_index < 38 → AllHold (rules_of_table_at here table_index)

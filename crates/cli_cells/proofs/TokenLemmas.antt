@@ -1,5 +1,5 @@
 -- What numbers name, and their lines.
-use Rattle.std.proofs.Common.{◌≡◌, ◌≢◌, ◌∙◌, ◌+◌, ◌<◌, ◌/◌, ◌%◌, ℕ, List, [], ◌∷◌, ◌++◌, All, None, Option, Some, take, drop, get_or, length, append_assoc, refl, ap, sym, subst, inl, inr}
+use Rattle.std.proofs.Common.{◌≡◌, ◌∙◌, ◌+◌, ◌<◌, ℕ, List, [], ◌∷◌, ◌++◌, All, None, Option, Some, take, drop, get_or, length, append_assoc, refl, ap, sym, subst}
 use Rattle.std.specs.Prelude.{OnSome}
 use Rattle.std.proofs.lemmas.List.{take-append-drop}
 use Rattle.std.proofs.lemmas.List.Elements.{All-append, All-cons, All-nil}
@@ -7,7 +7,7 @@ use Rattle.std.proofs.Math.Numerals.{add-one}
 use Rattle.std.proofs.Math.Seq.{take-suc}
 use Rattle.metadata.specs.Metadata.{Metadata}
 use Rattle.cli_lines.specs.Lines.{Part}
-use Rattle.cli_cells.specs.TokenLines.{AreTokenLines, HasString, HasTokenRow, IsNamed, IsTokenLine}
+use Rattle.cli_cells.specs.TokenLines.{AreTokenLines, IsTokenLine}
 
 -- ---- the items of a list before one
 
@@ -33,15 +33,6 @@ pub lines_appended : (model : Metadata) (numbers : List ℕ) (number : ℕ) (lin
 lines_appended model [] number lines parts are is = (parts, [], is, refl, ap (λ xs. xs ++ parts ∷ []) are)
 lines_appended model (n ∷ ns) number lines parts are is =
     (are.0, are.1 ++ parts ∷ [], are.2, lines_appended model ns number are.1 parts are.3 is, ap (λ xs. xs ++ parts ∷ []) are.4)
-
--- ---- what a number names
-
-module _ (root : List ℕ) (number : ℕ) where
-  pub none_named : number / 16777216 ≢ 112 → ¬ HasTokenRow root number → ¬ IsNamed root number
-  none_named other none = λ named. elim named [ inl at ↦ other at.0 | inr at ↦ none at.1 ]
-
-  pub string_unnamed : number / 16777216 ≡ 112 → ¬ HasString root (number % 16777216) → ¬ IsNamed root number
-  string_unnamed is none = λ named. elim named [ inl at ↦ none at.1 | inr at ↦ at.0 is ]
 
 pub on_some : {P Q : Type 0} (result : Option (Unit {0})) → OnSome result P → (P → Q) → OnSome result Q
 on_some None holds after = tt

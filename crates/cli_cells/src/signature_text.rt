@@ -7,7 +7,7 @@ ghost use Rattle.cli_cells.specs.SignatureText.{signature_text};
 
 use cli_lines::push_token;
 use itoa::Buffer;
-use sig_text::{SigKind, TextSink, Token, write_signature};
+use sig_text::{SigKind, TextSink, Token, write_encoded};
 use std::alloc::{AllocError, Global};
 
 /// The room for the text of a signature that is taken at once, in bytes. Most texts are shorter.
@@ -87,7 +87,7 @@ pub(crate) fn signature_text(
         text,
         refused: false,
     };
-    match write_signature(&mut sink, blob, kind) {
+    match write_encoded(&mut sink, blob, kind) {
         Some(()) => Ok(sink.text),
         None => Err(AllocError),
     }

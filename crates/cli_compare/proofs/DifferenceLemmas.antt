@@ -1,5 +1,5 @@
 -- What differs between two models.
-use Rattle.std.proofs.Common.{◌≡◌, [], ◌∷◌, List, ℕ, arith, length, map, refl}
+use Rattle.std.proofs.Common.{◌≡◌, [], ◌∷◌, List, ℕ, map, refl}
 use Rattle.metadata.specs.Metadata.{Metadata}
 use Rattle.comparison.specs.declared.difference.Difference.{Difference}
 use Rattle.comparison.specs.declared.difference.Difference.TheVariants.{Version, UserStrings, RowCount, Cell}
@@ -30,7 +30,3 @@ module _ (left right : List ℕ) where
 pub compared_some : (left right : Metadata) (found : List Difference) → (found ≡ [] → ⊥) → compared_lines left right found ≡ map (difference_line left right) found
 compared_some left right [] some = absurd (some refl)
 compared_some left right (difference ∷ differences) some = refl
-
-pub long_nothing : {X : Type 0} (xs : List X) → length xs ≡ 0 → xs ≡ []
-long_nothing [] is = refl
-long_nothing (x ∷ xs) is = absurd (omega (arith, is))

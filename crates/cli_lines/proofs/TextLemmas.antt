@@ -41,6 +41,10 @@ pair_below (suc count) n are few =
 pub pair_at : (n : ℕ) → n < 256 → get_or PAIRS (n * 2) 0 ∷ get_or PAIRS (n * 2 + 1) 0 ∷ [] ≡ hexadecimal 2 n
 pair_at n small = let digits = pair_below 256 n tt small in (λ i. digits.0 i ∷ digits.1 i ∷ []) ∙ sym (hex_byte false n small)
 
+-- a pair, digit by digit
+pub pair_of : (digits : List ℕ) (n : ℕ) → n < 256 → digits ≡ hexadecimal 2 n → get_or digits 0 0 ∷ get_or digits 1 0 ∷ [] ≡ hexadecimal 2 n
+pair_of digits n small is = ap (λ ds. get_or ds 0 0 ∷ get_or ds 1 0 ∷ []) (is ∙ hex_byte false n small) ∙ sym (hex_byte false n small)
+
 pub upper_more : (line : List ℕ) (n : ℕ) → n < 256
     → (line ++ digit_glyph true (n / 16) ∷ []) ++ digit_glyph true (n % 16) ∷ [] ≡ line ++ upper_hexadecimal n
 upper_more line n small = two_bytes line (digit_glyph true (n / 16)) (digit_glyph true (n % 16)) ∙ ap (λ ys. line ++ ys) (sym (hex_byte true n small))

@@ -1,5 +1,5 @@
 -- The row of a subject.
-use Rattle.std.proofs.Common.{◌≡◌, ℕ, ◌<◌, ◌≤◌, inl, inr, List, Option, None, Some, IfSome, IfNone, arith, sym, ◌∙◌, ⊎_elim}
+use Rattle.std.proofs.Common.{◌≡◌, ℕ, ◌<◌, ◌≤◌, List, Option, None, Some, IfSome, IfNone, arith, ⊎_elim}
 use Rattle.std.proofs.lemmas.Bool.{cases_lt}
 use Rattle.std.proofs.lemmas.Grind.{not_there}
 use Rattle.table_schema.specs.declared.table.TableId.TheVariants.{TypeDef}
@@ -7,9 +7,6 @@ use Rattle.metadata.specs.Lookups.{HasRow}
 use Rattle.metadata.specs.Metadata.{Metadata, count_in}
 use Rattle.metadata.specs.Model.{IsModel}
 use Rattle.opening.specs.Views.{HasModel, row_count}
-use Rattle.cli_outline.specs.declared.subject.Subject.{Subject}
-use Rattle.cli_outline.specs.declared.subject.Subject.TheVariants.{Named, Row}
-use Rattle.cli_outline.specs.Subjects.{IsSubject}
 
 -- what cannot fail holds
 pub at_most : (a b : ℕ) → ¬ (¬ (a ≤ b)) → a ≤ b
@@ -35,18 +32,3 @@ module _ (root : List ℕ) (has : HasModel root) (counted : (model : Metadata) �
   pub last_there : (o : Option ℕ) → ((model : Metadata) → IsModel root model → IfSome o (HasRow model TypeDef)) → IfSome o (λ row. row ≤ row_count root TypeDef)
   last_there None is = tt
   last_there (Some row) is = at_most row (row_count root TypeDef) (λ not. not_there has (λ some. let count = counted some.0 some.1 in let last = (is some.0 some.1).1 in not (omega (arith, count, last))))
-
--- a subject exists, and is one row
-pub subject_there : (model : Metadata) (subject : Subject) (row : ℕ) → IsSubject model subject row → HasRow model TypeDef row
-subject_there model (Named namespace name) row is = is.there
-subject_there model (Row of) row is = is.1
-
-pub subject_one : (model : Metadata) (subject : Subject) (row other : ℕ) → IsSubject model subject row → IsSubject model subject other → row ≡ other
-subject_one model (Row of) row other is more = is.0 ∙ sym more.0
-subject_one model (Named namespace name) row other is more = elim (cases_lt row other) [
-  | inl before ↦ absurd (more.first row is.there.0 before is.names)
-  | inr not ↦ elim (cases_lt other row) [
-    | inl after ↦ absurd (is.first other more.there.0 after more.names)
-    | inr same ↦ omega arith
-  ]
-]

@@ -1,6 +1,6 @@
 -- The bytes before the first NUL, and the words of a name.
 use Rattle.std.specs.Prelude.{◌==◌}
-use Rattle.std.proofs.Common.{◌≡◌, ◌<◌, ◌≤◌, ℕ, true, false, inl, inr, Some, None, List, [], ◌∷◌, ◌++◌, codes, length, eqb, eqb-true, lt-ltb, le-ltb, ltb, arith, refl, sym}
+use Rattle.std.proofs.Common.{◌≡◌, ◌<◌, ◌≤◌, ℕ, true, false, inl, inr, Some, None, List, [], ◌∷◌, ◌++◌, codes, length, eqb, lt-ltb, le-ltb, ltb, arith, refl}
 use Rattle.std.specs.List.{position, position_or_len}
 use Rattle.std.proofs.lemmas.Bool.{cases_lt}
 use Rattle.cli_faults.specs.Escaped.{escaped_text}
@@ -34,11 +34,6 @@ nul_missing bytes e =
           cc
       | inr le ↦ le
     ]
-
--- the words of an empty name, and of another
-pub empty_name : (name : List ℕ) → true ≡ (length name == 0) → [] ≡ spaced name
-empty_name [] is = refl
-empty_name (byte ∷ bytes) is = let none = eqb-true (length (byte ∷ bytes)) 0 (sym is) in absurd (omega arith)
 
 pub full_name : (name : List ℕ) → false ≡ (length name == 0) → codes " " ++ escaped_text name ≡ spaced name
 full_name [] is = cc

@@ -2,7 +2,6 @@
 use Rattle.std.proofs.Common.{◌≡◌, ◌∙◌, ℕ, ◌≤◌, Bool, true, false, List, length, min, take, refl, ap, sym, arith, cond}
 use Rattle.std.proofs.lemmas.List.{take_min}
 use Rattle.packed.specs.Rule.{AllHold}
-use Rattle.pe.specs.Headers.{wider}
 use Rattle.pe.specs.Rules.{rules_of_image}
 use Rattle.cli_regions.specs.Fields.{data_directories}
 use Rattle.cli_regions.specs.Kept.{HasHeaders}
@@ -15,14 +14,6 @@ headers_fit file h = record {
   room = h.1.1.1.0.0;
   sections = h.1.1.1.1.1.1.1.0;
 }
-
--- PE32+ has sixteen bytes more at most
-few : (plus : Bool) → cond plus 16 0 ≤ 16
-few true = omega arith
-few false = omega arith
-
-pub wider_few : (file : List ℕ) → wider file ≤ 16
-wider_few file = few _
 
 -- sixteen data directories at most have a name
 sixteen : length data_directories ≡ 16

@@ -145,13 +145,6 @@ fault_out Out verdict.Line input bytes file found other out = out
 fault_out Out verdict.Explained input bytes file found other out = absurd (other refl)
 
 module _ (request : Request) {W : Type 0} (contents : W → Option (List ℕ)) (before after : W) (name bytes : List ℕ) where
-  -- nothing of a report that was refused went out
-  pub refused_reported : (old new : Printed W) (ends : Ended) (why : Stop) → ends ≡ ended.Refused why → HasPrinted request name bytes old new request.report ends
-      → (new ≡ old → after ≡ before) → IsReported request contents before after name bytes (Ok ends)
-  refused_reported old new ended.Printed why is out same = cc
-  refused_reported old new (ended.Stopped stop) why is out same = cc
-  refused_reported old new (ended.Refused stop) why is out same = (out.0, same out.1)
-
   pub sent_reported : (ends : Ended) → ((why : Stop) → ends ≢ ended.Refused why) → HasEnded (AreSent request contents before after) request name bytes request.report ends
       → IsReported request contents before after name bytes (Ok ends)
   sent_reported ended.Printed other out = out

@@ -33,4 +33,4 @@ pub use declared::{MethodSink, write_method};
 pub use named::{NamedText, TokenNames};
 pub use sink::TextSink;
 pub use table_schema::{SigKind, Token};
-pub use whole::write_signature;
+pub use whole::{write_encoded, write_signature};

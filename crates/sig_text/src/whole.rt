@@ -84,11 +84,24 @@ pub fn write_signature<S: TextSink>(sink: &mut S, bytes: &[u8], kind: SigKind) -
     ensures text { (signature : Body) → Encodes kind signature bytes.now → Receives S.gives sink.old (text_of signature) (is_some result) sink.new }
     ensures nothing { ¬ ((signature : Body) × Encodes kind signature bytes.now) → sink.new ≡ sink.old }
 {
-    packed::laws::numbers_are_read();
-    sig_grammar::laws::indexes_are_read();
     if !recognise(bytes, kind) {
         return Some(());
     }
+    write_encoded(sink, bytes, kind)
+}
+
+/// The same for bytes that are known to encode a signature: it does not check them. If they encode none, it may write
+/// anything.
+///
+/// # Errors
+///
+/// `None` if and only if the sink refused a word.
+pub fn write_encoded<S: TextSink>(sink: &mut S, bytes: &[u8], kind: SigKind) -> Option<()>
+    ensures words { S.refused sink.new ≡ refused_after result (S.refused sink.old) }
+    ensures text { (signature : Body) → Encodes kind signature bytes.now → Receives S.gives sink.old (text_of signature) (is_some result) sink.new }
+{
+    packed::laws::numbers_are_read();
+    sig_grammar::laws::indexes_are_read();
     let mut taken = true;
     body(sink, &mut taken, bytes, kind);
     result_of(taken)
