@@ -1,5 +1,4 @@
 ghost use Rattle.std.specs.Prelude.{◌≡◌, IfOk, map};
-ghost use Rattle.metadata.specs.Cell as says;
 ghost use Rattle.tables.specs.Said.{said, all_said};
 ghost use Rattle.type_records.specs.Values.{reported};
 
@@ -29,39 +28,15 @@ pub enum FieldValue<'m> {
 fn owned_cell(alloc: Global, value: FieldValue<'_>) -> Result<Cell, AllocError>
     ensures { IfOk result (λ cell. said cell ≡ reported value.entry) }
 {
-    match value {
-        FieldValue::Number(number) => Ok(Cell::Number(number)),
-        FieldValue::Text(text) => text_cell(alloc, text),
-        FieldValue::Bytes(bytes) => bytes_cell(alloc, bytes),
-        FieldValue::Guid(guid) => Ok(Cell::Guid(guid)),
-        FieldValue::Ref(token) => Ok(Cell::Ref(token)),
-        FieldValue::Start(row) => Ok(Cell::Start(row)),
-        FieldValue::Sig(signature) => signature_cell(alloc, signature),
-    }
-}
-
-/// The cell with this text.
-fn text_cell(alloc: Global, text: &str) -> Result<Cell, AllocError>
-    ensures { IfOk result (λ cell. said cell ≡ says.Text text.now) }
-{
-    let owned = String::from_str(alloc, text)?;
-    Ok(Cell::Text(Text::from(owned)))
-}
-
-/// The cell with these bytes.
-fn bytes_cell(alloc: Global, bytes: &[u8]) -> Result<Cell, AllocError>
-    ensures { IfOk result (λ cell. said cell ≡ says.Bytes bytes.now) }
-{
-    let owned = Vec::from_slice(alloc, bytes)?;
-    Ok(Cell::Bytes(Bytes::from(owned)))
-}
-
-/// The cell with this signature.
-fn signature_cell(alloc: Global, signature: &Signature) -> Result<Cell, AllocError>
-    ensures { IfOk result (λ cell. said cell ≡ says.Sig signature.now) }
-{
-    let owned = signature.copy(alloc)?;
-    Ok(Cell::Sig(owned))
+    Ok(match value {
+        FieldValue::Number(number) => Cell::Number(number),
+        FieldValue::Text(text) => Cell::Text(Text::from(String::from_str(alloc, text)?)),
+        FieldValue::Bytes(bytes) => Cell::Bytes(Bytes::from(Vec::from_slice(alloc, bytes)?)),
+        FieldValue::Guid(guid) => Cell::Guid(guid),
+        FieldValue::Ref(token) => Cell::Ref(token),
+        FieldValue::Start(row) => Cell::Start(row),
+        FieldValue::Sig(signature) => Cell::Sig(signature.copy(alloc)?),
+    })
 }
 
 /// The cells with the contents of these fields, in the same order. The row is one allocation.
