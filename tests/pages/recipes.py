@@ -4,7 +4,8 @@
 - CONTRIBUTING.md: each file of a recipe is there, and contains each text that its line quotes at the end; the contract that
   it explains is that of the code.
 - Each command of these pages that is a file of the repository is there and can be run.
-- c/README.md names only what c/clim.h declares, and the calls in the table of docs/RATTLE.md are those of the crates.
+- c/README.md names only what c/clim.h declares, and the calls in the table of docs/RATTLE.md are those of the crates. docs/api
+  finds each item of model, with its text.
 - docs/ARCHITECTURE.md has a line for each crate of crates.txt, and for no other. The program and the library for C stand on
   no crate that owns cells.
 - README.md has at most 80 lines, and the line of the toolchain that proves the crates.
@@ -22,6 +23,7 @@ With --lines it only prints the definitions that docs/TRUST.md counts, with thei
 import glob
 import os
 import re
+import subprocess
 import sys
 
 TOP = os.path.dirname(os.path.dirname(os.path.dirname(os.path.realpath(__file__))))
@@ -133,6 +135,8 @@ def check_calls(counts):
     for name in sorted({*re.findall(r"`(?:\w+::)?(\w+)`", "".join(row[1] for row in table_rows(text_of("docs/RATTLE.md"))))}):
         is_there = re.search(rf"\b(?:fn|struct|trait|enum) {name}\b", sources)
         counts.expect(is_there, f"docs/RATTLE.md: no crate has {name}")
+    page = subprocess.run([f"{TOP}/docs/api"], stdout=subprocess.PIPE, text=True, check=False)
+    counts.expect(page.returncode == 0 and not re.search(r"^### .*\n\n\n", page.stdout, re.M), "docs/api: an item of model has no text")
 
 
 def libraries():
