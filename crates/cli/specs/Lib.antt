@@ -2,4 +2,3 @@ pub mod Columns
 pub mod OneCheck
 pub mod Runs
 pub mod Tasks
-pub mod OneCheck
