@@ -1,7 +1,7 @@
 //! Tests of `cli_lines`: each value and each part of a line, as text and as JSON (RFC 8259).
 
 use crate::cli::writers::{Full, Narrow};
-use cli_faults::Failure;
+use cli_faults::{Failure, Reason};
 use cli_lines::Part::{Close, Field, Member, Note, Open, Spaced, Units, Word};
 use cli_lines::Value::{Byte, Bytes, Guid, Hex, Null, Number, Plain, Quoted, Reference, Signature, Start, Text, Yes};
 use cli_lines::{Form, Name, Part, Printer, Value};
@@ -170,7 +170,7 @@ fn prints_a_prefix_if_the_output_fails(rt: HostRuntime) -> Result<(), Fail> {
         }
         let (_, sent) = printer.finish();
         assert_eq!(rt; sent.is_ok(), whole.len() <= room, "{room}");
-        assert!(rt; sent.is_ok() || matches!(sent, Err(Failure::CannotWriteOutput)), "{room}");
+        assert!(rt; sent.is_ok() || matches!(sent, Err(Failure::CannotWriteOutput(Reason::NoSpace))), "{room}");
         assert_eq!(rt; out.taken.as_slice(), &whole.as_bytes()[..room.min(whole.len())]);
     }
     for late in [false, true] {
@@ -178,7 +178,7 @@ fn prints_a_prefix_if_the_output_fails(rt: HostRuntime) -> Result<(), Fail> {
         let mut printer = Printer::new(rt.alloc(), Form::Text, &mut full);
         printer.line(&[Word("a")]);
         let (_, sent) = printer.finish();
-        assert!(rt; matches!(sent, Err(Failure::CannotWriteOutput)));
+        assert!(rt; matches!(sent, Err(Failure::CannotWriteOutput(Reason::NoSpace))));
     }
     Ok(())
 }

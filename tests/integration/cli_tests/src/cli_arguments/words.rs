@@ -73,8 +73,8 @@ const REFUSED: [(&[&str], &str); 96] = [
         "unexpected argument '04'",
     ),
     (
-        &["clim", "show", "lacks", "typedef"],
-        "error: TABLE is a table, which 'clim show --help' lists, not 'typedef'\n  hint: the nearest name is 'TypeDef'\n",
+        &["clim", "show", "lacks", "typdef"],
+        "error: TABLE is a table, which 'clim show --help' lists, not 'typdef'\n  hint: the nearest name is 'TypeDef'\n",
     ),
     (&["clim", "show", "lacks", "2"], "error: TABLE is a table"),
     (&["clim", "show", "lacks", "03"], "error: TABLE is a table"),
@@ -170,8 +170,8 @@ const REFUSED: [(&[&str], &str); 96] = [
         "error: no such column: '--ignore' takes a table and one of its columns, as 'Module.Mvid', not 'Module'\n",
     ),
     (
-        &["clim", "compare", "--ignore", "Module.Mvid", "--ignore=module.mvid", "lacks", "lacks"],
-        "as 'Module.Mvid', not 'module.mvid'\n  hint: the nearest name is 'Module.Mvid'\n",
+        &["clim", "compare", "--ignore", "Module.Mvid", "--ignore=module.mvi", "lacks", "lacks"],
+        "as 'Module.Mvid', not 'module.mvi'\n  hint: the nearest name is 'Module.Mvid'\n",
     ),
     (
         &["clim", "compare", "--ignore", "Constant.padding", "lacks", "lacks"],
@@ -196,9 +196,9 @@ const REFUSED: [(&[&str], &str); 96] = [
     ),
     (&["clim", "explain", "BadSignatur"], "not 'BadSignatur'\n  hint: the nearest name is 'BadSignature'\n"),
     // Capital letters are no difference.
-    (&["clim", "explain", "badstring"], "not 'badstring'\n  hint: the nearest name is 'BadString'\n"),
-    (&["clim", "show", "lacks", "METHODDEF"], "not 'METHODDEF'\n  hint: the nearest name is 'MethodDef'\n"),
-    (&["clim", "show", "lacks", "typeref"], "not 'typeref'\n  hint: the nearest name is 'TypeRef'\n"),
+    (&["clim", "explain", "badstrin"], "not 'badstrin'\n  hint: the nearest name is 'BadString'\n"),
+    (&["clim", "show", "lacks", "METHODEF"], "not 'METHODEF'\n  hint: the nearest name is 'MethodDef'\n"),
+    (&["clim", "show", "lacks", "typref"], "not 'typref'\n  hint: the nearest name is 'TypeRef'\n"),
     (&["clim", "show", "lacks", "MethodDfe"], "not 'MethodDfe'\n  hint: the nearest name is 'MethodDef'\n"),
     (&["clim", "shwo", "lacks"], "'show'\n"),
     (&["clim", "help", "outlin"], "'outline'\n"),
