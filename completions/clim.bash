@@ -24,6 +24,7 @@ _clim() {
             case ${COMP_WORDS[1]} in root | embed) ;; *) flags="$flags --budget" ;; esac
             case ${COMP_WORDS[1]} in root | check | show | types | outline | strings | token | where | digest | compare) flags="$flags --json" ;; esac
             if [ "${COMP_WORDS[1]}" = show ]; then flags="$flags --names --until-fault"; fi
+            if [ "${COMP_WORDS[1]}" = outline ]; then flags="$flags --no-tokens"; fi
             if [ "${COMP_WORDS[1]}" = compare ]; then flags="$flags --ignore"; fi
             # A list of files comes from the standard input alone. The budget is a number, and a column a name.
             if [ "${COMP_WORDS[COMP_CWORD-1]}" = --files-from ]; then COMPREPLY=(-); return; fi

@@ -30,6 +30,7 @@ complete -c clim -n "__fish_seen_subcommand_from check" -s q -l quiet -d 'Print 
 complete -c clim -n "__fish_seen_subcommand_from check" -l where -d 'Print what has the byte at the offset of the fault, and explain the fault'
 complete -c clim -n "__fish_seen_subcommand_from show" -l names -d 'Print the name of each column before its cell'
 complete -c clim -n "__fish_seen_subcommand_from show" -l until-fault -d 'Print the rows before the first fault, too, and then the fault'
+complete -c clim -n "__fish_seen_subcommand_from outline" -l no-tokens -d 'Leave out the comment with the token of the row'
 complete -c clim -n "__fish_seen_subcommand_from embed" -l root -r -F -d 'A metadata root to take instead of the canonical one'
 complete -c clim -n "__fish_seen_subcommand_from embed" -l unsigned -d 'Clear the strong name: its flag and its directory'
 complete -c clim -n "__fish_seen_subcommand_from compare" -l ignore -x -d 'Do not compare the cells of this column'

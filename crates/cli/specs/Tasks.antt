@@ -25,6 +25,8 @@ use Rattle.cli_lines.specs.declared.parts.Form.{Form}
 use Rattle.cli_lines.specs.declared.parts.Form.TheVariants.{JsonLines, Text}
 use Rattle.cli_outline.specs.declared.subject.Subject.{Subject}
 use Rattle.cli_outline.specs.declared.subject.Subject.TheVariants as subject
+use Rattle.cli_outline.specs.declared.line.Tokens.{Tokens}
+use Rattle.cli_outline.specs.declared.line.Tokens.TheVariants as tokens
 use Rattle.cli_runs.specs.declared.report.Listing.TheVariants as listing
 use Rattle.cli_runs.specs.declared.report.Naming.{Naming}
 use Rattle.cli_runs.specs.declared.report.Naming.TheVariants.{Alone, Named}
@@ -155,10 +157,15 @@ abbrev pub NamesType : List ℕ → Subject → Type 0
 NamesType word (subject.Row row) = IsTypeToken word × (row ≡ digits_value 16 word % 2 ^ 24)
 NamesType word (subject.Named namespace name) = (¬ IsTypeToken word) × IsFullName word namespace.now name.now
 
+-- whether the lines of `outline` have tokens, by whether the arguments have `--no-tokens`
+abbrev pub tokens_of : Bool → Tokens
+tokens_of true = tokens.Hidden
+tokens_of false = tokens.Shown
+
 -- the report of `outline`: that of the type that the argument names, or of all if there is none
-abbrev pub IsOutline : Option (Bor (List ℕ)) → Report → Type 0
-IsOutline part made =
-    MatchOption part (made ≡ report.Listing listing.Outline) (λ given. (named : Subject) × NamesType given.now named × (made ≡ report.OutlineOf named))
+abbrev pub IsOutline : Option (Bor (List ℕ)) → Tokens → Report → Type 0
+IsOutline part shown made =
+    MatchOption part (made ≡ report.Listing (listing.Outline shown)) (λ given. (named : Subject) × NamesType given.now named × (made ≡ report.OutlineOf named shown))
 
 -- the arguments are tokens, with these numbers
 abbrev pub AreTokens : List (Bor (List ℕ)) → List ℕ → Type 0
@@ -258,7 +265,7 @@ IsTask word.Root ask result = result ≡ report_task ask (Ok report.Root)
 IsTask word.Check ask result = result ≡ check_task ask
 IsTask word.Show ask result = IsReportTask ask (IsShow ask) result
 IsTask word.Types ask result = result ≡ report_task ask (Ok (report.Listing listing.Types))
-IsTask word.Outline ask result = IsReportTask ask (λ made. IsOkAnd made (IsOutline ask.part)) result
+IsTask word.Outline ask result = IsReportTask ask (λ made. IsOkAnd made (IsOutline ask.part (tokens_of ask.no_tokens))) result
 IsTask word.Strings ask result = result ≡ report_task ask (Ok report.Strings)
 IsTask word.Token ask result = IsReportTask ask (IsTokens ask.tokens.items) result
 IsTask word.Where ask result = IsReportTask ask (IsWhere ask.second) result

@@ -1,6 +1,6 @@
 //! What the arguments ask the program to do.
 ghost use Rattle.std.specs.Prelude.{◌≡◌, IfErr, IfOk};
-ghost use Rattle.cli.specs.Tasks.{AreTokens, IsCompareTask, IsExplainTask, IsFirstNoToken, IsOutline, IsShow, IsTableNamed, IsTask, IsTokens, IsWhere, NamesNoTable, NamesType, check_task, embed_task, form_of, input_of, list_task, names_of, naming_of, paths_of, report_task, request_of, rewrite_task, strong_name_of, verdict_of};
+ghost use Rattle.cli.specs.Tasks.{AreTokens, IsCompareTask, IsExplainTask, IsFirstNoToken, IsOutline, IsShow, IsTableNamed, IsTask, IsTokens, IsWhere, NamesNoTable, NamesType, check_task, embed_task, form_of, input_of, list_task, names_of, naming_of, paths_of, report_task, request_of, rewrite_task, strong_name_of, tokens_of, verdict_of};
 
 use crate::columns::columns_of;
 use cli_arguments::{Ask, Subcommand};
@@ -12,7 +12,7 @@ use cli_files::{
 use cli_input::Input;
 use cli_lines::Form;
 use cli_nearest::{nearest_code, nearest_column, nearest_table};
-use cli_outline::Subject;
+use cli_outline::{Subject, Tokens};
 use cli_runs::{CompareOptions, EmbedOptions, Listing, Naming, Report, Request, Verdict};
 use embedding::StrongName;
 use packed::FaultCode;
@@ -48,7 +48,7 @@ pub(crate) fn task_of<'a>(alloc: Global, ask: &'a Ask<'a>) -> Result<Task<'a>, F
         Subcommand::Check => check_of(ask),
         Subcommand::Show => on_files(ask, show_of(alloc, ask)),
         Subcommand::Types => on_files(ask, Ok(Report::Listing(Listing::Types))),
-        Subcommand::Outline => on_files(ask, Ok(outline_of(ask.part))),
+        Subcommand::Outline => on_files(ask, Ok(outline_of(ask.part, tokens_of(ask.no_tokens)))),
         Subcommand::Strings => on_files(ask, Ok(Report::Strings)),
         Subcommand::Token => on_files(ask, tokens_of(alloc, ask.tokens.as_slice())),
         Subcommand::Where => on_files(ask, where_of(ask.second)),
@@ -182,13 +182,24 @@ fn table_named<'a>(alloc: Global, part: Option<&'a str>) -> Result<Option<TableI
     }
 }
 
+/// Whether the lines of `outline` have tokens, by whether the arguments have `--no-tokens`.
+fn tokens_of(hidden: bool) -> Tokens
+    ensures { result ≡ tokens_of hidden }
+{
+    if hidden {
+        Tokens::Hidden
+    } else {
+        Tokens::Shown
+    }
+}
+
 /// The report of `outline`: the type that the argument names, or all if there is no argument.
-fn outline_of<'a>(part: Option<&'a str>) -> Report<'a>
-    ensures { IsOutline part.entry result }
+fn outline_of<'a>(part: Option<&'a str>, tokens: Tokens) -> Report<'a>
+    ensures { IsOutline part.entry tokens result }
 {
     match part {
-        Some(word) => Report::OutlineOf(type_named(word)),
-        None => Report::Listing(Listing::Outline),
+        Some(word) => Report::OutlineOf(type_named(word), tokens),
+        None => Report::Listing(Listing::Outline(tokens)),
     }
 }
 

@@ -55,6 +55,7 @@ pub record Gives (words : List Text) (ask : Ask) : Type 0 where
   pub quiet : IsTrue ask.quiet ↔ (one_of (codes "quiet") rows ≡ Some (codes "true"))
   pub names : IsTrue ask.names ↔ (one_of (codes "names") rows ≡ Some (codes "true"))
   pub until_fault : IsTrue ask.until_fault ↔ (one_of (codes "until-fault") rows ≡ Some (codes "true"))
+  pub no_tokens : IsTrue ask.no_tokens ↔ (one_of (codes "no-tokens") rows ≡ Some (codes "true"))
   pub locates : IsTrue ask.locates ↔ (one_of (codes "where") rows ≡ Some (codes "true"))
   pub root : option_map (λ word. word.now) ask.root ≡ first_of (codes "root") rows
   pub unsigned : IsTrue ask.unsigned ↔ (one_of (codes "unsigned") rows ≡ Some (codes "true"))

@@ -112,8 +112,8 @@ rules_of Check =
 rules_of Show = file ∷ bare ∷ budget ∷ json ∷ value (codes "part") ∷ flag (codes "names") ∷ flag (codes "until-fault") ∷ []
 -- `types [--bare] [--budget N] [--json] FILE`
 rules_of Types = file ∷ bare ∷ budget ∷ json ∷ []
--- `outline [--bare] [--budget N] [--json] FILE [NAME]`
-rules_of Outline = file ∷ bare ∷ budget ∷ json ∷ value (codes "part") ∷ []
+-- `outline [--bare] [--budget N] [--json] [--no-tokens] FILE [NAME]`
+rules_of Outline = file ∷ bare ∷ budget ∷ json ∷ value (codes "part") ∷ flag (codes "no-tokens") ∷ []
 -- `strings [--bare] [--budget N] [--json] FILE`
 rules_of Strings = file ∷ bare ∷ budget ∷ json ∷ []
 -- `token [--bare] [--budget N] [--json] FILE HEX..`

@@ -48,6 +48,7 @@ pub fn ask<'a>(alloc: Global, words: &'a [&'a str]) -> Result<Ask<'a>, Error>
         locates: flag(given, "where"),
         root: given.get_str("root"),
         unsigned: flag(given, "unsigned"),
+        no_tokens: flag(given, "no-tokens"),
     })
 }
 

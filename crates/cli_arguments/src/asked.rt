@@ -27,6 +27,8 @@ pub struct Ask<'a> {
     pub names: bool,
     /// Whether `show` prints the rows of a broken file that come before its first broken rule.
     pub until_fault: bool,
+    /// Whether `outline` leaves the tokens of rows out of its text.
+    pub no_tokens: bool,
     /// Whether `check` prints what has the byte at the offset of a fault, and explains the fault.
     pub locates: bool,
     /// The faults to `explain`, as they were given; all if there is none.

@@ -9,6 +9,8 @@ use Rattle.metadata.specs.Metadata.{Metadata, cell_in}
 use Rattle.cli_lines.specs.Lines.{Part, member, note, plain, text, token, word}
 use Rattle.cli_lines.specs.declared.names.Name.TheVariants as name
 use Rattle.cli_outline.specs.Parts.{number_of}
+use Rattle.cli_outline.specs.declared.line.Tokens.{Tokens}
+use Rattle.cli_outline.specs.declared.line.Tokens.TheVariants.{Hidden, Shown}
 
 -- a space or a parenthesis: the first word ends before it
 abbrev pub ends_word : ℕ → Bool
@@ -40,8 +42,17 @@ abbrev pub directive_part : Bool → List ℕ → Part
 directive_part true declared = member name.Directive (text (before_first ends_word declared))
 directive_part false declared = no_part
 
+-- the comment with the token, if tokens are shown
+abbrev pub comment_start : Tokens → Part
+comment_start Shown = word (codes "  // ")
+comment_start Hidden = no_part
+
+abbrev pub comment_token : Tokens → Token → Part
+comment_token Shown of = note (token of)
+comment_token Hidden of = no_part
+
 -- the line; the text of the member has no spaces at its start
-unfoldable pub declaration_line : Token → Option Token → Bool → List ℕ → List Part
-declaration_line of class directive declared =
+unfoldable pub declaration_line : Tokens → Token → Option Token → Bool → List ℕ → List Part
+declaration_line tokens of class directive declared =
     member name.Token (token of) ∷ type_part class ∷ directive_part directive (unindented declared)
-    ∷ note (plain declared) ∷ member name.Text (plain (unindented declared)) ∷ word (codes "  // ") ∷ note (token of) ∷ []
+    ∷ note (plain declared) ∷ member name.Text (plain (unindented declared)) ∷ comment_start tokens ∷ comment_token tokens of ∷ []

@@ -7,25 +7,27 @@ use Rattle.cli_lines.specs.Lines.{Part}
 use Rattle.cli_lines.specs.Printed.{Printed, Prints}
 use Rattle.cli_outline.specs.Declarations.{declaration_line, has_directive}
 use Rattle.cli_outline.specs.Layouts.{IsDeclared}
+use Rattle.cli_outline.specs.declared.line.Tokens.{Tokens}
 
 -- the line of a row
-abbrev pub IsLine : Metadata → Token → List Part → Type 0
-IsLine model of line =
+abbrev pub IsLine : Tokens → Metadata → Token → List Part → Type 0
+IsLine tokens model of line =
     (text : List ℕ) × IsDeclared model of text × (class : Option Token) × IsMemberOf model of.table of.row class
-    × (line ≡ declaration_line of class (has_directive model of) text)
+    × (line ≡ declaration_line tokens of class (has_directive model of) text)
 
 -- the lines of rows, one after another
-abbrev pub AreLines : Metadata → List Token → List (List Part) → Type 0
-AreLines model [] lines = lines ≡ []
-AreLines model (row ∷ rows) lines = (line : List Part) × IsLine model row line × (later : List (List Part)) × AreLines model rows later × (lines ≡ line ∷ later)
+abbrev pub AreLines : Tokens → Metadata → List Token → List (List Part) → Type 0
+AreLines tokens model [] lines = lines ≡ []
+AreLines tokens model (row ∷ rows) lines =
+    (line : List Part) × IsLine tokens model row line × (later : List (List Part)) × AreLines tokens model rows later × (lines ≡ line ∷ later)
 
 module _ {W : Type 0} where
   -- the lines of the first rows were printed: of all rows, unless printing failed
-  pub record PrintsRows (model : Metadata) (old new : Printed W) (rows : List Token) : Type 0 where
+  pub record PrintsRows (tokens : Tokens) (model : Metadata) (old new : Printed W) (rows : List Token) : Type 0 where
     pub first : List Token
     pub later : List Token
     pub whole : rows ≡ first ++ later
     pub lines : List (List Part)
-    pub are : AreLines model first lines
+    pub are : AreLines tokens model first lines
     pub printed : Prints old new lines
     pub all : IsSome new.waiting → later ≡ []

@@ -10,6 +10,7 @@ use Rattle.cli_outline.specs.declared.subject.Outcome.{Outcome}
 use Rattle.cli_outline.specs.declared.subject.Outcome.TheVariants.{Printed, NoSuchType}
 use Rattle.cli_outline.specs.Outline.{class_rows}
 use Rattle.cli_outline.specs.Printed.{PrintsRows}
+use Rattle.cli_outline.specs.declared.line.Tokens.{Tokens}
 
 -- a row of TypeDef is the subject: the first type with these names, or the type in this row
 abbrev pub IsSubject : Metadata → Subject → ℕ → Type 0
@@ -17,9 +18,9 @@ IsSubject model (Named namespace name) row = IsFirstType model namespace.now nam
 IsSubject model (Row of) row = (row ≡ of) × HasRow model TypeDef row
 
 -- the lines of the subject were printed if there is one
-abbrev pub PrintsSubject : {W : Type 0} → Metadata → Subject → Printer W → Printer W → Outcome → Type 0
-PrintsSubject model subject old new Printed = (row : ℕ) × IsSubject model subject row × PrintsRows model old new (class_rows model row)
-PrintsSubject model subject old new NoSuchType = (row : ℕ) → ¬ IsSubject model subject row
+abbrev pub PrintsSubject : {W : Type 0} → Tokens → Metadata → Subject → Printer W → Printer W → Outcome → Type 0
+PrintsSubject tokens model subject old new Printed = (row : ℕ) × IsSubject model subject row × PrintsRows tokens model old new (class_rows model row)
+PrintsSubject tokens model subject old new NoSuchType = (row : ℕ) → ¬ IsSubject model subject row
 
 -- nothing was printed if there is no subject
 abbrev pub PrintsNone : {W : Type 0} → Printer W → Printer W → Outcome → Type 0

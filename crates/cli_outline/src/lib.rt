@@ -25,5 +25,6 @@ mod pieces;
 mod signature_sink;
 mod subject;
 
+pub use line::Tokens;
 pub use outline::{print_outline, print_outline_of};
 pub use subject::{Outcome, Subject};

@@ -7,7 +7,7 @@ ghost use Rattle.opening.specs.Views.{row_count};
 ghost use Rattle.cli_lines.specs.Printed.{Prints};
 ghost use Rattle.cli_lines.specs.Shown.{shown};
 ghost use Rattle.full_names.specs.RowNames.{IsMemberOf};
-ghost use Rattle.cli_outline.specs.Declarations.{declaration_line, directive_part, ends_word, has_directive, type_part};
+ghost use Rattle.cli_outline.specs.Declarations.{comment_start, comment_token, declaration_line, directive_part, ends_word, has_directive, type_part};
 ghost use Rattle.cli_outline.specs.Layouts.{IsDeclared};
 ghost use Rattle.cli_outline.specs.Printed.{PrintsRows};
 ghost use Rattle.cli_outline.specs.Texts.{Gains};
@@ -29,6 +29,15 @@ const SEMANTICS: usize = 0;
 
 /// The flags of accessors that have a word (II.23.1.12).
 const KNOWN_SEMANTICS: u32 = 0x3F;
+
+/// Whether lines of text end with the tokens of their rows. In JSON they always have them.
+#[derive(Clone, Copy, Debug, PartialEq, Eq)]
+pub enum Tokens {
+    /// A line is its declaration alone.
+    Hidden,
+    /// The token of the row follows in a comment.
+    Shown,
+}
 
 /// Appends the declaration of a row: the pieces of its line.
 fn push_pieces(
@@ -98,16 +107,37 @@ fn directive_part(has_directive: bool, text: &str) -> Part<'_>
     Word("")
 }
 
+/// What comes before the token in a comment, if tokens are shown.
+fn comment_start(tokens: Tokens) -> Part<'static>
+    ensures { shown result ≡ comment_start tokens }
+{
+    match tokens {
+        Tokens::Shown => Word("  // "),
+        Tokens::Hidden => Word(""),
+    }
+}
+
+/// The token in a comment, if tokens are shown.
+fn comment_token(tokens: Tokens, of: Token) -> Part<'static>
+    ensures { shown result ≡ comment_token tokens of }
+{
+    match tokens {
+        Tokens::Shown => Note(Value::Token(of)),
+        Tokens::Hidden => Word(""),
+    }
+}
+
 /// Prints the line of a declaration.
 #[tactic(auto, unfolding(crate::specs::Declarations::declaration_line))]
 fn print_declaration<W: Write>(
+    tokens: Tokens,
     of: Token,
     class: Option<Token>,
     has_directive: bool,
     text: &str,
     out: &mut Printer<'_, W>,
 )
-    ensures { Prints out.old out.new (declaration_line of class has_directive text.now ∷ []) }
+    ensures { Prints out.old out.new (declaration_line tokens of class has_directive text.now ∷ []) }
 {
     let unindented = text.trim_ascii_start();
     out.line(&[
@@ -116,13 +146,14 @@ fn print_declaration<W: Write>(
         directive_part(has_directive, unindented),
         Note(Plain(text)),
         Member(Name::Text, Plain(unindented)),
-        Word("  // "),
-        Note(Value::Token(of)),
+        comment_start(tokens),
+        comment_token(tokens, of),
     ]);
 }
 
 /// Prints the line of a row: of a member of a type, if that is given.
 pub(crate) fn print_line<W: Write>(
+    tokens: Tokens,
     source: &Neighbours<'_, '_>,
     class: Option<Token>,
     token: Token,
@@ -132,13 +163,13 @@ pub(crate) fn print_line<W: Write>(
     requires first { 1 ≤ token.row }
     requires last { token.row ≤ row_count source.now.view.now token.table }
     requires member { (model : Metadata) → IsModel source.now.view.now model → IsMemberOf model token.table token.row class }
-    ensures { (model : Metadata) → IsModel source.now.view.now model → PrintsRows model out.old out.new (token ∷ []) }
+    ensures { (model : Metadata) → IsModel source.now.view.now model → PrintsRows tokens model out.old out.new (token ∷ []) }
 {
     declared.clear();
     match push_pieces(source, token, declared) {
         Ok(()) => {
             let has_directive = has_directive(source.view, token);
-            print_declaration(token, class, has_directive, &declared.text, out);
+            print_declaration(tokens, token, class, has_directive, &declared.text, out);
         }
         Err(_) => out.fail(),
     }

@@ -9,6 +9,7 @@ ghost use Rattle.cli_outline.specs.Printed.{PrintsRows};
 
 use crate::declared::Declared;
 use crate::laws::{ranges_follow, rows_follow};
+use crate::line::Tokens;
 use crate::outline::{print_row, run_of};
 use cli_lines::Printer;
 use navigation::{Link, Neighbours};
@@ -67,6 +68,7 @@ impl Mapped {
 
 /// Prints the line of an event or a property, and those of its accessors.
 fn print_accessed<W: Write>(
+    tokens: Tokens,
     source: &Neighbours<'_, '_>,
     of: Mapped,
     row: u32,
@@ -76,23 +78,24 @@ fn print_accessed<W: Write>(
     requires first { 1 ≤ row }
     requires last { row ≤ row_count source.now.view.now (table_of of) }
     requires limit { row ≤ 0xFFFFFF }
-    ensures { (model : Metadata) → IsModel source.now.view.now model → PrintsRows model out.old out.new (accessed_rows model of row) }
+    ensures { (model : Metadata) → IsModel source.now.view.now model → PrintsRows tokens model out.old out.new (accessed_rows model of row) }
 {
     rows_follow::<W>();
     let table = of.list().member();
-    print_row(source, None, Token { table, row }, declared, out);
+    print_row(tokens, source, None, Token { table, row }, declared, out);
     let accessors = source.linked(Link::Accessors, of.accessed(row));
     for accessor in accessors {
         let token = Token {
             table: TableId::MethodSemantics,
             row: accessor.row,
         };
-        print_row(source, None, token, declared, out);
+        print_row(tokens, source, None, token, declared, out);
     }
 }
 
 /// Prints the lines of some events or properties, in ascending order, each with its accessors.
 fn print_all_accessed<W: Write>(
+    tokens: Tokens,
     source: &Neighbours<'_, '_>,
     of: Mapped,
     rows: Range<u32>,
@@ -101,19 +104,20 @@ fn print_all_accessed<W: Write>(
 )
     requires first { 1 ≤ rows.start }
     requires last { rows.«end» ≤ row_count source.now.view.now (table_of of) + 1 }
-    ensures { (model : Metadata) → IsModel source.now.view.now model → PrintsRows model out.old out.new (each_from (accessed_rows model of) rows.start rows.«end») }
+    ensures { (model : Metadata) → IsModel source.now.view.now model → PrintsRows tokens model out.old out.new (each_from (accessed_rows model of) rows.start rows.«end») }
 {
     // The table has at most 0xFFFFFF rows.
     let _count = source.view.count(of.list().member());
     ranges_follow::<W>();
     let (first, past) = (rows.start, rows.end);
     for row in first..past {
-        print_accessed(source, of, row, declared, out);
+        print_accessed(tokens, source, of, row, declared, out);
     }
 }
 
 /// Prints the lines of the events or the properties of a row of their map.
 fn print_map<W: Write>(
+    tokens: Tokens,
     source: &Neighbours<'_, '_>,
     cells: &mut CellCursor<'_, '_>,
     of: Mapped,
@@ -125,14 +129,15 @@ fn print_map<W: Write>(
     requires last { map ≤ row_count cells.old (owner_of (list_of of)) }
     requires at { cells.old ≡ source.now.view.now }
     ensures same { cells.new ≡ cells.old }
-    ensures lines { (model : Metadata) → IsModel source.now.view.now model → PrintsRows model out.old out.new (mapped_rows model of map) }
+    ensures lines { (model : Metadata) → IsModel source.now.view.now model → PrintsRows tokens model out.old out.new (mapped_rows model of map) }
 {
     let rows = run_of(cells, of.list(), map);
-    print_all_accessed(source, of, rows, declared, out);
+    print_all_accessed(tokens, source, of, rows, declared, out);
 }
 
 /// Prints the lines of the events or the properties of a type.
 pub(crate) fn print_mapped<W: Write>(
+    tokens: Tokens,
     source: &Neighbours<'_, '_>,
     cells: &mut CellCursor<'_, '_>,
     of: Mapped,
@@ -142,11 +147,11 @@ pub(crate) fn print_mapped<W: Write>(
 )
     requires at { cells.old ≡ source.now.view.now }
     ensures same { cells.new ≡ cells.old }
-    ensures lines { (model : Metadata) → IsModel source.now.view.now model → PrintsRows model out.old out.new (type_rows model of class) }
+    ensures lines { (model : Metadata) → IsModel source.now.view.now model → PrintsRows tokens model out.old out.new (type_rows model of class) }
 {
     rows_follow::<W>();
     let maps = source.linked(of.link(), class);
     for map in maps {
-        print_map(source, cells, of, map.row, declared, out);
+        print_map(tokens, source, cells, of, map.row, declared, out);
     }
 }

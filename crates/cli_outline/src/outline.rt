@@ -15,7 +15,7 @@ ghost use Rattle.cli_outline.specs.Subjects.{PrintsNone, PrintsSubject};
 
 use crate::declared::Declared;
 use crate::laws::{ranges_follow, rows_follow};
-use crate::line::print_line;
+use crate::line::{Tokens, print_line};
 use crate::mapped::{Mapped, print_mapped};
 use crate::subject::{Outcome, Subject, found_row};
 use cli_lines::Printer;
@@ -28,6 +28,7 @@ use std::ops::Range;
 
 /// Prints the line of a row. The type of a member is given, or found by binary search.
 pub(crate) fn print_row<W: Write>(
+    tokens: Tokens,
     source: &Neighbours<'_, '_>,
     owner: Option<Token>,
     token: Token,
@@ -37,16 +38,24 @@ pub(crate) fn print_row<W: Write>(
     requires first { 1 ≤ token.row }
     requires last { token.row ≤ row_count source.now.view.now token.table }
     requires member { (class : TheToken) → owner ≡ Some class → (model : Metadata) → IsModel source.now.view.now model → IsMemberOf model token.table token.row owner }
-    ensures { (model : Metadata) → IsModel source.now.view.now model → PrintsRows model out.old out.new (row_of token.table token.row) }
+    ensures { (model : Metadata) → IsModel source.now.view.now model → PrintsRows tokens model out.old out.new (row_of token.table token.row) }
 {
     match owner {
-        Some(class) => print_line(source, Some(class), token, declared, out),
-        None => print_line(source, type_of_member(source, token), token, declared, out),
+        Some(class) => print_line(tokens, source, Some(class), token, declared, out),
+        None => print_line(
+            tokens,
+            source,
+            type_of_member(source, token),
+            token,
+            declared,
+            out,
+        ),
     }
 }
 
 /// Prints the lines of some rows of a table, in ascending order. The type of members is given, or found for each.
 fn print_rows<W: Write>(
+    tokens: Tokens,
     source: &Neighbours<'_, '_>,
     owner: Option<Token>,
     table: TableId,
@@ -58,40 +67,42 @@ fn print_rows<W: Write>(
     requires last { rows.«end» ≤ row_count source.now.view.now table + 1 }
     requires members { (class : TheToken) → owner ≡ Some class → (model : Metadata) → IsModel source.now.view.now model
         → (row : ℕ) → rows.start ≤ row → row < rows.«end» → IsMemberOf model table row owner }
-    ensures { (model : Metadata) → IsModel source.now.view.now model → PrintsRows model out.old out.new (each_from (row_of table) rows.start rows.«end») }
+    ensures { (model : Metadata) → IsModel source.now.view.now model → PrintsRows tokens model out.old out.new (each_from (row_of table) rows.start rows.«end») }
 {
     ranges_follow::<W>();
     let (first, past) = (rows.start, rows.end);
     for row in first..past {
-        print_row(source, owner, Token { table, row }, declared, out);
+        print_row(tokens, source, owner, Token { table, row }, declared, out);
     }
 }
 
 /// Prints the lines of all rows of a table.
 fn print_table<W: Write>(
+    tokens: Tokens,
     source: &Neighbours<'_, '_>,
     table: TableId,
     declared: &mut Declared,
     out: &mut Printer<'_, W>,
 )
-    ensures { (model : Metadata) → IsModel source.now.view.now model → PrintsRows model out.old out.new (all_rows model table) }
+    ensures { (model : Metadata) → IsModel source.now.view.now model → PrintsRows tokens model out.old out.new (all_rows model table) }
 {
     let count = source.view.count(table);
-    print_rows(source, None, table, 1..count + 1, declared, out);
+    print_rows(tokens, source, None, table, 1..count + 1, declared, out);
 }
 
 /// Prints the lines of all rows of some tables.
 fn print_tables<W: Write>(
+    tokens: Tokens,
     source: &Neighbours<'_, '_>,
     tables: &[TableId],
     declared: &mut Declared,
     out: &mut Printer<'_, W>,
 )
-    ensures { (model : Metadata) → IsModel source.now.view.now model → PrintsRows model out.old out.new (flat_map (all_rows model) tables.now) }
+    ensures { (model : Metadata) → IsModel source.now.view.now model → PrintsRows tokens model out.old out.new (flat_map (all_rows model) tables.now) }
 {
     rows_follow::<W>();
     for table in tables {
-        print_table(source, *table, declared, out);
+        print_table(tokens, source, *table, declared, out);
     }
 }
 
@@ -115,6 +126,7 @@ pub(crate) fn run_of(cells: &mut CellCursor<'_, '_>, list: MemberList, row: u32)
 
 /// Prints the lines of a type's members of one kind.
 fn print_members<W: Write>(
+    tokens: Tokens,
     source: &Neighbours<'_, '_>,
     cells: &mut CellCursor<'_, '_>,
     list: MemberList,
@@ -127,7 +139,7 @@ fn print_members<W: Write>(
     requires types { owner_of list ≡ TypeDef }
     requires at { cells.old ≡ source.now.view.now }
     ensures same { cells.new ≡ cells.old }
-    ensures lines { (model : Metadata) → IsModel source.now.view.now model → PrintsRows model out.old out.new (members model list row) }
+    ensures lines { (model : Metadata) → IsModel source.now.view.now model → PrintsRows tokens model out.old out.new (members model list row) }
 {
     metadata::laws::models_are_read();
     let rows = run_of(cells, list, row);
@@ -135,11 +147,20 @@ fn print_members<W: Write>(
         table: TableId::TypeDef,
         row,
     };
-    print_rows(source, Some(class), list.member(), rows, declared, out);
+    print_rows(
+        tokens,
+        source,
+        Some(class),
+        list.member(),
+        rows,
+        declared,
+        out,
+    );
 }
 
 /// Prints the lines of a type, of its fields, its methods, its events and its properties.
 fn print_class<W: Write>(
+    tokens: Tokens,
     source: &Neighbours<'_, '_>,
     cells: &mut CellCursor<'_, '_>,
     row: u32,
@@ -150,33 +171,58 @@ fn print_class<W: Write>(
     requires last { row ≤ row_count cells.old TypeDef }
     requires at { cells.old ≡ source.now.view.now }
     ensures same { cells.new ≡ cells.old }
-    ensures lines { (model : Metadata) → IsModel source.now.view.now model → PrintsRows model out.old out.new (class_rows model row) }
+    ensures lines { (model : Metadata) → IsModel source.now.view.now model → PrintsRows tokens model out.old out.new (class_rows model row) }
 {
     rows_follow::<W>();
     let class = Token {
         table: TableId::TypeDef,
         row,
     };
-    print_row(source, None, class, declared, out);
-    print_members(source, cells, MemberList::Fields, row, declared, out);
-    print_members(source, cells, MemberList::Methods, row, declared, out);
-    print_mapped(source, cells, Mapped::Events, row, declared, out);
-    print_mapped(source, cells, Mapped::Properties, row, declared, out);
+    print_row(tokens, source, None, class, declared, out);
+    print_members(
+        tokens,
+        source,
+        cells,
+        MemberList::Fields,
+        row,
+        declared,
+        out,
+    );
+    print_members(
+        tokens,
+        source,
+        cells,
+        MemberList::Methods,
+        row,
+        declared,
+        out,
+    );
+    print_mapped(tokens, source, cells, Mapped::Events, row, declared, out);
+    print_mapped(
+        tokens,
+        source,
+        cells,
+        Mapped::Properties,
+        row,
+        declared,
+        out,
+    );
 }
 
 /// Prints the lines of all types and their members.
 fn print_classes<W: Write>(
+    tokens: Tokens,
     source: &Neighbours<'_, '_>,
     declared: &mut Declared,
     out: &mut Printer<'_, W>,
 )
-    ensures { (model : Metadata) → IsModel source.now.view.now model → PrintsRows model out.old out.new (each_from (class_rows model) 1 (count_in model TypeDef + 1)) }
+    ensures { (model : Metadata) → IsModel source.now.view.now model → PrintsRows tokens model out.old out.new (each_from (class_rows model) 1 (count_in model TypeDef + 1)) }
 {
     ranges_follow::<W>();
     let mut cells = CellCursor::new(source.view);
     let count = source.view.count(TableId::TypeDef);
     for row in 1..count + 1 {
-        print_class(source, &mut cells, row, declared, out);
+        print_class(tokens, source, &mut cells, row, declared, out);
     }
 }
 
@@ -211,20 +257,21 @@ fn last_tables() -> &'static [TableId]
 
 /// Prints all lines of the outline.
 fn print_all<W: Write>(
+    tokens: Tokens,
     source: &Neighbours<'_, '_>,
     declared: &mut Declared,
     out: &mut Printer<'_, W>,
 )
-    ensures { (model : Metadata) → IsModel source.now.view.now model → PrintsRows model out.old out.new (outline_rows model) }
+    ensures { (model : Metadata) → IsModel source.now.view.now model → PrintsRows tokens model out.old out.new (outline_rows model) }
 {
     rows_follow::<W>();
-    print_tables(source, first_tables(), declared, out);
-    print_classes(source, declared, out);
-    print_tables(source, last_tables(), declared, out);
+    print_tables(tokens, source, first_tables(), declared, out);
+    print_classes(tokens, source, declared, out);
+    print_tables(tokens, source, last_tables(), declared, out);
 }
 
 /// Prints the outline of a view: its declarations in the notation of ILAsm (II.5 to II.22), one per line. Each line ends
-/// with the token of its row in a comment, as eight hexadecimal digits. Texts of the file are escaped: printable ASCII
+/// with the token of its row in a comment, as eight hexadecimal digits, if tokens are shown. Texts of the file are escaped: printable ASCII
 /// except `"` and `\` is as it is, any other byte is `\x` and two hexadecimal digits. Of a name, a signature or another
 /// text that is longer than 65,536 bytes the first ones are printed, and `..`. As JSON Lines a line is an object: `token`,
 /// of a member `type` (the token of its type), `directive` (the first word), and `text` (the declaration).
@@ -240,25 +287,43 @@ fn print_all<W: Write>(
 ///
 /// Its memory is that of the longest line, of the lines that wait to be sent, and eight bytes for each row of the three
 /// tables. If a list of members has a null start, its starts take four bytes for each owner.
-pub fn print_outline<W: Write>(alloc: Global, view: &View<'_>, out: &mut Printer<'_, W>)
-    ensures { (model : Metadata) → IsModel view.now model → PrintsRows model out.old out.new (outline_rows model) }
+pub fn print_outline<W: Write>(
+    alloc: Global,
+    view: &View<'_>,
+    tokens: Tokens,
+    out: &mut Printer<'_, W>,
+)
+    ensures { (model : Metadata) → IsModel view.now model → PrintsRows tokens model out.old out.new (outline_rows model) }
 {
     match Neighbours::new(alloc, view) {
-        Ok(source) => print_all(&source, &mut Declared::new(alloc), out),
+        Ok(source) => print_all(tokens, &source, &mut Declared::new(alloc), out),
         Err(_) => out.fail(),
     }
 }
 
 /// Prints the outline of a type of a view: its line, and those of its fields, methods, events and properties.
-fn print_type<W: Write>(alloc: Global, view: &View<'_>, row: u32, out: &mut Printer<'_, W>)
+fn print_type<W: Write>(
+    alloc: Global,
+    view: &View<'_>,
+    row: u32,
+    tokens: Tokens,
+    out: &mut Printer<'_, W>,
+)
     requires first { 1 ≤ row }
     requires last { row ≤ row_count view.now TypeDef }
-    ensures { (model : Metadata) → IsModel view.now model → PrintsRows model out.old out.new (class_rows model row) }
+    ensures { (model : Metadata) → IsModel view.now model → PrintsRows tokens model out.old out.new (class_rows model row) }
 {
     match Neighbours::new(alloc, view) {
         Ok(source) => {
             let mut cells = CellCursor::new(source.view);
-            print_class(&source, &mut cells, row, &mut Declared::new(alloc), out);
+            print_class(
+                tokens,
+                &source,
+                &mut cells,
+                row,
+                &mut Declared::new(alloc),
+                out,
+            );
         }
         Err(_) => out.fail(),
     }
@@ -270,14 +335,15 @@ pub fn print_outline_of<W: Write>(
     alloc: Global,
     view: &View<'_>,
     subject: Subject<'_>,
+    tokens: Tokens,
     out: &mut Printer<'_, W>,
 ) -> Outcome
-    ensures printed { (model : Metadata) → IsModel view.now model → PrintsSubject model subject.entry out.old out.new result }
+    ensures printed { (model : Metadata) → IsModel view.now model → PrintsSubject tokens model subject.entry out.old out.new result }
     ensures untouched { PrintsNone out.old out.new result }
 {
     match found_row(view, subject) {
         Some(row) => {
-            print_type(alloc, view, row, out);
+            print_type(alloc, view, row, tokens, out);
             Outcome::Printed
         }
         None => Outcome::NoSuchType,

@@ -9,6 +9,7 @@ use Rattle.cli_faults.specs.declared.stop.Stop.{Stop}
 use Rattle.cli_input.specs.Checked.{IsModelOf, IsWhole}
 use Rattle.cli_input.specs.declared.opened.Input.{Input}
 use Rattle.cli_input.specs.declared.opened.Input.TheVariants.{BareRoot, File}
+use Rattle.cli_outline.specs.declared.line.Tokens.{Tokens}
 use Rattle.cli_lines.specs.Printed.{Printed}
 use Rattle.cli_runs.specs.Printing.{Hands, HasPrinted}
 use Rattle.cli_runs.specs.Reports.{AreDeclared, IsFaultOut, IsListed, IsPrinted, IsStopped}
@@ -32,13 +33,13 @@ module _ {W : Type 0} (old new : Printed W) where
   abbrev Keeps : Type 0
   Keeps = new.borrow ≡ old.borrow
 
-  declared_keeps : (model : Metadata) (rows : List Token) → AreDeclared (Hands old new) model rows → Keeps
-  declared_keeps model rows out = out.5.0.same.borrow
+  declared_keeps : (tokens : Tokens) (model : Metadata) (rows : List Token) → AreDeclared (Hands old new) tokens model rows → Keeps
+  declared_keeps tokens model rows out = out.5.0.same.borrow
 
   listed_keeps : (of : Listing) (model : Metadata) → IsListed (Hands old new) of model → Keeps
   listed_keeps (listing.Show table names) model out = out.0.same.borrow
   listed_keeps listing.Types model out = out.0.same.borrow
-  listed_keeps listing.Outline model out = declared_keeps model _ out
+  listed_keeps (listing.Outline tokens) model out = declared_keeps tokens model _ out
 
   fault_keeps : (of : Verdict) (input : Input) (bytes : List ℕ) (file : Option (List ℕ)) (found : Fault) → IsFaultOut (Hands old new) of input bytes file found → Keeps
   fault_keeps verdict.Quiet input bytes file found out = out.0.same.borrow
@@ -52,8 +53,8 @@ module _ {W : Type 0} (old new : Printed W) where
     printed_keeps (report.Listing of) out = of_model _ _ request.input bytes out.0 (λ model is. listed_keeps of model (out.1 model is))
     printed_keeps (report.Check of) out = out.1.0.same.borrow
     printed_keeps (report.ShowUntilFault table names) out = of_model _ _ request.input bytes out.0 (λ model is. (out.1 model is).0.same.borrow)
-    printed_keeps (report.OutlineOf subject) out =
-        of_model _ _ request.input bytes out.0 (λ model is. let at = out.1 model is in declared_keeps model _ at.2)
+    printed_keeps (report.OutlineOf subject tokens) out =
+        of_model _ _ request.input bytes out.0 (λ model is. let at = out.1 model is in declared_keeps tokens model _ at.2)
     printed_keeps (report.Tokens numbers) out = of_model _ _ request.input bytes out.3.0 (λ model is. (out.3.1 model is).2.0.same.borrow)
     printed_keeps (report.Where offset) out = out.1.3.0.same.borrow
     printed_keeps report.Digest out = out.2.0.same.borrow
@@ -64,7 +65,7 @@ module _ {W : Type 0} (old new : Printed W) where
     stopped_keeps (report.Listing of) why out = absurd out
     stopped_keeps (report.Check of) why out = fault_keeps of request.input bytes _ out.2.0 out.2.2
     stopped_keeps (report.ShowUntilFault table names) why out = out.3.2.0.same.borrow
-    stopped_keeps (report.OutlineOf subject) why out = absurd out
+    stopped_keeps (report.OutlineOf subject tokens) why out = absurd out
     stopped_keeps (report.Tokens numbers) why out = of_model _ _ request.input bytes out.9.0 (λ model is. (out.9.1 model is).2.0.same.borrow)
     stopped_keeps (report.Where offset) why (inl out) = out.2.3.0.same.borrow
     stopped_keeps (report.Where offset) why (inr out) = out.3.2.0.same.borrow

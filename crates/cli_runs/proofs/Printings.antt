@@ -13,6 +13,7 @@ use Rattle.cli_input.specs.Checked.{rules_of}
 use Rattle.cli_input.specs.Heads.{AreHeads, HasHeads, rules_of_heads}
 use Rattle.cli_lines.specs.Printed.{Printed, Prints}
 use Rattle.cli_outline.specs.Printed.{PrintsRows}
+use Rattle.cli_outline.specs.declared.line.Tokens.{Tokens}
 use Rattle.cli_where.specs.Located.{AreListed}
 use Rattle.cli_print.specs.RootLines.{heads_lines}
 use Rattle.cli_runs.specs.Printing.{Hands, HasPrinted}
@@ -36,8 +37,9 @@ module _ {W : Type 0} (request : Request) (name bytes : List ℕ) (old new : Pri
   listing_ended of (Err found) first same printed = (first, same)
 
 -- the rows of an outline were handed to a printer
-pub declared : {W : Type 0} (old new : Printed W) (model : Metadata) (rows : List Token) → PrintsRows model old new rows → AreDeclared (Hands old new) model rows
-declared old new model rows out = (out.first, out.later, out.whole, out.lines, out.are, (out.printed, out.all))
+pub declared : {W : Type 0} (old new : Printed W) (tokens : Tokens) (model : Metadata) (rows : List Token)
+    → PrintsRows tokens model old new rows → AreDeclared (Hands old new) tokens model rows
+declared old new tokens model rows out = (out.first, out.later, out.whole, out.lines, out.are, (out.printed, out.all))
 
 module _ {W : Type 0} (request : Request) (name bytes : List ℕ) (old new : Printed W) where
   pub strings_refused : (failure : Failure) → AreListed request.input bytes old new (Err failure)

@@ -10,6 +10,7 @@ use Rattle.cli_faults.specs.declared.stop.Stop.{Stop}
 use Rattle.cli_input.specs.declared.opened.Input.{Input}
 use Rattle.cli_lines.specs.declared.parts.Form.{Form}
 use Rattle.cli_lines.specs.Lines.{Part, report_text}
+use Rattle.cli_outline.specs.declared.line.Tokens.{Tokens}
 use Rattle.cli_lines.specs.Printed.{Asked, Printed, Sent}
 use Rattle.cli_runs.specs.Printing.{AreNone, Hands, HasPrinted}
 use Rattle.cli_runs.specs.Reports.{AreDeclared, AreNamed, HasEnded, IsFaultOut, IsListed, IsPrinted, IsStopped, OfModel, verdict_lines}
@@ -27,13 +28,13 @@ use Rattle.cli_runs.specs.declared.report.Verdict.TheVariants as verdict
 -- ---- what went out of a report, if each of its lines does
 
 module _ (P Q : Type 0 → List (List Part) → Type 0) (weaker : (all : Type 0) (lines : List (List Part)) → P all lines → Q all lines) where
-  declared_weaker : (model : Metadata) (rows : List Token) → AreDeclared P model rows → AreDeclared Q model rows
-  declared_weaker model rows out = (out.0, out.1, out.2, out.3, out.4, weaker (out.1 ≡ []) out.3 out.5)
+  declared_weaker : (tokens : Tokens) (model : Metadata) (rows : List Token) → AreDeclared P tokens model rows → AreDeclared Q tokens model rows
+  declared_weaker tokens model rows out = (out.0, out.1, out.2, out.3, out.4, weaker (out.1 ≡ []) out.3 out.5)
 
   listed_weaker : (of : Listing) (model : Metadata) → IsListed P of model → IsListed Q of model
   listed_weaker (listing.Show table names) model out = weaker _ _ out
   listed_weaker listing.Types model out = weaker _ _ out
-  listed_weaker listing.Outline model out = declared_weaker model _ out
+  listed_weaker (listing.Outline tokens) model out = declared_weaker tokens model _ out
 
   fault_weaker : (of : Verdict) (input : Input) (bytes : List ℕ) (file : Option (List ℕ)) (found : Fault) → IsFaultOut P of input bytes file found → IsFaultOut Q of input bytes file found
   fault_weaker verdict.Quiet input bytes file found out = weaker _ _ out
@@ -50,8 +51,8 @@ module _ (P Q : Type 0 → List (List Part) → Type 0) (weaker : (all : Type 0)
     printed_weaker (report.Listing of) out = (out.0, (λ model is. listed_weaker of model (out.1 model is)))
     printed_weaker (report.Check of) out = (out.0, weaker _ _ out.1)
     printed_weaker (report.ShowUntilFault table names) out = (out.0, (λ model is. weaker _ _ (out.1 model is)))
-    printed_weaker (report.OutlineOf subject) out =
-        (out.0, (λ model is. let at = out.1 model is in (at.0, at.1, declared_weaker model _ at.2)))
+    printed_weaker (report.OutlineOf subject tokens) out =
+        (out.0, (λ model is. let at = out.1 model is in (at.0, at.1, declared_weaker tokens model _ at.2)))
     printed_weaker (report.Tokens numbers) out = (out.0, out.1, out.2, named_weaker numbers.items out.3)
     printed_weaker (report.Where offset) out = (out.0, (out.1.0, out.1.1, out.1.2, weaker _ _ out.1.3))
     printed_weaker report.Digest out = (out.0, out.1, weaker _ _ out.2)
@@ -62,7 +63,7 @@ module _ (P Q : Type 0 → List (List Part) → Type 0) (weaker : (all : Type 0)
     stopped_weaker (report.Listing of) why out = absurd out
     stopped_weaker (report.Check of) why out = (out.0, out.1, (out.2.0, out.2.1, fault_weaker of request.input bytes _ out.2.0 out.2.2))
     stopped_weaker (report.ShowUntilFault table names) why out = (out.0, out.1, out.2, (out.3.0, out.3.1, weaker _ _ out.3.2))
-    stopped_weaker (report.OutlineOf subject) why out = absurd out
+    stopped_weaker (report.OutlineOf subject tokens) why out = absurd out
     stopped_weaker (report.Tokens numbers) why out =
         (out.0, out.1, out.2, out.3, out.4, out.5, out.6, out.7, out.8, named_weaker out.3 out.9)
     stopped_weaker (report.Where offset) why (inl out) = inl (out.0, out.1, (out.2.0, out.2.1, out.2.2, weaker _ _ out.2.3))

@@ -29,6 +29,7 @@ use Rattle.cli_cells.specs.TokenLines.{AreTokenLines, IsNamed}
 use Rattle.cli_outline.specs.Outline.{class_rows, outline_rows}
 use Rattle.cli_outline.specs.Printed.{AreLines}
 use Rattle.cli_outline.specs.Subjects.{IsSubject}
+use Rattle.cli_outline.specs.declared.line.Tokens.{Tokens}
 use Rattle.cli_print.specs.DigestLines.{digest_line}
 use Rattle.cli_print.specs.Explanations.{IsExplanation}
 use Rattle.cli_print.specs.RootLines.{heads_lines}
@@ -100,7 +101,7 @@ IsRefused request bytes of BudgetSpent = IsSpent request.budget request.input by
 IsRefused request bytes report.Root (Failed (Fault found)) = FirstBroken (rules_of_heads request.input bytes) found
 IsRefused request bytes (report.Check verdict) (Failed (Fault found)) =
     (is_reported verdict request.form request.naming ≡ true) × FirstBroken (rules_of request.input bytes) found
-IsRefused request bytes (report.OutlineOf subject) NoSuchType = OfModel request.input bytes (λ model. (row : ℕ) → ¬ IsSubject model subject row)
+IsRefused request bytes (report.OutlineOf subject tokens) NoSuchType = OfModel request.input bytes (λ model. (row : ℕ) → ¬ IsSubject model subject row)
 IsRefused request bytes (report.Check Explained) (Failed OutOfMemory) = Unit {0}
 IsRefused request bytes report.Strings (Failed OutOfMemory) = Unit {0}
 IsRefused request bytes (report.Where offset) (Failed failure) = failure ≡ OutOfMemory
@@ -117,9 +118,9 @@ module _ (Out : Type 0 → List (List Part) → Type 0) where
   AreOut lines = Out (Unit {0}) lines
 
   -- the declarations of the first of these rows went out, and they are all if no row follows
-  abbrev pub AreDeclared : Metadata → List Token → Type 0
-  AreDeclared model rows =
-      (first later : List Token) × (rows ≡ first ++ later) × (lines : List (List Part)) × AreLines model first lines × Out (later ≡ []) lines
+  abbrev pub AreDeclared : Tokens → Metadata → List Token → Type 0
+  AreDeclared tokens model rows =
+      (first later : List Token) × (rows ≡ first ++ later) × (lines : List (List Part)) × AreLines tokens model first lines × Out (later ≡ []) lines
 
   -- what numbers name in a model went out
   abbrev pub AreNamed : List ℕ → Metadata → Type 0
@@ -129,7 +130,7 @@ module _ (Out : Type 0 → List (List Part) → Type 0) where
   abbrev pub IsListed : Listing → Metadata → Type 0
   IsListed (listing.Show table names) model = AreOut (show_lines names model (tables_of table))
   IsListed listing.Types model = AreOut (types_lines model)
-  IsListed listing.Outline model = AreDeclared model (outline_rows model)
+  IsListed (listing.Outline tokens) model = AreDeclared tokens model (outline_rows model)
 
   -- this fault went out, with what is asked about it
   abbrev pub IsFaultOut : Verdict → Input → List ℕ → Option (List ℕ) → Found → Type 0
@@ -156,8 +157,8 @@ module _ (Out : Type 0 → List (List Part) → Type 0) where
     IsPrinted (report.Listing listing) = OfModel request.input bytes (IsListed listing)
     IsPrinted (report.Check verdict) = IsWhole request.input bytes × AreOut (verdict_lines verdict (label request.naming name) None)
     IsPrinted (report.ShowUntilFault table names) = OfModel request.input bytes (IsListed (listing.Show table names))
-    IsPrinted (report.OutlineOf subject) =
-        OfModel request.input bytes (λ model. (row : ℕ) × IsSubject model subject row × AreDeclared model (class_rows model row))
+    IsPrinted (report.OutlineOf subject tokens) =
+        OfModel request.input bytes (λ model. (row : ℕ) × IsSubject model subject row × AreDeclared tokens model (class_rows model row))
     IsPrinted (report.Tokens numbers) =
         (root : List ℕ) × IsOpened request.input bytes root × All (IsNamed root) numbers.items × OfModel request.input bytes (AreNamed numbers.items)
     IsPrinted (report.Where offset) = IsWhole request.input bytes × IsLocated offset Something

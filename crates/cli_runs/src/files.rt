@@ -181,7 +181,7 @@ fn report_stop<E: Write>(
     ensures quiet { result ≡ 0 → err.new ≡ err.old }
 {
     match (&stop, &request.report) {
-        (Stop::NoSuchType, Report::OutlineOf(subject)) => {
+        (Stop::NoSuchType, Report::OutlineOf(subject, _)) => {
             report_missing_type(alloc, bytes, request.input, *subject, err);
             stop.status()
         }

@@ -16,7 +16,7 @@ use cli_cells::{Names, print_show, print_tokens, print_until_fault};
 use cli_faults::{Failure, Stop};
 use cli_input::{Input, open};
 use cli_lines::Printer;
-use cli_outline::{Outcome, Subject, print_outline, print_outline_of};
+use cli_outline::{Outcome, Subject, Tokens, print_outline, print_outline_of};
 use cli_print::{print_digest, print_root, print_types};
 use cli_where::{Found, print_strings, print_where};
 use comparison::digest;
@@ -50,7 +50,9 @@ pub(crate) fn print_report<'a, W: Write>(
         Report::ShowUntilFault(table, names) => {
             print_first_rows(alloc, request, table, *names, name, bytes, out)
         }
-        Report::OutlineOf(subject) => print_type(alloc, request, *subject, name, bytes, out),
+        Report::OutlineOf(subject, tokens) => {
+            print_type(alloc, request, *subject, *tokens, name, bytes, out)
+        }
         Report::Tokens(numbers) => print_named(alloc, request, numbers, name, bytes, out),
         Report::Where(offset) => print_at(alloc, request, *offset, name, bytes, out),
         Report::Digest => print_digest_of(alloc, request, name, bytes, out),
@@ -94,7 +96,7 @@ fn print_view<W: Write>(alloc: Global, listing: Listing, view: &View<'_>, out: &
     match listing {
         Listing::Show(table, names) => print_show(alloc, view, tables_of(&table), names, out),
         Listing::Types => print_types(view, out),
-        Listing::Outline => print_outline(alloc, view, out),
+        Listing::Outline(tokens) => print_outline(alloc, view, tokens, out),
     }
 }
 
@@ -148,14 +150,15 @@ fn print_type<'a, W: Write>(
     alloc: Global,
     request: &Request<'_>,
     subject: Subject<'_>,
+    tokens: Tokens,
     name: &str,
     bytes: &[u8],
     out: &mut Printer<'_, W>,
 ) -> Ended<'a>
-    ensures { HasPrinted request.now name.now bytes.now out.old out.new (report.OutlineOf subject.entry) result }
+    ensures { HasPrinted request.now name.now bytes.now out.old out.new (report.OutlineOf subject.entry tokens) result }
 {
     match open(bytes, request.input) {
-        Ok(view) => match print_outline_of(alloc, &view, subject, out) {
+        Ok(view) => match print_outline_of(alloc, &view, subject, tokens, out) {
             Outcome::Printed => Ended::Printed,
             Outcome::NoSuchType => Ended::Refused(Stop::NoSuchType),
         },

@@ -3,7 +3,7 @@
 use crate::runs::answer;
 use cli_input::{Input, open};
 use cli_lines::{Form, Printer};
-use cli_outline::print_outline;
+use cli_outline::{Tokens, print_outline};
 use sample_roots::RootBuilder;
 use std::alloc::Global;
 use std::fs;
@@ -101,7 +101,7 @@ fn json_of(alloc: Global, root: &[u8]) -> Result<String, Fail> {
     };
     let mut out = Vec::new(alloc);
     let mut printer = Printer::new(alloc, Form::JsonLines, &mut out);
-    print_outline(alloc, &view, &mut printer);
+    print_outline(alloc, &view, Tokens::Shown, &mut printer);
     let (_, sent) = printer.finish();
     if sent.is_err() {
         return Err("no outline".into());

@@ -86,4 +86,5 @@ returns-clause-given c =
       locates = c.flag-7.ensures;
       root = c.get_str-5.ensures ∙ first_value-rows found (codes "root");
       unsigned = c.flag-8.ensures;
+      no_tokens = c.flag-9.ensures;
     }

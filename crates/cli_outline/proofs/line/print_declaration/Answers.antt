@@ -14,5 +14,5 @@ returns g c =
     let cut = trim_ascii_start_is whole c.trim_ascii_start-unindented.result.now c.trim_ascii_start-unindented.ensures.value in
     let directive = c.directive_part.ensures ∙ ap (directive_part c.args.has_directive) cut in
     subst (λ (line : List Part). Prints c.args.out.now c.line.new.self (line ∷ []))
-    (λ i. member name.Token (token of) ∷ c.type_part.ensures i ∷ directive i ∷ note (plain whole) ∷ member name.Text (plain (cut i)) ∷ word (codes "  // ") ∷ note (token of) ∷ [])
+    (λ i. member name.Token (token of) ∷ c.type_part.ensures i ∷ directive i ∷ note (plain whole) ∷ member name.Text (plain (cut i)) ∷ c.comment_start.ensures i ∷ c.comment_token.ensures i ∷ [])
     c.line.ensures

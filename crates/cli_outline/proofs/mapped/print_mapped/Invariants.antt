@@ -13,6 +13,6 @@ abbrev pub invariant-loop-map : goal.invariant-loop-map
 invariant-loop-map g l = record {
   same : l.cells ≡ l.source.view.now;
   lines : (model : Metadata) (later : Printed _) → IsModel l.source.view.now model
-      → PrintsRows model l.out later (flat_map (mapped_rows model l.of) (map row_of (drop l.map-index l.maps)))
-      → PrintsRows model l.initial.out later (flat_map (mapped_rows model l.of) (map row_of l.maps));
+      → PrintsRows l.tokens model l.out later (flat_map (mapped_rows model l.of) (map row_of (drop l.map-index l.maps)))
+      → PrintsRows l.tokens model l.initial.out later (flat_map (mapped_rows model l.of) (map row_of l.maps));
 }

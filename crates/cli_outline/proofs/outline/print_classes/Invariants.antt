@@ -11,6 +11,6 @@ use Rattle.cli_outline.proofs.outline.print_classes.Given as goal
 abbrev pub invariant-loop-row : goal.invariant-loop-row
 invariant-loop-row g l = record {
   same : l.cells ≡ l.source.view.now;
-  lines : (model : Metadata) (later : Printed _) → IsModel l.source.view.now model → PrintsRows model l.out later (each_from (class_rows model) l.row (count_in model TypeDef + 1))
-      → PrintsRows model l.initial.out later (each_from (class_rows model) 1 (count_in model TypeDef + 1));
+  lines : (model : Metadata) (later : Printed _) → IsModel l.source.view.now model → PrintsRows l.tokens model l.out later (each_from (class_rows model) l.row (count_in model TypeDef + 1))
+      → PrintsRows l.tokens model l.initial.out later (each_from (class_rows model) 1 (count_in model TypeDef + 1));
 }

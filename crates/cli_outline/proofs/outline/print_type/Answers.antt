@@ -8,4 +8,4 @@ pub returns-in-Ok : goal.returns-in-Ok
 returns-in-Ok g c = λ model is. c.print_class.ensures.lines model (subst (λ (root : List ℕ). IsModel root model) (sym c.in-Ok.ensures) is)
 
 pub returns-in-Err : goal.returns-in-Err
-returns-in-Err g c = λ model is. rows_failed model c.args.out.now c.fail.new.self (class_rows model c.args.row) (c.fail.ensures.lines []) c.fail.ensures.stopped
+returns-in-Err g c = λ model is. rows_failed c.args.tokens model c.args.out.now c.fail.new.self (class_rows model c.args.row) (c.fail.ensures.lines []) c.fail.ensures.stopped

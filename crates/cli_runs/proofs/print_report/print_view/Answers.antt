@@ -8,4 +8,4 @@ pub returns-in-Types : goal.returns-in-Types
 returns-in-Types g c model is = rw c.in-Types.is (c.print_types.ensures model is, (λ live. tt))
 
 pub returns-in-Outline : goal.returns-in-Outline
-returns-in-Outline g c model is = rw c.in-Outline.is (declared c.args.out.now c.print_outline.new.out model _ (c.print_outline.ensures model is))
+returns-in-Outline g c model is = rw c.in-Outline.is (declared c.args.out.now c.print_outline.new.out c.in-Outline.tokens model _ (c.print_outline.ensures model is))

@@ -57,6 +57,28 @@ fn outlines_one_type(rt: HostRuntime) -> Result<(), Fail> {
     Ok(())
 }
 
+/// Lines of text end before the comment. JSON Lines have the tokens all the same.
+#[test]
+fn leaves_tokens_out(rt: HostRuntime) -> Result<(), Fail> {
+    const BARE_MODULE: &str = ".class private auto ansi <Module>\n";
+    const BARE_CLASS: &str = "\
+.class public auto ansi beforefieldinit N.C
+  .field private int32 a
+  .field private int32 b
+  .method public void N.C::M() cil managed
+";
+    fs::write(&rt, "no_tokens.root", &TWO_TYPES)?;
+    let (status, whole, _) = answer(&rt, &["clim", "outline", "--no-tokens", "--bare", "no_tokens.root"])?;
+    assert!(rt; status == 0 && whole.starts_with(BARE_MODULE) && whole.ends_with(BARE_CLASS), "{whole}");
+    let (_, class, _) = answer(&rt, &["clim", "outline", "--bare", "no_tokens.root", "--no-tokens", "N.C"])?;
+    assert_eq!(rt; class.as_str(), BARE_CLASS);
+    let (_, with, _) = answer(&rt, &["clim", "outline", "--json", "--bare", "no_tokens.root"])?;
+    let (_, without, _) = answer(&rt, &["clim", "outline", "--json", "--no-tokens", "--bare", "no_tokens.root"])?;
+    assert_eq!(rt; without.as_str(), with.as_str());
+    fs::remove_file(&rt, "no_tokens.root")?;
+    Ok(())
+}
+
 /// A type whose name has a dot is found by its token alone. Its name is at 174 in the root.
 #[test]
 fn splits_a_name_at_its_last_dot(rt: HostRuntime) -> Result<(), Fail> {

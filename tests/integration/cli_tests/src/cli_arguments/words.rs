@@ -114,6 +114,7 @@ const REFUSED: [(&[&str], &str); 95] = [
     (&["clim", "explain", "--json=1"], "unexpected value '1' for '--json'"),
     (&["clim", "rewrite", "--json", "lacks", "out"], "unexpected argument '--json'"),
     (&["clim", "types", "--names", "lacks"], "unexpected argument '--names'"),
+    (&["clim", "show", "--no-tokens", "lacks"], "unexpected argument '--no-tokens'"),
     (&["clim", "show", "--where", "lacks"], "unexpected argument '--where'"),
     (
         &["clim", "show", "--json", "lacks", "2"],
@@ -622,6 +623,19 @@ fn asks_for_names_and_for_what_has_the_fault(rt: HostRuntime) -> Result<(), Fail
     ] {
         let asked = ask(rt.alloc(), words)?;
         assert_eq!(rt; (asked.names, asked.locates), (names, locates));
+    }
+    Ok(())
+}
+
+#[test]
+fn asks_for_an_outline_without_tokens(rt: HostRuntime) -> Result<(), Fail> {
+    for (words, no_tokens) in [
+        (["clim", "outline", "--no-tokens", "a"].as_slice(), true),
+        (&["clim", "outline", "a", "N.C", "--no-tokens", "--json"], true),
+        (&["clim", "outline", "a", "--", "--no-tokens"], false),
+        (&["clim", "outline", "a"], false),
+    ] {
+        assert_eq!(rt; ask(rt.alloc(), words)?.no_tokens, no_tokens);
     }
     Ok(())
 }
