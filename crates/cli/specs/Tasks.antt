@@ -158,9 +158,9 @@ NamesType word (subject.Row row) = IsTypeToken word × (row ≡ digits_value 16 
 NamesType word (subject.Named namespace name) = (¬ IsTypeToken word) × IsFullName word namespace.now name.now
 
 -- whether the lines of `outline` have tokens, by whether the arguments have `--no-tokens`
-abbrev pub tokens_of : Bool → Tokens
-tokens_of true = tokens.Hidden
-tokens_of false = tokens.Shown
+abbrev pub outline_tokens_of : Bool → Tokens
+outline_tokens_of true = tokens.Hidden
+outline_tokens_of false = tokens.Shown
 
 -- the report of `outline`: that of the type that the argument names, or of all if there is none
 abbrev pub IsOutline : Option (Bor (List ℕ)) → Tokens → Report → Type 0
@@ -265,7 +265,7 @@ IsTask word.Root ask result = result ≡ report_task ask (Ok report.Root)
 IsTask word.Check ask result = result ≡ check_task ask
 IsTask word.Show ask result = IsReportTask ask (IsShow ask) result
 IsTask word.Types ask result = result ≡ report_task ask (Ok (report.Listing listing.Types))
-IsTask word.Outline ask result = IsReportTask ask (λ made. IsOkAnd made (IsOutline ask.part (tokens_of ask.no_tokens))) result
+IsTask word.Outline ask result = IsReportTask ask (λ made. IsOkAnd made (IsOutline ask.part (outline_tokens_of ask.no_tokens))) result
 IsTask word.Strings ask result = result ≡ report_task ask (Ok report.Strings)
 IsTask word.Token ask result = IsReportTask ask (IsTokens ask.tokens.items) result
 IsTask word.Where ask result = IsReportTask ask (IsWhere ask.second) result

@@ -1,6 +1,6 @@
 //! What the arguments ask the program to do.
 ghost use Rattle.std.specs.Prelude.{◌≡◌, IfErr, IfOk};
-ghost use Rattle.cli.specs.Tasks.{AreTokens, IsCompareTask, IsExplainTask, IsFirstNoToken, IsOutline, IsShow, IsTableNamed, IsTask, IsTokens, IsWhere, NamesNoTable, NamesType, check_task, embed_task, form_of, input_of, list_task, names_of, naming_of, paths_of, report_task, request_of, rewrite_task, strong_name_of, tokens_of, verdict_of};
+ghost use Rattle.cli.specs.Tasks.{AreTokens, IsCompareTask, IsExplainTask, IsFirstNoToken, IsOutline, IsShow, IsTableNamed, IsTask, IsTokens, IsWhere, NamesNoTable, NamesType, check_task, embed_task, form_of, input_of, list_task, names_of, naming_of, outline_tokens_of, paths_of, report_task, request_of, rewrite_task, strong_name_of, verdict_of};
 
 use crate::columns::columns_of;
 use cli_arguments::{Ask, Subcommand};
@@ -48,7 +48,10 @@ pub(crate) fn task_of<'a>(alloc: Global, ask: &'a Ask<'a>) -> Result<Task<'a>, F
         Subcommand::Check => check_of(ask),
         Subcommand::Show => on_files(ask, show_of(alloc, ask)),
         Subcommand::Types => on_files(ask, Ok(Report::Listing(Listing::Types))),
-        Subcommand::Outline => on_files(ask, Ok(outline_of(ask.part, tokens_of(ask.no_tokens)))),
+        Subcommand::Outline => on_files(
+            ask,
+            Ok(outline_of(ask.part, outline_tokens_of(ask.no_tokens))),
+        ),
         Subcommand::Strings => on_files(ask, Ok(Report::Strings)),
         Subcommand::Token => on_files(ask, tokens_of(alloc, ask.tokens.as_slice())),
         Subcommand::Where => on_files(ask, where_of(ask.second)),
@@ -183,8 +186,8 @@ fn table_named<'a>(alloc: Global, part: Option<&'a str>) -> Result<Option<TableI
 }
 
 /// Whether the lines of `outline` have tokens, by whether the arguments have `--no-tokens`.
-fn tokens_of(hidden: bool) -> Tokens
-    ensures { result ≡ tokens_of hidden }
+fn outline_tokens_of(hidden: bool) -> Tokens
+    ensures { result ≡ outline_tokens_of hidden }
 {
     if hidden {
         Tokens::Hidden
