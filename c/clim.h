@@ -492,14 +492,16 @@ bool clim_open(const uint8_t *file, size_t len, clim_view *view, clim_fault *fau
 /* The same for a bare metadata root. */
 bool clim_open_root(const uint8_t *root, size_t len, clim_view *view, clim_fault *fault);
 
-/* The same as clim_check, within a budget: the number of bytes of signatures that it may check at most. Use these
- * four calls for untrusted files: the time to check a crafted file can grow with the square of its size.
+/* The same as clim_check, within a budget: the number of bytes of texts and signatures that it may check at most. Use
+ * these four calls for untrusted files: the time to check a crafted file can grow with the square of its size. Within
+ * a budget it grows with the sum of the size and the budget.
  *
  * If the budget does not suffice, *spent becomes true, the call returns false, and *fault is unchanged. Otherwise
- * *spent becomes false. The budget is spent only if the signature blobs of all rows together are longer than the
- * budget, and the rules before those of signatures hold. In any other case the call returns and writes what
- * clim_check does. A blob counts its length each time that it is checked; one that was accepted shortly before is
- * free. The samples of this library need a budget below their own size. */
+ * *spent becomes false. The budget is spent only if the texts and the signature blobs of all rows count more bytes
+ * than the budget, and all earlier rules hold. In any other case the call returns and writes what clim_check does. A
+ * blob counts its length each time that it is checked; one that was accepted shortly before is free. If #Strings is
+ * UTF-8 as a whole, texts are free. Otherwise a text counts its bytes in each row that refers to it, up to a 1024th of
+ * the heap. The samples of this library need a budget below their own size. */
 bool clim_check_within(const uint8_t *file, size_t len, uint64_t budget, clim_fault *fault, bool *spent);
 
 /* The same for a bare metadata root. */

@@ -107,8 +107,8 @@ static bool same_within(const uint8_t *bytes, size_t len, bool bare, bool valid,
                          : clim_open_within(bytes, len, budget, &view, &opened, &no_open);
         if (check != open || no_check != no_open || !same_fault(checked, opened) || view.is_open != open) return false;
         if (!open && !same_view(&view, &CLOSED)) return false;
-        /* Only a budget of 0 is spent, and only if rules before those of signatures (7) hold. */
-        if (no_check && (i < 2 || check || checked.code != 7 || (!valid && fault.layer < 7))) return false;
+        /* Only a budget of 0 is spent: by texts, if the rules before those of cells (5) hold, or by signatures. */
+        if (no_check && (i < 2 || check || checked.code != 7 || (!valid && fault.layer < 5))) return false;
         if (!no_check && (check != valid || !same_fault(checked, fault))) return false;
     }
     return true;

@@ -24,7 +24,7 @@ complete -c clim -n "not __fish_seen_subcommand_from $subcommands" -a help -d 'P
 complete -c clim -n "__fish_seen_subcommand_from $readers" -F
 complete -c clim -n "__fish_seen_subcommand_from root info check show types outline strings token where rewrite digest compare" -l bare -d 'FILE is a metadata root, not a PE file'
 complete -c clim -n "__fish_seen_subcommand_from root info check show types outline strings token where embed digest compare explain" -l json -d 'Print a JSON value on each line'
-complete -c clim -n "__fish_seen_subcommand_from info check show types outline strings token where rewrite digest compare" -l budget -x -d 'Check at most N bytes of signatures, or stop with exit status 3'
+complete -c clim -n "__fish_seen_subcommand_from info check show types outline strings token where rewrite digest compare" -l budget -x -d 'Check at most N bytes of texts and signatures, or stop with exit status 3'
 complete -c clim -n "__fish_seen_subcommand_from check" -l files-from -x -a - -d 'Read the names of the files from standard input, each ended by a NUL'
 complete -c clim -n "__fish_seen_subcommand_from check" -s 0 -d "The same as '--files-from -'"
 complete -c clim -n "__fish_seen_subcommand_from check" -s q -l quiet -d 'Print nothing about faults; only the exit status reports them'

@@ -107,7 +107,7 @@ namespace Clim
         public string Explanation { get { return Native.Explanation(Code); } }
     }
 
-    /// <summary>Thrown by <see cref="Assembly.Open(byte[], ulong)"/> if the signatures have more bytes than the budget.</summary>
+    /// <summary>Thrown by <see cref="Assembly.Open(byte[], ulong)"/> if the texts and signatures have more bytes than the budget.</summary>
     public sealed class BudgetSpentException : Exception
     {
         internal BudgetSpentException() : base("the budget is spent") { }
@@ -850,7 +850,7 @@ namespace Clim
         }
 
         /// <summary>
-        /// Opens a file within a budget: the number of bytes of signatures that it may check at most.
+        /// Opens a file within a budget: the number of bytes of texts and signatures that it may check at most.
         /// </summary>
         /// <exception cref="ClimFault">The file breaks a rule. It is that of the first one.</exception>
         /// <exception cref="BudgetSpentException">The budget is spent.</exception>
@@ -1075,6 +1075,10 @@ namespace Clim
         }
 
         /// <summary>The rows of a table whose key is a row, in ascending order; none if the table has no key.</summary>
+        /// <remarks>
+        /// They are found by binary search. Each call passes over all rows if these are not in order of their keys, as in crafted
+        /// files; to look up many keys, read the table once.
+        /// </remarks>
         public T[] ByKey<T>(Token key) where T : struct, IRow
         {
             var numbers = NumbersByKey(default(T).Table, key);

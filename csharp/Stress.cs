@@ -1,7 +1,8 @@
 // Tests of Clim.cs that keep it busy. The last line is 'N passed, M failed'.
 //
 //     Stress.exe threads FILE SECONDS     two threads for this time in each call: one calls, and another writes the bytes
-//                                         that were given, closes the assembly, or changes the tables
+//         [NAME..]                        that were given, closes the assembly, or changes the tables. With names, in the
+//                                         calls that have them
 //     Stress.exe growth FOLDER            calls on the roots of python/tests/hostile_roots.py. The time and the memory for
 //                                         twice the bytes may be 2.3 times those for the bytes
 
@@ -174,22 +175,24 @@ static class Stress
         Report(true, "Root");
     }
 
-    static void Threads(byte[] file, double seconds)
+    static void Threads(byte[] file, double seconds, string[] names)
     {
+        Func<string, bool> isWanted = name => names.Length == 0 || names.Contains(name);
         var header = Assembly.ReadHeader(file);
         var root = file.Skip((int)header.RootStart).Take((int)header.Metadata.Size).ToArray();
-        foreach (var it in given)
+        foreach (var it in given.Where(it => isWanted(it.Key)))
             WriteBeside(it.Key, seconds, it.Value, file);
-        foreach (var it in givenRoot)
+        foreach (var it in givenRoot.Where(it => isWanted(it.Key)))
             WriteBeside(it.Key, seconds, it.Value, root);
-        foreach (var it in read)
+        foreach (var it in read.Where(it => isWanted(it.Key)))
             CloseBeside(it.Key, seconds, it.Value, () => Assembly.OpenRoot(root));
-        foreach (var it in readFile)
+        foreach (var it in readFile.Where(it => isWanted(it.Key)))
             CloseBeside(it.Key, seconds, it.Value, () => Assembly.Open(file));
-        using (var assembly = Assembly.OpenRoot(root))
-            ChangeBeside(seconds, assembly);
+        if (isWanted("Root"))
+            using (var assembly = Assembly.OpenRoot(root))
+                ChangeBeside(seconds, assembly);
         using (var assembly = Assembly.Open(file))
-            foreach (var it in givenTo)
+            foreach (var it in givenTo.Where(it => isWanted(it.Key)))
                 WriteBeside(it.Key, seconds, given => it.Value(assembly, given), root);
     }
 
@@ -272,7 +275,7 @@ static class Stress
     static int Main(string[] arguments)
     {
         if (arguments[0] == "threads")
-            Threads(File.ReadAllBytes(arguments[1]), double.Parse(arguments[2]));
+            Threads(File.ReadAllBytes(arguments[1]), double.Parse(arguments[2]), arguments.Skip(3).ToArray());
         else
             Growth(arguments[1]);
         Console.WriteLine("{0} passed, {1} failed", passed, failed);

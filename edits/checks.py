@@ -57,6 +57,19 @@ class Checked(typing.NamedTuple):
     lines: list
     seconds: float
 
+    def refused_itself(self, crate, function):
+        """What the prover says of a function that it refuses, and not for a function which that one calls, or nothing.
+
+        Of the lines, notes come before the function's own line, and errors of its answers have their path.
+        """
+        answers, notes = f"./proofs/{function.replace('::', '/')}/", []
+        for line in self.lines:
+            if line.startswith(f"fn {crate}::{function}: ") and re.search(r": (not proved|no proof\b(?!.* it calls ).*)$", line):
+                return [it for it in self.lines if it.startswith(answers)] + notes + [line]
+            if not line.startswith("./proofs/"):
+                notes = [] if line.startswith("fn ") else [*notes, line]
+        return []
+
 
 def linked(folder, to):
     """Copies what a check kept, by links where these can be made: a check replaces such a file, and changes none."""

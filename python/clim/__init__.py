@@ -79,7 +79,7 @@ def open(source: Source, bare: bool = False, *, mmap: bool = False, budget: Opti
             `bytes` are read in place. All others may change, so they are copied.
         bare: Whether it is a bare metadata root, without the file around it (II.24.2.1).
         mmap: Has no effect. The file of a path is read, and not mapped, since others could change it while it is open.
-        budget: The number of bytes of signatures that may be checked at most. Without it a crafted file can take a long time.
+        budget: The number of bytes of texts and signatures that may be checked at most. Without it a crafted file can take a long time.
 
     Raises:
         Fault: The bytes break a rule of the standard. The error states number, name and offset of the first one.

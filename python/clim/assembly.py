@@ -48,6 +48,26 @@ _MOST = 4
 _PADDING = 1 << 16
 # The number of rows that a look-up by key expects.
 _ROWS = 16
+# The number of look-ups in a table after which its rows are grouped by their keys. Before, each look-up passes over all rows
+# of a table that is not in order.
+_LOOK_UPS = 64
+# The columns of the keys of tables (II.22).
+_KEYS = {
+    "ClassLayout": "Parent",
+    "Constant": "Parent",
+    "CustomAttribute": "Parent",
+    "DeclSecurity": "Parent",
+    "FieldLayout": "Field",
+    "FieldMarshal": "Parent",
+    "FieldRVA": "Field",
+    "GenericParam": "Owner",
+    "GenericParamConstraint": "Owner",
+    "ImplMap": "MemberForwarded",
+    "InterfaceImpl": "Class",
+    "MethodImpl": "Class",
+    "MethodSemantics": "Association",
+    "NestedClass": "NestedClass",
+}
 # The streams that the standard names (II.24.2.2).
 _STREAMS = ("#~", "#Strings", "#US", "#GUID", "#Blob")
 # The largest token, and the largest budget.
@@ -612,6 +632,7 @@ class Table(Generic[R]):
         self._count: int = library.clim_count(assembly._view(), number)
         self._row_type: Type[R] = cast(Type[R], Row.of_table[number])
         self._columns_read: Dict[str, Sequence[Any]] = {}
+        self._look_ups = 0
 
     def __len__(self) -> int:
         self.assembly._view()
@@ -663,6 +684,11 @@ class Table(Generic[R]):
         """
         if not 0 <= token <= _LARGEST_TOKEN:
             raise ValueError(f"{int(token)} is no token")
+        self._look_ups += 1
+        if self._look_ups > _LOOK_UPS and self.name in _KEYS:
+            groups = self.assembly._grouped(self.name, _KEYS[self.name])
+            self.assembly._view()
+            return [*groups.get(operator.index(token), ())]
         room = _ROWS
         while True:
             rows = (ctypes.c_uint32 * room)()

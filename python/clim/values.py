@@ -117,7 +117,7 @@ _NO_COPY = {
 
 
 class BudgetSpent(Exception):
-    """The signatures of a file have more bytes than the budget of `clim.open` allows."""
+    """The texts and signatures of a file have more bytes than the budget of `clim.open` allows."""
 
 
 class Location(NamedTuple):

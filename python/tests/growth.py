@@ -37,6 +37,10 @@ def read_names(assembly):
     return [row.full_name for row in assembly.types]
 
 
+def read_attributes(assembly):
+    return [row.custom_attributes for row in assembly.types]
+
+
 def read_heaps(assembly):
     return assembly.heaps
 
@@ -77,6 +81,7 @@ CASES = [
     (seconds, read_heaps, "many_streams"),
     (seconds, read_names, "nested_in_one"),
     (seconds, read_names, "nested_out_of_order"),
+    (seconds, read_attributes, "attributes_out_of_order"),
     (seconds, read_texts, "one_signature"),
 ]
 

@@ -24,6 +24,7 @@ import uuid
 
 import clim
 from clim import _library, rows
+from clim.assembly import _KEYS, _LOOK_UPS
 
 TOP = pathlib.Path(__file__).resolve().parents[2]
 SAMPLES = TOP / "samples"
@@ -407,6 +408,16 @@ class Reading(unittest.TestCase):
                     for name in dir(row):
                         if not name.startswith("_"):
                             getattr(row, name)
+
+    def test_many_look_ups_find_the_same_rows(self):
+        for _, assembly in opened():
+            for table in assembly:
+                keys = {*table.column(_KEYS[table.name]), 0x02000000} if table.name in _KEYS else {0x02000001}
+                for key in [*keys][:500]:
+                    found = []
+                    for table._look_ups in (0, _LOOK_UPS):
+                        found.append([it.number for it in table.by_key(key)])
+                    self.assertEqual(*found)
 
     def test_names_of_nested_types(self):
         for _, assembly in opened():

@@ -1,4 +1,4 @@
-"""Two threads in each call: threads.py FILE SECONDS.
+"""Two threads in each call, or in those with some names: threads.py FILE SECONDS [NAME..].
 
 For this time one thread makes a call again and again, and another one writes the bytes or the file that were given, closes
 the assembly, or changes the tables. Each call ends as it says, and the process goes on.
@@ -203,14 +203,14 @@ CASES = [
 def main():
     with open(sys.argv[1], "rb") as file:
         data = file.read()
-    failed = 0
-    for how, name, call in CASES:
+    failed, cases = 0, [it for it in CASES if len(sys.argv) < 4 or it[1] in sys.argv[3:]]
+    for how, name, call in cases:
         try:
             how(call, data, float(sys.argv[2]))
         except Exception as error:
             failed += 1
             print(f"{name}, {how.__name__}: {error!r}")
-    print(f"{len(CASES) - failed} passed, {failed} failed")
+    print(f"{len(cases) - failed} passed, {failed} failed")
     return failed > 0
 
 

@@ -13,7 +13,7 @@
 - CHANGELOG.md begins with the version of the program, which is in one place, in cli_arguments.
 - docs/TRUST.md: its files are there, and its counts of lines are those of the definitions.
 - edits/README.md: each edit that its examples name is there.
-- edits/each.txt says what each of its edits does, and each is there. Each crate with edits has one there or in must-fail/.
+- edits/each.txt says what each of its edits does, and each is there. Each crate with edits has one there.
 - Each relative link of a page leads to a file, and to a heading if it names one. Each path of a file that a page quotes is there.
 
 With --lines it only prints the definitions that docs/TRUST.md counts, with their lines. The last line is otherwise
@@ -238,17 +238,16 @@ def check_trust(counts):
 
 
 def check_edits(counts):
-    """Each edit that an example of edits/README.md names is there. It is in must-fail/, or the page says edits/."""
+    """Each edit that an example of edits/README.md names is there."""
     page = text_of("edits/README.md").split("| wrong body |")[1]
     for cells in table_rows(f"|---\n| wrong body |{page}"):
-        folder, crate, name = re.fullmatch(r"(edits/)?(\w+)/(\w+)", in_backticks(cells[1])[0]).groups()
-        path = f"{folder}{crate}/{name}.edit" if folder else f"crates/{crate}/must-fail/{name}.edit"
+        path = f"{re.fullmatch(r'edits/[a-z_]+/[a-z0-9_]+', in_backticks(cells[1])[0])[0]}.edit"
         counts.expect(text_of(path) is not None, f"edits/README.md: {path} is not there")
 
 
 def check_each(counts):
     """Each edit of edits/each.txt is there, with a text. Each crate with edits has one that is tried each time."""
-    tried = {it for it in os.listdir(f"{TOP}/crates") if os.path.isdir(f"{TOP}/crates/{it}/must-fail")}
+    tried = set()
     for line in text_of("edits/each.txt").splitlines():
         if line.strip() and not line.startswith("#"):
             name, _, text = line.partition(" ")

@@ -117,7 +117,7 @@ FINE = [
 LANGUAGES = {".rt": RUST, ".rs": RUST, ".antt": ANTT, ".c": C, ".h": C, ".py": PYTHON, ".md": PAGE, ".1": PAGE}
 LANGUAGES |= {".bash": SHELL, ".fish": SHELL, ".toml": SHELL}
 # Folders and files that are not searched: what the prover writes, edits, and this file.
-SKIPPED = {"out", ".git", "must-fail", "edits"}
+SKIPPED = {"out", ".git", "edits"}
 PARTS = {
     RUST: r'(?P<prose>//[^\n]*|/\*.*?\*/)|(?P<text>b?"(?:\\.|[^"\\])*")|(?P<other>b?\'(?:\\.[^\']*|[^\'\\])\')',
     ANTT: r'(?P<prose>--[^\n]*)|(?P<text>"(?:\\.|[^"\\])*")',

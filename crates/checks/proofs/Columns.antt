@@ -3,17 +3,17 @@ use Rattle.std.proofs.Common.{◌≡◌, ℕ, ◌+◌, ◌<◌, ◌≤◌, List,
 use Rattle.std.proofs.lemmas.Bool.{cases_eq}
 use Rattle.packed.specs.declared.fault.Fault.{Fault}
 use Rattle.packed.specs.Rule.{Rule, AllHold, HoldBefore, rules_from}
-use Rattle.packed.proofs.RuleLemmas.{all_of_each}
+use Rattle.packed.proofs.RuleLemmas.{all_of_each, each_holds}
 use Rattle.table_schema.specs.declared.table.TableId.{TableId}
 use Rattle.table_schema.specs.declared.column.Column.{Column}
 use Rattle.table_schema.specs.declared.column.ColumnKind.{ColumnKind}
 use Rattle.table_schema.specs.declared.column.ColumnKind.TheVariants as kind
 use Rattle.table_schema.specs.Columns.{columns_of, column_at}
-use Rattle.metadata.specs.Source.{number_of}
+use Rattle.metadata.specs.Source.{rows_in, number_of}
 use Rattle.metadata.specs.SourceAt.{SourceAt, cell_offset}
 use Rattle.metadata.specs.Rules.{rules_of_number, rules_of_cell, rules_of_row}
 use Rattle.metadata.specs.Rules.{rules_of_encoding, rules_of_signature, rules_of_signatures_in}
-use Rattle.checks.specs.Columns.{AllPass, ColumnMeets, ColumnStands, ColumnEncodes}
+use Rattle.checks.specs.Columns.{AllPass, IsNotEncoded, ColumnMeets, ColumnStands, ColumnEncodes}
 
 -- if the rules of all columns hold, the rules of a row hold
 row_meets : (rules : ℕ → ℕ → List (Rule Fault)) (end width row : ℕ) → ((column : ℕ) → column < width → ColumnMeets rules end column)
@@ -46,6 +46,19 @@ module _ (here : SourceAt) (table : TableId) (end columns : ℕ) (all : length (
         row_meets (rules_of_signature here table) end (length (columns_of table)) row (λ column within. encode column (omega arith)) first before;
   }
 
+-- the first broken row stays the first, or a column has one before
+pub still_broken : (here : SourceAt) (table : TableId) (end fewer column : ℕ) → column < length (columns_of table) → fewer ≤ end
+    → (end ≤ rows_in here.source table → ¬ AllHold (rules_of_signatures_in here table end))
+    → (fewer < end → ¬ AllHold (rules_of_signature here table fewer column))
+    → fewer ≤ rows_in here.source table → ¬ AllHold (rules_of_signatures_in here table fewer)
+unfolding rules_of_signatures_in
+still_broken here table end fewer column within few before broken last all = elim (cases_eq fewer end) [
+  | inl same ↦
+      before (omega (arith, same, last))
+      (subst (λ (row : ℕ). AllHold (rules_from (rules_of_signature here table row) 0 (length (columns_of table)))) same all)
+  | inr other ↦ broken (omega (arith, few, other)) (each_holds (rules_of_signature here table fewer) 0 (length (columns_of table)) all column (omega arith) (omega arith))
+]
+
 -- any number passes if there is no rule
 pub none_asked : (here : SourceAt) (table : TableId) (column end : ℕ) → AllPass (λ number. Unit {0}) here.source table column end
 none_asked here table column end = record { each = λ row first last. tt }
@@ -60,6 +73,15 @@ module _ (here : SourceAt) (table : TableId) (column end : ℕ) (held : Column) 
     each = λ row first last.
         rw (← of_kind, is) at (stands (number_of here.source table row column) (pass.each row first last) (cell_offset here table row column));
   }
+
+  -- a number that encodes no signature breaks the rule for its cell
+  pub refused_breaks : (kind : ColumnKind) → held.kind ≡ kind → (row : ℕ) → IsNotEncoded here.source kind (number_of here.source table row column)
+      → ¬ AllHold (rules_of_signature here table row column)
+  unfolding rules_of_signature
+  refused_breaks kind of_kind row not all =
+      not (cell_offset here table row column)
+      (subst (λ (k : ColumnKind). AllHold (rules_of_encoding here.source k (number_of here.source table row column) (cell_offset here table row column))) of_kind
+      (subst (λ (h : Column). AllHold (rules_of_encoding here.source h.kind (number_of here.source table row column) (cell_offset here table row column))) (sym is) all))
 
   pub passed_encodes : (P : ℕ → Type 0) (kind : ColumnKind) → held.kind ≡ kind → AllPass P here.source table column end
       → ((number : ℕ) → P number → (offset : ℕ) → AllHold (rules_of_encoding here.source kind number offset))

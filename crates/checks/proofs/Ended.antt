@@ -14,7 +14,7 @@ module _ (heap : List ℕ) (start : ℕ) (bytes : List ℕ) (e : IsEnded heap st
   nul_behind : slice_index (drop start heap) (length bytes) ≡ 0
   nul_behind = ap (λ l. slice_index l (length bytes)) tail_is ∙ get_or_at bytes 0 e.after 0 (length bytes) refl
 
-  none_in : (k : ℕ) → k < length bytes → slice_index (drop start heap) k ≢ 0
+  pub none_in : (k : ℕ) → k < length bytes → slice_index (drop start heap) k ≢ 0
   none_in k h z = e.no_nul k 0 h (sym (get_or_append_left bytes (0 ∷ e.after) 0 k h) ∙ ap (λ l. slice_index l k) (sym tail_is) ∙ z)
 
   pub bytes_are : (n : ℕ) → n ≡ length bytes → take n (drop start heap) ≡ bytes

@@ -32,6 +32,18 @@ sum_fewer f m (suc n) few = elim (cases_eq m (suc n)) [
 pub sum_step : (f : ℕ → ℕ) (k n : ℕ) → k < n → sum_below f k + f k ≤ sum_below f n
 sum_step f k n below = omega (arith, sum_fewer f (k + 1) n (omega arith), sum_more f k)
 
+-- a sum of nothing
+pub sum_nothing : (f : ℕ → ℕ) → ((k : ℕ) → f k ≡ 0) → (n : ℕ) → sum_below f n ≡ 0
+unfolding sum_below
+sum_nothing f none zero = refl
+sum_nothing f none (suc n) = omega (arith, sum_nothing f none n, none n)
+
+-- a sum of summands that are not greater
+pub sum_each : (f g : ℕ → ℕ) → ((k : ℕ) → f k ≤ g k) → (n : ℕ) → sum_below f n ≤ sum_below g n
+unfolding sum_below
+sum_each f g each zero = omega arith
+sum_each f g each (suc n) = omega (arith, sum_each f g each n, each n)
+
 module _ (read : (n : ℕ) (prefix tail : List ℕ) → IsPacked n prefix → unsigned_at (prefix ++ tail) ≡ Some (n, length prefix)) where
   -- the number of the bytes after a count is the count
   counted_is : (count bytes after : List ℕ) → IsPacked (length bytes) count → counted_length (count ++ (bytes ++ after)) ≡ length bytes

@@ -3,16 +3,19 @@ use Rattle.std.proofs.Common.{◌≡◌, ℕ, zero, suc, ◌+◌, ◌-◌, ◌�
 use Rattle.std.proofs.lemmas.Bool.{cases_eq}
 use Rattle.table_schema.specs.declared.table.TableId.{TableId}
 use Rattle.table_schema.specs.declared.column.SigKind.{SigKind}
+use Rattle.table_schema.specs.declared.column.Column.{Column}
+use Rattle.table_schema.specs.declared.column.ColumnKind.{ColumnKind}
 use Rattle.table_schema.specs.declared.column.ColumnKind.TheVariants as kind
-use Rattle.table_schema.specs.Columns.{column_at}
+use Rattle.table_schema.specs.Columns.{columns_of, column_at}
 use Rattle.metadata.specs.Source.{Source, rows_in}
+use Rattle.metadata.specs.Rows.{table_at}
 use Rattle.checks.specs.declared.budget.Budget.{Budget}
 use Rattle.checks.specs.Budgets.{IsBelow, Takes, Spends}
 use Rattle.checks.specs.Passed.{Slots, no_slots, is_kept, keep}
-use Rattle.checks.specs.Walks.{Walk, walk_one, walk_over, number_after, walked_bytes, StopsAt}
-use Rattle.checks.specs.Signatures.{sum_below, blob_length, cell_bytes, column_bytes}
-use Rattle.checks.proofs.Spending.{takes_more, below_taken, below_within, taken_within}
-use Rattle.checks.proofs.Sums.{sum_fewer}
+use Rattle.checks.specs.Walks.{Walk, walk_one, walk_over, number_after, walked_bytes, walked_in, column_walked, table_walked, table_walked_at, walked_signature_bytes, StopsAt}
+use Rattle.checks.specs.Signatures.{sum_below, blob_length, cell_bytes, column_bytes, table_bytes, table_bytes_at, signature_bytes}
+use Rattle.checks.proofs.Spending.{takes_none, takes_more, below_taken, below_within, taken_within}
+use Rattle.checks.proofs.Sums.{sum_each}
 
 module _ (long : ℕ → ℕ) (walk : Walk) (n : ℕ) where
   pub one_spared : is_kept walk.slots n ≡ true → walk_one long walk n ≡ walk
@@ -79,25 +82,56 @@ module _ (heap : ℕ) (long number : ℕ → ℕ) where
         (omega (arith, more, walk_fewer (row + 1 - 1) rows (omega arith)))
         (below_taken a b (walk_over heap long number (row - 1)).bytes bytes taken below)
 
--- a column's walk against the bytes of its cells
+-- a column's walk over all of its rows
 module _ (source : Source) (table : TableId) (column limit : ℕ) (encoded : SigKind) (of_kind : (column_at table column).kind ≡ kind.Signature encoded)
     (last : limit ≤ rows_in source table + 1) where
-  cell_long : (before : ℕ) → blob_length source.blobs (number_after source table column before) ≤ cell_bytes source table column before
-  unfolding cell_bytes
-  cell_long before = rw of_kind (omega arith)
+  walked_all : column_walked source table column ≡ walked_bytes source table column (rows_in source table)
+  unfolding column_walked
+  walked_all = ap (λ (k : ColumnKind). walked_in source table column k (rows_in source table)) of_kind
 
-  column_long : (rows : ℕ) → rows < limit → walked_bytes source table column rows ≤ column_bytes source table column
-  unfolding column_bytes
+  column_long : (rows : ℕ) → rows < limit → walked_bytes source table column rows ≤ column_walked source table column
   column_long rows within = omega (
     arith,
-    walk_bytes (length source.blobs) (blob_length source.blobs) (number_after source table column) (cell_bytes source table column) cell_long rows,
-    sum_fewer (cell_bytes source table column) rows (rows_in source table) (omega arith),
+    walked_all,
+    walk_fewer (length source.blobs) (blob_length source.blobs) (number_after source table column) rows (rows_in source table) (omega arith),
   )
 
-  pub walk_spends : (a b : Budget) (found : Option ℕ) → IfSome found (StopsAt source table column limit a b) → OnSome found (Spends a b (column_bytes source table column))
+  pub walk_spends : (a b : Budget) (found : Option ℕ) → IfSome found (StopsAt source table column limit a b) → OnSome found (Spends a b (column_walked source table column))
   walk_spends a b None stops = tt
-  walk_spends a b (Some row) stops = taken_within a b (walked_bytes source table column stops.0) (column_bytes source table column) (column_long stops.0 stops.3) stops.4
+  walk_spends a b (Some row) stops = taken_within a b (walked_bytes source table column stops.0) (column_walked source table column) (column_long stops.0 stops.3) stops.4
 
-  pub walk_below : 1 ≤ limit → (a : Budget) (found : Option ℕ) → IfNone found (IsBelow a (walked_bytes source table column (limit - 1))) → IfNone found (IsBelow a (column_bytes source table column))
-  walk_below first a None below = below_within a (walked_bytes source table column (limit - 1)) (column_bytes source table column) (column_long (limit - 1) (omega arith)) below
+  pub walk_takes : (a b : Budget) (found : Option ℕ) → IfSome found (StopsAt source table column limit a b)
+      → IfSome found (λ row. rows_in source table < row → Takes a b (column_walked source table column))
+  walk_takes a b None stops = tt
+  walk_takes a b (Some row) stops = λ past.
+      let all : stops.0 ≡ rows_in source table = omega (arith, stops.2, stops.3, past, last) in
+      rw (walked_all, ← all) stops.4
+
+  pub walk_below : 1 ≤ limit → (a : Budget) (found : Option ℕ) → IfNone found (IsBelow a (walked_bytes source table column (limit - 1))) → IfNone found (IsBelow a (column_walked source table column))
+  walk_below first a None below = below_within a (walked_bytes source table column (limit - 1)) (column_walked source table column) (column_long (limit - 1) (omega arith)) below
   walk_below first a (Some row) below = tt
+
+-- nothing is taken for a column of another kind
+pub unwalked_takes : (source : Source) (table : TableId) (column : ℕ) (held : Column) → held ≡ column_at table column
+    → walked_in source table column held.kind (rows_in source table) ≡ 0 → (budget : Budget) → Takes budget budget (column_walked source table column)
+unfolding column_walked
+unwalked_takes source table column held is none budget =
+    subst (Takes budget budget) (sym none ∙ ap (λ (h : Column). walked_in source table column h.kind (rows_in source table)) is) (takes_none budget)
+
+-- no more is walked than all blobs have
+module _ (source : Source) (table : TableId) where
+  kind_long : (column : ℕ) (held : ColumnKind) → (column_at table column).kind ≡ held → walked_in source table column held (rows_in source table) ≤ column_bytes source table column
+  unfolding column_bytes cell_bytes
+  kind_long column (kind.Signature encoded) is =
+      walk_bytes (length source.blobs) (blob_length source.blobs) (number_after source table column) (cell_bytes source table column)
+      (λ before. rw is (omega arith)) (rows_in source table)
+  kind_long column _ is = omega arith
+
+  table_long : table_walked source table ≤ table_bytes source table
+  unfolding table_walked table_bytes column_walked
+  table_long =
+      sum_each (column_walked source table) (column_bytes source table) (λ column. kind_long column (column_at table column).kind refl) (length (columns_of table))
+
+pub walked_no_more : (source : Source) → walked_signature_bytes source ≤ signature_bytes source
+unfolding walked_signature_bytes signature_bytes table_walked_at table_bytes_at
+walked_no_more source = sum_each (table_walked_at source) (table_bytes_at source) (λ table_index. table_long source (table_at table_index)) 38

@@ -33,3 +33,7 @@ IsChecked source kind nullable number result = (offset : ℕ) → Reports (rules
 -- the same for the signature that its blob encodes
 abbrev pub IsEncoded : Source → ColumnKind → ℕ → Result (Unit {0}) FaultCode → Type 0
 IsEncoded source kind number result = (offset : ℕ) → Reports (rules_of_encoding source kind number offset) (code_at offset result)
+
+-- its blob does not encode a signature whose type indexes have rows
+abbrev pub IsNotEncoded : Source → ColumnKind → ℕ → Type 0
+IsNotEncoded source kind number = (offset : ℕ) → ¬ AllHold (rules_of_encoding source kind number offset)

@@ -3,9 +3,10 @@ pub mod Broken
 pub mod Budgets
 pub mod CodedLimits
 pub mod Columns
-pub mod Orders
 pub mod Runs
 pub mod Passed
 pub mod Signatures
+pub mod TextBytes
 pub mod Texts
 pub mod Walks
+pub mod Within

@@ -1,11 +1,15 @@
 -- What a walk down a column of signatures walks.
 use Rattle.std.specs.Prelude.{ℕ, zero, suc, ◌+◌, ◌≤◌, ◌<◌, length, if◌then◌else◌}
 use Rattle.table_schema.specs.declared.table.TableId.{TableId}
-use Rattle.metadata.specs.Source.{Source, number_of}
+use Rattle.table_schema.specs.declared.column.ColumnKind.{ColumnKind}
+use Rattle.table_schema.specs.declared.column.ColumnKind.TheVariants as kind
+use Rattle.table_schema.specs.Columns.{columns_of, column_at}
+use Rattle.metadata.specs.Source.{Source, rows_in, number_of}
+use Rattle.metadata.specs.Rows.{table_at}
 use Rattle.checks.specs.declared.budget.Budget.{Budget}
 use Rattle.checks.specs.Budgets.{Takes}
 use Rattle.checks.specs.Passed.{Slots, no_slots, is_kept, keep}
-use Rattle.checks.specs.Signatures.{blob_length}
+use Rattle.checks.specs.Signatures.{blob_length, sum_below}
 
 -- which numbers are kept, and how many bytes of blobs were walked
 pub record Walk : Type 0 where
@@ -30,6 +34,24 @@ number_after source table column before = number_of source table (before + 1) co
 abbrev pub walked_bytes : Source → TableId → ℕ → ℕ → ℕ
 walked_bytes source table column rows =
     (walk_over (length source.blobs) (blob_length source.blobs) (number_after source table column) rows).bytes
+
+-- the same in the first rows of a column of a kind: none if the column is not of signatures
+abbrev pub walked_in : Source → TableId → ℕ → ColumnKind → ℕ → ℕ
+walked_in source table column (kind.Signature encoded) rows = walked_bytes source table column rows
+walked_in source table column _ rows = 0
+
+-- in all rows of a column; of a table, over its columns; of all tables
+unfoldable pub column_walked : Source → TableId → ℕ → ℕ
+column_walked source table column = walked_in source table column (column_at table column).kind (rows_in source table)
+
+unfoldable pub table_walked : Source → TableId → ℕ
+table_walked source table = sum_below (column_walked source table) (length (columns_of table))
+
+unfoldable pub table_walked_at : Source → ℕ → ℕ
+table_walked_at source table_index = table_walked source (table_at table_index)
+
+unfoldable pub walked_signature_bytes : Source → ℕ
+walked_signature_bytes source = sum_below (table_walked_at source) 38
 
 -- a walk over the rows before a limit that stops at a row took from a budget what the blobs of the rows before that one
 -- took, and the blob of this row or not

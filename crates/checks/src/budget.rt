@@ -5,7 +5,7 @@ use packed::Fault;
 use std::error::Error;
 use std::fmt;
 
-/// The number of bytes of signature blobs that may still be read.
+/// The number of bytes of texts and of signature blobs that may still be read.
 #[derive(Clone, Copy, Debug, PartialEq, Eq)]
 pub enum Budget {
     /// No limit.
@@ -18,7 +18,7 @@ impl Budget {
     ghost use Rattle.std.specs.Prelude.{OnSome, IfNone};
     ghost use Rattle.checks.specs.Budgets.{Takes, IsBelow};
 
-    /// Subtracts the bytes of a blob that will be read; `None` if fewer are left.
+    /// Subtracts the bytes of a text or a blob; `None` if fewer are left.
     pub(crate) fn spend(&mut self, bytes: usize) -> Option<()>
         ensures takes { OnSome result (Takes self.old self.new bytes) }
         ensures spent { IfNone result (IsBelow self.old bytes) }

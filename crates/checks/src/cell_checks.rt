@@ -1,4 +1,4 @@
-ghost use Rattle.std.specs.Prelude.{◌≡◌, ◌≤◌, ◌<◌, ◌+◌, ◌∷◌, [], ◌↔◌, ℕ, List, IsTrue, Ok, false, length};
+ghost use Rattle.std.specs.Prelude.{◌≡◌, ◌≤◌, ◌<◌, ◌+◌, ◌∷◌, [], ◌↔◌, ℕ, List, IfErr, IfOk, IsErrOf, IsTrue, Ok, OnOk, false, length};
 ghost use Rattle.packed.specs.declared.code.FaultCode.TheVariants.{BadIndex, BadList};
 ghost use Rattle.packed.specs.Rule.{Reports, HoldBefore, rule};
 ghost use Rattle.heap_entries.specs.Entries.{IsBlob};
@@ -9,12 +9,17 @@ ghost use Rattle.metadata.specs.Source.{Source as Numbers, rows_in};
 ghost use Rattle.reading.specs.Codes.{code_at};
 ghost use Rattle.checks.specs.CodedLimits.{AreLimits};
 ghost use Rattle.checks.specs.Columns.{AllPass, IsChecked, ColumnStands};
-ghost use Rattle.checks.specs.Broken.{IsFirstBroken, IsFirstBrokenIn};
+ghost use Rattle.checks.specs.Broken.{IsFirstBroken, IsFirstBrokenIn, bytes_before, bytes_before_in};
+ghost use Rattle.checks.specs.Budgets.{Takes};
+ghost use Rattle.checks.specs.Within.{ReportsWithin, RowsSpend, TextsSpend};
+ghost use Rattle.checks.specs.TextBytes.{text_bytes};
 ghost use Rattle.metadata.specs.Rules.{MayRefer, rules_of_number, rules_of_cell, rules_of_row, rules_of_cells};
 
 use crate::blobs::Blobs;
+use crate::budget::{BoundedError, Budget};
 use crate::coded_limits::{is_below_limit, limits_by_tag};
 use crate::column::{first_failing, first_refused, greatest_number};
+use crate::counted_rows::broken_by_rows;
 use crate::texts::Texts;
 use packed::{Fault, FaultCode};
 use reading::{Source, column_at, named_by};
@@ -29,15 +34,22 @@ pub struct BrokenRow {
     pub row: u32,
 }
 
-/// Checks that each number of each table stands for a cell (II.22).
+/// Checks that each number of each table stands for a cell (II.22). The budget limits the bytes of texts that are read.
+///
+/// # Errors
+///
+/// The fault of the first row that breaks a rule. `BudgetSpent` if the rows before that one count more bytes of texts.
 #[inline(never)]
-pub fn check_cells(source: &Source) -> Result<(), Fault>
-    ensures { Reports (rules_of_cells source.now) result }
+pub fn check_cells(source: &Source, budget: &mut Budget) -> Result<(), BoundedError>
+    ensures reports { ReportsWithin (TextsSpend budget.old source.now) (rules_of_cells source.now) result }
+    ensures takes { OnOk result (Takes budget.old budget.new (text_bytes source.now.source)) }
+    ensures texts { TextsSpend budget.old source.now → IsErrOf result BoundedError.BudgetSpent }
 {
-    match first_broken_row(source) {
-        Some(broken) => check_row(source, TableId::all()[broken.table_index], broken.row),
-        None => Ok(()),
-    }
+    let Some(broken) = first_broken_within(source, budget)? else {
+        return Ok(());
+    };
+    check_row(source, TableId::all()[broken.table_index], broken.row)?;
+    Ok(())
 }
 
 /// The first row, by table and row, that breaks a rule for cells; `None` if no row does (II.22). Those rules do not look
@@ -47,29 +59,56 @@ pub fn check_cells(source: &Source) -> Result<(), Fault>
 pub fn first_broken_row(source: &Source) -> Option<BrokenRow>
     ensures { IsFirstBroken source.now result }
 {
+    match first_broken_within(source, &mut Budget::Unbounded) {
+        Ok(found) => found,
+        Err(_) => unreachable!(),
+    }
+}
+
+/// The first row that breaks a rule for cells, within a budget of bytes of texts. `BudgetSpent` if the rows before it
+/// count more.
+fn first_broken_within(
+    source: &Source,
+    budget: &mut Budget,
+) -> Result<Option<BrokenRow>, BoundedError>
+    ensures first { IfOk result (IsFirstBroken source.now) }
+    ensures takes { IfOk result (λ found. Takes budget.old budget.new (bytes_before source.now.source found)) }
+    ensures spent { IfErr result (λ error. (error ≡ BoundedError.BudgetSpent) × TextsSpend budget.old source.now) }
+{
     let tables = TableId::all();
     let mut texts = Texts::new(source.texts());
     for table_index in 0..tables.len() {
-        if let Some(row) = broken_row(source, tables[table_index], &mut texts) {
-            return Some(BrokenRow { table_index, row });
+        let found = broken_row(source, tables[table_index], &mut texts, budget)?;
+        if let Some(row) = found {
+            return Ok(Some(BrokenRow { table_index, row }));
         }
     }
-    None
+    Ok(None)
 }
 
-/// The first row of a table with a number that stands for no cell.
+/// The first row of a table with a number that stands for no cell, within a budget of bytes of texts.
 ///
-/// A pass over the columns finds a row before which there is none. The rows are checked one by one only from that row
-/// on.
-fn broken_row(source: &Source, table: TableId, texts: &mut Texts) -> Option<u32>
+/// If all of `#Strings` is UTF-8, no text is read. A pass over the columns finds a row before which there is none. The
+/// rows are checked one by one only from that row on. Otherwise all rows are checked one by one.
+fn broken_row(
+    source: &Source,
+    table: TableId,
+    texts: &mut Texts,
+    budget: &mut Budget,
+) -> Result<Option<u32>, BoundedError>
     requires { texts.old ≡ source.now.source.texts }
     ensures texts { texts.new ≡ texts.old }
-    ensures broken { IsFirstBrokenIn source.now table result }
+    ensures broken { IfOk result (IsFirstBrokenIn source.now table) }
+    ensures takes { IfOk result (λ found. Takes budget.old budget.new (bytes_before_in source.now.source table found)) }
+    ensures spent { IfErr result (λ error. (error ≡ BoundedError.BudgetSpent) × RowsSpend budget.old source.now table) }
 {
-    broken_from(source, table, first_row(source, table, texts))
+    if source.strings().is_utf8() {
+        return Ok(broken_from(source, table, first_row(source, table, texts)));
+    }
+    broken_by_rows(source, table, texts, budget)
 }
 
-/// The same, by the rows from `first` on.
+/// The first row of a table with a number that stands for no cell, by the rows from `first` on.
 fn broken_from(source: &Source, table: TableId, first: u32) -> Option<u32>
     requires first { 1 ≤ first }
     requires last { first ≤ rows_in source.now.source table + 1 }
@@ -87,9 +126,8 @@ fn broken_from(source: &Source, table: TableId, first: u32) -> Option<u32>
 
 /// A row of a table before which each number stands for a cell; one more than the last row if that is so of all rows.
 /// It reads column by column.
-fn first_row(source: &Source, table: TableId, texts: &mut Texts) -> u32
-    requires { texts.old ≡ source.now.source.texts }
-    ensures texts { texts.new ≡ texts.old }
+fn first_row(source: &Source, table: TableId, texts: &Texts) -> u32
+    requires { texts.now ≡ source.now.source.texts }
     ensures first { 1 ≤ result }
     ensures last { result ≤ rows_in source.now.source table + 1 }
     ensures before { HoldBefore (rules_of_row source.now table) 1 result }
@@ -104,18 +142,11 @@ fn first_row(source: &Source, table: TableId, texts: &mut Texts) -> u32
 /// The first row before `limit` whose number in this column stands for no cell; `limit` if there is none.
 ///
 /// The column's kind is matched once, before the loop over the rows.
-fn first_in_column(
-    source: &Source,
-    table: TableId,
-    column: usize,
-    limit: u32,
-    texts: &mut Texts,
-) -> u32
+fn first_in_column(source: &Source, table: TableId, column: usize, limit: u32, texts: &Texts) -> u32
     requires column { column < length (columns_of table) }
     requires first { 1 ≤ limit }
     requires last { limit ≤ rows_in source.now.source table + 1 }
-    requires texts { texts.old ≡ source.now.source.texts }
-    ensures texts { texts.new ≡ texts.old }
+    requires texts { texts.now ≡ source.now.source.texts }
     ensures first { 1 ≤ result }
     ensures last { result ≤ limit }
     ensures stands { ColumnStands source.now table result column }
@@ -144,20 +175,19 @@ fn first_in_column(
 
 /// The first row before a limit whose number in a column is of no text, the limit where there is none.
 ///
-/// In a heap of ASCII the greatest number of the column is enough, if no number is refused. In a heap that is UTF-8
+/// In a heap of ASCII the greatest number of the column is enough, if no number is refused. In another heap that is UTF-8
 /// as a whole a text takes constant time.
 fn first_without_text(
     source: &Source,
     table: TableId,
     column: usize,
     limit: u32,
-    texts: &mut Texts,
+    texts: &Texts,
 ) -> u32
     requires column { column < length (columns_of table) }
     requires first { 1 ≤ limit }
     requires last { limit ≤ rows_in source.now.source table + 1 }
-    requires texts { texts.old ≡ source.now.source.texts }
-    ensures texts { texts.new ≡ texts.old }
+    requires texts { texts.now ≡ source.now.source.texts }
     ensures first { 1 ≤ result }
     ensures last { result ≤ limit }
     ensures passed { AllPass (λ number. IsChecked source.now.source kind.Text false number (Ok tt)) source.now.source table column result }
@@ -166,19 +196,10 @@ fn first_without_text(
     if sure_end > 0 && greatest_number(source, table, column, limit) as usize <= sure_end {
         return limit;
     }
-    if source.strings().is_utf8() {
-        let check = |number|
-            ensures { IsChecked source.entry.now.source kind.Text false number result }
-        { source.check_text(number) };
-        return first_refused(source, table, column, limit, check);
-    }
-    let numbers = source.column(table, column);
-    for row in 1..limit {
-        if texts.check(numbers.number(row)).is_err() {
-            return row;
-        }
-    }
-    limit
+    let check = |number|
+        ensures { IsChecked source.entry.now.source kind.Text false number result }
+    { source.check_text(number) };
+    first_refused(source, table, column, limit, check)
 }
 
 /// The same for a column of indexes into tables; returns row 1 if the column is of another kind.
@@ -248,7 +269,7 @@ fn check_cell(source: &Source, table: TableId, row: u32, column: usize) -> Resul
 }
 
 /// Checks that the number stands for a cell of the column.
-fn check_number(source: &Source, column: Column, number: u32) -> Result<(), FaultCode>
+pub(crate) fn check_number(source: &Source, column: Column, number: u32) -> Result<(), FaultCode>
     ensures { (offset : ℕ) → Reports (rules_of_number source.now.source column.kind column.nullable number offset) (code_at offset result) }
 {
     match column.kind {

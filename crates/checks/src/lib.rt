@@ -2,7 +2,7 @@
 //!
 //! [`check_tables_within`] checks the rules of `metadata` for what a `Source` of `reading` reads. It checks, in
 //! order, the cells, the order of rows, the runs of members, the order of nested types, and signatures. It returns
-//! the fault of the first broken rule, or that a [`Budget`] of bytes of signature blobs was spent. Each check
+//! the fault of the first broken rule, or that a [`Budget`] of bytes of texts and signature blobs was spent. Each check
 //! first looks column by column for the first row that breaks a rule, and then checks that row for its fault.
 //! Nothing here allocates.
 //!
@@ -17,9 +17,8 @@ mod budget;
 mod cell_checks;
 mod coded_limits;
 mod column;
-mod key_order;
-mod nesting;
-mod order;
+mod counted_rows;
+pub mod laws;
 mod passed;
 mod runs;
 mod signature_checks;

@@ -1,15 +1,15 @@
-ghost use Rattle.std.specs.Prelude.{◌≡◌, ◌≤◌, ◌<◌, ◌+◌, ℕ, ◌-◌, Ok, length, IfOk, IfSome, OnSome, IfNone};
-ghost use Rattle.packed.specs.Rule.{Reports, HoldBefore};
+ghost use Rattle.std.specs.Prelude.{◌≡◌, ◌≤◌, ◌<◌, ◌+◌, ℕ, ◌-◌, Ok, length, IfSome, OnOk, OnSome, IfNone};
+ghost use Rattle.packed.specs.Rule.{AllHold, Reports, HoldBefore};
 ghost use Rattle.heap_entries.specs.Entries.{IsBlob};
 ghost use Rattle.table_schema.specs.Columns.{columns_of, column_at};
 ghost use Rattle.table_schema.specs.declared.column.ColumnKind.TheVariants as kind;
-ghost use Rattle.metadata.specs.Source.{rows_in};
+ghost use Rattle.metadata.specs.Source.{number_of, rows_in};
 ghost use Rattle.metadata.specs.Rules.{rules_of_encoding, rules_of_signature, rules_of_signatures_in, rules_of_signatures_of, rules_of_signatures};
 ghost use Rattle.reading.specs.Codes.{code_at};
-ghost use Rattle.checks.specs.Budgets.{Spends, IsBelow, ReportsWithin};
-ghost use Rattle.checks.specs.Columns.{AllPass, IsEncoded, ColumnEncodes};
-ghost use Rattle.checks.specs.Signatures.{column_bytes, table_bytes, signature_bytes};
-ghost use Rattle.checks.specs.Walks.{StopsAt, walked_bytes};
+ghost use Rattle.checks.specs.Budgets.{Spends, Takes, IsBelow};
+ghost use Rattle.checks.specs.Within.{ReportsWithin};
+ghost use Rattle.checks.specs.Columns.{AllPass, IsEncoded, IsNotEncoded, ColumnEncodes};
+ghost use Rattle.checks.specs.Walks.{StopsAt, column_walked, table_walked, walked_bytes, walked_signature_bytes};
 
 use crate::budget::{BoundedError, Budget};
 use crate::passed::Passed;
@@ -21,7 +21,8 @@ use table_schema::{ColumnKind, SigKind, TableId, columns};
 
 /// Checks that each signature blob encodes a signature, and that the rows of its type indexes exist (II.23.2).
 pub fn check_signatures(source: &Source, budget: Budget) -> Result<(), BoundedError>
-    ensures { ReportsWithin budget (signature_bytes source.now.source) (rules_of_signatures source.now) result }
+    ensures reports { ReportsWithin (IsBelow budget (walked_signature_bytes source.now.source)) (rules_of_signatures source.now) result }
+    ensures enough { OnOk result (¬ IsBelow budget (walked_signature_bytes source.now.source)) }
 {
     let tables = TableId::all();
     let mut left = budget;
@@ -35,14 +36,13 @@ pub fn check_signatures(source: &Source, budget: Budget) -> Result<(), BoundedEr
 ///
 /// A pass over the columns finds the first row with a blob that breaks a rule. The rows are checked one by
 /// one only from that row on, to find its first fault.
-#[tactic(auto, using(crate::proofs::Before::before_signatures_of))]
 fn check_signatures_of(
     source: &Source,
     table: TableId,
     budget: &mut Budget,
 ) -> Result<(), BoundedError>
-    ensures reports { ReportsWithin budget.old (table_bytes source.now.source table) (rules_of_signatures_of source.now table) result }
-    ensures spends { IfOk result (λ _. Spends budget.old budget.new (table_bytes source.now.source table)) }
+    ensures reports { ReportsWithin (IsBelow budget.old (table_walked source.now.source table)) (rules_of_signatures_of source.now table) result }
+    ensures takes { OnOk result (Takes budget.old budget.new (table_walked source.now.source table)) }
 {
     let Some(first) = first_row(source, table, budget) else {
         return Err(BoundedError::BudgetSpent);
@@ -71,8 +71,9 @@ fn check_signature_rows(source: &Source, table: TableId, first: u32) -> Result<(
 fn first_row(source: &Source, table: TableId, budget: &mut Budget) -> Option<u32>
     ensures found { IfSome result (λ row. (1 ≤ row) × (row ≤ rows_in source.now.source table + 1)) }
     ensures before { IfSome result (HoldBefore (rules_of_signatures_in source.now table) 1) }
-    ensures spends { OnSome result (Spends budget.old budget.new (table_bytes source.now.source table)) }
-    ensures spent { IfNone result (IsBelow budget.old (table_bytes source.now.source table)) }
+    ensures broken { IfSome result (λ row. row ≤ rows_in source.now.source table → ¬ AllHold (rules_of_signatures_in source.now table row)) }
+    ensures takes { IfSome result (λ row. rows_in source.now.source table < row → Takes budget.old budget.new (table_walked source.now.source table)) }
+    ensures spent { IfNone result (IsBelow budget.old (table_walked source.now.source table)) }
 {
     let mut limit = source.count(table) + 1;
     for column in 0..columns(table).len() {
@@ -95,8 +96,10 @@ fn first_in_column(
     requires last { limit ≤ rows_in source.now.source table + 1 }
     ensures found { IfSome result (λ row. (1 ≤ row) × (row ≤ limit)) }
     ensures encodes { IfSome result (λ row. ColumnEncodes source.now table row column) }
-    ensures spends { OnSome result (Spends budget.old budget.new (column_bytes source.now.source table column)) }
-    ensures spent { IfNone result (IsBelow budget.old (column_bytes source.now.source table column)) }
+    ensures broken { IfSome result (λ row. row < limit → ¬ AllHold (rules_of_signature source.now table row column)) }
+    ensures spends { OnSome result (Spends budget.old budget.new (column_walked source.now.source table column)) }
+    ensures takes { IfSome result (λ row. rows_in source.now.source table < row → Takes budget.old budget.new (column_walked source.now.source table column)) }
+    ensures spent { IfNone result (IsBelow budget.old (column_walked source.now.source table column)) }
 {
     match column_at(table, column).kind {
         ColumnKind::Signature(encoded) => {
@@ -125,6 +128,7 @@ fn first_not_encoded(
     requires last { limit ≤ rows_in source.now.source table + 1 }
     ensures found { IfSome result (λ row. (1 ≤ row) × (row ≤ limit)) }
     ensures encoded { IfSome result (AllPass (λ number. IsEncoded source.now.source (kind.Signature encoded) number (Ok tt)) source.now.source table column) }
+    ensures broken { IfSome result (λ row. row < limit → IsNotEncoded source.now.source (kind.Signature encoded) (number_of source.now.source table row column)) }
     // What is taken of the budget are the bytes that were walked, where a blob that is kept is not walked again.
     ensures walked { IfSome result (StopsAt source.now.source table column limit budget.old budget.new) }
     ensures spent { IfNone result (IsBelow budget.old (walked_bytes source.now.source table column (limit - 1))) }

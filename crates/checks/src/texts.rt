@@ -1,4 +1,5 @@
-ghost use Rattle.std.specs.Prelude.{◌≡◌, ◌≢◌, ◌≤◌, ◌<◌, ◌+◌, ◌*◌, ◌/◌, ◌↔◌, ℕ, IsTrue, IfOk, IfSome, length, slice_index};
+ghost use Rattle.std.specs.Prelude.{◌≡◌, ◌≢◌, ◌≤◌, ◌<◌, ◌+◌, ◌*◌, ◌/◌, ◌^◌, ◌↔◌, ℕ, IsTrue, IfOk, IfSome, drop, length, slice_index, take};
+ghost use Rattle.checks.specs.TextBytes.{bytes_before_nul as before_nul, text_length};
 ghost use Rattle.packed.specs.Rule.{Reports};
 ghost use Rattle.heap_entries.specs.Rules.{at_offset, rules_of_text};
 ghost use Rattle.checks.specs.Texts.{AreStarts, HasTextsTo, Reaches};
@@ -16,8 +17,8 @@ const PARTS: usize = 1024;
 /// In a heap of ASCII each index up to the last NUL has a text.
 ///
 /// In a heap that is not UTF-8 as a whole it remembers, of each part, the start of a text that leaves the part. A later
-/// text of the part is an ending of that one, or has it as its ending, so that less than a part is left to check. The
-/// texts of n cells of a heap of h bytes cost n h / 1024 bytes, and each byte of the heap once more.
+/// text of the part is an ending of that one, or has it as its ending, so that less than a part is left to check. A text
+/// costs its bytes in the part in which it begins, and each byte of the heap is read once more.
 #[derive(Drop)]
 pub struct Texts<'a> {
     heap: &'a [u8],
@@ -63,30 +64,36 @@ impl<'a> Texts<'a> {
         self.sure_end
     }
 
-    /// Whether a text is at an index of the heap (II.24.2.3).
+    /// Checks that a text is at an index of the heap (II.24.2.3). It returns the number of its bytes in the part in which
+    /// it begins.
     ///
     /// # Errors
     ///
     /// Those of [`heaps::text`].
-    pub fn check(&mut self, index: u32) -> Result<(), HeapFault>
+    pub fn check(&mut self, index: u32) -> Result<usize, HeapFault>
         ensures heap { self.new ≡ self.old }
         ensures reports { (offset : ℕ) → Reports (rules_of_text self.old index offset) (at_offset offset result) }
+        ensures bytes { IfOk result (λ bytes. bytes ≡ text_length self.old index) }
+        ensures few { IfOk result (λ bytes. bytes < 2 ^ 60) }
     {
         let start = index as usize;
         if start == 0 {
-            return Ok(());
+            return Ok(0);
         }
         if start >= self.heap.len() {
             return Err(HeapFault::BadString);
         }
         let slot = start / self.part;
         let known = self.starts[slot];
+        let room = self.part - start % self.part;
         if covers(known, index) {
-            return check_within(self.heap, index, known);
+            check_within(self.heap, index, known)?;
+            return Ok(room);
         }
-        let reach = reach_of(self.heap, &self.starts, self.part, index)?;
+        let bytes = bytes_before_nul(self.heap, start, room);
+        let reach = reach_of(self.heap, &self.starts, self.part, index, bytes)?;
         keep_text(&mut self.starts, self.heap, self.part, index, reach);
-        Ok(())
+        Ok(bytes)
     }
 }
 
@@ -107,14 +114,15 @@ fn begins_character(byte: u8) -> bool
     byte < 128 || byte >= 192
 }
 
-/// Whether a NUL is in the bytes from a start up to an end.
-fn ends_before(heap: &[u8], start: usize, end: usize) -> bool
+/// The number of bytes from a start up to a NUL, of at most `most`.
+fn bytes_before_nul(heap: &[u8], start: usize, most: usize) -> usize
     requires { start ≤ length heap.now }
+    ensures bytes { result ≡ before_nul (take most (drop start heap.now)) }
+    ensures few { result ≤ most }
 {
     let (_, tail) = heap.split_at(start);
-    let len = end.saturating_sub(start).min(tail.len());
-    let (near, _) = tail.split_at(len);
-    memchr(0, near).is_some()
+    let (near, _) = tail.split_at(most.min(tail.len()));
+    memchr(0, near).unwrap_or(near.len())
 }
 
 /// The first slot from one on with a start, or the number of parts.
@@ -154,8 +162,15 @@ fn check_within(heap: &[u8], index: u32, known: u32) -> Result<(), HeapFault>
 
 /// An end that the text of an index reaches, where the start that is known of its part, if there is one, is after it.
 ///
-/// A text that ends in its part is read. Of a longer one only the bytes before the next known text are.
-fn reach_of(heap: &[u8], starts: &[u32; PARTS], part: usize, index: u32) -> Result<usize, HeapFault>
+/// A text that ends in its part, of which it has `bytes`, is read. Of a longer one only the bytes before the next known
+/// text are.
+fn reach_of(
+    heap: &[u8],
+    starts: &[u32; PARTS],
+    part: usize,
+    index: u32,
+    bytes: usize,
+) -> Result<usize, HeapFault>
     requires first { 1 ≤ index }
     requires within { index < length heap.now }
     requires part { part ≡ length heap.now / 1024 + 1 }
@@ -165,7 +180,7 @@ fn reach_of(heap: &[u8], starts: &[u32; PARTS], part: usize, index: u32) -> Resu
     ensures reports { (offset : ℕ) → Reports (rules_of_text heap.now index offset) (at_offset offset result) }
 {
     let start = index as usize;
-    if ends_before(heap, start, start - start % part + part) {
+    if bytes < part - start % part {
         return end_of_text(heap, index);
     }
     let next = next_known(starts, start / part);

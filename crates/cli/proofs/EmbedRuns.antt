@@ -4,8 +4,8 @@ use Rattle.std.specs.Prelude.{IsErrAnd, MatchResult}
 use Rattle.cli_faults.specs.declared.failure.Failure.{Failure}
 use Rattle.cli_files.specs.Read.{IsRefused}
 use Rattle.cli_files.specs.Stopped.{Outcome}
-use Rattle.cli_runs.specs.Embedded.{IsRootRun}
-use Rattle.cli_runs.specs.Runs.{IsFileRun, IsMixed, StopsBy}
+use Rattle.cli_roots.specs.Embedded.{IsRootRun}
+use Rattle.cli_roots.specs.Runs.{IsFileRun, IsMixed, StopsBy}
 
 module _ {W : Type 0} (before after : W) (outcome : Outcome) where
   read_run : (file : List ℕ) (run other : List ℕ → Outcome → Type 0) → ((bytes : List ℕ) → run bytes outcome → other bytes outcome)

@@ -11,10 +11,11 @@ use Rattle.cli_faults.specs.declared.failure.Failure.{Failure}
 use Rattle.cli_faults.specs.Status.{status_of}
 use Rattle.cli_files.specs.Stopped.{Outcome, status_of_outcome}
 use Rattle.cli_lines.specs.declared.parts.Form.{Form}
-use Rattle.cli_runs.specs.Compared.{IsComparing}
-use Rattle.cli_runs.specs.Embedded.{IsEmbedding, IsRootRun}
-use Rattle.cli_runs.specs.Rewritten.{IsRewriting}
-use Rattle.cli_runs.specs.Runs.{IsExplained, IsFileRun, IsMixed, IsWithin, IsRunOn, IsRunOnList}
+use Rattle.cli_roots.specs.Compared.{IsComparing}
+use Rattle.cli_roots.specs.Embedded.{IsEmbedding, IsRootRun}
+use Rattle.cli_roots.specs.Rewritten.{IsRewriting}
+use Rattle.cli_roots.specs.Runs.{IsFileRun, IsMixed, IsWithin}
+use Rattle.cli_runs.specs.Runs.{IsExplained, IsRunOn, IsRunOnList}
 use Rattle.cli.specs.Tasks.{IsTask, form_of, input_of}
 use Rattle.cli.specs.declared.task.Task.{Task}
 use Rattle.cli.specs.declared.task.Task.TheVariants as task

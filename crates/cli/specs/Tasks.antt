@@ -17,7 +17,7 @@ use Rattle.table_schema.specs.declared.table.TableId.{TableId}
 use Rattle.comparison.specs.declared.ignored.IgnoredColumns.{IgnoredColumns}
 use Rattle.cli_cells.specs.declared.row_lines.Names.{Names}
 use Rattle.cli_cells.specs.declared.row_lines.Names.TheVariants.{Hidden, Shown}
-use Rattle.cli_names.specs.Names.{IsFullName, NamesCode, NamesTable}
+use Rattle.cli_names.specs.Names.{NamesCode, NamesTable}
 use Rattle.cli_names.specs.Numbers.{IsHexNumber, IsOffset, IsTypeToken, digits_of}
 use Rattle.cli_input.specs.declared.opened.Input.{Input}
 use Rattle.cli_input.specs.declared.opened.Input.TheVariants.{BareRoot, File}
@@ -150,10 +150,10 @@ IsShow ask result =
     MatchResult result (λ made. (table : Option TableId) × IsTableNamed ask.part table × (made ≡ show_of ask.until_fault (names_of ask.names) table))
     (NamesNoTable ask.part)
 
--- the argument names this type: by its token, or else by its full name
+-- the argument names this type: by its token, or else by its path
 abbrev pub NamesType : List ℕ → Subject → Type 0
 NamesType word (subject.Row row) = IsTypeToken (digits_of word) × (row ≡ digits_value 16 (digits_of word) % 2 ^ 24)
-NamesType word (subject.Named namespace name) = (¬ IsTypeToken (digits_of word)) × IsFullName word namespace.now name.now
+NamesType word (subject.Path path) = (¬ IsTypeToken (digits_of word)) × (path.now ≡ word)
 
 -- the report of `outline`: that of the type that the argument names, or of all if there is none
 abbrev pub IsOutline : Option (Bor (List ℕ)) → Report → Type 0

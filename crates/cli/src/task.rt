@@ -9,10 +9,11 @@ use cli_faults::{Failure, UsageError};
 use cli_files::STANDARD_INPUT;
 use cli_input::Input;
 use cli_lines::Form;
-use cli_names::{code_of, names_of_type, offset_of, table_of, token_of, type_row_of};
+use cli_names::{code_of, offset_of, table_of, token_of, type_row_of};
 use cli_nearest::{nearest_code, nearest_column, nearest_table};
 use cli_outline::Subject;
-use cli_runs::{CompareOptions, EmbedOptions, Listing, Naming, Report, Request, Verdict};
+use cli_roots::{CompareOptions, EmbedOptions};
+use cli_runs::{Listing, Naming, Report, Request, Verdict};
 use embedding::StrongName;
 use packed::FaultCode;
 use std::alloc::Global;
@@ -192,15 +193,14 @@ fn outline_of<'a>(part: Option<&'a str>) -> Report<'a>
     }
 }
 
-/// The type that an argument names: by its token, or else by its full name.
+/// The type that an argument names: by its token, or else by its path.
 fn type_named<'a>(word: &'a str) -> Subject<'a>
     ensures { NamesType word.now result }
 {
-    if let Some(row) = type_row_of(word) {
-        return Subject::Row(row);
+    match type_row_of(word) {
+        Some(row) => Subject::Row(row),
+        None => Subject::Path(word),
     }
-    let (namespace, name) = names_of_type(word);
-    Subject::Named { namespace, name }
 }
 
 /// The report of `token`: what each of the tokens names.

@@ -17,7 +17,7 @@ pub struct Ask<'a> {
     pub tokens: Vec<&'a str>,
     /// The columns whose cells `compare` leaves out, as they were given.
     pub ignored: Vec<&'a str>,
-    /// The largest number of signature blob bytes that may be checked of each file, if given.
+    /// The largest number of bytes of texts and signatures that may be checked of each file, if given.
     pub budget: Option<u64>,
     /// What alone to print of the file, as it was given: the table of `show`, the type of `outline`.
     pub part: Option<&'a str>,

@@ -74,7 +74,7 @@ const BARE: Argument<'static> = argument!["bare" Flag "FILE is a metadata root, 
 
 /// `--budget`, the limit of what is checked.
 const BUDGET: Argument<'static> =
-    argument!["budget" Number("N") "Check at most N bytes of signatures, or stop with exit status 3"];
+    argument!["budget" Number("N") "Check at most N bytes of texts and signatures, or stop with exit status 3"];
 
 /// `--json`, the flag for JSON Lines.
 const JSON: Argument<'static> = argument!["json" Flag "Print a JSON value on each line"];

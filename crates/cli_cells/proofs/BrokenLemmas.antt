@@ -1,10 +1,10 @@
 -- The rows before the first one that breaks a rule for cells.
-use Rattle.std.proofs.Common.{◌≡◌, ◌∙◌, ℕ, ◌+◌, ◌-◌, ◌<◌, ◌≤◌, ◌==◌, Bool, true, false, Option, Some, None, refl, sym, ap, subst, arith, nat_lt, if◌then◌else◌}
+use Rattle.std.proofs.Common.{◌≡◌, ◌∙◌, ℕ, ◌-◌, ◌<◌, ◌≤◌, ◌==◌, Bool, true, false, Option, Some, None, refl, sym, ap, subst, arith, nat_lt, if◌then◌else◌}
 use Rattle.std.specs.Prelude.{slice_index_or}
 use Rattle.std.proofs.Math.Logic.{⊎_elim}
 use Rattle.std.proofs.lemmas.Bool.{cases_lt, eqb-true, ltb-true}
-use Rattle.packed.specs.Rule.{AllHold, HoldBefore}
-use Rattle.packed.proofs.RuleLemmas.{before_none, each_holds}
+use Rattle.packed.specs.Rule.{AllHold}
+use Rattle.packed.proofs.RuleLemmas.{each_holds}
 use Rattle.table_schema.specs.declared.table.TableId.{TableId}
 use Rattle.table_schema.specs.declared.table.TableId.TheVariants.{Module}
 use Rattle.table_schema.specs.Tables.{tables, table_index_of}
@@ -54,34 +54,25 @@ module _ (here : SourceAt) where
   broken_is_one (Some a) (Some b) x y = ap Some (same_broken a b x y)
 
   module _ (stand : (table : TableId) → slice_index_or tables (table_index_of table) Module ≡ table) (listed : (table : TableId) → table_index_of table < 38) where
-    table_met : (table : TableId) → AllHold (rules_of_table_at here (table_index_of table)) → HoldBefore (rules_of_row here table) 1 (rows_in here.source table + 1)
-    table_met table all = record {
-      each = λ row first last.
-          let P : TableId → Type 0 = λ t. row ≤ rows_in here.source t → AllHold (rules_of_row here t row) in
-          subst P (stand table) (row_holds (table_index_of table) row all first) (omega (arith, last));
-    }
+    table_met : (table : TableId) (row : ℕ) → AllHold (rules_of_table_at here (table_index_of table)) → 1 ≤ row → row ≤ rows_in here.source table → AllHold (rules_of_row here table row)
+    table_met table row all first =
+        let P : TableId → Type 0 = λ t. row ≤ rows_in here.source t → AllHold (rules_of_row here t row) in
+        subst P (stand table) (row_holds (table_index_of table) row all first)
 
-    rows_met : (at : BrokenRow) → IsBroken here at → (table : TableId) (earlier same : Bool) → nat_lt (table_index_of table) at.table_index ≡ earlier
-        → (table_index_of table == at.table_index) ≡ same
-        → HoldBefore (rules_of_row here table) 1 ((if earlier then rows_in here.source table else (if same then at.row - 1 else 0)) + 1)
-        × ((if earlier then rows_in here.source table else (if same then at.row - 1 else 0)) ≤ rows_in here.source table)
-    rows_met at is table true same lower equal =
-        (table_met table (is.tables.each (table_index_of table) (omega arith) (ltb-true (table_index_of table) at.table_index lower)), omega arith)
-    rows_met at is table false true lower equal =
+    before_met : (at : BrokenRow) → IsBroken here at → (table : TableId) (row : ℕ) → 1 ≤ row → (earlier same : Bool) → nat_lt (table_index_of table) at.table_index ≡ earlier
+        → (table_index_of table == at.table_index) ≡ same → row ≤ (if earlier then rows_in here.source table else (if same then at.row - 1 else 0))
+        → (row ≤ rows_in here.source table) × AllHold (rules_of_row here table row)
+    before_met at is table row first true same lower equal last =
+        (last, table_met table row (is.tables.each (table_index_of table) (omega arith) (ltb-true (table_index_of table) at.table_index lower)) first last)
+    before_met at is table row first false true lower equal last =
         let found : table_at at.table_index ≡ table = ap table_at (sym (eqb-true (table_index_of table) at.table_index equal)) ∙ stand table in
         let broken : IsBrokenRow here table at.row = subst (λ (t : TableId). IsBrokenRow here t at.row) found is.row in
-        (record { each = λ row first last. broken.before.each row first (omega (arith, last, broken.first)) }, omega (arith, broken.last))
-    rows_met at is table false false lower equal = (before_none (rules_of_row here table) 1 (0 + 1) (omega arith), omega arith)
+        (omega (arith, last, broken.last), broken.before.each row first (omega (arith, last, broken.first)))
+    before_met at is table row first false false lower equal last = absurd (omega (arith, first, last))
 
-    -- the rows before it follow the rules for cells
-    before_met : (broken : Option BrokenRow) → IsFirstBroken here broken → (table : TableId)
-        → HoldBefore (rules_of_row here table) 1 (rows_before here.source broken table + 1) × (rows_before here.source broken table ≤ rows_in here.source table)
-    before_met None all table = (table_met table (table_holds all (table_index_of table) (listed table)), omega arith)
-    before_met (Some at) is table = rows_met at is table (nat_lt (table_index_of table) at.table_index) (table_index_of table == at.table_index) refl refl
-
-    -- each of these rows exists, and follows the rules for cells
+    -- each row before the broken one exists, and follows the rules for cells
     pub row_met : (broken : Option BrokenRow) → IsFirstBroken here broken → (table : TableId) (row : ℕ) → 1 ≤ row → row ≤ rows_before here.source broken table
         → (row ≤ rows_in here.source table) × AllHold (rules_of_row here table row)
-    row_met broken is table row first last =
-        let met = before_met broken is table in
-        (omega (arith, met.1, last), met.0.each row first (omega (arith, last)))
+    row_met None all table row first last = (last, table_met table row (table_holds all (table_index_of table) (listed table)) first last)
+    row_met (Some at) is table row first last =
+        before_met at is table row first (nat_lt (table_index_of table) at.table_index) (table_index_of table == at.table_index) refl refl last

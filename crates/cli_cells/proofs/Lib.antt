@@ -1,10 +1,5 @@
 pub mod BrokenLemmas
-pub mod ByteLemmas
-pub mod FirstLemmas
-pub mod LinesBefore
 pub mod PartLemmas
 pub mod ReadLemmas
-pub mod ShownLemmas
 pub mod SinkLemmas
-pub mod SomeModel
 pub mod TokenLemmas

@@ -1,6 +1,7 @@
 -- Parts of lines.
-use Rattle.std.proofs.Common.{◌≡◌, ◌∙◌, ℕ, ◌+◌, ◌-◌, ◌<◌, ◌≤◌, suc, List, [], ◌∷◌, ◌++◌, Option, Some, None, ap, sym, refl, arith}
+use Rattle.std.proofs.Common.{◌≡◌, ◌∙◌, ℕ, zero, suc, ◌+◌, List, [], ◌∷◌, ◌++◌, Option, Some, None, ap, sym, refl, arith}
 use Rattle.std.specs.List.{flat_map, range_with_len}
+use Rattle.std.proofs.lemmas.List.{flat_map_more}
 use Rattle.cli_lines.specs.declared.line.Before.{Before}
 use Rattle.cli_lines.specs.declared.parts.Form.{Form}
 use Rattle.cli_lines.specs.declared.parts.Form.TheVariants.{Text}
@@ -38,23 +39,12 @@ adds_text old new first second known is same adds = record {
       (sym (same_line old.form old.at first second more (sym known ∙ is) same)) awaits);
 }
 
--- ---- the parts of cells, some for each
+-- the parts of one more cell
+range_more : (a n j : ℕ) → a + n ≡ j → range_with_len a (n + 1) ≡ range_with_len a n ++ j ∷ []
+range_more a zero j is = let same : a ≡ j = omega (arith, is) in ap (λ k. k ∷ []) same
+range_more a (suc n) j is =
+    let next : suc n + 1 ≡ suc (n + 1) = omega arith in
+    ap (range_with_len a) next ∙ ap (λ xs. a ∷ xs) (range_more (a + 1) n j (omega (arith, is)))
 
--- the parts of the cells from an index on
-abbrev pub parts_from : (ℕ → List Part) → ℕ → ℕ → List Part
-parts_from parts index count = flat_map parts (range_with_len index (count - index))
-
-pub parts_all : (parts : ℕ → List Part) (count : ℕ) → parts_from parts 0 count ≡ flat_map parts (range_with_len 0 count)
-parts_all parts count =
-    let all : count - 0 ≡ count = omega arith in
-    ap (λ n. flat_map parts (range_with_len 0 n)) all
-
-pub parts_more : (parts : ℕ → List Part) (index count : ℕ) → index < count → parts index ++ parts_from parts (index + 1) count ≡ parts_from parts index count
-parts_more parts index count within =
-    let left : suc (count - (index + 1)) ≡ count - index = omega (arith, within) in
-    ap (λ n. flat_map parts (range_with_len index n)) left
-
-pub parts_end : (parts : ℕ → List Part) (index count : ℕ) → count ≤ index → parts_from parts index count ≡ []
-parts_end parts index count past =
-    let none : count - index ≡ 0 = omega (arith, past) in
-    ap (λ n. flat_map parts (range_with_len index n)) none
+pub parts_more : (parts : ℕ → List Part) (n : ℕ) → flat_map parts (range_with_len 0 n) ++ parts n ≡ flat_map parts (range_with_len 0 (n + 1))
+parts_more parts n = flat_map_more parts [] (range_with_len 0 n) n ∙ ap (flat_map parts) (sym (range_more 0 n n (omega arith)))

@@ -1,15 +1,15 @@
--- The cell that is read for a number, whether or not the number follows the rules. If it does, the cell is shown.
-use Rattle.std.proofs.Common.{◌≡◌, ◌≢◌, ◌∙◌, ℕ, zero, suc, ◌+◌, ◌*◌, ◌/◌, ◌%◌, ◌^◌, ◌<◌, ◌≤◌, ◌==◌, Bool, false, List, [], ◌∷◌, ◌++◌, length, take, drop, get_or, Option, Some, None, cond, refl, ap, sym, subst, inl, inr, arith}
+-- The cell that is read for a number is the one that the number represents.
+use Rattle.std.proofs.Common.{◌≡◌, ◌≢◌, ◌∙◌, ℕ, zero, suc, ◌+◌, ◌*◌, ◌/◌, ◌%◌, ◌^◌, ◌<◌, ◌≤◌, Bool, false, List, [], ◌∷◌, ◌++◌, length, take, drop, Option, Some, None, cond, refl, ap, sym, subst, inl, inr, arith}
 use Rattle.std.specs.List.{slice_get}
 use Rattle.std.proofs.Math.Seq.{drop-append_seam, take-append_seam}
-use Rattle.std.proofs.lemmas.Bool.{cases_lt, ne_eqb}
-use Rattle.std.proofs.lemmas.List.{get_or-take, get_or-drop, get_or_past, length-take}
+use Rattle.std.proofs.lemmas.Bool.{ne_eqb}
 use Rattle.std.proofs.lemmas.List.Elements.{All-head, All-tail}
 use Rattle.std.proofs.lemmas.Nat.{div-add-mod', mod_below, same_from_place}
 use Rattle.std.proofs.lemmas.Option.{slice_get_within}
 use Rattle.packed.specs.Packed.{IsPacked}
 use Rattle.packed.specs.Prefix.{unsigned_at}
 use Rattle.packed.specs.Rule.{AllHold}
+use Rattle.packed.proofs.RuleLemmas.{each_holds}
 use Rattle.heap_entries.specs.Entries.{HasNoNul, IsBlob, IsGuid, IsText}
 use Rattle.table_schema.specs.declared.table.TableId.{TableId}
 use Rattle.table_schema.specs.declared.token.Token.{Token}
@@ -18,21 +18,21 @@ use Rattle.table_schema.specs.declared.column.SigKind.{SigKind}
 use Rattle.table_schema.specs.declared.column.ColumnKind.{ColumnKind}
 use Rattle.table_schema.specs.declared.column.ColumnKind.TheVariants as kind
 use Rattle.table_schema.specs.CodedIndexes.{IsCoded, tables_of, tag_bits}
+use Rattle.table_schema.specs.Columns.{columns_of, column_at}
 use Rattle.table_schema.specs.CellColumns.{is_padding}
 use Rattle.sig_grammar.specs.Syntax.{Body}
 use Rattle.sig_grammar.specs.Encodes.{Encodes}
 use Rattle.sig_grammar.specs.Reading.{core_at}
 use Rattle.sig_grammar.specs.Columns.{body_at}
 use Rattle.metadata.specs.Cell.{Cell}
-use Rattle.metadata.specs.Cell.{Number, Text, Bytes, Guid, Ref, Start, Sig}
-use Rattle.metadata.specs.Source.{Source}
-use Rattle.metadata.specs.Stands.{Refers}
-use Rattle.metadata.specs.Rules.{MayRefer, rules_of_number}
-use Rattle.cli_cells.specs.Shown.{IsBlobCell, IsShownFor}
-
--- each byte is below 256
-abbrev pub AreBytes : List ℕ → Type 0
-AreBytes bytes = (k : ℕ) → get_or bytes k 0 < 2 ^ 8
+use Rattle.metadata.specs.Cell.{Number, Text, Bytes, Guid, Ref, Start}
+use Rattle.metadata.specs.Source.{Source, number_of}
+use Rattle.metadata.specs.SourceAt.{SourceAt, cell_offset}
+use Rattle.metadata.specs.Stands.{Refers, StandsFor}
+use Rattle.metadata.specs.Starts.{start_of}
+use Rattle.metadata.specs.Rows.{StandsIn}
+use Rattle.metadata.specs.Rules.{MayRefer, rules_of_cell, rules_of_number, rules_of_row}
+use Rattle.cli_cells.specs.Shown.{blob_at, cell_at, coded_at, counted, guid_at, read_cell, row_at, signature_at, signature_of, signature_or, tagged, text_at, text_of}
 
 -- ---- entries of heaps
 
@@ -40,20 +40,11 @@ tail_of : (heap before tail : List ℕ) (index : ℕ) → heap ≡ before ++ tai
 tail_of heap before tail index whole at =
     ap (λ xs. drop index xs) whole ∙ subst (λ (n : ℕ). drop n (before ++ tail) ≡ tail) at (drop-append_seam before tail)
 
--- the bytes before the first NUL
-abbrev text_of : List ℕ → List ℕ
-text_of [] = []
-text_of (b ∷ bs) = cond (b == 0) [] (b ∷ text_of bs)
-
 text_read : (bytes after : List ℕ) → HasNoNul bytes → text_of (bytes ++ 0 ∷ after) ≡ bytes
 text_read [] after none = refl
 text_read (b ∷ bs) after none =
     ap (λ t. cond t [] (b ∷ text_of (bs ++ 0 ∷ after))) (ne_eqb b 0 (All-head (λ byte. byte ≢ 0) b bs none))
     ∙ ap (λ xs. b ∷ xs) (text_read bs after (All-tail (λ byte. byte ≢ 0) b bs none))
-
-abbrev text_at : List ℕ → ℕ → List ℕ
-text_at heap zero = []
-text_at heap (suc before) = text_of (drop (suc before) heap)
 
 text_is : (heap : List ℕ) (index : ℕ) (text : List ℕ) → IsText heap index text → text ≡ text_at heap index
 text_is heap zero text (inl none) = none.1
@@ -62,18 +53,6 @@ text_is heap (suc before) text (inl none) = absurd (omega (arith, none.0))
 text_is heap (suc before) text (inr some) =
     let is = some.1 in
     sym (ap text_of (tail_of heap is.before (text ++ 0 ∷ is.after) (suc before) is.whole is.at) ∙ text_read text is.after is.no_nul)
-
-abbrev counted : List ℕ → Option (ℕ × ℕ) → List ℕ
-counted bytes None = []
-counted bytes (Some read) = take read.0 (drop read.1 bytes)
-
-abbrev blob_at : List ℕ → ℕ → List ℕ
-blob_at heap zero = []
-blob_at heap (suc before) = counted (drop (suc before) heap) (unsigned_at (drop (suc before) heap))
-
-abbrev guid_at : List ℕ → ℕ → Option (List ℕ)
-guid_at heap zero = None
-guid_at heap (suc before) = Some (take 16 (drop (16 * before) heap))
 
 guid_is : (heap : List ℕ) (index : ℕ) (guid : Option (List ℕ)) → IsGuid heap index guid → guid ≡ guid_at heap index
 guid_is heap zero None is = refl
@@ -86,28 +65,28 @@ guid_is heap (suc before) (Some guid) is =
     let first : take 16 (guid ++ entry.after) ≡ guid = subst (λ (n : ℕ). take n (guid ++ entry.after) ≡ guid) entry.long (take-append_seam guid entry.after) in
     ap Some (sym (ap (λ xs. take 16 xs) tail ∙ first))
 
--- the bytes of a blob
-counted_bytes : (bytes : List ℕ) → AreBytes bytes → (read : Option (ℕ × ℕ)) → AreBytes (counted bytes read)
-counted_bytes bytes each None k = omega arith
-counted_bytes bytes each (Some read) k =
-    elim (cases_lt k read.0) [
-      | inl below ↦ let here = each (read.1 + k) in rw (get_or-take read.0 (drop read.1 bytes) k 0 below, get_or-drop read.1 bytes k 0) here
-      | inr past ↦ rw (get_or_past (take read.0 (drop read.1 bytes)) k 0 (omega (arith, length-take read.0 (drop read.1 bytes)))) (omega arith)
-    ]
+-- what is known of packed numbers
+abbrev pub ArePacked : Type 0
+ArePacked = (n : ℕ) (prefix tail : List ℕ) → IsPacked n prefix → unsigned_at (prefix ++ tail) ≡ Some (n, length prefix)
 
-drop_bytes : (bytes : List ℕ) (n : ℕ) → AreBytes bytes → AreBytes (drop n bytes)
-drop_bytes bytes n each k = let here = each (n + k) in rw (get_or-drop n bytes k 0) here
+pub blob_is : ArePacked → (heap : List ℕ) (index : ℕ) (blob : List ℕ) → IsBlob heap index blob → blob ≡ blob_at heap index
+blob_is known heap zero blob (inl none) = none.1
+blob_is known heap zero blob (inr some) = absurd (omega (arith, some.0))
+blob_is known heap (suc before) blob (inl none) = absurd (omega (arith, none.0))
+blob_is known heap (suc before) blob (inr some) =
+    let is = some.1 in
+    let tail = tail_of heap is.before (is.count ++ (blob ++ is.after)) (suc before) is.whole is.at in
+    sym (ap (λ bytes. counted bytes (unsigned_at bytes)) tail
+    ∙ ap (λ read. counted (is.count ++ (blob ++ is.after)) read) (known (length blob) is.count (blob ++ is.after) is.counts)
+    ∙ ap (λ bytes. take (length blob) bytes) (drop-append_seam is.count (blob ++ is.after))
+    ∙ take-append_seam blob is.after)
 
-blob_bytes : (heap : List ℕ) (index : ℕ) → AreBytes heap → AreBytes (blob_at heap index)
-blob_bytes heap zero each k = omega arith
-blob_bytes heap (suc before) each k =
-    counted_bytes (drop (suc before) heap) (drop_bytes heap (suc before) each) (unsigned_at (drop (suc before) heap)) k
+-- a blob has fewer bytes than a packed number can count
+pub blob_short : ((n : ℕ) (bytes : List ℕ) → IsPacked n bytes → n < 2 ^ 29) → (heap : List ℕ) (index : ℕ) (blob : List ℕ) → IsBlob heap index blob → length blob < 2 ^ 29
+blob_short short heap index blob (inl none) = rw none.1 (omega arith)
+blob_short short heap index blob (inr some) = short (length blob) some.1.count some.1.counts
 
 -- ---- rows
-
-abbrev row_at : TableId → ℕ → Cell
-row_at table zero = Ref None
-row_at table (suc before) = Ref (Some (record { table = table; row = suc before }))
 
 row_is : (source : Source) (nullable : Bool) (table : TableId) (row : ℕ) (cell : Cell) → Refers source nullable (record { table = table; row = row }) cell
     → cell ≡ row_at table row
@@ -115,13 +94,6 @@ row_is source nullable table zero cell (inl null) = null.2
 row_is source nullable table zero cell (inr there) = absurd (omega (arith, there.0.0))
 row_is source nullable table (suc before) cell (inl null) = absurd (omega (arith, null.0))
 row_is source nullable table (suc before) cell (inr there) = there.1
-
-abbrev tagged : Option (Option TableId) → ℕ → Cell
-tagged (Some (Some table)) row = row_at table row
-tagged _ row = Number 0
-
-abbrev coded_at : Coded → ℕ → Cell
-coded_at coded number = tagged (slice_get (tables_of coded) (number % 2 ^ tag_bits coded)) (number / 2 ^ tag_bits coded)
 
 coded_is : (coded : Coded) (number : ℕ) (token : Token) → length (tables_of coded) ≤ 2 ^ tag_bits coded → IsCoded coded number token.table token.row
     → coded_at coded number ≡ row_at token.table token.row
@@ -135,144 +107,87 @@ coded_is coded number token few is =
     ∙ ap (λ t. tagged t (number / 2 ^ tag_bits coded)) is.listed
     ∙ ap (row_at token.table) same.0
 
-refers_read : (source : Source) (nullable : Bool) (token : Token) → MayRefer source nullable token → (cell : Cell) × Refers source nullable token cell
-refers_read source nullable token (inl null) = (Ref None, inl (null.0, null.1, refl))
-refers_read source nullable token (inr there) = (Ref (Some token), inr (there, refl))
+some_row : (source : Source) (nullable : Bool) (token : Token) → MayRefer source nullable token → (cell : Cell) × Refers source nullable token cell
+some_row source nullable token (inl null) = (Ref None, inl (null.0, null.1, refl))
+some_row source nullable token (inr there) = (Ref (Some token), inr (there, refl))
 
 -- ---- signatures
 
-abbrev sig_or : List ℕ → Body → List ℕ → Cell
-sig_or blob signature [] = Sig signature
-sig_or blob signature (b ∷ bs) = Bytes blob
+-- bytes that encode no signature are read as bytes
+module _ (column : SigKind) (blob : List ℕ) (encoded : (signature : Body) → body_at column (core_at 128) blob ≡ Some (signature, []) → ⊥) where
+  bytes_left : (signature : Body) (tail : List ℕ) → body_at column (core_at 128) blob ≡ Some (signature, tail) → signature_or blob signature tail ≡ Bytes blob
+  bytes_left signature [] is = absurd (encoded signature is)
+  bytes_left signature (b ∷ bs) is = refl
 
-abbrev sig_of : List ℕ → Option (Body × List ℕ) → Cell
-sig_of blob None = Bytes blob
-sig_of blob (Some read) = sig_or blob read.0 read.1
+  bytes_read : (found : Option (Body × List ℕ)) → body_at column (core_at 128) blob ≡ found → signature_of blob found ≡ Bytes blob
+  bytes_read None is = refl
+  bytes_read (Some read) is = bytes_left read.0 read.1 is
 
-abbrev sig_at : SigKind → List ℕ → Cell
-sig_at column blob = sig_of blob (body_at column (core_at 128) blob)
-
--- the bytes that a signature leaves, or none
-abbrev left_of : Option (Body × List ℕ) → List ℕ
-left_of None = []
-left_of (Some read) = read.1
-
--- what is known of blobs, tags and signatures
-pub record AreRead : Type 0 where
-  pub number : (n : ℕ) (prefix tail : List ℕ) → IsPacked n prefix → unsigned_at (prefix ++ tail) ≡ Some (n, length prefix)
-  pub short : (n : ℕ) (bytes : List ℕ) → IsPacked n bytes → n < 2 ^ 29
-  pub few_tags : (coded : Coded) → length (tables_of coded) ≤ 2 ^ tag_bits coded
-  pub signature : (column : SigKind) (signature : Body) (bytes : List ℕ) → Encodes column signature bytes
-      → body_at column (core_at 128) bytes ≡ Some (signature, [])
-  pub encoded : (column : SigKind) (signature : Body) (bytes : List ℕ) → AreBytes bytes → length bytes < 2 ^ 29
-      → body_at column (core_at 128) bytes ≡ Some (signature, []) → Encodes column signature bytes
-
-module _ (known : AreRead) where
-  blob_is : (heap : List ℕ) (index : ℕ) (blob : List ℕ) → IsBlob heap index blob → blob ≡ blob_at heap index
-  blob_is heap zero blob (inl none) = none.1
-  blob_is heap zero blob (inr some) = absurd (omega (arith, some.0))
-  blob_is heap (suc before) blob (inl none) = absurd (omega (arith, none.0))
-  blob_is heap (suc before) blob (inr some) =
-      let is = some.1 in
-      let tail = tail_of heap is.before (is.count ++ (blob ++ is.after)) (suc before) is.whole is.at in
-      sym (ap (λ bytes. counted bytes (unsigned_at bytes)) tail
-      ∙ ap (λ read. counted (is.count ++ (blob ++ is.after)) read) (known.number (length blob) is.count (blob ++ is.after) is.counts)
-      ∙ ap (λ bytes. take (length blob) bytes) (drop-append_seam is.count (blob ++ is.after))
-      ∙ take-append_seam blob is.after)
-
-  blob_short : (heap : List ℕ) (index : ℕ) (blob : List ℕ) → IsBlob heap index blob → length blob < 2 ^ 29
-  blob_short heap index blob (inl none) = rw none.1 (omega arith)
-  blob_short heap index blob (inr some) = known.short (length blob) some.1.count some.1.counts
-
-  module _ (column : SigKind) (blob : List ℕ) (each : AreBytes blob) (few : length blob < 2 ^ 29) where
-    tail_is : (signature : Body) (left : List ℕ) → body_at column (core_at 128) blob ≡ Some (signature, left) → IsBlobCell column blob (sig_or blob signature left)
-    tail_is signature [] read = inl (signature, known.encoded column signature blob each few read, refl)
-    tail_is signature (b ∷ bs) read = inr (
-      (λ some.
-          let empty : b ∷ bs ≡ [] = ap left_of (sym read ∙ known.signature column some.0 blob some.1) in cc),
-      refl,
-    )
-
-    body_is : (read : Option (Body × List ℕ)) → body_at column (core_at 128) blob ≡ read → IsBlobCell column blob (sig_of blob read)
-    body_is None read = inr ((λ some. let bad : None ≡ Some (some.0, []) = sym read ∙ known.signature column some.0 blob some.1 in cc), refl)
-    body_is (Some found) read = tail_is found.0 found.1 read
-
-    sig_is : IsBlobCell column blob (sig_at column blob)
-    sig_is = body_is (body_at column (core_at 128) blob) refl
+  pub no_signature : signature_at column blob ≡ Bytes blob
+  no_signature = bytes_read (body_at column (core_at 128) blob) refl
 
 -- ---- cells
 
-abbrev pub read_cell : Source → ColumnKind → (TableId → ℕ) → ℕ → Cell
-read_cell source kind.U8 start number = Number number
-read_cell source kind.U16 start number = Number number
-read_cell source kind.U32 start number = Number number
-read_cell source kind.Padding start number = Number 0
-read_cell source kind.Text start number = Text (text_at source.texts number)
-read_cell source kind.Guid start number = Guid (guid_at source.guids number)
-read_cell source kind.Blob start number = Bytes (blob_at source.blobs number)
-read_cell source (kind.Signature column) start number = sig_at column (blob_at source.blobs number)
-read_cell source (kind.Row table) start number = row_at table number
-read_cell source (kind.Coded coded) start number = coded_at coded number
-read_cell source (kind.List member) start number = Start (start member)
+-- a number that follows the rules represents a cell, unless it is that of a signature
+some_stands : (source : Source) (of : ColumnKind) (nullable : Bool) (start : TableId → ℕ) (number offset : ℕ) → is_padding of ≡ false
+    → ((column : SigKind) → of ≢ kind.Signature column) → AllHold (rules_of_number source of nullable number offset) → (cell : Cell) × StandsFor source of nullable start number cell
+some_stands source kind.U8 nullable start number offset cell other all = (Number number, refl)
+some_stands source kind.U16 nullable start number offset cell other all = (Number number, refl)
+some_stands source kind.U32 nullable start number offset cell other all = (Number number, refl)
+some_stands source kind.Padding nullable start number offset cell other all = absurd cc
+some_stands source kind.Text nullable start number offset cell other all = let text = all.1.0 in (Text text.0, (text.0, text.1, refl))
+some_stands source kind.Guid nullable start number offset cell other all = let guid = all.0 in (Guid guid.0, (guid.0, guid.1, refl))
+some_stands source kind.Blob nullable start number offset cell other all = let blob = all.0 in (Bytes blob.0, (blob.0, blob.1, refl))
+some_stands source (kind.Signature column) nullable start number offset cell other all = absurd (other column refl)
+some_stands source (kind.Row table) nullable start number offset cell other all = some_row source nullable (record { table = table; row = number }) all.0
+some_stands source (kind.Coded coded) nullable start number offset cell other all =
+    let some = all.1.0 in
+    let found = some_row source nullable some.0 some.2 in
+    (found.0, (some.0, some.1, found.1))
+some_stands source (kind.List member) nullable start number offset cell other all = (Start (start member), (all.0, refl))
 
-module _ (known : AreRead) (source : Source) (each : AreBytes source.blobs) where
-  pub read_shown : (kind : ColumnKind) (nullable : Bool) (start : TableId → ℕ) (number offset : ℕ) → is_padding kind ≡ false
-      → AllHold (rules_of_number source kind nullable number offset) → IsShownFor source kind nullable start number (read_cell source kind start number)
-  read_shown kind.U8 nullable start number offset cell all = refl
-  read_shown kind.U16 nullable start number offset cell all = refl
-  read_shown kind.U32 nullable start number offset cell all = refl
-  read_shown kind.Padding nullable start number offset cell all = absurd cc
-  read_shown kind.Text nullable start number offset cell all =
-      let text = all.1.0 in (text.0, text.1, ap Text (sym (text_is source.texts number text.0 text.1)))
-  read_shown kind.Guid nullable start number offset cell all =
-      let guid = all.0 in (guid.0, guid.1, ap Guid (sym (guid_is source.guids number guid.0 guid.1)))
-  read_shown kind.Blob nullable start number offset cell all =
-      let blob = all.0 in (blob.0, blob.1, ap Bytes (sym (blob_is known source.blobs number blob.0 blob.1)))
-  read_shown (kind.Signature column) nullable start number offset cell all =
-      let blob = all.0 in
-      let same = blob_is known source.blobs number blob.0 blob.1 in
-      let bytes = subst AreBytes (sym same) (blob_bytes source.blobs number each) in (
-        blob.0,
-        blob.1,
-        subst (λ (b : List ℕ). IsBlobCell column blob.0 (sig_at column b)) same
-            (sig_is known column blob.0 bytes (blob_short known source.blobs number blob.0 blob.1)),
-      )
-  read_shown (kind.Row table) nullable start number offset cell all =
-      let token : Token = record { table = table; row = number } in
-      let found = refers_read source nullable token all.0 in
-      subst (λ (c : Cell). Refers source nullable token c) (row_is source nullable table number found.0 found.1) found.1
-  read_shown (kind.Coded coded) nullable start number offset cell all =
-      let some = all.1.0 in
-      let found = refers_read source nullable some.0 some.2 in (
-        some.0,
-        some.1,
-        subst (λ (c : Cell). Refers source nullable some.0 c)
-            (row_is source nullable some.0.table some.0.row found.0 found.1 ∙ sym (coded_is coded number some.0 (known.few_tags coded) some.1))
-            found.1,
-      )
-  read_shown (kind.List member) nullable start number offset cell all = (all.0, refl)
+-- what is known of tags and signatures
+module _ (known : ArePacked) (few : (coded : Coded) → length (tables_of coded) ≤ 2 ^ tag_bits coded)
+    (read : (column : SigKind) (signature : Body) (bytes : List ℕ) → Encodes column signature bytes → body_at column (core_at 128) bytes ≡ Some (signature, [])) where
+  stands_read : (source : Source) (of : ColumnKind) (nullable : Bool) (start : TableId → ℕ) (number : ℕ) (cell : Cell) → StandsFor source of nullable start number cell
+      → cell ≡ read_cell source of start number
+  stands_read source kind.U8 nullable start number cell is = is
+  stands_read source kind.U16 nullable start number cell is = is
+  stands_read source kind.U32 nullable start number cell is = is
+  stands_read source kind.Padding nullable start number cell is = absurd is
+  stands_read source kind.Text nullable start number cell is = is.2 ∙ ap Text (text_is source.texts number is.0 is.1)
+  stands_read source kind.Guid nullable start number cell is = is.2 ∙ ap Guid (guid_is source.guids number is.0 is.1)
+  stands_read source kind.Blob nullable start number cell is = is.2 ∙ ap Bytes (blob_is known source.blobs number is.0 is.1)
+  stands_read source (kind.Signature column) nullable start number cell is =
+      is.5 ∙ sym (ap (signature_of is.0) (read column is.1 is.0 is.3)) ∙ ap (signature_at column) (blob_is known source.blobs number is.0 is.2)
+  stands_read source (kind.Row table) nullable start number cell is = row_is source nullable table number cell is
+  stands_read source (kind.Coded coded) nullable start number cell is =
+      row_is source nullable is.0.table is.0.row cell is.2 ∙ sym (coded_is coded number is.0 (few coded) is.1)
+  stands_read source (kind.List member) nullable start number cell is = is.1
 
-  -- the cell that is shown is the one that is read
-  blob_cell_read : (column : SigKind) (blob : List ℕ) (cell : Cell) → AreBytes blob → length blob < 2 ^ 29 → IsBlobCell column blob cell → cell ≡ sig_at column blob
-  blob_cell_read column blob cell bytes few (inl some) =
-      some.2 ∙ sym (ap (λ read. sig_of blob read) (known.signature column some.0 blob some.1))
-  blob_cell_read column blob cell bytes few (inr none) =
-      elim (sig_is known column blob bytes few) [ inl some ↦ absurd (none.0 (some.0, some.1)) | inr other ↦ none.1 ∙ sym other.1 ]
+  pub cell_is_read : (source : Source) (table : TableId) (row column : ℕ) (cell : Cell) → StandsIn source table row column cell → cell ≡ cell_at source table row column
+  unfolding cell_at
+  cell_is_read source table row column cell is =
+      stands_read source (column_at table column).kind (column_at table column).nullable (start_of source table row column) (number_of source table row column) cell is
 
-  pub shown_read : (kind : ColumnKind) (nullable : Bool) (start : TableId → ℕ) (number : ℕ) (cell : Cell) → IsShownFor source kind nullable start number cell
-      → cell ≡ read_cell source kind start number
-  shown_read kind.U8 nullable start number cell is = is
-  shown_read kind.U16 nullable start number cell is = is
-  shown_read kind.U32 nullable start number cell is = is
-  shown_read kind.Padding nullable start number cell is = absurd is
-  shown_read kind.Text nullable start number cell is = is.2 ∙ ap Text (text_is source.texts number is.0 is.1)
-  shown_read kind.Guid nullable start number cell is = is.2 ∙ ap Guid (guid_is source.guids number is.0 is.1)
-  shown_read kind.Blob nullable start number cell is = is.2 ∙ ap Bytes (blob_is known source.blobs number is.0 is.1)
-  shown_read (kind.Signature column) nullable start number cell is =
-      let same = blob_is known source.blobs number is.0 is.1 in
-      let bytes = subst AreBytes (sym same) (blob_bytes source.blobs number each) in
-      blob_cell_read column is.0 cell bytes (blob_short known source.blobs number is.0 is.1) is.2 ∙ ap (sig_at column) same
-  shown_read (kind.Row table) nullable start number cell is = row_is source nullable table number cell is
-  shown_read (kind.Coded coded) nullable start number cell is =
-      row_is source nullable is.0.table is.0.row cell is.2 ∙ sym (coded_is coded number is.0 (known.few_tags coded) is.1)
-  shown_read (kind.List member) nullable start number cell is = is.1
+-- ---- rules
+
+module _ (here : SourceAt) (table : TableId) (row column : ℕ) where
+  pub some_cell : is_padding (column_at table column).kind ≡ false → ((of : SigKind) → (column_at table column).kind ≢ kind.Signature of)
+      → AllHold (rules_of_cell here table row column) → (cell : Cell) × StandsIn here.source table row column cell
+  unfolding rules_of_cell
+  some_cell cell other all =
+      some_stands here.source (column_at table column).kind (column_at table column).nullable (start_of here.source table row column)
+      (number_of here.source table row column) (cell_offset here table row column) cell other all
+
+  -- the blob of a number in a column of signatures
+  pub signature_blob : (of : SigKind) → (column_at table column).kind ≡ kind.Signature of → AllHold (rules_of_cell here table row column)
+      → (blob : List ℕ) × IsBlob here.source.blobs (number_of here.source table row column) blob
+  unfolding rules_of_cell
+  signature_blob of is all =
+      let P : ColumnKind → Type 0 = λ k. AllHold (rules_of_number here.source k (column_at table column).nullable (number_of here.source table row column) (cell_offset here table row column)) in
+      (subst P is all).0
+
+  pub cell_of_row : column < length (columns_of table) → AllHold (rules_of_row here table row) → AllHold (rules_of_cell here table row column)
+  unfolding rules_of_row
+  cell_of_row within all = each_holds (rules_of_cell here table row) 0 (length (columns_of table)) all column (omega arith) (omega (arith, within))

@@ -2,7 +2,6 @@
 use Rattle.std.specs.Prelude.{◌≡◌, ℕ, ◌⊎◌, List, [], flat_map, Option}
 use Rattle.packed.specs.Rule.{AllHold}
 use Rattle.table_schema.specs.declared.table.TableId.{TableId}
-use Rattle.metadata.specs.Metadata.{Metadata}
 use Rattle.metadata.specs.Source.{Source}
 use Rattle.metadata.specs.SourceAt.{SourceAt}
 use Rattle.checks.specs.Broken.{IsFirstBroken}
@@ -12,17 +11,16 @@ use Rattle.cli_input.specs.declared.opened.Input.{Input}
 use Rattle.cli_lines.specs.Lines.{Part}
 use Rattle.cli_cells.specs.MetRows.{rows_before}
 use Rattle.cli_cells.specs.RowLines.{first_lines}
-use Rattle.cli_cells.specs.Shown.{IsShown}
+use Rattle.cli_cells.specs.Shown.{content_at}
 use Rattle.cli_cells.specs.declared.row_lines.Names.{Names}
 
 -- the rows of these tables before a broken row
-abbrev pub lines_before : Names → Source → Option BrokenRow → Metadata → List TableId → List (List Part)
-lines_before names source broken model tables = flat_map (λ table. first_lines names model table (rows_before source broken table)) tables
+abbrev pub lines_before : Names → Source → Option BrokenRow → List TableId → List (List Part)
+lines_before names source broken tables = flat_map (λ table. first_lines names (content_at source) table (rows_before source broken table)) tables
 
 -- these are the rows of tables before the first row that breaks a rule for cells
 abbrev pub AreRowLines : Names → SourceAt → List TableId → List (List Part) → Type 0
-AreRowLines names here tables lines =
-    (model : Metadata) × (broken : Option BrokenRow) × IsShown here model × IsFirstBroken here broken × (lines ≡ lines_before names here.source broken model tables)
+AreRowLines names here tables lines = (broken : Option BrokenRow) × IsFirstBroken here broken × (lines ≡ lines_before names here.source broken tables)
 
 -- the same of the bytes; no rows if a rule before those for cells is broken
 abbrev pub AreLinesBefore : Names → Input → List ℕ → List TableId → List (List Part) → Type 0

@@ -7,12 +7,13 @@ use Rattle.table_schema.specs.Tables.{table_number, table_name}
 use Rattle.table_schema.specs.CellColumns.{cell_count}
 use Rattle.sig_grammar.specs.Encodes.{short}
 use Rattle.metadata.specs.Cell.{Cell, Number, Text, Bytes, Guid, Ref, Start, Sig}
-use Rattle.metadata.specs.Metadata.{Metadata, cell_in, count_in}
+use Rattle.metadata.specs.Metadata.{Metadata}
 use Rattle.cli_lines.specs.Lines as line
 use Rattle.cli_lines.specs.Lines.{Part, Value, word, field, note, row_number, row_token, spaced}
 use Rattle.cli_lines.specs.Names.{label_text, name_text}
 use Rattle.cli_lines.specs.declared.names.Name.{Name}
 use Rattle.cli_lines.specs.declared.names.Name.TheVariants as name
+use Rattle.cli_cells.specs.Shown.{Content, content_of}
 use Rattle.cli_cells.specs.SignatureText.{signature_text}
 use Rattle.cli_cells.specs.declared.row_lines.Names.{Names}
 use Rattle.cli_cells.specs.declared.row_lines.Names.TheVariants.{Hidden, Shown}
@@ -38,9 +39,9 @@ cell_part Hidden key value = spaced key value
 cell_part Shown key value = field key value
 
 -- a cell of a row; in JSON the member with the name of its column
-abbrev pub cell_parts : Names → Metadata → TableId → ℕ → ℕ → List Part
-cell_parts names model table row cell_index =
-    cell_label names table cell_index ++ cell_part names (name.Cell table cell_index) (cell_value (cell_in model table row cell_index)) ∷ []
+abbrev pub cell_parts : Names → Content → TableId → ℕ → ℕ → List Part
+cell_parts names content table row cell_index =
+    cell_label names table cell_index ++ cell_part names (name.Cell table cell_index) (cell_value (content.cell table row cell_index)) ∷ []
 
 -- what a row begins with: its number and a colon, or its token if columns are named; in JSON its table, number and token
 abbrev pub row_head : Names → Token → Part
@@ -48,8 +49,8 @@ row_head Hidden row = row_number row
 row_head Shown row = row_token row
 
 -- the line of a row
-abbrev pub row_line : Names → Metadata → TableId → ℕ → List Part
-row_line names model table row = row_head names (record { table = table; row = row }) ∷ flat_map (cell_parts names model table row) (range_with_len 0 (cell_count table))
+abbrev pub row_line : Names → Content → TableId → ℕ → List Part
+row_line names content table row = row_head names (record { table = table; row = row }) ∷ flat_map (cell_parts names content table row) (range_with_len 0 (cell_count table))
 
 -- the line before the rows of a table: its number, its name and how many rows it has; no line in JSON
 unfoldable pub heading_line : TableId → ℕ → List Part
@@ -58,14 +59,10 @@ heading_line table count =
     ∷ note (line.number count) ∷ []
 
 -- the first rows of a table after its heading; nothing if there are none
-unfoldable pub first_lines : Names → Metadata → TableId → ℕ → List (List Part)
-first_lines names model table rows =
-    if rows == 0 then [] else heading_line table (count_in model table) ∷ map (row_line names model table) (range_with_len 1 rows)
+unfoldable pub first_lines : Names → Content → TableId → ℕ → List (List Part)
+first_lines names content table rows =
+    if rows == 0 then [] else heading_line table (content.count table) ∷ map (row_line names content table) (range_with_len 1 rows)
 
--- all rows of a table
-abbrev pub table_lines : Names → Metadata → TableId → List (List Part)
-table_lines names model table = first_lines names model table (count_in model table)
-
--- these tables, one after another
+-- all rows of these tables, one table after another
 abbrev pub show_lines : Names → Metadata → List TableId → List (List Part)
-show_lines names model tables = flat_map (table_lines names model) tables
+show_lines names model tables = flat_map (λ table. first_lines names (content_of model) table ((content_of model).count table)) tables

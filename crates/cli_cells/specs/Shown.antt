@@ -1,44 +1,107 @@
--- The cells of rows that follow the rules for cells, whatever the later rules say (ECMA-335 II.22).
-use Rattle.std.specs.Prelude.{◌≡◌, ℕ, ◌≤◌, ◌<◌, ◌⊎◌, Bool, List}
-use Rattle.packed.specs.Rule.{AllHold}
+-- The cells that are read for the numbers of rows, whether or not the later rules hold (ECMA-335 II.22).
+use Rattle.std.specs.Prelude.{◌≡◌, ◌==◌, ℕ, zero, suc, ◌*◌, ◌/◌, ◌%◌, ◌^◌, ◌≤◌, ◌<◌, if◌then◌else◌, List, [], ◌∷◌, take, drop, Option, Some, None, slice_get}
+use Rattle.packed.specs.Prefix.{unsigned_at}
 use Rattle.table_schema.specs.declared.table.TableId.{TableId}
+use Rattle.table_schema.specs.declared.coded.Coded.{Coded}
 use Rattle.table_schema.specs.declared.column.SigKind.{SigKind}
 use Rattle.table_schema.specs.declared.column.ColumnKind.{ColumnKind}
 use Rattle.table_schema.specs.declared.column.ColumnKind.TheVariants as kind
+use Rattle.table_schema.specs.CodedIndexes.{tables_of, tag_bits}
 use Rattle.table_schema.specs.Columns.{column_at}
 use Rattle.table_schema.specs.CellColumns.{cell_count, column_of}
-use Rattle.heap_entries.specs.Entries.{IsBlob}
 use Rattle.sig_grammar.specs.Syntax.{Body}
-use Rattle.sig_grammar.specs.Encodes.{Encodes}
+use Rattle.sig_grammar.specs.Reading.{core_at}
+use Rattle.sig_grammar.specs.Columns.{body_at}
 use Rattle.metadata.specs.Cell.{Cell}
-use Rattle.metadata.specs.Cell.{Bytes, Sig}
+use Rattle.metadata.specs.Cell.{Number, Text, Bytes, Guid, Ref, Start, Sig}
 use Rattle.metadata.specs.Metadata.{Metadata, count_in, cell_in}
+use Rattle.metadata.specs.Model.{IsModel}
 use Rattle.metadata.specs.Source.{Source, rows_in, number_of}
-use Rattle.metadata.specs.SourceAt.{SourceAt}
-use Rattle.metadata.specs.Stands.{StandsFor}
 use Rattle.metadata.specs.Starts.{start_of}
-use Rattle.metadata.specs.Rules.{rules_of_row}
 
--- the cell of a blob in a column of signatures: the signature that it encodes, or its bytes if it encodes none
-abbrev pub IsBlobCell : SigKind → List ℕ → Cell → Type 0
-IsBlobCell column blob cell =
-    ((signature : Body) × Encodes column signature blob × (cell ≡ Sig signature))
-    ⊎ ((¬ ((signature : Body) × Encodes column signature blob)) × (cell ≡ Bytes blob))
+-- the text at an index (II.24.2.3): the bytes up to the first NUL; at index 0 none
+abbrev pub text_of : List ℕ → List ℕ
+text_of [] = []
+text_of (byte ∷ bytes) = if byte == 0 then [] else byte ∷ text_of bytes
 
--- The cell that is shown for a number: the cell that it represents. Only of a signature the rules for cells say less: that
--- there is a blob.
-abbrev pub IsShownFor : Source → ColumnKind → Bool → (TableId → ℕ) → ℕ → Cell → Type 0
-IsShownFor source (kind.Signature column) nullable start number cell = (blob : List ℕ) × IsBlob source.blobs number blob × IsBlobCell column blob cell
-IsShownFor source kind nullable start number cell = StandsFor source kind nullable start number cell
+abbrev pub text_at : List ℕ → ℕ → List ℕ
+text_at heap zero = []
+text_at heap (suc before) = text_of (drop (suc before) heap)
+
+-- the blob at an index (II.24.2.4): the bytes after their packed length; at index 0 none
+abbrev pub counted : List ℕ → Option (ℕ × ℕ) → List ℕ
+counted bytes None = []
+counted bytes (Some read) = take read.0 (drop read.1 bytes)
+
+abbrev pub blob_at : List ℕ → ℕ → List ℕ
+blob_at heap zero = []
+blob_at heap (suc before) = counted (drop (suc before) heap) (unsigned_at (drop (suc before) heap))
+
+-- the GUID with a number from 1 (II.24.2.5)
+abbrev pub guid_at : List ℕ → ℕ → Option (List ℕ)
+guid_at heap zero = None
+guid_at heap (suc before) = Some (take 16 (drop (16 * before) heap))
+
+-- a row of a table; row 0 is null
+abbrev pub row_at : TableId → ℕ → Cell
+row_at table zero = Ref None
+row_at table (suc before) = Ref (Some (record { table = table; row = suc before }))
+
+-- the row of a coded index (II.24.2.6): the tag is in the low bits
+abbrev pub tagged : Option (Option TableId) → ℕ → Cell
+tagged (Some (Some table)) row = row_at table row
+tagged _ row = Number 0
+
+abbrev pub coded_at : Coded → ℕ → Cell
+coded_at coded number = tagged (slice_get (tables_of coded) (number % 2 ^ tag_bits coded)) (number / 2 ^ tag_bits coded)
+
+-- the signature in all the bytes of a blob (II.23.2), or the bytes if they encode none
+abbrev pub signature_or : List ℕ → Body → List ℕ → Cell
+signature_or blob signature [] = Sig signature
+signature_or blob signature (byte ∷ bytes) = Bytes blob
+
+abbrev pub signature_of : List ℕ → Option (Body × List ℕ) → Cell
+signature_of blob None = Bytes blob
+signature_of blob (Some read) = signature_or blob read.0 read.1
+
+abbrev pub signature_at : SigKind → List ℕ → Cell
+signature_at column blob = signature_of blob (body_at column (core_at 128) blob)
+
+-- the cell of a number in a column of a kind. For a list column, `start` gives the start of the owner's run
+abbrev pub read_cell : Source → ColumnKind → (TableId → ℕ) → ℕ → Cell
+read_cell source kind.U8 start number = Number number
+read_cell source kind.U16 start number = Number number
+read_cell source kind.U32 start number = Number number
+read_cell source kind.Padding start number = Number 0
+read_cell source kind.Text start number = Text (text_at source.texts number)
+read_cell source kind.Guid start number = Guid (guid_at source.guids number)
+read_cell source kind.Blob start number = Bytes (blob_at source.blobs number)
+read_cell source (kind.Signature column) start number = signature_at column (blob_at source.blobs number)
+read_cell source (kind.Row table) start number = row_at table number
+read_cell source (kind.Coded coded) start number = coded_at coded number
+read_cell source (kind.List member) start number = Start (start member)
 
 -- the cell of a column, in a row counted from 1
-abbrev pub IsShownIn : Source → TableId → ℕ → ℕ → Cell → Type 0
-IsShownIn source table row column cell =
-    IsShownFor source (column_at table column).kind (column_at table column).nullable (start_of source table row column) (number_of source table row column) cell
+unfoldable pub cell_at : Source → TableId → ℕ → ℕ → Cell
+cell_at source table row column = read_cell source (column_at table column).kind (start_of source table row column) (number_of source table row column)
 
--- Each row of the model that follows the rules for cells has the cells that are shown for its numbers. A model of the
--- bytes, if they have one, is such a model. Nothing is said of the cells of other rows.
-pub record IsShown (here : SourceAt) (model : Metadata) : Type 0 where
-  pub count : (table : TableId) → count_in model table ≡ rows_in here.source table
-  pub cells : (table : TableId) (row cell_index : ℕ) → 1 ≤ row → row ≤ rows_in here.source table → cell_index < cell_count table
-      → AllHold (rules_of_row here table row) → IsShownIn here.source table row (column_of table cell_index) (cell_in model table row cell_index)
+-- tables that can be shown: their numbers of rows, and their cells by row from 1 and index
+pub record Content : Type 0 where
+  pub count : TableId → ℕ
+  pub cell : TableId → ℕ → ℕ → Cell
+
+abbrev pub content_of : Metadata → Content
+content_of model = record { count = count_in model; cell = cell_in model }
+
+abbrev pub content_at : Source → Content
+content_at source = record { count = rows_in source; cell = λ table row cell_index. cell_at source table row (column_of table cell_index) }
+
+-- it is that of a model of the root
+abbrev pub IsContent : List ℕ → Content → Type 0
+IsContent root content = (model : Metadata) × IsModel root model × (content ≡ content_of model)
+
+-- the rows of a model have the cells that are read
+pub record IsRead (source : Source) (model : Metadata) : Type 0 where
+  pub count : (table : TableId) → count_in model table ≡ rows_in source table
+  pub cells : (table : TableId) (row cell_index : ℕ) → 1 ≤ row → row ≤ rows_in source table → cell_index < cell_count table
+      → cell_in model table row cell_index ≡ cell_at source table row (column_of table cell_index)

@@ -16,6 +16,7 @@ use Rattle.cli_lines.specs.Lines.{Part, word, field, member, units}
 use Rattle.cli_lines.specs.Printed.{Printed, Prints}
 use Rattle.cli_lines.specs.declared.names.Name.TheVariants as name
 use Rattle.cli_cells.specs.RowLines.{row_line}
+use Rattle.cli_cells.specs.Shown.{content_of}
 use Rattle.cli_cells.specs.declared.row_lines.Names.TheVariants.{Hidden}
 
 -- ---- what a number names in a root
@@ -51,7 +52,7 @@ IsStringLine model number parts = (string : UserText) × IsUserString model.user
 -- the line of the row that a number is the token of, as in `clim show`
 abbrev pub IsRowLine : Metadata → ℕ → List Part → Type 0
 IsRowLine model number parts =
-    (token : Token) × IsToken number token × HasRow model token.table token.row × (parts ≡ row_line Hidden model token.table token.row)
+    (token : Token) × IsToken number token × HasRow model token.table token.row × (parts ≡ row_line Hidden (content_of model) token.table token.row)
 
 -- the line of what a number names: a user string if its high byte is 0x70, else a row
 abbrev pub IsTokenLine : Metadata → ℕ → List Part → Type 0

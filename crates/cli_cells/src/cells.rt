@@ -1,17 +1,18 @@
-//! The values of cells.
+//! The values of cells, and the names of columns.
 ghost use Rattle.std.specs.Prelude.{◌≡◌, ◌≢◌, ◌≤◌, ◌<◌, ◌∷◌, [], IfOk};
 ghost use Rattle.table_schema.specs.CellColumns.{cell_count};
 ghost use Rattle.sig_grammar.specs.Syntax.{Body};
 ghost use Rattle.sig_grammar.specs.Encodes.{Encodes, short};
 ghost use Rattle.metadata.specs.Cell.{Cell};
-ghost use Rattle.metadata.specs.Metadata.{Metadata, cell_in};
 ghost use Rattle.reading.specs.Shown.{Shows};
 ghost use Rattle.reading.specs.declared.cell_ref.CellRef.TheVariants as seen;
 ghost use Rattle.table_schema.specs.declared.column.ColumnKind.{ColumnKind as Kind};
-ghost use Rattle.cli_lines.specs.Shown.{shown, shown_value};
+ghost use Rattle.cli_lines.specs.Shown.{shown_value};
 ghost use Rattle.cli_lines.specs.Lines as line;
+ghost use Rattle.cli_lines.specs.Names.{column_name};
 ghost use Rattle.cli_lines.specs.Printed.{Adds};
 ghost use Rattle.cli_cells.specs.RowLines.{cell_part, cell_value};
+ghost use Rattle.cli_cells.specs.Shown.{Content};
 ghost use Rattle.cli_cells.specs.SignatureText.{signature_text};
 
 use crate::row_lines::Names;
@@ -19,24 +20,14 @@ use crate::shown_rows::ShownRows;
 use crate::signature_text::signature_text;
 use cli_lines::Part::{Field, Spaced};
 use cli_lines::Value::{self, Bytes, Guid, Number, Quoted, Reference, Signature, Start};
-use cli_lines::{Form, Name, Part, Printer};
+use cli_lines::{Form, Name, Printer};
 use metadata_source::kind_of;
 use opening::{CellRef, TableId};
+use schema::column_names;
 use signatures::{SigError, canonical_encoding, is_plainly_canonical};
 use std::alloc::{AllocError, Global};
 use std::io::Write;
-use table_schema::{ColumnKind, SigKind};
-
-/// The part of a cell: its value, after a space if columns are not named.
-#[inline(always)]
-fn cell_part(names: Names, name: Name, value: Value<'_>) -> Part<'_>
-    ensures { shown result ≡ cell_part names name (shown_value value.entry) }
-{
-    match names {
-        Names::Hidden => Spaced(name, value),
-        Names::Shown => Field(name, value),
-    }
-}
+use table_schema::{ColumnKind, SigKind, column_of_cell};
 
 /// Adds the value of a cell, after a space if columns are not named: a number in decimal, a text in quotes, bytes in hexadecimal, a GUID, a token, or the row of a
 /// start. A signature is its canonical encoding (II.23.2), and in JSON also its text. In JSON the value is a member with
@@ -56,8 +47,8 @@ pub fn print_cell<'a, R: ShownRows<'a>, W: Write>(
     requires last { row ≤ R.ready_rows rows.old table }
     requires cell_index { cell_index < cell_count table }
     ensures same { rows.new ≡ rows.old }
-    ensures part { (model : Metadata) → R.shows rows.old model
-        → Adds out.old out.new (cell_part names name (cell_value (cell_in model table row cell_index)) ∷ []) }
+    ensures part { (content : Content) → R.shows rows.old content
+        → Adds out.old out.new (cell_part names name (cell_value (content.cell table row cell_index)) ∷ []) }
 {
     let value = rows.cell(table, row, cell_index);
     print_value(alloc, names, name, kind_of(table, cell_index), value, out);
@@ -101,11 +92,14 @@ fn value_of(cell: CellRef<'_>) -> Value<'_>
     }
 }
 
-/// Adds a value.
+/// Adds a value, after a space if columns are not named.
 fn print_part<W: Write>(names: Names, name: Name, value: Value<'_>, out: &mut Printer<'_, W>)
     ensures { Adds out.old out.new (cell_part names name (shown_value value.entry) ∷ []) }
 {
-    out.part(&cell_part(names, name, value));
+    match names {
+        Names::Hidden => out.part(&Spaced(name, value)),
+        Names::Shown => out.part(&Field(name, value)),
+    }
 }
 
 /// Adds the signature in a blob. Most blobs are their canonical encoding themselves.
@@ -162,21 +156,17 @@ fn print_encoding<W: Write>(
     match out.form() {
         Form::Text => print_part(names, name, Bytes(encoding), out),
         Form::JsonLines => match signature_text(alloc, kind, blob) {
-            Ok(text) => print_both(names, name, encoding, &text, out),
+            Ok(text) => print_part(names, name, Signature(encoding, &text), out),
             Err(_) => out.fail(),
         },
     }
 }
 
-/// Adds the encoding and the text of a signature.
-fn print_both<'a, W: Write>(
-    names: Names,
-    name: Name,
-    blob: &'a [u8],
-    text: &'a [u8],
-    out: &mut Printer<'_, W>,
-)
-    ensures { Adds out.old out.new (cell_part names name (line.signature blob.now text.now) ∷ []) }
+/// The name of a cell's column (II.22).
+pub fn column_name(table: TableId, cell_index: usize) -> &'static str
+    requires { cell_index < cell_count table }
+    ensures { result.now ≡ column_name table cell_index }
 {
-    print_part(names, name, Signature(blob, text), out);
+    table_schema::laws::cells_have_columns();
+    column_names(table)[column_of_cell(table, cell_index)]
 }

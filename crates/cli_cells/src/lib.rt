@@ -12,7 +12,6 @@
 #![tactic(auto)]
 
 mod cells;
-mod columns;
 pub mod laws;
 mod met_rows;
 mod row_lines;
@@ -21,13 +20,10 @@ mod signature_text;
 mod table_lines;
 mod tokens;
 mod until_fault;
-mod user_strings;
 
-pub use cells::print_cell;
-pub use columns::column_name;
+pub use cells::{column_name, print_cell};
 pub use row_lines::Names;
 pub use shown_rows::ShownRows;
 pub use table_lines::print_show;
-pub use tokens::{existing_row, padded_copy, print_tokens};
+pub use tokens::{existing_row, padded_copy, print_tokens, print_user_string};
 pub use until_fault::print_until_fault;
-pub use user_strings::print_user_string;

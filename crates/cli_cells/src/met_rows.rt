@@ -1,11 +1,10 @@
 //! The rows of a root that precede the first row that breaks a rule for cells.
-ghost use Rattle.std.specs.Prelude.{◌≡◌, ◌≤◌, ◌<◌, ℕ, List, IfSome, false, length};
+ghost use Rattle.std.specs.Prelude.{◌≡◌, ◌≤◌, ◌<◌, ◌^◌, ℕ, List, IfSome, false, length};
 ghost use Rattle.packed.specs.Rule.{AllHold};
 ghost use Rattle.table_schema.specs.declared.column.ColumnKind.TheVariants.{Signature};
 ghost use Rattle.table_schema.specs.Columns.{columns_of, column_at};
 ghost use Rattle.table_schema.specs.CellColumns.{is_padding};
 ghost use Rattle.heap_entries.specs.Entries.{IsBlob};
-ghost use Rattle.metadata.specs.Cell.{Cell};
 ghost use Rattle.metadata.specs.Source.{rows_in};
 ghost use Rattle.metadata.specs.Rules.{rules_of_cell};
 ghost use Rattle.reading.specs.KnownStarts.{AreKnown};
@@ -13,7 +12,7 @@ ghost use Rattle.reading.specs.Cursors.{AreCursors};
 ghost use Rattle.reading.specs.Shown.{Shows};
 ghost use Rattle.checks.specs.Broken.{IsFirstBroken};
 ghost use Rattle.cli_cells.specs.MetRows.{rows_before};
-ghost use Rattle.cli_cells.specs.Shown.{IsBlobCell, IsShown, IsShownIn};
+ghost use Rattle.cli_cells.specs.Shown.{blob_at as the_blob, cell_at, content_at, signature_at};
 
 use crate::shown_rows::ShownRows;
 use checks::{BrokenRow, first_broken_row};
@@ -61,7 +60,7 @@ impl<'s, 'a> MetRows<'s, 'a> {
 }
 
 impl<'a> ShownRows<'a> for MetRows<'_, 'a> {
-    ghost shows = { λ rows. IsShown rows.here };
+    ghost shows = { λ rows content. content ≡ content_at rows.here.source };
 
     ghost ready_rows = { λ rows. rows_before rows.here.source rows.broken };
 
@@ -122,8 +121,11 @@ fn cell_in_pass<'a>(
     requires cell { is_padding (column_at table column).kind ≡ false }
     requires rules { AllHold (rules_of_cell source.now table row column) }
     ensures cursors { AreCursors source.now.source cursors.new }
-    ensures cell { (cell : Cell) → IsShownIn source.now.source table row column cell → Shows (column_at table column).kind result cell }
+    ensures cell { Shows (column_at table column).kind result (cell_at source.now.source table row column) }
 {
+    packed::laws::numbers_are_read();
+    table_schema::laws::tags_fit();
+    sig_values::laws::signatures_are_read();
     match column_at(table, column).kind {
         ColumnKind::Signature(kind) => {
             blob_cell(
@@ -138,18 +140,23 @@ fn cell_in_pass<'a>(
 /// The blob at an index that has one (II.24.2.4).
 fn blob_at(heap: &[u8], index: u32) -> &[u8]
     requires { (blob : List ℕ) × IsBlob heap.now index blob }
-    ensures { (blob : List ℕ) → IsBlob heap.now index blob → result.now ≡ blob }
+    ensures value { result.now ≡ the_blob heap.now index }
+    ensures short { length result.now < 2 ^ 29 }
 {
-    match blob(heap, index) {
-        Ok(blob) => blob,
-        Err(_) => unreachable!(),
-    }
+    packed::laws::numbers_are_read();
+    packed::laws::shortest_forms_encode();
+    let Ok(blob) = blob(heap, index) else {
+        unreachable!();
+    };
+    blob
 }
 
 /// The cell of a blob in a column of signatures (II.23.2).
 fn blob_cell(kind: SigKind, blob: &[u8]) -> CellRef<'_>
-    ensures { (cell : Cell) → IsBlobCell kind blob.now cell → Shows (Signature kind) result cell }
+    requires { length blob.now < 2 ^ 29 }
+    ensures { Shows (Signature kind) result (signature_at kind blob.now) }
 {
+    sig_values::laws::signatures_are_read();
     if recognise(blob, kind) {
         CellRef::Sig(blob)
     } else {

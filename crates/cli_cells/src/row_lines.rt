@@ -2,16 +2,14 @@
 ghost use Rattle.std.specs.Prelude.{◌≡◌, ◌≤◌, ◌<◌, ◌∷◌, [], flat_map};
 ghost use Rattle.std.specs.List.{range_with_len};
 ghost use Rattle.table_schema.specs.CellColumns.{cell_count};
-ghost use Rattle.metadata.specs.Metadata.{Metadata};
 ghost use Rattle.cli_lines.specs.Printed.{Adds, Begins, Prints};
-ghost use Rattle.cli_lines.specs.Shown.{shown};
 ghost use Rattle.cli_cells.specs.RowLines.{cell_label, cell_parts, row_head, row_line};
-ghost use Rattle.cli_cells.specs.declared.row_lines.Names.TheVariants.{Shown};
+ghost use Rattle.cli_cells.specs.Shown.{Content};
 
 use crate::cells::print_cell;
 use crate::shown_rows::ShownRows;
 use cli_lines::Part::{RowNumber, RowToken, Word};
-use cli_lines::{Name, Part, Printer, cell_label};
+use cli_lines::{Name, Printer, cell_label};
 use opening::{TableId, Token};
 use std::alloc::Global;
 use std::io::Write;
@@ -38,7 +36,7 @@ pub(crate) fn print_row<'a, R: ShownRows<'a>, W: Write>(
     requires first { 1 ≤ row }
     requires last { row ≤ R.ready_rows rows.old table }
     ensures same { rows.new ≡ rows.old }
-    ensures line { (model : Metadata) → R.shows rows.old model → Prints out.old out.new (row_line names model table row ∷ []) }
+    ensures line { (content : Content) → R.shows rows.old content → Prints out.old out.new (row_line names content table row ∷ []) }
 {
     cli_lines::laws::parts_follow::<W>();
     begin_row(names, Token { table, row }, out);
@@ -46,23 +44,15 @@ pub(crate) fn print_row<'a, R: ShownRows<'a>, W: Write>(
     out.end();
 }
 
-/// What the line of a row begins with.
-#[inline(always)]
-fn row_head(names: Names, row: Token) -> Part<'static>
-    ensures { shown result ≡ row_head names row }
-{
-    match names {
-        Names::Hidden => RowNumber(row),
-        Names::Shown => RowToken(row),
-    }
-}
-
 /// Begins the line of a row.
 #[inline(always)]
 fn begin_row<W: Write>(names: Names, row: Token, out: &mut Printer<'_, W>)
     ensures { Begins out.old out.new (row_head names row ∷ []) }
 {
-    out.begin(&[row_head(names, row)]);
+    match names {
+        Names::Hidden => out.begin(&[RowNumber(row)]),
+        Names::Shown => out.begin(&[RowToken(row)]),
+    }
 }
 
 /// Adds the cells of a row.
@@ -77,8 +67,8 @@ fn print_cells<'a, R: ShownRows<'a>, W: Write>(
     requires first { 1 ≤ row }
     requires last { row ≤ R.ready_rows rows.old table }
     ensures same { rows.new ≡ rows.old }
-    ensures parts { (model : Metadata) → R.shows rows.old model
-        → Adds out.old out.new (flat_map (cell_parts names model table row) (range_with_len 0 (cell_count table))) }
+    ensures parts { (content : Content) → R.shows rows.old content
+        → Adds out.old out.new (flat_map (cell_parts names content table row) (range_with_len 0 (cell_count table))) }
 {
     cli_lines::laws::parts_follow::<W>();
     for cell_index in 0..cell_count(table) {
@@ -105,14 +95,6 @@ fn print_label<W: Write>(names: Names, table: TableId, cell_index: usize, out: &
     cli_lines::laws::parts_follow::<W>();
     match names {
         Names::Hidden => {}
-        Names::Shown => print_name(table, cell_index, out),
+        Names::Shown => out.part(&Word(cell_label(table, cell_index))),
     }
-}
-
-/// Adds a space, the name of the column of a cell, and an equals sign.
-#[tactic(auto, unfolding(crate::specs::RowLines::cell_label))]
-fn print_name<W: Write>(table: TableId, cell_index: usize, out: &mut Printer<'_, W>)
-    ensures { Adds out.old out.new (cell_label Shown table cell_index) }
-{
-    out.part(&Word(cell_label(table, cell_index)));
 }

@@ -1,6 +1,6 @@
 //! Rows that can be printed.
 ghost use Rattle.opening.specs.Views.{row_count};
-ghost use Rattle.metadata.specs.Model.{IsModel};
+ghost use Rattle.cli_cells.specs.Shown.{IsContent};
 
 use opening::{CellCursor, CellRef, TableId};
 
@@ -10,18 +10,18 @@ pub trait ShownRows<'a> {
     ghost use Rattle.table_schema.specs.declared.table.TableId.{TableId as Table};
     ghost use Rattle.table_schema.specs.CellColumns.{cell_count};
     ghost use Rattle.metadata.specs.Cell.{Cell};
-    ghost use Rattle.metadata.specs.Metadata.{Metadata, cell_in, count_in};
     ghost use Rattle.reading.specs.Shown.{ShowsCell};
+    ghost use Rattle.cli_cells.specs.Shown.{Content};
 
-    // It shows the rows of this metadata.
-    ghost shows: { Self → Metadata → Type 0 };
+    // It shows this content.
+    ghost shows: { Self → Content → Type 0 };
 
     // The number of rows of a table that can be printed, from the first.
     ghost ready_rows: { Self → Table → ℕ };
 
     /// The number of rows of a table, whether or not they can be printed.
     fn count(&self, table: TableId) -> u32
-        ensures { (model : Metadata) → shows self.now model → result ≡ count_in model table };
+        ensures { (content : Content) → shows self.now content → result ≡ content.count table };
 
     /// The number of rows of a table that can be printed, from the first.
     fn ready(&self, table: TableId) -> u32
@@ -34,11 +34,11 @@ pub trait ShownRows<'a> {
         requires cell_index { cell_index < cell_count table }
         ensures same { self.new ≡ self.old }
         ensures some { ¬ (¬ ((cell : Cell) × ShowsCell table cell_index result cell)) }
-        ensures cell { (model : Metadata) → shows self.old model → ShowsCell table cell_index result (cell_in model table row cell_index) };
+        ensures cell { (content : Content) → shows self.old content → ShowsCell table cell_index result (content.cell table row cell_index) };
 }
 
 impl<'a> ShownRows<'a> for CellCursor<'_, 'a> {
-    ghost shows = { IsModel };
+    ghost shows = { IsContent };
 
     ghost ready_rows = { row_count };
 

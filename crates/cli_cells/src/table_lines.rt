@@ -5,6 +5,7 @@ ghost use Rattle.metadata.specs.Metadata.{Metadata};
 ghost use Rattle.metadata.specs.Model.{IsModel};
 ghost use Rattle.cli_lines.specs.Printed.{Prints};
 ghost use Rattle.cli_cells.specs.RowLines.{first_lines, heading_line, row_line, show_lines};
+ghost use Rattle.cli_cells.specs.Shown.{Content};
 
 use crate::row_lines::{Names, print_row};
 use crate::shown_rows::ShownRows;
@@ -46,10 +47,10 @@ pub(crate) fn print_tables<'a, R: ShownRows<'a>, W: Write>(
     tables: &[TableId],
     out: &mut Printer<'_, W>,
 )
-    ensures { (model : Metadata) → R.shows rows.old model
-        → Prints out.old out.new (flat_map (λ table. first_lines names model table (R.ready_rows rows.old table)) tables.now) }
+    ensures { (content : Content) → R.shows rows.old content
+        → Prints out.old out.new (flat_map (λ table. first_lines names content table (R.ready_rows rows.old table)) tables.now) }
 {
-    cli_lines::laws::reports_are_completed::<W>();
+    cli_lines::laws::lines_follow::<W>();
     for table in tables {
         print_table(alloc, names, rows, *table, out);
     }
@@ -64,8 +65,8 @@ fn print_table<'a, R: ShownRows<'a>, W: Write>(
     out: &mut Printer<'_, W>,
 )
     ensures same { rows.new ≡ rows.old }
-    ensures lines { (model : Metadata) → R.shows rows.old model
-        → Prints out.old out.new (first_lines names model table (R.ready_rows rows.old table)) }
+    ensures lines { (content : Content) → R.shows rows.old content
+        → Prints out.old out.new (first_lines names content table (R.ready_rows rows.old table)) }
 {
     cli_lines::laws::lines_follow::<W>();
     let ready = rows.ready(table);
@@ -102,10 +103,10 @@ fn print_rows<'a, R: ShownRows<'a>, W: Write>(
 )
     requires { count ≤ R.ready_rows rows.old table }
     ensures same { rows.new ≡ rows.old }
-    ensures lines { (model : Metadata) → R.shows rows.old model
-        → Prints out.old out.new (map (row_line names model table) (range_with_len 1 count)) }
+    ensures lines { (content : Content) → R.shows rows.old content
+        → Prints out.old out.new (map (row_line names content table) (range_with_len 1 count)) }
 {
-    cli_lines::laws::rows_follow::<W>();
+    cli_lines::laws::lines_follow::<W>();
     for earlier in 0..count {
         print_row(alloc, names, rows, table, earlier + 1, out);
     }

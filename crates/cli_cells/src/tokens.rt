@@ -1,5 +1,5 @@
 //! `clim token`: the rows and user strings that tokens name (ECMA-335 III.1.9 and II.24.2.4).
-ghost use Rattle.std.specs.Prelude.{◌≡◌, ◌≤◌, ◌∷◌, ◌%◌, ◌^◌, [], List, IfErr, IfNone, IfOk, IfSome, OnOk, OnSome, All};
+ghost use Rattle.std.specs.Prelude.{◌≡◌, ◌≤◌, ◌∷◌, ◌%◌, ◌^◌, [], List, IfErr, IfNone, IfOk, IfSome, None, OnOk, OnSome, Some, All};
 ghost use Rattle.heap_entries.specs.Padding.{zero_padded};
 ghost use Rattle.table_schema.specs.declared.token.Token.{Token as TheToken};
 ghost use Rattle.table_schema.specs.Tokens.{IsToken};
@@ -7,14 +7,15 @@ ghost use Rattle.metadata.specs.Metadata.{Metadata};
 ghost use Rattle.metadata.specs.Model.{IsModel};
 ghost use Rattle.opening.specs.Views.{row_count, user_of};
 ghost use Rattle.cli_lines.specs.Lines.{Part};
-ghost use Rattle.cli_lines.specs.Printed.{Prints};
-ghost use Rattle.cli_cells.specs.TokenLines.{ArePrinted, HasString, HasTokenRow, IsNamed, IsStringLine, IsTokenLine, Reports};
+ghost use Rattle.cli_lines.specs.Printed.{Adds, Prints};
+ghost use Rattle.cli_cells.specs.TokenLines.{ArePrinted, HasString, HasTokenRow, IsNamed, IsStringLine, IsTokenLine, Reports, user_line, user_parts};
 
 use crate::row_lines::{Names, print_row};
-use crate::user_strings::print_user_string;
 use cli_faults::Failure;
-use cli_lines::Printer;
-use heap_entries::user_string;
+use cli_lines::Part::{Field, Member, Units, Word};
+use cli_lines::Value::{Hex, Null, Number};
+use cli_lines::{Name, Printer};
+use heap_entries::{UserString, user_string};
 use opening::{CellCursor, Token, View};
 use std::alloc::{AllocError, Global};
 use std::io::Write;
@@ -151,4 +152,48 @@ fn print_string_at<W: Write>(
         }
         Err(_) => None,
     }
+}
+
+/// Prints the line of the user string that a number names (II.24.2.4): `user TEXT FLAG`. TEXT has each unit from 0x20 to
+/// 0x7E except the backslash as it is, and any other as `\u` and four hexadecimal digits. FLAG is the last byte in
+/// decimal. The line of a string of no bytes is `user`.
+pub fn print_user_string<W: Write>(number: u32, string: &UserString<'_>, out: &mut Printer<'_, W>)
+    ensures { Prints out.old out.new (user_line number string.now ∷ []) }
+{
+    cli_lines::laws::parts_follow::<W>();
+    out.begin(&[Word("user"), Member(Name::Token, Hex(number))]);
+    print_parts(string, out);
+    out.end();
+}
+
+/// Adds the units and the last byte of a user string.
+fn print_parts<W: Write>(string: &UserString<'_>, out: &mut Printer<'_, W>)
+    ensures { Adds out.old out.new (user_parts string.now.units string.now.flag) }
+{
+    match string.flag() {
+        Some(flag) => print_flagged(string, flag, out),
+        None => print_empty(string, out),
+    }
+}
+
+/// Adds the units and the last byte of a user string that has bytes.
+#[tactic(auto, unfolding(crate::specs::TokenLines::user_parts))]
+fn print_flagged<W: Write>(string: &UserString<'_>, flag: u8, out: &mut Printer<'_, W>)
+    ensures { Adds out.old out.new (user_parts string.now.units (Some flag)) }
+{
+    cli_lines::laws::parts_follow::<W>();
+    out.part(&Word(" "));
+    out.part(&Units(string));
+    out.part(&Word(" "));
+    out.part(&Field(Name::Flag, Number(flag as u64)));
+}
+
+/// Adds the members of a user string without bytes.
+#[tactic(auto, unfolding(crate::specs::TokenLines::user_parts))]
+fn print_empty<W: Write>(string: &UserString<'_>, out: &mut Printer<'_, W>)
+    ensures { Adds out.old out.new (user_parts string.now.units None) }
+{
+    cli_lines::laws::parts_follow::<W>();
+    out.part(&Units(string));
+    out.part(&Member(Name::Flag, Null));
 }

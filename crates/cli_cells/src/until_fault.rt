@@ -2,11 +2,10 @@
 ghost use Rattle.std.specs.Prelude.{List, IfErr, OnErr, OnOk};
 ghost use Rattle.packed.specs.Rule.{FirstBroken};
 ghost use Rattle.metadata.specs.Metadata.{Metadata};
-ghost use Rattle.checks.specs.Broken.{IsFirstBroken};
 ghost use Rattle.cli_input.specs.Checked.{IsModelOf, IsWhole, rules_of};
 ghost use Rattle.cli_lines.specs.Lines.{Part};
 ghost use Rattle.cli_lines.specs.Printed.{Prints};
-ghost use Rattle.cli_cells.specs.Before.{AreLinesBefore, AreRowLines};
+ghost use Rattle.cli_cells.specs.Before.{AreLinesBefore};
 ghost use Rattle.cli_cells.specs.RowLines.{show_lines};
 
 use crate::met_rows::MetRows;
@@ -14,7 +13,6 @@ use crate::row_lines::Names;
 use crate::table_lines::{print_show, print_tables};
 use cli_input::{Input, open, rows_of};
 use cli_lines::Printer;
-use opening::Source;
 use packed::Fault;
 use std::alloc::Global;
 use std::io::Write;
@@ -49,7 +47,7 @@ pub fn print_until_fault<W: Write>(
     ensures whole { OnOk result ((model : Metadata) → IsModelOf input bytes.now model → Prints out.old out.new (show_lines names model tables.now)) }
     // Otherwise the rows before the first broken rule were printed.
     ensures first_error { IfErr result (FirstBroken (rules_of input bytes.now)) }
-    ensures before { OnErr result ((lines : List (List Part)) → AreLinesBefore names input bytes.now tables.now lines → Prints out.old out.new lines) }
+    ensures before { OnErr result ((lines : List (List Part)) × AreLinesBefore names input bytes.now tables.now lines × Prints out.old out.new lines) }
 {
     match open(bytes, input) {
         Ok(view) => {
@@ -63,7 +61,7 @@ pub fn print_until_fault<W: Write>(
     }
 }
 
-/// Prints the rows before the first broken rule.
+/// Prints the rows before the first broken rule: those before the first row that breaks a rule for cells, or none.
 fn print_before<W: Write>(
     alloc: Global,
     bytes: &[u8],
@@ -72,25 +70,14 @@ fn print_before<W: Write>(
     names: Names,
     out: &mut Printer<'_, W>,
 )
-    ensures { (lines : List (List Part)) → AreLinesBefore names input bytes.now tables.now lines → Prints out.old out.new lines }
+    ensures { (lines : List (List Part)) × AreLinesBefore names input bytes.now tables.now lines × Prints out.old out.new lines }
 {
     cli_lines::laws::lines_follow::<W>();
     match rows_of(bytes, input) {
-        Ok(source) => print_rows_before(alloc, &source, tables, names, out),
+        Ok(source) => {
+            let mut rows = MetRows::new(&source);
+            print_tables(alloc, names, &mut rows, tables, out);
+        }
         Err(_) => {}
     }
-}
-
-/// Prints the rows before the first row that breaks a rule for cells.
-fn print_rows_before<W: Write>(
-    alloc: Global,
-    source: &Source<'_>,
-    tables: &[TableId],
-    names: Names,
-    out: &mut Printer<'_, W>,
-)
-    ensures { (lines : List (List Part)) → AreRowLines names source.now tables.now lines → Prints out.old out.new lines }
-{
-    let mut rows = MetRows::new(source);
-    print_tables(alloc, names, &mut rows, tables, out);
 }

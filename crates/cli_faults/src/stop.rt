@@ -11,7 +11,7 @@ use std::fmt;
 pub enum Stop<'a> {
     /// It failed.
     Failed(Failure<'a>),
-    /// The budget was spent before all signatures were checked.
+    /// The budget was spent before all texts and signatures were checked.
     BudgetSpent,
     /// Two files that were compared differ. What differs was printed.
     Different,

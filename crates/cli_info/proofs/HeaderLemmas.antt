@@ -10,7 +10,7 @@ use Rattle.cli_header.specs.declared.header.CliHeader.{CliHeader}
 use Rattle.table_schema.specs.declared.table.TableId.TheVariants.{MethodDef}
 use Rattle.metadata.specs.Metadata.{Metadata, cell_in, count_in}
 use Rattle.opening.specs.Views.{HasImage}
-use Rattle.cli_outline.specs.Parts.{text_of}
+use Rattle.cli_declarations.specs.Parts.{text_of}
 use Rattle.cli_info.specs.HeaderLines.{HasRoom, method_name}
 
 -- a file with a model has room for them

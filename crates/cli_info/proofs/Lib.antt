@@ -1,2 +1,3 @@
+pub mod AttributeLemmas
 pub mod HeaderLemmas
 pub mod TokenLemmas

@@ -9,7 +9,7 @@ use Rattle.metadata.specs.Metadata.{Metadata, cell_in, count_in}
 use Rattle.metadata.specs.Model.{has_native_entry_point}
 use Rattle.cli_lines.specs.declared.names.Name.TheVariants as name
 use Rattle.cli_lines.specs.Lines.{Part, word, field, number, hex, plain, text}
-use Rattle.cli_outline.specs.Parts.{text_of}
+use Rattle.cli_declarations.specs.Parts.{text_of}
 
 -- the MS-DOS header, the PE signature, the PE file header and fifteen data directories are in the file; for private clauses
 abbrev pub HasRoom : List ℕ → Type 0

@@ -10,7 +10,7 @@ use Rattle.metadata.specs.Metadata.{Metadata, cell_in, count_in}
 use Rattle.cli_lines.specs.declared.names.Name.{Name}
 use Rattle.cli_lines.specs.declared.names.Name.TheVariants as name
 use Rattle.cli_lines.specs.Lines.{Part, word, field, number, plain, text}
-use Rattle.cli_outline.specs.Parts.{bytes_of, number_of, text_of}
+use Rattle.cli_declarations.specs.Parts.{bytes_of, number_of, text_of}
 use Rattle.cli_info.specs.declared.identities.Kind.{Kind}
 use Rattle.cli_info.specs.declared.identities.Kind.TheVariants.{Assembly, Reference}
 
@@ -37,9 +37,9 @@ abbrev pub has_token : Kind → ℕ → Bool
 has_token Assembly flags = false
 has_token Reference flags = flags % 2 == 0
 
--- the largest key whose token is printed, in bytes; a key of .NET has at most 2,080
+-- the largest key whose token is printed, in bytes: that of 16,384 bits, the longest one of .NET
 abbrev pub key_limit : ℕ
-key_limit = 4096
+key_limit = 2080
 
 -- the token of a key: the last eight bytes of its SHA-1, in reverse order (II.6.3)
 abbrev pub token_of : Kind → ℕ → List ℕ → List ℕ

@@ -9,8 +9,9 @@ use Rattle.cli_input.specs.declared.opened.Input.{Input}
 use Rattle.cli_input.specs.declared.opened.Input.TheVariants.{BareRoot, File}
 use Rattle.cli_lines.specs.declared.names.Name.TheVariants as name
 use Rattle.cli_lines.specs.Lines.{Part, word, field, number, text, guid}
-use Rattle.cli_outline.specs.Parts.{text_of}
+use Rattle.cli_declarations.specs.Parts.{text_of}
 use Rattle.cli_print.specs.RootLines.{version_line}
+use Rattle.cli_info.specs.Attributes.{attributes_lines}
 use Rattle.cli_info.specs.HeaderLines.{header_lines}
 use Rattle.cli_info.specs.Identities.{identity_lines}
 use Rattle.cli_info.specs.declared.identities.Kind.TheVariants as kind
@@ -51,7 +52,7 @@ file_lines (Some file) = (word (codes "file ") ∷ field name.File (text file) �
 abbrev pub fact_lines : List ℕ → Option CliHeader → Metadata → List (List Part)
 fact_lines bytes header model =
     identity_lines kind.Assembly model ++ (module_lines model ++ (version_line model.version ∷ (header_lines bytes header model
-    ++ (counts_line model ∷ identity_lines kind.Reference model))))
+    ++ (counts_line model ∷ (identity_lines kind.Reference model ++ attributes_lines model)))))
 
 abbrev pub info_lines : Option (List ℕ) → List ℕ → Option CliHeader → Metadata → List (List Part)
 info_lines file bytes header model = file_lines file ++ fact_lines bytes header model

@@ -1,3 +1,4 @@
 pub mod HeaderLines
 pub mod Identities
+pub mod Attributes
 pub mod InfoLines

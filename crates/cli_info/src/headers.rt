@@ -7,11 +7,11 @@ ghost use Rattle.metadata.specs.Metadata.{Metadata};
 ghost use Rattle.metadata.specs.Model.{IsModel};
 ghost use Rattle.pe.specs.Headers.{magic};
 
+use cli_declarations::text;
 use cli_header::CliHeader;
 use cli_lines::Part::{Field, Word};
 use cli_lines::Value::{Hex, Number, Plain, Text};
 use cli_lines::{Name, Printer};
-use cli_outline::text;
 use opening::{TableId, View};
 use packed::{u16_at, u32_at};
 use std::io::Write;

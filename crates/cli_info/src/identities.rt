@@ -6,17 +6,17 @@ ghost use Rattle.metadata.specs.Metadata.{Metadata};
 ghost use Rattle.metadata.specs.Model.{IsModel};
 ghost use Rattle.opening.specs.Views.{row_count};
 
+use cli_declarations::{bytes, number, text};
 use cli_lines::Part::{Field, Word};
 use cli_lines::Value::{Number, Plain, Text};
 use cli_lines::{Name, Printer};
-use cli_outline::{bytes, number, text};
 use opening::{TableId, View};
 use sha1::Sha1;
 use std::alloc::{AllocError, Global};
 use std::io::Write;
 
-/// The largest key whose token is printed, in bytes. A key of .NET has at most 2,080.
-const KEY_LIMIT: usize = 4096;
+/// The largest key whose token is printed, in bytes: that of 16,384 bits, the longest one of .NET.
+const KEY_LIMIT: usize = 2080;
 
 /// The number of bytes of the token of a key.
 const TOKEN_SIZE: usize = 8;

@@ -12,14 +12,15 @@ ghost use Rattle.opening.specs.Views.{row_count};
 ghost use Rattle.packed.specs.Rule.{FirstBroken};
 ghost use Rattle.table_schema.specs.declared.table.TableId.TheVariants.{Module};
 
+use crate::attributes::print_attributes;
 use crate::headers::print_headers;
 use crate::identities::{Kind, print_identities};
+use cli_declarations::text;
 use cli_header::CliHeader;
 use cli_input::Input;
 use cli_lines::Part::{Field, Word};
 use cli_lines::Value::{Guid, Number, Text};
 use cli_lines::{Name, Printer};
-use cli_outline::text;
 use cli_print::print_version;
 use opening::{CellRef, TableId, View, open_image, open_root};
 use packed::Fault;
@@ -33,9 +34,10 @@ const MVID: usize = 2;
 
 /// Prints what one wants to know first: the name of the file, if it is given; the identity of the assembly; its module; the
 /// version of the runtime; the headers, unless the bytes are a bare root; the numbers of types, methods, fields and resources;
-/// and the identity of each assembly that it refers to.
+/// the identity of each assembly that it refers to; and each attribute of the assembly whose arguments are strings.
 ///
-/// Its time is that of the lines, and of the SHA-1 of each key, of which at most 4,096 bytes are read for a row.
+/// Its time is that of the lines, and of the SHA-1 of each key, of which at most 2,080 bytes are read for a row. Of the value of
+/// an attribute at most 1,024 bytes are read.
 ///
 /// # Errors
 ///
@@ -110,6 +112,7 @@ fn print_facts<W: Write>(
     print_headers(bytes, header, view, out);
     print_counts(view, out);
     print_identities(alloc, view, Kind::Reference, out);
+    print_attributes(alloc, view, out);
 }
 
 /// The Mvid of a module.

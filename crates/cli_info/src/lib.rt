@@ -1,5 +1,5 @@
 //! What one wants to know first of an assembly: its identity, its module, the runtime that it was made for, its headers, how
-//! many types it has, and the assemblies that it refers to.
+//! many types it has, the assemblies that it refers to, and the attributes of its own whose arguments are strings.
 //!
 //! `specs/InfoLines.antt` defines the lines as a function of the CLI header and the model. They go to a [`cli_lines::Printer`].
 //!
@@ -12,6 +12,7 @@
 //! ```
 #![tactic(auto)]
 
+mod attributes;
 mod headers;
 mod identities;
 mod info;

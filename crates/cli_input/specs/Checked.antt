@@ -10,7 +10,7 @@ use Rattle.metadata.specs.SourceAt.{SourceAt, source_at}
 use Rattle.metadata.specs.Streams.{root_in}
 use Rattle.opening.specs.BeforeCells.{rules_before_cells, rules_before_cells_of_file, source_of_file}
 use Rattle.opening.specs.Views.{HasImage, HasModel}
-use Rattle.opening.specs.Within.{signature_bytes_in, signature_bytes_in_file}
+use Rattle.opening.specs.Within.{IsSpentIn, IsSpentInFile, Left}
 use Rattle.cli_input.specs.declared.opened.Input.{Input}
 use Rattle.cli_input.specs.declared.opened.Input.TheVariants.{BareRoot, File}
 
@@ -29,10 +29,10 @@ abbrev pub IsOpened : Input → List ℕ → List ℕ → Type 0
 IsOpened BareRoot bytes root = HasModel bytes × (root ≡ bytes)
 IsOpened File bytes root = (header : CliHeader) × HasImage bytes header × (root ≡ root_in bytes header)
 
--- the number of bytes in the signature blobs of all their rows (II.23.2)
-abbrev pub signature_bytes_of : Input → List ℕ → ℕ
-signature_bytes_of BareRoot bytes = signature_bytes_in bytes
-signature_bytes_of File bytes = signature_bytes_in_file bytes
+-- their texts or their signature blobs spend a budget (II.24.2.3, II.23.2)
+abbrev pub IsSpentOf : ℕ → Input → List ℕ → Type 0
+IsSpentOf budget BareRoot bytes = IsSpentIn (Left budget) 0 bytes
+IsSpentOf budget File bytes = IsSpentInFile (Left budget) bytes
 
 -- the rules for the bytes, in the order in which they are checked
 abbrev pub rules_of : Input → List ℕ → List (Rule Fault)

@@ -1,10 +1,10 @@
 //! Opens the bytes that were read.
-ghost use Rattle.std.specs.Prelude.{◌<◌, IfErr, IfOk, IsErrOf, IsOk};
-ghost use Rattle.cli_input.specs.Checked.{IsModelOf, IsOpened, IsWhole, rules_of, signature_bytes_of};
+ghost use Rattle.std.specs.Prelude.{IfErr, IfOk, IsErrOf, IsOk};
+ghost use Rattle.cli_input.specs.Checked.{IsModelOf, IsOpened, IsSpentOf, IsWhole, rules_of};
 ghost use Rattle.metadata.specs.Metadata.{Metadata};
 ghost use Rattle.metadata.specs.Model.{IsModel};
 ghost use Rattle.opening.specs.Views.{HasModel};
-ghost use Rattle.opening.specs.Within.{HoldBeforeSignatures, ReportsFirst};
+ghost use Rattle.opening.specs.Within.{ReportsFirst};
 ghost use Rattle.packed.specs.Rule.{FirstBroken};
 
 use opening::{BoundedError, View, open_image, open_image_within, open_root, open_root_within};
@@ -42,7 +42,8 @@ pub fn open(bytes: &[u8], input: Input) -> Result<View<'_>, Fault>
     }
 }
 
-/// Opens the metadata of the bytes as [`open`] does. It checks at most `budget` bytes of signature blobs (II.23.2).
+/// Opens the metadata of the bytes as [`open`] does. It checks at most `budget` bytes of texts and of signature blobs
+/// (II.24.2.3, II.23.2).
 ///
 /// # Errors
 ///
@@ -50,8 +51,7 @@ pub fn open(bytes: &[u8], input: Input) -> Result<View<'_>, Fault>
 pub fn open_within(bytes: &[u8], input: Input, budget: u64) -> Result<View<'_>, BoundedError>
     ensures sound { IfOk result (λ _. IsWhole input bytes.now) }
     ensures first_error { IfErr result (ReportsFirst (rules_of input bytes.now)) }
-    ensures spent { IsErrOf result BoundedError.BudgetSpent → budget < signature_bytes_of input bytes.now }
-    ensures before { IsErrOf result BoundedError.BudgetSpent → HoldBeforeSignatures (rules_of input bytes.now) }
+    ensures spent { IsErrOf result BoundedError.BudgetSpent → IsSpentOf budget input bytes.now }
 {
     match input {
         Input::BareRoot => open_root_within(bytes, budget),

@@ -2,7 +2,8 @@
 //! argument of more than 64 bytes gets no hint.
 //!
 //! [`nearest_table`], [`nearest_code`], [`nearest_column`] and [`nearest_command`] look for the name of a table, a rule, a column
-//! or a subcommand. [`report_missing_type`] reports that a file has no such type, with the name of the nearest one.
+//! or a subcommand. [`report_missing_type`] reports that a file has no such type, with the name of the nearest one,
+//! or that several types have the name.
 //!
 //! ```text
 //! nearest_table(alloc, "Modul") // TableId::Module
@@ -11,6 +12,7 @@
 
 mod nearest;
 mod nearest_type;
+mod several_types;
 
 pub use nearest::{nearest_code, nearest_column, nearest_command, nearest_table};
 pub use nearest_type::report_missing_type;

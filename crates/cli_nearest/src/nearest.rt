@@ -21,10 +21,15 @@ pub(crate) fn limit_of(word: &str, others: usize) -> usize {
     }
 }
 
+/// Whether no edits below a limit lead from an argument to a name, by their lengths. The empty name is far from all.
+pub(crate) fn is_far(word: &str, name: &str, limit: usize) -> bool {
+    name.is_empty() || word.len().abs_diff(name.len()) >= limit
+}
+
 /// The number of edits (Levenshtein) that lead from an argument to a name, if it is below a limit and there is memory for it.
-/// Case does not matter. The empty name is far from all, and so is a name with far more bytes than the argument may have.
+/// Case does not matter.
 pub(crate) fn edits_below(alloc: Global, word: &str, name: &str, limit: usize) -> Option<usize> {
-    if limit == 0 || name.is_empty() || name.len() > LONGEST_NAME {
+    if is_far(word, name, limit) {
         return None;
     }
     let word = word.to_ascii_lowercase(alloc).ok()?;

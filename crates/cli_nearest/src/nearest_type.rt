@@ -4,9 +4,11 @@ ghost use Rattle.table_schema.specs.CellColumns.{cell_count};
 ghost use Rattle.table_schema.specs.declared.table.TableId.TheVariants.{TypeDef};
 ghost use Rattle.opening.specs.Views.{HasModel, row_count};
 
-use crate::nearest::{LONGEST_NAME, edits_below, limit_of};
+use crate::nearest::{LONGEST_NAME, edits_below, is_far, limit_of};
+use crate::several_types::several_types;
 use cli_faults::{Escaped, Stop};
 use cli_input::{Input, open};
+use cli_names::names_of_type;
 use cli_outline::Subject;
 use cli_print::{NAME, NAMESPACE, text_of};
 use cli_sending::send_message;
@@ -100,16 +102,35 @@ fn edits_to(
     Some(of_name.saturating_add(of_namespace))
 }
 
-/// The names of the type that are nearest to those that are wanted; `None` if all are far. Of several the first ones.
+/// The number of pairs of bytes that are compared for a hint, so that it takes some milliseconds at most.
+const MOST_PAIRS: usize = 1 << 20;
+
+/// The number of pairs of a byte of the names that are wanted and one of those of a type.
+fn pairs_of(wanted: TypeName<'_>, found: TypeName<'_>) -> usize {
+    let of_names = wanted.name.len().saturating_mul(found.name.len());
+    let of_namespaces = wanted.namespace.len().saturating_mul(found.namespace.len());
+    of_names.saturating_add(of_namespaces)
+}
+
+/// The names of the type that are nearest to those that are wanted; `None` if all are far. Of several the first ones. In a
+/// large file only the first types are compared, up to [`MOST_PAIRS`] pairs of bytes.
 fn nearest_type<'a>(alloc: Global, view: &View<'a>, wanted: TypeName<'_>) -> Option<TypeName<'a>>
     requires model { HasModel view.now }
 {
     let mut limit = limit_of(wanted.name, wanted.namespace.len());
+    let mut pairs = MOST_PAIRS;
     let mut nearest = None;
     for earlier in 0..view.count(TableId::TypeDef) {
         let Some(found) = names_at(view, earlier + 1) else {
             continue;
         };
+        if is_far(wanted.name, found.name, limit) {
+            continue;
+        }
+        let Some(left) = pairs.checked_sub(pairs_of(wanted, found)) else {
+            return nearest;
+        };
+        pairs = left;
         if let Some(edits) = edits_to(alloc, wanted, found, limit) {
             limit = edits;
             nearest = Some(found);
@@ -118,22 +139,19 @@ fn nearest_type<'a>(alloc: Global, view: &View<'a>, wanted: TypeName<'_>) -> Opt
     nearest
 }
 
-/// The names that are wanted of a subject: of a nested type, written after the type that encloses it and a slash, its own.
-fn wanted_names<'a>(subject: Subject<'a>) -> Option<TypeName<'a>> {
-    let Subject::Named { namespace, name } = subject else {
-        return None;
+/// The names that are wanted of a path: of a nested type, written after the type that encloses it and a slash, its own.
+fn wanted_names<'a>(path: &'a str) -> TypeName<'a> {
+    let own = match path.rsplit_once('/') {
+        Some((_, own)) => own,
+        None => path,
     };
-    Some(match name.rsplit_once('/') {
-        Some((_, name)) => TypeName {
-            namespace: "",
-            name,
-        },
-        None => TypeName { namespace, name },
-    })
+    let (namespace, name) = names_of_type(own);
+    TypeName { namespace, name }
 }
 
-/// Reports that no type is the subject, with a hint that has the full name of the nearest type; without the hint if all are
-/// far, or if the subject is a row. It looks at each type once. If the report cannot be written, nothing else changes.
+/// Reports that no type is the subject. If several types have this name, their full names follow. Otherwise a hint follows with
+/// that of the nearest type, unless all are far or the subject is a row. It looks at each type twice. If the report cannot be
+/// written, nothing else changes.
 pub fn report_missing_type<E: Write>(
     alloc: Global,
     bytes: &[u8],
@@ -141,11 +159,15 @@ pub fn report_missing_type<E: Write>(
     subject: Subject<'_>,
     err: &mut E,
 ) {
-    let missing = match (wanted_names(subject), open(bytes, input)) {
-        (Some(wanted), Ok(view)) => MissingType {
-            nearest: nearest_type(alloc, &view, wanted),
-        },
-        _ => MissingType { nearest: None },
+    let nearest = match (subject, open(bytes, input)) {
+        (Subject::Path(path), Ok(view)) => {
+            if let Some(several) = several_types(alloc, &view, path) {
+                let _ = send_message(alloc, &several, err);
+                return;
+            }
+            nearest_type(alloc, &view, wanted_names(path))
+        }
+        _ => None,
     };
-    let _ = send_message(alloc, &missing, err);
+    let _ = send_message(alloc, &MissingType { nearest }, err);
 }

@@ -5,23 +5,16 @@ use Rattle.std.specs.Str.{IsCharBoundary}
 use Rattle.std.proofs.lemmas.Bool.{cases_lt}
 use Rattle.std.proofs.lemmas.Bool.Decides.{nat_tests}
 use Rattle.std.proofs.lemmas.List.Quantifiers.{position-Some}
+use Rattle.std.proofs.lemmas.List.Sums.{position_or_len_is}
 use Rattle.cli_outline.specs.Declarations.{ends_word}
 
 -- the length of the first word that a search returns
 module _ (p : ℕ → Bool) (text : List ℕ) where
   pub word_found : (i : ℕ) → Some i ≡ position p text → (i < length text) × (i ≡ position_or_len p text)
   word_found i e =
-      elim (cases_lt (position_or_len p text) (length text)) [
-        | inl lt ↦
-            let t : ltb (position_or_len p text) (length text) ≡ true = lt-ltb _ _ lt in
-            let at : Some i ≡ Some (position_or_len p text) = rw t at e in
-            let same : i ≡ position_or_len p text = cc in
-            (omega arith, same)
-        | inr le ↦
-            let t : ltb (position_or_len p text) (length text) ≡ false = le-ltb _ _ le in
-            let at : Some i ≡ None = rw t at e in
-            cc
-      ]
+      let found = position-Some p text i 0 (sym e) in
+      let lt = found.0 in
+      (lt, sym (position_or_len_is p text i 0 (omega arith) found.2 (λ below. found.1)))
 
   pub no_word_end : None ≡ position p text → length text ≤ position_or_len p text
   no_word_end e =

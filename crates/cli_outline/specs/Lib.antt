@@ -1,8 +1,5 @@
-pub mod Texts
-pub mod Parts
-pub mod Layouts
 pub mod Declarations
 pub mod Outline
 pub mod Printed
-pub mod Shown
+pub mod Paths
 pub mod Subjects

@@ -14,7 +14,7 @@ use Rattle.navigation.specs.declared.links.Link.TheVariants as linked_by
 use Rattle.navigation.specs.Linked.{linked}
 use Rattle.cli_outline.specs.declared.mapped.Mapped.{Mapped}
 use Rattle.cli_outline.specs.declared.mapped.Mapped.TheVariants.{Events, Properties}
-use Rattle.cli_outline.specs.Parts.{token_at}
+use Rattle.cli_declarations.specs.Parts.{token_at}
 
 -- the rows for each number from one on and before another
 unfoldable pub each_from : (ℕ → List Token) → ℕ → ℕ → List Token

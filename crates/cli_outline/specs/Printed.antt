@@ -6,7 +6,7 @@ use Rattle.full_names.specs.RowNames.{IsMemberOf}
 use Rattle.cli_lines.specs.Lines.{Part}
 use Rattle.cli_lines.specs.Printed.{Printed, Prints}
 use Rattle.cli_outline.specs.Declarations.{declaration_line, has_directive}
-use Rattle.cli_outline.specs.Layouts.{IsDeclared}
+use Rattle.cli_declarations.specs.Layouts.{IsDeclared}
 
 -- the line of a row
 abbrev pub IsLine : Metadata → Token → List Part → Type 0

@@ -2,26 +2,28 @@
 use Rattle.std.specs.Prelude.{◌≡◌, ℕ, ⊤}
 use Rattle.table_schema.specs.declared.table.TableId.TheVariants.{TypeDef}
 use Rattle.metadata.specs.Metadata.{Metadata}
-use Rattle.metadata.specs.Lookups.{HasRow, IsFirstType}
+use Rattle.metadata.specs.Lookups.{HasRow}
 use Rattle.cli_lines.specs.Printed.{Printed as Printer}
 use Rattle.cli_outline.specs.declared.subject.Subject.{Subject}
-use Rattle.cli_outline.specs.declared.subject.Subject.TheVariants.{Named, Row}
+use Rattle.cli_outline.specs.declared.subject.Subject.TheVariants.{Path, Row}
 use Rattle.cli_outline.specs.declared.subject.Outcome.{Outcome}
-use Rattle.cli_outline.specs.declared.subject.Outcome.TheVariants.{Printed, NoSuchType}
+use Rattle.cli_outline.specs.declared.subject.Outcome.TheVariants.{Printed, NoSuchType, OutOfMemory}
 use Rattle.cli_outline.specs.Outline.{class_rows}
+use Rattle.cli_outline.specs.Paths.{IsMeant}
 use Rattle.cli_outline.specs.Printed.{PrintsRows}
 
--- a row of TypeDef is the subject: the first type with these names, or the type in this row
+-- a row of TypeDef is the subject: the type that the path means, or the type in this row
 abbrev pub IsSubject : Metadata → Subject → ℕ → Type 0
-IsSubject model (Named namespace name) row = IsFirstType model namespace.now name.now row
+IsSubject model (Path path) row = IsMeant model path.now row
 IsSubject model (Row of) row = (row ≡ of) × HasRow model TypeDef row
 
 -- the lines of the subject were printed if there is one
 abbrev pub PrintsSubject : {W : Type 0} → Metadata → Subject → Printer W → Printer W → Outcome → Type 0
 PrintsSubject model subject old new Printed = (row : ℕ) × IsSubject model subject row × PrintsRows model old new (class_rows model row)
 PrintsSubject model subject old new NoSuchType = (row : ℕ) → ¬ IsSubject model subject row
+PrintsSubject model subject old new OutOfMemory = ⊤
 
--- nothing was printed if there is no subject
+-- nothing was printed if there is no subject, or none was found
 abbrev pub PrintsNone : {W : Type 0} → Printer W → Printer W → Outcome → Type 0
 PrintsNone old new Printed = ⊤
-PrintsNone old new NoSuchType = new ≡ old
+PrintsNone old new outcome = new ≡ old

@@ -14,17 +14,12 @@
 //! ```
 #![tactic(auto)]
 
-mod cell_values;
-mod declared;
 mod laws;
-mod layouts;
 mod line;
 mod mapped;
 mod outline;
-mod pieces;
-mod signature_sink;
+mod path;
 mod subject;
 
-pub use cell_values::{bytes, number, text};
 pub use outline::{print_outline, print_outline_of};
 pub use subject::{Outcome, Subject};

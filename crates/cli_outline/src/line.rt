@@ -1,5 +1,5 @@
 //! The line of a declaration.
-ghost use Rattle.std.specs.Prelude.{◌≡◌, ◌≤◌, ◌∷◌, [], string_bytes, OnOk};
+ghost use Rattle.std.specs.Prelude.{◌≡◌, ◌≤◌, ◌∷◌, []};
 ghost use Rattle.std.specs.List.{before_first, position};
 ghost use Rattle.metadata.specs.Metadata.{Metadata};
 ghost use Rattle.metadata.specs.Model.{IsModel};
@@ -8,20 +8,14 @@ ghost use Rattle.cli_lines.specs.Printed.{Prints};
 ghost use Rattle.cli_lines.specs.Shown.{shown};
 ghost use Rattle.full_names.specs.RowNames.{IsMemberOf};
 ghost use Rattle.cli_outline.specs.Declarations.{declaration_line, directive_part, ends_word, has_directive, type_part};
-ghost use Rattle.cli_outline.specs.Layouts.{IsDeclared};
 ghost use Rattle.cli_outline.specs.Printed.{PrintsRows};
-ghost use Rattle.cli_outline.specs.Texts.{Gains};
 
-use crate::cell_values::number;
-use crate::declared::Declared;
-use crate::layouts::pieces_of;
-use crate::pieces::push_piece;
+use cli_declarations::{Declared, declare, number};
 use cli_lines::Part::{Member, Note, Word};
 use cli_lines::Value::{self, Plain, Text};
 use cli_lines::{Name, Part, Printer};
 use navigation::Neighbours;
 use opening::{TableId, Token, View};
-use std::alloc::AllocError;
 use std::io::Write;
 
 /// The cell of the flags of an accessor (II.22.28).
@@ -29,23 +23,6 @@ const SEMANTICS: usize = 0;
 
 /// The flags of accessors that have a word (II.23.1.12).
 const KNOWN_SEMANTICS: u32 = 0x3F;
-
-/// Appends the declaration of a row: the pieces of its line.
-fn push_pieces(
-    source: &Neighbours<'_, '_>,
-    token: Token,
-    declared: &mut Declared,
-) -> Result<(), AllocError>
-    requires first { 1 ≤ token.row }
-    requires last { token.row ≤ row_count source.now.view.now token.table }
-    ensures { (model : Metadata) → IsModel source.now.view.now model
-        → OnOk result (Gains (IsDeclared model token) (string_bytes declared.old.text) (string_bytes declared.new.text)) }
-{
-    for piece in pieces_of(token.table) {
-        push_piece(source, token.table, token.row, *piece, declared)?;
-    }
-    Ok(())
-}
 
 /// The length of the first word of a declaration, which a space or a parenthesis ends.
 fn end_of_word(text: &[u8]) -> Option<usize>
@@ -65,6 +42,7 @@ fn first_word(text: &str) -> &str
 }
 
 /// Whether a declaration begins with a directive.
+#[tactic(auto, unfolding(table_schema::specs::CellColumns::cell_columns))]
 fn has_directive(view: &View<'_>, token: Token) -> bool
     requires first { 1 ≤ token.row }
     requires last { token.row ≤ row_count view.now token.table }
@@ -134,8 +112,7 @@ pub(crate) fn print_line<W: Write>(
     requires member { (model : Metadata) → IsModel source.now.view.now model → IsMemberOf model token.table token.row class }
     ensures { (model : Metadata) → IsModel source.now.view.now model → PrintsRows model out.old out.new (token ∷ []) }
 {
-    declared.clear();
-    match push_pieces(source, token, declared) {
+    match declare(source, token, declared) {
         Ok(()) => {
             let has_directive = has_directive(source.view, token);
             print_declaration(token, class, has_directive, &declared.text, out);

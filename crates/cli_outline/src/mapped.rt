@@ -7,9 +7,9 @@ ghost use Rattle.opening.specs.Views.{row_count};
 ghost use Rattle.cli_outline.specs.Outline.{accessed_rows, each_from, list_of, mapped_rows, table_of, type_rows};
 ghost use Rattle.cli_outline.specs.Printed.{PrintsRows};
 
-use crate::declared::Declared;
 use crate::laws::{ranges_follow, rows_follow};
 use crate::outline::{print_row, run_of};
+use cli_declarations::Declared;
 use cli_lines::Printer;
 use navigation::{Link, Neighbours};
 use opening::{CellCursor, MemberList, TableId, Token};
@@ -31,7 +31,7 @@ impl Mapped {
     ghost use Rattle.navigation.specs.declared.links.Link.TheVariants as linked_by;
     ghost use Rattle.navigation.specs.Linked.{number_to};
     ghost use Rattle.cli_outline.specs.Outline.{link_of, list_of, table_of};
-    ghost use Rattle.cli_outline.specs.Parts.{token_at};
+    ghost use Rattle.cli_declarations.specs.Parts.{token_at};
 
     /// The list of the members of a row of the map.
     pub(crate) fn list(self) -> MemberList

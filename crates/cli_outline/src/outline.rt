@@ -13,11 +13,11 @@ ghost use Rattle.cli_outline.specs.Outline.{all_rows, class_rows, each_from, fir
 ghost use Rattle.cli_outline.specs.Printed.{PrintsRows};
 ghost use Rattle.cli_outline.specs.Subjects.{PrintsNone, PrintsSubject};
 
-use crate::declared::Declared;
 use crate::laws::{ranges_follow, rows_follow};
 use crate::line::print_line;
 use crate::mapped::{Mapped, print_mapped};
 use crate::subject::{Outcome, Subject, found_row};
+use cli_declarations::Declared;
 use cli_lines::Printer;
 use full_names::type_of_member;
 use navigation::Neighbours;
@@ -181,6 +181,7 @@ fn print_classes<W: Write>(
 }
 
 /// The tables whose rows come before the types, in the order of the lines.
+#[tactic(auto, unfolding(crate::specs::Outline::first_tables))]
 fn first_tables() -> &'static [TableId]
     ensures { result.now ≡ first_tables }
 {
@@ -196,6 +197,7 @@ fn first_tables() -> &'static [TableId]
 }
 
 /// The tables whose rows come after the types.
+#[tactic(auto, unfolding(crate::specs::Outline::last_tables))]
 fn last_tables() -> &'static [TableId]
     ensures { result.now ≡ last_tables }
 {
@@ -275,11 +277,12 @@ pub fn print_outline_of<W: Write>(
     ensures printed { (model : Metadata) → IsModel view.now model → PrintsSubject model subject.entry out.old out.new result }
     ensures untouched { PrintsNone out.old out.new result }
 {
-    match found_row(view, subject) {
-        Some(row) => {
+    match found_row(alloc, view, subject) {
+        Ok(Some(row)) => {
             print_type(alloc, view, row, out);
             Outcome::Printed
         }
-        None => Outcome::NoSuchType,
+        Ok(None) => Outcome::NoSuchType,
+        Err(_) => Outcome::OutOfMemory,
     }
 }

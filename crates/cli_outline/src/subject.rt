@@ -1,5 +1,5 @@
 //! The type whose outline is printed.
-ghost use Rattle.std.specs.Prelude.{◌≡◌, ◌≤◌, ℕ, IfNone, IfSome};
+ghost use Rattle.std.specs.Prelude.{◌≡◌, ◌≤◌, ℕ, IfNone, IfOk, IfSome};
 ghost use Rattle.table_schema.specs.declared.table.TableId.TheVariants.{TypeDef};
 ghost use Rattle.metadata.specs.Lookups.{HasRow};
 ghost use Rattle.metadata.specs.Metadata.{Metadata};
@@ -7,18 +7,17 @@ ghost use Rattle.metadata.specs.Model.{IsModel};
 ghost use Rattle.opening.specs.Views.{row_count};
 ghost use Rattle.cli_outline.specs.Subjects.{IsSubject};
 
+use crate::path::type_meant;
 use opening::{TableId, View};
+use std::alloc::{AllocError, Global};
 
 /// The type whose outline is printed.
 #[derive(Clone, Copy, Debug, PartialEq, Eq)]
 pub enum Subject<'s> {
-    /// The first type with this namespace and this name (II.22.37). A nested type has no namespace.
-    Named {
-        /// The namespace, or the empty text.
-        namespace: &'s str,
-        /// The name.
-        name: &'s str,
-    },
+    /// The first type with this path: the names of the types that enclose it, the outermost first, and its own, with slashes
+    /// between them, as in `Namespace.Outer/Inner` (II.22.32, II.22.37). If no type has the path, and it is a name alone, the
+    /// only type with this name.
+    Path(&'s str),
     /// The type in this row of TypeDef.
     Row(u32),
 }
@@ -30,12 +29,16 @@ pub enum Outcome {
     Printed,
     /// No type is the subject. Nothing is printed.
     NoSuchType,
+    /// Memory ran out before the type was found. Nothing is printed.
+    OutOfMemory,
 }
 
 /// A row of TypeDef, if it exists.
 fn row_in_table(view: &View<'_>, row: u32) -> Option<u32>
     ensures sound { (model : Metadata) → IsModel view.now model → IfSome result (λ found. (found ≡ row) × HasRow model TypeDef found) }
     ensures none { (model : Metadata) → IsModel view.now model → IfNone result (¬ HasRow model TypeDef row) }
+    ensures first { IfSome result (λ found. 1 ≤ found) }
+    ensures last { IfSome result (λ found. found ≤ row_count view.now TypeDef) }
 {
     metadata::laws::models_are_read();
     if row == 0 || row > view.count(TableId::TypeDef) {
@@ -45,17 +48,22 @@ fn row_in_table(view: &View<'_>, row: u32) -> Option<u32>
 }
 
 /// The row of TypeDef that is a subject; `None` if there is none.
-pub(crate) fn found_row(view: &View<'_>, subject: Subject<'_>) -> Option<u32>
-    ensures sound { (model : Metadata) → IsModel view.now model → IfSome result (IsSubject model subject.entry) }
-    ensures none { (model : Metadata) → IsModel view.now model → IfNone result ((row : ℕ) → ¬ IsSubject model subject.entry row) }
-    ensures first { IfSome result (λ row. 1 ≤ row) }
-    ensures last { IfSome result (λ row. row ≤ row_count view.now TypeDef) }
+///
+/// # Errors
+///
+/// Out of memory.
+pub(crate) fn found_row(
+    alloc: Global,
+    view: &View<'_>,
+    subject: Subject<'_>,
+) -> Result<Option<u32>, AllocError>
+    ensures sound { (model : Metadata) → IsModel view.now model → IfOk result (λ found. IfSome found (IsSubject model subject.entry)) }
+    ensures none { (model : Metadata) → IsModel view.now model → IfOk result (λ found. IfNone found ((row : ℕ) → ¬ IsSubject model subject.entry row)) }
+    ensures first { IfOk result (λ found. IfSome found (λ row. 1 ≤ row)) }
+    ensures last { IfOk result (λ found. IfSome found (λ row. row ≤ row_count view.now TypeDef)) }
 {
-    metadata::laws::models_are_read();
-    // The root has a model.
-    let _root = view.root();
     match subject {
-        Subject::Named { namespace, name } => view.find_type(namespace, name),
-        Subject::Row(row) => row_in_table(view, row),
+        Subject::Path(path) => type_meant(alloc, view, path),
+        Subject::Row(row) => Ok(row_in_table(view, row)),
     }
 }

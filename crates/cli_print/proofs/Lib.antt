@@ -1,3 +1,2 @@
 pub mod ExplanationLemmas
 pub mod TypeLemmas
-pub mod VerdictLemmas

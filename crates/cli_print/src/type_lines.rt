@@ -26,7 +26,6 @@ pub fn print_types<W: Write>(view: &View<'_>, out: &mut Printer<'_, W>)
     ensures { (model : Metadata) → IsModel view.now model → Prints out.old out.new (types_lines model) }
 {
     cli_lines::laws::lines_follow::<W>();
-    cli_lines::laws::rows_follow::<W>();
     let mut cells = CellCursor::new(view);
     for earlier in 0..view.count(TableId::TypeDef) {
         print_type(&mut cells, earlier + 1, out);

@@ -1,6 +1,5 @@
 pub mod SearchLemmas
 pub mod LoopLemmas
-pub mod CountLemmas
 pub mod PeLemmas
 pub mod NulLemmas
 pub mod FileLemmas

@@ -1,9 +1,8 @@
 -- The headers of an image end within it (ECMA-335 II.25.2 and II.25.3).
-use Rattle.std.proofs.Common.{◌≡◌, ◌∙◌, ℕ, ◌≤◌, Bool, true, false, List, length, min, take, refl, ap, sym, arith, cond}
+use Rattle.std.proofs.Common.{◌≡◌, ◌∙◌, ℕ, List, length, min, take, ap}
 use Rattle.std.proofs.lemmas.List.{take_min}
 use Rattle.packed.specs.Rule.{AllHold}
 use Rattle.pe.specs.Rules.{rules_of_image}
-use Rattle.cli_regions.specs.Fields.{data_directories}
 use Rattle.cli_regions.specs.Kept.{HasHeaders}
 
 pub headers_fit : (file : List ℕ) → AllHold (rules_of_image file) → HasHeaders file
@@ -15,11 +14,6 @@ headers_fit file h = record {
   sections = h.1.1.1.1.1.1.1.0;
 }
 
--- sixteen data directories at most have a name
-sixteen : length data_directories ≡ 16
-unfolding data_directories
-sixteen = refl
-
-pub take_sixteen : (count few : ℕ) → count ≡ min few 16 → take count data_directories ≡ take few data_directories
-take_sixteen count few is =
-    ap (λ n. take n data_directories) (is ∙ ap (min few) (sym sixteen)) ∙ take_min few data_directories
+-- a list has no more items than its length
+pub take_few : {X : Type 0} (items : List X) (count few : ℕ) → count ≡ min few (length items) → take count items ≡ take few items
+take_few items count few is = ap (λ n. take n items) is ∙ take_min few items

@@ -1,32 +1,27 @@
--- The CLI header, a metadata root, its streams and the row counts of its tables as structures, outermost first (ECMA-335
--- II.24.2 and II.25.3.3).
-use Rattle.std.specs.Prelude.{ℕ, ◌+◌, ◌-◌, List, [], ◌∷◌, ◌++◌, codes, length, map, filter, Option, None, Some}
+-- A metadata root, its streams and the row counts of its tables as structures, outermost first (ECMA-335 II.24.2).
+use Rattle.std.specs.Prelude.{ℕ, ◌+◌, ◌-◌, if◌then◌else◌, List, [], ◌∷◌, ◌++◌, codes, length, map, Option, None, Some}
 use Rattle.std.specs.List.{flat_map}
 use Rattle.root.specs.declared.kind.Kind.{Kind}
 use Rattle.root.specs.declared.kind.Kind.TheVariants.{Tables, Strings, UserStrings, Guids, Blobs}
 use Rattle.root.specs.Fields.{header_length, root_read, version_length}
 use Rattle.root.specs.Streams.{Header, RootRead, range_of, stream_name}
-use Rattle.cli_header.specs.declared.header.CliHeader.{CliHeader}
 use Rattle.table_schema.specs.declared.table.TableId.{TableId}
 use Rattle.table_schema.specs.Tables.{tables, table_number, table_name}
 use Rattle.schema.specs.Header.{has_bit, valid_of}
 use Rattle.cli_faults.specs.Escaped.{escaped_text}
 use Rattle.cli_faults.specs.Hexadecimal.{upper_hexadecimal}
 use Rattle.cli_regions.specs.Regions.{Region, region}
-use Rattle.cli_regions.specs.Fields.{Field, field, fields_from, header_regions, cli_header_fields, root_fields, stream_header_fields, table_stream_fields}
+use Rattle.cli_regions.specs.Fields.{fields_from, header_regions}
+use Rattle.cli_regions.specs.declared.fields.TheConstants.{AFTER_VERSION, BEFORE_NAME, BEFORE_VERSION, TABLE_STREAM}
 
--- the CLI header and its fields: 72 bytes (II.25.3.3)
-unfoldable pub cli_header_regions : CliHeader → List Region
-cli_header_regions header = header_regions (codes "cli header") [] header.place 72 cli_header_fields
-
--- a stream header and its fields (II.24.2.2)
+-- a stream header and its fields, the last of which is its name, with its NUL and padding (II.24.2.2)
 unfoldable pub stream_header_regions : ℕ → Header → List Region
 stream_header_regions start header =
-    header_regions (codes "stream header") (codes " " ++ escaped_text header.name) (start + header.place) (header_length header)
-    (stream_header_fields (header_length header - 8))
+    header_regions (codes "stream header") (codes " " ++ escaped_text header.name) (start + header.place) (header_length header) (map (λ of. (of.0.now, of.1)) BEFORE_NAME)
+    ++ region (start + header.place + 8) (header_length header - 8) (codes "stream header Name") ∷ []
 
 -- the streams of the standard, in the order of the lines: heaps, and then the tables
-unfoldable pub streams : List Kind
+abbrev pub streams : List Kind
 streams = Strings ∷ UserStrings ∷ Guids ∷ Blobs ∷ Tables ∷ []
 
 -- a stream with this range of a root, if there is one
@@ -42,19 +37,27 @@ stream_regions start root kind = ranged start kind (range_of root kind)
 abbrev pub table_words : TableId → List ℕ
 table_words table = upper_hexadecimal (table_number table) ++ codes " " ++ table_name table
 
--- the row count of a table
-abbrev pub row_count_field : TableId → Field
-row_count_field table = field (table_words table) 4
+-- the number of bytes of a row count: none unless Valid names the table
+abbrev pub count_size : ℕ → TableId → ℕ
+count_size valid table = if has_bit valid table then 4 else 0
+
+-- row counts that follow one another, the first at an offset
+abbrev pub counts_from : ℕ → ℕ → List TableId → List Region
+counts_from valid start [] = []
+counts_from valid start (table ∷ more) =
+    region start (count_size valid table) (codes "row count" ++ (codes " " ++ table_words table)) ∷ counts_from valid (start + count_size valid table) more
 
 -- the fields of a table stream, and then the row counts of the tables that Valid names (II.24.2.6)
 unfoldable pub table_stream_regions : ℕ → List ℕ → List Region
-table_stream_regions start stream =
-    fields_from (codes "table stream") start table_stream_fields
-    ++ fields_from (codes "row count") (start + 24) (map row_count_field (filter (has_bit (valid_of stream)) tables))
+table_stream_regions start stream = fields_from (codes "table stream") start (map (λ of. (of.0.now, of.1)) TABLE_STREAM) ++ counts_from (valid_of stream) (start + 24) tables
 
 -- a metadata root at an offset of the file, and its fields before the stream headers (II.24.2.1)
 unfoldable pub root_header_regions : ℕ → List ℕ → List Region
-root_header_regions start root = region start (length root) (codes "root") ∷ fields_from (codes "root header") start (root_fields (version_length root))
+root_header_regions start root =
+    region start (length root) (codes "root")
+    ∷ fields_from (codes "root header") start (map (λ of. (of.0.now, of.1)) BEFORE_VERSION)
+    ++ region (start + 16) (version_length root) (codes "root header Version")
+    ∷ fields_from (codes "root header") (start + 16 + version_length root) (map (λ of. (of.0.now, of.1)) AFTER_VERSION)
 
 -- a metadata root: its header, its stream headers and its streams
 abbrev pub root_regions : ℕ → List ℕ → List Region

@@ -1,13 +1,14 @@
 -- The headers and sections of a PE file as structures, outermost first (ECMA-335 II.25.2 and II.25.3; PE32+ by Microsoft's PE
 -- format).
-use Rattle.std.specs.Prelude.{ℕ, ◌+◌, ◌-◌, ◌*◌, ◌/◌, ◌==◌, if◌then◌else◌, List, [], ◌∷◌, ◌++◌, codes, decimal, length, take, min}
+use Rattle.std.specs.Prelude.{ℕ, ◌+◌, ◌-◌, ◌*◌, ◌/◌, ◌==◌, if◌then◌else◌, List, [], ◌∷◌, ◌++◌, codes, decimal, length, map, take, min}
 use Rattle.std.specs.List.{flat_map, range_with_len}
 use Rattle.packed.specs.Offsets.{part}
 use Rattle.root.specs.Fields.{before_nul}
 use Rattle.pe.specs.Headers.{directory_count, lfanew, magic, optional_header_size, section_at, section_count, sections_offset, wider}
 use Rattle.cli_faults.specs.Escaped.{escaped_text}
 use Rattle.cli_regions.specs.Regions.{Region, region}
-use Rattle.cli_regions.specs.Fields.{Field, header_regions, file_header_fields, optional_header_fields, data_directories, directory_fields, section_header_fields}
+use Rattle.cli_regions.specs.Fields.{Field, fields_from, header_regions}
+use Rattle.cli_regions.specs.declared.fields.TheConstants.{DIRECTORIES, DIRECTORY_FIELDS, FILE_HEADER, PE32, PE32_PLUS, SECTION_HEADER}
 
 -- the MS-DOS header, of which the standard names `MZ` and lfanew (II.25.2.1)
 unfoldable pub dos_header_regions : List Region
@@ -18,40 +19,30 @@ dos_header_regions =
 unfoldable pub file_header_regions : ℕ → List Region
 file_header_regions start =
     region start 4 (codes "pe signature")
-    ∷ header_regions (codes "pe file header") [] (start + 4) 20 file_header_fields
+    ∷ header_regions (codes "pe file header") [] (start + 4) 20 (map (λ of. (of.0.now, of.1)) FILE_HEADER)
 
--- the size of BaseOfData by Magic: PE32+ does not have it
-abbrev pub base_size : ℕ → ℕ
-base_size magic = if magic == 0x20B then 0 else 4
-
--- the size of an address by Magic
-abbrev pub address_size : ℕ → ℕ
-address_size magic = if magic == 0x20B then 8 else 4
+-- the fields of the optional header before the data directories, by Magic
+abbrev pub optional_fields : ℕ → List Field
+optional_fields magic = if magic == 0x20B then (map (λ of. (of.0.now, of.1)) PE32_PLUS) else (map (λ of. (of.0.now, of.1)) PE32)
 
 -- the optional header, and its fields before the data directories (II.25.2.3)
 unfoldable pub optional_header_regions : List ℕ → List Region
 optional_header_regions file =
-    header_regions (codes "optional header") [] (lfanew file + 24) (optional_header_size file)
-    (optional_header_fields (base_size (magic file)) (address_size (magic file)))
+    header_regions (codes "optional header") [] (lfanew file + 24) (optional_header_size file) (optional_fields (magic file))
 
 -- the offset of the first data directory (II.25.2.3.3)
 abbrev pub directories_offset : List ℕ → ℕ
 directories_offset file = lfanew file + 120 + wider file
 
--- a data directory, and its two fields
-unfoldable pub directory_regions : ℕ → Field → List Region
-directory_regions start directory = header_regions (codes "data directory") (codes " " ++ directory.name) start directory.size directory_fields
+-- the number of data directories that are counted and end within the optional header (II.25.2.3.3)
+abbrev pub whole_directories : List ℕ → ℕ
+whole_directories file = min (directory_count file) ((sections_offset file - directories_offset file) / 8)
 
--- data directories that follow one another, the first at an offset
-abbrev pub directories_from : ℕ → List Field → List Region
-directories_from start [] = []
-directories_from start (first ∷ directories) = directory_regions start first ++ directories_from (start + first.size) directories
-
--- the data directories that are counted and end within the optional header (II.25.2.3.3)
+-- these data directories, and then their fields
 unfoldable pub directories_regions : List ℕ → List Region
 directories_regions file =
-    directories_from (directories_offset file)
-    (take (min (directory_count file) ((sections_offset file - directories_offset file) / 8)) data_directories)
+    fields_from (codes "data directory") (directories_offset file) (take (whole_directories file) (map (λ of. (of.0.now, of.1)) DIRECTORIES))
+    ++ fields_from (codes "data directory") (directories_offset file) (take (2 * whole_directories file) (map (λ of. (of.0.now, of.1)) DIRECTORY_FIELDS))
 
 -- the offset of a section header by its index from 0 (II.25.3)
 abbrev pub section_offset : List ℕ → ℕ → ℕ
@@ -73,7 +64,7 @@ section_words file index = numbered (index + 1) (before_nul (part file (section_
 -- a section header, and its fields (II.25.3)
 unfoldable pub section_header_regions : List ℕ → ℕ → List Region
 section_header_regions file index =
-    header_regions (codes "section header") (section_words file index) (section_offset file index) 40 section_header_fields
+    header_regions (codes "section header") (section_words file index) (section_offset file index) 40 (map (λ of. (of.0.now, of.1)) SECTION_HEADER)
 
 -- the bytes of a section: SizeOfRawData bytes at PointerToRawData, or fewer if the file ends earlier (II.25.3)
 abbrev pub section_bytes : List ℕ → ℕ → List ℕ

@@ -1,47 +1,26 @@
-//! Looks at the CLI header, and at the headers and streams of a metadata root.
+//! Looks at the headers and the streams of a metadata root.
 ghost use Rattle.std.specs.Prelude.{◌≡◌, ◌≤◌, ◌+◌, length};
 ghost use Rattle.std.specs.List.{All, flat_map};
 ghost use Rattle.packed.specs.Rule.{AllHold};
 ghost use Rattle.root.specs.Fields.{header_length, root_read};
 ghost use Rattle.root.specs.Rules.{rules_of_root};
 ghost use Rattle.root.specs.Views.{view};
-ghost use Rattle.cli_regions.specs.Headers.{cli_header_regions, root_header_regions, root_regions, stream_header_regions, stream_regions, streams};
+ghost use Rattle.cli_regions.specs.Headers.{root_header_regions, root_regions, stream_header_regions, stream_regions, streams};
 ghost use Rattle.cli_regions.specs.Kept.{Adds};
 
-use crate::fields::{
-    cli_header_fields, find_fields, find_header, root_fields, stream_header_fields,
-};
+use crate::fields::{AFTER_VERSION, BEFORE_NAME, BEFORE_VERSION, find_fields, find_header};
 use crate::searches::{Name, Search};
-use cli_header::CliHeader;
 use packed::u32_at;
 use root::{Headers, Kind, Root, StreamHeader};
-
-/// The size of the CLI header, in bytes (II.25.3.3).
-const CLI_HEADER_SIZE: u64 = 72;
 
 /// The offset of Length in a metadata root (II.24.2.1).
 const VERSION_SIZE: usize = 12;
 
+/// The offset of Version in a metadata root.
+const VERSION: u64 = 16;
+
 /// The offset of the name in a stream header (II.24.2.2).
 const STREAM_NAME: u64 = 8;
-
-/// Looks at the CLI header and its fields.
-#[tactic(auto, unfolding(crate::specs::Headers::cli_header_regions))]
-pub(crate) fn find_cli_header(header: &CliHeader, found: &mut Search<'_>)
-    requires { header.now.place ≤ 0x40000000 }
-    ensures { Adds found.old found.new (cli_header_regions header.now) }
-{
-    let fields = cli_header_fields();
-    let start = header.place as u64;
-    find_header(
-        "cli header",
-        Name::Empty,
-        start,
-        CLI_HEADER_SIZE,
-        &fields,
-        found,
-    );
-}
 
 /// Looks at a metadata root, and at its fields before the stream headers.
 #[tactic(auto, unfolding(crate::specs::Headers::root_header_regions))]
@@ -50,9 +29,13 @@ fn find_root_header(root: &[u8], start: u64, found: &mut Search<'_>)
     requires room { 16 ≤ length root.now }
     ensures { Adds found.old found.new (root_header_regions start root.now) }
 {
-    let fields = root_fields(u32_at(root, VERSION_SIZE));
+    let word = "root header";
+    let version = start + VERSION;
+    let size = u32_at(root, VERSION_SIZE) as u64;
     found.look(start, root.len() as u64, "root", Name::Empty);
-    find_fields("root header", start, &fields, found);
+    find_fields(word, start, &BEFORE_VERSION, found);
+    found.look(version, size, word, Name::Plain("Version"));
+    find_fields(word, version + size, &AFTER_VERSION, found);
 }
 
 /// Looks at a stream header and its fields.
@@ -62,16 +45,19 @@ fn find_stream_header<'a>(header: &StreamHeader<'a>, start: u64, found: &mut Sea
     requires small { header.now.place + header_length (view header.now) ≤ 0x40000000 }
     ensures { Adds found.old found.new (stream_header_regions start (view header.now)) }
 {
-    let name_size = (header.name.len() + 4) / 4 * 4;
-    let fields = stream_header_fields(name_size as u32);
+    let word = "stream header";
+    let start = start + header.place as u64;
+    let name_size = ((header.name.len() + 4) / 4 * 4) as u64;
+    let size = STREAM_NAME + name_size;
     find_header(
-        "stream header",
+        word,
         Name::Text(header.name),
-        start + header.place as u64,
-        STREAM_NAME + name_size as u64,
-        &fields,
+        start,
+        size,
+        &BEFORE_NAME,
         found,
     );
+    found.look(start + STREAM_NAME, name_size, word, Name::Plain("Name"));
 }
 
 /// Looks at stream headers and their fields.
@@ -83,20 +69,6 @@ fn find_stream_headers<'a>(headers: Headers<'a>, start: u64, found: &mut Search<
     for header in headers {
         find_stream_header(&header, start, found);
     }
-}
-
-/// The streams of the standard, in the order of the lines.
-#[tactic(auto, unfolding(crate::specs::Headers::streams))]
-fn streams() -> [Kind; 5]
-    ensures { result ≡ streams }
-{
-    [
-        Kind::Strings,
-        Kind::UserStrings,
-        Kind::Guids,
-        Kind::Blobs,
-        Kind::Tables,
-    ]
 }
 
 /// Looks at a stream.
@@ -115,15 +87,17 @@ fn find_stream(root: &Root<'_>, kind: Kind, start: u64, found: &mut Search<'_>)
     }
 }
 
-/// Looks at the streams.
+/// Looks at the streams of the standard.
 fn find_streams(root: &Root<'_>, start: u64, found: &mut Search<'_>)
     requires start { start ≤ 0x40000000 }
     requires small { length root.now.bytes ≤ 0x40000000 }
     ensures { Adds found.old found.new (flat_map (stream_regions start root.now) streams) }
 {
-    for kind in streams() {
-        find_stream(root, kind, start, found);
-    }
+    find_stream(root, Kind::Strings, start, found);
+    find_stream(root, Kind::UserStrings, start, found);
+    find_stream(root, Kind::Guids, start, found);
+    find_stream(root, Kind::Blobs, start, found);
+    find_stream(root, Kind::Tables, start, found);
 }
 
 /// Looks at a metadata root, its fields, its stream headers and its streams. `root` is at offset `start` of the file, and

@@ -3,12 +3,11 @@ ghost use Rattle.std.specs.Prelude.{◌≡◌, ◌≤◌, length, map};
 ghost use Rattle.pe.specs.Headers.{directory_offset, lfanew, sections_offset};
 ghost use Rattle.cli_regions.specs.Fields.{seen_field};
 ghost use Rattle.cli_regions.specs.Kept.{HasHeaders, Adds};
-ghost use Rattle.cli_regions.specs.PeHeaders.{address_size, base_size, directories_from, directories_offset, directories_regions};
-ghost use Rattle.cli_regions.specs.PeHeaders.{directory_regions, dos_header_regions, file_header_regions, optional_header_regions};
+ghost use Rattle.cli_regions.specs.PeHeaders.{directories_offset, directories_regions, dos_header_regions, file_header_regions};
+ghost use Rattle.cli_regions.specs.PeHeaders.{optional_fields, optional_header_regions};
 
 use crate::fields::{
-    Field, data_directories, directory_fields, file_header_fields, find_header,
-    optional_header_fields,
+    DIRECTORIES, DIRECTORY_FIELDS, FILE_HEADER, Field, PE32, PE32_PLUS, find_fields, find_header,
 };
 use crate::searches::{Name, Search};
 use packed::{u16_at, u32_at};
@@ -38,7 +37,7 @@ const OPTIONAL_HEADER_SIZE: usize = 20;
 const OPTIONAL_HEADER: usize = 24;
 
 /// Magic of PE32+.
-const PE32_PLUS: u16 = 0x20B;
+const MAGIC_OF_PE32_PLUS: u16 = 0x20B;
 
 /// The number of bytes of the data directories before that of the CLI header (II.25.2.3.3).
 const BEFORE_CLI_DIRECTORY: usize = 112;
@@ -98,7 +97,6 @@ pub(crate) fn find_file_header(start: u64, found: &mut Search<'_>)
     requires { start ≤ 0x40000000 }
     ensures { Adds found.old found.new (file_header_regions start) }
 {
-    let fields = file_header_fields();
     let header = start + SIGNATURE_SIZE;
     found.look(start, SIGNATURE_SIZE, "pe signature", Name::Empty);
     find_header(
@@ -106,23 +104,21 @@ pub(crate) fn find_file_header(start: u64, found: &mut Search<'_>)
         Name::Empty,
         header,
         FILE_HEADER_SIZE,
-        &fields,
+        &FILE_HEADER,
         found,
     );
 }
 
-/// The size of BaseOfData, in bytes.
-fn base_size(magic: u16) -> u32
-    ensures { result ≡ base_size magic }
+/// The fields of the optional header before the data directories, by Magic.
+fn optional_fields(magic: u16) -> &'static [Field]
+    ensures fields { map seen_field result.now ≡ optional_fields magic }
+    ensures few { length result.now ≤ 32 }
 {
-    if magic == PE32_PLUS { 0 } else { 4 }
-}
-
-/// The size of an address, in bytes.
-fn address_size(magic: u16) -> u32
-    ensures { result ≡ address_size magic }
-{
-    if magic == PE32_PLUS { 8 } else { 4 }
+    if magic == MAGIC_OF_PE32_PLUS {
+        &PE32_PLUS
+    } else {
+        &PE32
+    }
 }
 
 /// Looks at the optional header, and at its fields before the data directories (II.25.2.3).
@@ -135,47 +131,15 @@ pub(crate) fn find_optional_header(file: &[u8], offsets: Offsets, found: &mut Se
 {
     let start = offsets.signature + OPTIONAL_HEADER;
     let size = offsets.sections - start;
-    let magic = u16_at(file, start);
-    let fields = optional_header_fields(base_size(magic), address_size(magic));
+    let fields = optional_fields(u16_at(file, start));
     find_header(
         "optional header",
         Name::Empty,
         start as u64,
         size as u64,
-        &fields,
+        fields,
         found,
     );
-}
-
-/// Looks at a data directory and its fields (II.25.2.3.3).
-#[tactic(auto, unfolding(crate::specs::PeHeaders::directory_regions))]
-fn find_directory(directory: Field, start: u64, found: &mut Search<'_>)
-    requires { start ≤ 0x2000000000 }
-    ensures { Adds found.old found.new (directory_regions start (seen_field directory)) }
-{
-    let fields = directory_fields();
-    let name = Name::Plain(directory.name);
-    find_header(
-        "data directory",
-        name,
-        start,
-        directory.size as u64,
-        &fields,
-        found,
-    );
-}
-
-/// Looks at data directories and their fields. The first one is at offset `start`.
-fn find_directories_from(start: u64, directories: &[Field], found: &mut Search<'_>)
-    requires start { start ≤ 0x100000000 }
-    requires few { length directories.now ≤ 16 }
-    ensures { Adds found.old found.new (directories_from start (map seen_field directories.now)) }
-{
-    let mut next = start;
-    for directory in directories {
-        find_directory(*directory, next, found);
-        next += directory.size as u64;
-    }
 }
 
 /// Looks at the data directories and their fields (II.25.2.3.3).
@@ -191,7 +155,8 @@ pub(crate) fn find_directories(file: &[u8], offsets: Offsets, found: &mut Search
     let room = (offsets.sections - start) / DIRECTORY_SIZE;
     let whole = room.min(counted as usize);
     let named = whole.min(NAMED_DIRECTORIES);
-    let directories = data_directories();
-    let (directories, _) = directories.split_at(named);
-    find_directories_from(start as u64, directories, found);
+    let (directories, _) = DIRECTORIES.split_at(named);
+    let (fields, _) = DIRECTORY_FIELDS.split_at(2 * named);
+    find_fields("data directory", start as u64, directories, found);
+    find_fields("data directory", start as u64, fields, found);
 }

@@ -3,11 +3,11 @@ ghost use Rattle.std.specs.Prelude.{◌≡◌, ◌≤◌, ◌+◌, ◌==◌, len
 ghost use Rattle.std.specs.List.{flat_map, range_with_len};
 ghost use Rattle.packed.specs.Offsets.{part};
 ghost use Rattle.root.specs.Fields.{before_nul};
-ghost use Rattle.pe.specs.Headers.{lfanew, section_at, section_count, sections_offset};
+ghost use Rattle.pe.specs.Headers.{lfanew, section_count, sections_offset};
 ghost use Rattle.cli_regions.specs.Kept.{HasHeaders, Adds, part_regions};
-ghost use Rattle.cli_regions.specs.PeHeaders.{section_header_regions, section_offset, section_regions};
+ghost use Rattle.cli_regions.specs.PeHeaders.{section_offset};
 
-use crate::fields::{find_header, section_header_fields};
+use crate::fields::{SECTION_HEADER, find_header};
 use crate::pe_headers::Offsets;
 use crate::searches::{Name, Search};
 use packed::{u16_at, u32_at};
@@ -26,15 +26,6 @@ const SIZE_OF_RAW_DATA: usize = 16;
 
 /// The offset of PointerToRawData in a section header.
 const POINTER_TO_RAW_DATA: usize = 20;
-
-/// The number of sections. The PE signature is at offset `signature`.
-fn section_count(file: &[u8], signature: usize) -> usize
-    requires headers { HasHeaders file.now }
-    requires signature { signature ≡ lfanew file.now }
-    ensures { result ≡ section_count file.now }
-{
-    u16_at(file, signature + SECTION_COUNT) as usize
-}
 
 /// The index of the first NUL.
 fn nul_in(bytes: &[u8]) -> Option<usize>
@@ -63,22 +54,6 @@ fn section_name(file: &[u8], start: usize) -> &[u8]
     before_nul(name)
 }
 
-/// The number of bytes of the section whose header is at an offset.
-fn size_of_raw_data(file: &[u8], start: usize) -> u32
-    requires { start + 40 ≤ length file.now }
-    ensures { result ≡ (section_at file.now start).size_of_raw_data }
-{
-    u32_at(file, start + SIZE_OF_RAW_DATA)
-}
-
-/// The offset in the file of the section whose header is at an offset.
-fn pointer_to_raw_data(file: &[u8], start: usize) -> u32
-    requires { start + 40 ≤ length file.now }
-    ensures { result ≡ (section_at file.now start).pointer_to_raw_data }
-{
-    u32_at(file, start + POINTER_TO_RAW_DATA)
-}
-
 /// A section: the offset of its header, and its index from 0.
 #[derive(Clone, Copy)]
 struct Section {
@@ -95,52 +70,31 @@ pub(crate) enum SectionPart {
     Bytes,
 }
 
-/// Looks at a section header and its fields.
-#[tactic(auto, unfolding(crate::specs::PeHeaders::section_header_regions))]
-fn find_section_header<'a>(file: &'a [u8], section: Section, found: &mut Search<'a>)
-    requires start { section.start ≡ section_offset file.now section.index }
-    requires within { section.start + 40 ≤ length file.now }
-    requires small { length file.now ≤ 0x40000000 }
-    ensures { Adds found.old found.new (section_header_regions file.now section.index) }
-{
-    let fields = section_header_fields();
-    let name = Name::Section(section.index as u64 + 1, section_name(file, section.start));
-    let start = section.start as u64;
-    find_header(
-        "section header",
-        name,
-        start,
-        SECTION_HEADER_SIZE as u64,
-        &fields,
-        found,
-    );
-}
-
-/// Looks at a section. The bytes of a section end with the file at the latest.
-#[tactic(auto, unfolding(crate::specs::PeHeaders::section_regions))]
-fn find_section<'a>(file: &'a [u8], section: Section, found: &mut Search<'a>)
-    requires start { section.start ≡ section_offset file.now section.index }
-    requires within { section.start + 40 ≤ length file.now }
-    ensures { Adds found.old found.new (section_regions file.now section.index) }
-{
-    let size = size_of_raw_data(file, section.start);
-    let start = pointer_to_raw_data(file, section.start);
-    let left = file.len().saturating_sub(start as usize);
-    let count = left.min(size as usize);
-    let name = Name::Section(section.index as u64 + 1, section_name(file, section.start));
-    found.look(start as u64, count as u64, "section", name);
-}
-
-/// Looks at a part of a section.
+/// Looks at a part of a section. Its bytes end with the file at the latest.
+#[tactic(auto, unfolding(crate::specs::PeHeaders::section_header_regions, crate::specs::PeHeaders::section_regions))]
 fn find_part<'a>(file: &'a [u8], part: SectionPart, section: Section, found: &mut Search<'a>)
     requires start { section.start ≡ section_offset file.now section.index }
     requires within { section.start + 40 ≤ length file.now }
     requires small { length file.now ≤ 0x40000000 }
     ensures { Adds found.old found.new (part_regions part file.now section.index) }
 {
+    let name = Name::Section(section.index as u64 + 1, section_name(file, section.start));
     match part {
-        SectionPart::Header => find_section_header(file, section, found),
-        SectionPart::Bytes => find_section(file, section, found),
+        SectionPart::Header => find_header(
+            "section header",
+            name,
+            section.start as u64,
+            SECTION_HEADER_SIZE as u64,
+            &SECTION_HEADER,
+            found,
+        ),
+        SectionPart::Bytes => {
+            let size = u32_at(file, section.start + SIZE_OF_RAW_DATA);
+            let start = u32_at(file, section.start + POINTER_TO_RAW_DATA);
+            let left = file.len().saturating_sub(start as usize);
+            let count = left.min(size as usize);
+            found.look(start as u64, count as u64, "section", name);
+        }
     }
 }
 
@@ -156,7 +110,8 @@ pub(crate) fn find_sections<'a>(
     requires start { offsets.sections ≡ sections_offset file.now }
     ensures { Adds found.old found.new (flat_map (part_regions part file.now) (range_with_len 0 (section_count file.now))) }
 {
-    for index in 0..section_count(file, offsets.signature) {
+    let count = u16_at(file, offsets.signature + SECTION_COUNT) as usize;
+    for index in 0..count {
         let section = Section {
             start: offsets.sections + SECTION_HEADER_SIZE * index,
             index,

@@ -5,7 +5,6 @@ use Rattle.std.specs.List.{slice_split}
 use Rattle.std.proofs.lemmas.List.{map-append}
 use Rattle.std.specs.Borrow.{Bor}
 use Rattle.cli_runs.specs.Runs.{AreListed}
-use Rattle.cli_runs.proofs.Comparing.{nothing_found}
 
 abbrev names_in : List (Bor (List ℕ)) → List (List ℕ)
 names_in = map (λ name. name.now)
@@ -24,7 +23,7 @@ never_nil : (xs : List (List ℕ)) (x : List ℕ) → [] ≡ xs ++ x ∷ [] → 
 never_nil [] x is = cc
 never_nil (y ∷ ys) x is = cc
 
-empty_is : (xs : List ℕ) → length xs ≡ 0 → xs ≡ []
+empty_is : {X : Type 0} (xs : List X) → length xs ≡ 0 → xs ≡ []
 empty_is [] is = refl
 empty_is (x ∷ xs) is = absurd (omega (arith, is))
 
@@ -32,7 +31,7 @@ module _ (given : List ℕ) (pieces : List (Bor (List ℕ))) (split : names_in p
   pub none_listed : (names : List (Bor (List ℕ))) → length pieces ≡ 0 → names ≡ [] → AreListed given (names_in names)
   none_listed names none is =
       subst (λ (xs : List (Bor (List ℕ))). AreListed given (names_in xs)) (sym is)
-      (inr (sym split ∙ ap names_in (nothing_found pieces none), (λ more same. never_nil more [] same)))
+      (inr (sym split ∙ ap names_in (empty_is pieces none), (λ more same. never_nil more [] same)))
 
   -- nothing follows the last NUL
   pub ended_listed : (names : List (Bor (List ℕ))) (last : Bor (List ℕ)) → pieces ≡ names ++ last ∷ [] → length last.now ≡ 0 → AreListed given (names_in names)

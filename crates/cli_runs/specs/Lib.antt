@@ -1,6 +1,3 @@
-pub mod Compared
 pub mod Printing
 pub mod Reports
-pub mod Rewritten
-pub mod Embedded
 pub mod Runs

@@ -1,13 +1,8 @@
 -- What a printer was asked to print of a report; for private clauses.
-use Rattle.std.specs.Prelude.{◌≡◌, ℕ, List, [], Option, IsSome}
-use Rattle.packed.specs.Rule.{FirstBroken}
-use Rattle.checks.specs.declared.budget.BoundedError.{BoundedError}
-use Rattle.checks.specs.declared.budget.BoundedError.TheVariants.{BudgetSpent, Fault}
-use Rattle.cli_input.specs.Checked.{rules_of}
-use Rattle.cli_input.specs.declared.opened.Input.{Input}
+use Rattle.std.specs.Prelude.{◌≡◌, ℕ, List, [], IsSome}
 use Rattle.cli_lines.specs.Lines.{Part}
 use Rattle.cli_lines.specs.Printed.{Printed, Prints}
-use Rattle.cli_runs.specs.Reports.{HasEnded, IsSpent}
+use Rattle.cli_runs.specs.Reports.{HasEnded}
 use Rattle.cli_runs.specs.declared.report.Ended.{Ended}
 use Rattle.cli_runs.specs.declared.report.Ended.TheVariants.{Refused}
 use Rattle.cli_runs.specs.declared.report.Report.{Report}
@@ -25,8 +20,3 @@ HasPrinted request name bytes old new of ended = HasEnded (Hands old new) reques
 -- no line went out, and none is missing
 abbrev pub AreNone : Type 0 → List (List Part) → Type 0
 AreNone all lines = all × (lines ≡ [])
-
--- the first broken rule is reported, or that the budget is spent
-abbrev pub StopsWithin : Option ℕ → Input → List ℕ → BoundedError → Type 0
-StopsWithin budget input bytes (Fault found) = FirstBroken (rules_of input bytes) found
-StopsWithin budget input bytes BudgetSpent = IsSpent budget input bytes

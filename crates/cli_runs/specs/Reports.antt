@@ -1,5 +1,5 @@
 -- What each report prints of the bytes of a file, and when it prints nothing.
-use Rattle.std.specs.Prelude.{◌≡◌, ◌≢◌, ◌<◌, ◌⊎◌, ℕ, Bool, true, false, List, [], ◌∷◌, ◌++◌, flat_map, map, Option, None, Some, Result, Ok, Err}
+use Rattle.std.specs.Prelude.{◌≡◌, ◌≢◌, ◌⊎◌, ℕ, Bool, true, false, List, [], ◌∷◌, ◌++◌, flat_map, map, Option, None, Some, Result, Ok, Err}
 use Rattle.std.specs.List.{All}
 use Rattle.hex.specs.Hex.{encode_lower}
 use Rattle.sha2.specs.Sha256.{sha256}
@@ -13,14 +13,13 @@ use Rattle.table_schema.specs.Tables.{tables}
 use Rattle.cli_header.specs.declared.header.CliHeader.{CliHeader}
 use Rattle.root.specs.Streams.{RootRead}
 use Rattle.metadata.specs.Metadata.{Metadata}
-use Rattle.opening.specs.Within.{HoldBeforeSignatures}
 use Rattle.cli_faults.specs.declared.failure.Failure.TheVariants.{Fault, NoSuchRow, OutOfMemory}
 use Rattle.cli_faults.specs.declared.stop.Stop.{Stop}
 use Rattle.cli_faults.specs.declared.stop.Stop.TheVariants.{Broken, BudgetSpent, Failed, NoSuchType, NothingAt}
 use Rattle.cli_lines.specs.declared.parts.Form.{Form}
 use Rattle.cli_lines.specs.declared.parts.Form.TheVariants.{Text}
 use Rattle.cli_lines.specs.Lines.{Part}
-use Rattle.cli_input.specs.Checked.{IsModelOf, IsOpened, IsWhole, rules_of, signature_bytes_of}
+use Rattle.cli_input.specs.Checked.{IsModelOf, IsOpened, IsWhole, rules_of}
 use Rattle.cli_input.specs.declared.opened.Input.{Input}
 use Rattle.cli_input.specs.Heads.{AreHeads, HasHeads, rules_of_heads}
 use Rattle.cli_cells.specs.Before.{AreLinesBefore}
@@ -43,7 +42,8 @@ use Rattle.cli_where.specs.Where.{AreStructuresAt}
 use Rattle.cli_where.specs.declared.report.Found.{Found as FoundAt}
 use Rattle.cli_where.specs.declared.report.Found.TheVariants.{Nothing, Something}
 use Rattle.cli_where.specs.declared.walk.Reach.TheVariants.{Cells, Entries}
-use Rattle.cli_runs.specs.Rewritten.{IsRewritten, ReportsUnwritten}
+use Rattle.cli_roots.specs.Budget.{IsSpent}
+use Rattle.cli_roots.specs.Rewritten.{IsRewritten, ReportsUnwritten}
 use Rattle.cli_runs.specs.declared.report.Ended.{Ended}
 use Rattle.cli_runs.specs.declared.report.Ended.TheVariants.{Printed, Refused, Stopped}
 use Rattle.cli_runs.specs.declared.report.Listing.{Listing}
@@ -90,11 +90,6 @@ AreSaid number lines =
 abbrev pub OfModel : Input → List ℕ → (Metadata → Type 0) → Type 0
 OfModel input bytes P = IsWhole input bytes × ((model : Metadata) → IsModelOf input bytes model → P model)
 
--- the budget is less than the number of signature bytes, and all rules before signatures hold
-abbrev pub IsSpent : Option ℕ → Input → List ℕ → Type 0
-IsSpent None input bytes = ⊥
-IsSpent (Some most) input bytes = (most < signature_bytes_of input bytes) × HoldBeforeSignatures (rules_of input bytes)
-
 -- why nothing of a report is printed
 abbrev pub IsRefused : Request → List ℕ → Report → Stop → Type 0
 IsRefused request bytes of BudgetSpent = IsSpent request.budget request.input bytes
@@ -102,6 +97,7 @@ IsRefused request bytes report.Root (Failed (Fault found)) = FirstBroken (rules_
 IsRefused request bytes (report.Check verdict) (Failed (Fault found)) =
     (is_reported verdict request.form request.naming ≡ true) × FirstBroken (rules_of request.input bytes) found
 IsRefused request bytes (report.OutlineOf subject) NoSuchType = OfModel request.input bytes (λ model. (row : ℕ) → ¬ IsSubject model subject row)
+IsRefused request bytes (report.OutlineOf subject) (Failed OutOfMemory) = IsWhole request.input bytes
 IsRefused request bytes (report.Check Explained) (Failed OutOfMemory) = Unit {0}
 IsRefused request bytes report.Strings (Failed OutOfMemory) = Unit {0}
 IsRefused request bytes (report.Where offset) (Failed failure) = failure ≡ OutOfMemory

@@ -1,21 +1,17 @@
 -- What a run prints of the bytes of one file, and of several files.
-use Rattle.std.specs.Prelude.{◌≡◌, ◌≢◌, ℕ, ◌==◌, ◌⊎◌, List, [], ◌∷◌, ◌++◌, codes, max, Option, None, Result, Ok, Err, IsErrAnd, MatchResult}
+use Rattle.std.specs.Prelude.{◌≡◌, ◌≢◌, ℕ, ◌==◌, ◌⊎◌, List, [], ◌∷◌, ◌++◌, codes, max, Option, Result, Ok, Err, MatchResult}
 use Rattle.std.specs.Io.KnownBytes.{Appends}
 use Rattle.std.specs.List.{slice_split}
 use Rattle.packed.specs.declared.code.FaultCode.{FaultCode}
-use Rattle.cli_faults.specs.Status.{IsOutput, IsUnwritten, status_of}
+use Rattle.cli_faults.specs.Status.{IsOutput, status_of}
 use Rattle.cli_faults.specs.Stops.{status_of_stop}
 use Rattle.cli_faults.specs.declared.failure.Failure.{Failure}
-use Rattle.cli_faults.specs.declared.stop.Stop.TheVariants.{BudgetSpent, Failed}
-use Rattle.cli_files.specs.declared.stopped.Stopped.{Stopped}
 use Rattle.cli_files.specs.Read.{IsRefused}
-use Rattle.cli_files.specs.Stopped.{Outcome}
 use Rattle.cli_lines.specs.declared.parts.Form.{Form}
 use Rattle.cli_lines.specs.Lines.{Part, report_text}
 use Rattle.cli_sending.specs.Sent.{SendsPrefix, Sent}
 use Rattle.cli_print.specs.Explanations.{AreExplanations}
-use Rattle.cli_input.specs.declared.opened.Input.{Input}
-use Rattle.cli_runs.specs.Reports.{HasEnded, IsSpent}
+use Rattle.cli_runs.specs.Reports.{HasEnded}
 use Rattle.cli_runs.specs.declared.report.Ended.{Ended}
 use Rattle.cli_runs.specs.declared.report.Ended.TheVariants as ended
 use Rattle.cli_runs.specs.declared.report.Request.{Request}
@@ -33,31 +29,11 @@ AreListed given names =
     (slice_split (λ byte. byte == 0) given ≡ names ++ [] ∷ [])
     ⊎ ((slice_split (λ byte. byte == 0) given ≡ names) × ((more : List (List ℕ)) → names ≢ more ++ [] ∷ []))
 
--- it stopped by this failure, without a hint
-abbrev pub StopsBy : Failure → Stopped → Type 0
-StopsBy failure stopped = (stopped.stop ≡ Failed failure) × (stopped.hint ≡ None)
-
 -- the explanations of these rules went out; or the output failed after a prefix of them
 abbrev pub IsExplained : Form → List FaultCode → Option (List ℕ) → Option (List ℕ) → Result (Unit {0}) Failure → Type 0
 IsExplained form rules before after result =
     ((lines : List (List Part)) × AreExplanations rules lines × Sent before after result (report_text form lines))
     × MatchResult result (λ done. Unit {0}) IsOutput
-
-module _ {W : Type 0} (before after : W) where
-  -- What reading a file gave decides: the run on its bytes; or the failure to read it, and nothing is printed.
-  abbrev pub IsFileRun : List ℕ → (List ℕ → Outcome → Type 0) → Outcome → Type 0
-  IsFileRun file run outcome =
-      (read : Result (List ℕ) Failure)
-      × MatchResult read (λ bytes. run bytes outcome) (λ failure. IsRefused file failure × IsErrAnd outcome (StopsBy failure) × (after ≡ before))
-
-  -- the budget is spent, and nothing is printed; or this run
-  abbrev pub IsWithin : Option ℕ → Input → List ℕ → (Outcome → Type 0) → Outcome → Type 0
-  IsWithin budget input bytes run outcome =
-      (IsSpent budget input bytes × IsErrAnd outcome (λ stopped. (stopped.stop ≡ BudgetSpent) × (stopped.hint ≡ None)) × (after ≡ before)) ⊎ run outcome
-
-  -- OUT is the standard output: nothing is read or printed
-  abbrev pub IsMixed : List ℕ → Outcome → Type 0
-  IsMixed path outcome = IsErrAnd outcome (λ stopped. (failure : Failure) × StopsBy failure stopped × IsUnwritten path failure) × (after ≡ before)
 
 module _ (request : Request) {W : Type 0} (contents : W → Option (List ℕ)) where
   -- these lines went out

@@ -1,8 +1,7 @@
-//! What `clim` does with files and their bytes.
+//! What `clim` prints of files and their bytes.
 //!
 //! [`report_on`] prints a [`Report`] on the bytes of a file, and [`run_files`] and [`run_listed`] read files and report on each.
-//! [`compare_files`], [`rewrite_file`], [`embed_file`] and [`explain_rules`] are the other runs. `specs/Reports.antt` says what a report prints,
-//! and when it prints nothing.
+//! [`explain_rules`] prints what rules say. `specs/Reports.antt` says what a report prints, and when it prints nothing.
 //!
 //! ```text
 //! let request = Request { report: Report::Listing(Listing::Types), form: Form::Text, naming: Naming::Alone, input: Input::File, budget: None };
@@ -10,24 +9,16 @@
 //! ```
 #![tactic(auto)]
 
-mod canonical_root;
-mod compare;
-mod embed;
 mod explain;
 mod files;
 mod listed;
-mod one_line;
 mod print_check;
 mod print_report;
 mod printed;
 mod report;
-mod rewrite;
 
-pub use compare::{CompareOptions, compare_files};
-pub use embed::{EmbedOptions, embed_file};
 pub use explain::explain_rules;
 pub use files::run_files;
 pub use listed::run_listed;
 pub use printed::report_on;
 pub use report::{Ended, Listing, Naming, Report, Request, Verdict};
-pub use rewrite::rewrite_file;

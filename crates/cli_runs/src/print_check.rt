@@ -1,13 +1,13 @@
 //! `clim check`: whether the bytes of a file break a rule.
-ghost use Rattle.std.specs.Prelude.{◌≡◌, ◌∷◌, ◌++◌, ℕ, [], IfErr, IsTrue, List, OnOk, Some, map};
+ghost use Rattle.std.specs.Prelude.{◌≡◌, ◌∷◌, ◌++◌, ℕ, [], List, Some, map};
 ghost use Rattle.std.specs.Option.{option_map};
-ghost use Rattle.cli_input.specs.Checked.{IsWhole, rules_of};
+ghost use Rattle.cli_input.specs.Checked.{rules_of};
 ghost use Rattle.cli_lines.specs.Lines.{Part};
 ghost use Rattle.cli_lines.specs.Printed.{Prints};
 ghost use Rattle.cli_print.specs.Verdicts.{verdict_line};
 ghost use Rattle.cli_regions.specs.Kept.{seen};
-ghost use Rattle.cli_runs.specs.Printing.{AreNone, HasPrinted, StopsWithin};
-ghost use Rattle.cli_runs.specs.Reports.{AreSaid, HasEnded, IsSpent, is_reported, label, verdict_lines};
+ghost use Rattle.cli_runs.specs.Printing.{AreNone, HasPrinted};
+ghost use Rattle.cli_runs.specs.Reports.{AreSaid, HasEnded, is_reported, label, verdict_lines};
 ghost use Rattle.cli_runs.specs.declared.report.Report.TheVariants as report;
 ghost use Rattle.cli_runs.specs.declared.report.Verdict.TheVariants.{Explained, Quiet};
 ghost use Rattle.cli_where.specs.Lines.{structure_line};
@@ -15,9 +15,9 @@ ghost use Rattle.packed.specs.Rule.{FirstBroken};
 
 use crate::report::{Ended, Naming, Request, Verdict};
 use cli_faults::{Failure, Stop, code_of_number};
-use cli_input::{Input, open, open_within};
 use cli_lines::{Form, Printer};
 use cli_print::{print_explanation, print_verdict};
+use cli_roots::check_within;
 use cli_where::{Reach, Structure, print_structures, structures_at};
 use opening::BoundedError;
 use packed::Fault;
@@ -55,40 +55,6 @@ pub(crate) fn check_quietly<'a>(request: &Request<'_>, bytes: &[u8]) -> Ended<'a
         Ok(()) => Ended::Printed,
         Err(BoundedError::BudgetSpent) => Ended::Refused(Stop::BudgetSpent),
         Err(BoundedError::Fault(_)) => Ended::Stopped(Stop::Broken),
-    }
-}
-
-/// Checks bytes against the rules, within a budget if there is one.
-///
-/// # Errors
-///
-/// The fault of the first rule that fails, or that the budget is spent.
-fn check_within(bytes: &[u8], input: Input, budget: Option<u64>) -> Result<(), BoundedError>
-    ensures sound { OnOk result (IsWhole input bytes.now) }
-    ensures first_error { IfErr result (StopsWithin budget input bytes.now) }
-{
-    let Some(budget) = budget else {
-        return match open(bytes, input) {
-            Ok(_) => Ok(()),
-            Err(fault) => Err(BoundedError::Fault(fault)),
-        };
-    };
-    match open_within(bytes, input, budget) {
-        Ok(_) => Ok(()),
-        Err(error) => Err(error),
-    }
-}
-
-/// Whether a budget, if there is one, is spent before all rules for the bytes are checked. Without one they are not read.
-pub(crate) fn is_spent(bytes: &[u8], input: Input, budget: Option<u64>) -> bool
-    ensures { IsTrue result → IsSpent budget input bytes.now }
-{
-    if budget.is_none() {
-        return false;
-    }
-    match check_within(bytes, input, budget) {
-        Err(BoundedError::BudgetSpent) => true,
-        Ok(()) | Err(BoundedError::Fault(_)) => false,
     }
 }
 

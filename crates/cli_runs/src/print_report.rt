@@ -9,8 +9,7 @@ ghost use Rattle.metadata.specs.Metadata.{Metadata};
 ghost use Rattle.metadata.specs.Model.{IsModel};
 ghost use Rattle.packed.specs.Rule.{FirstBroken};
 
-use crate::canonical_root::canonical_root;
-use crate::print_check::{is_spent, label_of, print_check};
+use crate::print_check::{label_of, print_check};
 use crate::report::{Ended, Listing, Report, Request, ended_by};
 use cli_cells::{Names, print_show, print_tokens, print_until_fault};
 use cli_faults::{Failure, Stop};
@@ -19,6 +18,7 @@ use cli_input::{Input, open};
 use cli_lines::Printer;
 use cli_outline::{Outcome, Subject, print_outline, print_outline_of};
 use cli_print::{print_digest, print_root, print_types};
+use cli_roots::{canonical_root, is_spent};
 use cli_where::{Found, print_strings, print_where};
 use comparison::digest;
 use opening::View;
@@ -28,8 +28,7 @@ use std::io::Write;
 use std::slice;
 use table_schema::TableId;
 
-/// Prints the lines of a report on the bytes of the file with this name, and returns how it ended. If there is a budget, the
-/// bytes are checked within it first.
+/// Prints a report on the bytes of the file with this name, after a check within the budget if there is one.
 pub(crate) fn print_report<'a, W: Write>(
     alloc: Global,
     request: &Request<'_>,
@@ -135,7 +134,6 @@ fn print_first_rows<'a, W: Write>(
 ) -> Ended<'a>
     ensures { HasPrinted request.now name.now bytes.now out.old out.new (report.ShowUntilFault table.now names) result }
 {
-    cli_cells::laws::broken_bytes_have_lines();
     match print_until_fault(alloc, bytes, request.input, tables_of(table), names, out) {
         Ok(()) => Ended::Printed,
         Err(fault) => Ended::Stopped(Stop::Failed(Failure::Fault(fault))),
@@ -157,6 +155,7 @@ fn print_type<'a, W: Write>(
         Ok(view) => match print_outline_of(alloc, &view, subject, out) {
             Outcome::Printed => Ended::Printed,
             Outcome::NoSuchType => Ended::Refused(Stop::NoSuchType),
+            Outcome::OutOfMemory => Ended::Refused(Stop::Failed(Failure::OutOfMemory)),
         },
         Err(fault) => Ended::Refused(Stop::Failed(Failure::Fault(fault))),
     }

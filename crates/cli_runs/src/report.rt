@@ -77,7 +77,7 @@ pub struct Request<'a> {
     pub naming: Naming,
     /// What its bytes are.
     pub input: Input,
-    /// The largest number of signature blob bytes (II.23.2) that are checked, if there is a limit.
+    /// The largest number of bytes of texts and signature blobs that are checked, if there is a limit.
     pub budget: Option<u64>,
 }
 

@@ -1,37 +1,27 @@
 -- The entries of heaps: where they are, and which of them have a byte.
-use Rattle.std.specs.Prelude.{Option, None, Some, ◌&&◌, ◌||◌, ◌⊎◌, Bool, false, nat_le, nat_lt, suc}
+use Rattle.std.specs.Prelude.{Option, None, Some, ◌⊎◌, nat_le, nat_lt, suc}
 use Rattle.std.proofs.Common.{◌≡◌, ◌≢◌, ◌∙◌, ℕ, ◌+◌, ◌-◌, ◌*◌, ◌<◌, ◌≤◌, true, List, ◌∷◌, ◌++◌, length, take, drop, slice_index, inl, inr, refl, sym, ap, subst, arith, length-append, length-drop}
-use Rattle.std.proofs.lemmas.Bool.{both_ways, leb-true, le-leb}
+use Rattle.std.proofs.lemmas.Bool.{and_from, and_parts, leb-true, le-leb}
 use Rattle.std.proofs.lemmas.List.{take-append-drop, get_or-take, get_or-drop, drop_more, drop_at, get_or_append_left, get_or_at, length-take-le}
 use Rattle.std.proofs.lemmas.List.Elements.{All-from_get_or}
 use Rattle.heap_entries.specs.Entries.{IsCounted, IsEnded, IsGuidEntry}
 use Rattle.packed.specs.Packed.{IsPacked}
-use Rattle.table_schema.specs.declared.column.ColumnKind.{ColumnKind}
-use Rattle.table_schema.specs.declared.column.ColumnKind.TheVariants as kind
-use Rattle.cli_where.specs.Kept.{IsRun, IsRunAt, IsRunOf, is_in_heap, is_in_heaps}
+use Rattle.cli_where.specs.Kept.{IsRun, IsRunAt, IsRunOf}
 use Rattle.cli_where.specs.declared.entries.Run.{Run}
-use Rattle.cli_where.specs.Entries.{Heap, Heaps, IsBlobAt, IsGuidAt, IsNamed, IsStringAt}
+use Rattle.cli_where.specs.Entries.{Heap}
 use Rattle.cli_regions.specs.Regions.{has_byte}
-
-both : (a b : Bool) → (a && b) ≡ true → (a ≡ true) × (b ≡ true)
-both true b is = (refl, is)
-both false b is = cc
-
-both_so : (a b : Bool) → a ≡ true → b ≡ true → (a && b) ≡ true
-both_so true b a is = is
-both_so false b a is = cc
 
 -- a structure has a byte if and only if the byte is from its first one on and before its end
 pub has_from : (start size offset : ℕ) → has_byte start size offset ≡ true → (start ≤ offset) × (offset < start + size)
 has_from start size offset has =
-    let is = both (nat_le start offset) (nat_lt (offset - start) size) has in
+    let is = and_parts (nat_le start offset) (nat_lt (offset - start) size) has in
     let from = leb-true start offset is.0 in
     let before = leb-true (suc (offset - start)) size is.1 in
     (from, omega (arith, from, before))
 
 pub has_so : (start size offset : ℕ) → start ≤ offset → offset < start + size → has_byte start size offset ≡ true
 has_so start size offset from before =
-    both_so (nat_le start offset) (nat_lt (offset - start) size) (le-leb start offset from) (le-leb (suc (offset - start)) size (omega (arith, from, before)))
+    and_from (nat_le start offset) (nat_lt (offset - start) size) (le-leb start offset from) (le-leb (suc (offset - start)) size (omega (arith, from, before)))
 
 module _ (heap : List ℕ) (index : ℕ) (bytes : List ℕ) (e : IsEnded heap index bytes) where
   tail_is : drop index heap ≡ bytes ++ 0 ∷ e.after
@@ -131,52 +121,3 @@ module _ (heap : Heap) (offset : ℕ) where
       let within = string_within heap.bytes index is.text is.stands in
       none (index + length is.text) (omega (arith, range.1, at, from, long)) (omega (arith, within)) (nul_after heap.bytes index is.text is.stands)
   run_is byte at (Some run) is = (byte, at, is)
-
-or_none : (a b : Bool) → (a || b) ≡ false → (a ≡ false) × (b ≡ false)
-or_none true b is = cc
-or_none false b is = (refl, is)
-
--- a heap has each byte of its entries
-module _ (heap : Heap) (offset index start size : ℕ) (out : is_in_heap heap offset ≡ false) (has : has_byte start size offset ≡ true) where
-  entry_in : (from : ℕ) → start ≡ heap.start + from → from + size ≤ length heap.bytes → ⊥
-  entry_in from at within =
-      let range = has_from start size offset has in
-      both_ways (is_in_heap heap offset) out (has_so heap.start (length heap.bytes) offset (omega (arith, range.0, at)) (omega (arith, range.1, at, within)))
-
-  string_in : IsStringAt heap index start size → ⊥
-  string_in is =
-      let long = is.long in
-      entry_in index is.from (omega (arith, long, string_within heap.bytes index is.text is.stands))
-
-  guid_in : IsGuidAt heap index start size → ⊥
-  guid_in is =
-      let s = is.stands in
-      let long = is.long in
-      let whole = ap (length {A = ℕ}) s.whole in
-      let at = s.at in
-      entry_in (16 * (index - 1)) is.from (omega (arith, long, whole, at, s.long, length-append s.before (is.guid ++ s.after), length-append is.guid s.after))
-
-  blob_in : IsBlobAt heap index start size → ⊥
-  blob_in is =
-      let s = is.stands in
-      let long = is.long in
-      let whole = ap (length {A = ℕ}) s.whole in
-      let at = s.at in
-      entry_in index is.from (omega (arith, long, whole, at, length-append s.before (s.count ++ (is.blob ++ s.after)), length-append s.count (is.blob ++ s.after), length-append is.blob s.after))
-
-of_kind : (heaps : Heaps) (offset : ℕ) → is_in_heap heaps.texts offset ≡ false → is_in_heap heaps.guids offset ≡ false → is_in_heap heaps.blobs offset ≡ false
-    → (column : ColumnKind) (index start size : ℕ) → IsNamed heaps column index start size → has_byte start size offset ≡ true → ⊥
-of_kind heaps offset texts guids blobs kind.Text index start size is has = string_in heaps.texts offset index start size texts has is
-of_kind heaps offset texts guids blobs kind.Guid index start size is has = guid_in heaps.guids offset index start size guids has is
-of_kind heaps offset texts guids blobs kind.Blob index start size is has = blob_in heaps.blobs offset index start size blobs has is
-of_kind heaps offset texts guids blobs (kind.Signature signature) index start size is has = blob_in heaps.blobs offset index start size blobs has is
-of_kind heaps offset texts guids blobs _ index start size is has = absurd is
-
--- no heap that cells index has the byte, so no entry has it
-pub none_in : (heaps : Heaps) (offset : ℕ) → is_in_heaps heaps offset ≡ false → (column : ColumnKind) (index start size : ℕ) → IsNamed heaps column index start size
-    → has_byte start size offset ≡ true → ⊥
-unfolding is_in_heaps
-none_in heaps offset none column index start size is has =
-    let last = or_none (is_in_heap heaps.texts offset || is_in_heap heaps.guids offset) (is_in_heap heaps.blobs offset) none in
-    let others = or_none (is_in_heap heaps.texts offset) (is_in_heap heaps.guids offset) last.0 in
-    of_kind heaps offset others.0 others.1 last.1 column index start size is has

@@ -2,4 +2,3 @@ pub mod FindLemmas
 pub mod EntryLemmas
 pub mod NamedLemmas
 pub mod UserLemmas
-pub mod WalkLemmas

@@ -1,5 +1,7 @@
 -- The first entries that contain a byte.
-use Rattle.std.proofs.Common.{◌≡◌, ℕ, zero, suc, ◌-◌, ◌≢◌, List, [], ◌∷◌, ◌++◌, refl, sym, subst, arith, append_assoc, append-nil, inl, inr}
+use Rattle.std.proofs.Common.{◌≡◌, ◌∙◌, ℕ, zero, suc, ◌+◌, ◌-◌, ◌≤◌, ◌≢◌, List, [], ◌∷◌, ◌++◌, refl, ap, sym, subst, arith, append_assoc, append-nil, inl, inr}
+use Rattle.std.specs.List.{flat_map, range_with_len}
+use Rattle.std.proofs.lemmas.List.{flat_map_more}
 use Rattle.std.specs.Prelude.{Option, Some, None}
 use Rattle.rows.specs.Cells.{Stream}
 use Rattle.schema.specs.declared.located_cells.TableCell.{TableCell}
@@ -23,11 +25,6 @@ module _ (IsOf : TableCell → Option Region → Type 0) where
   no_cells : (most : ℕ) → AreFirst IsOf most [] []
   no_cells zero = refl
   no_cells (suc most) = refl
-
-  pub nothing_first : ((cell : TableCell) → IsOf cell None) → (most : ℕ) (cells : List TableCell) → AreFirst IsOf most cells []
-  nothing_first none zero cells = refl
-  nothing_first none (suc most) [] = refl
-  nothing_first none (suc most) (cell ∷ cells) = (none cell, nothing_first none (suc most) cells)
 
 module _ {target : Target} {stream : Stream} where
   -- the entries of some cells, and then those of others
@@ -86,16 +83,14 @@ module _ {target : Target} {stream : Stream} where
         joins = finds.joins;
       }
 
--- with the entries of the cells that are left, the search has found those of all cells
-abbrev pub CompletesFirst : Target → Stream → ℕ → ℕ → List TableCell → List TableCell → Searched → Searched → Type 0
-CompletesFirst target stream most left tail all old now =
-    (last : ℕ) (later : Searched) → FindsFirst target stream left last tail now later → FindsFirst target stream most last all old later
+-- the cells of one more row
+range_more : (a n j : ℕ) → a + n ≡ j → range_with_len a (n + 1) ≡ range_with_len a n ++ j ∷ []
+range_more a zero j is = let same : a ≡ j = omega (arith, is) in ap (λ k. k ∷ []) same
+range_more a (suc n) j is =
+    let next : suc n + 1 ≡ suc (n + 1) = omega arith in
+    ap (range_with_len a) next ∙ ap (λ xs. a ∷ xs) (range_more (a + 1) n j (omega (arith, is)))
 
-pub more_cells : {target : Target} {stream : Stream} {most left next : ℕ} {all first : List TableCell} {old now new : Searched} (before tail : List TableCell)
-    → CompletesFirst target stream most left before all old now → before ≡ first ++ tail → FindsFirst target stream left next first now new
-    → CompletesFirst target stream most next tail all old new
-more_cells before tail completes is finds = λ last later remainder. completes last later (finds_as (finds_more finds remainder) (sym is))
-
-pub no_more_cells : {target : Target} {stream : Stream} {most left : ℕ} {all : List TableCell} {old now : Searched} (tail : List TableCell)
-    → CompletesFirst target stream most left tail all old now → tail ≡ [] → FindsFirst target stream most left all old now
-no_more_cells {target} {stream} {most} {left} {all} {old} {now} tail completes none = completes left now (finds_as (finds_nothing left now) (sym none))
+pub rows_more : {X : Type 0} (f : ℕ → List X) (row : ℕ) → 1 ≤ row → flat_map f (range_with_len 1 (row - 1)) ++ f row ≡ flat_map f (range_with_len 1 (row + 1 - 1))
+rows_more f row some =
+    let next : row - 1 + 1 ≡ row + 1 - 1 = omega (arith, some) in
+    flat_map_more f [] (range_with_len 1 (row - 1)) row ∙ ap (flat_map f) (sym (range_more 1 (row - 1) row (omega (arith, some))) ∙ ap (range_with_len 1) next)

@@ -69,13 +69,7 @@ IsNamed heaps kind.Text index start size = IsStringAt heaps.texts index start si
 IsNamed heaps kind.Guid index start size = IsGuidAt heaps.guids index start size
 IsNamed heaps kind.Blob index start size = IsBlobAt heaps.blobs index start size
 IsNamed heaps (kind.Signature signature) index start size = IsBlobAt heaps.blobs index start size
-IsNamed heaps kind.U8 index start size = ⊥
-IsNamed heaps kind.U16 index start size = ⊥
-IsNamed heaps kind.U32 index start size = ⊥
-IsNamed heaps kind.Padding index start size = ⊥
-IsNamed heaps (kind.Row table) index start size = ⊥
-IsNamed heaps (kind.Coded coded) index start size = ⊥
-IsNamed heaps (kind.List table) index start size = ⊥
+IsNamed heaps _ index start size = ⊥
 
 -- the heap that a column of a kind indexes
 abbrev pub heap_named : ColumnKind → Kind

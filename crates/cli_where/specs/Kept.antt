@@ -1,5 +1,5 @@
 -- What a program keeps of the heaps while it looks for the entries that have a byte.
-use Rattle.std.specs.Prelude.{◌≡◌, ◌≢◌, ℕ, ◌+◌, ◌-◌, ◌<◌, ◌≤◌, ◌||◌, Bool, List, ◌++◌, length, true, Option, None, Some, slice_index}
+use Rattle.std.specs.Prelude.{◌≡◌, ◌≢◌, ℕ, ◌+◌, ◌-◌, ◌<◌, ◌≤◌, List, ◌++◌, length, true, Option, None, Some, slice_index}
 use Rattle.cli_where.specs.declared.entries.Heap.{Heap as KeptHeap}
 use Rattle.cli_where.specs.declared.entries.Run.{Run}
 use Rattle.cli_where.specs.declared.entries.Target.{Target}
@@ -14,14 +14,6 @@ heap_of heap = record { bytes = heap.bytes.now; start = heap.start }
 
 abbrev pub heaps_of : Target → Heaps
 heaps_of target = record { texts = heap_of target.texts; guids = heap_of target.guids; blobs = heap_of target.blobs }
-
--- a heap has the byte at an offset of the file
-abbrev pub is_in_heap : Heap → ℕ → Bool
-is_in_heap heap offset = has_byte heap.start (length heap.bytes) offset
-
--- a heap that cells index has the byte
-unfoldable pub is_in_heaps : Heaps → ℕ → Bool
-is_in_heaps heaps offset = is_in_heap heaps.texts offset || is_in_heap heaps.guids offset || is_in_heap heaps.blobs offset
 
 -- The bytes from `first` up to the NUL at `end` have no NUL, and this byte is one of them or that NUL. The run begins
 -- the heap or follows a NUL. So the string at an index has the byte if and only if the index is from `first` up to it.

@@ -3,9 +3,8 @@ ghost use Rattle.std.specs.Prelude.{◌≡◌, ◌≤◌, ◌<◌, ◌+◌, ℕ,
 ghost use Rattle.std.specs.Option.{option_map};
 ghost use Rattle.heap_entries.specs.Entries.{IsCounted};
 ghost use Rattle.root.specs.Streams.{range_of, stream_of};
-ghost use Rattle.table_schema.specs.declared.column.ColumnKind.{ColumnKind as TheKind};
 ghost use Rattle.cli_where.specs.Entries.{IsBlobAt, IsGuidAt, IsNamed, IsStringAt, heap_at, heap_named};
-ghost use Rattle.cli_where.specs.Kept.{AreReady, IsLow, IsRunAt, IsRunOf, heap_of, heaps_of, is_in_heap, is_in_heaps};
+ghost use Rattle.cli_where.specs.Kept.{AreReady, IsLow, IsRunAt, IsRunOf, heap_of, heaps_of};
 ghost use Rattle.cli_regions.specs.Regions.{has_byte};
 
 use cli_regions::has_byte;
@@ -251,23 +250,4 @@ pub(crate) fn heap_named(kind: ColumnKind) -> Kind
         ColumnKind::Guid => Kind::Guids,
         _ => Kind::Blobs,
     }
-}
-
-/// Whether a heap has the byte.
-fn is_in(heap: Heap<'_>, offset: u64) -> bool
-    requires { IsLow heap }
-    ensures { result ≡ is_in_heap (heap_of heap.entry) offset }
-{
-    has_byte(heap.start, heap.bytes.len() as u64, offset)
-}
-
-/// Whether a heap that cells index has the byte. It takes constant time.
-#[tactic(auto, unfolding(crate::specs::Kept::is_in_heaps))]
-pub(crate) fn is_in_heaps(target: &Target<'_>) -> bool
-    requires { AreReady target.now }
-    ensures { result ≡ is_in_heaps (heaps_of target.now) target.now.offset }
-{
-    is_in(target.texts, target.offset)
-        || is_in(target.guids, target.offset)
-        || is_in(target.blobs, target.offset)
 }

@@ -1,13 +1,11 @@
 //! The heap entries that contain a byte, by the cells that refer to them.
-ghost use Rattle.std.specs.Prelude.{◌≡◌, ◌≤◌, ◌<◌, ◌∷◌, [], ℕ, IfSome, IfNone, length, true};
+ghost use Rattle.std.specs.Prelude.{◌≡◌, ◌≤◌, ◌<◌, ◌∷◌, [], length};
 ghost use Rattle.table_schema.specs.Columns.{columns_of};
 ghost use Rattle.schema.specs.Sizes.{count_of};
-ghost use Rattle.cli_regions.specs.Kept.{Finds};
-ghost use Rattle.cli_regions.specs.Regions.{has_byte};
-ghost use Rattle.cli_where.specs.Entries.{AreEntriesAt, IsNamedBy, all_cells, kind_of, row_cells, table_cells};
-ghost use Rattle.cli_where.specs.Kept.{AreReady, FindsFirst, FindsEntries, heaps_of};
+ghost use Rattle.cli_where.specs.Entries.{kind_of, row_cells, table_cells};
+ghost use Rattle.cli_where.specs.Kept.{AreReady, FindsFirst, FindsEntries};
 
-use crate::entries::{Span, Target, entry_at, heap_named, is_in_heaps};
+use crate::entries::{Target, entry_at, heap_named};
 use cli_regions::{Search, Structure, What};
 use rows::Rows;
 use schema::TableCell;
@@ -22,19 +20,6 @@ fn kind_of(cell: TableCell) -> ColumnKind
     ensures { result ≡ kind_of cell }
 {
     columns(cell.table)[cell.column].kind
-}
-
-/// The entry that a cell refers to, if it contains the byte.
-fn entry_of(rows: &Rows<'_>, target: &Target<'_>, cell: TableCell) -> Option<Span>
-    requires ready { AreReady target.now }
-    requires first { 1 ≤ cell.row }
-    requires last { cell.row ≤ count_of rows.now.sizes cell.table }
-    requires column { cell.column < length (columns_of cell.table) }
-    ensures sound { IfSome result (λ span. IsNamedBy (heaps_of target.now) rows.now.bytes rows.now.sizes cell span.start span.size × (has_byte span.start span.size target.now.offset ≡ true)) }
-    ensures none { IfNone result ((start size : ℕ) → IsNamedBy (heaps_of target.now) rows.now.bytes rows.now.sizes cell start size → has_byte start size target.now.offset ≡ true → ⊥) }
-{
-    let number = rows.number(cell.table, cell.row, cell.column);
-    entry_at(target, kind_of(cell), number)
 }
 
 /// Keeps the entry that a cell refers to, if it contains the byte, unless the greatest number of entries is 0.
@@ -55,12 +40,13 @@ fn find_named(
     if most == 0 {
         return 0;
     }
-    match entry_of(rows, target, cell) {
+    let kind = kind_of(cell);
+    match entry_at(target, kind, rows.number(cell.table, cell.row, cell.column)) {
         Some(span) => {
             found.keep(Structure {
                 start: span.start,
                 size: span.size,
-                what: What::Entry(heap_named(kind_of(cell)), cell),
+                what: What::Entry(heap_named(kind), cell),
             });
             most - 1
         }
@@ -105,9 +91,6 @@ fn find_table_entries(
 {
     let mut left = most;
     for row in 1..rows.layout().count(table) + 1 {
-        if left == 0 {
-            return 0;
-        }
         left = find_row_entries(rows, target, table, row, left, found);
     }
     left
@@ -115,23 +98,12 @@ fn find_table_entries(
 
 /// Keeps the entries that contain the byte, for the first ten cells that refer to one. It reads all cells.
 #[tactic(auto, unfolding(crate::specs::Entries::all_cells))]
-fn find_all_entries(rows: &Rows<'_>, target: &Target<'_>, found: &mut Search<'_>)
+pub(crate) fn find_entries(rows: &Rows<'_>, target: &Target<'_>, found: &mut Search<'_>)
     requires ready { AreReady target.now }
     ensures { FindsEntries target.now rows.now found.old found.new }
 {
     let mut left = MOST_CELLS;
     for table in TableId::all() {
         left = find_table_entries(rows, target, *table, left, found);
-    }
-}
-
-/// Keeps the entries that contain the byte, for the first ten cells that refer to one. It reads no cell if no heap contains
-/// the byte.
-pub(crate) fn find_entries(rows: &Rows<'_>, target: &Target<'_>, found: &mut Search<'_>)
-    requires ready { AreReady target.now }
-    ensures { FindsEntries target.now rows.now found.old found.new }
-{
-    if is_in_heaps(target) {
-        find_all_entries(rows, target, found);
     }
 }

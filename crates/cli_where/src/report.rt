@@ -26,26 +26,21 @@ pub enum Found {
     Nothing,
 }
 
-/// Whether there is a structure.
-fn found_of(structures: &[Structure<'_>]) -> Found
-    ensures { result ≡ found_of (map seen structures.now) }
-{
-    if structures.is_empty() {
-        Found::Nothing
-    } else {
-        Found::Something
-    }
-}
-
 /// Prints the lines of structures; `nothing` if there is none.
-fn print_found<W: Write>(alloc: Global, structures: &[Structure<'_>], out: &mut Printer<'_, W>)
-    ensures { Prints out.old out.new (where_lines (map seen structures.now)) }
+fn print_found<W: Write>(
+    alloc: Global,
+    structures: &[Structure<'_>],
+    out: &mut Printer<'_, W>,
+) -> Found
+    ensures found { result ≡ found_of (map seen structures.now) }
+    ensures lines { Prints out.old out.new (where_lines (map seen structures.now)) }
 {
     if structures.is_empty() {
         out.line(&[Word("nothing")]);
-    } else {
-        print_structures(alloc, structures, out);
+        return Found::Nothing;
     }
+    print_structures(alloc, structures, out);
+    Found::Something
 }
 
 /// Prints what the byte at an offset belongs to. The offset counts from the first byte.
@@ -68,8 +63,8 @@ fn print_found<W: Write>(alloc: Global, structures: &[Structure<'_>], out: &mut 
 ///
 /// If no structure contains the byte, or the offset is not before the end, it prints `nothing`, or no line of JSON. Of bytes
 /// that break a rule it prints the lines of the layers that break none, down to the cells. After opening it takes one pass
-/// over the sections, one over `#US`, and if a heap contains the byte one over the cells, so its time is that of opening. It
-/// copies `#US` if its size is no multiple of four.
+/// over the sections, one over `#US` and one over the cells, so its time is that of opening. It copies `#US` if its size is no
+/// multiple of four.
 ///
 /// # Errors
 ///
@@ -100,10 +95,7 @@ fn print_entire<W: Write>(
     ensures { HasFound input bytes.now offset out.old out.new result }
 {
     match structures_at(alloc, bytes, input, Reach::Entries, offset) {
-        Ok(found) => {
-            print_found(alloc, &found, out);
-            Ok(found_of(&found))
-        }
+        Ok(found) => Ok(print_found(alloc, &found, out)),
         Err(_) => Err(Failure::OutOfMemory),
     }
 }

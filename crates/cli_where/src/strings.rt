@@ -1,8 +1,8 @@
 //! Prints the user strings of a file.
-ghost use Rattle.std.specs.Prelude.{◌≡◌, ◌∷◌, [], ◌<◌, ◌^◌, List, flat_map};
+ghost use Rattle.std.specs.Prelude.{◌<◌, ◌^◌, List, flat_map};
 ghost use Rattle.heap_entries.specs.Padding.{zero_padded};
 ghost use Rattle.cli_lines.specs.Printed.{Prints};
-ghost use Rattle.cli_where.specs.Lines.{entry_lines, string_line, string_lines};
+ghost use Rattle.cli_where.specs.Lines.{entry_lines, string_lines};
 ghost use Rattle.cli_where.specs.Located.{AreListed, HasEntries};
 ghost use Rattle.cli_where.specs.UserStrings.{AreEntries, Entry};
 
@@ -71,21 +71,17 @@ fn print_entries<W: Write>(heap: &[u8], out: &mut Printer<'_, W>)
 }
 
 /// Prints the line of the user string at an offset, unless it has no bytes.
+#[tactic(auto, unfolding(crate::specs::Lines::string_line))]
 fn print_entry<W: Write>(offset: u32, string: &UserString<'_>, out: &mut Printer<'_, W>)
     requires { offset < 2 ^ 24 }
     ensures { Prints out.old out.new (string_lines offset string.now string.now.flag) }
 {
     cli_lines::laws::lines_follow::<W>();
     match string.flag() {
-        Some(_) => print_line(USER_STRINGS + offset, string, out),
+        Some(_) => {
+            let token = USER_STRINGS + offset;
+            out.line(&[Field(Name::Token, Hex(token)), Word(" "), Units(string)]);
+        }
         None => {}
     }
-}
-
-/// Prints the line of a user string with a token.
-#[tactic(auto, unfolding(crate::specs::Lines::string_line))]
-fn print_line<W: Write>(token: u32, string: &UserString<'_>, out: &mut Printer<'_, W>)
-    ensures { Prints out.old out.new (string_line token string.now ∷ []) }
-{
-    out.line(&[Field(Name::Token, Hex(token)), Word(" "), Units(string)]);
 }

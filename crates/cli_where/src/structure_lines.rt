@@ -78,25 +78,8 @@ fn entry_word(heap: Kind) -> &'static str
     }
 }
 
-/// Fails, because memory ran out.
-fn print_failure<W: Write>(of: Structure<'_>, words: Words<'_>, out: &mut Printer<'_, W>)
-    ensures { Prints out.old out.new (line_with of.entry.start of.entry.size (some_words (words_text words.entry)) ∷ []) }
-{
-    cli_lines::laws::parts_follow::<W>();
-    out.begin(&[]);
-    out.fail();
-    out.end();
-}
-
-/// Prints the line of a structure with this text.
-#[tactic(auto, unfolding(crate::specs::Lines::line_with))]
-fn print_text<W: Write>(of: Structure<'_>, text: &str, out: &mut Printer<'_, W>)
-    ensures { Prints out.old out.new (line_with of.entry.start of.entry.size (some_words text.now) ∷ []) }
-{
-    out.line(line![of; Field(Name::Structure, Plain(text))]);
-}
-
 /// Prints the line of a structure with these words.
+#[tactic(auto, unfolding(crate::specs::Lines::line_with))]
 fn print_words<W: Write>(
     alloc: Global,
     of: Structure<'_>,
@@ -106,8 +89,8 @@ fn print_words<W: Write>(
     ensures { Prints out.old out.new (line_with of.entry.start of.entry.size (some_words (words_text words.entry)) ∷ []) }
 {
     match words.to_string(alloc) {
-        Ok(text) => print_text(of, &text, out),
-        Err(_) => print_failure(of, words, out),
+        Ok(text) => out.line(line![of; Field(Name::Structure, Plain(&text))]),
+        Err(_) => out.fail(),
     }
 }
 

@@ -1,5 +1,5 @@
 //! Walks over a file, entire or broken, down to a byte.
-ghost use Rattle.std.specs.Prelude.{◌≡◌, ◌≤◌, IfOk, length, map};
+ghost use Rattle.std.specs.Prelude.{◌≤◌, IfOk, length, map};
 ghost use Rattle.cli_regions.specs.Kept.{Finds, seen};
 ghost use Rattle.root.specs.declared.kind.Kind.TheVariants.{Tables};
 ghost use Rattle.cli_where.specs.Entries.{heap_at};

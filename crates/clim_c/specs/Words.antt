@@ -31,7 +31,7 @@ pub use Rattle.metadata.specs.Valid.{IsValid}
 pub use Rattle.reading.specs.Shown.{ShowsSignature}
 pub use Rattle.opening.specs.Heads.{rules_of_heads}
 pub use Rattle.opening.specs.Views.{AreFound, HasImage, HasModel, row_count, user_of}
-pub use Rattle.opening.specs.Within.{HoldBeforeSignatures, signature_bytes_in, signature_bytes_in_file}
+pub use Rattle.opening.specs.Within.{IsSpentIn, IsSpentInFile, Left, named_bytes_in, named_bytes_in_file}
 pub use Rattle.cli_faults.specs.declared.explained.Explanation.{Explanation as Explained}
 pub use Rattle.root_writer.specs.Canonical.{canonical}
 pub use Rattle.embedding.specs.declared.strong_name.StrongName.{StrongName}

@@ -1,6 +1,6 @@
 ghost use Rattle.std.specs.Prelude.{◌≡◌, ◌≤◌, ◌<◌, IsTrue, IfSome, IfNone, true, false};
 ghost use Rattle.clim_c.specs.Faults.{fault_of, IsWhole};
-ghost use Rattle.clim_c.specs.Words.{CliHeader, FirstBroken, HasImage, HasModel, HoldBeforeSignatures, OnFalse, OnTrue, root_in, rules_of_file, rules_of_metadata, signature_bytes_in, signature_bytes_in_file};
+ghost use Rattle.clim_c.specs.Words.{CliHeader, FirstBroken, HasImage, HasModel, IsSpentIn, IsSpentInFile, Left, OnFalse, OnTrue, named_bytes_in, named_bytes_in_file, root_in, rules_of_file, rules_of_metadata};
 
 use crate::fault::ClimFault;
 use crate::view::ClimView;
@@ -106,10 +106,11 @@ pub extern "C" fn clim_open<'a>(
     }
 }
 
-/// Whether a file meets all rules, within a budget: the number of signature blob bytes that it may check at most.
+/// Whether a file meets all rules, within a budget: the number of bytes of texts and of signature blobs that it may check
+/// at most.
 ///
 /// If it is false, `spent` says why: the budget is spent, or `fault` is the fault of the first rule that fails. The budget
-/// is spent only if the lengths of the signature blobs of all rows add up to more, and all earlier rules hold.
+/// is spent only if the texts and the signature blobs of all rows count more bytes, and all earlier rules hold.
 #[unsafe(no_mangle)]
 pub extern "C" fn clim_check_within(
     file: &[u8],
@@ -118,10 +119,9 @@ pub extern "C" fn clim_check_within(
     spent: &mut bool,
 ) -> bool
     ensures sound { OnTrue result (IsWhole file.now) }
-    ensures complete { IsWhole file.now → signature_bytes_in_file file.now ≤ budget → IsTrue result }
+    ensures complete { IsWhole file.now → named_bytes_in_file file.now ≤ budget → IsTrue result }
     ensures first_error { OnFalse result (OnFalse spent.new (FirstBroken (rules_of_file file.now) (fault_of fault.new))) }
-    ensures spent { OnTrue spent.new ((result ≡ false) × (budget < signature_bytes_in_file file.now)
-        × HoldBeforeSignatures (rules_of_file file.now)) }
+    ensures spent { OnTrue spent.new ((result ≡ false) × IsSpentInFile (Left budget) file.now) }
     ensures same { OnTrue result (fault.new ≡ fault.old) }
     ensures quiet { OnTrue spent.new (fault.new ≡ fault.old) }
 {
@@ -145,10 +145,9 @@ pub extern "C" fn clim_check_root_within(
     spent: &mut bool,
 ) -> bool
     ensures sound { OnTrue result (HasModel root.now) }
-    ensures complete { HasModel root.now → signature_bytes_in root.now ≤ budget → IsTrue result }
+    ensures complete { HasModel root.now → named_bytes_in root.now ≤ budget → IsTrue result }
     ensures first_error { OnFalse result (OnFalse spent.new (FirstBroken (rules_of_metadata 0 root.now) (fault_of fault.new))) }
-    ensures spent { OnTrue spent.new ((result ≡ false) × (budget < signature_bytes_in root.now)
-        × HoldBeforeSignatures (rules_of_metadata 0 root.now)) }
+    ensures spent { OnTrue spent.new ((result ≡ false) × IsSpentIn (Left budget) 0 root.now) }
     ensures same { OnTrue result (fault.new ≡ fault.old) }
     ensures quiet { OnTrue spent.new (fault.new ≡ fault.old) }
 {
@@ -174,10 +173,9 @@ pub extern "C" fn clim_open_root_within<'a>(
     spent: &mut bool,
 ) -> bool
     ensures sound { OnTrue result (HasModel root.now × (view.new.is_open ≡ true) × (view.new.root.now ≡ root.now)) }
-    ensures complete { HasModel root.now → signature_bytes_in root.now ≤ budget → IsTrue result }
+    ensures complete { HasModel root.now → named_bytes_in root.now ≤ budget → IsTrue result }
     ensures first_error { OnFalse result (OnFalse spent.new (FirstBroken (rules_of_metadata 0 root.now) (fault_of fault.new))) }
-    ensures spent { OnTrue spent.new ((result ≡ false) × (budget < signature_bytes_in root.now)
-        × HoldBeforeSignatures (rules_of_metadata 0 root.now)) }
+    ensures spent { OnTrue spent.new ((result ≡ false) × IsSpentIn (Left budget) 0 root.now) }
     ensures same { OnFalse result (view.new ≡ view.old) }
     ensures quiet { OnTrue result (fault.new ≡ fault.old) }
     ensures unreported { OnTrue spent.new (fault.new ≡ fault.old) }
@@ -208,10 +206,9 @@ pub extern "C" fn clim_open_within<'a>(
 ) -> bool
     ensures sound { OnTrue result (view.new.is_open ≡ true) }
     ensures header { OnTrue result (∥ ((header : CliHeader) × HasImage file.now header × (view.new.root.now ≡ root_in file.now header)) ∥₁) }
-    ensures complete { IsWhole file.now → signature_bytes_in_file file.now ≤ budget → IsTrue result }
+    ensures complete { IsWhole file.now → named_bytes_in_file file.now ≤ budget → IsTrue result }
     ensures first_error { OnFalse result (OnFalse spent.new (FirstBroken (rules_of_file file.now) (fault_of fault.new))) }
-    ensures spent { OnTrue spent.new ((result ≡ false) × (budget < signature_bytes_in_file file.now)
-        × HoldBeforeSignatures (rules_of_file file.now)) }
+    ensures spent { OnTrue spent.new ((result ≡ false) × IsSpentInFile (Left budget) file.now) }
     ensures same { OnFalse result (view.new ≡ view.old) }
     ensures quiet { OnTrue result (fault.new ≡ fault.old) }
     ensures unreported { OnTrue spent.new (fault.new ≡ fault.old) }

@@ -1,10 +1,7 @@
 -- What is noted of two cells is so in each row with the same numbers.
-use Rattle.std.proofs.Common.{◌≡◌, ◌∙◌, ◌≤◌, ◌<◌, ℕ, Bool, List, Option, Some, None, refl, ap, ap₂, sym, subst, cond}
+use Rattle.std.proofs.Common.{◌≡◌, ◌∙◌, ◌+◌, ◌≤◌, ◌<◌, ℕ, Bool, true, false, List, Option, Some, None, ap, ap₂, sym, subst, cond, arith}
 use Rattle.std.specs.Prelude.{IfSome}
-use Rattle.std.specs.declared.cmp.Ordering.{Ordering}
-use Rattle.std.specs.declared.cmp.Ordering.TheVariants.{Less, Equal, Greater}
-use Rattle.std.specs.Ordering.{is_eq, nat_cmp, ordering_then}
-use Rattle.std.proofs.lemmas.Map.Lookups.{exact_unsigned}
+use Rattle.std.specs.Ordering.{is_eq}
 use Rattle.table_schema.specs.declared.table.TableId.{TableId}
 use Rattle.table_schema.specs.declared.column.ColumnKind.{ColumnKind}
 use Rattle.table_schema.specs.declared.column.ColumnKind.TheVariants as kind
@@ -23,51 +20,49 @@ use Rattle.reading.specs.Shown.{Shows, ShowsCell}
 use Rattle.reading.specs.declared.cell_ref.CellRef.{CellRef}
 use Rattle.opening.specs.Views.{row_count}
 use Rattle.comparison.specs.declared.compared_cells.ComparedCells.{ComparedCells}
-use Rattle.comparison.specs.ComparedCells.{AreOutcomes, IsInHeap, IsOutcome, key_cmp, outcome_at}
+use Rattle.comparison.specs.declared.compared_cells.Outcome.{Outcome}
+use Rattle.comparison.specs.ComparedCells.{AreOutcomes, IsInHeap, IsNoted, IsOutcome, key_cmp, outcome_at}
 use Rattle.comparison.specs.SameCells.{is_same_cell}
 
--- ---- keys
-
-both_equal : (a b : Ordering) → ordering_then a b ≡ Equal → (a ≡ Equal) × (b ≡ Equal)
-both_equal Less b is = cc
-both_equal Equal b is = (refl, is)
-both_equal Greater b is = cc
-
--- keys that compare equal are equal, part by part
-pub same_key : (a b : ℕ × ℕ × ℕ) → key_cmp a b ≡ Equal → (a.0 ≡ b.0) × (a.1 ≡ b.1) × (a.2 ≡ b.2)
-same_key a b is =
-    let last = both_equal (ordering_then (nat_cmp a.0 b.0) (nat_cmp a.1 b.1)) (nat_cmp a.2 b.2) is in
-    let first = both_equal (nat_cmp a.0 b.0) (nat_cmp a.1 b.1) last.0 in
-    (exact_unsigned a.0 b.0 first.0, exact_unsigned a.1 b.1 first.1, exact_unsigned a.2 b.2 last.1)
-
 -- what was noted before and what is noted now
-pub outcomes_after : (left right : List ℕ) (table : TableId) (before after : ComparedCells) (key : ℕ × ℕ × ℕ) (noted : Bool)
+pub outcomes_after : (left right : List ℕ) (table : TableId) (before after : ComparedCells) (key : ℕ × ℕ × ℕ) (noted : Outcome)
     → ((other : ℕ × ℕ × ℕ) → outcome_at after other ≡ cond (is_eq (key_cmp key other)) (Some noted) (outcome_at before other))
-    → AreOutcomes left right table before → IsOutcome left right table key.0 key.1 key.2 noted → AreOutcomes left right table after
+    → AreOutcomes left right table before → IsNoted left right table noted → AreOutcomes left right table after
 outcomes_after left right table before after key noted updated was is =
-    λ cell_index m n same found. go cell_index m n same (key_cmp key (cell_index, m, n)) refl (sym (updated (cell_index, m, n)) ∙ found)
+    λ other more found. go other more (is_eq (key_cmp key other)) (sym (updated other) ∙ found)
   where
-    go : (cell_index m n : ℕ) (same : Bool) (order : Ordering) → key_cmp key (cell_index, m, n) ≡ order
-        → cond (is_eq order) (Some noted) (outcome_at before (cell_index, m, n)) ≡ Some same → IsOutcome left right table cell_index m n same
-    go cell_index m n same Less ordered found = was cell_index m n same found
-    go cell_index m n same Greater ordered found = was cell_index m n same found
-    go cell_index m n same Equal ordered found =
-        let one = same_key key (cell_index, m, n) ordered in
-        let outcome : noted ≡ same = cc found in
-        subst (λ (i : ℕ). IsOutcome left right table i m n same) one.0
-        (subst (λ (i : ℕ). IsOutcome left right table key.0 i n same) one.1
-        (subst (λ (i : ℕ). IsOutcome left right table key.0 key.1 i same) one.2
-        (subst (λ (b : Bool). IsOutcome left right table key.0 key.1 key.2 b) outcome is)))
+    go : (other : ℕ × ℕ × ℕ) (more : Outcome) (same : Bool) → cond same (Some noted) (outcome_at before other) ≡ Some more → IsNoted left right table more
+    go other more true found = let one : noted ≡ more = cc found in subst (IsNoted left right table) one is
+    go other more false found = was other more found
+
+-- what was noted of numbers, and of the next ones
+pub noted_of : (left right : List ℕ) (table : TableId) (compared : ComparedCells) (key : ℕ × ℕ × ℕ) (noted : Outcome) (cell_index m n : ℕ) → outcome_at compared key ≡ Some noted
+    → (cell_index ≡ noted.cell_index) × ((k : ℕ) × (k < noted.count) × (m ≡ noted.left + k) × (n ≡ noted.right + k))
+    → AreOutcomes left right table compared → IsOutcome left right table cell_index m n noted.same
+noted_of left right table compared key noted cell_index m n found is all =
+    let of = is.1 in
+    subst (λ (i : ℕ). IsOutcome left right table i m n noted.same) (sym is.0)
+    (subst (λ (i : ℕ). IsOutcome left right table noted.cell_index i n noted.same) (sym of.2)
+    (subst (λ (i : ℕ). IsOutcome left right table noted.cell_index (noted.left + of.0) i noted.same) (sym of.3) (all key noted found of.0 of.1)))
+
+-- what is noted of two numbers alone
+pub one_noted : (left right : List ℕ) (table : TableId) (cell_index m n : ℕ) (same : Bool) → IsOutcome left right table cell_index m n same
+    → (k : ℕ) → k < 1 → IsOutcome left right table cell_index (m + k) (n + k) same
+one_noted left right table cell_index m n same is k h =
+    let first : m ≡ m + k = omega (arith, h) in
+    let second : n ≡ n + k = omega (arith, h) in
+    subst (λ (i : ℕ). IsOutcome left right table cell_index i (n + k) same) first
+    (subst (λ (i : ℕ). IsOutcome left right table cell_index m i same) second is)
 
 -- what was noted of the numbers of a row is so in this row
-pub known_is : (left right : List ℕ) (table : TableId) (compared : ComparedCells) (row cell_index m n : ℕ) (found : Option Bool) → found ≡ outcome_at compared (cell_index, m, n)
-    → AreOutcomes left right table compared → 1 ≤ row → row ≤ row_count left table → row ≤ row_count right table
+pub known_is : (left right : List ℕ) (table : TableId) (row cell_index m n : ℕ) (found : Option Bool) → IfSome found (IsOutcome left right table cell_index m n)
+    → 1 ≤ row → row ≤ row_count left table → row ≤ row_count right table
     → m ≡ number_of (source_of left) table row (column_of table cell_index) → n ≡ number_of (source_of right) table row (column_of table cell_index)
     → (first second : Metadata) → IsModel left first → IsModel right second
     → IfSome found (λ same. same ≡ is_same_cell (cell_in first table row cell_index) (cell_in second table row cell_index))
-known_is left right table compared row cell_index m n None is all low high right_high m_is n_is first second one two = tt
-known_is left right table compared row cell_index m n (Some same) is all low high right_high m_is n_is first second one two =
-    all cell_index m n same (sym is) first second one two row low high right_high (sym m_is) (sym n_is)
+known_is left right table row cell_index m n None is low high right_high m_is n_is first second one two = tt
+known_is left right table row cell_index m n (Some same) is low high right_high m_is n_is first second one two =
+    is first second one two row low high right_high (sym m_is) (sym n_is)
 
 -- of the same roots
 pub outcomes_kept : (left left_now right right_now : List ℕ) (table : TableId) (compared : ComparedCells) → left_now ≡ left → right_now ≡ right

@@ -8,3 +8,4 @@ pub mod PaddingLemmas
 pub mod OutlineLemmas
 pub mod EqualLemmas
 pub mod IgnoredLemmas
+pub mod TextLemmas

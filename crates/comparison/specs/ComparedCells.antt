@@ -1,5 +1,5 @@
 -- What is known of the cells of a table that were compared (ECMA-335 II.24.2.6).
-use Rattle.std.specs.Prelude.{◌≡◌, ◌≤◌, ℕ, Bool, List, Option, Some}
+use Rattle.std.specs.Prelude.{◌≡◌, ◌+◌, ◌<◌, ◌≤◌, ℕ, Bool, List, Option, Some}
 use Rattle.std.specs.Ordering.{nat_cmp, ordering_then}
 use Rattle.std.specs.declared.cmp.Ordering.{Ordering}
 use Rattle.std.specs.BTreeMap.{get}
@@ -13,6 +13,7 @@ use Rattle.metadata.specs.Source.{number_of}
 use Rattle.metadata.specs.SourceAt.{source_of}
 use Rattle.opening.specs.Views.{row_count}
 use Rattle.comparison.specs.declared.compared_cells.ComparedCells.{ComparedCells}
+use Rattle.comparison.specs.declared.compared_cells.Outcome.{Outcome}
 use Rattle.comparison.specs.SameCells.{is_same_cell}
 
 -- the number of a column is the index of its value in a heap, of a text or a blob
@@ -26,8 +27,8 @@ IsInHeap _ = ⊥
 abbrev pub key_cmp : ℕ × ℕ × ℕ → ℕ × ℕ × ℕ → Ordering
 key_cmp a b = ordering_then (ordering_then (nat_cmp a.0 b.0) (nat_cmp a.1 b.1)) (nat_cmp a.2 b.2)
 
--- what was noted of the index of a cell in its row, and of two numbers
-abbrev pub outcome_at : ComparedCells → ℕ × ℕ × ℕ → Option Bool
+-- what was noted with a key
+abbrev pub outcome_at : ComparedCells → ℕ × ℕ × ℕ → Option Outcome
 outcome_at compared key = get key_cmp compared.outcomes key
 
 module _ (left right : List ℕ) (table : TableId) where
@@ -38,6 +39,10 @@ module _ (left right : List ℕ) (table : TableId) where
       → number_of (source_of left) table row (column_of table cell_index) ≡ m → number_of (source_of right) table row (column_of table cell_index) ≡ n
       → same ≡ is_same_cell (cell_in first table row cell_index) (cell_in second table row cell_index)
 
+  -- it is so of two numbers, and of the next ones in both roots
+  abbrev pub IsNoted : Outcome → Type 0
+  IsNoted noted = (k : ℕ) → k < noted.count → IsOutcome noted.cell_index (noted.left + k) (noted.right + k) noted.same
+
   -- what was noted is so
   abbrev pub AreOutcomes : ComparedCells → Type 0
-  AreOutcomes compared = (cell_index m n : ℕ) (same : Bool) → outcome_at compared (cell_index, m, n) ≡ Some same → IsOutcome cell_index m n same
+  AreOutcomes compared = (key : ℕ × ℕ × ℕ) (noted : Outcome) → outcome_at compared key ≡ Some noted → IsNoted noted

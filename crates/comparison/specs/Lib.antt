@@ -4,3 +4,4 @@ pub mod Differences
 pub mod EqualBut
 pub mod Ignored
 pub mod SameCells
+pub mod SameTexts

@@ -26,6 +26,7 @@ mod root_digest;
 mod same_bytes;
 mod same_cells;
 mod same_in_row;
+mod same_texts;
 mod user_strings;
 
 pub use all::{differences, differences_but};

@@ -1,16 +1,20 @@
 //! Whether a cell is equal in a row of two views.
 ghost use Rattle.std.specs.Prelude.{◌≡◌, ◌≤◌, ◌<◌, IfOk, IfSome, IsTrue, OnOk};
+ghost use Rattle.table_schema.specs.declared.column.ColumnKind.TheVariants.{Text};
 ghost use Rattle.table_schema.specs.CellColumns.{cell_count, column_of};
 ghost use Rattle.metadata.specs.Metadata.{Metadata, cell_in};
 ghost use Rattle.metadata.specs.Model.{IsModel};
 ghost use Rattle.metadata.specs.Source.{number_of};
 ghost use Rattle.metadata.specs.SourceAt.{source_of};
+ghost use Rattle.metadata.specs.Valid.{kind_at};
 ghost use Rattle.opening.specs.Views.{row_count};
-ghost use Rattle.comparison.specs.ComparedCells.{AreOutcomes, IsInHeap};
+ghost use Rattle.comparison.specs.ComparedCells.{AreOutcomes, IsInHeap, IsNoted};
 ghost use Rattle.comparison.specs.SameCells.{is_same_cell};
 
-use crate::compared_cells::ComparedCells;
+use crate::compared_cells::{ComparedCells, Outcome};
+use crate::laws;
 use crate::same_cells::same_cell;
+use crate::same_texts::same_texts;
 use metadata_source::kind_of;
 use opening::{CellCursor, CellRef, TableId};
 use std::alloc::{AllocError, Global};
@@ -85,6 +89,77 @@ fn known_in_row(
     compared.known(cell_index, left_number, right_number)
 }
 
+/// The length of a text, in a column of texts.
+fn text_len(kind: ColumnKind, value: CellRef<'_>) -> Option<usize>
+    ensures { IfSome result (λ _. kind ≡ Text) }
+{
+    match (kind, value) {
+        (ColumnKind::Text, CellRef::Text(text)) => Some(text.len()),
+        _ => None,
+    }
+}
+
+/// What can be noted of all texts that are equal because those of two numbers are.
+fn noted_of_texts(
+    left: &CellCursor<'_, '_>,
+    right: &CellCursor<'_, '_>,
+    table: TableId,
+    cell_index: usize,
+    numbers: (u32, u32),
+    left_value: CellRef<'_>,
+) -> Option<Outcome>
+    requires { cell_index < cell_count table }
+    ensures { IfSome result (IsNoted left.now right.now table) }
+{
+    metadata::laws::models_are_read();
+    heap_pools::laws::texts_are_at();
+    laws::cells_are_tested();
+    let len = text_len(kind_of(table, cell_index), left_value)?;
+    let left_heap = left.view().source().texts();
+    let right_heap = right.view().source().texts();
+    same_texts(left_heap, right_heap, cell_index, numbers.0, numbers.1, len)
+}
+
+/// Notes whether a cell of a row is equal in two views. Of a text this is noted of all texts that end with the same bytes.
+///
+/// # Errors
+///
+/// Only if out of memory.
+fn note_in_row(
+    left: &CellCursor<'_, '_>,
+    right: &CellCursor<'_, '_>,
+    table: TableId,
+    row: u32,
+    cell_index: usize,
+    left_value: CellRef<'_>,
+    same: bool,
+    compared: &mut ComparedCells,
+) -> Result<(), AllocError>
+    requires first { 1 ≤ row }
+    requires left { row ≤ row_count left.now table }
+    requires right { row ≤ row_count right.now table }
+    requires cell_index { cell_index < cell_count table }
+    requires in_heap { IsInHeap (kind_at table cell_index) }
+    requires compared { AreOutcomes left.now right.now table compared.old }
+    requires same { (first second : Metadata) → IsModel left.now first → IsModel right.now second
+        → same ≡ is_same_cell (cell_in first table row cell_index) (cell_in second table row cell_index) }
+    ensures { OnOk result (AreOutcomes left.now right.now table compared.new) }
+{
+    metadata::laws::models_are_read();
+    metadata::laws::cells_are_one();
+    let numbers = numbers_of(left, right, table, row, cell_index);
+    if let Some(noted) = noted_of_texts(left, right, table, cell_index, numbers, left_value) {
+        return compared.note(noted);
+    }
+    compared.note(Outcome {
+        cell_index,
+        left: numbers.0,
+        right: numbers.1,
+        count: 1,
+        same,
+    })
+}
+
 /// Whether a cell of a row is equal in two views. What it takes long to compare is noted, and known in a later row with the
 /// same numbers.
 ///
@@ -111,8 +186,6 @@ pub(crate) fn is_same_in_row(
     ensures same { (first second : Metadata) → IsModel left.old first → IsModel right.old second
         → IfOk result (λ same. same ≡ is_same_cell (cell_in first table row cell_index) (cell_in second table row cell_index)) }
 {
-    metadata::laws::models_are_read();
-    metadata::laws::cells_are_one();
     if let Some(same) = known_in_row(left, right, table, row, cell_index, compared) {
         return Ok(same);
     }
@@ -121,8 +194,9 @@ pub(crate) fn is_same_in_row(
     let right_value = right.cell(table, row, cell_index);
     let same = same_cell(alloc, kind, left_value, right_value)?;
     if is_in_heap(kind) && takes_long(left_value, right_value) {
-        let (left_number, right_number) = numbers_of(left, right, table, row, cell_index);
-        compared.note(cell_index, left_number, right_number, same)?;
+        note_in_row(
+            left, right, table, row, cell_index, left_value, same, compared,
+        )?;
     }
     Ok(same)
 }

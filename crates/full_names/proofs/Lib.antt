@@ -1,7 +1,7 @@
-mod ParamLemmas
-mod RowNameLemmas
-mod ParamNames
-mod PieceLemmas
-mod TextLemmas
-mod NameExists
-mod PlainPieces
+pub mod RowNameLemmas
+pub mod PieceLemmas
+pub mod SinkLemmas
+pub mod TextLemmas
+pub mod NameExists
+pub mod PlainPieces
+pub mod QuotedLemmas

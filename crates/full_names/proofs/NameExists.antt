@@ -6,7 +6,7 @@ use Rattle.std.specs.Bool.{Decides}
 use Rattle.std.proofs.lemmas.Bool.{cases_eq, cases_lt}
 use denote.Enum.Bare.{same_true, true_same}
 use Rattle.table_schema.specs.declared.table.TableId.{TableId}
-use Rattle.table_schema.specs.declared.table.TableId.TheVariants.{TypeDef, TypeRef, TypeSpec, NestedClass, Param}
+use Rattle.table_schema.specs.declared.table.TableId.TheVariants.{TypeDef, TypeRef, TypeSpec, NestedClass}
 use Rattle.table_schema.specs.contracts.table.TableId as tables
 use Rattle.table_schema.specs.contracts.table.TableIdPartialEq.TheImpl as equal
 use Rattle.table_schema.specs.declared.token.Token.{Token}
@@ -20,12 +20,11 @@ use Rattle.metadata.specs.Kinds.{IsOfKind}
 use Rattle.metadata.specs.KeyOrder.{IsKeyOrdered, key_in}
 use Rattle.metadata.specs.Lookups.{HasRow, IsKeyCell}
 use Rattle.metadata.specs.Metadata.{Metadata, cell_in, count_in}
-use Rattle.metadata.specs.Names.{full_name}
 use Rattle.metadata.specs.Valid.{IsValid, MayRefer, nullable_at}
 use Rattle.navigation.specs.Nesting.{IsEnclosed, IsFirstNesting, IsNesting, IsScope, type_token}
+use Rattle.full_names.specs.Quoted.{type_text}
 use Rattle.full_names.specs.Names.{IsChainText, IsOuter, IsOwnText, IsTypeDefText, IsTypeRefText}
-use Rattle.full_names.specs.Texts.{ArePiecesText, IsParamText, position_in, position_of, spaced, IsFullName, IsInnerName, IsPieceText, IsTypeSpecText}
-use Rattle.full_names.proofs.ParamLemmas.{found_text}
+use Rattle.full_names.specs.Texts.{ArePiecesText, IsFullName, IsInnerName, IsPieceText, IsTypeSpecText}
 use Rattle.full_names.proofs.PieceLemmas.{same_signature, signature_of}
 use Rattle.full_names.proofs.PlainPieces.{ArePlain, IsPlain, text_is_plain}
 
@@ -35,10 +34,10 @@ HasText is_text = (text : List ℕ) × is_text text
 
 -- ---- the first row with a property
 
-abbrev IsFound : (ℕ → Type 0) → ℕ → ℕ → Type 0
+abbrev pub IsFound : (ℕ → Type 0) → ℕ → ℕ → Type 0
 IsFound has count row = ((1 ≤ row) × (row ≤ count)) × has row × ((earlier : ℕ) → 1 ≤ earlier → earlier < row → ¬ has earlier)
 
-abbrev HasNone : (ℕ → Type 0) → ℕ → Type 0
+abbrev pub HasNone : (ℕ → Type 0) → ℕ → Type 0
 HasNone has count = (row : ℕ) → 1 ≤ row → row ≤ count → ¬ has row
 
 module _ (has : ℕ → Type 0) (decide : (row : ℕ) → has row ⊎ ¬ has row) where
@@ -48,7 +47,7 @@ module _ (has : ℕ → Type 0) (decide : (row : ℕ) → has row ⊎ ¬ has row
     | inr other ↦ none row first (omega (arith, last, other))
   ]
 
-  first_row : (count : ℕ) → ((row : ℕ) × IsFound has count row) ⊎ HasNone has count
+  pub first_row : (count : ℕ) → ((row : ℕ) × IsFound has count row) ⊎ HasNone has count
   first_row zero = inr (λ row first last is. absurd (omega (arith, first, last)))
   first_row (suc count) = elim (first_row count) [
     | inl found ↦ inl (found.0, ((found.1.0.0, omega (arith, found.1.0.1)), found.1.1, found.1.2))
@@ -197,7 +196,7 @@ outside_def model class = elim (ordered model) [
 
 -- ---- the texts of rows
 
-is_text : (cell : Cell) → IsOfKind kind.Text cell → (text : List ℕ) × (cell ≡ Text text)
+pub is_text : (cell : Cell) → IsOfKind kind.Text cell → (text : List ℕ) × (cell ≡ Text text)
 is_text (Text text) of = (text, refl)
 is_text (Ref reference) of = absurd of
 is_text (Number value) of = absurd of
@@ -211,14 +210,14 @@ unfolding cell_columns
 own_def model valid row there =
     let own = is_text (cell_in model TypeDef row 1) (valid.cells TypeDef row 1 there (omega arith)).of_kind in
     let space = is_text (cell_in model TypeDef row 2) (valid.cells TypeDef row 2 there (omega arith)).of_kind in
-    (full_name space.0 own.0, (space.0, own.0, space.1, own.1, refl))
+    (type_text space.0 own.0, (space.0, own.0, space.1, own.1, refl))
 
 pub own_ref : (model : Metadata) → IsValid model → (row : ℕ) → HasRow model TypeRef row → HasText (IsOwnText model TypeRef row)
 unfolding cell_columns
 own_ref model valid row there =
     let own = is_text (cell_in model TypeRef row 1) (valid.cells TypeRef row 1 there (omega arith)).of_kind in
     let space = is_text (cell_in model TypeRef row 2) (valid.cells TypeRef row 2 there (omega arith)).of_kind in
-    (full_name space.0 own.0, (space.0, own.0, space.1, own.1, refl))
+    (type_text space.0 own.0, (space.0, own.0, space.1, own.1, refl))
 
 module _ (is_outside : ℕ → ℕ → Type 0) (is_own : ℕ → List ℕ → Type 0) (is_row : ℕ → Type 0)
     (outside : (row : ℕ) → ((outer : ℕ) × is_outside row outer) ⊎ ((outer : ℕ) → ¬ is_outside row outer))
@@ -283,7 +282,7 @@ module _ (model : Metadata) (valid : IsValid model) where
     ]
   ]
 
-  pieces_text : (is_name : Token → List ℕ → Type 0) → ((token : Token) → HasText (is_name token)) → (pieces : List Piece) → ArePlain pieces → HasText (ArePiecesText (IsPieceText is_name) pieces)
+  pub pieces_text : (is_name : Token → List ℕ → Type 0) → ((token : Token) → HasText (is_name token)) → (pieces : List Piece) → ArePlain pieces → HasText (ArePiecesText (IsPieceText is_name) pieces)
   pieces_text is_name named [] are = ([], refl)
   pieces_text is_name named (piece ∷ pieces) are =
       let first = piece_text is_name named piece are.0 in
@@ -329,64 +328,4 @@ module _ (model : Metadata) (valid : IsValid model) where
             },
           )
     ]
-  ]
-
--- ---- the names of parameters
-
-is_number : (cell : Cell) → IsOfKind kind.U16 cell → cell ≡ Number (position_of cell)
-is_number (Number value) of = refl
-is_number (Text text) of = absurd of
-is_number (Ref reference) of = absurd of
-is_number (Bytes bytes) of = absurd of
-is_number (Guid guid) of = absurd of
-is_number (Start start) of = absurd of
-is_number (Sig signature) of = absurd of
-
-module _ (model : Metadata) (valid : IsValid model) (first past position : ℕ) where
-  param_number : (row : ℕ) → HasRow model Param row → cell_in model Param row 1 ≡ Number (position_of (cell_in model Param row 1))
-  unfolding cell_columns
-  param_number row there = is_number (cell_in model Param row 1) (valid.cells Param row 1 there (omega arith)).of_kind
-
-  param_own : (row : ℕ) → HasRow model Param row → (own : List ℕ) × (cell_in model Param row 2 ≡ Text own)
-  unfolding cell_columns
-  param_own row there = is_text (cell_in model Param row 2) (valid.cells Param row 2 there (omega arith)).of_kind
-
-  abbrev is_at : ℕ → Type 0
-  is_at row = (first ≤ row) × (row < past) × (position_in model row ≡ position)
-
-  at_or_not : (row : ℕ) → is_at row ⊎ ¬ is_at row
-  at_or_not row = elim (cases_lt row first) [
-    | inl before ↦ inr (λ is. let from = is.0 in absurd (omega (arith, before, from)))
-    | inr from ↦ elim (cases_lt row past) [
-      | inr after ↦ inr (λ is. let to = is.1 in absurd (omega (arith, after, to)))
-      | inl to ↦ elim (cases_eq (position_in model row) position) [
-        | inl same ↦ inl (from, to, same)
-        | inr differs ↦ inr (λ is. differs is.2)
-      ]
-    ]
-  ]
-
-  pub param_is : (row : ℕ) → HasRow model Param row → is_at row → ((earlier : ℕ) → HasRow model Param earlier → earlier < row → ¬ is_at earlier)
-      → (own : List ℕ) → cell_in model Param row 2 ≡ Text own → IsParamText model first past position (spaced own)
-  param_is row there at none own is = found_text model first past position row own (record {
-    there = there;
-    from = at.0;
-    to = at.1;
-    sequence = param_number row there ∙ ap (λ (n : ℕ). Number n) at.2;
-    before = λ earlier before from same. elim (cases_lt earlier row) [
-      | inl less ↦ let to = at.1 in absurd (none earlier before less (from, omega (arith, less, to), ap position_of same))
-      | inr least ↦ least
-    ];
-  }) is
-
-  pub param_none : ((row : ℕ) → HasRow model Param row → ¬ is_at row) → IsParamText model first past position []
-  param_none none = record {
-    named = λ row at own is. absurd (none row at.there (at.from, at.to, ap position_of at.sequence));
-    unnamed = λ _. refl;
-  }
-
-  pub param_text : HasText (IsParamText model first past position)
-  param_text = elim (first_row is_at at_or_not (count_in model Param)) [
-    | inl found ↦ let own = param_own found.0 found.1.0 in (spaced own.0, param_is found.0 found.1.0 found.1.1 (λ earlier there less. found.1.2 earlier there.0 less) own.0 own.1)
-    | inr none ↦ ([], param_none (λ row there. none row there.0 there.1))
   ]

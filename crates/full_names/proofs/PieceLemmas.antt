@@ -1,7 +1,6 @@
 -- What a writer took, from the pieces that a sink received; and the bytes of a signature.
 use Rattle.std.proofs.Common.{◌≡◌, ℕ, Bool, true, List, [], ◌++◌, Option, Some, None, Result, Ok, Err, OnOk, OnSome, IfSome, IfNone, refl, sym, ap, subst, ◌∙◌}
 use Rattle.std.specs.Prelude.{is_some, is_ok}
-use Rattle.std.specs.Option.{ok_or}
 use Rattle.table_schema.specs.declared.table.TableId.TheVariants.{TypeDef, TypeRef, TypeSpec}
 use Rattle.table_schema.specs.declared.token.Token.{Token}
 use Rattle.table_schema.specs.declared.column.SigKind.{SigKind}
@@ -63,10 +62,10 @@ pub when_taken : {P : Type 0} (written : Option (Unit {0})) → (is_some written
 when_taken None holds = tt
 when_taken (Some u) holds = holds refl
 
--- the same, if a fact holds of each sink that took all
-pub ok_after : {E : Type 0} {P Q : Type 0} {result : Result (Unit {0}) E} (written : Option (Unit {0})) (e : E) → result ≡ ok_or written e → OnSome written P → (P → Q) → OnOk result Q
-ok_after None e is holds after = rw is tt
-ok_after (Some u) e is holds after = rw is (after holds)
+-- what follows from what holds of a result
+pub ok_then : {E P Q : Type 0} (result : Result (Unit {0}) E) → OnOk result P → (P → Q) → OnOk result Q
+ok_then (Ok u) holds after = after holds
+ok_then (Err e) holds after = tt
 
 -- what holds if a writer's result is `Ok` holds if a sink took the piece
 pub on_taken : {E : Type 0} {P : Type 0} (written : Result (Unit {0}) E) → is_ok written ≡ true → OnOk written P → P

@@ -12,7 +12,7 @@ use Rattle.metadata.specs.Metadata.{Metadata, cell_in, count_in}
 use Rattle.metadata.specs.Valid.{IsValid, MayRefer, nullable_at}
 use Rattle.navigation.specs.Maps.{IsMapOf}
 use Rattle.full_names.specs.RowNames.{IsMemberOf, IsNameIn, IsNameUnder, IsPlainName, IsRowName}
-use Rattle.full_names.specs.Texts.{IsMethodName}
+use Rattle.full_names.specs.Texts.{IsMemberName}
 
 -- a row of a table that is none of these has a plain name
 pub plain_name : (model : Metadata) (table : TableId) (row : ℕ) (text : List ℕ) → (table ≡ TypeDef → ⊥) → (table ≡ TypeRef → ⊥) → (table ≡ TypeSpec → ⊥) → (table ≡ Field → ⊥)
@@ -59,7 +59,7 @@ module _ (model : Metadata) (valid : IsValid model) where
 
 -- a parent that is no method and no module gives its full name
 pub named_under : (model : Metadata) (table : TableId) (row : ℕ) (own text : List ℕ) → (table ≡ MethodDef → ⊥) → (table ≡ ModuleRef → ⊥)
-    → IsMethodName model (record { table = table; row = row }) own text → IsNameUnder model table row own text
+    → IsMemberName model (record { table = table; row = row }) own text → IsNameUnder model table row own text
 named_under model MethodDef row own text a b is = absurd (a refl)
 named_under model ModuleRef row own text a b is = absurd (b refl)
 named_under model _ row own text a b is = is

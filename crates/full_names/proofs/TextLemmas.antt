@@ -1,12 +1,11 @@
 -- The text of a chain of types, from the texts that were written one after another.
-use Rattle.std.proofs.Common.{◌≡◌, length, ℕ, zero, suc, ◌-◌, List, [], ◌∷◌, ◌++◌, append-nil, inl, inr, OnOk, Ok, Err, Result, refl, sym, ◌∙◌, ap, subst, arith}
+use Rattle.std.proofs.Common.{◌≡◌, ℕ, zero, suc, ◌-◌, List, [], ◌∷◌, ◌++◌, append-nil, inl, inr, OnOk, Ok, Err, Result, refl, sym, ◌∙◌, ap, subst, arith}
 use Rattle.std.proofs.lemmas.List.Folds.{concat-append}
 use Rattle.std.specs.List.{FoldsTo, concat}
 use Rattle.std.specs.Prelude.{codes}
 use Rattle.std.specs.Fmt.{WritesInCalls}
 use Rattle.std.specs.declared.fmt.Error.{Error}
 use Rattle.full_names.specs.Names.{IsChainText, Wrote}
-use Rattle.full_names.specs.Texts.{spaced}
 
 module _ {W : Type 0} (took : W → List ℕ → W → Type 0) where
   folds_append : (w : W) (xs : List (List ℕ)) (v : W) (ys : List (List ℕ)) (u : W) → FoldsTo took w xs v → FoldsTo took v ys u → FoldsTo took w (xs ++ ys) u
@@ -25,6 +24,17 @@ module _ {W : Type 0} (took : W → List ℕ → W → Type 0) where
     calls = folds_append w p.parts v q.parts u p.calls q.calls;
     whole = concat-append p.parts q.parts ∙ ap (λ (l : List ℕ). l ++ concat q.parts) p.whole ∙ ap (λ (l : List ℕ). a ++ l) q.whole;
   }
+
+  -- what was written before the last call, and by it
+  pub writes_last : (w : W) (a : List ℕ) (v : W) (b : List ℕ) (u : W) (result : Result (Unit {0}) Error) → WritesInCalls took w a v → OnOk result (WritesInCalls took v b u)
+      → OnOk result (WritesInCalls took w (a ++ b) u)
+  writes_last w a v b u (Ok done) p q = writes_append w a v b u p q
+  writes_last w a v b u (Err e) p q = tt
+
+  -- the same text by another name
+  pub writes_same : (w : W) (a b : List ℕ) (v : W) (result : Result (Unit {0}) Error) → a ≡ b → OnOk result (WritesInCalls took w a v) → OnOk result (WritesInCalls took w b v)
+  writes_same w a b v (Ok done) same p = subst (λ (t : List ℕ). WritesInCalls took w t v) same p
+  writes_same w a b v (Err e) same p = tt
 
   module _ (is_outside : ℕ → ℕ → Type 0) (is_own : ℕ → List ℕ → Type 0) (w : W) where
     pub chain_left_out : (result : Result (Unit {0}) Error) (v : W) (row depth : ℕ) → depth ≡ 0 → OnOk result (WritesInCalls took w (codes "..") v)
@@ -54,14 +64,3 @@ module _ {W : Type 0} (took : W → List ℕ → W → Type 0) where
           inr (outer, outside, before.0, subst P less before.1, wrote.0, wrote.1, refl),
           writes_append w before.0 v (codes "/" ++ wrote.0) x before.2 (writes_append v (codes "/") u wrote.0 x slash wrote.2),
         )
-
-  -- ---- a name after a space
-
-  pub spaced_none : (w : W) (name : List ℕ) → length name ≡ 0 → WritesInCalls took w (spaced name) w
-  spaced_none w [] none = writes_nothing w
-  spaced_none w (c ∷ name) none = absurd (omega arith)
-
-  pub spaced_some : (w : W) (name : List ℕ) (result : Result (Unit {0}) Error) (v : W) → ¬ (length name ≡ 0) → OnOk result (WritesInCalls took w (codes " " ++ name) v)
-      → OnOk result (WritesInCalls took w (spaced name) v)
-  spaced_some w [] result v some wrote = absurd (some refl)
-  spaced_some w (c ∷ name) result v some wrote = wrote

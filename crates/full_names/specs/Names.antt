@@ -6,13 +6,13 @@ use Rattle.table_schema.specs.declared.table.TableId.TheVariants.{TypeDef, TypeR
 use Rattle.metadata.specs.Cell.{Text}
 use Rattle.metadata.specs.KeyOrder.{IsKeyOrdered}
 use Rattle.metadata.specs.Metadata.{Metadata, cell_in}
-use Rattle.metadata.specs.Names.{full_name}
 use Rattle.navigation.specs.Nesting.{IsEnclosed, IsScope}
+use Rattle.full_names.specs.Quoted.{type_text}
 
 -- the name of a row of TypeDef or TypeRef, after its namespace and a dot
 abbrev pub IsOwnText : Metadata → TableId → ℕ → List ℕ → Type 0
 IsOwnText model table row text =
-    (namespace : List ℕ) × (name : List ℕ) × (cell_in model table row 2 ≡ Text namespace) × (cell_in model table row 1 ≡ Text name) × (text ≡ full_name namespace name)
+    (namespace : List ℕ) × (name : List ℕ) × (cell_in model table row 2 ≡ Text namespace) × (cell_in model table row 1 ≡ Text name) × (text ≡ type_text namespace name)
 
 -- The text of a row in a chain, of this many rows at most: its own text if nothing is outside it; else the text of what
 -- is outside, a slash, and its own text. `..` stands for the rows that are left out.

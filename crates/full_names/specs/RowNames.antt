@@ -6,20 +6,26 @@ use Rattle.table_schema.specs.declared.token.Token.{Token}
 use Rattle.metadata.specs.Cell.{Text, Ref}
 use Rattle.metadata.specs.Metadata.{Metadata, cell_in}
 use Rattle.metadata.specs.Lookups.{HasRow}
-use Rattle.metadata.specs.Names.{full_name}
 use Rattle.metadata_source.specs.declared.member_lists.MemberList.TheVariants as list
 use Rattle.navigation.specs.Maps.{IsMapOf}
 use Rattle.navigation.specs.Nesting.{type_token}
 use Rattle.navigation.specs.Owners.{Owns}
-use Rattle.full_names.specs.Texts.{IsFullName, IsMethodName}
+use Rattle.full_names.specs.declared.quoted.NameKind.{NameKind}
+use Rattle.full_names.specs.declared.quoted.NameKind.TheVariants.{Identifier, Dotted, Member}
+use Rattle.full_names.specs.Quoted.{name_text, type_text}
+use Rattle.full_names.specs.Texts.{IsFullName, IsMemberName}
 
 -- the text in a cell
 abbrev pub IsTextOf : Metadata → TableId → ℕ → ℕ → List ℕ → Type 0
 IsTextOf model table row cell text = cell_in model table row cell ≡ Text text
 
+-- the text of the name in a cell
+abbrev pub IsNameOf : Metadata → NameKind → TableId → ℕ → ℕ → List ℕ → Type 0
+IsNameOf model kind table row cell text = (own : List ℕ) × IsTextOf model table row cell own × (text ≡ name_text kind own)
+
 -- the name of a field, a method, an event or a property, which is in a cell, after that of its type and two colons
-abbrev pub IsMemberName : Metadata → TableId → ℕ → ℕ → Token → List ℕ → Type 0
-IsMemberName model table row cell class text = (own : List ℕ) × IsTextOf model table row cell own × IsMethodName model class own text
+abbrev pub IsNamedMember : Metadata → TableId → ℕ → ℕ → Token → List ℕ → Type 0
+IsNamedMember model table row cell class text = (own : List ℕ) × IsTextOf model table row cell own × IsMemberName model class own text
 
 -- the type of a field or a method, of an event or a property (II.22.12, II.22.35, II.22.37), and the parent of a MemberRef (II.22.25)
 abbrev pub IsTypeOfField : Metadata → ℕ → Token → Type 0
@@ -48,32 +54,32 @@ IsMemberOf model _ row class = class ≡ None
 -- the name of an exported type, after its namespace and a dot (II.22.14)
 abbrev pub IsExportedName : Metadata → ℕ → List ℕ → Type 0
 IsExportedName model row text =
-    (namespace : List ℕ) × (name : List ℕ) × IsTextOf model ExportedType row 3 namespace × IsTextOf model ExportedType row 2 name × (text ≡ full_name namespace name)
+    (namespace : List ℕ) × (name : List ℕ) × IsTextOf model ExportedType row 3 namespace × IsTextOf model ExportedType row 2 name × (text ≡ type_text namespace name)
 
 -- the name of a row that is in its cells and stands alone; `..` stands for a row that has no name
 abbrev pub IsPlainName : Metadata → TableId → ℕ → List ℕ → Type 0
-IsPlainName model ModuleRef row text = IsTextOf model ModuleRef row 0 text
-IsPlainName model AssemblyRef row text = IsTextOf model AssemblyRef row 6 text
-IsPlainName model File row text = IsTextOf model File row 1 text
+IsPlainName model ModuleRef row text = IsNameOf model Dotted ModuleRef row 0 text
+IsPlainName model AssemblyRef row text = IsNameOf model Dotted AssemblyRef row 6 text
+IsPlainName model File row text = IsNameOf model Dotted File row 1 text
 IsPlainName model ExportedType row text = IsExportedName model row text
-IsPlainName model GenericParam row text = IsTextOf model GenericParam row 3 text
+IsPlainName model GenericParam row text = IsNameOf model Identifier GenericParam row 3 text
 IsPlainName model _ row text = text ≡ codes ".."
 
 -- the name of a MemberRef, by its parent: a type, a module, or a method of this module, whose type it is named after (II.22.25)
 abbrev pub IsNameUnder : Metadata → TableId → ℕ → List ℕ → List ℕ → Type 0
-IsNameUnder model MethodDef parent own text = (class : Token) × IsTypeOfMethod model parent class × IsMethodName model class own text
-IsNameUnder model ModuleRef parent own text = (module_name : List ℕ) × IsTextOf model ModuleRef parent 0 module_name × (text ≡ module_name ++ (codes "::" ++ own))
-IsNameUnder model table parent own text = IsMethodName model (record { table = table; row = parent }) own text
+IsNameUnder model MethodDef parent own text = (class : Token) × IsTypeOfMethod model parent class × IsMemberName model class own text
+IsNameUnder model ModuleRef parent own text = (module_name : List ℕ) × IsNameOf model Dotted ModuleRef parent 0 module_name × (text ≡ module_name ++ (codes "::" ++ name_text Member own))
+IsNameUnder model table parent own text = IsMemberName model (record { table = table; row = parent }) own text
 
 -- the name of a row that exists, by its table
 abbrev pub IsNameIn : Metadata → TableId → ℕ → List ℕ → Type 0
 IsNameIn model TypeDef row text = IsFullName model (record { table = TypeDef; row = row }) text
 IsNameIn model TypeRef row text = IsFullName model (record { table = TypeRef; row = row }) text
 IsNameIn model TypeSpec row text = IsFullName model (record { table = TypeSpec; row = row }) text
-IsNameIn model Field row text = (class : Token) × IsTypeOfField model row class × IsMemberName model Field row 1 class text
-IsNameIn model MethodDef row text = (class : Token) × IsTypeOfMethod model row class × IsMemberName model MethodDef row 3 class text
-IsNameIn model Event row text = (class : Token) × IsTypeOfEvent model row class × IsMemberName model Event row 1 class text
-IsNameIn model Property row text = (class : Token) × IsTypeOfProperty model row class × IsMemberName model Property row 1 class text
+IsNameIn model Field row text = (class : Token) × IsTypeOfField model row class × IsNamedMember model Field row 1 class text
+IsNameIn model MethodDef row text = (class : Token) × IsTypeOfMethod model row class × IsNamedMember model MethodDef row 3 class text
+IsNameIn model Event row text = (class : Token) × IsTypeOfEvent model row class × IsNamedMember model Event row 1 class text
+IsNameIn model Property row text = (class : Token) × IsTypeOfProperty model row class × IsNamedMember model Property row 1 class text
 IsNameIn model MemberRef row text =
     (parent : Token) × IsParent model row parent × (own : List ℕ) × IsTextOf model MemberRef row 1 own × IsNameUnder model parent.table parent.row own text
 IsNameIn model table row text = IsPlainName model table row text

@@ -1,6 +1,7 @@
 use std::fmt;
 
-/// Says when a writer needs no more of a text. Then the names of types in the text are passed over, and not looked up.
+/// Says when a writer needs no more of a text. Then what follows is passed over: names are not looked up, and signatures are
+/// not walked to their end.
 ///
 /// A signature of some kilobytes may name a long type many thousand times. So its text may be thousands of times longer
 /// than the file.

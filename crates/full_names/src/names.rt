@@ -4,7 +4,8 @@ ghost use Rattle.metadata.specs.Metadata.{Metadata};
 ghost use Rattle.full_names.specs.Names.{IsOuter, IsOwnText, IsTypeDefText, IsTypeRefText, Wrote};
 
 use crate::limit::{Limit, NoLimit};
-use crate::parts::{write_left_out, write_own_name, write_slash};
+use crate::parts::{write_left_out, write_slash};
+use crate::quoted::write_type_name;
 use navigation::{ReadCells, cells, enclosing_type, enclosing_type_ref};
 use std::fmt;
 use table_schema::TableId;
@@ -37,7 +38,7 @@ fn write_own_def<S: ReadCells, W: fmt::Write, L: Limit<W>>(
     }
     let namespace = cells::text(source, TableId::TypeDef, row, NAMESPACE);
     let name = cells::text(source, TableId::TypeDef, row, NAME);
-    write_own_name(out, namespace, name)
+    write_type_name(out, namespace, name, limit)
 }
 
 /// The type that encloses a type of this module, by binary search; `None` if NestedClass is not in the order of its key
@@ -114,7 +115,7 @@ fn write_own_ref<S: ReadCells, W: fmt::Write, L: Limit<W>>(
     }
     let namespace = cells::text(source, TableId::TypeRef, row, NAMESPACE);
     let name = cells::text(source, TableId::TypeRef, row, NAME);
-    write_own_name(out, namespace, name)
+    write_type_name(out, namespace, name, limit)
 }
 
 /// Writes the name of a type of another module, after those of the types that enclose it, up to `depth` types.

@@ -1,7 +1,5 @@
-ghost use Rattle.std.specs.Prelude.{◌≡◌, ◌++◌, OnOk, codes};
+ghost use Rattle.std.specs.Prelude.{OnOk, codes};
 ghost use Rattle.std.specs.Fmt.{WritesInCalls, decimal, signed_decimal};
-ghost use Rattle.metadata.specs.Names.{full_name};
-ghost use Rattle.full_names.specs.Texts.{spaced};
 
 use std::fmt;
 
@@ -24,33 +22,6 @@ pub fn write_signed<W: fmt::Write>(out: &mut W, value: i64) -> fmt::Result
     ensures { OnOk result (WritesInCalls W.write_str_gives out.old (signed_decimal value) out.new) }
 {
     write!(out, "{value}")
-}
-
-/// Writes the namespace and a dot, unless the namespace is empty, and the name.
-pub fn write_own_name<W: fmt::Write>(out: &mut W, namespace: &str, name: &str) -> fmt::Result
-    ensures { OnOk result (WritesInCalls W.write_str_gives out.old (full_name namespace.now name.now) out.new) }
-{
-    if namespace.is_empty() {
-        return write!(out, "{name}");
-    }
-    write!(out, "{namespace}.{name}")
-}
-
-/// Writes the name of a member of a module after that of the module.
-pub fn write_global_name<W: fmt::Write>(out: &mut W, module: &str, name: &str) -> fmt::Result
-    ensures { OnOk result (WritesInCalls W.write_str_gives out.old (module.now ++ (codes "::" ++ name.now)) out.new) }
-{
-    write!(out, "{module}::{name}")
-}
-
-/// Writes a space and a name, unless the name is empty.
-pub fn write_spaced<W: fmt::Write>(out: &mut W, name: &str) -> fmt::Result
-    ensures { OnOk result (WritesInCalls W.write_str_gives out.old (spaced name.now) out.new) }
-{
-    if name.is_empty() {
-        return Ok(());
-    }
-    write!(out, " {name}")
 }
 
 /// Writes what is between the names of two types of a chain.

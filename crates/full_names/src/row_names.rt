@@ -1,13 +1,17 @@
-ghost use Rattle.std.specs.Prelude.{◌≡◌, ◌≤◌, OnOk, IfSome};
+ghost use Rattle.std.specs.Prelude.{◌≡◌, ◌≤◌, ◌++◌, OnOk, IfSome, codes};
+ghost use Rattle.std.specs.Fmt.{WritesInCalls};
 ghost use Rattle.table_schema.specs.declared.table.TableId.TheVariants.{Event, Field, MemberRef, MethodDef, Property, TypeDef};
 ghost use Rattle.metadata.specs.Metadata.{Metadata};
 ghost use Rattle.navigation.specs.Nesting.{type_token};
 ghost use Rattle.full_names.specs.Names.{Wrote};
+ghost use Rattle.full_names.specs.Quoted.{name_text};
+ghost use Rattle.full_names.specs.declared.quoted.NameKind.TheVariants.{Dotted, Member};
+ghost use Rattle.full_names.specs.Texts.{IsMemberName};
 ghost use Rattle.full_names.specs.RowNames.{IsMemberOf, IsNameIn, IsParent, IsPlainName, IsRowName, IsTypeOfEvent, IsTypeOfField, IsTypeOfMethod, IsTypeOfProperty};
 
 use crate::limit::Limit;
-use crate::method_text::write_method_name;
-use crate::parts::{write_global_name, write_left_out, write_own_name, write_text};
+use crate::parts::{write_left_out, write_text};
+use crate::quoted::{NameKind, write_name, write_type_name};
 use crate::specs_named::write_full_name_within;
 use crate::text_error::TextError;
 use navigation::{
@@ -56,6 +60,34 @@ fn type_token(row: u32) -> Token
     }
 }
 
+/// Writes two colons, and the name of a member.
+fn write_own_name<W: fmt::Write, L: Limit<W>>(out: &mut W, name: &str, limit: &L) -> fmt::Result
+    ensures { OnOk result (WritesInCalls W.write_str_gives out.old (codes "::" ++ name_text Member name.now) out.new) }
+{
+    write_text(out, "::")?;
+    write_name(out, NameKind::Member, name, limit)
+}
+
+/// Writes the name of a member after that of its type.
+///
+/// # Errors
+///
+/// Those of [`write_full_name`](crate::write_full_name).
+pub fn write_member_name<S: ReadCells, W: fmt::Write, L: Limit<W>>(
+    alloc: Global,
+    source: &S,
+    class: Token,
+    name: &str,
+    limit: &L,
+    out: &mut W,
+) -> Result<(), TextError>
+    ensures { (model : Metadata) → S.shows source.now model
+        → OnOk result (Wrote W.write_str_gives out.old (IsMemberName model class name.now) out.new) }
+{
+    write_full_name_within(alloc, source, class, limit, out)?;
+    Ok(write_own_name(out, name, limit)?)
+}
+
 /// The parent of a MemberRef (II.22.25).
 #[tactic(auto, unfolding(table_schema::specs::CellColumns::cell_columns))]
 fn parent<S: ReadCells>(source: &S, row: u32) -> Token
@@ -72,76 +104,17 @@ fn parent<S: ReadCells>(source: &S, row: u32) -> Token
     }
 }
 
-/// Writes the name of a field after that of its type.
-#[tactic(auto, unfolding(table_schema::specs::CellColumns::cell_columns))]
-fn write_field<S: ReadCells, W: fmt::Write, L: Limit<W>>(
-    alloc: Global,
-    source: &S,
-    row: u32,
-    limit: &L,
+/// Writes the name of a member of a module after that of the module.
+fn write_global_name<W: fmt::Write, L: Limit<W>>(
     out: &mut W,
-) -> Result<(), TextError>
-    requires first { 1 ≤ row }
-    requires last { row ≤ S.row_count source.now Field }
-    ensures { (model : Metadata) → S.shows source.now model → OnOk result (Wrote W.write_str_gives out.old (IsNameIn model Field row) out.new) }
-{
-    let class = type_token(type_of_field(source, row));
-    let name = cells::text(source, TableId::Field, row, FIELD_NAME);
-    write_method_name(alloc, source, class, name, limit, out)
-}
-
-/// Writes the name of a method after that of its type.
-#[tactic(auto, unfolding(table_schema::specs::CellColumns::cell_columns))]
-fn write_method_row<S: ReadCells, W: fmt::Write, L: Limit<W>>(
-    alloc: Global,
-    source: &S,
-    row: u32,
+    scope: &str,
+    name: &str,
     limit: &L,
-    out: &mut W,
-) -> Result<(), TextError>
-    requires first { 1 ≤ row }
-    requires last { row ≤ S.row_count source.now MethodDef }
-    ensures { (model : Metadata) → S.shows source.now model → OnOk result (Wrote W.write_str_gives out.old (IsNameIn model MethodDef row) out.new) }
+) -> fmt::Result
+    ensures { OnOk result (WritesInCalls W.write_str_gives out.old (name_text Dotted scope.now ++ (codes "::" ++ name_text Member name.now)) out.new) }
 {
-    let class = type_token(type_of_method(source, row));
-    let name = cells::text(source, TableId::MethodDef, row, METHOD_NAME);
-    write_method_name(alloc, source, class, name, limit, out)
-}
-
-/// Writes the name of an event after that of its type.
-#[tactic(auto, unfolding(table_schema::specs::CellColumns::cell_columns))]
-fn write_event<S: ReadCells, W: fmt::Write, L: Limit<W>>(
-    alloc: Global,
-    source: &S,
-    row: u32,
-    limit: &L,
-    out: &mut W,
-) -> Result<(), TextError>
-    requires first { 1 ≤ row }
-    requires last { row ≤ S.row_count source.now Event }
-    ensures { (model : Metadata) → S.shows source.now model → OnOk result (Wrote W.write_str_gives out.old (IsNameIn model Event row) out.new) }
-{
-    let class = type_token(type_of_event(source, row));
-    let name = cells::text(source, TableId::Event, row, MEMBER_NAME);
-    write_method_name(alloc, source, class, name, limit, out)
-}
-
-/// Writes the name of a property after that of its type.
-#[tactic(auto, unfolding(table_schema::specs::CellColumns::cell_columns))]
-fn write_property<S: ReadCells, W: fmt::Write, L: Limit<W>>(
-    alloc: Global,
-    source: &S,
-    row: u32,
-    limit: &L,
-    out: &mut W,
-) -> Result<(), TextError>
-    requires first { 1 ≤ row }
-    requires last { row ≤ S.row_count source.now Property }
-    ensures { (model : Metadata) → S.shows source.now model → OnOk result (Wrote W.write_str_gives out.old (IsNameIn model Property row) out.new) }
-{
-    let class = type_token(type_of_property(source, row));
-    let name = cells::text(source, TableId::Property, row, MEMBER_NAME);
-    write_method_name(alloc, source, class, name, limit, out)
+    write_name(out, NameKind::Dotted, scope, limit)?;
+    write_own_name(out, name, limit)
 }
 
 /// Writes the name of a MemberRef after that of its parent: of a type, of a module, or of the type of a method.
@@ -162,19 +135,24 @@ fn write_member_ref<S: ReadCells, W: fmt::Write, L: Limit<W>>(
     match parent.table {
         TableId::MethodDef => {
             let class = type_token(type_of_method(source, parent.row));
-            write_method_name(alloc, source, class, name, limit, out)
+            write_member_name(alloc, source, class, name, limit, out)
         }
         TableId::ModuleRef => {
             let module = cells::text(source, TableId::ModuleRef, parent.row, MODULE_NAME);
-            Ok(write_global_name(out, module, name)?)
+            Ok(write_global_name(out, module, name, limit)?)
         }
-        _ => write_method_name(alloc, source, parent, name, limit, out),
+        _ => write_member_name(alloc, source, parent, name, limit, out),
     }
 }
 
 /// Writes the name of a row of ModuleRef, AssemblyRef, File, ExportedType or GenericParam, and `..` for any other.
 #[tactic(auto, unfolding(table_schema::specs::CellColumns::cell_columns))]
-fn write_plain<S: ReadCells, W: fmt::Write>(source: &S, token: Token, out: &mut W) -> fmt::Result
+fn write_plain<S: ReadCells, W: fmt::Write, L: Limit<W>>(
+    source: &S,
+    token: Token,
+    limit: &L,
+    out: &mut W,
+) -> fmt::Result
     requires first { 1 ≤ token.row }
     requires last { token.row ≤ S.row_count source.now token.table }
     ensures { (model : Metadata) → S.shows source.now model
@@ -182,27 +160,26 @@ fn write_plain<S: ReadCells, W: fmt::Write>(source: &S, token: Token, out: &mut 
 {
     let row = token.row;
     match token.table {
-        TableId::ModuleRef => write_text(
-            out,
-            cells::text(source, TableId::ModuleRef, row, MODULE_NAME),
-        ),
-        TableId::AssemblyRef => {
-            write_text(
-                out,
-                cells::text(source, TableId::AssemblyRef, row, ASSEMBLY_NAME),
-            )
+        TableId::ModuleRef => {
+            let name = cells::text(source, TableId::ModuleRef, row, MODULE_NAME);
+            write_name(out, NameKind::Dotted, name, limit)
         }
-        TableId::File => write_text(out, cells::text(source, TableId::File, row, FILE_NAME)),
+        TableId::AssemblyRef => {
+            let name = cells::text(source, TableId::AssemblyRef, row, ASSEMBLY_NAME);
+            write_name(out, NameKind::Dotted, name, limit)
+        }
+        TableId::File => {
+            let name = cells::text(source, TableId::File, row, FILE_NAME);
+            write_name(out, NameKind::Dotted, name, limit)
+        }
         TableId::ExportedType => {
             let namespace = cells::text(source, TableId::ExportedType, row, EXPORTED_NAMESPACE);
             let name = cells::text(source, TableId::ExportedType, row, EXPORTED_NAME);
-            write_own_name(out, namespace, name)
+            write_type_name(out, namespace, name, limit)
         }
         TableId::GenericParam => {
-            write_text(
-                out,
-                cells::text(source, TableId::GenericParam, row, GENERIC_NAME),
-            )
+            let name = cells::text(source, TableId::GenericParam, row, GENERIC_NAME);
+            write_name(out, NameKind::Identifier, name, limit)
         }
         _ => write_left_out(out),
     }
@@ -219,12 +196,13 @@ fn write_plain<S: ReadCells, W: fmt::Write>(source: &S, token: Token, out: &mut 
 /// | a module, an assembly or a file that is referred to; a generic parameter | its own |
 /// | any other row, and one that does not exist | `..` |
 ///
-/// Names are written unchanged: they may have control characters. The type of a member is found by binary search. When the
-/// limit is reached, the names in a TypeSpec are passed over.
+/// Names are quoted as [`write_name`](crate::write_name) does. The type of a member is found by binary search. When the
+/// limit is reached, what follows in a TypeSpec is passed over.
 ///
 /// # Errors
 ///
 /// `Writer` if the writer refused a part of the name. `Memory` if out of memory.
+#[tactic(auto, unfolding(table_schema::specs::CellColumns::cell_columns))]
 pub fn write_row_name<S: ReadCells, W: fmt::Write, L: Limit<W>>(
     alloc: Global,
     source: &S,
@@ -238,16 +216,33 @@ pub fn write_row_name<S: ReadCells, W: fmt::Write, L: Limit<W>>(
     if token.row == 0 || token.row > source.count(token.table) {
         return Ok(write_left_out(out)?);
     }
+    let row = token.row;
     match token.table {
         TableId::TypeDef | TableId::TypeRef | TableId::TypeSpec => {
             write_full_name_within(alloc, source, token, limit, out)
         }
-        TableId::Field => write_field(alloc, source, token.row, limit, out),
-        TableId::MethodDef => write_method_row(alloc, source, token.row, limit, out),
-        TableId::Event => write_event(alloc, source, token.row, limit, out),
-        TableId::Property => write_property(alloc, source, token.row, limit, out),
-        TableId::MemberRef => write_member_ref(alloc, source, token.row, limit, out),
-        _ => Ok(write_plain(source, token, out)?),
+        TableId::Field => {
+            let class = type_token(type_of_field(source, row));
+            let name = cells::text(source, TableId::Field, row, FIELD_NAME);
+            write_member_name(alloc, source, class, name, limit, out)
+        }
+        TableId::MethodDef => {
+            let class = type_token(type_of_method(source, row));
+            let name = cells::text(source, TableId::MethodDef, row, METHOD_NAME);
+            write_member_name(alloc, source, class, name, limit, out)
+        }
+        TableId::Event => {
+            let class = type_token(type_of_event(source, row));
+            let name = cells::text(source, TableId::Event, row, MEMBER_NAME);
+            write_member_name(alloc, source, class, name, limit, out)
+        }
+        TableId::Property => {
+            let class = type_token(type_of_property(source, row));
+            let name = cells::text(source, TableId::Property, row, MEMBER_NAME);
+            write_member_name(alloc, source, class, name, limit, out)
+        }
+        TableId::MemberRef => write_member_ref(alloc, source, row, limit, out),
+        _ => Ok(write_plain(source, token, limit, out)?),
     }
 }
 

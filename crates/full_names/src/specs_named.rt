@@ -11,6 +11,7 @@ use crate::limit::{Limit, NoLimit};
 use crate::names::{DEPTH, write_type_def_within, write_type_ref_within};
 use crate::parts::write_left_out;
 use crate::signature_bytes::bytes_of;
+use crate::text_end::result_of;
 use crate::text_error::TextError;
 use navigation::ReadCells;
 use sig_text::TokenNames;
@@ -47,7 +48,7 @@ impl<S: ReadCells> TokenNames for FullNames<'_, S> {
 /// Writes the name of a type in the notation of ILAsm (II.5.3, II.7.2): `Namespace.Outer/Inner` of a row of TypeDef or
 /// TypeRef, and the type itself of a row of TypeSpec.
 ///
-/// The names are those of the metadata, unchanged: they may have control characters. Up to [`DEPTH`] types of a chain are
+/// Names are quoted as [`write_name`](crate::write_name) does, so that a reader sees where each ends. Up to [`DEPTH`] types of a chain are
 /// written, and `..` before them if there are more. `..` stands for a TypeSpec in the text of a TypeSpec, too, and for a
 /// token that names no type. A TypeRef is written without its assembly.
 ///
@@ -75,7 +76,7 @@ pub fn write_full_name<S: ReadCells, W: fmt::Write>(
 }
 
 /// Writes the name of a type as [`write_full_name`] does, up to a limit: when it is reached, the names of enclosing types
-/// and those in a TypeSpec are passed over.
+/// and what follows in a TypeSpec are passed over.
 ///
 /// # Errors
 ///
@@ -127,8 +128,8 @@ fn write_type_spec<S: ReadCells, W: fmt::Write, L: Limit<W>>(
         source,
         writer: out,
         limit,
-        refused: false,
+        ended: None,
     };
-    let written = put_type_spec(&mut sink, bytes_of(&bytes));
-    written.ok_or(TextError::Writer)
+    put_type_spec(&mut sink, bytes_of(&bytes));
+    result_of(sink.ended)
 }

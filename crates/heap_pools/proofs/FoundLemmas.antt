@@ -1,9 +1,9 @@
 -- A pooled value is found again at its index in the heap.
-use Rattle.std.proofs.Common.{◌≡◌, ℕ, zero, suc, ◌+◌, ◌-◌, ◌*◌, ◌^◌, ◌<◌, ◌≤◌, Bool, true, false, not, ◌&&◌, ◌||◌, cond, true≢false, List, [], ◌∷◌, ◌++◌, length, flat_map, All, Contains, IsUtf8, Some, refl, sym, ap, subst, ◌∙◌, ◌⊎◌, inl, inr, ⊎_elim, arith, length-append, append_assoc, nat_lt}
+use Rattle.std.proofs.Common.{◌≡◌, ℕ, zero, suc, ◌+◌, ◌-◌, ◌*◌, ◌^◌, ◌<◌, ◌≤◌, true, false, not, ◌&&◌, ◌||◌, cond, true≢false, List, [], ◌∷◌, ◌++◌, length, flat_map, All, Contains, IsUtf8, Some, refl, sym, ap, subst, ◌∙◌, ◌⊎◌, inl, inr, ⊎_elim, arith, length-append, append_assoc, nat_lt}
 use Rattle.std.specs.List.{list_any, position_or_len}
 use Rattle.std.specs.Str.{bytes_eq}
 use Rattle.std.specs.Cmp.Lexicographic.{same_text}
-use Rattle.std.proofs.lemmas.Bool.{cases_Bool, cases_lt, false≢true}
+use Rattle.std.proofs.lemmas.Bool.{and_parts, cases_Bool, cases_lt, false≢true, not-false, not-true}
 use Rattle.std.proofs.lemmas.Bool.Decides.{nat_tests}
 use Rattle.std.proofs.lemmas.Cmp.{nat_list_eq_equiv}
 use Rattle.std.proofs.lemmas.List.Elements.{All-head, All-tail}
@@ -16,7 +16,6 @@ use Rattle.heap_pools.specs.GuidHeap.{guid_heap, guid_index}
 use Rattle.heap_pools.specs.TextHeap.{ended, is_holder, holders, text_from, text_heap, text_index}
 use Rattle.heap_pools.proofs.EndingLemmas.{ends_parts, ends_from}
 use Rattle.heap_pools.proofs.MemberLemmas.{IsIn, in_any, any_in, in_filter, in_distinct, among_in, in_from_contains}
-use Rattle.heap_pools.proofs.PlanLemmas.{both_true, not_true}
 use Rattle.heap_pools.proofs.RunLemmas.{ends_trans}
 
 -- texts
@@ -45,16 +44,12 @@ record HasHolder (used : List (List ℕ)) (text : List ℕ) : Type 0 where
   is : is_holder used holder ≡ true
   ends : ends_with holder text ≡ true
 
-not_is : (b : Bool) → not b ≡ false → b ≡ true
-not_is true h = refl
-not_is false h = absurd (true≢false h)
-
 other_longer : (used : List (List ℕ)) (text : List ℕ) → is_holder used text ≡ false → (other : List ℕ) × IsIn other used × (ends_with other text ≡ true) × (length text < length other)
 unfolding is_holder
 other_longer used text h =
-    let some = any_in (λ other. ends_with other text && not (bytes_eq other text)) used (not_is _ h) in
-    let both = both_true _ _ some.2 in
-    (some.0, some.1, both.0, ends_longer some.0 text both.0 (not_true _ both.1))
+    let some = any_in (λ other. ends_with other text && not (bytes_eq other text)) used (not-false _ h) in
+    let both = and_parts _ _ some.2 in
+    (some.0, some.1, both.0, ends_longer some.0 text both.0 (not-true _ both.1))
 
 holder_within : (used : List (List ℕ)) (n : ℕ) (text : List ℕ) → IsIn text used → total used < length text + n → HasHolder used text
 holder_within used zero text h room = absurd (omega (arith, no_longer text used h))

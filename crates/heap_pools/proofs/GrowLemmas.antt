@@ -1,5 +1,5 @@
 -- Growing pools: entries stay, and so do their offsets.
-use Rattle.std.proofs.Common.{◌≡◌, ℕ, ◌+◌, ◌≤◌, Bool, true, false, not, ◌||◌, cond, List, [], ◌∷◌, ◌++◌, length, flat_map, Contains, Option, Some, None, ◌⊎◌, inl, inr, refl, sym, ap, ◌∙◌, ⊎_elim, arith, append_assoc, length-append}
+use Rattle.std.proofs.Common.{◌≡◌, ℕ, ◌+◌, ◌≤◌, Bool, true, false, ◌||◌, cond, List, [], ◌∷◌, ◌++◌, length, flat_map, Contains, Option, Some, None, ◌⊎◌, inl, inr, refl, sym, ap, ◌∙◌, ⊎_elim, arith, append_assoc, length-append}
 use Rattle.std.specs.List.{position_or_len}
 use Rattle.std.specs.Str.{bytes_eq}
 use Rattle.std.proofs.lemmas.Bool.{cases_Bool, false≢true}
@@ -41,13 +41,10 @@ distinct_given used (Some guid) = distinct-push used guid
 blob_from-append : (at : ℕ) (entries more : List (List ℕ)) (blob : List ℕ) → is_among entries blob ≡ true → blob_from at (entries ++ more) blob ≡ blob_from at entries blob
 blob_from-append at [] more blob there = absurd (false≢true there)
 blob_from-append at (entry ∷ entries) more blob there = ⊎_elim
-    (λ (e : bytes_eq blob entry ≡ true).
-    ap (λ b. cond b at (blob_from (at + length (counted entry)) (entries ++ more) blob)) e
-    ∙ sym (ap (λ b. cond b at (blob_from (at + length (counted entry)) entries blob)) e))
+    (λ (e : bytes_eq blob entry ≡ true). rw e refl)
     (λ (e : bytes_eq blob entry ≡ false).
-    ap (λ b. cond b at (blob_from (at + length (counted entry)) (entries ++ more) blob)) e
-    ∙ blob_from-append (at + length (counted entry)) entries more blob (sym (ap (λ b. b || is_among entries blob) e) ∙ there)
-    ∙ sym (ap (λ b. cond b at (blob_from (at + length (counted entry)) entries blob)) e))
+    let tail = blob_from-append (at + length (counted entry)) entries more blob (sym (ap (λ b. b || is_among entries blob) e) ∙ there) in
+    rw e tail)
     (cases_Bool (bytes_eq blob entry))
 
 pub blob_index-append : (entries more : List (List ℕ)) (blob : List ℕ) → (blob ≡ []) ⊎ Contains entries blob → blob_index (entries ++ more) blob ≡ blob_index entries blob
@@ -59,13 +56,10 @@ blob_index-append entries more (byte ∷ bytes) (inr there) =
 position-append : (entries more : List (List ℕ)) (guid : List ℕ) → is_among entries guid ≡ true → position_or_len (bytes_eq guid) (entries ++ more) ≡ position_or_len (bytes_eq guid) entries
 position-append [] more guid there = absurd (false≢true there)
 position-append (entry ∷ entries) more guid there = ⊎_elim
-    (λ (e : bytes_eq guid entry ≡ true).
-    ap (λ b. cond (not b) (1 + position_or_len (bytes_eq guid) (entries ++ more)) 0) e
-    ∙ sym (ap (λ b. cond (not b) (1 + position_or_len (bytes_eq guid) entries) 0) e))
+    (λ (e : bytes_eq guid entry ≡ true). rw e refl)
     (λ (e : bytes_eq guid entry ≡ false).
-    ap (λ b. cond (not b) (1 + position_or_len (bytes_eq guid) (entries ++ more)) 0) e
-    ∙ ap (λ n. 1 + n) (position-append entries more guid (sym (ap (λ b. b || is_among entries guid) e) ∙ there))
-    ∙ sym (ap (λ b. cond (not b) (1 + position_or_len (bytes_eq guid) entries) 0) e))
+    let tail = position-append entries more guid (sym (ap (λ b. b || is_among entries guid) e) ∙ there) in
+    rw e (ap (λ n. 1 + n) tail))
     (cases_Bool (bytes_eq guid entry))
 
 pub guid_index-append : (entries more : List (List ℕ)) (guid : List ℕ) → Contains entries guid → guid_index (entries ++ more) (Some guid) ≡ guid_index entries (Some guid)

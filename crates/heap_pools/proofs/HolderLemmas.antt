@@ -1,19 +1,19 @@
 -- The heap of the texts used first is not longer than the heap of all: each of its entries is at the end of a
 -- different entry there.
-use Rattle.std.proofs.Common.{◌≡◌, ℕ, ◌<◌, ◌≤◌, Bool, true, false, not, ◌&&◌, ◌||◌, cond, true≢false, List, [], ◌∷◌, ◌++◌, length, filter, drop, ◌⊎◌, inl, inr, refl, sym, ap, subst, ◌∙◌, ⊎_elim, arith, length-append}
+use Rattle.std.proofs.Common.{◌≡◌, ℕ, ◌<◌, ◌≤◌, Bool, true, false, not, ◌&&◌, cond, true≢false, List, [], ◌∷◌, ◌++◌, length, filter, drop, ◌⊎◌, inl, inr, refl, sym, ap, subst, ◌∙◌, ⊎_elim, arith, length-append}
 use Rattle.std.specs.List.{list_any}
 use Rattle.std.specs.Str.{bytes_eq}
 use Rattle.std.specs.Cmp.Lexicographic.{same_text}
-use Rattle.std.proofs.lemmas.Bool.{cases_Bool}
+use Rattle.std.proofs.lemmas.Bool.{cases_Bool, cond_both, not-true, or_parts}
 use Rattle.std.proofs.lemmas.Cmp.{nat_list_eq_equiv}
+use Rattle.std.proofs.lemmas.List.Elements.{Contains-append_left}
 use Rattle.heap_pools.specs.Distinct.{is_among, first_uses, distinct}
 use Rattle.heap_pools.specs.Ending.{ends_with}
 use Rattle.heap_pools.specs.TextHeap.{is_holder, holders, ended, text_heap}
 use Rattle.heap_pools.proofs.EndingLemmas.{ends_parts, ends_from, ends_length}
 use Rattle.heap_pools.proofs.FoundLemmas.{held}
 use Rattle.heap_pools.proofs.HeapLemmas.{ended-append}
-use Rattle.heap_pools.proofs.MemberLemmas.{IsIn, in_any, any_in, among_push}
-use Rattle.heap_pools.proofs.PlanLemmas.{not_true}
+use Rattle.heap_pools.proofs.MemberLemmas.{IsIn, in_any, any_in, among_push, contains_from_in, in_from_contains}
 
 -- of two endings of one text, one ends with the other
 ends_either : (p q a b : List ℕ) → p ++ a ≡ q ++ b → (ends_with a b ≡ true) ⊎ (ends_with b a ≡ true)
@@ -28,14 +28,14 @@ one_ends text a b ha hb =
     ends_either p.0 q.0 a b (sym p.1 ∙ q.1)
 
 -- a used text that ends with a holder is equal to it
-holder_is : (used : List (List ℕ)) (holder text : List ℕ) → is_holder used holder ≡ true → IsIn text used → ends_with text holder ≡ true → text ≡ holder
+pub holder_is : (used : List (List ℕ)) (holder text : List ℕ) → is_holder used holder ≡ true → IsIn text used → ends_with text holder ≡ true → text ≡ holder
 unfolding is_holder
 holder_is used holder text is there ends = ⊎_elim
     (λ (e : bytes_eq text holder ≡ true). same_text text holder (sym e))
     (λ (e : bytes_eq text holder ≡ false).
     let other : list_any (λ other. ends_with other holder && not (bytes_eq other holder)) used ≡ true =
     in_any (λ other. ends_with other holder && not (bytes_eq other holder)) text used there (ap (λ b. b && not (bytes_eq text holder)) ends ∙ ap not e) in
-    absurd (true≢false (sym other ∙ not_true _ is)))
+    absurd (true≢false (sym other ∙ not-true _ is)))
     (cases_Bool (bytes_eq text holder))
 
 -- the elements that a filter leaves
@@ -49,21 +49,13 @@ left_in test x (z ∷ zs) h = ⊎_elim
     (λ (e : test z ≡ false). let tail = left_in test x zs (subst (λ b. IsIn x (cond b (z ∷ filter test zs) (filter test zs))) e h) in (inr tail.0, tail.1))
     (cases_Bool (test z))
 
-or_left : (a b : Bool) → (a || b) ≡ false → a ≡ false
-or_left true b h = absurd (true≢false h)
-or_left false b h = refl
-
-or_right : (a b : Bool) → (a || b) ≡ false → b ≡ false
-or_right true b h = absurd (true≢false h)
-or_right false b h = h
-
 -- a first use is among the values, and not in `before`
 first_is : (before values : List (List ℕ)) (x : List ℕ) → IsIn x (first_uses before values) → IsIn x values × (is_among before x ≡ false)
 first_is before [] x h = absurd h
 first_is before (value ∷ values) x h =
     let further : IsIn x (first_uses (before ++ value ∷ []) values) → IsIn x (value ∷ values) × (is_among before x ≡ false) = λ later.
     let tail = first_is (before ++ value ∷ []) values x later in
-    (inr tail.0, or_left _ _ (sym (among_push before value x) ∙ tail.1)) in
+    (inr tail.0, (or_parts _ _ (sym (among_push before value x) ∙ tail.1)).0) in
     ⊎_elim
     (λ (e : is_among before value ≡ true). further (subst (λ b. IsIn x (cond b (first_uses (before ++ value ∷ []) values) (value ∷ first_uses (before ++ value ∷ []) values))) e h))
     (λ (e : is_among before value ≡ false). ⊎_elim
@@ -90,21 +82,17 @@ module _ (used : List (List ℕ)) where
   apart_from before (value ∷ values) all =
       let tail = first_uses (before ++ value ∷ []) values in
       let more : AreApart (filter (is_holder used) tail) = apart_from (before ++ value ∷ []) values (λ x h. all x (inr h)) in
-      ⊎_elim
-      (λ (e : is_among before value ≡ true). subst (λ b. AreApart (filter (is_holder used) (cond b tail (value ∷ tail)))) (sym e) more)
-      (λ (e : is_among before value ≡ false). subst (λ b. AreApart (filter (is_holder used) (cond b tail (value ∷ tail)))) (sym e)
-      (⊎_elim
-      (λ (holds : is_holder used value ≡ true). subst (λ b. AreApart (cond b (value ∷ filter (is_holder used) tail) (filter (is_holder used) tail))) (sym holds) (
+      cond_both (is_among before value) tail (value ∷ tail) (λ list. AreApart (filter (is_holder used) list)) (λ _. more)
+      (λ _. cond_both (is_holder used value) (value ∷ filter (is_holder used) tail) (filter (is_holder used) tail) AreApart
+      (λ holds. (
         λ other text there ends_value ends_other.
             let left = left_in (is_holder used) other tail there in
             let first = first_is (before ++ value ∷ []) values other left.0 in
             let same = same_holder value other text holds left.1 (all value (inl refl)) (all other (inr first.0)) ends_value ends_other in
-            true≢false (sym (nat_list_eq_equiv.refl other) ∙ ap (bytes_eq other) (sym same) ∙ or_right _ _ (sym (among_push before value other) ∙ first.1)),
+            true≢false (sym (nat_list_eq_equiv.refl other) ∙ ap (bytes_eq other) (sym same) ∙ (or_parts _ _ (sym (among_push before value other) ∙ first.1)).1),
         more,
       ))
-      (λ (not_one : is_holder used value ≡ false). subst (λ b. AreApart (cond b (value ∷ filter (is_holder used) tail) (filter (is_holder used) tail))) (sym not_one) more)
-      (cases_Bool (is_holder used value))))
-      (cases_Bool (is_among before value))
+      (λ _. more))
 
 -- a list split at an element
 record IsSplit (x : List ℕ) (xs : List (List ℕ)) : Type 0 where
@@ -143,17 +131,13 @@ text_heap-longer [] ys h = omega arith
 text_heap-longer (x ∷ xs) [] h = absurd (omega (arith, h, length-append x (0 ∷ ended xs)))
 text_heap-longer (x ∷ xs) (y ∷ ys) h = omega (arith, h)
 
-in_prefix : (used more : List (List ℕ)) (x : List ℕ) → IsIn x used → IsIn x (used ++ more)
-in_prefix [] more x h = absurd h
-in_prefix (y ∷ used) more x (inl e) = inl e
-in_prefix (y ∷ used) more x (inr h) = inr (in_prefix used more x h)
-
 pub texts_grow : (used more : List (List ℕ)) → length (text_heap (holders used)) ≤ length (text_heap (holders (used ++ more)))
 texts_grow used more = text_heap-longer (holders used) (holders (used ++ more))
     (ended_longer (holders used) (holders (used ++ more)) (apart_from used ([] ∷ []) used (λ x h. h)) (λ x h.
     let left = left_in (is_holder used) x (distinct used) h in
     let first = first_is ([] ∷ []) used x left.0 in
-    let found = any_in (λ entry. ends_with entry x) (holders (used ++ more)) (held (used ++ more) x (in_prefix used more x first.0) (some x first.1)) in
+    let there = in_from_contains (used ++ more) x (Contains-append_left used more x (contains_from_in used x first.0)) in
+    let found = any_in (λ entry. ends_with entry x) (holders (used ++ more)) (held (used ++ more) x there (some x first.1)) in
     (found.0, found.1, found.2)))
   where
     some : (x : List ℕ) → is_among ([] ∷ []) x ≡ false → 0 < length x

@@ -3,7 +3,7 @@ use Rattle.std.proofs.Common.{◌≡◌, ℕ, zero, suc, ◌<◌, Bool, true, fa
 use Rattle.std.specs.List.{list_any}
 use Rattle.std.specs.Str.{bytes_eq}
 use Rattle.std.specs.Cmp.Lexicographic.{same_text}
-use Rattle.std.proofs.lemmas.Bool.{cases_Bool, false≢true}
+use Rattle.std.proofs.lemmas.Bool.{cases_Bool, cond_both, false≢true, or_from, or_left, or_right}
 use Rattle.std.proofs.lemmas.Cmp.{nat_list_eq_equiv}
 use Rattle.std.proofs.lemmas.List.{append-nil}
 use Rattle.std.proofs.lemmas.List.Folds.{list_any-append}
@@ -24,18 +24,14 @@ contains_from_in [] x h = absurd h
 contains_from_in (y ∷ ys) x (inl e) = (0, omega arith, e)
 contains_from_in (y ∷ ys) x (inr h) = let tail = contains_from_in ys x h in (suc tail.0, omega (arith, tail.1), tail.2)
 
-or_true : (b : Bool) → (b || true) ≡ true
-or_true true = refl
-or_true false = refl
-
 or_false : (b : Bool) → (b || false) ≡ b
 or_false true = refl
 or_false false = refl
 
 pub in_any : {X : Type 0} (test : X → Bool) (x : X) (xs : List X) → IsIn x xs → test x ≡ true → list_any test xs ≡ true
 in_any test x [] h t = absurd h
-in_any test x (z ∷ zs) (inl e) t = ap (λ b. b || list_any test zs) (ap test e ∙ t)
-in_any test x (z ∷ zs) (inr h) t = ap (λ b. test z || b) (in_any test x zs h t) ∙ or_true (test z)
+in_any test x (z ∷ zs) (inl e) t = or_left (test z) (list_any test zs) (ap test e ∙ t)
+in_any test x (z ∷ zs) (inr h) t = or_right (test z) (list_any test zs) (in_any test x zs h t)
 
 pub any_in : {X : Type 0} (test : X → Bool) (xs : List X) → list_any test xs ≡ true → (x : X) × IsIn x xs × (test x ≡ true)
 any_in test [] h = absurd (false≢true h)
@@ -47,10 +43,9 @@ any_in test (z ∷ zs) h = ⊎_elim
 pub in_filter : {X : Type 0} (test : X → Bool) (x : X) (xs : List X) → IsIn x xs → test x ≡ true → IsIn x (filter test xs)
 in_filter test x [] h t = absurd h
 in_filter test x (z ∷ zs) (inl e) t = subst (λ b. IsIn x (cond b (z ∷ filter test zs) (filter test zs))) (sym (ap test e ∙ t)) (inl e)
-in_filter test x (z ∷ zs) (inr h) t = ⊎_elim
-    (λ (e : test z ≡ true). subst (λ b. IsIn x (cond b (z ∷ filter test zs) (filter test zs))) (sym e) (inr (in_filter test x zs h t)))
-    (λ (e : test z ≡ false). subst (λ b. IsIn x (cond b (z ∷ filter test zs) (filter test zs))) (sym e) (in_filter test x zs h t))
-    (cases_Bool (test z))
+in_filter test x (z ∷ zs) (inr h) t =
+    let tail = in_filter test x zs h t in
+    cond_both (test z) (z ∷ filter test zs) (filter test zs) (IsIn x) (λ _. inr tail) (λ _. tail)
 
 pub among_in : (values : List (List ℕ)) (value : List ℕ) → IsIn value values → is_among values value ≡ true
 among_in values value h = in_any (bytes_eq value) value values h (nat_list_eq_equiv.refl value)
@@ -58,9 +53,6 @@ among_in values value h = in_any (bytes_eq value) value values h (nat_list_eq_eq
 -- a value that is in the list before it is not added again
 pub among_push : (before : List (List ℕ)) (value x : List ℕ) → is_among (before ++ value ∷ []) x ≡ (is_among before x || bytes_eq x value)
 among_push before value x = list_any-append (bytes_eq x) before (value ∷ []) ∙ ap (λ b. is_among before x || b) (or_false (bytes_eq x value))
-
-or_of_false : (a b : Bool) → a ≡ false → b ≡ false → (a || b) ≡ false
-or_of_false a b e f = ap (λ c. c || b) e ∙ f
 
 -- the first use of each value is among the first uses
 first_use : (before used : List (List ℕ)) (x : List ℕ) → IsIn x used → is_among before x ≡ false → IsIn x (first_uses before used)
@@ -71,11 +63,9 @@ first_use before (value ∷ values) x h none = ⊎_elim
     subst (λ b. IsIn x (cond b (first_uses (before ++ value ∷ []) values) (value ∷ first_uses (before ++ value ∷ []) values))) (sym (ap (is_among before) same ∙ none)) (inl same))
     (λ (e : bytes_eq x value ≡ false).
     let later : IsIn x values = ⊎_elim (λ (same : value ≡ x). absurd (true≢false (sym (nat_list_eq_equiv.refl x) ∙ ap (bytes_eq x) (sym same) ∙ e))) (λ (l : IsIn x values). l) h in
-    let more = first_use (before ++ value ∷ []) values x later (among_push before value x ∙ or_of_false _ _ none e) in
-    ⊎_elim
-    (λ (t : is_among before value ≡ true). subst (λ b. IsIn x (cond b (first_uses (before ++ value ∷ []) values) (value ∷ first_uses (before ++ value ∷ []) values))) (sym t) more)
-    (λ (f : is_among before value ≡ false). subst (λ b. IsIn x (cond b (first_uses (before ++ value ∷ []) values) (value ∷ first_uses (before ++ value ∷ []) values))) (sym f) (inr more))
-    (cases_Bool (is_among before value)))
+    let more = first_use (before ++ value ∷ []) values x later (among_push before value x ∙ or_from _ _ none e) in
+    let tail = first_uses (before ++ value ∷ []) values in
+    cond_both (is_among before value) tail (value ∷ tail) (IsIn x) (λ _. more) (λ _. inr more))
     (cases_Bool (bytes_eq x value))
 
 nothing_like : (x : List ℕ) → 0 < length x → is_among ([] ∷ []) x ≡ false

@@ -1,10 +1,10 @@
 -- From the first uses to the heap of the holders.
-use Rattle.std.proofs.Common.{◌≡◌, ℕ, zero, suc, ◌+◌, ◌-◌, ◌<◌, ◌≤◌, Bool, true, false, not, ◌&&◌, ◌||◌, cond, List, [], ◌∷◌, ◌++◌, length, take, get_or, filter, slice_index_or, refl, sym, ap, subst, ◌∙◌, ◌⊎◌, inl, inr, ⊎_elim, true≢false, arith, length-append}
+use Rattle.std.proofs.Common.{◌≡◌, ℕ, zero, suc, ◌+◌, ◌-◌, ◌<◌, ◌≤◌, Bool, true, false, not, ◌&&◌, ◌||◌, cond, List, [], ◌∷◌, ◌++◌, length, take, get_or, filter, slice_index_or, refl, sym, ap, subst, ◌∙◌, ⊎_elim, true≢false, arith, length-append}
 use Rattle.std.specs.List.{list_any}
 use Rattle.std.specs.Str.{bytes_eq}
 use Rattle.std.specs.Cmp.Lexicographic.{same_text}
 use Rattle.std.specs.declared.cmp.Ordering.TheVariants.{Less}
-use Rattle.std.proofs.lemmas.Bool.{cases_lt, false≢true}
+use Rattle.std.proofs.lemmas.Bool.{and_parts, and_right, cases_Bool, cases_lt, false_from_ne_true, false≢true, not-true}
 use Rattle.std.proofs.lemmas.Cmp.{nat_list_eq_equiv}
 use Rattle.std.proofs.lemmas.List.{append_assoc, append-nil, get_or_default}
 use Rattle.std.proofs.lemmas.List.Folds.{Any-from_list_any, list_any_at}
@@ -21,24 +21,11 @@ any_at test xs d h =
     let a = Any-from_list_any test xs h in
     (a.0, a.2, ap test (get_or_default xs a.0 d a.1 a.2 ∙ a.3) ∙ a.4)
 
-pub bool_cases : (b : Bool) → (b ≡ true) ⊎ (b ≡ false)
-bool_cases true = inl refl
-bool_cases false = inr refl
-
-pub both_true : (a b : Bool) → a && b ≡ true → (a ≡ true) × (b ≡ true)
-both_true true true h = (refl, refl)
-both_true true false h = absurd (true≢false (sym h))
-both_true false b h = absurd (true≢false (sym h))
-
-pub not_true : (b : Bool) → not b ≡ true → b ≡ false
-not_true true h = absurd (true≢false (sym h))
-not_true false h = refl
-
 pub differ_from_false : (x y : List ℕ) → bytes_eq x y ≡ false → x ≡ y → ⊥
 differ_from_false x y h e = true≢false (sym (nat_list_eq_equiv.refl x) ∙ ap (bytes_eq x) e ∙ h)
 
 pub false_from_differ : (x y : List ℕ) → (x ≡ y → ⊥) → bytes_eq x y ≡ false
-false_from_differ x y apart = ⊎_elim (λ e. absurd (apart (same_text x y (sym e)))) (λ e. e) (bool_cases (bytes_eq x y))
+false_from_differ x y apart = false_from_ne_true (bytes_eq x y) (λ e. apart (same_text x y (sym e)))
 
 -- the texts of sorted uses
 module _ (used : List (List ℕ)) (ranked : List TextUse) (f : AreFirstUses used ranked) where
@@ -73,10 +60,10 @@ module _ (used : List (List ℕ)) (ranked : List TextUse) (f : AreFirstUses used
   no_other : (k : ℕ) → k < length ranked → IsTop ranked k → list_any (λ other. ends_with other (text_at ranked k) && not (bytes_eq other (text_at ranked k))) used ≡ true → ⊥
   no_other k hk top h =
       let a = any_at (λ other. ends_with other (text_at ranked k) && not (bytes_eq other (text_at ranked k))) used [] h in
-      let b = both_true _ _ a.2 in
+      let b = and_parts _ _ a.2 in
       let r = use_of_used a.0 k a.1 hk b.0 in
       let ends : ends_with (text_at ranked r.0) (text_at ranked k) ≡ true = ap (λ t. ends_with t (text_at ranked k)) r.2 ∙ b.0 in
-      let apart : text_at ranked r.0 ≡ text_at ranked k → ⊥ = λ e. differ_from_false (used_at used a.0) (text_at ranked k) (not_true _ b.1) (sym r.2 ∙ e) in
+      let apart : text_at ranked r.0 ≡ text_at ranked k → ⊥ = λ e. differ_from_false (used_at used a.0) (text_at ranked k) (not-true _ b.1) (sym r.2 ∙ e) in
       let le = ends_after k r.0 hk r.1 ends in
       ⊎_elim
       (λ (lt : k + 1 < r.0). true≢false (sym (ends_between (text_at ranked k) (text_at ranked (k + 1)) (text_at ranked r.0) (f.rises k (k + 1) (omega arith) (omega (arith, r.1))) (f.rises (k + 1) r.0 lt r.1) ends) ∙ top (omega (arith, r.1))))
@@ -88,11 +75,11 @@ module _ (used : List (List ℕ)) (ranked : List TextUse) (f : AreFirstUses used
 
   pub holder_from_top : (k : ℕ) → k < length ranked → IsTop ranked k → is_holder used (text_at ranked k) ≡ true
   unfolding is_holder
-  holder_from_top k hk top = ap not (⊎_elim (λ e. absurd (no_other k hk top e)) (λ e. e) (bool_cases (list_any (λ other. ends_with other (text_at ranked k) && not (bytes_eq other (text_at ranked k))) used)))
+  holder_from_top k hk top = ap not (false_from_ne_true _ (no_other k hk top))
 
   pub top_from_holder : (k : ℕ) → k < length ranked → is_holder used (text_at ranked k) ≡ true → IsTop ranked k
   unfolding is_holder
-  top_from_holder k hk h next = ⊎_elim (λ ends. absurd (true≢false (sym (by ends) ∙ not_true _ h))) (λ e. e) (bool_cases (ends_with (text_at ranked (k + 1)) (text_at ranked k)))
+  top_from_holder k hk h next = false_from_ne_true _ (λ ends. true≢false (sym (by ends) ∙ not-true _ h))
     where
       by : ends_with (text_at ranked (k + 1)) (text_at ranked k) ≡ true → list_any (λ other. ends_with other (text_at ranked k) && not (bytes_eq other (text_at ranked k))) used ≡ true
       by ends =
@@ -155,7 +142,7 @@ flagged_at test (t ∷ ts) (false ∷ fs) (suc n) h = let r = flagged_at test ts
 flagged_at test (t ∷ ts) (true ∷ fs) (suc n) h = ⊎_elim
     (λ (e : test t ≡ true). (0, omega arith, omega arith, refl, e))
     (λ e. let r = flagged_at test ts fs n (ap (λ b. b || list_any test (flagged (take n ts) (take n fs))) (sym e) ∙ h) in (suc r.0, omega (arith, r.1), omega (arith, r.2), r.3, r.4))
-    (bool_cases (test t))
+    (cases_Bool (test t))
 
 -- the index of a text that is the ending of an entry, and of no entry before it
 pub text_from-entry : (at : ℕ) (before : List (List ℕ)) (entry : List ℕ) (tail : List (List ℕ)) (text : List ℕ) → list_any (λ other. ends_with other text) before ≡ false → ends_with entry text ≡ true
@@ -168,7 +155,7 @@ text_from-entry at (first ∷ before) entry tail text none ends = ⊎_elim
     ∙ (let long : length (ended (first ∷ before)) ≡ length first + (1 + length (ended before)) = length-append first (0 ∷ ended before) ∙ ap (λ n. length first + n) (omega arith) in
     let sums : at + length first + 1 + length (ended before) ≡ at + length (ended (first ∷ before)) = omega arith in
     ap (λ n. n + length entry - length text) sums))
-    (bool_cases (ends_with first text))
+    (cases_Bool (ends_with first text))
 
 -- the holders are the flagged texts
 pub holders-flagged : (test : List ℕ → Bool) (before texts : List (List ℕ)) (flags : List Bool) → length flags ≡ length texts
@@ -183,17 +170,13 @@ holders-flagged test before (t ∷ ts) (f ∷ fs) long agree =
     ⊎_elim
     (λ (e : is_among before t ≡ true).
     ap (λ b. filter test (cond b (first_uses (before ++ t ∷ []) ts) (t ∷ first_uses (before ++ t ∷ []) ts))) e ∙ more
-    ∙ ap (λ b. cond b (t ∷ flagged ts fs) (flagged ts fs)) (sym (here ∙ ap (λ b. test t && not b) e ∙ and_false (test t))))
+    ∙ ap (λ b. cond b (t ∷ flagged ts fs) (flagged ts fs)) (sym (here ∙ and_right (test t) (not (is_among before t)) (ap not e))))
     (λ e.
     ap (λ b. filter test (cond b (first_uses (before ++ t ∷ []) ts) (t ∷ first_uses (before ++ t ∷ []) ts))) e
     ∙ ap (λ l. cond (test t) (t ∷ l) l) more
     ∙ ap (λ b. cond b (t ∷ flagged ts fs) (flagged ts fs)) (sym (here ∙ ap (λ b. test t && not b) e ∙ and_true (test t))))
-    (bool_cases (is_among before t))
+    (cases_Bool (is_among before t))
   where
-    and_false : (b : Bool) → b && false ≡ false
-    and_false true = refl
-    and_false false = refl
-
     and_true : (b : Bool) → b && true ≡ b
     and_true true = refl
     and_true false = refl

@@ -10,7 +10,7 @@ use Rattle.heap_entries.specs.Entries.{HasNoNul}
 use Rattle.heap_pools.specs.declared.heap_texts.StartUse.{StartUse}
 use Rattle.heap_pools.specs.HeapTexts.{heap_text, texts_at}
 use Rattle.heap_pools.specs.StartUses.{start_use_at, AreStartUses}
-use Rattle.heap_pools.specs.Ranking.{TextUse, text_at, used_at, HasText, IsSource, ListsUses}
+use Rattle.heap_pools.specs.Ranking.{used_at, HasText}
 use Rattle.heap_pools.specs.Uses.{bytes_of}
 use Rattle.heap_pools.proofs.FirstLemmas.{last_cases}
 use Rattle.heap_pools.proofs.HeapTextLemmas.{heap_text_plain}
@@ -96,22 +96,3 @@ starts_have_text heap starts use_index first h f = record {
   within = f.0;
   same = get_or-map (heap_text heap) starts first 0 [] (omega (arith, f.0, h)) ∙ ap (heap_text heap) f.1 ∙ sym (get_or-map (heap_text heap) starts use_index 0 [] h);
 }
-
--- a use index has its own text
-pub own_has_text : (used : List (List ℕ)) (use_index first : ℕ) → first ≡ use_index → HasText used use_index first
-own_has_text used use_index first e = record { within = omega (arith, e); same = ap (used_at used) e }
-
--- an earlier use index with the text is a source
-pub source_earlier : (used : List (List ℕ)) (n : ℕ) (uses : List TextUse) → ListsUses used n uses → (first : ℕ) → first < n → used_at used first ≡ used_at used n → IsSource used uses n first
-source_earlier used n uses l first lt same = record {
-  within = omega (arith, lt);
-  same = same;
-  own = λ e some. absurd (omega (arith, e, lt));
-  of_use = λ k k_in is. absurd (omega (arith, is, l.use_indexes k k_in));
-}
-
-pub known_earlier : (used : List (List ℕ)) (n : ℕ) (uses : List TextUse) → ListsUses used n uses → (first : ℕ) → first < n → used_at used first ≡ used_at used n → 0 < length (used_at used n)
-    → (k : ℕ) × (k < length uses) × (text_at uses k ≡ used_at used n)
-known_earlier used n uses l first lt same some =
-    let o = l.all first lt (omega (arith, some, ap length same)) in
-    (o.0, o.1, o.2 ∙ same)

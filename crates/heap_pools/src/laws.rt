@@ -7,6 +7,7 @@ ghost use Rattle.heap_pools.specs.HeapTexts.{heap_text, texts_at};
 ghost use Rattle.heap_pools.specs.TextHeap.{holders, text_heap, text_index};
 
 /// In the planned heap, the text at the index of a used text is this text. More bytes may follow the heap.
+#[tactic(auto, using(crate::proofs::FoundLemmas::text_found))]
 pub fn used_text_is_found()
     ensures { (used : List (List ℕ)) (text tail : List ℕ) → Contains used text → HasNoNul text → IsUtf8 text
         → IsText (text_heap (holders used) ++ tail) (text_index (holders used) text) text }
@@ -21,12 +22,14 @@ pub fn texts_are_at()
 {}
 
 /// In the heap, the blob at the index of a pooled blob is this blob. More bytes may follow the heap.
+#[tactic(auto, using(crate::proofs::FoundLemmas::blob_found))]
 pub fn pooled_blob_is_found()
     ensures { (entries : List (List ℕ)) (blob tail : List ℕ) → (blob ≡ []) ⊎ Contains entries blob → length blob < 2 ^ 29
         → IsBlob (blob_heap entries ++ tail) (blob_index entries blob) blob }
 {}
 
 /// In the heap, the GUID at the index of a pooled GUID is this GUID. More bytes may follow the heap.
+#[tactic(auto, using(crate::proofs::FoundLemmas::guid_found))]
 pub fn pooled_guid_is_found()
     ensures { (entries : List (List ℕ)) (guid tail : List ℕ) → Contains entries guid → All (λ entry. length entry ≡ 16) entries
         → IsGuid (guid_heap entries ++ tail) (guid_index entries (Some guid)) (Some guid) }
@@ -51,6 +54,7 @@ pub fn indexes_stay()
 {}
 
 /// The heap of the first uses is not longer than the heap of all uses.
+#[tactic(auto, using(crate::proofs::GrowLemmas::blobs_grow, crate::proofs::GrowLemmas::guids_grow, crate::proofs::HolderLemmas::texts_grow))]
 pub fn heaps_grow()
     ensures texts { (used more : List (List ℕ)) → length (text_heap (holders used)) ≤ length (text_heap (holders (used ++ more))) }
     ensures blobs { (used more : List (List ℕ)) → length (blob_heap (distinct used)) ≤ length (blob_heap (distinct (used ++ more))) }

@@ -1,11 +1,11 @@
 -- The key numbers of a root are those of its model.
-use Rattle.std.proofs.Common.{◌≡◌, ℕ, zero, suc, ◌+◌, ◌-◌, ◌*◌, ◌^◌, ◌<◌, ◌≤◌, ◌⊎◌, Bool, true, false, not, cond, List, [], ◌∷◌, get_or, length, refl, sym, ap, subst, ◌∙◌, inl, inr, ⊎_elim, Option, Some, None, arith, true≢false}
+use Rattle.std.proofs.Common.{◌≡◌, ℕ, zero, suc, ◌+◌, ◌-◌, ◌*◌, ◌^◌, ◌<◌, ◌≤◌, ◌⊎◌, Bool, true, false, not, List, [], ◌∷◌, get_or, length, refl, sym, ap, subst, ◌∙◌, inl, inr, ⊎_elim, Option, Some, None, arith, true≢false}
 use Rattle.std.specs.Prelude.{slice_get}
 use Rattle.std.specs.List.{position_or_len}
-use Rattle.std.proofs.lemmas.Bool.{cases_Bool, cases_lt}
+use Rattle.std.proofs.lemmas.Bool.{cases_lt, not-true, cond_both, not-false, eqb-true}
 use Rattle.std.proofs.lemmas.Bool.Decides.{nat_tests}
 use Rattle.table_schema.specs.declared.table.TableId.{TableId}
-use Rattle.table_schema.specs.declared.table.TableId.TheVariants.{Module, TypeRef, TypeDef, Field, MethodDef, Param, InterfaceImpl, MemberRef, Constant, CustomAttribute, FieldMarshal, DeclSecurity, ClassLayout, FieldLayout, StandAloneSig, EventMap, Event, PropertyMap, Property, MethodSemantics, MethodImpl, ModuleRef, TypeSpec, ImplMap, FieldRVA, Assembly, AssemblyProcessor, AssemblyOS, AssemblyRef, AssemblyRefProcessor, AssemblyRefOS, File, ExportedType, ManifestResource, NestedClass, GenericParam, MethodSpec, GenericParamConstraint}
+use Rattle.table_schema.specs.declared.table.TableId.TheVariants.{Module}
 use Rattle.table_schema.specs.declared.token.Token.{Token}
 use Rattle.table_schema.specs.declared.coded.Coded.{Coded}
 use Rattle.table_schema.specs.declared.column.ColumnKind.{ColumnKind}
@@ -68,15 +68,10 @@ located : (listed : List (Option TableId)) (table : TableId) (tag : ℕ) → sli
 located [] table tag e = cc
 located (None ∷ listed) table zero e = cc
 located (None ∷ listed) table (suc tag) e = later None listed table (position_or_len (is_table table) listed) (located listed table tag e)
-located (Some other ∷ listed) table tag e = ⊎_elim
-    (λ (t : is_table table (Some other) ≡ true).
-    let equal : table_number table ≡ table_number other = grind (arith, nat_tests) in
-    subst (λ b. IsLocated (Some other ∷ listed) table (cond (not b) (1 + position_or_len (is_table table) listed) 0)) (sym t)
-    (record { other = other; at = refl; number = equal }))
-    (λ (f : is_table table (Some other) ≡ false).
-    subst (λ b. IsLocated (Some other ∷ listed) table (cond (not b) (1 + position_or_len (is_table table) listed) 0)) (sym f)
-    (later (Some other) listed table (position_or_len (is_table table) listed) (behind tag (λ k h. located listed table k h) e f)))
-    (cases_Bool (is_table table (Some other)))
+located (Some other ∷ listed) table tag e =
+    cond_both (not (is_table table (Some other))) (1 + position_or_len (is_table table) listed) 0 (IsLocated (Some other ∷ listed) table)
+    (λ f. later (Some other) listed table (position_or_len (is_table table) listed) (behind tag (λ k h. located listed table k h) e (not-true (is_table table (Some other)) f)))
+    (λ t. record { other = other; at = refl; number = eqb-true (table_number table) (table_number other) (not-false (is_table table (Some other)) t) })
   where
     behind : (tag : ℕ) → ((k : ℕ) → slice_get listed k ≡ Some (Some table) → IsLocated listed table (position_or_len (is_table table) listed))
         → slice_get (Some other ∷ listed) tag ≡ Some (Some table) → is_table table (Some other) ≡ false
@@ -121,46 +116,17 @@ reference_key known source k start number cell (inr coded) stands =
 
 -- ---- key columns
 
+abbrev plain_key : TableId → Option ℕ → Bool
+plain_key table None = true
+plain_key table (Some column) = not (column_at table column).nullable
+
+keys_plain : (table : TableId) → plain_key table (key_of table) ≡ true
+keys_plain Module = refl
+keys_plain _ = refl
+
 -- a key is never null
 key_not_null : (table : TableId) (column : ℕ) → key_of table ≡ Some column → (column_at table column).nullable ≡ false
-key_not_null InterfaceImpl column e = let is : 0 ≡ column = cc in subst (λ (i : ℕ). (column_at InterfaceImpl i).nullable ≡ false) is refl
-key_not_null Constant column e = let is : 2 ≡ column = cc in subst (λ (i : ℕ). (column_at Constant i).nullable ≡ false) is refl
-key_not_null CustomAttribute column e = let is : 0 ≡ column = cc in subst (λ (i : ℕ). (column_at CustomAttribute i).nullable ≡ false) is refl
-key_not_null FieldMarshal column e = let is : 0 ≡ column = cc in subst (λ (i : ℕ). (column_at FieldMarshal i).nullable ≡ false) is refl
-key_not_null DeclSecurity column e = let is : 1 ≡ column = cc in subst (λ (i : ℕ). (column_at DeclSecurity i).nullable ≡ false) is refl
-key_not_null ClassLayout column e = let is : 2 ≡ column = cc in subst (λ (i : ℕ). (column_at ClassLayout i).nullable ≡ false) is refl
-key_not_null FieldLayout column e = let is : 1 ≡ column = cc in subst (λ (i : ℕ). (column_at FieldLayout i).nullable ≡ false) is refl
-key_not_null MethodSemantics column e = let is : 2 ≡ column = cc in subst (λ (i : ℕ). (column_at MethodSemantics i).nullable ≡ false) is refl
-key_not_null MethodImpl column e = let is : 0 ≡ column = cc in subst (λ (i : ℕ). (column_at MethodImpl i).nullable ≡ false) is refl
-key_not_null ImplMap column e = let is : 1 ≡ column = cc in subst (λ (i : ℕ). (column_at ImplMap i).nullable ≡ false) is refl
-key_not_null FieldRVA column e = let is : 1 ≡ column = cc in subst (λ (i : ℕ). (column_at FieldRVA i).nullable ≡ false) is refl
-key_not_null NestedClass column e = let is : 0 ≡ column = cc in subst (λ (i : ℕ). (column_at NestedClass i).nullable ≡ false) is refl
-key_not_null GenericParam column e = let is : 2 ≡ column = cc in subst (λ (i : ℕ). (column_at GenericParam i).nullable ≡ false) is refl
-key_not_null GenericParamConstraint column e = let is : 0 ≡ column = cc in subst (λ (i : ℕ). (column_at GenericParamConstraint i).nullable ≡ false) is refl
-key_not_null Module column e = cc
-key_not_null TypeRef column e = cc
-key_not_null TypeDef column e = cc
-key_not_null Field column e = cc
-key_not_null MethodDef column e = cc
-key_not_null Param column e = cc
-key_not_null MemberRef column e = cc
-key_not_null StandAloneSig column e = cc
-key_not_null EventMap column e = cc
-key_not_null Event column e = cc
-key_not_null PropertyMap column e = cc
-key_not_null Property column e = cc
-key_not_null ModuleRef column e = cc
-key_not_null TypeSpec column e = cc
-key_not_null Assembly column e = cc
-key_not_null AssemblyProcessor column e = cc
-key_not_null AssemblyOS column e = cc
-key_not_null AssemblyRef column e = cc
-key_not_null AssemblyRefProcessor column e = cc
-key_not_null AssemblyRefOS column e = cc
-key_not_null File column e = cc
-key_not_null ExportedType column e = cc
-key_not_null ManifestResource column e = cc
-key_not_null MethodSpec column e = cc
+key_not_null table column e = not-true (column_at table column).nullable (subst (λ (k : Option ℕ). plain_key table k ≡ true) e (keys_plain table))
 
 no_padding : (table : TableId) (column : ℕ) → IsReference (column_at table column) → is_padding (column_at table column).kind ≡ false
 no_padding table column (inl row) = ap is_padding row.1

@@ -21,8 +21,7 @@ use Rattle.schema.specs.Header.{sizes_of}
 use Rattle.schema.specs.LaidOut.{IsLaidOut, IsTableStream}
 use Rattle.schema.specs.Cells.{numbers_at}
 use Rattle.schema.specs.Rules.{rules_of_stream}
-use Rattle.metadata.specs.Cell.{Cell}
-use Rattle.metadata.specs.Cell.{Number}
+use Rattle.metadata.specs.Cell.{Cell, Number}
 use Rattle.metadata.specs.Metadata.{Metadata, rows_of}
 use Rattle.metadata.specs.Source.{Source, rows_in}
 use Rattle.metadata.specs.Streams.{stream_in, source_in}

@@ -99,21 +99,11 @@ module _ (known : KeysKnown) where
 
   row_reference : (table : TableId) (cell : says.Cell) → IsOfKind (kind.Row table) cell → (reference : Option Token) × (cell ≡ says.Ref reference)
   row_reference table (says.Ref reference) taken = (reference, refl)
-  row_reference table (says.Number number) taken = absurd taken
-  row_reference table (says.Text text) taken = absurd taken
-  row_reference table (says.Bytes bytes) taken = absurd taken
-  row_reference table (says.Guid guid) taken = absurd taken
-  row_reference table (says.Start start) taken = absurd taken
-  row_reference table (says.Sig signature) taken = absurd taken
+  row_reference table _ taken = absurd taken
 
   coded_reference : (coded : Coded) (cell : says.Cell) → IsOfKind (kind.Coded coded) cell → (reference : Option Token) × (cell ≡ says.Ref reference)
   coded_reference coded (says.Ref reference) taken = (reference, refl)
-  coded_reference coded (says.Number number) taken = absurd taken
-  coded_reference coded (says.Text text) taken = absurd taken
-  coded_reference coded (says.Bytes bytes) taken = absurd taken
-  coded_reference coded (says.Guid guid) taken = absurd taken
-  coded_reference coded (says.Start start) taken = absurd taken
-  coded_reference coded (says.Sig signature) taken = absurd taken
+  coded_reference coded _ taken = absurd taken
 
   reference_there : (k : ColumnKind) → NamesRows k → (cell : says.Cell) → IsOfKind k cell → (reference : Option Token) × (cell ≡ says.Ref reference)
   reference_there k (inl (table, is)) cell taken =

@@ -1,5 +1,7 @@
 -- Models with the same parts are equal.
-use Rattle.std.proofs.Common.{◌≡◌, ℕ, zero, suc, ◌+◌, ◌-◌, ◌<◌, List, [], ◌∷◌, length, get_or, map, refl, sym, ap, subst, ◌∙◌, arith}
+use Rattle.std.proofs.Common.{◌≡◌, ℕ, suc, ◌+◌, ◌-◌, ◌<◌, List, [], ◌∷◌, length, get_or, map, refl, sym, ap, subst, ◌∙◌, arith}
+use Rattle.std.specs.List.{range_with_len}
+use Rattle.std.proofs.lemmas.List.FromFn.{get_or-range_with_len}
 use Rattle.std.proofs.lemmas.List.{get_or-map}
 use Rattle.table_schema.specs.declared.table.TableId.{TableId}
 use Rattle.table_schema.specs.declared.table.TableId.TheVariants.{Module}
@@ -20,24 +22,14 @@ lists_one d (x ∷ xs) (y ∷ ys) long each =
     let tail = lists_one d xs ys (omega arith) (λ k below. each (suc k) (omega arith)) in
     cc
 
--- the table indexes, in order
-abbrev pub count_up : ℕ → ℕ → List ℕ
-count_up from zero = []
-count_up from (suc n) = from ∷ count_up (suc from) n
-
-count_up_at : (from n k : ℕ) → k < n → get_or (count_up from n) k 0 ≡ from + k
-count_up_at from zero k below = absurd (omega arith)
-count_up_at from (suc n) zero below = omega arith
-count_up_at from (suc n) (suc k) below = count_up_at (suc from) n k (omega arith) ∙ omega arith
-
-table_indexes : map table_index_of tables ≡ count_up 0 38
+table_indexes : map table_index_of tables ≡ range_with_len 0 38
 unfolding tables
 table_indexes = refl
 
 -- a table is found by its table index
 pub table_index_at : length tables ≡ 38 → (k : ℕ) → k < 38 → table_index_of (table_at k) ≡ k
 table_index_at count k below =
-    sym (get_or-map table_index_of tables k Module 0 (omega (arith, count))) ∙ ap (λ (l : List ℕ). get_or l k 0) table_indexes ∙ count_up_at 0 38 k below
+    sym (get_or-map table_index_of tables k Module 0 (omega (arith, count))) ∙ ap (λ (l : List ℕ). get_or l k 0) table_indexes ∙ get_or-range_with_len 0 38 k 0 below
     ∙ omega arith
 
 module _ (stand : (j : ℕ) → j < 38 → table_index_of (table_at j) ≡ j) (model other : Metadata) (same : SaysSame model other) where

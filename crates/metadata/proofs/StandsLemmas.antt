@@ -15,8 +15,7 @@ use Rattle.heap_entries.specs.Entries.{IsText, IsBlob, IsGuid}
 use Rattle.heap_entries.specs.Rules.{rules_of_text}
 use Rattle.sig_grammar.specs.Syntax.{Body}
 use Rattle.sig_grammar.specs.Encodes.{Encodes}
-use Rattle.metadata.specs.Cell.{Cell}
-use Rattle.metadata.specs.Cell.{Number, Text, Bytes, Guid, Ref, Start, Sig}
+use Rattle.metadata.specs.Cell.{Cell, Number, Text, Bytes, Guid, Ref, Start, Sig}
 use Rattle.metadata.specs.Source.{Source}
 use Rattle.metadata.specs.Stands.{Refers, StandsFor}
 use Rattle.table_schema.specs.CellColumns.{is_padding}
@@ -73,10 +72,6 @@ stands_found source (kind.List member) nullable start number offset other cell a
 
 pub number_met : (source : Source) (kind : ColumnKind) (nullable : Bool) (start : TableId → ℕ) (number offset : ℕ) (cell : Cell)
     → StandsFor source kind nullable start number cell → AllHold (rules_of_number source kind nullable number offset)
-number_met source kind.U8 nullable start number offset cell is = tt
-number_met source kind.U16 nullable start number offset cell is = tt
-number_met source kind.U32 nullable start number offset cell is = tt
-number_met source kind.Padding nullable start number offset cell is = tt
 number_met source kind.Text nullable start number offset cell is = text_met source.texts number offset is.0 is.1
 number_met source kind.Guid nullable start number offset cell is = ((is.0, is.1), tt)
 number_met source kind.Blob nullable start number offset cell is = ((is.0, is.1), tt)
@@ -84,6 +79,7 @@ number_met source (kind.Signature column) nullable start number offset cell is =
 number_met source (kind.Row table) nullable start number offset cell is = (refers_met source nullable (record { table = table; row = number }) cell is, tt)
 number_met source (kind.Coded coded) nullable start number offset cell is = ((is.0, is.1), ((is.0, is.1, refers_met source nullable is.0 cell is.2), tt))
 number_met source (kind.List member) nullable start number offset cell is = (is.0, tt)
+number_met source _ nullable start number offset cell is = tt
 
 pub encoding_met : (source : Source) (kind : ColumnKind) (nullable : Bool) (start : TableId → ℕ) (number offset : ℕ) (cell : Cell)
     → StandsFor source kind nullable start number cell → AllHold (rules_of_encoding source kind number offset)
@@ -103,17 +99,8 @@ encoding_met source (kind.List member) nullable start number offset cell is = tt
 -- padding has no rules
 pub padding_met : (source : Source) (kind : ColumnKind) (nullable : Bool) (number offset other : ℕ) → is_padding kind ≡ true
     → AllHold (rules_of_number source kind nullable number offset) × AllHold (rules_of_encoding source kind number other)
-padding_met source kind.U8 nullable number offset other padding = absurd cc
-padding_met source kind.U16 nullable number offset other padding = absurd cc
-padding_met source kind.U32 nullable number offset other padding = absurd cc
 padding_met source kind.Padding nullable number offset other padding = (tt, tt)
-padding_met source kind.Text nullable number offset other padding = absurd cc
-padding_met source kind.Guid nullable number offset other padding = absurd cc
-padding_met source kind.Blob nullable number offset other padding = absurd cc
-padding_met source (kind.Signature column) nullable number offset other padding = absurd cc
-padding_met source (kind.Row table) nullable number offset other padding = absurd cc
-padding_met source (kind.Coded coded) nullable number offset other padding = absurd cc
-padding_met source (kind.List member) nullable number offset other padding = absurd cc
+padding_met source _ nullable number offset other padding = absurd cc
 
 -- what is known of entries, tags and signatures
 pub record AreOne : Type 0 where

@@ -32,22 +32,18 @@ cell_found : (here : SourceAt) (table : TableId) (row column : ℕ) → is_paddi
     → (cell : Cell) × StandsIn here.source table row column cell
 unfolding rules_of_cell rules_of_signature
 cell_found here table row column shown holds =
-    let kind = (column_at table column).kind in
-    let nullable = (column_at table column).nullable in
-    let start = start_of here.source table row column in
-    let number = number_of here.source table row column in
+    let of = column_at table column in
     let offset = cell_offset here table row column in
-    stands_found here.source kind nullable start number offset offset shown holds.0 holds.1
+    stands_found here.source of.kind of.nullable (start_of here.source table row column) (number_of here.source table row column) offset offset shown holds.0 holds.1
 
 cell_met : (here : SourceAt) (table : TableId) (row column : ℕ) (cell : Cell) → StandsIn here.source table row column cell → CellHolds here table row column
 unfolding rules_of_cell rules_of_signature
 cell_met here table row column cell stands =
-    let kind = (column_at table column).kind in
-    let nullable = (column_at table column).nullable in
+    let of = column_at table column in
     let start = start_of here.source table row column in
     let number = number_of here.source table row column in
     let offset = cell_offset here table row column in
-    (number_met here.source kind nullable start number offset cell stands, encoding_met here.source kind nullable start number offset cell stands)
+    (number_met here.source of.kind of.nullable start number offset cell stands, encoding_met here.source of.kind of.nullable start number offset cell stands)
 
 none_met : (here : SourceAt) (table : TableId) (row column : ℕ) → is_padding (column_at table column).kind ≡ true → CellHolds here table row column
 unfolding rules_of_cell rules_of_signature

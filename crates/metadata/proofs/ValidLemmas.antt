@@ -1,8 +1,8 @@
 -- The model of a root is valid.
-use Rattle.std.proofs.Common.{◌≡◌, ℕ, zero, suc, ◌+◌, ◌-◌, ◌%◌, ◌^◌, ◌<◌, ◌≤◌, Bool, true, false, cond, eqb, List, [], ◌∷◌, take, drop, length, get_or, Contains, IsUtf8, refl, sym, ap, subst, ◌∙◌, inl, inr, ⊎_elim, Option, Some, None, IfSome, lit<, arith, length-append}
+use Rattle.std.proofs.Common.{◌≡◌, ℕ, zero, suc, ◌+◌, ◌-◌, ◌%◌, ◌^◌, ◌<◌, ◌≤◌, Bool, eqb, List, [], ◌∷◌, take, drop, length, get_or, Contains, IsUtf8, refl, sym, ap, subst, ◌∙◌, inl, inr, Option, Some, None, IfSome, lit<, arith, length-append}
 use Rattle.std.specs.Prelude.{slice_get, unwrap_or, replicate}
 use Rattle.std.specs.Option.{option_map}
-use Rattle.std.proofs.lemmas.Bool.{cases_Bool}
+use Rattle.std.proofs.lemmas.Bool.{cond_both}
 use Rattle.std.proofs.lemmas.List.{length-take, length-drop, length-replicate}
 use Rattle.std.proofs.lemmas.Str.{IsUtf8-nil}
 use Rattle.packed.specs.Packed.{IsPacked}
@@ -24,8 +24,7 @@ use Rattle.schema.specs.LaidOut.{IsLaidOut}
 use Rattle.schema.specs.Cells.{HoldsCell}
 use Rattle.sig_grammar.specs.Syntax.{Body}
 use Rattle.sig_grammar.specs.Encodes.{Encodes, IsEncodable, tokens}
-use Rattle.metadata.specs.Cell.{Cell}
-use Rattle.metadata.specs.Cell.{Number, Ref, Start}
+use Rattle.metadata.specs.Cell.{Cell, Number, Ref, Start}
 use Rattle.metadata.specs.Metadata.{Metadata, rows_of, row_of, count_in, cell_in}
 use Rattle.metadata.specs.Source.{Source, rows_in, number_of, IsThere}
 use Rattle.metadata.specs.Starts.{start_from, start_of}
@@ -151,11 +150,9 @@ module _ (known : Known) (model : Metadata) (source : Source) (counts : (table :
 
 start_bound : (value : ℕ → ℕ) (end row n : ℕ) → ((r : ℕ) → row ≤ r → r < row + n → value r ≤ end) → start_from value end row n ≤ end
 start_bound value end row zero low = omega arith
-start_bound value end row (suc n) low = ⊎_elim
-    (λ (t : eqb (value row) 0 ≡ true). subst (λ b. cond b (start_from value end (row + 1) n) (value row) ≤ end) (sym t)
-    (start_bound value end (row + 1) n (λ r l h. low r (omega arith) (omega arith))))
-    (λ (f : eqb (value row) 0 ≡ false). subst (λ b. cond b (start_from value end (row + 1) n) (value row) ≤ end) (sym f) (low row (omega arith) (omega arith)))
-    (cases_Bool (eqb (value row) 0))
+start_bound value end row (suc n) low =
+    cond_both (eqb (value row) 0) (start_from value end (row + 1) n) (value row) (λ start. start ≤ end)
+    (λ t. start_bound value end (row + 1) n (λ r l h. low r (omega arith) (omega arith))) (λ f. low row (omega arith) (omega arith))
 
 -- ---- the whole
 

@@ -91,6 +91,12 @@ pub use owned_model::{
 pub use sig_items::{CallingConvention, Item, Items, MethodHead};
 pub use sig_text::{NamedText, TextSink, TokenNames, write_signature};
 
+// The values of custom attributes, item by item.
+pub use attribute_values::{
+    Argument, ArgumentType, ElementType, Item as AttributeItem, Items as AttributeItems, Member,
+    Scalar, Value as AttributeValue,
+};
+
 // Signatures and their values.
 pub use signatures::{
     Core, Element, FieldSig, InstanceSig, Local, LocalsSig, MethodSig, Modifier, Prefix,
@@ -118,9 +124,10 @@ pub use navigation::{
 };
 
 // Names of types and signatures of methods as text.
+pub use declarations::{write_method, write_method_within};
 pub use full_names::{
     DEPTH, FullNames, Limit, NoLimit, TextError, write_full_name, write_full_name_within,
-    write_method, write_method_within, write_type_def, write_type_ref,
+    write_type_def, write_type_ref,
 };
 
 // Whether two views have the same model, what differs, and the digest of a canonical root.

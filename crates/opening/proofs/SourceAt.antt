@@ -11,15 +11,14 @@ use Rattle.schema.specs.Header.{sizes_of}
 use Rattle.schema.specs.Cells.{numbers_at}
 use Rattle.metadata.specs.Streams.{stream_in}
 use Rattle.metadata.specs.Rules.{rules_of_tables, rules_of_metadata}
-use Rattle.packed.proofs.RuleLemmas.{all_append, fails_back, fails_prefix}
+use Rattle.packed.proofs.RuleLemmas.{all_append, all_back, fails_back, fails_prefix, none_fails}
 use Rattle.checks.specs.declared.budget.Budget.{Budget}
 use Rattle.checks.specs.declared.budget.BoundedError.{BoundedError}
 use Rattle.checks.specs.declared.budget.BoundedError.TheVariants as bounded
-use Rattle.checks.specs.Budgets.{FailsWithin, HoldBeforeSignatures, IsBelow}
-use Rattle.checks.specs.Signatures.{signature_bytes}
+use Rattle.checks.specs.Within.{FailsWithin, IsSpent}
 use Rattle.opening.specs.BeforeCells.{rules_before_cells, rules_of_tables_in}
-use Rattle.opening.specs.Within.{signature_bytes_in}
-use Rattle.opening.proofs.Parts.{second_fails, third_fails, all_hold, before_behind}
+use Rattle.opening.specs.Within.{IsSpentIn, TextsSpendIn}
+use Rattle.opening.proofs.Parts.{second_fails, third_fails, all_hold}
 use Rattle.metadata.specs.SourceAt.{SourceAt, tables_in, tables_offset, source_of, source_at}
 
 pub located_is : (root : List ℕ) (offset at : ℕ) (here : SourceAt) (tables texts blobs guids : List ℕ) (sizes : Sizes) → here.source ≡ record { sizes = sizes; numbers = numbers_at tables sizes; texts = texts; blobs = blobs; guids = guids } → here.offset ≡ offset + at → at ≡ tables_offset root → tables ≡ tables_in root → sizes ≡ sizes_of tables → texts ≡ stream_in root (root_read root).headers Strings → blobs ≡ stream_in root (root_read root).headers Blobs → guids ≡ stream_in root (root_read root).headers Guids → here ≡ source_at offset root
@@ -56,15 +55,14 @@ module _ (root : List ℕ) (offset : ℕ) (here : SourceAt) (is : here ≡ sourc
       third_fails (rebased offset (rules_of_root root)) (rebased (offset + tables_offset root) (rules_of_stream (tables_in root))) (rules_of_tables (source_at offset root)) found
       all more (rw is at first)
 
-  tables_before : HoldBeforeSignatures (rules_of_tables here) → HoldBeforeSignatures (rules_of_metadata offset root)
-  unfolding rules_of_metadata
-  tables_before before =
-      before_behind (rebased offset (rules_of_root root)) (rebased (offset + tables_offset root) (rules_of_stream (tables_in root)) ++ rules_of_tables (source_at offset root)) all
-      (before_behind (rebased (offset + tables_offset root) (rules_of_stream (tables_in root))) (rules_of_tables (source_at offset root)) more (rw is at before))
+  -- the rules before those for cells hold
+  pub before_cells_hold : AllHold (rules_before_cells offset root)
+  unfolding rules_before_cells
+  before_cells_hold = all_append (rebased offset (rules_of_root root)) (rules_of_tables_in offset root) all more
 
-  pub tables_fail_within : (budget : Budget) (error : BoundedError) → FailsWithin budget (signature_bytes here.source) (rules_of_tables here) error → FailsWithin budget (signature_bytes_in root) (rules_of_metadata offset root) error
+  pub tables_fail_within : (budget : Budget) (error : BoundedError) → FailsWithin (IsSpent budget here) (rules_of_tables here) error → FailsWithin (IsSpentIn budget offset root) (rules_of_metadata offset root) error
   tables_fail_within budget (bounded.Fault found) reported = tables_fail found reported
-  tables_fail_within budget bounded.BudgetSpent reported = (subst (λ (h : SourceAt). IsBelow budget (signature_bytes h.source)) is reported.0, tables_before reported.1)
+  tables_fail_within budget bounded.BudgetSpent reported = (before_cells_hold, subst (IsSpent budget) is reported)
 
   pub metadata_holds : AllHold (rules_of_tables here) → AllHold (rules_of_metadata offset root)
   unfolding rules_of_metadata
@@ -83,3 +81,12 @@ module _ (root : List ℕ) (offset : ℕ) where
   unfolding rules_before_cells
   before_cells_report (Ok x) all more = all_append (rebased offset (rules_of_root root)) (rules_of_tables_in offset root) all more
   before_cells_report (Err found) all first = fails_back (rebased offset (rules_of_root root)) (rules_of_tables_in offset root) found all first
+
+  -- if one of them does not hold, texts do not spend the budget
+  pub directory_breaks_first : (budget : Budget) (found : Fault) → FirstBroken (rebased offset (rules_of_root root)) found → ¬ TextsSpendIn budget offset root
+  directory_breaks_first budget found first spent = none_fails (rules_before_cells offset root) found spent.0 (directory_breaks found first)
+
+  pub stream_breaks_first : (budget : Budget) (found : Fault) → FirstBroken (rules_of_tables_in offset root) found → ¬ TextsSpendIn budget offset root
+  unfolding rules_before_cells
+  stream_breaks_first budget found first spent =
+      none_fails (rules_of_tables_in offset root) found (all_back (rebased offset (rules_of_root root)) (rules_of_tables_in offset root) spent.0) first

@@ -20,7 +20,7 @@ ghost use Rattle.metadata.specs.Lookups.{IsRun, IsFirstType, HasRow, HasNames, H
 ghost use Rattle.reading.specs.ReadFrom.{IsReadFrom, IsReadable};
 ghost use Rattle.reading.specs.KnownStarts.{AreKnown};
 ghost use Rattle.reading.specs.Shown.{ShowsCell, ShowsBlob};
-ghost use Rattle.checks.specs.Orders.{ReportsOrder};
+ghost use Rattle.row_order.specs.Orders.{ReportsOrder};
 ghost use Rattle.opening.specs.Views.{HasModel, AreFound, row_count, user_of};
 
 use crate::found::Found;

@@ -17,6 +17,7 @@ pub fn numbers_are_read()
 
 /// The shortest form encodes the number, and no encoding is shorter. A number has an encoding if and only
 /// if it is below 2^29, or, for signed numbers, if it fits in 29 bits.
+#[tactic(auto, using(crate::proofs::ShortLemmas::unsigned_encodes, crate::proofs::ShortLemmas::unsigned_least, crate::proofs::ShortLemmas::unsigned_below, crate::proofs::ShortLemmas::signed_encodes, crate::proofs::ShortLemmas::signed_least, crate::proofs::ShortLemmas::signed_fits, crate::proofs::ShortLemmas::fits_both))]
 pub fn shortest_forms_encode()
     ensures unsigned { (n : ℕ) → n < 2 ^ 29 → IsPacked n (short_unsigned n) }
     ensures unsigned_least { (n : ℕ) (bytes : List ℕ) → IsPacked n bytes → length (short_unsigned n) ≤ length bytes }

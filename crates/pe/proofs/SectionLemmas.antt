@@ -1,7 +1,6 @@
 -- Section headers, one after another.
-use Rattle.std.proofs.Common.{◌≡◌, ℕ, zero, suc, ◌+◌, ◌-◌, ◌*◌, ◌<◌, ◌≤◌, List, [], ◌∷◌, length, refl, sym, ap, ◌∙◌, subst, arith}
+use Rattle.std.proofs.Common.{◌≡◌, ℕ, zero, suc, ◌+◌, ◌-◌, ◌*◌, ◌<◌, ◌≤◌, List, [], ◌∷◌, length, refl, sym, ap, ◌∙◌, subst, arith, Bool, true, false, cond, Some, Option}
 use Rattle.std.specs.List.{flat_map, find}
-use Rattle.std.proofs.Common.{Bool, true, false, cond, Some, Option}
 use Rattle.std.proofs.lemmas.Bool.{and_parts, leb-true, cond-true, cond-false}
 use Rattle.packed.specs.Fields.{AllSay, widths}
 use Rattle.packed.specs.Number.{little_endian}

@@ -1,6 +1,5 @@
 -- A stream header at an offset.
-use Rattle.std.proofs.Common.{◌≡◌, ℕ, suc, ◌+◌, ◌-◌, ◌*◌, ◌/◌, ◌<◌, ◌≤◌, List, ◌∷◌, ◌++◌, length, take, drop, refl, sym, ap, ◌∙◌, arith, length-append, length-drop}
-use Rattle.std.proofs.Common.{Result, Ok, Err, Some, None, subst}
+use Rattle.std.proofs.Common.{◌≡◌, ℕ, suc, ◌+◌, ◌-◌, ◌*◌, ◌/◌, ◌<◌, ◌≤◌, List, ◌∷◌, ◌++◌, length, take, drop, refl, sym, ap, ◌∙◌, arith, length-append, length-drop, Result, Ok, Err, Some, None, subst}
 use Rattle.std.specs.Result.{result_ok, MatchResult}
 use Rattle.std.specs.Str.{IsAscii}
 use Rattle.std.proofs.lemmas.List.{append_assoc, take_at, drop_at, drop-drop, take-append-drop, length-take-le}
@@ -131,8 +130,7 @@ shows_in root place field e h =
 
 pub has_in : (root : List ℕ) (place : ℕ) (field : List ℕ) → field ≡ drop (place + 8) root → ShowsIn (length root) place field → HasHeader root place
 has_in root place field e h =
-    let P : List ℕ → Type 0 = λ f. ShowsIn (length root) place f in
-    let shows = subst P e h in
+    let shows = rw e at h in
     let long = length-before_nul (drop (place + 8) root) in
     let ends = shows.ends in
     let short = shows.short in

@@ -1,20 +1,16 @@
 -- All rules hold if and only if the bytes are a root of at most 2^30 bytes.
-use Rattle.std.proofs.Common.{◌≡◌, ℕ, zero, suc, add-one, ◌+◌, ◌%◌, ◌≤◌, ◌<◌, ◌^◌, List, [], ◌∷◌, ◌++◌, length, drop, refl, sym, ap, ◌∙◌, subst, arith, append_assoc, length-append, length-drop}
-use Rattle.std.proofs.lemmas.List.{append-nil, drop_at, drop-drop, take-append-drop, length-take-le}
+use Rattle.std.proofs.Common.{◌≡◌, ℕ, zero, suc, add-one, ◌+◌, ◌%◌, ◌≤◌, ◌<◌, ◌^◌, List, [], ◌∷◌, ◌++◌, length, drop, refl, sym, ap, ◌∙◌, subst, arith, append_assoc, length-append, length-drop, Bool, true, false, cond, Some, inl, inr, get_or, Result, Ok, Err}
+use Rattle.std.proofs.lemmas.List.{append-nil, drop_at, drop-drop, take-append-drop, length-take-le, drop_all, drop_more, get_or_append_left, get_or_at}
 use Rattle.packed.specs.Number.{little_endian}
 use Rattle.packed.specs.Offsets.{part}
-use Rattle.std.proofs.Common.{Bool, true, false, cond, Some, inl, inr, get_or}
 use Rattle.std.proofs.lemmas.Bool.{cases_lt}
 use Rattle.std.proofs.lemmas.Slice.Eq.{bytes_eq-Decides}
-use Rattle.packed.proofs.RuleLemmas.{none_fails}
+use Rattle.packed.proofs.RuleLemmas.{none_fails, all_prefix, all_back, all_append, before_none, before_more, before_all, before_of_all, before_fewer}
 use Rattle.std.specs.Result.{IfOk, IsOkAnd}
-use Rattle.std.proofs.Common.{Result, Ok, Err}
-use Rattle.std.proofs.lemmas.List.{drop_all, drop_more, get_or_append_left, get_or_at}
 use Rattle.std.specs.List.{find}
 use Rattle.std.specs.Str.{bytes_eq}
 use Rattle.packed.specs.declared.fault.Fault.{Fault}
 use Rattle.packed.specs.Rule.{AllHold, Reports, rules_from, HoldBefore}
-use Rattle.packed.proofs.RuleLemmas.{all_prefix, all_back, all_append, before_none, before_more, before_all, before_of_all, before_fewer}
 use Rattle.root.specs.declared.kind.Kind.{Kind}
 use Rattle.std.specs.Prelude.{IsSome}
 use Rattle.root.specs.declared.kind.Kind.TheVariants.{Tables}
@@ -61,11 +57,9 @@ are_push place bytes (h ∷ headers) root_header header some at is =
 meet_push : (size : ℕ) (earlier headers : List Header) (header : Header)
     → AllMeet size earlier headers → EndsWithin size header → IsNew (earlier ++ headers) header → IsCompressed header → AllMeet size earlier (headers ++ header ∷ [])
 meet_push size earlier [] header all within new compressed =
-    let P : List Header → Type 0 = λ hs. IsNew hs header in
-    (within, subst P (append-nil earlier) new, compressed, tt)
+    (within, rw (← append-nil earlier) new, compressed, tt)
 meet_push size earlier (h ∷ headers) header all within new compressed =
-    let P : List Header → Type 0 = λ hs. IsNew hs header in
-    (all.0, all.1, all.2, meet_push size (earlier ++ h ∷ []) headers header all.3 within (subst P (sym (append_assoc earlier (h ∷ []) headers)) new) compressed)
+    (all.0, all.1, all.2, meet_push size (earlier ++ h ∷ []) headers header all.3 within (rw (append_assoc earlier (h ∷ []) headers) new) compressed)
 
 -- the bytes of the first `count` headers
 directory_bytes : List ℕ → ℕ → List ℕ
@@ -115,7 +109,6 @@ root_of_version root version begins room headers_hold tables =
     let field_long : length field ≡ length_is = part_long root 16 length_is (omega arith) in
     let same_long : length (version.version ++ 0 ∷ version.padding) ≡ length_is = sym (ap length version.whole) ∙ field_long in
     let padded = version.padded in
-    let P : ℕ → Type 0 = λ place. AreHeaders place (directory_bytes root count) (headers_before root count) in
     record {
       ignored = part root 4 8;
       length_bytes = part root 12 4;
@@ -137,7 +130,7 @@ root_of_version root version begins room headers_hold tables =
       version_is = version.is;
       flags_long = part_long root (16 + length_is) 2 (omega arith);
       count = record { long = part_long root (18 + length_is) 2 (omega arith); equal = length-headers_before root count };
-      headers_are = subst P (ap (λ (n : ℕ). 20 + n) (sym same_long)) directory.are;
+      headers_are = rw (← ap (λ (n : ℕ). 20 + n) (sym same_long)) directory.are;
       headers_meet = all_meet root count (before_of_all (rules_of_header root) count headers_hold);
       tables = tables;
     }
@@ -149,8 +142,7 @@ root_from_rules root all =
     let behind = all_back (rules_of_root_header root) _ all in
     let version = root_header.1.1.0 in
     let is : version.version ≡ version_of root = sym (ap before_nul version.whole ∙ before_nul-text version.version version.padding version.is.no_nul) in
-    let P : List ℕ → Type 0 = λ v. IsRoot root v (headers_before root (header_count root)) in
-    subst P is (root_of_version root version root_header.1.0 root_header.1.1.1.0 (all_prefix (rules_from (rules_of_header root) 0 (header_count root)) (rules_of_tables root) behind) (all_back (rules_from (rules_of_header root) 0 (header_count root)) (rules_of_tables root) behind).0)
+    rw (← is) (root_of_version root version root_header.1.0 root_header.1.1.1.0 (all_prefix (rules_from (rules_of_header root) 0 (header_count root)) (rules_of_tables root) behind) (all_back (rules_from (rules_of_header root) 0 (header_count root)) (rules_of_tables root) behind).0)
 
 -- headers that are written one after another are those that are read there
 record Walks (root : List ℕ) (k : ℕ) (headers : List Header) : Type 0 where
@@ -161,8 +153,7 @@ walks : (root : List ℕ) (k : ℕ) (headers : List Header) (bytes tail : List �
     → AreHeaders (header_offset root k) bytes headers → AllMeet (length root) (headers_before root k) headers → HoldBefore (rules_of_header root) 0 k → Walks root k headers
 walks root k [] bytes tail whole are meet hold =
     let e : k ≡ k + 0 = omega arith in
-    let P : ℕ → Type 0 = λ n. HoldBefore (rules_of_header root) 0 n in
-    record { hold = subst P e hold; are = ap (headers_before root) (sym e) ∙ sym (append-nil (headers_before root k)) }
+    record { hold = rw (← e) hold; are = ap (headers_before root) (sym e) ∙ sym (append-nil (headers_before root k)) }
 walks root k (header ∷ headers) bytes tail whole are meet hold =
     let place = header_offset root k in
     let split : drop place root ≡ are.0 ++ (are.1 ++ tail) = whole ∙ ap (λ (t : List ℕ). t ++ tail) are.2 ∙ append_assoc are.0 are.1 tail in
@@ -175,11 +166,9 @@ walks root k (header ∷ headers) bytes tail whole are meet hold =
     let Compressed : Header → Type 0 = λ h. IsCompressed h in
     let here : AllHold (rules_of_header root k) = (has, (subst Within (sym same) meet.0, (subst New (sym same) meet.1, (subst Compressed (sym same) meet.2, tt)))) in
     let before_next : headers_before root (suc k) ≡ headers_before root k ++ header ∷ [] = ap (λ (h : Header). headers_before root k ++ h ∷ []) same in
-    let Are : ℕ → Type 0 = λ n. AreHeaders n are.1 headers in
-    let Meet : List Header → Type 0 = λ hs. AllMeet (length root) hs headers in
     let behind : drop (header_offset root (suc k)) root ≡ are.1 ++ tail = ap (λ (h : Header). drop (place + header_length h) root) same ∙ reports.next in
     let P : ℕ → Type 0 = λ n. HoldBefore (rules_of_header root) 0 n in
-    let more = walks root (suc k) headers are.1 tail behind (subst Are (sym next) are.5) (subst Meet (sym before_next) meet.3)
+    let more = walks root (suc k) headers are.1 tail behind (rw next are.5) (rw before_next meet.3)
     (subst P (add-one k) (before_more (rules_of_header root) 0 k hold here)) in
     let e : suc k + length headers ≡ k + suc (length headers) = omega arith in
     record {
@@ -225,13 +214,10 @@ root_meets root version headers small h =
     let within : 16 + version_length root ≤ length root = omega arith in
     let streams : 20 + version_length root ≤ length root = omega arith in
     let sixteen : 16 ≤ length root = omega arith in
-    let Are : ℕ → Type 0 = λ n. AreHeaders n h.directory headers in
-    let walked = walks root 0 headers h.directory h.tail behind (subst Are (ap (λ (n : ℕ). 20 + n) (sym long)) h.headers_are) h.headers_meet (before_none (rules_of_header root) 0 0 (omega arith)) in
+    let walked = walks root 0 headers h.directory h.tail behind (rw (← ap (λ (n : ℕ). 20 + n) (sym long)) h.headers_are) h.headers_meet (before_none (rules_of_header root) 0 0 (omega arith)) in
     let zero_more : 0 + length headers ≡ header_count root = omega arith in
-    let P : ℕ → Type 0 = λ n. HoldBefore (rules_of_header root) 0 n in
-    let hold = before_all (rules_of_header root) 0 (header_count root) (header_count root) (subst P zero_more walked.hold) (omega arith) in
+    let hold = before_all (rules_of_header root) 0 (header_count root) (header_count root) (rw (← zero_more) walked.hold) (omega arith) in
     let found : headers_before root (header_count root) ≡ headers = ap (headers_before root) (sym zero_more) ∙ walked.are in
-    let HasTables : List Header → Type 0 = λ hs. IsSome (named (stream_name Tables) hs) in
     let root_header : AllHold (rules_of_root_header root) = (
       small,
       (
@@ -240,7 +226,7 @@ root_meets root version headers small h =
       ),
     ) in
     record {
-      all = all_append (rules_of_root_header root) _ root_header (all_append (rules_from (rules_of_header root) 0 (header_count root)) (rules_of_tables root) hold (subst HasTables (sym found) h.tables, tt));
+      all = all_append (rules_of_root_header root) _ root_header (all_append (rules_from (rules_of_header root) 0 (header_count root)) (rules_of_tables root) hold (rw found h.tables, tt));
       version_is = ap before_nul version_field ∙ before_nul-text version h.padding h.version_is.no_nul;
       headers_are = found;
     }
@@ -291,8 +277,7 @@ found_within root count kind header within e =
 pub reports_found : (root : List ℕ) (r : Result RootRead Fault) → Reports (rules_of_root root) r → IfOk r (λ d. d ≡ root_read root)
     → IfOk r (λ d. (length root ≤ 2 ^ 30) × (d.bytes ≡ root) × IsRoot root d.version d.headers)
 reports_found root (Ok d) all is =
-    let P : RootRead → Type 0 = λ e. (length root ≤ 2 ^ 30) × (e.bytes ≡ root) × IsRoot root e.version e.headers in
-    subst P (sym is) (all.0, refl, root_from_rules root all)
+    rw is (all.0, refl, root_from_rules root all)
 reports_found root (Err found) fails is = tt
 
 pub reports_all : (root : List ℕ) (r : Result RootRead Fault) → Reports (rules_of_root root) r → IfOk r (λ d. d ≡ root_read root)

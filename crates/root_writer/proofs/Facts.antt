@@ -1,6 +1,5 @@
 -- The laws of the crates below, as one record.
-use Rattle.std.proofs.Common.{◌≡◌, ℕ, ◌+◌, ◌-◌, ◌*◌, ◌^◌, ◌<◌, ◌≤◌, Bool, true, List, [], ◌∷◌, ◌++◌, zero, suc, length, get_or, map, All, Contains, IsUtf8, refl, sym, ap, ◌∙◌, ◌⊎◌, Some, arith}
-use Rattle.std.proofs.lemmas.List.{get_or-map}
+use Rattle.std.proofs.Common.{◌≡◌, ℕ, ◌+◌, ◌-◌, ◌*◌, ◌^◌, ◌<◌, ◌≤◌, Bool, true, List, [], ◌++◌, length, get_or, All, Contains, IsUtf8, ◌⊎◌, Some}
 use Rattle.packed.specs.Number.{IsNumber}
 use Rattle.table_schema.specs.declared.table.TableId.{TableId}
 use Rattle.table_schema.specs.declared.table.TableId.TheVariants.{Module}
@@ -45,23 +44,3 @@ pub record Facts : Type 0 where
   pub encodes : (kind : SigKind) (signature : Body) → Holds kind signature → IsEncodable signature → Encodes kind signature (short signature)
   pub set : (test : TableId → Bool) (table : TableId) → has_bit (bits_of test tables) table ≡ test table
   pub low : (test : TableId → Bool) → bits_of test tables < 2 ^ 64
-
--- the indexes of tables, in order
-abbrev pub count_up : ℕ → ℕ → List ℕ
-count_up from zero = []
-count_up from (suc n) = from ∷ count_up (suc from) n
-
-count_up_at : (from n k : ℕ) → k < n → get_or (count_up from n) k 0 ≡ from + k
-count_up_at from zero k below = absurd (omega arith)
-count_up_at from (suc n) zero below = omega arith
-count_up_at from (suc n) (suc k) below = count_up_at (suc from) n k (omega arith) ∙ omega arith
-
-table_indexes : map table_index_of tables ≡ count_up 0 38
-unfolding tables
-table_indexes = refl
-
--- a table is found by its index
-pub table_index_at : length tables ≡ 38 → (k : ℕ) → k < 38 → table_index_of (get_or tables k Module) ≡ k
-table_index_at count k below =
-    sym (get_or-map table_index_of tables k Module 0 (omega (arith, count))) ∙ ap (λ (l : List ℕ). get_or l k 0) table_indexes ∙ count_up_at 0 38 k below
-    ∙ omega arith

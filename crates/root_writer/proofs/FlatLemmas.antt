@@ -1,40 +1,26 @@
 -- The numbers of tables as one list, and by table, row and column.
-use Rattle.std.proofs.Common.{◌≡◌, ℕ, suc, ◌+◌, ◌*◌, Bool, true, false, List, [], ◌∷◌, ◌++◌, length, map, take, drop, refl, sym, ap, ◌∙◌, length-append, arith}
+use Rattle.std.proofs.Common.{◌≡◌, ℕ, ◌+◌, ◌*◌, List, [], ◌∷◌, ◌++◌, length, map, take, drop, refl, sym, ap, ◌∙◌, length-append, arith}
 use Rattle.std.specs.Prelude.{flat_map, sum_by}
 use Rattle.std.specs.List.{AllByRecursion}
 use Rattle.std.proofs.Math.Seq.{take-append_seam, drop-append_seam}
 use Rattle.std.proofs.lemmas.List.{length-map}
 use Rattle.std.proofs.lemmas.List.Sums.{sum_by-cons}
 use Rattle.table_schema.specs.declared.column.Column.{Column}
-use Rattle.table_schema.specs.declared.column.ColumnKind.{ColumnKind}
 use Rattle.table_schema.specs.declared.table.TableId.{TableId}
 use Rattle.table_schema.specs.Tables.{tables}
 use Rattle.table_schema.specs.Columns.{columns_of}
-use Rattle.table_schema.specs.CellColumns.{is_padding}
 use Rattle.schema.specs.Sizes.{Sizes, count_of}
 use Rattle.metadata.specs.Cell.{Cell}
 use Rattle.metadata.specs.Metadata.{Metadata, rows_of, count_in}
 use Rattle.root_writer.specs.Pools.{Pools, pools_of}
-use Rattle.root_writer.specs.Numbers.{cell_number, with_next, numbers_by, numbers_of, table_numbers, numbers}
+use Rattle.root_writer.specs.Numbers.{cell_number, numbers_of, table_numbers, numbers}
 use Rattle.root_writer.specs.Flat.{cells_of, rows_in, table_in, tables_in}
 use Rattle.root_writer.specs.Numbered.{flat}
-
--- ---- one number per column
-
-length-with_next : (padding : Bool) (number : Cell → ℕ) (tail : List Cell → List ℕ) (n : ℕ) → ((cells : List Cell) → length (tail cells) ≡ n) → (cells : List Cell)
-    → length (with_next padding number tail cells) ≡ suc n
-length-with_next true number tail n h cells = ap suc (h cells)
-length-with_next false number tail n h [] = ap suc (h [])
-length-with_next false number tail n h (cell ∷ cells) = ap suc (h cells)
-
-length-numbers : (number : ColumnKind → Cell → ℕ) (columns : List Column) (cells : List Cell) → length (numbers_by number columns cells) ≡ length columns
-length-numbers number [] cells = refl
-length-numbers number (column ∷ columns) cells =
-    length-with_next (is_padding column.kind) (number column.kind) (numbers_by number columns) (length columns) (length-numbers number columns) cells
+use Rattle.root_writer.proofs.Rows.{length-numbers_by}
 
 long_rows : (pools : Pools) (columns : List Column) (rows : List (List Cell)) → AllByRecursion (λ row. length row ≡ length columns) (map (numbers_of pools columns) rows)
 long_rows pools columns [] = tt
-long_rows pools columns (row ∷ rows) = (length-numbers (cell_number pools) columns row, long_rows pools columns rows)
+long_rows pools columns (row ∷ rows) = (length-numbers_by (cell_number pools) columns row, long_rows pools columns rows)
 
 -- ---- rows
 

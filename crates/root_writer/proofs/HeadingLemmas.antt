@@ -5,7 +5,7 @@ use Rattle.std.proofs.lemmas.List.Sums.{sum_by-cons}
 use Rattle.std.specs.Prelude.{sum_by}
 use Rattle.std.specs.List.{flat_map}
 use Rattle.root.specs.declared.kind.Kind.{Kind}
-use Rattle.root.specs.declared.kind.Kind.TheVariants.{Tables, Strings, UserStrings, Guids, Blobs}
+use Rattle.root.specs.declared.kind.Kind.TheVariants.{Tables}
 use Rattle.root.specs.Streams.{stream_name}
 use Rattle.schema.specs.LaidOut.{number_bytes}
 use Rattle.root_writer.specs.Canonical.{ended, prefix, directory, root_of}
@@ -13,10 +13,7 @@ use Rattle.root_writer.specs.Heading.{header_length, sized_header, sized_directo
 
 pub name_short : (kind : Kind) → length (stream_name kind) ≤ 8
 name_short Tables = lit≤ tt
-name_short Strings = lit≤ tt
-name_short UserStrings = lit≤ tt
-name_short Guids = lit≤ tt
-name_short Blobs = lit≤ tt
+name_short _ = lit≤ tt
 
 sums : {a b m n : ℕ} → a ≡ m → b ≡ n → a + b ≡ m + n
 sums first second = omega (arith, first, second)

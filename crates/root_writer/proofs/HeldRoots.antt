@@ -20,7 +20,8 @@ use Rattle.metadata.specs.Rows.{table_at, AreFrom}
 use Rattle.metadata.specs.Valid as valid
 use Rattle.metadata.specs.Valid.{IsValid}
 use Rattle.root_writer.proofs.Lists.{are_from}
-use Rattle.root_writer.proofs.Facts.{Facts, table_index_at}
+use Rattle.root_writer.proofs.Facts.{Facts}
+use Rattle.root_writer.proofs.PositionLemmas.{table_index_at}
 
 -- ---- cells
 
@@ -84,25 +85,16 @@ held_coded model listed nullable (Some token) to may = inr (token, to, may, refl
 
 pub held_cell : (model : Metadata) (k : ColumnKind) (nullable : Bool) (cell : Cell) → valid.IsValidCell model k nullable cell → IsValidCell model k nullable cell
 held_cell model kind.U8 nullable (Number number) v = (number, v.of_kind, refl)
-held_cell model kind.U8 nullable _ v = absurd v.of_kind
 held_cell model kind.U16 nullable (Number number) v = (number, v.of_kind, refl)
-held_cell model kind.U16 nullable _ v = absurd v.of_kind
 held_cell model kind.U32 nullable (Number number) v = (number, v.of_kind, refl)
-held_cell model kind.U32 nullable _ v = absurd v.of_kind
-held_cell model kind.Padding nullable cell v = absurd v.of_kind
 held_cell model kind.Text nullable (Text text) v = (text, v.storable.0, v.storable.1, refl)
-held_cell model kind.Text nullable _ v = absurd v.of_kind
 held_cell model kind.Guid nullable (Guid guid) v = (guid, v.storable, refl)
-held_cell model kind.Guid nullable _ v = absurd v.of_kind
 held_cell model kind.Blob nullable (Bytes blob) v = (blob, v.storable, refl)
-held_cell model kind.Blob nullable _ v = absurd v.of_kind
 held_cell model (kind.Signature column) nullable (Sig signature) v = (signature, v.held.0, v.held.1, v.types, refl)
-held_cell model (kind.Signature column) nullable _ v = absurd v.of_kind
 held_cell model (kind.Row table) nullable cell v = held_row model table nullable cell v
 held_cell model (kind.Coded coded) nullable (Ref reference) v = held_coded model (tables_of coded) nullable reference v.of_kind v.refers
-held_cell model (kind.Coded coded) nullable _ v = absurd v.of_kind
 held_cell model (kind.List member) nullable (Start start) v = (start, v.within, refl)
-held_cell model (kind.List member) nullable _ v = absurd v.of_kind
+held_cell model _ nullable _ v = absurd v.of_kind
 
 module _ (facts : Facts) (model : Metadata) (valid : IsValid model) where
   pub row_long : (table : TableId) (row : ℕ) → 1 ≤ row → row ≤ count_in model table → length (row_of model table row) ≡ cell_count table

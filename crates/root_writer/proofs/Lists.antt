@@ -1,7 +1,7 @@
 -- Items of lists: membership, and properties of all items from an index on.
-use Rattle.std.proofs.Common.{◌≡◌, ℕ, zero, suc, ◌+◌, ◌<◌, ◌≤◌, Bool, true, false, cond, List, [], ◌∷◌, ◌++◌, length, get_or, filter, Contains, refl, sym, ap, subst, ◌∙◌, ◌⊎◌, inl, inr, ⊎_elim, arith}
+use Rattle.std.proofs.Common.{◌≡◌, ℕ, zero, suc, ◌+◌, ◌<◌, ◌≤◌, Bool, true, List, [], ◌∷◌, ◌++◌, length, get_or, filter, Contains, refl, sym, ap, subst, ◌∙◌, ◌⊎◌, inl, inr, ⊎_elim, arith}
 use Rattle.std.specs.List.{flat_map, AllByRecursion}
-use Rattle.std.proofs.lemmas.Bool.{cases_Bool}
+use Rattle.std.proofs.lemmas.Bool.{cond_both}
 use Rattle.metadata.specs.Rows.{AreFrom}
 
 -- ---- membership
@@ -80,25 +80,17 @@ are_from P i (suc n) (x ∷ xs) d long each =
 
 pub in_filter : {X : Type 0} (test : X → Bool) (x : X) (xs : List X) → IsIn x xs → test x ≡ true → IsIn x (filter test xs)
 in_filter test x [] h t = absurd h
-in_filter test x (z ∷ zs) (inl e) t = subst (λ b. IsIn x (cond b (z ∷ filter test zs) (filter test zs))) (sym (ap test e ∙ t)) (inl e)
-in_filter test x (z ∷ zs) (inr h) t = ⊎_elim
-    (λ (e : test z ≡ true). subst (λ b. IsIn x (cond b (z ∷ filter test zs) (filter test zs))) (sym e) (inr (in_filter test x zs h t)))
-    (λ (e : test z ≡ false). subst (λ b. IsIn x (cond b (z ∷ filter test zs) (filter test zs))) (sym e) (in_filter test x zs h t))
-    (cases_Bool (test z))
+in_filter test x (z ∷ zs) (inl e) t = rw (ap test e ∙ t) (inl e)
+in_filter test x (z ∷ zs) (inr h) t = cond_both (test z) (z ∷ filter test zs) (filter test zs) (IsIn x) (λ e. inr (in_filter test x zs h t)) (λ e. in_filter test x zs h t)
 
 pub from_filter : {X : Type 0} (test : X → Bool) (x : X) (xs : List X) → IsIn x (filter test xs) → IsIn x xs
 from_filter test x [] h = absurd h
-from_filter test x (z ∷ zs) h = ⊎_elim
-    (λ (t : test z ≡ true). ⊎_elim (λ (e : z ≡ x). inl e) (λ (l : IsIn x (filter test zs)). inr (from_filter test x zs l))
-    (subst (λ b. IsIn x (cond b (z ∷ filter test zs) (filter test zs))) t h))
-    (λ (f : test z ≡ false). inr (from_filter test x zs (subst (λ b. IsIn x (cond b (z ∷ filter test zs) (filter test zs))) f h)))
-    (cases_Bool (test z))
+from_filter test x (z ∷ zs) h =
+    cond_both (test z) (z ∷ filter test zs) (filter test zs) (λ ys. IsIn x ys → IsIn x (z ∷ zs))
+    (λ t k. ⊎_elim (λ (e : z ≡ x). inl e) (λ (l : IsIn x (filter test zs)). inr (from_filter test x zs l)) k) (λ f k. inr (from_filter test x zs k)) h
 
 pub length-filter_le : {X : Type 0} (test : X → Bool) (xs : List X) → length (filter test xs) ≤ length xs
 length-filter_le test [] = omega arith
-length-filter_le test (x ∷ xs) = ⊎_elim
-    (λ (t : test x ≡ true). subst (λ b. length (cond b (x ∷ filter test xs) (filter test xs)) ≤ suc (length xs)) (sym t)
-    (omega (arith, length-filter_le test xs)))
-    (λ (f : test x ≡ false). subst (λ b. length (cond b (x ∷ filter test xs) (filter test xs)) ≤ suc (length xs)) (sym f)
-    (omega (arith, length-filter_le test xs)))
-    (cases_Bool (test x))
+length-filter_le test (x ∷ xs) =
+    let le = length-filter_le test xs in
+    cond_both (test x) (x ∷ filter test xs) (filter test xs) (λ ys. length ys ≤ suc (length xs)) (λ t. omega arith) (λ f. omega arith)

@@ -14,8 +14,7 @@ use Rattle.table_schema.specs.Columns.{columns_of, column_at, key_of, col, IsRef
 use Rattle.table_schema.specs.CodedIndexes.{tables_of, tag_bits}
 use Rattle.schema.specs.Sizes.{count_of, kind_width, row_index_width, coded_width, width_of}
 use Rattle.sig_grammar.specs.Parts.{is_table}
-use Rattle.metadata.specs.Cell.{Cell}
-use Rattle.metadata.specs.Cell.{Number}
+use Rattle.metadata.specs.Cell.{Cell, Number}
 use Rattle.metadata.specs.Metadata.{Metadata, rows_of, count_in, cell_in}
 use Rattle.metadata.specs.Source.{number_of}
 use Rattle.table_schema.specs.CellColumns.{is_padding, cell_columns, cell_count, column_of}

@@ -1,5 +1,5 @@
 -- The cells of a valid model can be numbered.
-use Rattle.std.proofs.Common.{◌≡◌, ℕ, ◌+◌, ◌-◌, ◌<◌, ◌≤◌, Bool, List, [], ◌∷◌, ◌++◌, length, get_or, Some, None, sym, ap, subst, ◌∙◌, arith}
+use Rattle.std.proofs.Common.{◌≡◌, ℕ, ◌+◌, ◌-◌, ◌<◌, ◌≤◌, Bool, List, [], length, get_or, Some, None, sym, ap, subst, ◌∙◌, arith}
 use Rattle.std.specs.Prelude.{flat_map}
 use Rattle.std.specs.List.{All, AllByRecursion}
 use Rattle.std.proofs.lemmas.List.Elements.{All-from_get_or, All-from_recursion, recursion_from_All}
@@ -16,6 +16,7 @@ use Rattle.metadata.specs.Lookups.{HasRow}
 use Rattle.metadata.specs.Metadata.{Metadata, rows_of, count_in, cell_in}
 use Rattle.metadata.specs.Valid.{IsValid, IsValidCell, kind_at, nullable_at}
 use Rattle.root_writer.specs.Pools.{used, texts_of}
+use Rattle.root_writer.proofs.Lists.{all_flat_map}
 use Rattle.root_writer.proofs.PositionLemmas.{table_index_at}
 use Rattle.root_writer.specs.Numbered.{CanBeNumbered}
 
@@ -23,16 +24,7 @@ use Rattle.root_writer.specs.Numbered.{CanBeNumbered}
 
 sig_ready : (model : Metadata) (k : ColumnKind) (nullable : Bool) (signature : Body) → IsValidCell model k nullable (Sig signature) → CanBeNumbered (Sig signature)
 sig_ready model (kind.Signature column) nullable signature valid = valid.held.1.limit
-sig_ready model kind.U8 nullable signature valid = absurd valid.of_kind
-sig_ready model kind.U16 nullable signature valid = absurd valid.of_kind
-sig_ready model kind.U32 nullable signature valid = absurd valid.of_kind
-sig_ready model kind.Padding nullable signature valid = absurd valid.of_kind
-sig_ready model kind.Text nullable signature valid = absurd valid.of_kind
-sig_ready model kind.Guid nullable signature valid = absurd valid.of_kind
-sig_ready model kind.Blob nullable signature valid = absurd valid.of_kind
-sig_ready model (kind.Row table) nullable signature valid = absurd valid.of_kind
-sig_ready model (kind.Coded coded) nullable signature valid = absurd valid.of_kind
-sig_ready model (kind.List member) nullable signature valid = absurd valid.of_kind
+sig_ready model _ nullable signature valid = absurd valid.of_kind
 
 cell_ready : (model : Metadata) (k : ColumnKind) (nullable : Bool) (cell : Cell) → ((table : TableId) → count_in model table ≤ 0xFFFFFF)
     → IsValidCell model k nullable cell → CanBeNumbered cell
@@ -46,13 +38,8 @@ cell_ready model k nullable (Start start) few valid = tt
 cell_ready model k nullable (Sig signature) few valid = sig_ready model k nullable signature valid
 
 cell_text : (model : Metadata) (k : ColumnKind) (nullable : Bool) (cell : Cell) → IsValidCell model k nullable cell → AllByRecursion HasNoNul (texts_of cell)
-cell_text model k nullable (Number number) valid = tt
 cell_text model k nullable (Text text) valid = (valid.storable.0, tt)
-cell_text model k nullable (Bytes blob) valid = tt
-cell_text model k nullable (Guid guid) valid = tt
-cell_text model k nullable (Ref reference) valid = tt
-cell_text model k nullable (Start start) valid = tt
-cell_text model k nullable (Sig signature) valid = tt
+cell_text model k nullable _ valid = tt
 
 -- ---- rows
 
@@ -86,15 +73,6 @@ ready_at model valid table row cell_index there within =
 
 -- ---- what holds for all used values
 
-and_append : {Y : Type 0} (P : Y → Type 0) (xs ys : List Y) → AllByRecursion P xs → AllByRecursion P ys → AllByRecursion P (xs ++ ys)
-and_append P [] ys a b = b
-and_append P (x ∷ xs) ys a b = (a.0, and_append P xs ys a.1 b)
-
-all_flat : {X Y : Type 0} (P : Y → Type 0) (Q : X → Type 0) (f : X → List Y) → ((x : X) → Q x → AllByRecursion P (f x)) → (xs : List X)
-    → AllByRecursion Q xs → AllByRecursion P (flat_map f xs)
-all_flat P Q f each [] all = tt
-all_flat P Q f each (x ∷ xs) all = and_append P (f x) (flat_map f xs) (each x all.0) (all_flat P Q f each xs all.1)
-
 -- what holds for the cells of each table holds for those of all tables
 pub all_tables : (model : Metadata) → length tables ≡ 38 → IsValid model → (P : Cell → Type 0)
     → ((table : TableId) → AllByRecursion (AllByRecursion P) (rows_of model table)) → AllByRecursion (AllByRecursion (AllByRecursion P)) model.tables
@@ -108,8 +86,8 @@ pub all_used : (values : Cell → List (List ℕ)) (model : Metadata) (P : List 
 unfolding used
 all_used values model P all =
     let has = λ (cell : Cell). AllByRecursion P (values cell) in
-    all_flat P (AllByRecursion (AllByRecursion has)) (flat_map (flat_map values))
-    (λ rows in_rows. all_flat P (AllByRecursion has) (flat_map values) (λ cells in_row. all_flat P has values (λ cell h. h) cells in_row) rows in_rows)
+    all_flat_map P (AllByRecursion (AllByRecursion has)) (flat_map (flat_map values))
+    (λ rows in_rows. all_flat_map P (AllByRecursion has) (flat_map values) (λ cells in_row. all_flat_map P has values (λ cell h. h) cells in_row) rows in_rows)
     model.tables all
 
 pub no_nul : (model : Metadata) → length tables ≡ 38 → IsValid model → All HasNoNul (used texts_of model)

@@ -1,8 +1,8 @@
 -- The number of a cell encodes the cell, kind by kind.
-use Rattle.std.proofs.Common.{◌≡◌, ℕ, ◌+◌, ◌*◌, ◌%◌, ◌^◌, ◌<◌, ◌≤◌, Bool, true, false, ltb, List, [], ◌∷◌, length, Contains, All, IsUtf8, refl, sym, ap, subst, ◌∙◌, ◌⊎◌, inl, inr, ⊎_elim, Option, Some, None, IfSome, arith}
+use Rattle.std.proofs.Common.{◌≡◌, ℕ, ◌+◌, ◌*◌, ◌%◌, ◌^◌, ◌<◌, ◌≤◌, Bool, true, ltb, List, [], ◌∷◌, length, Contains, All, IsUtf8, refl, sym, ap, ◌∙◌, ◌⊎◌, inl, inr, Option, Some, None, IfSome, arith}
 use Rattle.std.specs.Prelude.{slice_get}
 use Rattle.std.specs.List.{position_or_len}
-use Rattle.std.proofs.lemmas.Bool.{cases_Bool}
+use Rattle.std.proofs.lemmas.Bool.{cond_both}
 use Rattle.std.proofs.lemmas.Nat.{pow_pos}
 use Rattle.std.proofs.Math.Nat.{mod-eq_of_lt}
 use Rattle.table_schema.specs.declared.table.TableId.{TableId}
@@ -19,8 +19,7 @@ use Rattle.heap_pools.specs.BlobHeap.{blob_index}
 use Rattle.heap_pools.specs.GuidHeap.{guid_index}
 use Rattle.sig_grammar.specs.Parts.{is_table}
 use Rattle.sig_grammar.specs.Encodes.{short, tokens}
-use Rattle.metadata.specs.Cell.{Cell}
-use Rattle.metadata.specs.Cell.{Start}
+use Rattle.metadata.specs.Cell.{Cell, Start}
 use Rattle.metadata.specs.Metadata.{Metadata, count_in}
 use Rattle.metadata.specs.Source.{Source, IsThere}
 use Rattle.metadata.specs.Stands.{StandsFor, Refers}
@@ -142,12 +141,9 @@ module _ (facts : Facts) (model : Metadata) (within : IsWithin model) where
       )
 
 low_start : (count start : ℕ) → start ≤ count + 1 → start % 256 ^ narrow_or_wide (ltb count (2 ^ 16)) ≤ count + 1
-low_start count start low = ⊎_elim
-    (λ (e : ltb count (2 ^ 16) ≡ true). let less : start % 65536 ≤ count + 1 =
-    omega arith in subst (λ b. start % 256 ^ narrow_or_wide b ≤ count + 1) (sym e) less)
-    (λ (e : ltb count (2 ^ 16) ≡ false). let less : start % 4294967296 ≤ count + 1 =
-    omega arith in subst (λ b. start % 256 ^ narrow_or_wide b ≤ count + 1) (sym e) less)
-    (cases_Bool (ltb count (2 ^ 16)))
+low_start count start low =
+    cond_both (ltb count (2 ^ 16)) 2 4 (λ width. start % 256 ^ width ≤ count + 1)
+    (λ e. let less : start % 65536 ≤ count + 1 = omega arith in less) (λ e. let less : start % 4294967296 ≤ count + 1 = omega arith in less)
 
 -- the number of a valid cell encodes the cell
 pub stands : Facts → (model : Metadata) → IsWithin model

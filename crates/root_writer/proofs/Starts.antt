@@ -1,12 +1,11 @@
 -- The start of an owner's run can be read back from the numbers of the column.
-use Rattle.std.proofs.Common.{◌≡◌, ℕ, zero, suc, ◌+◌, ◌%◌, ◌^◌, ◌<◌, ◌≤◌, Bool, true, false, ◌&&◌, cond, eqb, ltb, leb, List, [], ◌∷◌, length, get_or, refl, sym, ap, subst, ◌∙◌, ◌⊎◌, inl, inr, ⊎_elim, arith}
-use Rattle.std.proofs.lemmas.Bool.{cases_Bool, cases_lt}
+use Rattle.std.proofs.Common.{◌≡◌, ℕ, zero, suc, ◌+◌, ◌%◌, ◌^◌, ◌<◌, ◌≤◌, true, false, cond, eqb, ltb, leb, List, [], ◌∷◌, length, get_or, refl, sym, ap, ◌∙◌, ◌⊎◌, inl, inr, ⊎_elim, arith}
+use Rattle.std.proofs.lemmas.Bool.{cases_lt, cond_both, ltb-true, and_parts, and_from}
 use Rattle.std.proofs.lemmas.Bool.Decides.{nat_tests}
 use Rattle.std.proofs.Math.Nat.{mod-eq_of_lt}
 use Rattle.schema.specs.Sizes.{narrow_or_wide}
 use Rattle.metadata.specs.Starts.{start_from}
 use Rattle.root_writer.specs.TableStream.{rises}
-use Rattle.root_writer.proofs.Widths.{both_true}
 
 -- the number of a start is the start; it may be 0 for the start after the last member
 pub record AreNumbered (value start : ℕ → ℕ) (end row n : ℕ) : Type 0 where
@@ -43,14 +42,10 @@ start_found value start end row (suc n) are =
 pub rises_at : (numbers : List ℕ) (i : ℕ) → rises numbers ≡ true → i + 1 < length numbers → get_or numbers i 0 ≤ get_or numbers (i + 1) 0
 rises_at [] i h below = absurd (omega arith)
 rises_at (a ∷ []) i h below = absurd (omega arith)
-rises_at (a ∷ b ∷ numbers) zero h below = let low = (both_true (leb a b) (rises (b ∷ numbers)) h).0 in let le : a ≤ b = grind (arith, nat_tests) in le
+rises_at (a ∷ b ∷ numbers) zero h below = let low = (and_parts (leb a b) (rises (b ∷ numbers)) h).0 in let le : a ≤ b = grind (arith, nat_tests) in le
 rises_at (a ∷ b ∷ numbers) (suc i) h below =
     let up : suc i + 1 ≡ suc (i + 1) = omega arith in
-    rw up (rises_at (b ∷ numbers) i (both_true (leb a b) (rises (b ∷ numbers)) h).1 (omega arith))
-
-both_is : (a b : Bool) → a ≡ true → b ≡ true → (a && b) ≡ true
-both_is true b e h = h
-both_is false b e h = e
+    rw up (rises_at (b ∷ numbers) i (and_parts (leb a b) (rises (b ∷ numbers)) h).1 (omega arith))
 
 pub rises_from : (numbers : List ℕ) → ((i : ℕ) → i + 1 < length numbers → get_or numbers i 0 ≤ get_or numbers (i + 1) 0) → rises numbers ≡ true
 rises_from [] each = refl
@@ -58,7 +53,7 @@ rises_from (a ∷ []) each = refl
 rises_from (a ∷ b ∷ numbers) each =
     let low : a ≤ b = each 0 (omega arith) in
     let reported : leb a b ≡ true = grind (arith, nat_tests) in
-    both_is (leb a b) (rises (b ∷ numbers)) reported (rises_from (b ∷ numbers) (λ i below.
+    and_from (leb a b) (rises (b ∷ numbers)) reported (rises_from (b ∷ numbers) (λ i below.
     let next : suc i + 1 ≡ suc (i + 1) = omega arith in
     let up = each (suc i) (omega arith) in
     rw next at up))
@@ -66,14 +61,9 @@ rises_from (a ∷ b ∷ numbers) each =
 -- the low bytes in a column of the width for this count are the start, or 0 for the start after the last member
 pub low_start : (count start : ℕ) → start ≤ count + 1 → count ≤ 0xFFFFFF
     → (start % 256 ^ narrow_or_wide (ltb count (2 ^ 16)) ≡ start) ⊎ ((start % 256 ^ narrow_or_wide (ltb count (2 ^ 16)) ≡ 0) × (start ≡ count + 1))
-low_start count start low small = ⊎_elim
-    (λ (e : ltb count (2 ^ 16) ≡ true).
-    let few : count < 65536 = grind (arith, nat_tests) in
-    subst (λ b. (start % 256 ^ narrow_or_wide b ≡ start) ⊎ ((start % 256 ^ narrow_or_wide b ≡ 0) × (start ≡ count + 1))) (sym e) (narrow few))
-    (λ (e : ltb count (2 ^ 16) ≡ false).
-    subst (λ b. (start % 256 ^ narrow_or_wide b ≡ start) ⊎ ((start % 256 ^ narrow_or_wide b ≡ 0) × (start ≡ count + 1))) (sym e)
-    (inl (mod-eq_of_lt (below start))))
-    (cases_Bool (ltb count (2 ^ 16)))
+low_start count start low small =
+    cond_both (ltb count (2 ^ 16)) 2 4 (λ width. (start % 256 ^ width ≡ start) ⊎ ((start % 256 ^ width ≡ 0) × (start ≡ count + 1)))
+    (λ e. narrow (ltb-true count (2 ^ 16) e)) (λ e. inl (mod-eq_of_lt (below start)))
   where
     below : (n : ℕ) → start < 4294967296
     below n = omega arith

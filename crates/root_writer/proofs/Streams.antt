@@ -1,10 +1,11 @@
 -- Streams in sequence: their headers, and how each is found again.
-use Rattle.std.proofs.Common.{◌≡◌, ◌≢◌, ℕ, suc, ◌+◌, ◌-◌, ◌%◌, ◌^◌, ◌<◌, ◌≤◌, Bool, true, false, not, ◌&&◌, ◌||◌, cond, List, [], ◌∷◌, ◌++◌, take, drop, length, filter, refl, sym, ap, subst, ◌∙◌, ◌⊎◌, inl, inr, ⊎_elim, true≢false, arith, length-append, All, Option, Some, None, lit≤, rules, codes, replicate}
-use Rattle.std.specs.Prelude.{bytes_eq, IsAscii, IsSome, unwrap_or}
-use Rattle.std.specs.List.{list_any, flat_map}
+use Rattle.std.proofs.Common.{◌≡◌, ◌≢◌, ℕ, suc, ◌+◌, ◌-◌, ◌%◌, ◌^◌, ◌<◌, ◌≤◌, Bool, true, false, not, ◌&&◌, cond, List, [], ◌∷◌, ◌++◌, take, drop, length, filter, refl, sym, ap, ◌∙◌, ◌⊎◌, inl, inr, ⊎_elim, true≢false, arith, length-append, Option, Some, None, lit≤, rules, codes, replicate}
+use Rattle.std.specs.Prelude.{bytes_eq, IsSome, unwrap_or}
+use Rattle.std.specs.List.{list_any, flat_map, AllByRecursion}
+use Rattle.std.proofs.lemmas.Str.Ascii.{IsAscii-from_all}
 use Rattle.std.specs.Option.{option_map, option_or}
-use Rattle.std.proofs.lemmas.Bool.{cases_Bool, cases_lt, false≢true}
-use Rattle.std.proofs.lemmas.List.{append_assoc, length-replicate, drop_at, take_at, get_or_past}
+use Rattle.std.proofs.lemmas.Bool.{cases_Bool, false≢true, cond_both, and_parts, or_parts, not-true, not_from_false}
+use Rattle.std.proofs.lemmas.List.{append_assoc, length-replicate, drop_at, take_at}
 use Rattle.std.proofs.lemmas.List.Folds.{find-append}
 use Rattle.std.proofs.lemmas.List.Elements.{All-from_recursion}
 use Rattle.packed.specs.Offsets.{part}
@@ -17,7 +18,6 @@ use Rattle.heap_entries.specs.Padding.{zero_padded}
 use Rattle.root_writer.specs.Canonical.{ended, stream_header, directory}
 use Rattle.root_writer.proofs.Lists.{IsIn, from_filter}
 use Rattle.root_writer.proofs.Facts.{Facts}
-use Rattle.root_writer.proofs.Widths.{both_true}
 
 -- ---- padding
 
@@ -42,42 +42,15 @@ ended_is text = append_assoc text (0 ∷ []) (padding_of text)
 
 -- ---- the five names
 
-pub ascii_from : (bytes : List ℕ) → All (λ b. b < 128) bytes → IsAscii bytes
-ascii_from bytes all i = ⊎_elim (λ (l : i < length bytes). all i 0 l) (λ (h : length bytes ≤ i). let past = get_or_past bytes i 0 h in omega (arith, past))
-    (cases_lt i (length bytes))
+is_name : (name : List ℕ) → length name ≤ 32 → AllByRecursion (λ b. b < 128) name → AllByRecursion (λ b. b ≢ 0) name → IsStreamName name
+is_name name short ascii no_nul = record { short = short; ascii = IsAscii-from_all name (All-from_recursion (λ b. b < 128) name ascii); no_nul = All-from_recursion (λ b. b ≢ 0) name no_nul }
 
 name_is : (kind : Kind) → IsStreamName (stream_name kind)
-name_is Tables = record {
-  short = lit≤ tt;
-  ascii = ascii_from (codes "#~") (All-from_recursion (λ b. b < 128) (codes "#~") (search rules));
-  no_nul =
-      All-from_recursion (λ b. b ≢ 0) (codes "#~") (search rules);
-}
-name_is Strings = record {
-  short = lit≤ tt;
-  ascii =
-      ascii_from (codes "#Strings") (All-from_recursion (λ b. b < 128) (codes "#Strings") (search rules));
-  no_nul =
-      All-from_recursion (λ b. b ≢ 0) (codes "#Strings") (search rules);
-}
-name_is UserStrings = record {
-  short = lit≤ tt;
-  ascii = ascii_from (codes "#US") (All-from_recursion (λ b. b < 128) (codes "#US") (search rules));
-  no_nul =
-      All-from_recursion (λ b. b ≢ 0) (codes "#US") (search rules);
-}
-name_is Guids = record {
-  short = lit≤ tt;
-  ascii = ascii_from (codes "#GUID") (All-from_recursion (λ b. b < 128) (codes "#GUID") (search rules));
-  no_nul =
-      All-from_recursion (λ b. b ≢ 0) (codes "#GUID") (search rules);
-}
-name_is Blobs = record {
-  short = lit≤ tt;
-  ascii = ascii_from (codes "#Blob") (All-from_recursion (λ b. b < 128) (codes "#Blob") (search rules));
-  no_nul =
-      All-from_recursion (λ b. b ≢ 0) (codes "#Blob") (search rules);
-}
+name_is Tables = is_name _ (lit≤ tt) (search rules) (search rules)
+name_is Strings = is_name _ (lit≤ tt) (search rules) (search rules)
+name_is UserStrings = is_name _ (lit≤ tt) (search rules) (search rules)
+name_is Guids = is_name _ (lit≤ tt) (search rules) (search rules)
+name_is Blobs = is_name _ (lit≤ tt) (search rules) (search rules)
 
 same_kind : (a b : Kind) → bytes_eq (stream_name a) (stream_name b) ≡ true → a ≡ b
 same_kind Tables Tables e = refl
@@ -89,17 +62,11 @@ same_kind a b e = absurd (false≢true e)
 
 name_itself : (kind : Kind) → bytes_eq (stream_name kind) (stream_name kind) ≡ true
 name_itself Tables = refl
-name_itself Strings = refl
-name_itself UserStrings = refl
-name_itself Guids = refl
-name_itself Blobs = refl
+name_itself _ = refl
 
 not_uncompressed : (kind : Kind) → bytes_eq (stream_name kind) (codes "#-") ≡ false
 not_uncompressed Tables = refl
-not_uncompressed Strings = refl
-not_uncompressed UserStrings = refl
-not_uncompressed Guids = refl
-not_uncompressed Blobs = refl
+not_uncompressed _ = refl
 
 compressed : (kind : Kind) → stream_name kind ≢ codes "#-"
 compressed kind = λ e. true≢false (sym (name_itself kind) ∙ ap (bytes_eq (stream_name kind)) e ∙ not_uncompressed kind)
@@ -116,27 +83,22 @@ are_apart (kind ∷ kinds) = not (list_any (λ other. bytes_eq (stream_name kind
 
 not_in : {X : Type 0} (test : X → Bool) (x : X) (xs : List X) → not (list_any test xs) ≡ true → IsIn x xs → test x ≡ false
 not_in test x [] none h = absurd h
-not_in test x (z ∷ zs) none h = ⊎_elim
-    (λ (t : test z ≡ true). absurd (false≢true (sym (ap (λ b. not (b || list_any test zs)) t) ∙ none)))
-    (λ (f : test z ≡ false).
-    let tail : not (list_any test zs) ≡ true = sym (ap (λ b. not (b || list_any test zs)) f) ∙ none in
-    ⊎_elim (λ (e : z ≡ x). ap test (sym e) ∙ f) (λ (l : IsIn x zs). not_in test x zs tail l) h)
-    (cases_Bool (test z))
+not_in test x (z ∷ zs) none h =
+    let neither = or_parts (test z) (list_any test zs) (not-true _ none) in
+    ⊎_elim (λ (e : z ≡ x). ap test (sym e) ∙ neither.0) (λ (l : IsIn x zs). not_in test x zs (not_from_false (list_any test zs) neither.1) l) h
 
 apart_from : (kinds : List Kind) → are_apart kinds ≡ true → AreApart kinds
 unfolding are_apart
 apart_from [] apart = tt
 apart_from (kind ∷ kinds) apart =
-    let both = both_true (not (list_any (λ other. bytes_eq (stream_name kind) (stream_name other)) kinds)) (are_apart kinds) apart in
+    let both = and_parts (not (list_any (λ other. bytes_eq (stream_name kind) (stream_name other)) kinds)) (are_apart kinds) apart in
     ((λ other h. not_in (λ k. bytes_eq (stream_name kind) (stream_name k)) other kinds both.0 h), apart_from kinds both.1)
 
 apart_filter : (test : Kind → Bool) (kinds : List Kind) → AreApart kinds → AreApart (filter test kinds)
 apart_filter test [] apart = tt
-apart_filter test (kind ∷ kinds) apart = ⊎_elim
-    (λ (t : test kind ≡ true). subst (λ b. AreApart (cond b (kind ∷ filter test kinds) (filter test kinds))) (sym t)
-    ((λ other h. apart.0 other (from_filter test other kinds h)), apart_filter test kinds apart.1))
-    (λ (f : test kind ≡ false). subst (λ b. AreApart (cond b (kind ∷ filter test kinds) (filter test kinds))) (sym f) (apart_filter test kinds apart.1))
-    (cases_Bool (test kind))
+apart_filter test (kind ∷ kinds) apart =
+    cond_both (test kind) (kind ∷ filter test kinds) (filter test kinds) AreApart
+    (λ t. ((λ other h. apart.0 other (from_filter test other kinds h)), apart_filter test kinds apart.1)) (λ f. apart_filter test kinds apart.1)
 
 abbrev pub all_kinds : List Kind
 all_kinds = Tables ∷ Strings ∷ UserStrings ∷ Guids ∷ Blobs ∷ []
@@ -239,15 +201,11 @@ module _ (facts : Facts) (streams : Kind → List ℕ) where
   is_named kind header_offset offset (first ∷ kinds) h =
       let header : Header = record { place = header_offset; offset = offset; size = length (streams first); name = stream_name first } in
       let others = headers_of (header_offset + length (stream_header streams offset first)) (offset + length (streams first)) kinds in
-      ⊎_elim
-      (λ (t : bytes_eq (stream_name first) (stream_name kind) ≡ true). subst (λ b. IsSome (cond b (Some header) (named (stream_name kind) others))) (sym t)
-      refl)
-      (λ (f : bytes_eq (stream_name first) (stream_name kind) ≡ false).
-      subst (λ b. IsSome (cond b (Some header) (named (stream_name kind) others))) (sym f)
-      (is_named kind (header_offset + length (stream_header streams offset first)) (offset + length (streams first)) kinds
+      cond_both (bytes_eq (stream_name first) (stream_name kind)) (Some header) (named (stream_name kind) others) IsSome (λ t. refl)
+      (λ f.
+      is_named kind (header_offset + length (stream_header streams offset first)) (offset + length (streams first)) kinds
       (⊎_elim (λ (same : first ≡ kind). absurd (false≢true (sym f ∙ ap (λ k. bytes_eq (stream_name k) (stream_name kind)) same ∙ name_itself kind)))
-      (λ (l : IsIn kind kinds). l) h)))
-      (cases_Bool (bytes_eq (stream_name first) (stream_name kind)))
+      (λ (l : IsIn kind kinds). l) h))
 
   -- ---- each stream ends within the root, and is the first of its name
 

@@ -1,5 +1,6 @@
 -- The numbers of the canonical table stream encode the cells of the model.
-use Rattle.std.proofs.Common.{◌≡◌, ◌||◌, lit<, true≢false, ℕ, zero, suc, ◌+◌, ◌-◌, ◌%◌, ◌^◌, ◌<◌, ◌≤◌, Bool, true, false, ltb, List, [], ◌∷◌, length, get_or, refl, sym, ap, subst, ◌∙◌, ◌⊎◌, inl, inr, arith}
+use Rattle.std.proofs.Common.{◌≡◌, lit<, true≢false, ℕ, zero, suc, ◌+◌, ◌-◌, ◌%◌, ◌^◌, ◌<◌, ◌≤◌, Bool, true, false, ltb, List, [], ◌∷◌, length, get_or, refl, sym, ap, subst, ◌∙◌, ◌⊎◌, inl, inr, arith}
+use Rattle.std.proofs.lemmas.Bool.{or_parts}
 use Rattle.std.specs.List.{list_any}
 use Rattle.table_schema.specs.declared.table.TableId.{TableId}
 use Rattle.table_schema.specs.declared.table.TableId.TheVariants.{TypeDef, Field, MethodDef, Param, EventMap, Event, PropertyMap, Property}
@@ -9,8 +10,7 @@ use Rattle.table_schema.specs.declared.column.ColumnKind.TheVariants as kind
 use Rattle.table_schema.specs.Tables.{table_index_of}
 use Rattle.table_schema.specs.Columns.{columns_of, column_at, col, MayBeNull}
 use Rattle.schema.specs.Sizes.{count_of, narrow_or_wide, kind_width, width_of}
-use Rattle.metadata.specs.Cell.{Cell}
-use Rattle.metadata.specs.Cell.{Number, Start}
+use Rattle.metadata.specs.Cell.{Cell, Number, Start}
 use Rattle.metadata.specs.Metadata.{Metadata, rows_of, count_in, cell_in}
 use Rattle.metadata.specs.Source.{Source, rows_in, number_of}
 use Rattle.metadata.specs.Starts.{start_from, start_of}
@@ -24,7 +24,8 @@ use Rattle.root_writer.specs.TableStream.{sizes_of}
 use Rattle.metadata.specs.Valid.{start_in, HasOwners, IsValid}
 use Rattle.root_writer.proofs.HeldRoots.{IsValidCell, row_long, cell_valid}
 use Rattle.root_writer.proofs.Lists.{in_get_or, in_three, are_from}
-use Rattle.root_writer.proofs.Facts.{Facts, table_index_at}
+use Rattle.root_writer.proofs.Facts.{Facts}
+use Rattle.root_writer.proofs.PositionLemmas.{table_index_at}
 use Rattle.root_writer.proofs.Widths.{count_is}
 use Rattle.root_writer.proofs.Stands.{source_with, IsUsed, IsWithin, HasNull, stands}
 use Rattle.root_writer.proofs.Rows.{fields, cells_of, number_is, located}
@@ -160,17 +161,13 @@ abbrev is_list : ColumnKind → Bool
 is_list (kind.List member) = true
 is_list _ = false
 
-or_false : (a b : Bool) → (a || b) ≡ false → (a ≡ false) × (b ≡ false)
-or_false true b h = absurd (true≢false h)
-or_false false b h = (refl, h)
-
 no_list : (columns : List Column) (i : ℕ) (member : TableId) → list_any (λ column. is_list column.kind) columns ≡ false
     → (get_or columns i (col kind.U8)).kind ≡ kind.List member → ⊥
 no_list [] i member none e = cc
 no_list (column ∷ columns) zero member none e =
-    true≢false (sym (ap is_list e) ∙ (or_false (is_list column.kind) (list_any (λ column. is_list column.kind) columns) none).0)
+    true≢false (sym (ap is_list e) ∙ (or_parts (is_list column.kind) (list_any (λ column. is_list column.kind) columns) none).0)
 no_list (column ∷ columns) (suc i) member none e =
-    no_list columns i member (or_false (is_list column.kind) (list_any (λ column. is_list column.kind) columns) none).1 e
+    no_list columns i member (or_parts (is_list column.kind) (list_any (λ column. is_list column.kind) columns) none).1 e
 
 abbrev OwnsBy : Metadata → TableId → ℕ → Type 0
 OwnsBy model table cell_index = (member : TableId) → (column_at table (column_of table cell_index)).kind ≡ kind.List member → HasOwners model table cell_index member
@@ -181,35 +178,24 @@ same_member model table cell_index a b owners e = let same : a ≡ b = cc in sub
 
 types_own : (model : Metadata) → IsValid model → (cell_index : ℕ) → OwnsBy model TypeDef cell_index
 unfolding cell_columns
-types_own model valid zero member e = cc
-types_own model valid (suc zero) member e = cc
-types_own model valid (suc (suc zero)) member e = cc
-types_own model valid (suc (suc (suc zero))) member e = cc
 types_own model valid (suc (suc (suc (suc zero)))) member e = same_member model TypeDef 4 Field member valid.fields e
 types_own model valid (suc (suc (suc (suc (suc zero))))) member e = same_member model TypeDef 5 MethodDef member valid.methods e
-types_own model valid (suc (suc (suc (suc (suc (suc cell_index)))))) member e = cc
+types_own model valid _ member e = cc
 
 methods_own : (model : Metadata) → IsValid model → (cell_index : ℕ) → OwnsBy model MethodDef cell_index
 unfolding cell_columns
-methods_own model valid zero member e = cc
-methods_own model valid (suc zero) member e = cc
-methods_own model valid (suc (suc zero)) member e = cc
-methods_own model valid (suc (suc (suc zero))) member e = cc
-methods_own model valid (suc (suc (suc (suc zero)))) member e = cc
 methods_own model valid (suc (suc (suc (suc (suc zero))))) member e = same_member model MethodDef 5 Param member valid.params e
-methods_own model valid (suc (suc (suc (suc (suc (suc cell_index)))))) member e = cc
+methods_own model valid _ member e = cc
 
 events_own : (model : Metadata) → IsValid model → (cell_index : ℕ) → OwnsBy model EventMap cell_index
 unfolding cell_columns
-events_own model valid zero member e = cc
 events_own model valid (suc zero) member e = same_member model EventMap 1 Event member valid.events e
-events_own model valid (suc (suc cell_index)) member e = cc
+events_own model valid _ member e = cc
 
 properties_own : (model : Metadata) → IsValid model → (cell_index : ℕ) → OwnsBy model PropertyMap cell_index
 unfolding cell_columns
-properties_own model valid zero member e = cc
 properties_own model valid (suc zero) member e = same_member model PropertyMap 1 Property member valid.properties e
-properties_own model valid (suc (suc cell_index)) member e = cc
+properties_own model valid _ member e = cc
 
 owners_of : (model : Metadata) → IsValid model → (table : TableId) (cell_index : ℕ) → OwnsBy model table cell_index
 owners_of model valid TypeDef cell_index = types_own model valid cell_index

@@ -1,7 +1,7 @@
 -- The canonical root of a valid model is a root with that model.
-use Rattle.std.proofs.Common.{◌≡◌, ℕ, ◌+◌, ◌-◌, ◌%◌, ◌^◌, ◌<◌, ◌≤◌, Bool, true, false, cond, ltb, List, [], ◌∷◌, ◌++◌, length, refl, sym, ap, subst, ◌∙◌, ◌⊎◌, inl, inr, ⊎_elim, arith, length-append, All, Option, Some, None, IfSome, replicate}
+use Rattle.std.proofs.Common.{◌≡◌, ℕ, ◌+◌, ◌-◌, ◌%◌, ◌^◌, ◌<◌, ◌≤◌, Bool, true, false, ltb, List, [], ◌∷◌, ◌++◌, length, refl, sym, ap, subst, ◌∙◌, ◌⊎◌, inl, inr, ⊎_elim, arith, length-append, All, Option, Some, None, IfSome, replicate}
 use Rattle.std.specs.List.{AllByRecursion, flat_map, count_by}
-use Rattle.std.proofs.lemmas.Bool.{cases_Bool}
+use Rattle.std.proofs.lemmas.Bool.{cases_Bool, cond_both}
 use Rattle.std.proofs.lemmas.Bool.Decides.{nat_tests}
 use Rattle.std.proofs.lemmas.List.{append-nil, nil_from_length}
 use Rattle.std.proofs.lemmas.List.Elements.{All-from_recursion}
@@ -19,8 +19,7 @@ use Rattle.table_schema.specs.Tables.{tables}
 use Rattle.table_schema.specs.Columns.{column_at}
 use Rattle.schema.specs.Sizes.{header_size}
 use Rattle.schema.specs.LaidOut.{number_bytes, tables_bytes, IsLaidOut}
-use Rattle.metadata.specs.Cell.{Cell}
-use Rattle.metadata.specs.Cell.{Guid}
+use Rattle.metadata.specs.Cell.{Cell, Guid}
 use Rattle.metadata.specs.Metadata.{Metadata, count_in}
 use Rattle.metadata.specs.Source.{Source}
 use Rattle.table_schema.specs.CellColumns.{cell_count, column_of}
@@ -60,28 +59,20 @@ long_guid None long = tt
 long_guid (Some guid) long = (long, tt)
 
 long_cell : (model : Metadata) (k : ColumnKind) (nullable : Bool) (cell : Cell) → IsValidCell model k nullable cell → HasLong cell
-long_cell model kind.U8 nullable cell valid = rw (valid.2) tt
-long_cell model kind.U16 nullable cell valid = rw (valid.2) tt
-long_cell model kind.U32 nullable cell valid = rw (valid.2) tt
 long_cell model kind.Padding nullable cell valid = absurd valid
 long_cell model kind.Text nullable cell valid = rw (valid.3) tt
 long_cell model kind.Guid nullable cell valid = rw (valid.2) (long_guid valid.0 valid.1)
-long_cell model kind.Blob nullable cell valid = rw (valid.2) tt
 long_cell model (kind.Signature column) nullable cell valid = rw (valid.4) tt
 long_cell model (kind.Row table) nullable cell valid = long_reference model nullable _ cell valid
 long_cell model (kind.Coded coded) nullable cell valid = long_reference model nullable _ cell valid
-long_cell model (kind.List member) nullable cell valid = rw (valid.2) tt
+long_cell model _ nullable cell valid = rw (valid.2) tt
 
 all_first_uses : (P : List ℕ → Type 0) (before values : List (List ℕ)) → AllByRecursion P values → AllByRecursion P (first_uses before values)
 all_first_uses P before [] all = tt
 all_first_uses P before (value ∷ values) all =
     let tail = all_first_uses P (before ++ value ∷ []) values all.1 in
-    ⊎_elim
-    (λ (t : is_among before value ≡ true). subst (λ b. AllByRecursion P
-    (cond b (first_uses (before ++ value ∷ []) values) (value ∷ first_uses (before ++ value ∷ []) values))) (sym t) tail)
-    (λ (f : is_among before value ≡ false). subst (λ b. AllByRecursion P
-    (cond b (first_uses (before ++ value ∷ []) values) (value ∷ first_uses (before ++ value ∷ []) values))) (sym f) (all.0, tail))
-    (cases_Bool (is_among before value))
+    let uses = first_uses (before ++ value ∷ []) values in
+    cond_both (is_among before value) uses (value ∷ uses) (AllByRecursion P) (λ t. tail) (λ f. (all.0, tail))
 
 module _ (facts : Facts) (model : Metadata) (valid : IsValid model) where
   long_row : (table : TableId) (cells : List Cell) → IsValidRow model table cells → AllByRecursion HasLong cells

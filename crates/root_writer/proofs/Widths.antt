@@ -1,8 +1,8 @@
 -- The numbers of cells fit the widths of the canonical table stream.
-use Rattle.std.proofs.Common.{◌≡◌, ℕ, zero, suc, ◌+◌, ◌-◌, ◌*◌, ◌/◌, ◌%◌, ◌^◌, ◌<◌, ◌≤◌, Bool, true, false, not, ◌&&◌, cond, eqb, ltb, leb, List, [], ◌∷◌, ◌++◌, length, get_or, Contains, refl, sym, ap, subst, ◌∙◌, ◌⊎◌, inl, inr, ⊎_elim, true≢false, Option, Some, None, arith, length-append}
+use Rattle.std.proofs.Common.{◌≡◌, ℕ, zero, suc, ◌+◌, ◌-◌, ◌*◌, ◌/◌, ◌%◌, ◌^◌, ◌<◌, ◌≤◌, Bool, true, false, not, cond, eqb, ltb, leb, List, [], ◌∷◌, ◌++◌, length, get_or, Contains, refl, sym, ap, subst, ◌∙◌, ◌⊎◌, inl, inr, ⊎_elim, true≢false, Option, Some, None, arith, length-append}
 use Rattle.std.specs.Prelude.{slice_get}
 use Rattle.std.specs.List.{list_all, position_or_len}
-use Rattle.std.proofs.lemmas.Bool.{cases_Bool, cases_lt}
+use Rattle.std.proofs.lemmas.Bool.{cases_Bool, cases_lt, cond_both, leb-false, not-true, and_parts, ltb-true}
 use Rattle.std.proofs.lemmas.Bool.Decides.{nat_tests}
 use Rattle.std.proofs.lemmas.List.{get_or-map}
 use Rattle.std.proofs.lemmas.Nat.{mul-add-lt}
@@ -53,35 +53,26 @@ guid_within heap index (Some guid) is =
 heap_bits : (a b c : Bool) → ((eqb ((cond a 1 0 + cond b 2 0 + cond c 4 0) / 1 % 2) 0 ≡ not a)
     × (eqb ((cond a 1 0 + cond b 2 0 + cond c 4 0) / 2 % 2) 0 ≡ not b)) × (eqb ((cond a 1 0 + cond b 2 0 + cond c 4 0) / 4 % 2) 0 ≡ not c)
 heap_bits true true true = ((refl, refl), refl)
-heap_bits true true false = ((refl, refl), refl)
 heap_bits true false true = ((refl, refl), refl)
-heap_bits true false false = ((refl, refl), refl)
 heap_bits false true true = ((refl, refl), refl)
-heap_bits false true false = ((refl, refl), refl)
 heap_bits false false true = ((refl, refl), refl)
-heap_bits false false false = ((refl, refl), refl)
+heap_bits _ _ _ = ((refl, refl), refl)
+
+bit_most : (b : Bool) (n : ℕ) → cond b n 0 ≤ n
+bit_most true n = omega arith
+bit_most false n = omega arith
 
 heap_sizes_below : (a b c : Bool) → cond a 1 0 + cond b 2 0 + cond c 4 0 < 8
-heap_sizes_below true true true = omega arith
-heap_sizes_below true true false = omega arith
-heap_sizes_below true false true = omega arith
-heap_sizes_below true false false = omega arith
-heap_sizes_below false true true = omega arith
-heap_sizes_below false true false = omega arith
-heap_sizes_below false false true = omega arith
-heap_sizes_below false false false = omega arith
+heap_sizes_below a b c = omega (arith, bit_most a 1, bit_most b 2, bit_most c 4)
 
 -- an index has two or four bytes, depending on the length of its stream
 abbrev pub index_width : List ℕ → ℕ
 index_width stream = narrow_or_wide (not (leb (2 ^ 16) (length stream)))
 
 pub index_fits : (index : ℕ) (stream : List ℕ) → (index ≡ 0) ⊎ (index < length stream) → length stream ≤ 2 ^ 30 → index < 256 ^ index_width stream
-index_fits index stream within small = ⊎_elim
-    (λ (e : leb (2 ^ 16) (length stream) ≡ true). subst (λ b. index < 256 ^ narrow_or_wide (not b)) (sym e) (below within))
-    (λ (e : leb (2 ^ 16) (length stream) ≡ false).
-    let few : length stream < 2 ^ 16 = grind (arith, nat_tests) in
-    subst (λ b. index < 256 ^ narrow_or_wide (not b)) (sym e) (few_of few within))
-    (cases_Bool (leb (2 ^ 16) (length stream)))
+index_fits index stream within small =
+    cond_both (not (leb (2 ^ 16) (length stream))) 2 4 (λ width. index < 256 ^ width)
+    (λ e. few_of (leb-false (2 ^ 16) (length stream) (not-true _ e)) within) (λ e. below within)
   where
     below : (index ≡ 0) ⊎ (index < length stream) → index < 4294967296
     below (inl e) = omega arith
@@ -123,20 +114,11 @@ module _ (model : Metadata) where
 -- ---- rows
 
 pub row_fits : (number count : ℕ) → number ≤ count → count ≤ 0xFFFFFF → number < 256 ^ narrow_or_wide (ltb count (2 ^ 16))
-row_fits number count low small = ⊎_elim
-    (λ (e : ltb count (2 ^ 16) ≡ true).
-    let few : count < 2 ^ 16 = grind (arith, nat_tests) in
-    let fits : number < 65536 = omega arith in
-    subst (λ b. number < 256 ^ narrow_or_wide b) (sym e) fits)
-    (λ (e : ltb count (2 ^ 16) ≡ false). let fits : number < 4294967296 = omega arith in subst (λ b. number < 256 ^ narrow_or_wide b) (sym e) fits)
-    (cases_Bool (ltb count (2 ^ 16)))
+row_fits number count low small =
+    cond_both (ltb count (2 ^ 16)) 2 4 (λ width. number < 256 ^ width) (λ e. let few = ltb-true count (2 ^ 16) e in let fits : number < 65536 = omega arith in fits)
+    (λ e. let fits : number < 4294967296 = omega arith in fits)
 
 -- ---- tags
-
-pub both_true : (a b : Bool) → (a && b) ≡ true → (a ≡ true) × (b ≡ true)
-both_true true true h = (refl, refl)
-both_true true false h = absurd (true≢false (sym h))
-both_true false b h = absurd (true≢false (sym h))
 
 pub same_table : Facts → (a b : TableId) → table_number a ≡ table_number b → a ≡ b
 same_table facts a b e = ⊎_elim
@@ -156,28 +138,28 @@ below_listed sizes limit (None ∷ listed) zero table all e = cc
 below_listed sizes limit (None ∷ listed) (suc tag) table all e = below_listed sizes limit listed tag table all e
 below_listed sizes limit (Some other ∷ listed) zero table all e =
     let same : other ≡ table = cc in
-    let low = (both_true (ltb (count_of sizes other) limit) (list_all (is_below sizes limit) listed) all).0 in
+    let low = (and_parts (ltb (count_of sizes other) limit) (list_all (is_below sizes limit) listed) all).0 in
     let less : count_of sizes other < limit = grind (arith, nat_tests) in
     subst (λ t. count_of sizes t < limit) same less
 below_listed sizes limit (Some other ∷ listed) (suc tag) table all e =
-    below_listed sizes limit listed tag table (both_true (ltb (count_of sizes other) limit) (list_all (is_below sizes limit) listed) all).1 e
+    below_listed sizes limit listed tag table (and_parts (ltb (count_of sizes other) limit) (list_all (is_below sizes limit) listed) all).1 e
 
 -- a row and a tag of a listed table fit the width of the coded index
 pub coded_fits : Facts → (sizes : Sizes) (coded : Coded) (table : TableId) (row tag : ℕ) → slice_get (tables_of coded) tag ≡ Some (Some table)
     → tag < 2 ^ tag_bits coded
     → row ≤ count_of sizes table → count_of sizes table ≤ 0xFFFFFF → row * 2 ^ tag_bits coded + tag < 256 ^ coded_width sizes coded
-coded_fits facts sizes coded table row tag is low there small = ⊎_elim
-    (λ (e : narrow ≡ true).
+coded_fits facts sizes coded table row tag is low there small =
+    cond_both narrow 2 4 (λ width. row * 2 ^ tag_bits coded + tag < 256 ^ width)
+    (λ e.
     let few = below_listed sizes (2 ^ (16 - tag_bits coded)) (tables_of coded) tag table e is in
     let fits : row * 2 ^ tag_bits coded + tag < 65536 =
     subst (λ n. row * 2 ^ tag_bits coded + tag < n) (facts.narrow coded)
     (mul-add-lt row (2 ^ tag_bits coded) tag (2 ^ (16 - tag_bits coded)) (omega arith) low) in
-    subst (λ b. row * 2 ^ tag_bits coded + tag < 256 ^ narrow_or_wide b) (sym e) fits)
-    (λ (e : narrow ≡ false).
+    fits)
+    (λ e.
     let below = mul-add-lt row (2 ^ tag_bits coded) tag (2 ^ 24) (omega arith) low in
     let fits : row * 2 ^ tag_bits coded + tag < 4294967296 = omega (arith, below, facts.wide coded) in
-    subst (λ b. row * 2 ^ tag_bits coded + tag < 256 ^ narrow_or_wide b) (sym e) fits)
-    (cases_Bool narrow)
+    fits)
   where
     narrow : Bool
     narrow = list_all (is_below sizes (2 ^ (16 - tag_bits coded))) (tables_of coded)

@@ -1,5 +1,5 @@
 -- The bits of the tables that pass a test, as one number.
-use Rattle.std.proofs.Common.{◌≡◌, ℕ, zero, suc, ◌+◌, ◌-◌, ◌*◌, ◌/◌, ◌%◌, ◌^◌, ◌<◌, ◌≤◌, Bool, true, false, cond, List, [], ◌∷◌, length, get_or, take, refl, sym, ap, subst, ◌∙◌, arith, lit<, eqb}
+use Rattle.std.proofs.Common.{◌≡◌, ℕ, zero, suc, ◌+◌, ◌-◌, ◌*◌, ◌/◌, ◌%◌, ◌^◌, ◌<◌, ◌≤◌, Bool, true, false, cond, List, [], ◌∷◌, length, get_or, take, refl, sym, ap, ◌∙◌, arith, lit<, eqb}
 use Rattle.std.proofs.Math.Nat.{pow-le-pow_right}
 use Rattle.std.proofs.lemmas.List.Sums.{sum_by-cons, sum_by_more}
 use Rattle.std.proofs.lemmas.Nat.{pow_pos, pow-add, shr-shr, div-mul-add, one_shl}
@@ -116,8 +116,7 @@ bit_at test low (table ∷ listed) (suc i) none up below =
 -- the bit of a table is set if and only if it passes
 pub bit_is : (test : TableId → Bool) (table : TableId) → bits_of test tables / 2 ^ table_number table % 2 ≡ bit (test table)
 bit_is test table =
-    let P : TableId → Type 0 = λ t. bits_of test tables / 2 ^ table_number t % 2 ≡ bit (test t) in
-    subst P (table_at_index table) (bit_at test 0 tables (table_index_of table) Module ascending (omega (arith, table_index_below table, length-tables)))
+    rw (← table_at_index table) (bit_at test 0 tables (table_index_of table) Module ascending (omega (arith, table_index_below table, length-tables)))
 
 -- the bits of the tables that pass a test are set if and only if the test passes
 pub has_bit_of : (test : TableId → Bool) (table : TableId) → has_bit (bits_of test tables) table ≡ test table

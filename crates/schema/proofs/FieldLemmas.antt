@@ -1,5 +1,5 @@
 -- The fields of a row: each number as its low bytes, in widths that depend on the row counts and HeapSizes.
-use Rattle.std.proofs.Common.{◌≡◌, ℕ, zero, suc, ◌+◌, ◌-◌, ◌*◌, ◌/◌, ◌%◌, ◌^◌, ◌<◌, ltb, eqb, ◌&&◌, Option, Some, None, List, [], ◌∷◌, ◌++◌, length, get_or, refl, sym, ap, subst, ◌∙◌, arith, mul_assoc}
+use Rattle.std.proofs.Common.{◌≡◌, ℕ, zero, suc, ◌+◌, ◌-◌, ◌*◌, ◌/◌, ◌%◌, ◌^◌, ◌<◌, ltb, eqb, ◌&&◌, Option, Some, None, List, [], ◌∷◌, ◌++◌, length, get_or, refl, sym, ap, ◌∙◌, arith, mul_assoc}
 use Rattle.std.specs.List.{list_all}
 use Rattle.std.proofs.lemmas.Nat.{div-add-mod', div-mul-add, mod-mul-add, mod_below}
 use Rattle.std.proofs.Math.Nat.{mod-lt, one-le-pow, pow-suc}
@@ -83,10 +83,6 @@ below_same sizes others limit (Some table ∷ listed) same =
     ∙ ap (λ b. ltb (count_of others table) limit && b) (below_same sizes others limit listed same)
 
 kind_same : (sizes others : Sizes) (of : ColumnKind) → SameCounts sizes others → kind_width sizes of ≡ kind_width others of
-kind_same sizes others kind.U8 same = refl
-kind_same sizes others kind.Padding same = refl
-kind_same sizes others kind.U16 same = refl
-kind_same sizes others kind.U32 same = refl
 kind_same sizes others kind.Text same = heap_same sizes others 1 same
 kind_same sizes others kind.Guid same = heap_same sizes others 2 same
 kind_same sizes others kind.Blob same = heap_same sizes others 4 same
@@ -94,6 +90,7 @@ kind_same sizes others (kind.Signature signature) same = heap_same sizes others 
 kind_same sizes others (kind.Row table) same = row_index_same sizes others table same
 kind_same sizes others (kind.List table) same = row_index_same sizes others table same
 kind_same sizes others (kind.Coded coded) same = ap narrow_or_wide (below_same sizes others (2 ^ (16 - tag_bits coded)) (tables_of coded) same)
+kind_same sizes others _ same = refl
 
 pub width_same : (sizes others : Sizes) → SameCounts sizes others → (column : Column) → width_of sizes column ≡ width_of others column
 width_same sizes others same column = kind_same sizes others column.kind same
@@ -106,8 +103,7 @@ fit_same sizes others same [] [] fit = tt
 fit_same sizes others same [] (number ∷ numbers) fit = fit
 fit_same sizes others same (column ∷ columns) [] fit = fit
 fit_same sizes others same (column ∷ columns) (number ∷ numbers) fit =
-    let P : ℕ → Type 0 = λ width. number < 256 ^ width in
-    (subst P (width_same sizes others same column) fit.0, fit_same sizes others same columns numbers fit.1)
+    (rw (← width_same sizes others same column) fit.0, fit_same sizes others same columns numbers fit.1)
 
 pub row_same : (sizes others : Sizes) → SameCounts sizes others
     → (columns : List Column) (numbers : List ℕ) → row_bytes sizes columns numbers ≡ row_bytes others columns numbers

@@ -6,7 +6,6 @@ pub mod NumberLemmas
 pub mod OneLemmas
 pub mod TableLayoutLemmas
 pub mod ReadLemmas
-pub mod Samples
 pub mod StreamLemmas
 pub mod LocatedCellLemmas
 pub mod ApartLemmas

@@ -1,18 +1,13 @@
 -- Rows and cells that have a byte.
-use Rattle.std.proofs.Common.{◌≡◌, ℕ, ◌+◌, ◌-◌, ◌*◌, ◌<◌, ◌≤◌, List, take, length, get_or, arith, mul-le-mul, inl, inr}
+use Rattle.std.proofs.Common.{◌≡◌, ℕ, ◌+◌, ◌-◌, ◌*◌, ◌<◌, ◌≤◌, arith, mul-le-mul, inl, inr}
 use Rattle.std.proofs.lemmas.Bool.{cases_lt}
-use Rattle.std.proofs.lemmas.List.Sums.{sum_by_more_le}
 use Rattle.table_schema.specs.declared.table.TableId.{TableId}
-use Rattle.table_schema.specs.declared.column.Column.{Column}
 use Rattle.table_schema.specs.declared.column.ColumnKind.TheVariants as kind
 use Rattle.table_schema.specs.Columns.{columns_of, col}
-use Rattle.schema.specs.Sizes.{Sizes, width_of}
-use Rattle.schema.specs.Offsets.{columns_width, row_width, table_start}
+use Rattle.schema.specs.Sizes.{Sizes}
+use Rattle.schema.specs.Offsets.{row_width, table_start}
 use Rattle.schema.specs.LocatedCells.{HasRow, HasCell}
-
-columns_within : (sizes : Sizes) (columns : List Column) (i : ℕ) (none : Column) → i < length columns → columns_width sizes (take i columns) + width_of sizes (get_or columns i none) ≤ columns_width sizes columns
-unfolding columns_width
-columns_within sizes columns i none h = sum_by_more_le (width_of sizes) columns i none h
+use Rattle.schema.proofs.TableLayoutLemmas.{columns_within}
 
 -- a byte of a cell is one of the cell's row
 pub in_row : (sizes : Sizes) (table : TableId) (row column offset : ℕ) → HasCell sizes table row column offset → HasRow sizes table row offset

@@ -56,8 +56,7 @@ count_stands : (test : TableId → Bool) (sizes : Sizes) (listed : List TableId)
     → Begins bytes (at + 4 * count_by test (take k listed)) (number_bytes 4 (count_of sizes (get_or listed k Module)))
 count_stands test sizes [] bytes back at k stands below set = absurd (omega arith)
 count_stands test sizes (table ∷ listed) bytes back at zero stands below set =
-    let P : ℕ → Type 0 = λ n. Begins bytes n (number_bytes 4 (count_of sizes table)) in
-    subst P (sym (add-zero at)) (
+    rw (add-zero at) (
       counts_bytes test sizes listed ++ back,
       stands ∙ ap (λ (bs : List ℕ). bs ++ back) (counts_bytes-true test sizes table listed set) ∙ append_assoc (number_bytes 4 (count_of sizes table)) (counts_bytes test sizes listed) back,
     )
@@ -152,8 +151,7 @@ count_laid stream sizes numbers laid table =
     let here = table_at_index table in
     elim (cases_Bool (laid.counted table)) [
       | inl set ↦
-          let P : TableId → Type 0 = λ t. Begins stream (header_size (count_by laid.counted (take p tables))) (number_bytes 4 (count_of sizes t)) in
-          let stands = subst P here (count_stands laid.counted sizes tables stream _ 24 p (parts_laid stream sizes numbers laid).counts (omega (arith, table_index_below table, length-tables)) (ap laid.counted here ∙ set)) in
+          let stands = rw here at (count_stands laid.counted sizes tables stream _ 24 p (parts_laid stream sizes numbers laid).counts (omega (arith, table_index_below table, length-tables)) (ap laid.counted here ∙ set)) in
           let few = laid.few table in
           count_counted stream table (ap (λ (f : TableId → Bool). f table) tests ∙ set)
           ∙ ap (λ (f : TableId → Bool). little_endian (part stream (header_size (count_by f (take p tables))) 4)) tests
@@ -202,9 +200,8 @@ counted_rows stream sizes numbers laid =
 -- the tables follow the row counts
 pub body_laid : (stream : List ℕ) (sizes : Sizes) (numbers : List (List (List ℕ))) → IsLaidOut stream sizes numbers → Begins stream sizes.body (tables_bytes sizes tables numbers)
 body_laid stream sizes numbers laid =
-    let P : ℕ → Type 0 = λ n. Begins stream n (tables_bytes sizes tables numbers) in
     let parts = parts_laid stream sizes numbers laid in
-    subst P (sym laid.body) (laid.tail, past stream (counts_bytes laid.counted sizes tables) (tables_bytes sizes tables numbers ++ laid.tail) 24 (4 * count_by laid.counted tables) (length-counts laid.counted sizes tables) parts.counts)
+    rw (laid.body) (laid.tail, past stream (counts_bytes laid.counted sizes tables) (tables_bytes sizes tables numbers ++ laid.tail) 24 (4 * count_by laid.counted tables) (length-counts laid.counted sizes tables) parts.counts)
 
 pub end_laid : (stream : List ℕ) (sizes : Sizes) (numbers : List (List (List ℕ))) → IsLaidOut stream sizes numbers → tables_end sizes ≤ length stream
 end_laid stream sizes numbers laid =

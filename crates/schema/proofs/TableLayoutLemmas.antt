@@ -1,5 +1,5 @@
 -- The offsets of tables, rows and columns.
-use Rattle.std.proofs.Common.{◌≡◌, ℕ, ◌+◌, ◌-◌, ◌*◌, ◌<◌, ◌≤◌, ◌≢◌, List, [], length, take, get_or, refl, sym, ◌∙◌, ap, arith, inl, inr, lit<, Bool, true, false, mul-le-mul, below_more, get_or-set_other, get_or-set_same}
+use Rattle.std.proofs.Common.{◌≡◌, ℕ, ◌+◌, ◌-◌, ◌*◌, ◌<◌, ◌≤◌, ◌≢◌, List, length, take, get_or, refl, sym, ◌∙◌, ap, arith, inl, inr, lit<, Bool, true, false, mul-le-mul, below_more, get_or-set_other, get_or-set_same}
 use Rattle.std.proofs.Math.ListN.{set}
 use Rattle.std.proofs.lemmas.List.{take_all}
 use Rattle.std.proofs.lemmas.List.Sums.{sum_by_more, sum_by_more_le}
@@ -25,15 +25,7 @@ pub tables_size_more : (sizes : Sizes) (i : ℕ) → i < 38 → tables_size size
 unfolding tables_size
 tables_size_more sizes i h = sum_by_more (table_size sizes) tables i Module (omega (arith, length-tables))
 
-pub no_columns_width : (sizes : Sizes) → columns_width sizes [] ≡ 0
-unfolding columns_width
-no_columns_width sizes = refl
-
-pub no_tables_size : (sizes : Sizes) → tables_size sizes [] ≡ 0
-unfolding tables_size
-no_tables_size sizes = refl
-
-columns_within : (sizes : Sizes) (columns : List Column) (i : ℕ) (none : Column) → i < length columns → columns_width sizes (take i columns) + width_of sizes (get_or columns i none) ≤ columns_width sizes columns
+pub columns_within : (sizes : Sizes) (columns : List Column) (i : ℕ) (none : Column) → i < length columns → columns_width sizes (take i columns) + width_of sizes (get_or columns i none) ≤ columns_width sizes columns
 unfolding columns_width
 columns_within sizes columns i none h = sum_by_more_le (width_of sizes) columns i none h
 
@@ -66,13 +58,7 @@ kind_width_known sizes kind.U8 = inl refl
 kind_width_known sizes kind.Padding = inl refl
 kind_width_known sizes kind.U16 = inr (inl refl)
 kind_width_known sizes kind.U32 = inr (inr refl)
-kind_width_known sizes kind.Text = narrow_or_wide_known _
-kind_width_known sizes kind.Guid = narrow_or_wide_known _
-kind_width_known sizes kind.Blob = narrow_or_wide_known _
-kind_width_known sizes (kind.Signature k) = narrow_or_wide_known _
-kind_width_known sizes (kind.Row table) = narrow_or_wide_known _
-kind_width_known sizes (kind.List table) = narrow_or_wide_known _
-kind_width_known sizes (kind.Coded coded) = narrow_or_wide_known _
+kind_width_known sizes _ = narrow_or_wide_known _
 
 -- a column has one, two or four bytes
 pub width_known : (sizes : Sizes) (column : Column) (width : ℕ) → width ≡ width_of sizes column → IsWidth width

@@ -23,6 +23,7 @@ pub fn low_bytes_stand()
 
 /// Widths and the bytes of rows depend on the row counts and HeapSizes only, not on Sorted or the
 /// offset of the first table.
+#[tactic(auto, using(crate::proofs::FieldLemmas::width_same, crate::proofs::FieldLemmas::fit_same, crate::proofs::FieldLemmas::row_same, crate::proofs::FieldLemmas::tables_same))]
 pub fn widths_follow_from_counts()
     ensures width { (sizes others : Sizes) → SameCounts sizes others
         → (column : TheColumn) → width_of sizes column ≡ width_of others column }

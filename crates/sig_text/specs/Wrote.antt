@@ -10,7 +10,7 @@ pub record Wrote {S : Type 0} (refused : S → Bool) (gives : S → Piece → Bo
   pub received : before ≡ true → Receives gives old pieces after new × (refused new ≡ (if after then refused old else true))
   pub kept : before ≡ false → (new ≡ old) × (after ≡ false)
 
--- the same of the pieces that are shown, and the bytes after them
+-- the same of the pieces that are shown, and the bytes after them if the sink took all
 pub record Passes {S : Type 0} (refused : S → Bool) (gives : S → Piece → Bool → S → Type 0) (old : S) (before : Bool) (shown : Shown) (new : S) (after : Bool) (end : List ℕ) : Type 0 where
   pub wrote : Wrote refused gives old before shown.0 new after
-  pub tail : end ≡ shown.1
+  pub tail : after ≡ true → end ≡ shown.1

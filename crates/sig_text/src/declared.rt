@@ -60,6 +60,9 @@ fn params<S: MethodSink>(sink: &mut S, taken: &mut bool, bytes: &[u8], count: u3
 {
     let mut tail = bytes;
     for done in 0..count {
+        if !*taken {
+            return;
+        }
         put_if(sink, taken, done > 0, ", ");
         tail = slot(sink, taken, tail, DEPTH_LIMIT);
         put_param_name(sink, taken, done + 1);
@@ -97,11 +100,23 @@ pub fn write_method<S: MethodSink>(sink: &mut S, bytes: &[u8]) -> Option<()>
     ensures text { (method : Method) → Encodes MethodDef (method_body method) bytes.now → Receives S.gives sink.old (declared_text method) (is_some result) sink.new }
     ensures nothing { ¬ ((signature : Body) × Encodes MethodDef signature bytes.now) → sink.new ≡ sink.old }
 {
-    packed::laws::numbers_are_read();
-    sig_grammar::laws::indexes_are_read();
     if !recognise(bytes, SigKind::MethodDef) {
         return Some(());
     }
+    write_encoded_method(sink, bytes)
+}
+
+/// The same for bytes that are known to encode a method: it does not check them. If they encode none, it may write anything.
+///
+/// # Errors
+///
+/// `None` if and only if the sink refused a word.
+pub fn write_encoded_method<S: MethodSink>(sink: &mut S, bytes: &[u8]) -> Option<()>
+    ensures words { S.refused sink.new ≡ refused_after result (S.refused sink.old) }
+    ensures text { (method : Method) → Encodes MethodDef (method_body method) bytes.now → Receives S.gives sink.old (declared_text method) (is_some result) sink.new }
+{
+    packed::laws::numbers_are_read();
+    sig_grammar::laws::indexes_are_read();
     let mut taken = true;
     declaration(sink, &mut taken, bytes);
     result_of(taken)

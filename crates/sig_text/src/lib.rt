@@ -29,7 +29,7 @@ mod types;
 mod whole;
 mod words;
 
-pub use declared::{MethodSink, write_method};
+pub use declared::{MethodSink, write_encoded_method, write_method};
 pub use named::{NamedText, TokenNames};
 pub use sink::TextSink;
 pub use table_schema::{SigKind, Token};

@@ -79,6 +79,9 @@ fn one_mark<S: TextSink>(sink: &mut S, taken: &mut bool, bytes: &[u8])
 pub fn marks<S: TextSink>(sink: &mut S, taken: &mut bool, bytes: &[u8], count: usize)
     ensures { Wrote S.refused S.gives sink.old taken.old (following prefix_text (marks_in count bytes.now).0) sink.new taken.new }
 {
+    if !*taken {
+        return;
+    }
     match count {
         0 => {}
         1 => one_mark(sink, taken, bytes),

@@ -98,6 +98,9 @@ fn dimensions<'a, S: TextSink>(
     let mut low_left = low_count;
     let mut low_bytes = bounds;
     for done in 0..count {
+        if !*taken {
+            return low_bytes;
+        }
         put_if(sink, taken, done > 0, ",");
         let (size, left, tail) = next_size(sizes_left, size_bytes);
         sizes_left = left;

@@ -209,6 +209,9 @@ fn listed<'a, S: TextSink>(
 {
     let mut tail = bytes;
     for done in 0..count {
+        if !*taken {
+            return tail;
+        }
         put_if(sink, taken, done > 0, ", ");
         let (found, behind) = sentinel(tail);
         put_if(sink, taken, found, "..., ");

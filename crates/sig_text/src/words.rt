@@ -1,4 +1,5 @@
-//! Words of a text. `taken` says whether the sink took all words so far. After it refused one, it receives none.
+//! Words of a text. `taken` says whether the sink took all words so far. After it refused one, it receives none, and the
+//! bytes are not walked to their end.
 ghost use Rattle.std.specs.Prelude.{◌≡◌, ◌∷◌, [], is_some};
 ghost use Rattle.sig_text.specs.SignatureText.{word, number as digits, signed as signed_digits, name as name_of, flag_text};
 ghost use Rattle.sig_text.specs.Wrote.{Wrote};

@@ -1,18 +1,19 @@
 -- If cores are read as they are encoded, so are types, parameters and results.
-use Rattle.std.proofs.Common.{◌≡◌, ℕ, ◌≤◌, true, eqb, Option, Some, None, List, [], ◌∷◌, ◌++◌, refl, ap, ◌∙◌, IfSome}
+use Rattle.std.proofs.Common.{◌≡◌, ◌⊎◌, inl, inr, ℕ, ◌≤◌, true, false, eqb, Option, Some, None, List, [], ◌∷◌, ◌++◌, refl, ap, ◌∙◌, subst, IfSome}
 use Rattle.std.specs.Prelude.{⊤}
 use Rattle.std.proofs.lemmas.Bool.{eqb-true}
 use Rattle.sig_grammar.specs.declared.types.Modifier.{Modifier}
 use Rattle.sig_grammar.specs.Syntax.{Core, Typed, typed, Content, typed_ref, plain, by_ref, Slot, slot, Ret, some_ret, void_ret}
 use Rattle.sig_grammar.specs.Parts.{Part, byte}
-use Rattle.sig_grammar.specs.Grammar.{core_parts, typed_parts, content_parts, slot_parts, ret_parts, modifier_parts, modifiers_parts}
+use Rattle.sig_grammar.specs.Grammar.{core_parts, typed_parts, content_parts, slot_parts, ret_parts, modifiers_parts}
 use Rattle.sig_grammar.specs.Limits.{IsCoreWithin, IsTypedWithin, IsContentWithin, IsSlotWithin, IsRetWithin}
-use Rattle.sig_grammar.specs.Reading.{Reader, change, both, behind, modifier_at, modifiers_at, typed_at, void_or, target_at, content_at, slot_at, ret_at, ret_from}
-use Rattle.sig_values.proofs.Numbers.{NumbersAreRead}
+use Rattle.sig_grammar.specs.Reading.{Reader, change, both, behind, modifiers_at, typed_at, void_or, target_at, content_at, slot_at, ret_at, ret_from}
+use Rattle.sig_values.proofs.Numbers.{NumbersAreRead, Any}
 use Rattle.sig_values.proofs.Readers.{IsBytes, Head, Takes, Reads, head_byte, behind_byte, change_reads}
+use Rattle.sig_values.proofs.Lists.{both_parts, BothGood}
 use Rattle.sig_grammar.proofs.OptionLemmas.{IfSome-map, IfSome-cond}
-use Rattle.sig_values.proofs.Leading.{heads, begins-heads, no_modifier, modifier_leads, led_reads}
-use Rattle.sig_values.proofs.Codes.{no, core_no_modifier, core_no_void, core_no_ref, core_no_by_ref, content_no_modifier, content_no_void, behind_other}
+use Rattle.sig_values.proofs.Leading.{heads, begins-heads, no, no_modifier, modifier_leads, led_reads}
+use Rattle.sig_values.proofs.Codes.{may_start, no_start, start_no_modifier, core_heads, content_heads, behind_other, unit_reads, form_reads}
 
 -- ---- VOID, or something else
 
@@ -24,61 +25,48 @@ abbrev pub VoidGood : {A : Type 0} → (A → Type 0) → Option A → Type 0
 VoidGood Good None = ⊤
 VoidGood Good (Some x) = Good x
 
-module _ {A : Type 0} (r : Reader A) (parts : A → List Part) (Good : A → Type 0) (reads : Reads r parts Good)
-    (free : (x : A) → Good x → heads (no 0x01) (parts x) ≡ true) where
-  void_found : (b : List ℕ) → IsBytes b → IfSome (void_or r b) (Takes (void_parts parts) (VoidGood Good) b)
-  unfolding void_or
-  void_found [] h = tt
-  void_found (c ∷ b) h =
-      IfSome-cond (Takes (void_parts parts) (VoidGood Good) (c ∷ b)) (eqb c 0x01) _ _
-      (λ e. record { good = tt; bytes = h.1; head = behind_byte c 0x01 [] b b (eqb-true c 0x01 e) refl })
-      (λ e.
-      IfSome-map (Takes parts Good (c ∷ b)) (Takes (void_parts parts) (VoidGood Good) (c ∷ b)) (λ x. (Some x.0, x.1)) (r (c ∷ b)) (reads.found (c ∷ b) h)
-      (λ x t. record { good = t.good; bytes = t.bytes; head = t.head }))
+-- modifiers, and what they qualify
+abbrev pub Modified : {A : Type 0} → (A → Type 0) → List Modifier × A → Type 0
+Modified Good x = BothGood (λ ms. Any ms) Good x
 
-  void_only : (b tail : List ℕ) (v : Option A) → VoidGood Good v → Head (void_parts parts v) b tail → void_or r b ≡ Some (v, tail)
+module _ {A : Type 0} {r : Reader A} {parts : A → List Part} {Good : A → Type 0} (reads : Reads r parts Good) (free : (x : A) → heads (no 0x01) (parts x) ≡ true) where
+  void_reads : Reads (void_or r) (void_parts parts) (VoidGood Good)
   unfolding void_or
-  void_only b tail None good f = let s = head_byte 0x01 [] b tail f in rw (s.1) (ap (λ (t : List ℕ). Some (None, t)) s.2)
-  void_only b tail (Some x) good f =
-      let e = reads.only b tail x good f in
-      behind_other 0x01 (λ t. Some (None, t)) (change (λ y. Some y) r) b (begins-heads (no 0x01) (parts x) b tail (free x good) f) ∙ rw e refl
+  void_reads =
+      form_reads 0x01 (λ u. None) unit_reads (change_reads (λ x. Some x) reads (λ u good. (u, good, refl)) (λ u. refl) (λ v good. good)) (λ u. refl) (λ u good. tt) fine which
+    where
+      fine : (v : Option A) → (u : A) × Good u × (Some u ≡ v) → VoidGood Good v
+      fine v good = subst (VoidGood Good) good.2 good.1
 
-  pub void_reads : Reads (void_or r) (void_parts parts) (VoidGood Good)
-  void_reads = record { found = void_found; only = void_only }
+      which : (v : Option A) → VoidGood Good v → ((u : ⊤) × ⊤ × (None ≡ v)) ⊎ (((u : A) × Good u × (Some u ≡ v)) × (heads (no 0x01) (void_parts parts v) ≡ true))
+      which None good = inl (tt, tt, refl)
+      which (Some x) good = inr ((x, good, refl), free x)
+
+  void_no_modifier : ((x : A) → heads no_modifier (parts x) ≡ true) → (v : Option A) → heads no_modifier (void_parts parts v) ≡ true
+  void_no_modifier each None = refl
+  void_no_modifier each (Some x) = each x
+
+  module _ (known : NumbersAreRead) (each : (x : A) → heads no_modifier (parts x) ≡ true) where
+    -- modifiers, and VOID or something else
+    void_target : Reads (both modifiers_at (void_or r)) (both_parts modifiers_parts (void_parts parts)) (Modified (VoidGood Good))
+    unfolding modifiers_at
+    void_target = led_reads (modifier_leads known) void_reads (λ v good. void_no_modifier each v)
 
 module _ (known : NumbersAreRead) (d : ℕ) (nested : Reader Core) (cores : Reads nested core_parts (IsCoreWithin d)) where
-  abbrev pub modded_parts : List Modifier × Core → List Part
-  modded_parts x = modifiers_parts x.0 ++ core_parts x.1
-
-  abbrev pub ModdedGood : List Modifier × Core → Type 0
-  ModdedGood x = IsCoreWithin d x.1
-
-  pub modded_reads : Reads (both modifiers_at nested) modded_parts ModdedGood
+  modded_reads : Reads (both modifiers_at nested) (both_parts modifiers_parts core_parts) (Modified (IsCoreWithin d))
   unfolding modifiers_at
-  modded_reads = led_reads modifier_at modifier_parts no_modifier (modifier_leads known) nested core_parts (IsCoreWithin d) cores (λ v good. core_no_modifier v)
+  modded_reads = led_reads (modifier_leads known) cores (λ v good. core_heads no_modifier start_no_modifier v)
 
   pub typed_reads : Reads (typed_at nested) typed_parts (IsTypedWithin d)
   unfolding typed_at
-  typed_reads =
-      change_reads (λ x. typed x.0 x.1) (both modifiers_at nested) modded_parts ModdedGood typed_parts (IsTypedWithin d) (λ u good. good) (λ u. refl) back modded_reads
+  typed_reads = change_reads (λ x. typed x.0 x.1) modded_reads (λ u good. good.1) (λ u. refl) back
     where
-      back : (t : Typed) → IsTypedWithin d t → (u : List Modifier × Core) × ModdedGood u × (typed u.0 u.1 ≡ t)
-      back (typed modifiers core) good = ((modifiers, core), good, refl)
+      back : (t : Typed) → IsTypedWithin d t → (u : List Modifier × Core) × Modified (IsCoreWithin d) u × (typed u.0 u.1 ≡ t)
+      back (typed modifiers core) good = ((modifiers, core), (tt, good), refl)
 
-  abbrev pub target_parts : List Modifier × Option Core → List Part
-  target_parts x = modifiers_parts x.0 ++ void_parts core_parts x.1
-
-  abbrev pub TargetGood : List Modifier × Option Core → Type 0
-  TargetGood x = VoidGood (IsCoreWithin d) x.1
-
-  void_no_modifier : (v : Option Core) → heads no_modifier (void_parts core_parts v) ≡ true
-  void_no_modifier None = refl
-  void_no_modifier (Some c) = core_no_modifier c
-
-  pub target_reads : Reads (target_at nested) target_parts TargetGood
-  unfolding target_at modifiers_at
-  target_reads =
-      led_reads modifier_at modifier_parts no_modifier (modifier_leads known) (void_or nested) (void_parts core_parts) (VoidGood (IsCoreWithin d)) (void_reads nested core_parts (IsCoreWithin d) cores (λ x good. core_no_void x)) (λ v good. void_no_modifier v)
+  pub target_reads : Reads (target_at nested) (both_parts modifiers_parts (void_parts core_parts)) (Modified (VoidGood (IsCoreWithin d)))
+  unfolding target_at
+  target_reads = void_target cores (core_heads (no 0x01) (λ c. no_start 0x01 c refl)) known (core_heads no_modifier start_no_modifier)
 
   module _ (some_depth : 1 ≤ d) where
     content_found : (b : List ℕ) → IsBytes b → IfSome (content_at nested b) (Takes content_parts (IsContentWithin d) b)
@@ -90,8 +78,8 @@ module _ (known : NumbersAreRead) (d : ℕ) (nested : Reader Core) (cores : Read
         (λ e.
         IfSome-cond (Takes content_parts (IsContentWithin d) (c ∷ b)) (eqb c 0x10) _ _
         (λ e.
-        IfSome-map (Takes modded_parts ModdedGood b) (Takes content_parts (IsContentWithin d) (c ∷ b)) (λ x. (by_ref x.0.0 x.0.1, x.1)) (both modifiers_at nested b) (modded_reads.found b h.1)
-        (λ x t. record { good = t.good; bytes = t.bytes; head = behind_byte c 0x10 _ b x.1 (eqb-true c 0x10 e) t.head }))
+        IfSome-map (Takes (both_parts modifiers_parts core_parts) (Modified (IsCoreWithin d)) b) (Takes content_parts (IsContentWithin d) (c ∷ b)) (λ x. (by_ref x.0.0 x.0.1, x.1)) (both modifiers_at nested b) (modded_reads.found b h.1)
+        (λ x t. record { good = t.good.1; bytes = t.bytes; head = behind_byte c 0x10 _ b x.1 (eqb-true c 0x10 e) t.head }))
         (λ e.
         IfSome-map (Takes core_parts (IsCoreWithin d) (c ∷ b)) (Takes content_parts (IsContentWithin d) (c ∷ b)) (λ x. (plain x.0, x.1)) (nested (c ∷ b)) (cores.found (c ∷ b) h)
         (λ x t. record { good = t.good; bytes = t.bytes; head = t.head })))
@@ -101,54 +89,38 @@ module _ (known : NumbersAreRead) (d : ℕ) (nested : Reader Core) (cores : Read
     content_only b tail typed_ref good f = let s = head_byte 0x16 [] b tail f in rw (s.1) (ap (λ (t : List ℕ). Some (typed_ref, t)) s.2)
     content_only b tail (by_ref modifiers core) good f =
         let s = head_byte 0x10 (modifiers_parts modifiers ++ core_parts core) b tail f in
-        let e = modded_reads.only s.0 tail (modifiers, core) good s.2 in
+        let e = modded_reads.only s.0 tail (modifiers, core) (tt, good) s.2 in
         rw (s.1, e) refl
     content_only b tail (plain core) good f =
         let e = cores.only b tail core good f in
-        let one = behind_other 0x16 (λ t. Some (typed_ref, t)) (behind 0x10 (change (λ x. by_ref x.0 x.1) (both modifiers_at nested)) (change plain nested)) b (begins-heads (no 0x16) (core_parts core) b tail (core_no_ref core) f) in
-        let two = behind_other 0x10 (change (λ x. by_ref x.0 x.1) (both modifiers_at nested)) (change plain nested) b (begins-heads (no 0x10) (core_parts core) b tail (core_no_by_ref core) f) in
-        one ∙ two ∙ rw e refl
+        let other = λ (n : ℕ) (is : may_start n ≡ false). begins-heads (no n) (core_parts core) b tail (core_heads (no n) (λ c. no_start n c is) core) f in
+        let by_refs : Reader Content = change (λ x. by_ref x.0 x.1) (both modifiers_at nested) in
+        behind_other 0x16 (λ t. Some (typed_ref, t)) (behind 0x10 by_refs (change plain nested)) b (other 0x16 refl) ∙ behind_other 0x10 by_refs (change plain nested) b (other 0x10 refl) ∙ rw e refl
 
     pub content_reads : Reads (content_at nested) content_parts (IsContentWithin d)
     content_reads = record { found = content_found; only = content_only }
 
-    abbrev pub held_parts : List Modifier × Content → List Part
-    held_parts x = modifiers_parts x.0 ++ content_parts x.1
-
-    abbrev pub IsHeldWithin : List Modifier × Content → Type 0
-    IsHeldWithin x = IsContentWithin d x.1
-
     pub slot_reads : Reads (slot_at nested) slot_parts (IsSlotWithin d)
     unfolding slot_at modifiers_at
     slot_reads =
-        change_reads (λ x. slot x.0 x.1) (both modifiers_at (content_at nested)) held_parts IsHeldWithin slot_parts (IsSlotWithin d) (λ u good. good) (λ u. refl) back (led_reads modifier_at modifier_parts no_modifier (modifier_leads known) (content_at nested) content_parts (IsContentWithin d) content_reads (λ v good. content_no_modifier v))
+        change_reads (λ x. slot x.0 x.1) (led_reads (modifier_leads known) content_reads (λ v good. content_heads no_modifier start_no_modifier refl refl v)) (λ u good. good.1) (λ u. refl) back
       where
-        back : (t : Slot) → IsSlotWithin d t → (u : List Modifier × Content) × IsHeldWithin u × (slot u.0 u.1 ≡ t)
-        back (slot modifiers content) good = ((modifiers, content), good, refl)
-
-    abbrev pub result_parts : List Modifier × Option Content → List Part
-    result_parts x = modifiers_parts x.0 ++ void_parts content_parts x.1
-
-    abbrev pub ResultGood : List Modifier × Option Content → Type 0
-    ResultGood x = VoidGood (IsContentWithin d) x.1
-
-    result_no_modifier : (v : Option Content) → heads no_modifier (void_parts content_parts v) ≡ true
-    result_no_modifier None = refl
-    result_no_modifier (Some p) = content_no_modifier p
-
-    ret_good : (u : List Modifier × Option Content) → ResultGood u → IsRetWithin d (ret_from u)
-    ret_good (modifiers, None) good = (some_depth, tt)
-    ret_good (modifiers, Some p) good = good
-
-    ret_same : (u : List Modifier × Option Content) → ret_parts (ret_from u) ≡ result_parts u
-    ret_same (modifiers, None) = refl
-    ret_same (modifiers, Some p) = refl
-
-    ret_back : (r : Ret) → IsRetWithin d r → (u : List Modifier × Option Content) × ResultGood u × (ret_from u ≡ r)
-    ret_back (void_ret modifiers) good = ((modifiers, None), tt, refl)
-    ret_back (some_ret (slot modifiers p)) good = ((modifiers, Some p), good, refl)
+        back : (t : Slot) → IsSlotWithin d t → (u : List Modifier × Content) × Modified (IsContentWithin d) u × (slot u.0 u.1 ≡ t)
+        back (slot modifiers content) good = ((modifiers, content), (tt, good), refl)
 
     pub ret_reads : Reads (ret_at nested) ret_parts (IsRetWithin d)
-    unfolding ret_at modifiers_at
+    unfolding ret_at
     ret_reads =
-        change_reads ret_from (both modifiers_at (void_or (content_at nested))) result_parts ResultGood ret_parts (IsRetWithin d) ret_good ret_same ret_back (led_reads modifier_at modifier_parts no_modifier (modifier_leads known) (void_or (content_at nested)) (void_parts content_parts) (VoidGood (IsContentWithin d)) (void_reads (content_at nested) content_parts (IsContentWithin d) content_reads (λ x good. content_no_void x)) (λ v good. result_no_modifier v))
+        change_reads ret_from (void_target content_reads (content_heads (no 0x01) (λ c. no_start 0x01 c refl) refl refl) known (content_heads no_modifier start_no_modifier refl refl)) good same back
+      where
+        good : (u : List Modifier × Option Content) → Modified (VoidGood (IsContentWithin d)) u → IsRetWithin d (ret_from u)
+        good (modifiers, None) h = (some_depth, tt)
+        good (modifiers, Some p) h = h.1
+
+        same : (u : List Modifier × Option Content) → ret_parts (ret_from u) ≡ modifiers_parts u.0 ++ void_parts content_parts u.1
+        same (modifiers, None) = refl
+        same (modifiers, Some p) = refl
+
+        back : (r : Ret) → IsRetWithin d r → (u : List Modifier × Option Content) × Modified (VoidGood (IsContentWithin d)) u × (ret_from u ≡ r)
+        back (void_ret modifiers) good = ((modifiers, None), (tt, tt), refl)
+        back (some_ret (slot modifiers p)) good = ((modifiers, Some p), (tt, good), refl)

@@ -1,5 +1,5 @@
 -- A core of any depth is read as it is encoded.
-use Rattle.std.proofs.Common.{◌≡◌, ◌≢◌, ℕ, zero, suc, ◌≤◌, Bool, true, false, cond, eqb, Option, Some, None, List, [], ◌∷◌, ◌++◌, length, refl, sym, ap, ap₂, ◌∙◌, subst, arith, IfSome}
+use Rattle.std.proofs.Common.{◌≡◌, ◌≢◌, ℕ, zero, suc, ◌≤◌, Bool, true, false, cond, eqb, Option, Some, None, List, [], ◌∷◌, length, refl, sym, ap, ap₂, ◌∙◌, subst, arith, IfSome}
 use Rattle.std.specs.Prelude.{ℤ}
 use Rattle.std.specs.List.{AllByRecursion}
 use Rattle.std.proofs.lemmas.Bool.{eqb-true, eqb-false}
@@ -11,17 +11,16 @@ use Rattle.sig_grammar.specs.Syntax.{Core, simple, void_pointer, pointer, vector
 use Rattle.sig_grammar.specs.Views.{types_from}
 use Rattle.sig_grammar.specs.ElementTypes.{element_code}
 use Rattle.sig_grammar.specs.Parts.{Part, byte, number, index}
-use Rattle.sig_grammar.specs.Grammar.{named_code, core_parts, typed_parts, types_parts, shape_parts, method_parts, count_types}
+use Rattle.sig_grammar.specs.Grammar.{named_code, core_parts, typed_parts, modifiers_parts, shape_parts, method_parts}
 use Rattle.sig_grammar.specs.Limits.{core_depth, types_depth, content_depth, ret_depth, method_depth, IsCore, AreTypes, IsArrayShape, IsCoreWithin, IsTypedWithin}
-use Rattle.sig_grammar.specs.Reading.{Reader, change, both, deep, number_at, signed_at, index_at, typed_at, target_at, pointer_to, named_at, instance_at, instance_from, counted_at, counted_within, shape_at, shape_from, shape_with, array_at, array_from, method_at, core_by, core_or, core_at, element_of}
-use Rattle.sig_values.proofs.Readers.{IsBytes, Head, Head-append, Head-split, Takes, Reads, head_byte, behind_byte}
-use Rattle.sig_grammar.proofs.OptionLemmas.{IfSome-bind, IfSome-map, IfSome-cond}
-use Rattle.sig_values.proofs.Numbers.{NumbersAreRead, Any, number_parts, number_reads, index_parts, index_reads}
-use Rattle.sig_values.proofs.Lists.{both_reads, counted_reads, counted_parts, within_reads, AtMost}
-use Rattle.sig_values.proofs.Numbers.{signed_parts, signed_reads}
+use Rattle.sig_grammar.specs.Reading.{Reader, change, both, deep, number_at, signed_at, typed_at, target_at, pointer_to, named_at, instance_at, instance_from, counted_within, shape_at, shape_from, shape_with, array_at, array_from, method_at, core_by, core_or, core_at, element_of}
+use Rattle.sig_values.proofs.Readers.{IsBytes, Head, Takes, Reads, head_byte, behind_byte, change_reads, then_reads, unless_reads}
+use Rattle.sig_grammar.proofs.OptionLemmas.{IfSome-map, IfSome-cond}
+use Rattle.sig_values.proofs.Numbers.{NumbersAreRead, Any, number_parts, number_reads, signed_parts, signed_reads, index_parts, index_reads}
+use Rattle.sig_values.proofs.Lists.{both_reads, both_parts, BothGood, counted_reads, counted_parts, within_reads}
 use Rattle.sig_grammar.proofs.FromLists.{count-types_from, parts-types_from, types_good}
 use Rattle.sig_values.proofs.Codes.{element_found, element_again}
-use Rattle.sig_values.proofs.Contents.{typed_reads, target_reads, target_parts, TargetGood}
+use Rattle.sig_values.proofs.Contents.{typed_reads, target_reads, void_parts, VoidGood, Modified}
 use Rattle.sig_values.proofs.Methods.{method_reads, IsMethodOf}
 
 -- ---- lists of types
@@ -68,46 +67,37 @@ not_zero : (n : ℕ) → 1 ≤ n → eqb n 0 ≡ false
 not_zero zero h = absurd (omega arith)
 not_zero (suc n) h = eqb-suc-zero n
 
-abbrev sizes_parts : NumbersAreRead → List ℕ → List Part
-sizes_parts known ns = counted_parts known number_at number_parts (λ n. Any n) (number_reads known) ns
-
-abbrev low_parts : NumbersAreRead → List ℤ → List Part
-low_parts known zs = counted_parts known signed_at signed_parts (λ z. Any z) (signed_reads known) zs
-
-abbrev bounds_parts : NumbersAreRead → List ℕ × List ℤ → List Part
-bounds_parts known x = sizes_parts known x.0 ++ low_parts known x.1
+abbrev bounds_parts : List ℕ × List ℤ → List Part
+bounds_parts x = both_parts (counted_parts number_parts) (counted_parts signed_parts) x
 
 abbrev BoundsGood : ℕ → List ℕ × List ℤ → Type 0
 BoundsGood rank x = (length x.0 ≤ rank) × (length x.1 ≤ rank)
 
-bounds_reads : (known : NumbersAreRead) → (rank : ℕ) → Reads (both (counted_within number_at rank) (counted_within signed_at rank)) (bounds_parts known) (BoundsGood rank)
-bounds_reads known rank = both_reads (counted_within number_at rank) (counted_within signed_at rank) (sizes_parts known) (low_parts known) (AtMost rank) (AtMost rank) (within_reads known number_at number_parts (number_reads known) rank) (within_reads known signed_at signed_parts (signed_reads known) rank)
+-- what is read after the rank
+abbrev IsShapeOf : ℕ → ArrayShape → Type 0
+IsShapeOf n v = (v.rank ≡ n) × BoundsGood n (v.sizes, v.low)
+
+shape_of : NumbersAreRead → (n : ℕ) → Reads (shape_from n) (λ v. bounds_parts (v.sizes, v.low)) (λ v. IsShapeOf n v × (eqb n 0 ≡ false))
+shape_of known n = unless_reads (change_reads (shape_with n) bounds (λ u good. (refl, good)) (λ u. refl) back) (eqb n 0)
+  where
+    bounds : Reads (both (counted_within number_at n) (counted_within signed_at n)) bounds_parts (BoundsGood n)
+    bounds = both_reads (within_reads known (number_reads known) n) (within_reads known (signed_reads known) n)
+
+    back : (v : ArrayShape) → IsShapeOf n v → (u : List ℕ × List ℤ) × BoundsGood n u × (shape_with n u ≡ v)
+    back v good = ((v.sizes, v.low), good.1, ap (λ (rank : ℕ). shape_with rank (v.sizes, v.low)) (sym good.0))
 
 pub shape_reads : NumbersAreRead → Reads shape_at shape_parts IsArrayShape
 unfolding shape_at
-shape_reads known = record { found = found; only = only }
+shape_reads known =
+    then_reads shape_from (λ v. v.rank) (λ v. bounds_parts (v.sizes, v.low)) (λ n v. IsShapeOf n v × (eqb n 0 ≡ false)) (number_reads known) (λ n any. shape_of known n) up
+    (λ v good. (tt, ((refl, (good.1, good.2)), not_zero v.rank good.0)))
   where
-    found : (b : List ℕ) → IsBytes b → IfSome (shape_at b) (Takes shape_parts IsArrayShape b)
-    found b h =
-        IfSome-bind (Takes number_parts (λ n. Any n) b) (Takes shape_parts IsArrayShape b) (λ x. shape_from x.0 x.1) (number_at b) ((number_reads known).found b h)
-        (λ x t.
-        IfSome-cond (Takes shape_parts IsArrayShape b) (eqb x.0 0) None (change (shape_with x.0) (both (counted_within number_at x.0) (counted_within signed_at x.0)) x.1) (λ e. tt)
-        (λ e.
-        let some : x.0 ≢ 0 = eqb-false x.0 0 e in
-        IfSome-map (Takes (bounds_parts known) (BoundsGood x.0) x.1) (Takes shape_parts IsArrayShape b) (λ y. (shape_with x.0 y.0, y.1)) (both (counted_within number_at x.0) (counted_within signed_at x.0) x.1) ((bounds_reads known x.0).found x.1 t.bytes)
-        (λ y u. record {
-          good = (omega arith, u.good.0, u.good.1);
-          bytes = u.bytes;
-          head = Head-append (number_parts x.0) (bounds_parts known y.0) b x.1 y.1 t.head u.head;
-        })))
-
-    only : (b remainder : List ℕ) (v : ArrayShape) → IsArrayShape v → Head (shape_parts v) b remainder → shape_at b ≡ Some (v, remainder)
-    only b remainder v good f =
-        let s = Head-split (number_parts v.rank) (bounds_parts known (v.sizes, v.low)) b remainder f in
-        let e = (number_reads known).only b s.0 v.rank tt s.1 in
-        let g = (bounds_reads known v.rank).only s.0 remainder (v.sizes, v.low) (good.1, good.2) s.2 in
-        let some : eqb v.rank 0 ≡ false = not_zero v.rank good.0 in
-        rw (e, some, g) refl
+    up : (n : ℕ) (v : ArrayShape) → Any n → IsShapeOf n v × (eqb n 0 ≡ false) → IsArrayShape v × (v.rank ≡ n)
+    up n v any good =
+        let some : n ≢ 0 = eqb-false n 0 good.1 in
+        let same = good.0.0 in
+        let bounds = good.0.1 in
+        ((omega arith, omega (arith, bounds.0), omega (arith, bounds.1)), same)
 
 -- ---- cores
 
@@ -145,62 +135,58 @@ module _ (known : NumbersAreRead) (d : ℕ) (nested : Reader Core) (cores : Read
   abbrev TakesCore : List ℕ → Core × List ℕ → Type 0
   TakesCore b = Takes core_parts (IsCoreWithin (suc d)) b
 
-  -- what a reader reads after a byte, as a core
-  made : {A : Type 0} (f : A → Core) (r : Reader A) (parts : A → List Part) (Good : A → Type 0) (reads : Reads r parts Good) (n : ℕ) → ((u : A) → Good u → IsCoreWithin (suc d) (f u)) → ((u : A) → core_parts (f u) ≡ byte n ∷ parts u) → (c : ℕ) (b : List ℕ) → IsBytes b → c ≡ n → IfSome (change f r b) (TakesCore (c ∷ b))
-  made f r parts Good reads n good same c b h e =
-      IfSome-map (Takes parts Good b) (TakesCore (c ∷ b)) (λ x. (f x.0, x.1)) (r b) (reads.found b h)
-      (λ x t. record {
-        good = good x.0 t.good;
-        bytes = t.bytes;
-        head = subst (λ (ps : List Part). Head ps (c ∷ b) x.1) (sym (same x.0)) (behind_byte c n (parts x.0) b x.1 e t.head);
-      })
+  -- the byte c at the start, and what is read after it, as a core
+  abbrev NextIs : List ℕ → List ℕ → Core → Type 0
+  NextIs b remainder v = (c : ℕ) × (tail : List ℕ) × (b ≡ c ∷ tail) × (core_or d nested c (element_of c) tail ≡ Some (v, remainder))
+
+  -- a core that a reader reads after a byte
+  module _ {A : Type 0} {r : Reader A} {parts : A → List Part} {Good : A → Type 0} (n : ℕ) (f : A → Core) (reads : Reads r parts Good) (same : (u : A) → core_parts (f u) ≡ byte n ∷ parts u) where
+    made : ((u : A) → Good u → IsCoreWithin (suc d) (f u)) → (c : ℕ) (b : List ℕ) → IsBytes b → c ≡ n → IfSome (change f r b) (TakesCore (c ∷ b))
+    made good c b h e =
+        IfSome-map (Takes parts Good b) (TakesCore (c ∷ b)) (λ x. (f x.0, x.1)) (r b) (reads.found b h)
+        (λ x t. record {
+          good = good x.0 t.good;
+          bytes = t.bytes;
+          head = subst (λ (ps : List Part). Head ps (c ∷ b) x.1) (sym (same x.0)) (behind_byte c n (parts x.0) b x.1 e t.head);
+        })
+
+    step : (b remainder : List ℕ) (u : A) → Good u → ((t : List ℕ) → core_or d nested n (element_of n) t ≡ change f r t) → (v : Core) → f u ≡ v → Head (core_parts v) b remainder → NextIs b remainder v
+    step b remainder u good is v e h =
+        let there = subst (λ (ps : List Part). Head ps b remainder) (same u) (subst (λ (w : Core). Head (core_parts w) b remainder) (sym e) h) in
+        let s = head_byte n (parts u) b remainder there in
+        let read = reads.only s.0 remainder u good s.2 in
+        (n, s.0, s.1, is s.0 ∙ rw read (ap (λ (w : Core). Some (w, remainder)) e))
 
   at : (Q : Core × List ℕ → Type 0) (c n : ℕ) (x other : Option (Core × List ℕ)) → (c ≡ n → IfSome x Q) → IfSome other Q → IfSome (cond (eqb c n) x other) Q
   at Q c n x other h k = IfSome-cond Q (eqb c n) x other (λ t. h (eqb-true c n t)) (λ t. k)
 
-  abbrev name_parts : Bool × Token → List Part
-  name_parts x = named_parts x.0 ++ index_parts x.1
+  types : Reads (typed_at nested) typed_parts (IsTypedWithin d)
+  types = typed_reads known d nested cores
 
-  abbrev NameGood : Bool × Token → Type 0
-  NameGood x = Any x.0 × Any x.1
+  target : Reads (target_at nested) (both_parts modifiers_parts (void_parts core_parts)) (Modified (VoidGood (IsCoreWithin d)))
+  target = target_reads known d nested cores
 
-  abbrev instance_parts : (Bool × Token) × List Typed → List Part
-  instance_parts x = name_parts x.0 ++ counted_parts known (typed_at nested) typed_parts (IsTypedWithin d) (typed_reads known d nested cores) x.1
+  methods : (some : 1 ≤ d) → Reads (method_at true nested) method_parts (IsMethodOf known d nested cores some true)
+  methods some = method_reads known d nested cores some true
 
-  abbrev InstanceGood : (Bool × Token) × List Typed → Type 0
-  InstanceGood x = NameGood x.0 × AllByRecursion (IsTypedWithin d) x.1
-
-  instance_reads : Reads (instance_at nested) instance_parts InstanceGood
+  instances : Reads (instance_at nested) (both_parts (both_parts named_parts index_parts) (counted_parts typed_parts)) (BothGood (BothGood (λ b. Any b) (λ t. Any t)) (AllByRecursion (IsTypedWithin d)))
   unfolding instance_at
-  instance_reads =
-      both_reads (both named_at index_at) (counted_at (typed_at nested)) name_parts (counted_parts known (typed_at nested) typed_parts (IsTypedWithin d) (typed_reads known d nested cores)) NameGood (AllByRecursion (IsTypedWithin d)) (both_reads named_at index_at named_parts index_parts (λ b. Any b) (λ t. Any t) named_reads (index_reads known)) (counted_reads known (typed_at nested) typed_parts (IsTypedWithin d) (typed_reads known d nested cores))
+  instances = both_reads (both_reads named_reads (index_reads known)) (counted_reads types known)
 
-  instance_same : (u : (Bool × Token) × List Typed) → core_parts (instance_from u) ≡ byte 0x15 ∷ instance_parts u
+  instance_same : (u : (Bool × Token) × List Typed) → core_parts (instance_from u) ≡ byte 0x15 ∷ both_parts (both_parts named_parts index_parts) (counted_parts typed_parts) u
   unfolding named_parts
   instance_same u =
       ap₂ (λ (n : ℕ) (ps : List Part). byte 0x15 ∷ byte (named_code u.0.0) ∷ index u.0.1 ∷ number n ∷ ps) (count-types_from u.1) (parts-types_from u.1)
 
-  instance_good : (u : (Bool × Token) × List Typed) → InstanceGood u → IsCoreWithin (suc d) (instance_from u)
-  instance_good u good = let all = types_good d u.1 good.1 in (omega (arith, all.0), all.1)
-
-  abbrev array_parts : Typed × ArrayShape → List Part
-  array_parts x = typed_parts x.0 ++ shape_parts x.1
-
-  abbrev ArrayGood : Typed × ArrayShape → Type 0
-  ArrayGood x = IsTypedWithin d x.0 × IsArrayShape x.1
-
-  array_reads : Reads (array_at nested) array_parts ArrayGood
+  arrays : Reads (array_at nested) (both_parts typed_parts shape_parts) (BothGood (IsTypedWithin d) IsArrayShape)
   unfolding array_at
-  array_reads = both_reads (typed_at nested) shape_at typed_parts shape_parts (IsTypedWithin d) IsArrayShape (typed_reads known d nested cores) (shape_reads known)
+  arrays = both_reads types (shape_reads known)
 
-  array_good : (u : Typed × ArrayShape) → ArrayGood u → IsCoreWithin (suc d) (array_from u)
-  array_good u good = let le = good.0.0 in (omega arith, (good.0.1, good.1))
-
-  pointer_good : (u : List Modifier × Option Core) → 1 ≤ d → TargetGood known d nested cores u → IsCoreWithin (suc d) (pointer_to u)
+  pointer_good : (u : List Modifier × Option Core) → 1 ≤ d → Modified (VoidGood (IsCoreWithin d)) u → IsCoreWithin (suc d) (pointer_to u)
   pointer_good (modifiers, None) some_depth good = (omega arith, tt)
-  pointer_good (modifiers, Some c) some_depth good = let le = good.0 in (omega arith, good.1)
+  pointer_good (modifiers, Some c) some_depth good = let le = good.1.0 in (omega arith, good.1.1)
 
-  pointer_same : (u : List Modifier × Option Core) → core_parts (pointer_to u) ≡ byte 0x0F ∷ target_parts known d nested cores u
+  pointer_same : (u : List Modifier × Option Core) → core_parts (pointer_to u) ≡ byte 0x0F ∷ both_parts modifiers_parts (void_parts core_parts) u
   pointer_same (modifiers, None) = refl
   pointer_same (modifiers, Some c) = refl
 
@@ -211,80 +197,46 @@ module _ (known : NumbersAreRead) (d : ℕ) (nested : Reader Core) (cores : Read
   unfolding core_by
   by_found c b h =
       let Q : Core × List ℕ → Type 0 = TakesCore (c ∷ b) in
-      at Q c 0x0F _ _ (λ e. deep_found Q d (change pointer_to (target_at nested)) b (λ some. made pointer_to (target_at nested) (target_parts known d nested cores) (TargetGood known d nested cores) (target_reads known d nested cores) 0x0F (λ u. pointer_good u some) pointer_same c b h e))
-      (at Q c 0x11 _ _ (λ e. made value index_at index_parts (λ t. Any t) (index_reads known) 0x11 (λ u g. leaf (value u) refl tt) (λ u. refl) c b h e)
-      (at Q c 0x12 _ _ (λ e. made class index_at index_parts (λ t. Any t) (index_reads known) 0x12 (λ u g. leaf (class u) refl tt) (λ u. refl) c b h e)
-      (at Q c 0x13 _ _ (λ e. made var number_at number_parts (λ n. Any n) (number_reads known) 0x13 (λ u g. leaf (var u) refl tt) (λ u. refl) c b h e)
-      (at Q c 0x14 _ _ (λ e. made array_from (array_at nested) array_parts ArrayGood array_reads 0x14 array_good (λ u. refl) c b h e)
-      (at Q c 0x15 _ _ (λ e. made instance_from (instance_at nested) instance_parts InstanceGood instance_reads 0x15 instance_good instance_same c b h e)
-      (at Q c 0x1B _ _ (λ e. deep_found Q d (change function (method_at true nested)) b (λ some. made function (method_at true nested) method_parts (IsMethodOf known d nested cores some true) (method_reads known d nested cores some true) 0x1B (λ u g. (let le = g.0 in omega arith, g.1)) (λ u. refl) c b h e))
-      (at Q c 0x1D _ _ (λ e. made vector (typed_at nested) typed_parts (IsTypedWithin d) (typed_reads known d nested cores) 0x1D (λ u g. (let le = g.0 in omega arith, g.1)) (λ u. refl) c b h e)
-      (at Q c 0x1E _ _ (λ e. made mvar number_at number_parts (λ n. Any n) (number_reads known) 0x1E (λ u g. leaf (mvar u) refl tt) (λ u. refl) c b h e) tt))))))))
+      at Q c 0x0F _ _ (λ e. deep_found Q d (change pointer_to (target_at nested)) b (λ some. made 0x0F pointer_to target pointer_same (λ u. pointer_good u some) c b h e))
+      (at Q c 0x11 _ _ (made 0x11 value (index_reads known) (λ u. refl) (λ u g. leaf (value u) refl tt) c b h)
+      (at Q c 0x12 _ _ (made 0x12 class (index_reads known) (λ u. refl) (λ u g. leaf (class u) refl tt) c b h)
+      (at Q c 0x13 _ _ (made 0x13 var (number_reads known) (λ u. refl) (λ u g. leaf (var u) refl tt) c b h)
+      (at Q c 0x14 _ _ (made 0x14 array_from arrays (λ u. refl) (λ u g. let le = g.0.0 in (omega arith, (g.0.1, g.1))) c b h)
+      (at Q c 0x15 _ _ (made 0x15 instance_from instances instance_same (λ u g. let all = types_good d u.1 g.1 in (omega (arith, all.0), all.1)) c b h)
+      (at Q c 0x1B _ _ (λ e. deep_found Q d (change function (method_at true nested)) b (λ some. made 0x1B function (methods some) (λ u. refl) (λ u g. (let le = g.0 in omega arith, g.1)) c b h e))
+      (at Q c 0x1D _ _ (made 0x1D vector types (λ u. refl) (λ u g. (let le = g.0 in omega arith, g.1)) c b h)
+      (at Q c 0x1E _ _ (made 0x1E mvar (number_reads known) (λ u. refl) (λ u g. leaf (mvar u) refl tt) c b h) tt))))))))
 
   or_found : (c : ℕ) (b : List ℕ) → IsBytes b → (o : Option Element) → IfSome o (λ e. c ≡ element_code e) → IfSome (core_or d nested c o b) (TakesCore (c ∷ b))
   or_found c b h None k = by_found c b h
   or_found c b h (Some e) k = record { good = leaf (simple e) refl tt; bytes = h; head = behind_byte c (element_code e) [] b b k refl }
 
-  instance_args : (is_value : Bool) (of : Token) (args : Types) (b remainder : List ℕ) → Head (byte (named_code is_value) ∷ index of ∷ number (count_types args) ∷ types_parts args) b remainder → Head (instance_parts ((is_value, of), types_to args)) b remainder
-  unfolding named_parts
-  instance_args is_value of args b remainder f =
-      let P : Types → Type 0 = λ ts. Head (byte (named_code is_value) ∷ index of ∷ number (count_types ts) ∷ types_parts ts) b remainder in
-      let there = subst P (sym (types_from_to args)) f in
-      let counted = subst (λ (n : ℕ). Head (byte (named_code is_value) ∷ index of ∷ number n ∷ types_parts (types_from (types_to args))) b remainder) (count-types_from (types_to args)) there in
-      subst (λ (ps : List Part). Head (byte (named_code is_value) ∷ index of ∷ number (length (types_to args)) ∷ ps) b remainder) (parts-types_from (types_to args)) counted
-
-  next_only : (b remainder : List ℕ) (v : Core) → IsCoreWithin (suc d) v → Head (core_parts v) b remainder → (c : ℕ) × (tail : List ℕ) × (b ≡ c ∷ tail) × (core_or d nested c (element_of c) tail ≡ Some (v, remainder))
+  next_only : (b remainder : List ℕ) (v : Core) → IsCoreWithin (suc d) v → Head (core_parts v) b remainder → NextIs b remainder v
   unfolding core_by element_of
   next_only b remainder (simple e) good f =
       let s = head_byte (element_code e) [] b remainder f in
       (element_code e, s.0, s.1, rw (element_again e) (ap (λ (t : List ℕ). Some (simple e, t)) s.2))
   next_only b remainder (void_pointer modifiers) good f =
       let le = good.0 in
-      let s = head_byte 0x0F (target_parts known d nested cores (modifiers, None)) b remainder f in
-      let e = (target_reads known d nested cores).only s.0 remainder (modifiers, None) tt s.2 in
-      (0x0F, s.0, s.1, deep_only d (change pointer_to (target_at nested)) s.0 (omega arith) ∙ rw e refl)
+      step 0x0F pointer_to target pointer_same b remainder (modifiers, None) (tt, tt) (λ t. deep_only d _ t (omega arith)) _ refl f
   next_only b remainder (pointer modifiers to) good f =
       let le = good.0 in
-      let s = head_byte 0x0F (target_parts known d nested cores (modifiers, Some to)) b remainder f in
-      let e = (target_reads known d nested cores).only s.0 remainder (modifiers, Some to) (omega arith, good.1) s.2 in
-      (0x0F, s.0, s.1, deep_only d (change pointer_to (target_at nested)) s.0 (omega (arith, core_some to)) ∙ rw e refl)
-  next_only b remainder (vector of) good f =
-      let le = good.0 in
-      let s = head_byte 0x1D (typed_parts of) b remainder f in
-      let e = (typed_reads known d nested cores).only s.0 remainder of (omega arith, good.1) s.2 in
-      (0x1D, s.0, s.1, rw e refl)
+      step 0x0F pointer_to target pointer_same b remainder (modifiers, Some to) (tt, (omega arith, good.1)) (λ t. deep_only d _ t (omega (arith, core_some to))) _ refl f
+  next_only b remainder (vector of) good f = let le = good.0 in step 0x1D vector types (λ u. refl) b remainder of (omega arith, good.1) (λ t. refl) _ refl f
   next_only b remainder (array of shape) good f =
       let le = good.0 in
-      let s = head_byte 0x14 (array_parts (of, shape)) b remainder f in
-      let e = array_reads.only s.0 remainder (of, shape) ((omega arith, good.1.0), good.1.1) s.2 in
-      (0x14, s.0, s.1, rw e refl)
-  next_only b remainder (class of) good f =
-      let s = head_byte 0x12 (index_parts of) b remainder f in
-      let e = (index_reads known).only s.0 remainder of tt s.2 in
-      (0x12, s.0, s.1, rw e refl)
-  next_only b remainder (value of) good f =
-      let s = head_byte 0x11 (index_parts of) b remainder f in
-      let e = (index_reads known).only s.0 remainder of tt s.2 in
-      (0x11, s.0, s.1, rw e refl)
-  next_only b remainder (var n) good f =
-      let s = head_byte 0x13 (number_parts n) b remainder f in
-      let e = (number_reads known).only s.0 remainder n tt s.2 in
-      (0x13, s.0, s.1, rw e refl)
-  next_only b remainder (mvar n) good f =
-      let s = head_byte 0x1E (number_parts n) b remainder f in
-      let e = (number_reads known).only s.0 remainder n tt s.2 in
-      (0x1E, s.0, s.1, rw e refl)
+      step 0x14 array_from arrays (λ u. refl) b remainder (of, shape) ((omega arith, good.1.0), good.1.1) (λ t. refl) _ refl f
+  next_only b remainder (class of) good f = step 0x12 class (index_reads known) (λ u. refl) b remainder of tt (λ t. refl) _ refl f
+  next_only b remainder (value of) good f = step 0x11 value (index_reads known) (λ u. refl) b remainder of tt (λ t. refl) _ refl f
+  next_only b remainder (var n) good f = step 0x13 var (number_reads known) (λ u. refl) b remainder n tt (λ t. refl) _ refl f
+  next_only b remainder (mvar n) good f = step 0x1E mvar (number_reads known) (λ u. refl) b remainder n tt (λ t. refl) _ refl f
   next_only b remainder (instance is_value of args) good f =
       let le = good.0 in
-      let s = head_byte 0x15 (byte (named_code is_value) ∷ index of ∷ number (count_types args) ∷ types_parts args) b remainder f in
-      let e = instance_reads.only s.0 remainder ((is_value, of), types_to args) ((tt, tt), types_good_to d args (omega arith) good.1) (instance_args is_value of args s.0 remainder s.2) in
-      (0x15, s.0, s.1, rw e (ap (λ (ts : Types). Some (instance is_value of ts, remainder)) (types_from_to args)))
+      step 0x15 instance_from instances instance_same b remainder ((is_value, of), types_to args) ((tt, tt), types_good_to d args (omega arith) good.1) (λ t. refl) _ (ap (instance is_value of) (types_from_to args)) f
   next_only b remainder (function m) good f =
       let le = good.0 in
       let some : 1 ≤ d = omega (arith, method_some m) in
-      let s = head_byte 0x1B (method_parts m) b remainder f in
-      let e = (method_reads known d nested cores some true).only s.0 remainder m (omega arith, good.1, tt) s.2 in
-      (0x1B, s.0, s.1, deep_only d (change function (method_at true nested)) s.0 some ∙ rw e refl)
+      step 0x1B function (methods some) (λ u. refl) b remainder m (omega arith, good.1, tt) (λ t. deep_only d _ t some) _ refl f
 
 next_found : NumbersAreRead → (d : ℕ) → Reads (core_at d) core_parts (IsCoreWithin d) → (b : List ℕ) → IsBytes b → IfSome (core_at (suc d) b) (Takes core_parts (IsCoreWithin (suc d)) b)
 unfolding core_at

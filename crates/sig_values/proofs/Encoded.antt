@@ -1,5 +1,5 @@
 -- If bytes encode a value, it has a canonical encoding, which is no longer than those bytes.
-use Rattle.std.proofs.Common.{◌≡◌, ℕ, zero, suc, ◌+◌, ◌*◌, ◌^◌, ◌<◌, ◌≤◌, Bool, true, false, cond, Option, Some, None, is_some, List, [], ◌∷◌, ◌++◌, length, refl, sym, ap, subst, arith, ◌⊎◌, inl, inr, length-append}
+use Rattle.std.proofs.Common.{◌≡◌, ℕ, zero, suc, ◌+◌, ◌^◌, ◌<◌, ◌≤◌, Bool, true, false, cond, Option, Some, None, is_some, List, [], ◌∷◌, ◌++◌, length, refl, sym, ap, subst, arith, ◌⊎◌, inl, inr, length-append}
 use Rattle.std.specs.Prelude.{⊤, ℤ, flat_map, slice_get}
 use Rattle.std.specs.List.{AllByRecursion, position_or_len}
 use Rattle.packed.specs.Packed.{IsPacked, IsPackedSigned, FitsBits, short_unsigned, short_signed}
@@ -10,12 +10,12 @@ use Rattle.table_schema.specs.declared.coded.Coded.TheVariants.{TypeDefOrRef}
 use Rattle.table_schema.specs.CodedIndexes.{tables_of, IsCoded}
 use Rattle.table_schema.specs.declared.column.SigKind.{SigKind}
 use Rattle.sig_grammar.specs.declared.element.Element.{Element}
-use Rattle.sig_grammar.specs.declared.element.Element.TheVariants.{Boolean, Char, I1, U1, I2, U2, I4, U4, I8, U8, R4, R8, String, I, U, Object}
+use Rattle.sig_grammar.specs.declared.element.Element.TheVariants.{Boolean}
 use Rattle.sig_grammar.specs.declared.types.Modifier.{Modifier}
 use Rattle.sig_grammar.specs.declared.body.Prefix.{Prefix}
 use Rattle.sig_grammar.specs.declared.body.Prefix.TheVariants.{Mod, Pinned}
 use Rattle.sig_grammar.specs.ElementTypes.{element_code}
-use Rattle.sig_grammar.specs.Syntax.{Core, simple, void_pointer, pointer, vector, array, class, value, var, mvar, instance, function, Typed, typed, Types, no_types, type_then, Content, typed_ref, plain, by_ref, Slot, slot, Slots, no_slots, slot_then, Ret, some_ret, void_ret, Method, method, ArrayShape, LocalVariable, local, Body, field, method_body, property, locals, instance_body, type_spec}
+use Rattle.sig_grammar.specs.Syntax.{Core, simple, void_pointer, pointer, vector, array, instance, function, Typed, typed, Types, no_types, type_then, Content, typed_ref, plain, by_ref, Slot, slot, Slots, no_slots, slot_then, Ret, some_ret, void_ret, Method, method, ArrayShape, LocalVariable, local, Body, field, method_body, property, locals, instance_body, type_spec}
 use Rattle.sig_grammar.specs.Parts.{Part, byte, number, signed, index, IsIndex, EncodesPart, EncodesParts, short_part, is_table, index_number, HasEncoding, part_tokens}
 use Rattle.sig_grammar.specs.Grammar.{list_parts, modifier_parts, modifiers_parts, numbers_parts, bounds_parts, shape_parts, named_code, flag, method_code, generic_parts, core_parts, typed_parts, types_parts, content_parts, slot_parts, slots_parts, ret_parts, method_parts, prefix_parts, prefixes_parts, local_parts, body_parts}
 use Rattle.sig_grammar.specs.Limits.{IsMethodKind, IsCore, IsTyped, AreTypes, IsContent, IsSlot, AreSlots, IsRet, IsMethod, IsTypedWithin, IsSlotWithin, IsLocalWithin, IsBodyWithin}
@@ -59,21 +59,7 @@ shape_small s =
 
 element_small : (e : Element) → element_code e < 256
 element_small Boolean = omega arith
-element_small Char = omega arith
-element_small I1 = omega arith
-element_small U1 = omega arith
-element_small I2 = omega arith
-element_small U2 = omega arith
-element_small I4 = omega arith
-element_small U4 = omega arith
-element_small I8 = omega arith
-element_small U8 = omega arith
-element_small R4 = omega arith
-element_small R8 = omega arith
-element_small String = omega arith
-element_small I = omega arith
-element_small U = omega arith
-element_small Object = omega arith
+element_small _ = omega arith
 
 named_small : (is_value : Bool) → named_code is_value < 256
 named_small true = omega arith
@@ -99,12 +85,9 @@ mutual
   core_small (pointer ms to) h = (omega arith, small-append (modifiers_parts ms) (core_parts to) (modifiers_small ms) (core_small to h))
   core_small (vector of) h = (omega arith, typed_small of h)
   core_small (array of shape) h = (omega arith, small-append (typed_parts of) (shape_parts shape) (typed_small of h.0) (shape_small shape))
-  core_small (class of) h = (omega arith, (tt, tt))
-  core_small (value of) h = (omega arith, (tt, tt))
-  core_small (var n) h = (omega arith, (tt, tt))
-  core_small (mvar n) h = (omega arith, (tt, tt))
   core_small (instance is_value of args) h = (omega arith, (named_small is_value, (tt, (tt, types_small args h))))
   core_small (function m) h = (omega arith, method_small m h)
+  core_small _ h = (omega arith, (tt, tt))
 
   typed_small : (t : Typed) → IsTyped t → AreSmall (typed_parts t)
   typed_small (typed ms core) h = small-append (modifiers_parts ms) (core_parts core) (modifiers_small ms) (core_small core h)
@@ -162,20 +145,14 @@ body_small (type_spec ret) h = ret_small ret h.1
 -- ---- a type index
 
 -- the tag of a table is its index among the tables that an index can name
-tag_is : (t : Token) (n : ℕ) → IsCoded TypeDefOrRef n t.table t.row → index_number t ≡ n
-tag_is t n is = by_tag is.tag is.listed is.equal
-  where
-    at : (table : TableId) (k : ℕ) → ◌≡◌ {A = Option (Option TableId)} (Some (Some table)) (Some (Some t.table)) → position_or_len (is_table table) (tables_of TypeDefOrRef) ≡ k → n ≡ t.row * 4 + k → index_number t ≡ n
-    at table k listed offset equal =
-        let same : table ≡ t.table = cc in
-        let there = ap (λ (u : TableId). position_or_len (is_table u) (tables_of TypeDefOrRef)) same in
-        omega (arith, there, offset, equal)
+listed_tag : (tag : ℕ) (table : TableId) → slice_get (tables_of TypeDefOrRef) tag ≡ Some (Some table) → position_or_len (is_table table) (tables_of TypeDefOrRef) ≡ tag
+listed_tag zero table e = let same : TypeDef ≡ table = cc in rw (← same) refl
+listed_tag (suc zero) table e = let same : TypeRef ≡ table = cc in rw (← same) refl
+listed_tag (suc (suc zero)) table e = let same : TypeSpec ≡ table = cc in rw (← same) refl
+listed_tag (suc (suc (suc tag))) table e = absurd cc
 
-    by_tag : (tag : ℕ) → slice_get (tables_of TypeDefOrRef) tag ≡ Some (Some t.table) → n ≡ t.row * 4 + tag → index_number t ≡ n
-    by_tag zero listed equal = at TypeDef 0 listed refl equal
-    by_tag (suc zero) listed equal = at TypeRef 1 listed refl equal
-    by_tag (suc (suc zero)) listed equal = at TypeSpec 2 listed refl equal
-    by_tag (suc (suc (suc tag))) listed equal = absurd cc
+tag_is : (t : Token) (n : ℕ) → IsCoded TypeDefOrRef n t.table t.row → index_number t ≡ n
+tag_is t n is = let same = listed_tag is.tag t.table is.listed in let equal = is.equal in omega arith
 
 -- ---- each part, and all of them
 
@@ -231,13 +208,10 @@ HasTypeTable t = (t.table ≡ TypeDef) ⊎ ((t.table ≡ TypeRef) ⊎ (t.table �
 coded_table : (t : Token) (n : ℕ) → IsCoded TypeDefOrRef n t.table t.row → HasTypeTable t
 coded_table t n is = by_tag is.tag is.listed
   where
-    of_tag : (table : TableId) → ◌≡◌ {A = Option (Option TableId)} (Some (Some table)) (Some (Some t.table)) → t.table ≡ table
-    of_tag table listed = cc
-
     by_tag : (tag : ℕ) → slice_get (tables_of TypeDefOrRef) tag ≡ Some (Some t.table) → HasTypeTable t
-    by_tag zero listed = inl (of_tag TypeDef listed)
-    by_tag (suc zero) listed = inr (inl (of_tag TypeRef listed))
-    by_tag (suc (suc zero)) listed = inr (inr (of_tag TypeSpec listed))
+    by_tag zero listed = let same : t.table ≡ TypeDef = cc in inl same
+    by_tag (suc zero) listed = let same : t.table ≡ TypeRef = cc in inr (inl same)
+    by_tag (suc (suc zero)) listed = let same : t.table ≡ TypeSpec = cc in inr (inr same)
     by_tag (suc (suc (suc tag))) listed = absurd cc
 
 module _ (P : Token → Type 0) (each : (t : Token) → HasEncoding (index t) → P t) where

@@ -1,16 +1,17 @@
 -- Modifiers, and what else may precede a type.
-use Rattle.std.proofs.Common.{◌≡◌, ℕ, zero, suc, ◌<◌, ◌≤◌, Bool, true, false, cond, eqb, not, ◌||◌, ◌&&◌, Option, Some, None, List, [], ◌∷◌, ◌++◌, length, refl, ap, subst, arith, IfSome, length-append}
+use Rattle.std.proofs.Common.{◌≡◌, ℕ, zero, suc, ◌<◌, ◌≤◌, Bool, true, false, cond, eqb, not, ◌&&◌, Option, Some, None, List, [], ◌∷◌, length, refl, ap, subst, arith, IfSome, length-append}
 use Rattle.std.specs.Prelude.{option_map}
 use Rattle.std.proofs.lemmas.Bool.{eqb-true}
 use Rattle.table_schema.specs.declared.token.Token.{Token}
 use Rattle.sig_grammar.specs.declared.types.Modifier.{Modifier}
 use Rattle.sig_grammar.specs.declared.body.Prefix.{Prefix}
 use Rattle.sig_grammar.specs.declared.body.Prefix.TheVariants.{Mod, Pinned}
-use Rattle.sig_grammar.specs.Parts.{Part, byte, number, signed, index}
+use Rattle.sig_grammar.specs.Parts.{Part, byte}
 use Rattle.sig_grammar.specs.Grammar.{list_parts, modifier_parts, prefix_parts}
 use Rattle.sig_grammar.specs.Reading.{Reader, Optional, items_then, leading_within, leading_at, index_at, modifier_after, modifier_at, prefix_of, prefix_at, both}
 use Rattle.sig_values.proofs.Readers.{IsBytes, Head, Head-append, Head-split, Takes, Reads}
 use Rattle.sig_grammar.proofs.OptionLemmas.{IfSome-bind, IfSome-map, IfSome-cond}
+use Rattle.sig_values.proofs.Lists.{both_parts, BothGood, pair_reads}
 use Rattle.sig_values.proofs.Numbers.{NumbersAreRead, Any, index_parts, index_reads}
 
 -- the first byte passes the test
@@ -22,12 +23,18 @@ abbrev pub heads : (ℕ → Bool) → List Part → Bool
 heads p (byte c ∷ ps) = p c
 heads p _ = false
 
+-- parts take no more than the bytes that they are read from, and a byte takes one of them
+head_short : (ps : List Part) (b remainder : List ℕ) → Head ps b remainder → length remainder ≤ length b
+head_short [] b remainder e = omega (arith, ap length e)
+head_short (p ∷ ps) b remainder f = omega (arith, ap length f.2, length-append f.0 f.1, head_short ps f.1 remainder f.4)
+
+head_shorter : (ps : List Part) (b remainder : List ℕ) → heads (λ c. true) ps ≡ true → Head ps b remainder → length remainder < length b
+head_shorter (byte c ∷ ps) b remainder h f = omega (arith, ap length f.2, ap length f.3, length-append f.0 f.1, head_short ps f.1 remainder f.4)
+head_shorter _ b remainder h f = absurd cc
+
 pub begins-heads : (p : ℕ → Bool) (ps : List Part) (b remainder : List ℕ) → heads p ps ≡ true → Head ps b remainder → begins p b ≡ true
-begins-heads p [] b remainder h f = absurd cc
 begins-heads p (byte c ∷ ps) b remainder h f = rw (f.2, f.3) h
-begins-heads p (number n ∷ ps) b remainder h f = absurd cc
-begins-heads p (signed z ∷ ps) b remainder h f = absurd cc
-begins-heads p (index t ∷ ps) b remainder h f = absurd cc
+begins-heads p _ b remainder h f = absurd cc
 
 -- an item was read from b, or nothing was
 abbrev pub TakesItem : {A : Type 0} → (A → List Part) → List ℕ → Option A × List ℕ → Type 0
@@ -38,9 +45,9 @@ pub record Leads {A : Type 0} (r : Optional A) (parts : A → List Part) (stops 
   pub found : (b : List ℕ) → IsBytes b → IfSome (r b) (TakesItem parts b)
   pub only : (b remainder : List ℕ) (x : A) → Head (parts x) b remainder → r b ≡ Some (Some x, remainder)
   pub stop : (b : List ℕ) → begins stops b ≡ true → r b ≡ Some (None, b)
-  pub falls : (b remainder : List ℕ) (x : A) → Head (parts x) b remainder → length remainder < length b
+  pub starts : (x : A) → heads (λ c. true) (parts x) ≡ true
 
-module _ {A : Type 0} (r : Optional A) (parts : A → List Part) (stops : ℕ → Bool) (leads : Leads r parts stops) where
+module _ {A : Type 0} {r : Optional A} {parts : A → List Part} {stops : ℕ → Bool} (leads : Leads r parts stops) where
   abbrev TakesAll : List ℕ → List A × List ℕ → Type 0
   TakesAll b x = Takes (list_parts parts) (λ xs. Any xs) b x
 
@@ -71,7 +78,7 @@ module _ {A : Type 0} (r : Optional A) (parts : A → List Part) (stops : ℕ �
   all_length [] b remainder f = omega arith
   all_length (x ∷ xs) b remainder f =
       let s = Head-split (parts x) (list_parts parts xs) b remainder f in
-      omega (arith, all_length xs s.0 remainder s.2, leads.falls b s.0 x s.1)
+      omega (arith, all_length xs s.0 remainder s.2, head_shorter (parts x) b s.0 (leads.starts x) s.1)
 
   pub leading_found : (b : List ℕ) → IsBytes b → IfSome (leading_at r b) (TakesAll b)
   unfolding leading_at
@@ -82,38 +89,21 @@ module _ {A : Type 0} (r : Optional A) (parts : A → List Part) (stops : ℕ �
   leading_only xs b remainder stop f = within_only xs (length b) b remainder (all_length xs b remainder f) stop f
 
   -- ---- items before a value that does not start like an item
-  module _ {B : Type 0} (q : Reader B) (more : B → List Part) (Good : B → Type 0) (second : Reads q more Good)
-      (free : (v : B) → Good v → heads stops (more v) ≡ true) where
-    abbrev pub led_parts : List A × B → List Part
-    led_parts x = list_parts parts x.0 ++ more x.1
-
-    abbrev pub LedGood : List A × B → Type 0
-    LedGood x = Good x.1
-
-    pub led_reads : Reads (both (leading_at r) q) led_parts LedGood
-    unfolding both
-    led_reads = record {
-      found = λ b h.
-          IfSome-bind (TakesAll b) (Takes led_parts LedGood b) (λ x. option_map (λ y. ((x.0, y.0), y.1)) (q x.1)) (leading_at r b) (leading_found b h)
-          (λ x t.
-          IfSome-map (Takes more Good x.1) (Takes led_parts LedGood b) (λ y. ((x.0, y.0), y.1)) (q x.1) (second.found x.1 t.bytes)
-          (λ y u. record {
-            good = u.good;
-            bytes = u.bytes;
-            head = Head-append (list_parts parts x.0) (more y.0) b x.1 y.1 t.head u.head;
-          }));
-      only = λ b remainder v good f.
-          let s = Head-split (list_parts parts v.0) (more v.1) b remainder f in
-          let e = leading_only v.0 b s.0 (begins-heads stops (more v.1) s.0 remainder (free v.1 good) s.2) s.1 in
-          let g = second.only s.0 remainder v.1 good s.2 in
-          rw (e, g) refl;
-    }
+  module _ {B : Type 0} {q : Reader B} {more : B → List Part} {Good : B → Type 0} (second : Reads q more Good) (free : (v : B) → Good v → heads stops (more v) ≡ true) where
+    pub led_reads : Reads (both (leading_at r) q) (both_parts (list_parts parts) more) (BothGood (λ xs. Any xs) Good)
+    led_reads =
+        pair_reads _ _ _ _ _ _ leading_found
+        (λ u v b mid remainder any good f g. leading_only u b mid (begins-heads stops (more v) mid remainder (free v good) g) f) second
 
 -- ---- modifiers
 
+-- every byte except this one
+abbrev pub no : ℕ → ℕ → Bool
+no n c = not (eqb c n)
+
 -- no modifier starts with this byte
 abbrev pub no_modifier : ℕ → Bool
-no_modifier c = not (eqb c 0x1F || eqb c 0x20)
+no_modifier c = no 0x1F c && no 0x20 c
 
 abbrev TakesModifier : List ℕ → Option Modifier × List ℕ → Type 0
 TakesModifier b p = TakesItem modifier_parts b p
@@ -135,7 +125,7 @@ unfolding modifier_at
 modifier_again true of b mid e = rw e refl
 modifier_again false of b mid e = rw e refl
 
-neither : {X : Type 0} (p q : Bool) (x y z : X) → not (p || q) ≡ true → cond p x (cond q y z) ≡ z
+neither : {X : Type 0} (p q : Bool) (x y z : X) → (not p && not q) ≡ true → cond p x (cond q y z) ≡ z
 neither true q x y z h = absurd cc
 neither false true x y z h = absurd cc
 neither false false x y z h = refl
@@ -155,9 +145,6 @@ modifier_found known (c ∷ b) h =
 modifier_head : (m : Modifier) (b remainder : List ℕ) → Head (modifier_parts m) b remainder → (tail : List ℕ) × (b ≡ modifier_code m.required ∷ tail) × Head (index_parts m.of) tail remainder
 modifier_head m b remainder f = (f.1, rw (f.2, f.3) refl, f.4)
 
-index_falls : (t : Token) (b remainder : List ℕ) → Head (index_parts t) b remainder → length remainder ≤ length b
-index_falls t b remainder f = omega (arith, ap length f.2, length-append f.0 f.1, ap length f.4)
-
 pub modifier_leads : NumbersAreRead → Leads modifier_at modifier_parts no_modifier
 modifier_leads known = record {
   found = (modifier_found known);
@@ -166,15 +153,13 @@ modifier_leads known = record {
       let e = (index_reads known).only s.0 remainder m.of tt s.2 in
       rw (s.1) (modifier_again m.required m.of s.0 remainder e);
   stop = modifier_stop;
-  falls = λ b remainder m f.
-      let s = modifier_head m b remainder f in
-      omega (arith, ap length s.1, index_falls m.of s.0 remainder s.2);
+  starts = λ m. refl;
 }
 
 -- ---- modifiers with PINNED
 
 abbrev pub no_prefix : ℕ → Bool
-no_prefix c = not (eqb c 0x45) && no_modifier c
+no_prefix c = no 0x45 c && no_modifier c
 
 abbrev TakesPrefix : List ℕ → Option Prefix × List ℕ → Type 0
 TakesPrefix b p = TakesItem prefix_parts b p
@@ -213,9 +198,9 @@ unfolding prefix_at
 prefix_stop [] h = absurd cc
 prefix_stop (c ∷ b) h = stop_at_test (eqb c 0x45) c b _ h
 
-prefix_falls : NumbersAreRead → (b remainder : List ℕ) (x : Prefix) → Head (prefix_parts x) b remainder → length remainder < length b
-prefix_falls known b remainder Pinned f = omega (arith, ap length f.2, ap length f.3, length-append f.0 f.1, ap length f.4)
-prefix_falls known b remainder (Mod m) f = (modifier_leads known).falls b remainder m f
+prefix_starts : (x : Prefix) → heads (λ c. true) (prefix_parts x) ≡ true
+prefix_starts Pinned = refl
+prefix_starts (Mod m) = refl
 
 pub prefix_leads : NumbersAreRead → Leads prefix_at prefix_parts no_prefix
-prefix_leads known = record { found = (prefix_found known); only = (prefix_only known); stop = prefix_stop; falls = (prefix_falls known) }
+prefix_leads known = record { found = (prefix_found known); only = (prefix_only known); stop = prefix_stop; starts = prefix_starts }

@@ -1,6 +1,6 @@
 -- If cores are read as they are encoded, so are methods.
 use Rattle.std.proofs.Common.{◌≡◌, ℕ, zero, suc, ◌+◌, ◌*◌, ◌/◌, ◌%◌, ◌<◌, ◌≤◌, Bool, true, false, eqb, ltb, ◌&&◌, ◌||◌, Option, Some, None, is_some, List, [], ◌∷◌, ◌++◌, length, drop, refl, sym, ap, ◌∙◌, subst, arith, IfSome, ◌⊎◌, inl, inr, ⊎_elim}
-use Rattle.std.specs.Prelude.{⊤, option_map, option_and_then}
+use Rattle.std.specs.Prelude.{option_map, option_and_then}
 use Rattle.std.specs.List.{AllByRecursion}
 use Rattle.std.proofs.lemmas.Bool.{eqb-true, ltb-true, lt-ltb, and_parts, or_cases}
 use Rattle.sig_grammar.specs.Syntax.{Core, Slot, Slots, no_slots, slot_then, Ret, Method, method}
@@ -12,9 +12,9 @@ use Rattle.sig_grammar.specs.Reading.{Reader, number_at, head_is, slot_at, ret_a
 use Rattle.sig_values.proofs.Readers.{IsBytes, Head, Head-append, Head-split, Takes, Reads, head_byte, behind_byte}
 use Rattle.sig_grammar.proofs.OptionLemmas.{IfSome-bind, IfSome-map, IfSome-cond}
 use Rattle.sig_values.proofs.Numbers.{NumbersAreRead, Any, number_parts, number_reads}
-use Rattle.sig_values.proofs.Leading.{begins-heads}
+use Rattle.sig_values.proofs.Leading.{begins-heads, no}
 use Rattle.sig_grammar.proofs.FromLists.{count-slots_from, slots_good}
-use Rattle.sig_values.proofs.Codes.{no, slot_no_sentinel, no_head}
+use Rattle.sig_values.proofs.Codes.{slot_no_sentinel, no_head}
 use Rattle.sig_values.proofs.Contents.{slot_reads, ret_reads}
 
 -- ---- lists of parameters
@@ -222,26 +222,15 @@ module _ (known : NumbersAreRead) (d : ℕ) (nested : Reader Core) (cores : Read
   sentinel_good own kind n m None e h = tt
   sentinel_good own kind n m (Some k) e h = let lt = h.0 in (omega arith, takes_from kind (and_parts own (takes_sentinel kind) h.1).1)
 
-  abbrev NoneUnless : Bool → Option ℕ → Type 0
-  NoneUnless true s = ⊤
-  NoneUnless false s = s ≡ None
+  own_found : (own may : Bool) (n kind : ℕ) (this explicit : Bool) (generic : Option ℕ) (ret : Ret) (params : Slots) (s : Option ℕ) → IfSome s (MayStand (own && may) n) → HasOwnSentinel own (method kind this explicit generic ret params s)
+  own_found true may n kind this explicit generic ret params s h = tt
+  own_found false may n kind this explicit generic ret params s h = never n s h
 
-  own_found : (own may : Bool) (n : ℕ) (s : Option ℕ) → IfSome s (MayStand (own && may) n) → NoneUnless own s
-  own_found true may n s h = tt
-  own_found false may n s h = never n s h
-
-  own_to : (own : Bool) (kind : ℕ) (this explicit : Bool) (generic : Option ℕ) (ret : Ret) (params : Slots) (s : Option ℕ) → NoneUnless own s → HasOwnSentinel own (method kind this explicit generic ret params s)
-  own_to true kind this explicit generic ret params s h = tt
-  own_to false kind this explicit generic ret params s h = h
-
-  own_from : (own : Bool) (kind : ℕ) (this explicit : Bool) (generic : Option ℕ) (ret : Ret) (params : Slots) (s : Option ℕ) → HasOwnSentinel own (method kind this explicit generic ret params s) → NoneUnless own s
-  own_from true kind this explicit generic ret params s h = tt
-  own_from false kind this explicit generic ret params s h = h
-
-  sentinel_stands : (own : Bool) (kind n m : ℕ) (s : Option ℕ) → n ≡ m → IfSome s (IsSentinel kind m) → NoneUnless own s → IfSome s (MayStand (own && takes_sentinel kind) n)
-  sentinel_stands own kind n m None e h none = tt
-  sentinel_stands true kind n m (Some k) e h none = let lt = h.0 in (omega arith, takes_to kind h.1)
-  sentinel_stands false kind n m (Some k) e h none = absurd cc
+  sentinel_stands : (own : Bool) (n kind : ℕ) (this explicit : Bool) (generic : Option ℕ) (ret : Ret) (params : Slots) (s : Option ℕ) → n ≡ count_slots params → IfSome s (IsSentinel kind (count_slots params))
+      → HasOwnSentinel own (method kind this explicit generic ret params s) → IfSome s (MayStand (own && takes_sentinel kind) n)
+  sentinel_stands own n kind this explicit generic ret params None e h none = tt
+  sentinel_stands true n kind this explicit generic ret params (Some k) e h none = let lt = h.0 in (omega arith, takes_to kind h.1)
+  sentinel_stands false n kind this explicit generic ret params (Some k) e h none = absurd cc
 
   abbrev after_code : Method → List Part
   after_code (method kind this explicit generic ret params sentinel) =
@@ -266,7 +255,7 @@ module _ (known : NumbersAreRead) (d : ℕ) (nested : Reader Core) (cores : Read
       let params_head = Head-append (ret_parts r.0) (slots_parts (slots_from p.0.0) p.0.1) n.1 r.1 p.1 tr.head tp.0.head in
       let counted = subst (λ (k : ℕ). Head (number k ∷ (ret_parts r.0 ++ slots_parts (slots_from p.0.0) p.0.1)) g.1 p.1) (sym count) (Head-append (number_parts n.0) (ret_parts r.0 ++ slots_parts (slots_from p.0.0) p.0.1) g.1 n.1 p.1 tn.head params_head) in
       record {
-        good = (omega (arith, many.0), (code.1, sentinel_good own (c % 16) (length p.0.0) (count_slots (slots_from p.0.0)) p.0.1 (sym (count-slots_from p.0.0)) tp.0.good.1, tr.good.1, many.1), own_to own (c % 16) (eqb (c / 32 % 2) 1) (eqb (c / 64 % 2) 1) g.0 r.0 (slots_from p.0.0) p.0.1 (own_found own (takes_sentinel (c % 16)) (length p.0.0) p.0.1 tp.0.good.1));
+        good = (omega (arith, many.0), (code.1, sentinel_good own (c % 16) (length p.0.0) (count_slots (slots_from p.0.0)) p.0.1 (sym (count-slots_from p.0.0)) tp.0.good.1, tr.good.1, many.1), own_found own (takes_sentinel (c % 16)) (length p.0.0) (c % 16) (eqb (c / 32 % 2) 1) (eqb (c / 64 % 2) 1) g.0 r.0 (slots_from p.0.0) p.0.1 tp.0.good.1);
         bytes = tp.0.bytes;
         head = behind_byte c (method_code (c % 16) (eqb (c / 32 % 2) 1) (eqb (c / 64 % 2) 1) g.0) (generic_parts g.0 ++ number (count_slots (slots_from p.0.0)) ∷ (ret_parts r.0 ++ slots_parts (slots_from p.0.0) p.0.1)) b p.1 (code_found c g.0 code.0 tg.good) (Head-append (generic_parts g.0) (number (count_slots (slots_from p.0.0)) ∷ (ret_parts r.0 ++ slots_parts (slots_from p.0.0) p.0.1)) b g.1 p.1 tg.head counted);
       }))))
@@ -293,7 +282,7 @@ module _ (known : NumbersAreRead) (d : ℕ) (nested : Reader Core) (cores : Read
       let same = slots_from_to params in
       let count = length-slots_to params in
       let params_head = subst (λ (ss : Slots). Head (slots_parts ss sentinel) r.0 remainder) (sym same) r.2 in
-      let ep = params_only (slots_to params) sentinel (own && takes_sentinel kind) r.0 remainder (slots_good_to d params (omega (arith, good.0)) good.1.3) (sentinel_stands own kind (length (slots_to params)) (count_slots params) sentinel count good.1.1 (own_from own kind this explicit generic ret params sentinel good.2)) params_head in
+      let ep = params_only (slots_to params) sentinel (own && takes_sentinel kind) r.0 remainder (slots_good_to d params (omega (arith, good.0)) good.1.3) (sentinel_stands own (length (slots_to params)) kind this explicit generic ret params sentinel count good.1.1 good.2) params_head in
       let ep' = subst (λ (k : ℕ). params_at nested (own && takes_sentinel kind) k r.0 ≡ Some ((slots_to params, sentinel), remainder)) count ep in
       rw (s.1, test, bits.1, bits.2, bits.3, bits.4, eg, en, er, ep') (ap (λ (ss : Slots). Some (method kind this explicit generic ret ss sentinel, remainder)) same)
 

@@ -1,9 +1,8 @@
 -- What the reader's law says about whole byte lists.
-use Rattle.std.proofs.Common.{◌≡◌, ℕ, ◌^◌, ◌<◌, Option, Some, None, List, [], ◌∷◌, length, refl, sym, ap, ◌∙◌, subst, arith, IfSome}
+use Rattle.std.proofs.Common.{◌≡◌, ℕ, ◌^◌, ◌<◌, Some, List, [], ◌∷◌, length, refl, sym, ap, ◌∙◌, arith}
 use Rattle.std.specs.Prelude.{ℤ, flat_map}
 use Rattle.std.specs.List.{AllByRecursion}
-use Rattle.std.proofs.lemmas.Option.{same_Some}
-use Rattle.std.proofs.lemmas.Option.{slice_get_within}
+use Rattle.std.proofs.lemmas.Option.{same_Some, slice_get_within}
 use Rattle.packed.specs.Packed.{IsPacked, IsPackedSigned, FitsBits, short_unsigned, short_signed}
 use Rattle.table_schema.specs.declared.coded.Coded.TheVariants.{TypeDefOrRef}
 use Rattle.table_schema.specs.CodedIndexes.{tables_of}
@@ -11,7 +10,7 @@ use Rattle.sig_grammar.specs.Syntax.{Body}
 use Rattle.sig_grammar.specs.Parts.{Part, byte, number, signed, index, EncodesPart, EncodesParts, short_part, index_number, HasEncoding}
 use Rattle.sig_grammar.specs.Grammar.{body_parts}
 use Rattle.sig_grammar.specs.Encodes.{Holds, Encodes, IsEncodable, short}
-use Rattle.sig_grammar.specs.Reading.{Reader, core_at}
+use Rattle.sig_grammar.specs.Reading.{core_at}
 use Rattle.sig_grammar.specs.Columns.{body_at}
 use Rattle.sig_values.proofs.Numbers.{NumbersAreRead}
 use Rattle.sig_values.proofs.Readers.{IsBytes, Head-whole, Head-from_whole, Takes, Reads}
@@ -45,48 +44,22 @@ module _ (number_short : (n : ℕ) → n < 2 ^ 29 → IsPacked n (short_unsigned
     limit = h.limit;
   }
 
--- ---- at most one value is encoded, and it is the one that is read
-
-module _ {A : Type 0} (r : Reader A) (parts : A → List Part) (Good : A → Type 0) (reads : Reads r parts Good) where
-  pub read_whole : (v : A) (b : List ℕ) → Good v → EncodesParts (parts v) b → r b ≡ Some (v, [])
-  read_whole v b good s = reads.only b [] v good (Head-from_whole (parts v) b s)
-
-  -- no bytes encode two values
-  pub one_value : (u v : A) (b : List ℕ) → Good u → Good v → EncodesParts (parts u) b → EncodesParts (parts v) b → u ≡ v
-  one_value u v b gu gv su sv = let e = read_whole u b gu su in let f = read_whole v b gv sv in ap (λ (p : A × List ℕ). p.0) (same_Some (u, []) (v, []) (sym e ∙ f))
-
-  -- what is read is encoded so
-  pub found_whole : (v : A) (b : List ℕ) → IsBytes b → r b ≡ Some (v, []) → Good v × EncodesParts (parts v) b
-  found_whole v b h e = of_option (r b) (reads.found b h) e
-    where
-      of_option : (o : Option (A × List ℕ)) → IfSome o (Takes parts Good b) → o ≡ Some (v, []) → Good v × EncodesParts (parts v) b
-      of_option None t e = absurd cc
-      of_option (Some x) t e =
-          let same : x ≡ (v, []) = cc in
-          let u = subst (λ (y : A × List ℕ). Takes parts Good b y) same t in
-          (u.good, Head-whole (parts v) b u.head)
-
--- ---- whole signatures
-
--- what a column holds within the limits, as the reader reads it
-good_of : (kind : SigKind) (s : Body) (b : List ℕ) → Encodes kind s b → IsHeld 128 kind s
-good_of kind s b h = (h.column, h.body)
+-- ---- at most one signature is encoded, and it is the one that is read
 
 column_reads : NumbersAreRead → (kind : SigKind) → Reads (body_at kind (core_at 128)) body_parts (IsHeld 128 kind)
 column_reads known kind = body_reads known 128 (core_at 128) (core_reads known 128) (omega arith) kind
 
+-- what bytes encode is read from them
+pub encoded_read : NumbersAreRead → (kind : SigKind) (s : Body) (b : List ℕ) → Encodes kind s b → body_at kind (core_at 128) b ≡ Some (s, [])
+encoded_read known kind s b h = (column_reads known kind).only b [] s (h.column, h.body) (Head-from_whole (body_parts s) b h.parts)
+
 -- no bytes encode two signatures in one column
 pub one_signature : NumbersAreRead → (kind : SigKind) (u v : Body) (b : List ℕ) → Encodes kind u b → Encodes kind v b → u ≡ v
 one_signature known kind u v b h k =
-    one_value (body_at kind (core_at 128)) body_parts (IsHeld 128 kind) (column_reads known kind) u v b (good_of kind u b h) (good_of kind v b k) h.parts k.parts
-
--- what bytes encode is read from them
-pub encoded_read : NumbersAreRead → (kind : SigKind) (s : Body) (b : List ℕ) → Encodes kind s b → body_at kind (core_at 128) b ≡ Some (s, [])
-encoded_read known kind s b h =
-    read_whole (body_at kind (core_at 128)) body_parts (IsHeld 128 kind) (column_reads known kind) s b (good_of kind s b h) h.parts
+    ap (λ (p : Body × List ℕ). p.0) (same_Some (u, []) (v, []) (sym (encoded_read known kind u b h) ∙ encoded_read known kind v b k))
 
 -- what is read to the end is encoded so
 pub read_encoded : NumbersAreRead → (kind : SigKind) (s : Body) (b : List ℕ) → IsBytes b → length b < 2 ^ 29 → body_at kind (core_at 128) b ≡ Some (s, []) → Encodes kind s b
 read_encoded known kind s b bytes limit e =
-    let t = found_whole (body_at kind (core_at 128)) body_parts (IsHeld 128 kind) (column_reads known kind) s b bytes e in
-    record { column = t.0.0; body = t.0.1; parts = t.1; limit = limit }
+    let read : Takes body_parts (IsHeld 128 kind) b (s, []) = rw e at ((column_reads known kind).found b bytes) in
+    record { column = read.good.0; body = read.good.1; parts = Head-whole (body_parts s) b read.head; limit = limit }

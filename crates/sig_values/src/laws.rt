@@ -49,6 +49,7 @@ pub fn canonical_is_shortest()
 
 /// Each type index of an encodable signature names TypeDef, TypeRef or TypeSpec (II.23.2.8).
 /// Its row number has at most 27 bits and may be 0.
+#[tactic(auto, using(crate::proofs::Encoded::tokens_have_rows, crate::proofs::Encoded::tokens_have_tables))]
 pub fn indexes_name_types()
     ensures rows { (signature : Body) → IsEncodable signature → AllByRecursion (λ token. token.row < 2 ^ 27) (tokens signature) }
     ensures tables { (signature : Body) → IsEncodable signature
@@ -57,6 +58,7 @@ pub fn indexes_name_types()
 
 /// The first type index without a row is `None` if and only if each index has its row.
 /// Otherwise all indexes before it have their rows, and it has none.
+#[tactic(auto, using(crate::proofs::FirstBad::none_is_all, crate::proofs::FirstBad::some_is_first))]
 pub fn first_bad_is_first()
     ensures none { (counts : List ℕ) (tokens : List Token) → (first_bad counts tokens ≡ None) ↔ AllByRecursion (HasRow counts) tokens }
     ensures some { (counts : List ℕ) (tokens : List Token) (bad : Token) → first_bad counts tokens ≡ Some bad

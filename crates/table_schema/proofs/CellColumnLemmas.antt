@@ -1,7 +1,7 @@
 -- The columns that have cells.
 use Rattle.std.proofs.Common.{◌≡◌, ◌≢◌, ℕ, zero, suc, ◌+◌, ◌<◌, Bool, true, false, cond, List, [], ◌∷◌, length, get_or, slice_index, refl, subst, arith}
 use Rattle.table_schema.specs.declared.table.TableId.{TableId}
-use Rattle.table_schema.specs.declared.table.TableId.TheVariants.{Module, TypeRef, TypeDef, Field, MethodDef, Param, InterfaceImpl, MemberRef, Constant, CustomAttribute, FieldMarshal, DeclSecurity, ClassLayout, FieldLayout, StandAloneSig, EventMap, Event, PropertyMap, Property, MethodSemantics, MethodImpl, ModuleRef, TypeSpec, ImplMap, FieldRVA, Assembly, AssemblyProcessor, AssemblyOS, AssemblyRef, AssemblyRefProcessor, AssemblyRefOS, File, ExportedType, ManifestResource, NestedClass, GenericParam, MethodSpec, GenericParamConstraint}
+use Rattle.table_schema.specs.declared.table.TableId.TheVariants.{Constant}
 use Rattle.table_schema.specs.declared.column.Column.{Column}
 use Rattle.table_schema.specs.declared.column.ColumnKind.TheVariants as kind
 use Rattle.table_schema.specs.Columns.{columns_of, column_at, col}
@@ -90,44 +90,8 @@ indexes_long i (column ∷ columns) e =
     rw (h2.0) (omega arith)
 
 only_constant : (table : TableId) → table ≢ Constant → has_all_cells (columns_of table) ≡ true
-only_constant Module other = refl
-only_constant TypeRef other = refl
-only_constant TypeDef other = refl
-only_constant Field other = refl
-only_constant MethodDef other = refl
-only_constant Param other = refl
-only_constant InterfaceImpl other = refl
-only_constant MemberRef other = refl
 only_constant Constant other = absurd (other refl)
-only_constant CustomAttribute other = refl
-only_constant FieldMarshal other = refl
-only_constant DeclSecurity other = refl
-only_constant ClassLayout other = refl
-only_constant FieldLayout other = refl
-only_constant StandAloneSig other = refl
-only_constant EventMap other = refl
-only_constant Event other = refl
-only_constant PropertyMap other = refl
-only_constant Property other = refl
-only_constant MethodSemantics other = refl
-only_constant MethodImpl other = refl
-only_constant ModuleRef other = refl
-only_constant TypeSpec other = refl
-only_constant ImplMap other = refl
-only_constant FieldRVA other = refl
-only_constant Assembly other = refl
-only_constant AssemblyProcessor other = refl
-only_constant AssemblyOS other = refl
-only_constant AssemblyRef other = refl
-only_constant AssemblyRefProcessor other = refl
-only_constant AssemblyRefOS other = refl
-only_constant File other = refl
-only_constant ExportedType other = refl
-only_constant ManifestResource other = refl
-only_constant NestedClass other = refl
-only_constant GenericParam other = refl
-only_constant MethodSpec other = refl
-only_constant GenericParamConstraint other = refl
+only_constant _ other = refl
 
 -- each column of a table other than Constant has a cell
 pub same_column : (table : TableId) → table ≢ Constant → (cell : ℕ) → cell < cell_count table → (cell ≡ column_of table cell) × (cell < length

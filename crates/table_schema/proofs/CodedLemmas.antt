@@ -18,18 +18,7 @@ use Rattle.table_schema.specs.CodedIndexes.{tables_of, tag_bits, IsCoded}
 -- a tag fits beside a row
 pub tables_few : (c : Coded) → length (tables_of c) ≤ 2 ^ tag_bits c
 tables_few coded.TypeDefOrRef = lit≤ tt
-tables_few coded.HasConstant = lit≤ tt
-tables_few coded.HasCustomAttribute = lit≤ tt
-tables_few coded.HasFieldMarshal = lit≤ tt
-tables_few coded.HasDeclSecurity = lit≤ tt
-tables_few coded.MemberRefParent = lit≤ tt
-tables_few coded.HasSemantics = lit≤ tt
-tables_few coded.MethodDefOrRef = lit≤ tt
-tables_few coded.MemberForwarded = lit≤ tt
-tables_few coded.Implementation = lit≤ tt
-tables_few coded.CustomAttributeType = lit≤ tt
-tables_few coded.ResolutionScope = lit≤ tt
-tables_few coded.TypeOrMethodDef = lit≤ tt
+tables_few _ = lit≤ tt
 
 pub tag_below : (c : Coded) (tag : ℕ) (table : TableId) → slice_get (tables_of c) tag ≡ Some (Some table) → tag < 2 ^ tag_bits c
 tag_below c tag table e = let few = tables_few c in let within = slice_get_within (tables_of c) tag (Some table) e in omega arith
@@ -48,18 +37,7 @@ are_distinct (Some table ∷ listed) = cond (lacks (table_number table) listed) 
 
 distinct : (c : Coded) → are_distinct (tables_of c) ≡ true
 distinct coded.TypeDefOrRef = refl
-distinct coded.HasConstant = refl
-distinct coded.HasCustomAttribute = refl
-distinct coded.HasFieldMarshal = refl
-distinct coded.HasDeclSecurity = refl
-distinct coded.MemberRefParent = refl
-distinct coded.HasSemantics = refl
-distinct coded.MethodDefOrRef = refl
-distinct coded.MemberForwarded = refl
-distinct coded.Implementation = refl
-distinct coded.CustomAttributeType = refl
-distinct coded.ResolutionScope = refl
-distinct coded.TypeOrMethodDef = refl
+distinct _ = refl
 
 both : (a b : Bool) → cond a b false ≡ true → (a ≡ true) × (b ≡ true)
 both true b e = (refl, e)
@@ -178,31 +156,9 @@ shifted c bits row e few = ap (λ n. row * n) (one_shl bits 32 (omega arith) ∙
 -- the tag bits and the remaining bits together make 16 bits
 pub tag_narrow : (c : Coded) → 2 ^ tag_bits c * 2 ^ (16 - tag_bits c) ≡ 2 ^ 16
 tag_narrow coded.TypeDefOrRef = refl
-tag_narrow coded.HasConstant = refl
-tag_narrow coded.HasCustomAttribute = refl
-tag_narrow coded.HasFieldMarshal = refl
-tag_narrow coded.HasDeclSecurity = refl
-tag_narrow coded.MemberRefParent = refl
-tag_narrow coded.HasSemantics = refl
-tag_narrow coded.MethodDefOrRef = refl
-tag_narrow coded.MemberForwarded = refl
-tag_narrow coded.Implementation = refl
-tag_narrow coded.CustomAttributeType = refl
-tag_narrow coded.ResolutionScope = refl
-tag_narrow coded.TypeOrMethodDef = refl
+tag_narrow _ = refl
 
 -- four bytes hold any row beside the tag
 pub tag_wide : (c : Coded) → 2 ^ tag_bits c * 2 ^ 24 ≤ 2 ^ 32
 tag_wide coded.TypeDefOrRef = lit≤ tt
-tag_wide coded.HasConstant = lit≤ tt
-tag_wide coded.HasCustomAttribute = lit≤ tt
-tag_wide coded.HasFieldMarshal = lit≤ tt
-tag_wide coded.HasDeclSecurity = lit≤ tt
-tag_wide coded.MemberRefParent = lit≤ tt
-tag_wide coded.HasSemantics = lit≤ tt
-tag_wide coded.MethodDefOrRef = lit≤ tt
-tag_wide coded.MemberForwarded = lit≤ tt
-tag_wide coded.Implementation = lit≤ tt
-tag_wide coded.CustomAttributeType = lit≤ tt
-tag_wide coded.ResolutionScope = lit≤ tt
-tag_wide coded.TypeOrMethodDef = lit≤ tt
+tag_wide _ = lit≤ tt

@@ -31,6 +31,7 @@ pub fn column_of_cell(table: TableId, cell: usize) -> usize
 }
 
 /// Each cell has a column, which is not padding. Each column that is not padding has a cell.
+#[tactic(auto, using(crate::proofs::CellColumnLemmas::cell_column, crate::proofs::CellColumnLemmas::column_cell))]
 pub fn cells_have_columns()
     ensures column { (table : Table) (cell : ℕ) → cell < cell_count table
         → (column_of table cell < length (columns_of table)) × (is_padding (column_at table (column_of table cell)).kind ≡ false) }

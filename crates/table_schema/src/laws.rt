@@ -20,6 +20,7 @@ pub fn tables_stand()
 
 /// A table has at most nine columns. Its key, if it has one, refers to rows. A column that allows null has
 /// a number for null.
+#[tactic(auto, using(crate::proofs::TableFacts::columns_few, crate::proofs::TableFacts::key_within, crate::proofs::TableFacts::key_reference, crate::proofs::TableFacts::may_be_null))]
 pub fn columns_stand()
     ensures few { (table : Table) → length (columns_of table) ≤ 9 }
     ensures key { (table : Table) (column : ℕ) → key_of table ≡ Some column → column < length (columns_of table) }
@@ -29,6 +30,7 @@ pub fn columns_stand()
 {}
 
 /// The tag of a coded index fits beside a row number, and each of its tables has one tag.
+#[tactic(auto, using(crate::proofs::CodedLemmas::tables_few, crate::proofs::CodedLemmas::tag_narrow, crate::proofs::CodedLemmas::tag_wide, crate::proofs::CodedLemmas::one_tag))]
 pub fn tags_fit()
     ensures few { (coded : TheCoded) → length (tables_of coded) ≤ 2 ^ tag_bits coded }
     ensures narrow { (coded : TheCoded) → 2 ^ tag_bits coded * 2 ^ (16 - tag_bits coded) ≡ 2 ^ 16 }

@@ -77,7 +77,7 @@ impl Error for Unsupported {}
 pub enum BoundedError {
     /// The bytes break a rule.
     Fault(Fault),
-    /// The signatures of the file have more bytes than the budget allows.
+    /// The texts and signatures of the file have more bytes than the budget allows.
     BudgetSpent,
     /// The library is older than this crate.
     Unsupported(Unsupported),

@@ -65,7 +65,7 @@ pub fn check_root(root: &[u8]) -> Result<(), Fault> {
     result(|(), fault| unsafe { clim_sys::clim_check_root(root.as_ptr(), root.len(), fault) }, ())
 }
 
-/// Checks a file within a budget: the number of bytes of signatures that it may check at most.
+/// Checks a file within a budget: the number of bytes of texts and signatures that it may check at most.
 ///
 /// # Errors
 ///
@@ -159,7 +159,7 @@ impl<'a> View<'a> {
         result(open, CLIM_CLOSED).map(View::of)
     }
 
-    /// Opens a file within a budget: the number of bytes of signatures that it may check at most.
+    /// Opens a file within a budget: the number of bytes of texts and signatures that it may check at most.
     ///
     /// # Errors
     ///
@@ -308,6 +308,9 @@ impl<'a> View<'a> {
     }
 
     /// The rows of a table whose key is a row, in ascending order; none if the table has no key (II.22).
+    ///
+    /// They are found by binary search. Each call passes over all rows if these are not in order of their keys, as in crafted
+    /// files; to look up many keys, read the table once.
     pub fn by_key(&self, table: Table, key: Token) -> Vec<u32> {
         let mut rows = vec![0; 16];
         loop {

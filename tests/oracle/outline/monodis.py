@@ -3,7 +3,7 @@
 import re
 from collections import defaultdict
 
-from texts import ACCESSORS, CODE, flags_of, no_kinds, opening, ordered, plain, split_list, split_outside
+from texts import ACCESSORS, CODE, Quoted, flags_of, no_kinds, opening, ordered, plain, split_list, split_outside
 
 # The words that monodis has for flags.
 WORDS = {
@@ -19,23 +19,9 @@ def declared(text):
     return Reader(text).declared
 
 
-class Quoted:
-    """The quoted names of a text, each replaced by one character, so that they have no spaces and no brackets."""
-
-    FIRST = 0xF0000
-
-    def __init__(self):
-        self.names = []
-
-    def hide(self, text):
-        def keep(match):
-            self.names.append(re.sub(r"\\(.)", r"\1", match[1]))
-            return chr(self.FIRST + len(self.names) - 1)
-
-        return re.sub(r"'((?:[^'\\]|\\.)*)'", keep, text)
-
-    def show(self, text):
-        return re.sub(r"[\U000F0000-\U000FFFFD]", lambda match: self.names[ord(match[0]) - self.FIRST], text)
+def unescaped(text):
+    """A text with the characters before which monodis writes a backslash."""
+    return re.sub(r"\\(.)", r"\1", text)
 
 
 class Type:
@@ -80,7 +66,7 @@ class Reader:
     """Reads the lines one by one, and keeps which types are open."""
 
     def __init__(self, text):
-        self.quoted, self.declared = Quoted(), defaultdict(list)
+        self.quoted, self.declared = Quoted(r"'((?:[^'\\]|\\.)*)'", unescaped), defaultdict(list)
         self.lines = (self.quoted.hide(it) for it in text.splitlines())
         self.namespace, self.types = "", []
         for line in self.lines:

@@ -3,7 +3,7 @@
 import re
 from collections import defaultdict
 
-from texts import ACCESSORS, CODE, flags_of, no_kinds, opening, ordered, plain
+from texts import ACCESSORS, CODE, Quoted, flags_of, no_kinds, opening, ordered, plain
 
 
 def declared(text):
@@ -20,13 +20,15 @@ class Reader:
     """Reads the lines one by one. A type is followed by its members."""
 
     def __init__(self, text):
+        # No escape between quotes contains a quote.
+        self.quoted = Quoted("'([^']*)'", unescaped)
         self.declared, self.type, self.mapped, self.owners = defaultdict(list), "", "", {}
         for line in text.splitlines():
-            line, _, self.token = line.rpartition("  // ")
-            self.read(unescaped(line))
+            line, _, self.token = self.quoted.hide(line).rpartition("  // ")
+            self.read(line)
 
     def add(self, kind, text):
-        self.declared[self.type, kind].append(plain(text))
+        self.declared[self.quoted.show(self.type), kind].append(plain(self.quoted.show(text)))
 
     def read(self, line):
         word, _, tail = line.strip().partition(" ")
@@ -50,7 +52,7 @@ class Reader:
         flags, tail = flags_of(text)
         self.type, _, extends = tail.partition(" extends ")
         # monodis does not print the type of what belongs to no type.
-        if self.type != "<Module>":
+        if self.quoted.show(self.type) != "<Module>":
             self.add("class", f"{flags} extends {no_kinds(extends)}")
 
     def own(self, text):
@@ -100,7 +102,7 @@ class Reader:
 
     def read_import(self, line):
         library, entry, words, owner = re.match(r'\.pinvokeimpl\("(.*)" as "(.*)"(.*)\) of (.*)', line).groups()
-        self.add_of(owner, "import", f"{library} as {entry} {ordered(words)}")
+        self.add_of(owner, "import", f"{library} as {unescaped(entry)} {ordered(words)}")
 
     def read_manifest(self, line):
         self.type = ""

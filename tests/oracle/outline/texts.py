@@ -13,6 +13,28 @@ ACCESSORS = (".get", ".set", ".addon", ".removeon", ".fire", ".other")
 CODE = re.compile(r"\)\s+((?:cil|native|runtime|optil)\b[^()]*)$")
 
 
+class Quoted:
+    """The quoted names of a text, each replaced by one character, so that they have no spaces and no brackets."""
+
+    FIRST = 0xF0000
+
+    def __init__(self, pattern, unescaped):
+        """The pattern of a quoted name, whose group is what is between the quotes, and what that stands for."""
+        self.pattern, self.unescaped, self.names, self.hidden = re.compile(pattern), unescaped, [], {}
+
+    def hide(self, text):
+        return self.pattern.sub(lambda match: chr(self.FIRST + self.index(self.unescaped(match[1]))), text)
+
+    def index(self, name):
+        if name not in self.hidden:
+            self.hidden[name] = len(self.names)
+            self.names.append(name)
+        return self.hidden[name]
+
+    def show(self, text):
+        return re.sub(r"[\U000F0000-\U0010FFFD]", lambda match: self.names[ord(match[0]) - self.FIRST], text)
+
+
 def flags_of(text, other={}):
     """The words of flags that begin a text, in alphabetical order, and what follows them. Another word stands for one."""
     words, tail = [], text.strip()

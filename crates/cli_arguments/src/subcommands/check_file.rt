@@ -29,8 +29,8 @@ LAYER is one of these, with the sections whose rules it checks:
 'clim explain CODE' explains a fault. 'clim explain' lists all faults. '--where' also prints the row of
 a fault.
 
-Signature blobs may overlap, so the check of a FILE of a few kilobytes can take a long time.
-'--budget N' limits the number of signature bytes to check. A check that needs more ends with
+Texts and signature blobs may overlap, so the check of a FILE of a few kilobytes can take a long
+time. '--budget N' limits the number of their bytes to check. A check that needs more ends with
 'error: budget spent' and exit status 3.
 
 For several FILEs, or if their names are read from standard input, it prints one line for each, in the

@@ -22,14 +22,17 @@ Each line begins with a word for what follows it:
   signature  the sizes of the strong name signature and of the managed native header (ReadyToRun)
   types      the numbers of types, methods, fields and resources
   reference  the identity of an assembly that this one refers to
+  attribute  the type and the arguments of a custom attribute of the assembly, if all arguments are strings;
+             one with a value of more than 1,024 bytes has no line
 With '--bare' there are no lines from 'format' to 'signature'. Texts are escaped like those of 'clim show'.
-PublicKeyToken is computed from the key; it is '?' if the key has more than 4,096 bytes. FILE is checked
+PublicKeyToken is computed from the key; it is '?' if the key has more than 2,080 bytes. FILE is checked
 first, as by 'clim check'.
 
 The lines of each of several FILEs follow a line 'file FILE', in the order given. A FILE that breaks a rule is
 reported to standard error with its name, and the next one follows. The exit status is the greatest.
 
 With '--json' each line is a JSON object (RFC 8259) with the same values, the parts of an identity apart.
+Of an attribute it has the first argument.
 
 Examples:
   $ clim info one_module.dll

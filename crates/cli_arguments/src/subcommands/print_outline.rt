@@ -17,15 +17,17 @@ with the token of its row in a comment. First come the assembly, what it refers 
 resources and exported types. Then come the types in the order of their rows, each with its fields,
 methods, events and properties, and accessors below these. Events, properties and accessors whose rows
 are out of order follow the types. Last come interfaces, generic parameters and their constraints,
-overrides, imports and custom attributes, table by table. Texts of FILE are escaped like the texts of
-'clim show'. Names and signatures longer than 65,536 bytes are cut and end in '..'. FILE is checked
-first, as by 'clim check'.
+overrides, imports and custom attributes, table by table. A name that is no identifier is in single
+quotes, with '\\xNN' for bytes that cannot stand there. Names and signatures longer than 65,536 bytes are
+cut and end in '..'. FILE is checked first, as by 'clim check'.
 
-NAME is the full name of a type: its namespace, a dot and its name, or its name alone. It is divided at
-its last dot. A nested type has no namespace. If several types have the same names, the first one is
-printed. Eight hexadecimal digits that begin with 02 are a token instead. Only that type, its fields,
-methods, events and properties are printed. If FILE has no such type, 'no such type' is written to
-standard error, and the exit status is 1.
+NAME is the full name of a type: its namespace, a dot and its name, or its name alone. A nested type
+follows the type that encloses it and a slash, as in 'N.Outer/Inner'. Names are divided at their last
+dot. If several types have the same full name, the first one is printed. If no type has it, a NAME
+without a dot or a slash stands for the only type of this name, in any namespace or type. Eight
+hexadecimal digits that begin with 02 are a token instead. Only that type, its fields, methods, events
+and properties are printed. If FILE has no such type, 'no such type' is written to standard error, and
+the exit status is 1. If several types have the name, the first 20 of them are listed instead.
 
 '--json' prints a JSON object (RFC 8259) on each line, with the 'token' of the row, the 'directive' and
 the 'text' of the declaration. The directive is its first word. The text is the line without spaces
@@ -33,7 +35,7 @@ before it and without the comment. A field, method, event or property also has t
 
 Examples:
   $ clim outline --bare two_types.root
-  .class private auto ansi <Module>  // 02000001
+  .class private auto ansi '<Module>'  // 02000001
   .class public auto ansi beforefieldinit N.C  // 02000002
     .field private int32 a  // 04000001
     .field private int32 b  // 04000002
@@ -44,5 +46,5 @@ Examples:
     .field private int32 b  // 04000002
     .method public void N.C::M() cil managed  // 06000001
   $ clim outline --bare two_types.root 02000001
-  .class private auto ansi <Module>  // 02000001",
+  .class private auto ansi '<Module>'  // 02000001",
 };

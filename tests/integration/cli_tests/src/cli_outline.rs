@@ -78,15 +78,15 @@ fn prints_events_and_properties_below_their_type(rt: HostRuntime) -> Result<(), 
     let root = root_of_properties(rt.alloc(), [[2, 0, 1, 0], [3, 0, 2, 0]], &[GETTER])?;
     let lines = "\
 .module extern k.dll  // 1a000001
-.class private auto ansi <M>  // 02000001
+.class private auto ansi '<M>'  // 02000001
 .class public auto ansi beforefieldinit N.C  // 02000002
   .method public hidebysig specialname instance int32 N.C::get_P() cil managed  // 06000001
   .method public static pinvokeimpl void N.C::M() cil managed  // 06000002
   .event N.C N.C::E  // 14000001
   .property specialname instance int32 () N.C::P  // 17000001
     .get N.C::get_P of N.C::P  // 18000001
-.class private auto ansi \\x1bD extends N.C  // 02000003
-  .property instance int32 () \\x1bD::M  // 17000002
+.class private auto ansi '\\x1bD' extends N.C  // 02000003
+  .property instance int32 () '\\x1bD'::M  // 17000002
 .pinvokeimpl(\"k.dll\" as \"M\" platformapi) of N.C::M  // 1c000001
 .custom N.C::.ctor = (0100) of 02000002  // 0c000001
 ";
@@ -113,15 +113,15 @@ fn json_of(alloc: Global, root: &[u8]) -> Result<String, Fail> {
 fn prints_each_declaration_as_an_object(rt: HostRuntime) -> Result<(), Fail> {
     let root = root_of_properties(rt.alloc(), [[2, 0, 1, 0], [3, 0, 2, 0]], &[GETTER])?;
     let lines = r#"{"token":"1a000001","directive":".module","text":".module extern k.dll"}
-{"token":"02000001","directive":".class","text":".class private auto ansi <M>"}
+{"token":"02000001","directive":".class","text":".class private auto ansi '<M>'"}
 {"token":"02000002","directive":".class","text":".class public auto ansi beforefieldinit N.C"}
 {"token":"06000001","type":"02000002","directive":".method","text":".method public hidebysig specialname instance int32 N.C::get_P() cil managed"}
 {"token":"06000002","type":"02000002","directive":".method","text":".method public static pinvokeimpl void N.C::M() cil managed"}
 {"token":"14000001","type":"02000002","directive":".event","text":".event N.C N.C::E"}
 {"token":"17000001","type":"02000002","directive":".property","text":".property specialname instance int32 () N.C::P"}
 {"token":"18000001","directive":".get","text":".get N.C::get_P of N.C::P"}
-{"token":"02000003","directive":".class","text":".class private auto ansi \\x1bD extends N.C"}
-{"token":"17000002","type":"02000003","directive":".property","text":".property instance int32 () \\x1bD::M"}
+{"token":"02000003","directive":".class","text":".class private auto ansi '\\x1bD' extends N.C"}
+{"token":"17000002","type":"02000003","directive":".property","text":".property instance int32 () '\\x1bD'::M"}
 {"token":"1c000001","directive":".pinvokeimpl","text":".pinvokeimpl(\"k.dll\" as \"M\" platformapi) of N.C::M"}
 {"token":"0c000001","directive":".custom","text":".custom N.C::.ctor = (0100) of 02000002"}
 "#;
@@ -129,10 +129,17 @@ fn prints_each_declaration_as_an_object(rt: HostRuntime) -> Result<(), Fail> {
     Ok(())
 }
 
-/// A name of 65,536 bytes is printed whole. Of a longer one, `..` stands for the bytes after these.
+/// A name of more than 1,023 bytes is quoted. Of a text of more than 65,536 bytes, `..` stands for the bytes after these, and
+/// a quote that is open is closed.
 #[test]
 fn cuts_long_names(rt: HostRuntime) -> Result<(), Fail> {
-    for (len, end) in [(65_535, "aa  // 1a000001\n"), (65_536, "aa  // 1a000001\n"), (65_537, "aa..  // 1a000001\n")] {
+    for (len, begin, end) in [
+        (1_023, ".module extern aa", "aa  // 1a000001\n"),
+        (1_024, ".module extern 'aa", "aa'  // 1a000001\n"),
+        (65_534, ".module extern 'aa", "aa'  // 1a000001\n"),
+        (65_535, ".module extern 'aa", "aa'..  // 1a000001\n"),
+        (65_537, ".module extern 'aa", "aa'..  // 1a000001\n"),
+    ] {
         let mut heap = vec![in rt.alloc(); 0]?;
         for _ in 0..len {
             heap.push(b'a')?;
@@ -143,9 +150,64 @@ fn cuts_long_names(rt: HostRuntime) -> Result<(), Fail> {
         root.heap("#Strings", heap.as_slice())?;
         let root = root.finish()?;
         let out = outline_of(&rt, root.as_slice())?;
+        assert!(rt; out.as_str().starts_with(begin), "{len}");
         assert!(rt; out.as_str().ends_with(end), "{len}");
         assert!(rt; out.len() <= 65_600, "{len}");
     }
+    Ok(())
+}
+
+/// Names that would pass for the rest of their line: `it's\` and a line feed at 1, `T extends Evil` at 8,
+/// `f  // 04000009` at 23, `M()  // 06000009` at 38, `p, int32 q` at 55, `A { .ver 9:9:9:9 }` at 66, `9` at 85, `A.B` at 87,
+/// and `.cctor` at 91.
+const FORGED: &[u8] = b"\0it's\\\n\0T extends Evil\0f  // 04000009\0M()  // 06000009\0p, int32 q\0A { .ver 9:9:9:9 }\09\0A.B\0.cctor\0";
+
+/// A line with `Q` for each name in quotes: what a reader reads that knows quotes, but not the names.
+fn without_quotes(alloc: Global, line: &str) -> Result<String, Fail> {
+    let mut out = String::new(alloc);
+    for (index, part) in line.split('\'').enumerate() {
+        out.push_str(if index % 2 == 0 { part } else { "Q" })?;
+    }
+    Ok(out)
+}
+
+#[test]
+fn forged_names_are_quoted(rt: HostRuntime) -> Result<(), Fail> {
+    let mut root = RootBuilder::new(rt.alloc());
+    // A type of each name, of which the first has the namespace `9`, and the second a field and two methods.
+    root.row(0x02, b"\0\0\0\0\x01\0\x55\0\0\0\x01\0\x01\0")?;
+    root.row(0x02, b"\0\0\0\0\x08\0\x57\0\x04\0\x01\0\x01\0")?;
+    root.row(0x02, b"\0\0\0\0\x57\0\0\0\0\0\x02\0\x03\0")?;
+    root.row(0x04, b"\x01\0\x17\0\x06\0")?;
+    root.row(0x06, b"\0\0\0\0\0\0\x16\0\x26\0\x01\0\x01\0")?;
+    root.row(0x06, b"\0\0\0\0\0\0\x16\0\x5B\0\x01\0\x02\0")?;
+    root.row(0x08, b"\0\0\x01\0\x37\0")?;
+    root.row(0x20, b"\0\0\0\0\x01\0\0\0\0\0\0\0\0\0\0\0\0\0\x42\0\0\0")?;
+    root.heap("#Strings", FORGED)?;
+    // A static method of an integer without a result, and an integer.
+    root.heap("#Blob", b"\0\x04\0\x01\x01\x08\x02\x06\x08")?;
+    let root = root.finish()?;
+    let lines = "\
+.assembly 'A { .ver 9:9:9:9 }' { .ver 1:0:0:0 }  // 20000001
+.class private auto ansi '9'.'it\\x27s\\x5c\\x0a'  // 02000001
+.class private auto ansi A.B.'T extends Evil' extends '9'.'it\\x27s\\x5c\\x0a'  // 02000002
+  .field private int32 'f  // 04000009'  // 04000001
+  .method public static void A.B.'T extends Evil'::'M()  // 06000009'(int32 'p, int32 q') cil managed  // 06000001
+  .method public static void A.B.'T extends Evil'::.cctor(int32) cil managed  // 06000002
+.class private auto ansi 'A.B'  // 02000003
+";
+    let read = "\
+.assembly Q { .ver 1:0:0:0 }  // 20000001
+.class private auto ansi Q.Q  // 02000001
+.class private auto ansi A.B.Q extends Q.Q  // 02000002
+  .field private int32 Q  // 04000001
+  .method public static void A.B.Q::Q(int32 Q) cil managed  // 06000001
+  .method public static void A.B.Q::.cctor(int32) cil managed  // 06000002
+.class private auto ansi Q  // 02000003
+";
+    let out = outline_of(&rt, root.as_slice())?;
+    assert_eq!(rt; out.as_str(), lines);
+    assert_eq!(rt; without_quotes(rt.alloc(), out.as_str())?.as_str(), read);
     Ok(())
 }
 
@@ -164,9 +226,9 @@ fn prints_properties_below_their_type_in_any_order(rt: HostRuntime) -> Result<()
     .get N.C::get_P of N.C::M  // 18000001
 ";
     let next = "\
-.class private auto ansi \\x1bD extends N.C  // 02000003
-  .property specialname instance int32 () \\x1bD::P  // 17000001
-    .set N.C::M of \\x1bD::P  // 18000002
+.class private auto ansi '\\x1bD' extends N.C  // 02000003
+  .property specialname instance int32 () '\\x1bD'::P  // 17000001
+    .set N.C::M of '\\x1bD'::P  // 18000002
 .pinvokeimpl";
     let out = outline_of(&rt, root.as_slice())?;
     assert!(rt; out.as_str().contains(class));
@@ -213,7 +275,7 @@ fn names_parents_that_are_no_types(rt: HostRuntime) -> Result<(), Fail> {
 .module extern k.dll  // 1a000001
 .class extern private auto ansi N.C in 23000001 E  // 27000001
 .class extern private auto ansi M in 27000001 N.C  // 27000002
-.class private auto ansi <M>  // 02000001
+.class private auto ansi '<M>'  // 02000001
 .class public auto ansi beforefieldinit N.C  // 02000002
   .method public static void N.C::M() cil managed  // 06000001
 .custom N.C::M = (0100) of 02000002  // 0c000001

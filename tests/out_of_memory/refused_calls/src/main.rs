@@ -1,5 +1,5 @@
-//! Every call of `tables`, `owned_model`, `writer`, `full_names`, `comparison` and the crates of records that can run
-//! out of memory, once and, if it does, once more.
+//! Every call of `tables`, `owned_model`, `writer`, `full_names`, `declarations`, `comparison` and the crates of records
+//! that can run out of memory, once and, if it does, once more.
 
 mod compared;
 mod errors;

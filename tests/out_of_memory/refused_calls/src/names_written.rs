@@ -1,5 +1,6 @@
 use crate::errors::not_loaded;
-use full_names::{ReadCells, TableId, TextError, Token, write_full_name, write_method};
+use declarations::write_method;
+use full_names::{ReadCells, TableId, TextError, Token, write_full_name};
 use one_refusal::{Run, Stop, kept};
 use opening::open_root;
 use owned_model::{LoadError, Model, load_root};

@@ -1,10 +1,23 @@
-use Rattle.std.proofs.Common.{List, get_or, ap}
+use Rattle.std.proofs.Common.{List, Err, get_or, ap}
+use Rattle.std.proofs.lemmas.Result.{err_from_is_err_and}
 use Rattle.table_schema.specs.declared.table.TableId.{TableId}
 use Rattle.table_schema.specs.declared.table.TableId.TheVariants.{Module}
 use Rattle.checks.proofs.Broken.{row_reports}
+use Rattle.checks.proofs.SpendingTexts.{all_taken, before_taken}
 use Rattle.checks.proofs.cell_checks.check_cells.Goals as goal
 
-pub returns-in-Some : goal.returns-in-Some
-returns-in-Some c =
-    row_reports c.args.source.now c.in-Some.broken _ c.check_row.result c.in-Some.ensures
-    (ap (λ (l : List TableId). get_or l c.in-Some.broken.table_index Module) c.all.ensures.value) c.check_row.ensures
+pub returns-in_default-clause-texts : goal.returns-in_default-clause-texts
+returns-in_default-clause-texts c = λ spent.
+    absurd (all_taken c.args.source.now c.args.budget.now c.first_broken_within.new.budget (rw c.in_default.is at c.in_ok-broken.ensures.takes) spent)
+
+pub returns-in_err-check_row-clause-reports : goal.returns-in_err-check_row-clause-reports
+returns-in_err-check_row-clause-reports c =
+    let p = err_from_is_err_and c.from_residual-in_err-check_row.result c.from_residual-in_err-check_row.ensures.1 in
+    let is = rw c.in-Some.is at c.in_ok-broken.ensures.first in
+    rw (p.1, p.2) (row_reports {X = Unit {0}} c.args.source.now c.in-Some.broken _ (Err c.in_err-check_row.field-0.0) is
+    (ap (λ (l : List TableId). get_or l c.in-Some.broken.table_index Module) c.all.ensures.value) c.in_err-check_row.ensures)
+
+pub returns-in_err-check_row-clause-texts : goal.returns-in_err-check_row-clause-texts
+returns-in_err-check_row-clause-texts c = λ spent.
+    let is = rw c.in-Some.is at c.in_ok-broken.ensures.first in
+    absurd (before_taken c.args.source.now c.in-Some.broken is c.args.budget.now c.first_broken_within.new.budget (rw c.in-Some.is at c.in_ok-broken.ensures.takes) spent)

@@ -1,4 +1,4 @@
-use Rattle.std.proofs.Common.{List, length, ap, ◌∙◌, arith}
+use Rattle.std.proofs.Common.{List, length, ap, arith}
 use Rattle.table_schema.specs.declared.column.Column.{Column}
 use Rattle.metadata.specs.Rules.{rules_of_cell}
 use Rattle.checks.proofs.Columns.{meets_more, rows_stand}
@@ -6,7 +6,6 @@ use Rattle.checks.proofs.cell_checks.first_row.Goals as goal
 
 pub loop-column-preserved : goal.loop-column-preserved
 loop-column-preserved c = record {
-  texts = c.first_in_column-limit.ensures.texts ∙ c.loop-column.invariant.texts;
   first = c.first_in_column-limit.ensures.first;
   last = omega (arith, c.first_in_column-limit.ensures.last, c.loop-column.invariant.last);
   stand = meets_more (rules_of_cell c.args.source.now c.args.table) c.loop-column.limit c.first_in_column-limit.result c.loop-column.column

@@ -1,11 +1,10 @@
-use Rattle.std.proofs.Common.{◌≡◌, ℕ, ◌≤◌, ◌<◌, ◌+◌}
+use Rattle.std.proofs.Common.{ℕ, ◌≤◌, ◌<◌, ◌+◌}
 use Rattle.metadata.specs.Source.{rows_in}
 use Rattle.checks.specs.Columns.{ColumnStands}
 use Rattle.checks.proofs.cell_checks.first_row.Given as goal
 
 abbrev pub invariant-loop-column : goal.invariant-loop-column
 invariant-loop-column l = record {
-  texts : l.texts ≡ l.initial.texts;
   first : 1 ≤ l.limit;
   last : l.limit ≤ rows_in l.source.source l.table + 1;
   stand : (column : ℕ) → column < l.column → ColumnStands l.source l.table l.limit column;

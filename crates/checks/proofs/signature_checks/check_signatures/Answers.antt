@@ -5,44 +5,53 @@ use Rattle.metadata.specs.Rules.{rules_of_signatures_at, rules_of_signatures}
 use Rattle.table_schema.specs.declared.table.TableId.{TableId}
 use Rattle.table_schema.specs.declared.table.TableId.TheVariants.{Module}
 use Rattle.metadata.specs.Rows.{table_at}
-use Rattle.checks.specs.Budgets.{FailsWithin}
-use Rattle.checks.specs.Signatures.{table_bytes_at, signature_bytes}
-use Rattle.checks.proofs.Before.{before_signatures}
-use Rattle.checks.proofs.Spending.{part_spent, parts_none}
+use Rattle.checks.specs.Budgets.{IsBelow}
+use Rattle.checks.specs.Within.{FailsWithin}
+use Rattle.checks.specs.Signatures.{sum_below}
+use Rattle.checks.specs.Walks.{table_walked_at, walked_signature_bytes}
+use Rattle.checks.proofs.Spending.{part_taken, none_taken, taken_enough}
 use Rattle.checks.proofs.Within.{parts_fail}
 use Rattle.checks.proofs.signature_checks.check_signatures.Goals as goal
 
 pub loop-table_index-init : goal.loop-table_index-init
 loop-table_index-init c = record {
   hold = before_none (rules_of_signatures_at c.args.source.now) 0 0 (omega arith);
-  spends = parts_none (table_bytes_at c.args.source.now.source) c.args.budget;
+  takes = none_taken (table_walked_at c.args.source.now.source) c.args.budget;
 }
 
 pub loop-table_index-preserved : goal.loop-table_index-preserved
-unfolding rules_of_signatures_at table_bytes_at
+unfolding rules_of_signatures_at table_walked_at
 loop-table_index-preserved c =
     let here = c.args.source.now in
     let table_index = c.loop-table_index.table_index in
     let listed : get_or c.all-tables.result.now table_index Module ≡ table_at table_index = ap (λ (l : List TableId). get_or l table_index Module) c.all-tables.ensures.value in
     record {
       hold = before_more (rules_of_signatures_at here) 0 table_index c.loop-table_index.invariant.hold (rw listed at c.in_ok-check_signatures_of.ensures.reports);
-      spends = part_spent (table_bytes_at here.source) table_index c.args.budget c.loop-table_index.left c.check_signatures_of.new.budget c.loop-table_index.invariant.spends
-          (rw listed at c.in_ok-check_signatures_of.ensures.spends);
+      takes = part_taken (table_walked_at here.source) table_index c.args.budget c.loop-table_index.left c.check_signatures_of.new.budget c.loop-table_index.invariant.takes
+          (rw listed at c.in_ok-check_signatures_of.ensures.takes);
     }
 
-pub returns-in_err-check_signatures_of : goal.returns-in_err-check_signatures_of
-unfolding signature_bytes rules_of_signatures rules_of_signatures_at table_bytes_at
-returns-in_err-check_signatures_of c =
+pub returns-in_err-check_signatures_of-clause-reports : goal.returns-in_err-check_signatures_of-clause-reports
+unfolding walked_signature_bytes rules_of_signatures rules_of_signatures_at table_walked_at
+returns-in_err-check_signatures_of-clause-reports c =
     let p = err_from_is_err_and c.from_residual.result c.from_residual.ensures.1 in
     let here = c.args.source.now in
     let table_index = c.loop-table_index.table_index in
     let listed : get_or c.all-tables.result.now table_index Module ≡ table_at table_index = ap (λ (l : List TableId). get_or l table_index Module) c.all-tables.ensures.value in
     let error = c.in_err-check_signatures_of.field-0.0 in
-    let reported : FailsWithin c.loop-table_index.left (table_bytes_at here.source table_index) (rules_of_signatures_at here table_index) error =
+    let reported : FailsWithin (IsBelow c.loop-table_index.left (table_walked_at here.source table_index)) (rules_of_signatures_at here table_index) error =
     rw listed at c.in_err-check_signatures_of.ensures.reports in
-    rw (p.1, p.2) (parts_fail (rules_of_signatures_at here) (table_bytes_at here.source) table_index 38 c.args.budget c.loop-table_index.left error
-    c.loop-table_index.invariant.hold (omega (arith, c.all-tables.ensures.count)) c.loop-table_index.invariant.spends (before_signatures here) reported)
+    rw (p.1, p.2) (parts_fail (rules_of_signatures_at here) (table_walked_at here.source) table_index 38 c.args.budget c.loop-table_index.left error
+    c.loop-table_index.invariant.hold (omega (arith, c.all-tables.ensures.count)) c.loop-table_index.invariant.takes reported)
 
-pub returns : goal.returns
+pub returns-clause-reports : goal.returns-clause-reports
 unfolding rules_of_signatures
-returns c = before_all (rules_of_signatures_at c.args.source.now) 0 c.loop-table_index.table_index 38 c.loop-table_index.invariant.hold (omega (arith, c.all-tables.ensures.count))
+returns-clause-reports c = before_all (rules_of_signatures_at c.args.source.now) 0 c.loop-table_index.table_index 38 c.loop-table_index.invariant.hold (omega (arith, c.all-tables.ensures.count))
+
+pub returns-clause-enough : goal.returns-clause-enough
+unfolding walked_signature_bytes
+returns-clause-enough c =
+    let bytes = table_walked_at c.args.source.now.source in
+    let all : c.loop-table_index.table_index ≡ 38 = omega (arith, c.all-tables.ensures.count) in
+    taken_enough c.args.budget c.loop-table_index.left (sum_below bytes c.loop-table_index.table_index) (sum_below bytes 38)
+    (rw all (omega arith)) c.loop-table_index.invariant.takes

@@ -1,11 +1,14 @@
 use Rattle.std.proofs.Common.{◌≡◌, ℕ, ◌+◌, ◌-◌, List, length, Ok, sym, ap, ◌∙◌, subst, inl, inr, arith}
 use Rattle.table_schema.specs.declared.column.ColumnKind.TheVariants as kind
 use Rattle.metadata.specs.Source.{number_of}
+use Rattle.metadata.specs.Rules.{rules_of_encoding}
 use Rattle.checks.specs.Budgets.{Takes}
 use Rattle.checks.specs.Columns.{IsEncoded}
 use Rattle.checks.specs.Passed.{no_slots}
 use Rattle.checks.specs.Signatures.{blob_length}
 use Rattle.checks.specs.Walks.{Walk, number_after}
+use Rattle.packed.proofs.RuleLemmas.{none_fails}
+use Rattle.checks.proofs.Encodings.{no_signature}
 use Rattle.checks.proofs.PassedLemmas.{one_more}
 use Rattle.checks.proofs.Spending.{takes_none}
 use Rattle.checks.proofs.Sums.{blob_is}
@@ -109,3 +112,21 @@ returns-then-limit-eq1-clause-walked c =
     let source = c.args.source.now.source in
     let none = walk_none (length source.blobs) (blob_length source.blobs) (number_after source c.args.table c.args.column) in
     (0, omega arith, omega arith, omega arith, subst (λ (w : Walk). Takes c.args.budget.now c.args.budget.now w.bytes) (sym none) (takes_none c.args.budget.now))
+
+pub returns-in_default-blob-clause-broken : goal.returns-in_default-blob-clause-broken
+returns-in_default-blob-clause-broken c = λ before offset all.
+    let source = c.args.source.now.source in
+    let row = c.loop-row.row in
+    let is : c.number-number.result ≡ number_of source c.args.table row c.args.column = c.number-number.ensures ∙ c.column-numbers.ensures.numbers row (omega arith) (omega arith) in
+    none_fails (rules_of_encoding source (kind.Signature c.args.encoded) (number_of source c.args.table row c.args.column) offset) _ all
+    (no_signature source c.args.encoded (number_of source c.args.table row c.args.column) offset
+    (λ blob found signature encodes. (rw c.blobs-heap.ensures at c.in_default-blob.ensures.complete) blob (rw (← is) at found)))
+
+pub returns-in-Err-clause-broken : goal.returns-in-Err-clause-broken
+returns-in-Err-clause-broken c = λ before offset all.
+    let source = c.args.source.now.source in
+    let row = c.loop-row.row in
+    let is : c.number-number.result ≡ number_of source c.args.table row c.args.column = c.number-number.ensures ∙ c.column-numbers.ensures.numbers row (omega arith) (omega arith) in
+    let found = rw c.blobs-heap.ensures at c.in-Ok.ensures.sound in
+    none_fails (rules_of_encoding source (kind.Signature c.args.encoded) c.number-number.result offset) _
+    (rw (← is) at all) (c.in-Err.ensures c.number-number.result found offset)

@@ -1,9 +1,9 @@
-use Rattle.std.proofs.Common.{◌⊎◌, ℕ, inr, subst, sym}
+use Rattle.std.proofs.Common.{◌⊎◌, inr, subst, sym}
 use Rattle.std.specs.Prelude.{option_map}
 use Rattle.cli_input.specs.declared.opened.Input.{Input}
-use Rattle.cli_runs.specs.Embedded.{IsEmbedding, WarnsOf}
-use Rattle.cli_runs.specs.Rewritten.{IsRewriting}
-use Rattle.cli_runs.specs.Runs.{IsFileRun, IsMixed, IsWithin}
+use Rattle.cli_roots.specs.Embedded.{IsEmbedding, WarnsOf}
+use Rattle.cli_roots.specs.Rewritten.{IsRewriting}
+use Rattle.cli_roots.specs.Runs.{IsFileRun, IsMixed, IsWithin}
 use Rattle.cli.specs.Runs.{IsRunOf, MayWarn}
 use Rattle.cli.specs.declared.task.Task.{Task}
 use Rattle.cli.proofs.EmbedRuns.{embed_run}

@@ -1,9 +1,13 @@
-use Rattle.std.proofs.Common.{ℕ, List, ap, subst, sym, ◌∙◌}
+use Rattle.std.proofs.Common.{ap, subst, sym, ◌∙◌}
 use Rattle.table_schema.specs.declared.column.Column.{Column}
 use Rattle.table_schema.specs.declared.column.ColumnKind.{ColumnKind}
+use Rattle.table_schema.specs.Columns.{column_at}
+use Rattle.metadata.specs.Cell.{Cell}
+use Rattle.metadata.specs.Source.{number_of}
+use Rattle.metadata.specs.Starts.{start_of}
 use Rattle.reading.specs.Shown.{Shows}
-use Rattle.cli_cells.specs.Shown.{IsBlobCell}
-use Rattle.cli_cells.proofs.ShownLemmas.{cell_stands, signature_blob, signature_shown}
+use Rattle.cli_cells.specs.Shown.{cell_at, read_cell}
+use Rattle.cli_cells.proofs.ReadLemmas.{cell_is_read, signature_blob, some_cell}
 use Rattle.cli_cells.proofs.met_rows.cell_in_pass.Goals as goal
 
 pub blob_at-requires : goal.blob_at-requires
@@ -18,14 +22,23 @@ cell_onward-requires c = record {
   first = c.requires.first;
   last = c.requires.last;
   column = c.requires.column;
-  stands = cell_stands c.args.source.now c.args.table c.args.row c.args.column c.requires.cell c.requires.rules
-      (λ of same. c.in_default.not-Signature of (ap (λ (held : Column). held.kind) c.column_at.ensures ∙ same));
+  stands = λ none. none (some_cell c.args.source.now c.args.table c.args.row c.args.column c.requires.cell
+      (λ of same. c.in_default.not-Signature of (ap (λ (held : Column). held.kind) c.column_at.ensures ∙ same)) c.requires.rules);
 }
 
 pub returns-in-Signature-clause-cell : goal.returns-in-Signature-clause-cell
-returns-in-Signature-clause-cell c = λ held shown.
+unfolding cell_at
+returns-in-Signature-clause-cell c =
+    let source = c.args.source.now.source in
     let is = sym (ap (λ (held : Column). held.kind) c.column_at.ensures) ∙ c.in-Signature.is in
-    let t = signature_shown c.args.source.now.source c.args.table c.args.row c.args.column c.in-Signature.kind is held shown in
-    let same = c.blob_at.ensures t.0 (rw (c.number.ensures.value, c.blobs.ensures) t.1) in
-    subst (λ (k : ColumnKind). Shows k c.blob_cell.result held) (sym is)
-    (c.blob_cell.ensures held (subst (λ (blob : List ℕ). IsBlobCell c.in-Signature.kind blob held) (sym same) t.2))
+    let read = rw (c.blob_at.ensures.value, c.blobs.ensures, c.number.ensures.value) at c.blob_cell.ensures in
+    subst (λ (k : ColumnKind). Shows k c.blob_cell.result (read_cell source k (start_of source c.args.table c.args.row c.args.column) (number_of source c.args.table c.args.row c.args.column))) (sym is) read
+
+pub returns-in_default-clause-cell : goal.returns-in_default-clause-cell
+returns-in_default-clause-cell c =
+    let here = c.args.source.now in
+    let some = some_cell here c.args.table c.args.row c.args.column c.requires.cell
+    (λ of same. c.in_default.not-Signature of (ap (λ (held : Column). held.kind) c.column_at.ensures ∙ same)) c.requires.rules in
+    subst (λ (cell : Cell). Shows (column_at c.args.table c.args.column).kind c.cell_onward.result cell)
+    (cell_is_read c.numbers_are_read.ensures.unsigned_only c.tags_fit.ensures.few c.signatures_are_read.ensures.read here.source c.args.table c.args.row c.args.column some.0 some.1)
+    (c.cell_onward.ensures.cell some.0 some.1)

@@ -1,29 +1,26 @@
-use Rattle.std.proofs.Common.{◌+◌, ◌≤◌, ◌∙◌, arith, refl, subst, sym}
+use Rattle.std.proofs.Common.{◌≡◌, ◌+◌, ◌≤◌, ◌∙◌, arith, refl}
+use Rattle.std.proofs.lemmas.List.FromFn.{map-range_with_len_more}
 use Rattle.cli_cells.specs.RowLines.{row_line}
 use Rattle.cli_cells.proofs.table_lines.print_rows.Goals as goal
 
 pub loop-earlier-init : goal.loop-earlier-init
-loop-earlier-init g c = record {
-  same = refl;
-  lines = λ model later shows printed. c.rows_follow.ensures.all _ _ (row_line c.args.names model c.args.table) c.args.count printed;
-}
+loop-earlier-init g c = record { same = refl; lines = λ content shows. c.lines_follow.ensures.nothing _ }
 
 pub print_row-requires : goal.print_row-requires
 print_row-requires g c = λ k.
     let within : c.loop-earlier.earlier + 1 ≤ g.R.ShownRows.ready_rows c.args.rows.now c.args.table = omega (arith, c.loop-earlier-test.true, c.requires) in
-    ((refl, tt), (omega arith, subst (λ rows. c.loop-earlier.earlier + 1 ≤ g.R.ShownRows.ready_rows rows c.args.table) (sym c.loop-earlier.invariant.same) within))
+    ((refl, tt), (omega arith, rw c.loop-earlier.invariant.same within))
 
 pub loop-earlier-preserved : goal.loop-earlier-preserved
 loop-earlier-preserved g c = record {
   same = c.print_row.ensures.same ∙ c.loop-earlier.invariant.same;
-  lines = λ model later shows printed.
-      let here = subst (λ rows. g.R.ShownRows.shows rows model) (sym c.loop-earlier.invariant.same) shows in
-      c.loop-earlier.invariant.lines model later shows
-      (c.rows_follow.ensures.more _ _ _ (row_line c.args.names model c.args.table) c.loop-earlier.earlier c.args.count c.loop-earlier-test.true
-      (c.print_row.ensures.line model here) printed);
+  lines = λ content shows.
+      let earlier = c.loop-earlier.earlier in
+      rw (map-range_with_len_more (row_line c.args.names content c.args.table) 1 earlier (earlier + 1) (omega arith))
+      (c.lines_follow.ensures.more _ _ _ _ _ (c.loop-earlier.invariant.lines content shows) (c.print_row.ensures.line content (rw c.loop-earlier.invariant.same shows)));
 }
 
 pub returns-clause-lines : goal.returns-clause-lines
-returns-clause-lines g c = λ model shows.
-    c.loop-earlier.invariant.lines model c.loop-earlier.out shows
-    (c.rows_follow.ensures.none c.loop-earlier.out (row_line c.args.names model c.args.table) c.loop-earlier.earlier c.args.count c.loop-earlier-test.false)
+returns-clause-lines g c = λ content shows.
+    let all : c.args.count ≡ c.loop-earlier.earlier = omega arith in
+    rw all (c.loop-earlier.invariant.lines content shows)

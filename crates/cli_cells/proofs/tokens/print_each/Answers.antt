@@ -1,8 +1,8 @@
-use Rattle.std.proofs.Common.{◌+◌, ◌++◌, ◌∷◌, [], ℕ, List, All, drop, get_or, refl, subst, sym, take}
-use Rattle.std.proofs.lemmas.List.{take_all}
-use Rattle.std.proofs.lemmas.List.Elements.{All-nil}
-use Rattle.cli_cells.specs.TokenLines.{ArePrinted, AreTokenLines, IsNamed}
-use Rattle.cli_cells.proofs.TokenLemmas.{lines_appended, one_more, split_at, take_more}
+use Rattle.std.proofs.Common.{◌+◌, ◌++◌, ◌∷◌, ◌∙◌, [], ℕ, List, ap, drop, get_or, refl, sym, take}
+use Rattle.std.proofs.lemmas.List.{drop_more, take-append-drop, take_all, take_more}
+use Rattle.std.proofs.lemmas.List.Elements.{All-more, All-nil}
+use Rattle.cli_cells.specs.TokenLines.{IsNamed}
+use Rattle.cli_cells.proofs.TokenLemmas.{lines_appended}
 use Rattle.cli_cells.proofs.tokens.print_each.Goals as goal
 
 pub loop-number-init : goal.loop-number-init
@@ -14,14 +14,13 @@ loop-number-preserved g c =
     let index = c.loop-number.number-index in
     let number = get_or numbers index 0 in
     let lt = c.loop-number-test.true in record {
-      there = one_more numbers index 0 lt (IsNamed c.args.view.now) c.loop-number.invariant.there c.in-Some.ensures.named;
+      there = All-more (IsNamed c.args.view.now) numbers index 0 lt c.loop-number.invariant.there c.in-Some.ensures.named;
       printed = λ model is.
           let before = c.loop-number.invariant.printed model is in
           let line = c.in-Some.ensures.line model is in
           let lines = before.0 ++ line.0 ∷ [] in (
             lines,
-            subst (λ (ns : List ℕ). AreTokenLines model ns lines) (sym (take_more numbers index 0 lt))
-                (lines_appended model (take index numbers) number before.0 line.0 before.1 line.1),
+            rw (take_more numbers index 0 lt) (lines_appended model (take index numbers) number before.0 line.0 before.1 line.1),
             c.lines_follow.ensures.more _ _ _ _ _ before.2 line.2,
           );
     }
@@ -33,17 +32,14 @@ returns-in-None-clause-stopped g c =
       take index numbers,
       drop (index + 1) numbers,
       get_or numbers index 0,
-      split_at numbers index 0 c.loop-number-test.true,
+      sym (take-append-drop index numbers) ∙ ap (λ (ns : List ℕ). take index numbers ++ ns) (drop_more numbers index 0 c.loop-number-test.true),
       c.loop-number.invariant.there,
       c.in-None.ensures.none.0,
-      subst (λ out. ArePrinted c.args.view.now c.args.out.now out (take index numbers)) (sym c.in-None.ensures.none.1) c.loop-number.invariant.printed,
+      rw c.in-None.ensures.none.1 c.loop-number.invariant.printed,
     )
 
 pub returns-clause-there : goal.returns-clause-there
-returns-clause-there g c =
-    subst (λ (ns : List ℕ). All (IsNamed c.args.view.now) ns) (take_all c.loop-number.number-index c.args.numbers.now c.loop-number-test.false) c.loop-number.invariant.there
+returns-clause-there g c = rw (take_all c.loop-number.number-index c.args.numbers.now c.loop-number-test.false) at c.loop-number.invariant.there
 
 pub returns-clause-printed : goal.returns-clause-printed
-returns-clause-printed g c =
-    subst (λ (ns : List ℕ). ArePrinted c.args.view.now c.args.out.now c.loop-number.out ns)
-    (take_all c.loop-number.number-index c.args.numbers.now c.loop-number-test.false) c.loop-number.invariant.printed
+returns-clause-printed g c = rw (take_all c.loop-number.number-index c.args.numbers.now c.loop-number-test.false) at c.loop-number.invariant.printed

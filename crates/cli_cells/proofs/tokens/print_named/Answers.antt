@@ -1,7 +1,9 @@
-use Rattle.std.proofs.Common.{◌≤◌, List, ℕ, inl, inr, refl, subst, sym}
+use Rattle.std.proofs.Common.{◌≤◌, inl, inr, refl}
+use Rattle.metadata.specs.Metadata.{count_in}
 use Rattle.metadata.specs.Model.{IsModel}
 use Rattle.opening.specs.Views.{row_count}
 use Rattle.cli_cells.specs.RowLines.{row_line}
+use Rattle.cli_cells.specs.Shown.{content_of}
 use Rattle.cli_cells.specs.declared.row_lines.Names.TheVariants.{Hidden}
 use Rattle.cli_cells.proofs.TokenLemmas.{on_some}
 use Rattle.cli_cells.proofs.tokens.print_named.Goals as goal
@@ -15,9 +17,9 @@ pub returns-clause-line : goal.returns-clause-line
 unfolding row_count
 returns-clause-line g c = λ model is.
     let token = c.in_ok-token.token in
-    let here : IsModel c.new-cells.result model = subst (λ (root : List ℕ). IsModel root model) (sym c.new-cells.ensures) is in
-    let within = subst (λ (n : ℕ). token.row ≤ n) (sym (c.models_are_read.ensures.count c.args.view.now model is token.table)) c.in_ok-token.ensures.sound.2 in (
-      row_line Hidden model token.table token.row,
+    let here : IsModel c.new-cells.result model = rw c.new-cells.ensures is in
+    let within : token.row ≤ count_in model token.table = rw (c.models_are_read.ensures.count c.args.view.now model is token.table) c.in_ok-token.ensures.sound.2 in (
+      row_line Hidden (content_of model) token.table token.row,
       inr (c.if-number-eq-USER_STRINGS.false, (token, c.in_ok-token.ensures.sound.0, (c.in_ok-token.ensures.sound.1, within), refl)),
-      c.print_row.ensures.line model here,
+      c.print_row.ensures.line (content_of model) (model, here, refl),
     )

@@ -1,23 +1,24 @@
-use Rattle.std.proofs.Common.{List, inl, inr, subst, sym}
+use Rattle.std.proofs.Common.{[], ◌∙◌, inl, inr, refl, subst}
 use Rattle.packed.proofs.RuleLemmas.{none_fails}
 use Rattle.metadata.specs.SourceAt.{SourceAt}
-use Rattle.cli_input.specs.Checked.{rules_before}
-use Rattle.cli_lines.specs.Lines.{Part}
+use Rattle.checks.specs.Broken.{IsFirstBroken}
+use Rattle.cli_input.specs.Checked.{rules_before, source_in}
 use Rattle.cli_lines.specs.Printed.{Prints}
-use Rattle.cli_cells.specs.Before.{AreRowLines}
+use Rattle.cli_cells.specs.Before.{lines_before}
+use Rattle.cli_cells.specs.Shown.{content_at}
 use Rattle.cli_cells.proofs.until_fault.print_before.Goals as goal
 
 pub returns-in-Ok : goal.returns-in-Ok
-returns-in-Ok g c = λ lines are.
-    elim are [
-      | inl rows ↦ c.print_rows_before.ensures lines
-          (subst (λ (here : SourceAt). AreRowLines c.args.names here c.args.tables.now lines) (sym c.in-Ok.ensures.source) rows.1)
-      | inr none ↦ absurd (none.0 c.in-Ok.ensures.reports)
-    ]
+returns-in-Ok g c =
+    let rows = c.new-rows.result in
+    let is = c.in-Ok.ensures.source in
+    let lines = λ (here : SourceAt). lines_before c.args.names here.source rows.broken c.args.tables.now in (
+      lines (source_in c.args.input c.args.bytes.now),
+      inl (c.in-Ok.ensures.reports, (rows.broken, subst (λ (here : SourceAt). IsFirstBroken here rows.broken) is c.new-rows.ensures.broken, refl)),
+      subst (λ (here : SourceAt). Prints c.args.out.now c.print_tables.new.out (lines here)) (c.new-rows.ensures.here ∙ is)
+          (c.print_tables.ensures (content_at rows.here.source) refl),
+    )
 
 pub returns-in-Err : goal.returns-in-Err
-returns-in-Err g c = λ lines are.
-    elim are [
-      | inl rows ↦ absurd (none_fails (rules_before c.args.input c.args.bytes.now) c.in-Err.field-0 rows.0 c.in-Err.ensures.reports)
-      | inr none ↦ subst (λ (all : List (List Part)). Prints c.args.out.now c.args.out.now all) (sym none.1) (c.lines_follow.ensures.nothing _)
-    ]
+returns-in-Err g c =
+    ([], inr ((λ all. none_fails (rules_before c.args.input c.args.bytes.now) c.in-Err.field-0 all c.in-Err.ensures.reports), refl), c.lines_follow.ensures.nothing _)

@@ -1,5 +1,6 @@
-use Rattle.std.proofs.Common.{◌∷◌, [], ◌∙◌, List, ℕ, ap, length, subst, sym}
+use Rattle.std.proofs.Common.{◌∷◌, [], ◌∙◌, List, ℕ, ap, length, refl, subst, sym}
 use Rattle.metadata.specs.Model.{IsModel}
+use Rattle.cli_cells.specs.Shown.{content_of}
 use Rattle.cli_lines.specs.Lines as line
 use Rattle.cli_lines.specs.Lines.{Part, field, note}
 use Rattle.cli_lines.specs.Printed.{Adds}
@@ -31,4 +32,5 @@ returns-in-RowCount-clause-part g c = λ model is.
 pub returns-in-Cell-clause-part : goal.returns-in-Cell-clause-part
 unfolding value_part
 returns-in-Cell-clause-part g c = λ model is.
-    subst (λ (part : Part). Adds c.args.out.now c.print_cell.new.out (part ∷ [])) (ap (value_part c.args.name model) (sym c.in-Cell.is)) (c.print_cell.ensures.part model is)
+    subst (λ (part : Part). Adds c.args.out.now c.print_cell.new.out (part ∷ [])) (ap (value_part c.args.name model) (sym c.in-Cell.is))
+    (c.print_cell.ensures.part (content_of model) (model, is, refl))

@@ -3,7 +3,7 @@ use Rattle.metadata.specs.Metadata.{cell_in}
 use Rattle.cli_lines.specs.Lines.{Part, word, field, number, plain, text}
 use Rattle.cli_lines.specs.Printed.{Prints}
 use Rattle.cli_lines.specs.declared.names.Name.TheVariants as name
-use Rattle.cli_outline.specs.Parts.{bytes_of, number_of, text_of}
+use Rattle.cli_declarations.specs.Parts.{bytes_of, number_of, text_of}
 use Rattle.cli_info.specs.Identities.{culture_text, first_cell, identity_line, table_of, token_text}
 use Rattle.cli_info.proofs.identities.print_identity.Goals as goal
 

@@ -4,7 +4,7 @@ use Rattle.table_schema.specs.declared.table.TableId.TheVariants.{Module}
 use Rattle.metadata.specs.Metadata.{cell_in, count_in}
 use Rattle.cli_lines.specs.Lines.{Part}
 use Rattle.cli_lines.specs.Printed.{Prints}
-use Rattle.cli_outline.specs.Parts.{text_of}
+use Rattle.cli_declarations.specs.Parts.{text_of}
 use Rattle.cli_info.specs.InfoLines.{guid_of, module_line}
 use Rattle.cli_info.proofs.info.print_module.Goals as goal
 

@@ -11,7 +11,7 @@ use Rattle.navigation.specs.Linked.{table_of as linked_table}
 use Rattle.cli_outline.specs.declared.mapped.Mapped.{Mapped}
 use Rattle.cli_outline.specs.declared.mapped.Mapped.TheVariants.{Events, Properties}
 use Rattle.cli_outline.specs.Outline.{link_of, list_of, mapped_rows, type_rows}
-use Rattle.cli_outline.specs.Parts.{token_at}
+use Rattle.cli_declarations.specs.Parts.{token_at}
 use Rattle.cli_outline.proofs.PrintedLemmas.{found_left, none_left, rows_are}
 use Rattle.cli_outline.proofs.mapped.print_mapped.Goals as goal
 

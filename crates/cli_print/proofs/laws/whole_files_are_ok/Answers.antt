@@ -1,5 +1,7 @@
-use Rattle.cli_print.proofs.VerdictLemmas.{ok_is_a_line}
+use Rattle.std.proofs.Common.{refl}
+use Rattle.cli_lines.specs.Lines.{line_from, report_text}
 use Rattle.cli_print.proofs.laws.whole_files_are_ok.Goals as goal
 
 pub returns : goal.returns
-returns c = ok_is_a_line
+unfolding line_from report_text
+returns c = refl

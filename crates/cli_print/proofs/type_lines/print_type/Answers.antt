@@ -1,23 +1,18 @@
-use Rattle.std.proofs.Common.{◌≤◌, ◌∷◌, [], ◌∙◌, List, ℕ, sym, subst, arith}
+use Rattle.std.proofs.Common.{◌≤◌, ◌∙◌, arith}
 use Rattle.table_schema.specs.declared.table.TableId.TheVariants.{TypeDef, Field, MethodDef}
 use Rattle.metadata.specs.Metadata.{count_in}
 use Rattle.metadata.specs.Model.{IsModel}
 use Rattle.opening.specs.Views.{row_count}
-use Rattle.cli_lines.specs.Lines.{Part}
-use Rattle.cli_lines.specs.Printed.{Prints}
 use Rattle.cli_print.proofs.TypeLemmas.{run_counted}
-use Rattle.cli_print.specs.TypeLines.{parts_of_type}
 use Rattle.cli_print.proofs.type_lines.print_type.Goals as goal
 
 pub returns-clause-line : goal.returns-clause-line
 unfolding row_count
 returns-clause-line g c = λ model is.
-    let here : IsModel c.view-view.result.now model = subst (λ (root : List ℕ). IsModel root model) (sym c.view-view.ensures.view) is in
+    let here : IsModel c.view-view.result.now model = rw c.view-view.ensures.view is in
     let row = c.args.row in
     let within : row ≤ count_in model TypeDef = omega (arith, c.requires.last, c.models_are_read.ensures.count c.args.cells.now model is TypeDef) in
-    let namespace = c.text_of-namespace.ensures model here in
-    let name = c.text_of-name.ensures model here in
+    let again : IsModel c.run.new.self model = rw c.run.ensures.same is in
     let fields = c.count_of-fields.ensures ∙ run_counted model 4 Field row c.run.result.start c.run.result.«end» within (c.run.ensures.run model is) in
-    let methods = c.count_of-methods.ensures ∙ run_counted model 5 MethodDef row c.run-2.result.start c.run-2.result.«end» within (c.run-2.ensures.run model (subst (λ (root : List ℕ). IsModel root model) (sym c.run.ensures.same) is)) in
-    subst (λ (line : List Part). Prints c.args.out.now c.print_parts.new.out (line ∷ []))
-    (λ i. parts_of_type (record { table = TypeDef; row = row }) (namespace i) (name i) (fields i) (methods i)) c.print_parts.ensures
+    let methods = c.count_of-methods.ensures ∙ run_counted model 5 MethodDef row c.run-2.result.start c.run-2.result.«end» within (c.run-2.ensures.run model again) in
+    rw (← c.text_of-namespace.ensures model here, ← c.text_of-name.ensures model here, ← fields, ← methods) c.print_parts.ensures

@@ -1,5 +1,7 @@
-use Rattle.std.proofs.Common.{arith}
-use Rattle.cli_regions.proofs.LoopLemmas.{fields_end, fields_left, more_left, none_left}
+use Rattle.std.proofs.Common.{ap, arith, map}
+use Rattle.std.proofs.lemmas.List.{drop_all, drop_more}
+use Rattle.cli_regions.specs.Fields.{fields_from, seen_field}
+use Rattle.cli_regions.proofs.LoopLemmas.{more_left, none_left}
 use Rattle.cli_regions.proofs.fields.find_fields.Goals as goal
 
 pub loop-field-init : goal.loop-field-init
@@ -9,11 +11,11 @@ pub loop-field-preserved : goal.loop-field-preserved
 loop-field-preserved c =
     let loop = c.loop-field in
     record {
-      left = more_left _ _ loop.invariant.left (fields_left c.args.word.now loop.next loop.field-index c.args.fields.now _ c.loop-field-test.true) c.look.ensures;
+      left = more_left _ _ loop.invariant.left (ap (λ left. fields_from c.args.word.now loop.next (map seen_field left)) (drop_more c.args.fields.now loop.field-index _ c.loop-field-test.true)) c.look.ensures;
       low = omega (arith, loop.invariant.low);
     }
 
 pub returns : goal.returns
 returns c =
     let loop = c.loop-field in
-    none_left _ loop.invariant.left (fields_end c.args.word.now loop.next loop.field-index c.args.fields.now c.loop-field-test.false)
+    none_left _ loop.invariant.left (ap (λ left. fields_from c.args.word.now loop.next (map seen_field left)) (drop_all loop.field-index c.args.fields.now c.loop-field-test.false))

@@ -4,4 +4,4 @@ use Rattle.cli_regions.proofs.pe_headers.find_file_header.Goals as goal
 
 pub returns : goal.returns
 unfolding file_header_regions
-returns c = rw (← c.file_header_fields-fields.ensures) (and_then c.look.ensures c.find_header.ensures)
+returns c = and_then c.look.ensures c.find_header.ensures

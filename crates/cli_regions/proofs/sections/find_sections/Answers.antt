@@ -1,5 +1,7 @@
-use Rattle.std.proofs.Common.{◌≡◌, ◌<◌, ◌≤◌, ◌-◌, ap, arith}
+use Rattle.std.proofs.Common.{◌≡◌, ◌∙◌, ◌<◌, ◌≤◌, ◌+◌, ◌-◌, ap, arith}
 use Rattle.std.specs.List.{flat_map, range_with_len}
+use Rattle.packed.specs.Number.{little_endian}
+use Rattle.packed.specs.Offsets.{part}
 use Rattle.pe.specs.Headers.{section_count}
 use Rattle.cli_regions.specs.Kept.{part_regions}
 use Rattle.cli_regions.proofs.LoopLemmas.{more_left, none_left, range_end, range_next}
@@ -16,12 +18,14 @@ pub loop-index-preserved : goal.loop-index-preserved
 loop-index-preserved c =
     let i = c.loop-index.index in
     let n = section_count c.args.file.now in
-    let lt : i < n = omega (arith, c.loop-index-test.true, c.section_count-index-end.ensures) in
+    let count : c.u16_at-count.result ≡ n = c.u16_at-count.ensures.value ∙ ap (λ k. little_endian (part c.args.file.now (k + 6) 2)) c.requires.signature in
+    let lt : i < n = omega (arith, c.loop-index-test.true, count) in
     more_left _ _ c.loop-index.invariant (ap (flat_map (part_regions c.args.part c.args.file.now)) (range_next i n lt)) c.find_part.ensures
 
 pub returns : goal.returns
 returns c =
     let i = c.loop-index.index in
     let n = section_count c.args.file.now in
-    let le : n ≤ i = omega (arith, c.loop-index-test.false, c.section_count-index-end.ensures) in
+    let count : c.u16_at-count.result ≡ n = c.u16_at-count.ensures.value ∙ ap (λ k. little_endian (part c.args.file.now (k + 6) 2)) c.requires.signature in
+    let le : n ≤ i = omega (arith, c.loop-index-test.false, count) in
     none_left _ c.loop-index.invariant (ap (flat_map (part_regions c.args.part c.args.file.now)) (range_end i n le))

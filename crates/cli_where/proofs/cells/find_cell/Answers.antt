@@ -1,33 +1,35 @@
-use Rattle.std.proofs.Common.{◌+◌, ◌∷◌, [], None, Some, refl, subst}
+use Rattle.std.proofs.Common.{◌+◌, ◌≤◌, ◌∷◌, [], None, Some, arith, refl}
 use Rattle.cli_regions.specs.Regions.{cell as is_cell}
-use Rattle.cli_where.specs.Cells.{AreCellsAt, IsCellAt}
+use Rattle.cli_where.specs.Cells.{AreCellsAt}
 use Rattle.cli_where.proofs.FindLemmas.{finds_joined, finds_none}
 use Rattle.cli_where.proofs.cells.find_cell.Goals as goal
 
+pub returns-then-offset-start : goal.returns-then-offset-start
+returns-then-offset-start c =
+    finds_none _ c.args.found.now (None, (λ table row column from cell. absurd (omega (arith, from, c.if-offset-start.true, c.offset-offset.ensures))), refl)
+
 pub cell_start-requires-clause-first : goal.cell_start-requires-clause-first
-cell_start-requires-clause-first c = c.in-Some.ensures.1.first
+cell_start-requires-clause-first c = c.in-Some.ensures.sound.first
 
 pub cell_start-requires-clause-last : goal.cell_start-requires-clause-last
-cell_start-requires-clause-last c = c.in-Some.ensures.1.last
+cell_start-requires-clause-last c = c.in-Some.ensures.sound.last
 
 pub cell_start-requires-clause-column : goal.cell_start-requires-clause-column
-cell_start-requires-clause-column c = c.in-Some.ensures.1.listed
+cell_start-requires-clause-column c = c.in-Some.ensures.sound.listed
 
 pub cell_width-requires : goal.cell_width-requires
-cell_width-requires c = c.in-Some.ensures.1.listed
+cell_width-requires c = c.in-Some.ensures.sound.listed
 
 pub returns-in-Some : goal.returns-in-Some
 returns-in-Some c =
-    let sizes = c.args.layout.now in
-    let cell = c.in-Some.cell in
-    finds_joined {AreFound = AreCellsAt sizes c.args.start} (
-      Some cell,
-      subst (λ offset. IsCellAt sizes c.args.start offset (Some cell)) c.offset.ensures c.in-Some.ensures,
-      (λ i. record { start = c.args.start + c.cell_start.ensures.value i; size = c.cell_width.ensures.value i; what = is_cell cell } ∷ []),
+    let from : c.args.start ≤ c.args.found.now.offset = omega (arith, c.if-offset-start.false, c.offset-offset.ensures) in
+    finds_joined {AreFound = AreCellsAt c.args.layout.now c.args.start} (
+      Some c.in-Some.cell,
+      (from, rw c.offset-offset.ensures at c.in-Some.ensures.sound),
+      (λ i. record { start = c.args.start + c.cell_start.ensures.value i; size = c.cell_width.ensures.value i; what = is_cell c.in-Some.cell } ∷ []),
     )
     c.keep.ensures
 
 pub returns-in-None : goal.returns-in-None
 returns-in-None c =
-    finds_none (AreCellsAt c.args.layout.now c.args.start) c.args.found.now
-    (None, subst (λ offset. IsCellAt c.args.layout.now c.args.start offset None) c.offset.ensures c.in-None.ensures, refl)
+    finds_none _ c.args.found.now (None, (λ table row column from cell. c.in-None.ensures.none table row column (rw c.offset-offset.ensures cell)), refl)

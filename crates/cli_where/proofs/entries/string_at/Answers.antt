@@ -1,18 +1,16 @@
-use Rattle.std.proofs.Common.{◌≤◌, ◌-◌, ◌+◌, arith, subst, drop, take, Option}
-use Rattle.cli_where.specs.declared.entries.Run.{Run}
-use Rattle.cli_where.specs.Kept.{IsRunOf, heap_of}
+use Rattle.std.proofs.Common.{◌≤◌, ◌-◌, ◌+◌, arith, drop, take}
 use Rattle.cli_where.proofs.EntryLemmas.{before_run, has_from, has_so, run_string, run_string_long}
 use Rattle.cli_where.proofs.entries.string_at.Goals as goal
 use Rattle.cli_where.proofs.entries.string_at.Goals.{then-index-eq0-via-then-index-eq0, then-index-eq0-via-else-index-eq0+then-index-run, then-index-eq0-via-else-index-eq0+else-index-run+then-target-start}
 
 pub returns-in_err-run-clause-none : goal.returns-in_err-run-clause-none
 returns-in_err-run-clause-none c =
-    rw c.from_residual.ensures (subst (λ (run : Option Run). IsRunOf (heap_of c.args.target.now.texts) c.args.target.now.offset run) c.in_err-run.was c.requires.run c.args.index)
+    rw c.from_residual.ensures ((rw c.in_err-run.was at c.requires.run) c.args.index)
 
 pub returns-then-index-eq0-clause-none : goal.returns-then-index-eq0-clause-none
 returns-then-index-eq0-clause-none c = λ start size is has.
     let range = has_from start size c.args.target.now.offset has in
-    let found = subst (λ (run : Option Run). IsRunOf (heap_of c.args.target.now.texts) c.args.target.now.offset run) c.in_ok-run.was c.requires.run in
+    let found = rw c.in_ok-run.was at c.requires.run in
     let some = is.some in
     let from = is.from in
     let long = is.long in
@@ -26,14 +24,14 @@ returns-then-index-eq0-clause-none c = λ start size is has.
 
 pub overflow_sub-result : goal.overflow_sub-result
 overflow_sub-result c =
-    let found = subst (λ (run : Option Run). IsRunOf (heap_of c.args.target.now.texts) c.args.target.now.offset run) c.in_ok-run.was c.requires.run in
+    let found = rw c.in_ok-run.was at c.requires.run in
     let at = found.1 in
     let upto = found.2.upto in
     omega (arith, at, upto, c.if-target-start.false, c.from.ensures)
 
 pub returns-clause-sound : goal.returns-clause-sound
 returns-clause-sound c =
-    let found = subst (λ (run : Option Run). IsRunOf (heap_of c.args.target.now.texts) c.args.target.now.offset run) c.in_ok-run.was c.requires.run in
+    let found = rw c.in_ok-run.was at c.requires.run in
     let heap = c.args.target.now.texts.bytes.now in
     let run = c.in_ok-run.run' in
     let index = c.args.index in

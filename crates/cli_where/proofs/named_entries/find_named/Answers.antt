@@ -9,9 +9,10 @@ returns-then-most-eq0 c = finds_no_more c.args.most _ c.args.found.now c.if-most
 
 pub returns-in-Some : goal.returns-in-Some
 returns-in-Some c =
-    let sound = c.in-Some.ensures.sound in
+    let sound = rw (c.kind_of-kind.ensures, c.number.ensures.value) at c.in-Some.ensures.sound in
     finds_one c.args.most c.args.cell _ _ _ c.if-most-eq0.false
-    (sound.0, sound.1, ap (λ heap. entry heap c.args.cell) (c.heap_named.ensures ∙ ap heap_named c.kind_of.ensures)) c.keep.ensures
+    (sound.0, sound.1, ap (λ heap. entry heap c.args.cell) (c.heap_named.ensures ∙ ap heap_named c.kind_of-kind.ensures)) c.keep.ensures
 
 pub returns-in-None : goal.returns-in-None
-returns-in-None c = finds_none_of c.args.most c.args.cell c.args.found.now c.in-None.ensures.none
+returns-in-None c =
+    finds_none_of c.args.most c.args.cell c.args.found.now (rw (c.kind_of-kind.ensures, c.number.ensures.value) at c.in-None.ensures.none)

@@ -21,7 +21,4 @@ loop-structure-preserved g c =
 pub returns : goal.returns
 returns g c =
     let loop = c.loop-structure in
-    let all = c.args.structures.now in
-    let lines = λ (left : List Structure). map structure_line (map seen left) in
-    c.reports_are_completed.ensures.all _ _ _
-    (subst (λ (left : List Structure). Completes c.args.out.now loop.out (lines left) (lines all)) (drop_all loop.structure-index all c.loop-structure-test.false) loop.invariant)
+    c.reports_are_completed.ensures.all _ _ _ (rw (drop_all loop.structure-index c.args.structures.now c.loop-structure-test.false) at loop.invariant)

@@ -1,9 +1,5 @@
-use Rattle.std.proofs.Common.{◌+◌, [], ◌∷◌, ℕ, arith, map, refl, subst}
-use Rattle.cli_regions.specs.Kept.{Adds}
-use Rattle.cli_regions.specs.Regions.{user_string}
+use Rattle.std.proofs.Common.{[], ◌∷◌, arith, refl}
 use Rattle.cli_regions.proofs.SearchLemmas.{adds_none, and_then}
-use Rattle.cli_where.specs.Kept.{heap_of}
-use Rattle.cli_where.specs.UserStrings.{user_region, user_token}
 use Rattle.cli_where.proofs.UserLemmas.{no_entry_past}
 use Rattle.cli_where.proofs.user_strings.find_in_padded.Goals as goal
 
@@ -19,9 +15,7 @@ loop-turn-preserved c =
       turns = omega (arith, c.loop-turn.invariant.turns, found.later);
       left = λ later remainder are adds.
           c.loop-turn.invariant.left later (record { offset = c.loop-turn.index; string = entry.string; next = entry.next } ∷ remainder) (found.token, refl, found.sound, are)
-          (subst (λ (size : ℕ). Adds c.loop-turn.found later
-          (record { start = c.args.heap.now.start + c.loop-turn.index; size = size; what = user_string (user_token c.loop-turn.index) } ∷ map (user_region (heap_of c.args.heap.now)) remainder))
-          c.size_within.ensures (and_then c.look_at.ensures adds));
+          (and_then (rw c.size_within.ensures at c.look_at.ensures) adds);
     }
 
 pub returns-in-None : goal.returns-in-None

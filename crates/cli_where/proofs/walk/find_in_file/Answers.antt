@@ -1,30 +1,26 @@
 use Rattle.std.proofs.Common.{◌∙◌, ap, subst, sym}
-use Rattle.packed.specs.Rule.{AllHold}
+use Rattle.packed.proofs.RuleLemmas.{none_fails}
 use Rattle.pe.specs.Headers.{image_of}
 use Rattle.pe.specs.Image.{Image}
 use Rattle.pe.specs.Rules.{rules_of_image}
 use Rattle.cli_regions.specs.Kept.{Finds}
 use Rattle.cli_regions.specs.PeHeaders.{image_regions}
 use Rattle.cli_regions.proofs.SearchLemmas.{said_as}
-use Rattle.cli_where.specs.Where.{AreInImage, AreOf, Then}
+use Rattle.cli_where.specs.Where.{AreInImage}
 use Rattle.cli_where.proofs.FindLemmas.{adds_find, broken_layer, finds_then, whole_layer}
-use Rattle.cli_where.proofs.WalkLemmas.{not_all}
 use Rattle.cli_where.proofs.walk.find_in_file.Goals as goal
 
 pub returns-in_default : goal.returns-in_default
-returns-in_default c =
-    let file = c.args.file.now in
-    broken_layer (rules_of_image file) (Then (AreOf (image_regions file)) (AreInImage c.args.reach (image_of file))) c.args.found.now
-    (not_all (rules_of_image file) c.in_default.field-0 c.in_default.ensures.first_error)
+returns-in_default c = broken_layer (rules_of_image c.args.file.now) c.args.found.now (λ all. none_fails (rules_of_image c.args.file.now) c.in_default.field-0 all c.in_default.ensures.first_error)
 
 pub find_pe-requires-clause-rules : goal.find_pe-requires-clause-rules
-find_pe-requires-clause-rules c = subst (λ (image : Image). AllHold (rules_of_image image.bytes)) (sym c.in-Ok.ensures.all.1) c.in-Ok.ensures.all.0
+find_pe-requires-clause-rules c = rw c.in-Ok.ensures.all.1 c.in-Ok.ensures.all.0
 
 pub find_pe-requires-clause-image : goal.find_pe-requires-clause-image
 find_pe-requires-clause-image c = c.in-Ok.ensures.all.1 ∙ ap (λ (image : Image). image_of image.bytes) (sym c.in-Ok.ensures.all.1)
 
 pub find_in_image-requires : goal.find_in_image-requires
-find_in_image-requires c = (subst (λ (image : Image). AllHold (rules_of_image image.bytes)) (sym c.in-Ok.ensures.all.1) c.in-Ok.ensures.all.0).0
+find_in_image-requires c = rw c.in-Ok.ensures.all.1 c.in-Ok.ensures.all.0.0
 
 pub returns : goal.returns
 returns c =

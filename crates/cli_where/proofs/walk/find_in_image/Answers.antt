@@ -1,38 +1,33 @@
-use Rattle.std.proofs.Common.{◌∙◌, List, ℕ, ap, arith, subst, sym}
+use Rattle.std.proofs.Common.{◌∙◌, List, ℕ, ap, arith, subst}
 use Rattle.cli_header.specs.Rules.{rules_of_cli_header}
-use Rattle.cli_header.specs.Said.{header_of}
 use Rattle.cli_header.specs.declared.header.CliHeader.{CliHeader}
 use Rattle.metadata.specs.Streams.{root_in}
-use Rattle.opening.specs.Heads.{IsWithin}
+use Rattle.packed.proofs.RuleLemmas.{none_fails}
 use Rattle.cli_regions.specs.Files.{cli_regions}
 use Rattle.cli_regions.specs.Kept.{Finds}
 use Rattle.cli_regions.proofs.SearchLemmas.{said_as}
-use Rattle.cli_where.specs.Where.{AreInRoot, AreOf, Then}
+use Rattle.cli_where.specs.Where.{AreInRoot}
 use Rattle.cli_where.proofs.FindLemmas.{adds_find, broken_layer, finds_then, whole_layer}
-use Rattle.cli_where.proofs.WalkLemmas.{not_all}
 use Rattle.cli_where.proofs.walk.find_in_image.Goals as goal
 
 pub returns-in_default : goal.returns-in_default
 returns-in_default c =
-    let pe = c.args.pe.now in
-    broken_layer (rules_of_cli_header pe) (Then (AreOf (cli_regions pe (header_of pe))) (AreInRoot c.args.reach (header_of pe).root.start (root_in pe.bytes (header_of pe)))) c.args.found.now
-    (not_all (rules_of_cli_header pe) c.in_default.field-0 c.in_default.ensures.first_error)
+    broken_layer (rules_of_cli_header c.args.pe.now) c.args.found.now (λ all. none_fails (rules_of_cli_header c.args.pe.now) c.in_default.field-0 all c.in_default.ensures.first_error)
 
 pub find_cli-requires : goal.find_cli-requires
 find_cli-requires c = omega (arith, c.in-Ok.ensures.sound.place.within, c.requires)
 
 pub root_of-root-requires : goal.root_of-root-requires
-root_of-root-requires c = subst (λ (file : List ℕ). IsWithin c.in-Ok.header file) (sym c.bytes.ensures) c.in-Ok.ensures.root
+root_of-root-requires c = rw c.bytes.ensures c.in-Ok.ensures.root
 
 pub find_in_root-requires : goal.find_in_root-requires
 find_in_root-requires c = omega (arith, c.in-Ok.ensures.root.0, c.in-Ok.ensures.root.1, c.requires)
 
 pub returns : goal.returns
 returns c =
-    let pe = c.args.pe.now in
-    let reach = c.args.reach in
     let said = c.in-Ok.ensures.all.1 in
     let root = c.root_of-root.ensures ∙ ap (λ (file : List ℕ). root_in file c.in-Ok.header) c.bytes.ensures in
-    whole_layer (rules_of_cli_header pe) c.in-Ok.ensures.all.0 (finds_then (adds_find (said_as c.find_cli.ensures (ap (λ (h : CliHeader). cli_regions pe h) said)))
-    (subst (λ (h : CliHeader). Finds (AreInRoot reach h.root.start (root_in pe.bytes h)) c.find_cli.new.found c.find_in_root.new.found) said
-    (subst (λ (bytes : List ℕ). Finds (AreInRoot reach c.in-Ok.header.root.start bytes) c.find_cli.new.found c.find_in_root.new.found) root c.find_in_root.ensures)))
+    let walked = rw root at c.find_in_root.ensures in
+    whole_layer (rules_of_cli_header c.args.pe.now) c.in-Ok.ensures.all.0
+    (finds_then (adds_find (said_as c.find_cli.ensures (ap (λ (h : CliHeader). cli_regions c.args.pe.now h) said)))
+    (subst (λ (h : CliHeader). Finds (AreInRoot c.args.reach h.root.start (root_in c.args.pe.now.bytes h)) c.find_cli.new.found c.find_in_root.new.found) said walked))

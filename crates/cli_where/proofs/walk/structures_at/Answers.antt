@@ -1,21 +1,17 @@
-use Rattle.std.proofs.Common.{◌≡◌, ◌∙◌, ℕ, Option, None, Some, List, [], ◌++◌, ap, subst, sym}
+use Rattle.std.proofs.Common.{◌≡◌, ◌∙◌, ℕ, Some, List, [], ◌++◌, ap, subst, sym}
 use Rattle.std.proofs.lemmas.Result.{IfOk-weaker}
 use Rattle.cli_regions.specs.Kept.{Finds, Searched}
 use Rattle.cli_regions.specs.Regions.{Region}
 use Rattle.cli_where.specs.Where.{AreStructuresAt}
 use Rattle.cli_where.proofs.walk.structures_at.Goals as goal
 
-regions_in : Option (List Region) → List Region
-regions_in None = []
-regions_in (Some found) = found
-
 -- what a search has found that began with nothing
 all_found : (AreFound : ℕ → List Region → Type 0) (offset : ℕ) (start now : Searched) (found : List Region) → start ≡ record { offset = offset; found = Some [] }
     → Finds AreFound start now → now.found ≡ Some found → AreFound offset found
-unfolding regions_in
 all_found AreFound offset start now found began finds is =
     let at = finds.found found is in
-    let none : at.0 ≡ [] = ap regions_in (sym at.1 ∙ ap (λ (s : Searched). s.found) began) in
+    let some : Some at.0 ≡ Some [] = sym at.1 ∙ ap (λ (s : Searched). s.found) began in
+    let none : at.0 ≡ [] = cc in
     subst (λ (n : ℕ). AreFound n found) (ap (λ (s : Searched). s.offset) began)
     (subst (λ (xs : List Region). AreFound start.offset xs) (sym (at.4 ∙ ap (λ xs. xs ++ at.2) none)) at.3)
 

@@ -3,5 +3,6 @@ use Rattle.comparison.proofs.same_in_row.known_in_row.Goals as goal
 
 pub returns : goal.returns
 returns c =
-    known_is c.args.left.now c.args.right.now c.args.table c.args.compared.now c.args.row c.args.cell_index c.numbers_of-left_number.result.0 c.numbers_of-left_number.result.1
-    c.known.result c.known.ensures c.requires.compared c.requires.first c.requires.left c.requires.right c.numbers_of-left_number.ensures.left c.numbers_of-left_number.ensures.right
+    known_is c.args.left.now c.args.right.now c.args.table c.args.row c.args.cell_index c.numbers_of-left_number.result.0 c.numbers_of-left_number.result.1
+    c.known.result (c.known.ensures c.args.left.now c.args.right.now c.args.table c.requires.compared) c.requires.first c.requires.left c.requires.right
+    c.numbers_of-left_number.ensures.left c.numbers_of-left_number.ensures.right

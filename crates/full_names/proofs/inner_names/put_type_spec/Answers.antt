@@ -1,12 +1,18 @@
-use Rattle.std.proofs.Common.{◌≡◌, refl, sym, ◌∙◌, subst}
+use Rattle.std.proofs.Common.{◌≡◌, None, refl, sym, ◌∙◌, subst}
+use Rattle.full_names.specs.TextEnd.{IsWhole}
 use Rattle.full_names.specs.Texts.{IsPieceText, IsInnerName}
-use Rattle.full_names.proofs.PieceLemmas.{received, when_taken}
+use Rattle.full_names.proofs.NameExists.{inner_name, pieces_text}
+use Rattle.full_names.proofs.PlainPieces.{ArePlain, text_is_plain}
+use Rattle.full_names.proofs.SinkLemmas.{received}
 use Rattle.full_names.proofs.inner_names.put_type_spec.Goals as goal
 
 pub returns : goal.returns
-returns g c = λ model shown signature encodes.
-    when_taken c.write_signature.result (λ taken.
-    let all = received _ g.W.Write.write_str_gives (λ s. s.writer.now) (λ s. (s.source.now ≡ c.args.sink.now.source.now) × (s.writer.ghost_name ≡ c.args.sink.now.writer.ghost_name)) (IsPieceText (IsInnerName model))
-    (λ s p t call kept. let gave = call refl in ((gave.0 ∙ kept.0, gave.1 ∙ kept.1), gave.2 model (subst (λ x. g.S.ReadMetadata.shows x model) (sym kept.0) shown)))
-    (c.write_signature.ensures.text signature encodes) taken (refl, refl) in
-    (all.0.1, all.1))
+returns g c = λ model shown signature encodes none whole.
+    let sink = c.args.sink.now in
+    let valid = c.holds_one.ensures.valid model shown in
+    received _ g.W.Write.write_str_gives (λ s. s.writer.now) (λ s. (s.ended ≡ None) × (s.source.now ≡ sink.source.now) × (s.writer.ghost_name ≡ sink.writer.ghost_name))
+    (λ s. s.writer.ghost_name ≡ sink.writer.ghost_name) (λ s. IsWhole s.ended) (IsPieceText (IsInnerName model)) ArePlain (λ p ps fit. fit.1)
+    (pieces_text model valid (IsInnerName model) (inner_name model valid)) (λ s kept. kept.2)
+    (λ s p t call kept. let gave = call.0 refl in ((gave.0 ∙ kept.0, gave.1 ∙ kept.1, gave.2 ∙ kept.2), gave.3 model (subst (λ x. g.S.ReadMetadata.shows x model) (sym kept.1) shown)))
+    (λ s p t call kept done. let gave = call.1 refl done in (gave.0 ∙ kept.2, gave.1))
+    (c.write_encoded.ensures.text signature encodes) (text_is_plain signature) (none, refl, refl) whole

@@ -2,8 +2,10 @@ use Rattle.std.proofs.Common.{◌≤◌, ◌++◌, List, ℕ, refl, subst, sym}
 use Rattle.std.specs.Prelude.{codes}
 use Rattle.table_schema.specs.declared.table.TableId.{TableId}
 use Rattle.table_schema.specs.declared.table.TableId.TheVariants.{MemberRef}
+use Rattle.full_names.specs.declared.quoted.NameKind.TheVariants.{Dotted, Member}
+use Rattle.full_names.specs.Quoted.{name_text}
 use Rattle.full_names.specs.RowNames.{IsNameIn, IsNameUnder}
-use Rattle.full_names.specs.Texts.{IsMethodName}
+use Rattle.full_names.specs.Texts.{IsMemberName}
 use Rattle.full_names.proofs.PieceLemmas.{on_wrote}
 use Rattle.full_names.proofs.RowNameLemmas.{named_under}
 use Rattle.full_names.proofs.row_names.write_member_ref.Goals as goal
@@ -18,7 +20,7 @@ pub returns-in-MethodDef : goal.returns-in-MethodDef
 returns-in-MethodDef g c = λ model shown.
     let parent = c.parent-parent.result in
     let own = c.text-name.result.now in
-    on_wrote g.W.Write.write_str_gives (IsMethodName model c.type_token-class.result own) (IsNameIn model MemberRef c.args.row) _ _ c.write_method_name.result (c.write_method_name.ensures model shown)
+    on_wrote g.W.Write.write_str_gives (IsMemberName model c.type_token-class.result own) (IsNameIn model MemberRef c.args.row) _ _ c.write_member_name.result (c.write_member_name.ensures model shown)
     (λ text is. (
       parent,
       c.parent-parent.ensures.parent model shown,
@@ -32,15 +34,15 @@ pub returns-in_ok-write_global_name-in-ModuleRef : goal.returns-in_ok-write_glob
 returns-in_ok-write_global_name-in-ModuleRef g c = λ model shown.
     let parent = c.parent-parent.result in
     let own = c.text-name.result.now in
-    let module_name = c.text-module.result.now in
-    let text : List ℕ = module_name ++ (codes "::" ++ own) in (
+    let module_name = name_text Dotted c.text-module.result.now in
+    let text : List ℕ = module_name ++ (codes "::" ++ name_text Member own) in (
       text,
       (
         parent,
         c.parent-parent.ensures.parent model shown,
         own,
         c.text-name.ensures model shown,
-        subst (λ (t : TableId). IsNameUnder model t parent.row own text) (sym c.in-ModuleRef.is) (module_name, c.text-module.ensures model shown, refl),
+        subst (λ (t : TableId). IsNameUnder model t parent.row own text) (sym c.in-ModuleRef.is) (module_name, (c.text-module.result.now, c.text-module.ensures model shown, refl), refl),
       ),
       c.in_ok-write_global_name-in-ModuleRef.ensures,
     )
@@ -49,5 +51,5 @@ pub returns-in_default : goal.returns-in_default
 returns-in_default g c = λ model shown.
     let parent = c.parent-parent.result in
     let own = c.text-name.result.now in
-    on_wrote g.W.Write.write_str_gives (IsMethodName model parent own) (IsNameIn model MemberRef c.args.row) _ _ c.write_method_name-in_default.result (c.write_method_name-in_default.ensures model shown)
+    on_wrote g.W.Write.write_str_gives (IsMemberName model parent own) (IsNameIn model MemberRef c.args.row) _ _ c.write_member_name-in_default.result (c.write_member_name-in_default.ensures model shown)
     (λ text is. (parent, c.parent-parent.ensures.parent model shown, own, c.text-name.ensures model shown, named_under model parent.table parent.row own text c.in_default.not-MethodDef c.in_default.not-ModuleRef is))

@@ -15,11 +15,5 @@ read c = record {
   count = c.models_are_read.ensures.count;
 }
 
-pub returns-clause-met : goal.returns-clause-met
-returns-clause-met c = file_met (read c)
-
-pub returns-clause-sound : goal.returns-clause-sound
-returns-clause-sound c = file_found (read c)
-
-pub returns-clause-one : goal.returns-clause-one
-returns-clause-one c = file_one (read c)
+pub returns : goal.returns
+returns c = record { met = file_met (read c); sound = file_found (read c); one = file_one (read c) }

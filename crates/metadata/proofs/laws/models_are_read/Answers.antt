@@ -1,4 +1,7 @@
-use Rattle.metadata.specs.Metadata.{rows_of}
+use Rattle.std.proofs.Common.{List, ℕ}
+use Rattle.table_schema.specs.declared.table.TableId.{TableId}
+use Rattle.metadata.specs.Metadata.{Metadata, rows_of}
+use Rattle.metadata.specs.Model.{IsModel}
 use Rattle.metadata.specs.SourceAt.{source_of}
 use Rattle.metadata.proofs.ModelLemmas.{AreRead, version_read, user_read, stream_read, table_read, rows_count, rows_long, rows_cell, tables_long, ordered_read, owned_read, nested_read}
 use Rattle.metadata.proofs.laws.models_are_read.Goals as goal
@@ -15,32 +18,18 @@ read c = record {
   columns = record { column = c.cells_have_columns.ensures.column; cell = c.cells_have_columns.ensures.cell };
 }
 
-pub returns-clause-version : goal.returns-clause-version
-returns-clause-version c = version_read (read c)
-
-pub returns-clause-user : goal.returns-clause-user
-returns-clause-user c = user_read (read c)
-
-pub returns-clause-stream : goal.returns-clause-stream
-returns-clause-stream c = stream_read (read c)
-
-pub returns-clause-count : goal.returns-clause-count
-returns-clause-count c = λ root model is table.
+pub returns : goal.returns
+returns c =
+    let known = read c in
     let stand = c.tables_stand.ensures in
-    rows_count (source_of root) table (rows_of model table) (table_read (read c) root model is stand.table_index stand.stand table)
-
-pub returns-clause-cells : goal.returns-clause-cells
-returns-clause-cells c = λ root model is table.
-    let stand = c.tables_stand.ensures in
-    rows_cell (source_of root) table (rows_of model table) (table_read (read c) root model is stand.table_index stand.stand table)
-
-pub returns-clause-tables : goal.returns-clause-tables
-returns-clause-tables c = λ root model is. tables_long (read c) root model is
-
-pub returns-clause-long : goal.returns-clause-long
-returns-clause-long c = λ root model is table.
-    let stand = c.tables_stand.ensures in
-    rows_long (source_of root) table (rows_of model table) (table_read (read c) root model is stand.table_index stand.stand table)
-
-pub returns-clause-rules : goal.returns-clause-rules
-returns-clause-rules c = λ root model is. (ordered_read (read c) root model is, owned_read (read c) root model is, nested_read (read c) root model is)
+    let rows = λ (root : List ℕ) (model : Metadata) (is : IsModel root model) (table : TableId). table_read known root model is stand.table_index stand.stand table in
+    record {
+      version = version_read known;
+      user = user_read known;
+      stream = stream_read known;
+      count = λ root model is table. rows_count (source_of root) table (rows_of model table) (rows root model is table);
+      cells = λ root model is table. rows_cell (source_of root) table (rows_of model table) (rows root model is table);
+      tables = tables_long known;
+      long = λ root model is table. rows_long (source_of root) table (rows_of model table) (rows root model is table);
+      rules = λ root model is. (ordered_read known root model is, owned_read known root model is, nested_read known root model is);
+    }

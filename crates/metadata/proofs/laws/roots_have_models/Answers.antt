@@ -23,11 +23,5 @@ one c = record {
   signature = c.signatures_are_read.ensures.one;
 }
 
-pub returns-clause-met : goal.returns-clause-met
-returns-clause-met c = λ offset root model is. model_met (read c) root model is offset
-
-pub returns-clause-sound : goal.returns-clause-sound
-returns-clause-sound c = model_found (read c)
-
-pub returns-clause-one : goal.returns-clause-one
-returns-clause-one c = model_one (read c) (one c)
+pub returns : goal.returns
+returns c = record { met = λ offset root model is. model_met (read c) root model is offset; sound = model_found (read c); one = model_one (read c) (one c) }

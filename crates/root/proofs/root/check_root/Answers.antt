@@ -1,10 +1,8 @@
-use Rattle.std.proofs.Common.{ℕ, sym, subst}
 use Rattle.std.proofs.lemmas.Result.{err_from_is_err_and}
 use Rattle.packed.specs.Rule.{rules_from}
 use Rattle.packed.proofs.RuleLemmas.{all_append, fails_prefix, fails_back}
 use Rattle.root.specs.Rules.{rules_of_root_header, rules_of_header, rules_of_tables}
 use Rattle.root.specs.Fields.{header_count}
-use Rattle.root.specs.Shown.{AllShow}
 use Rattle.root.proofs.WalkLemmas.{shows_from_all}
 use Rattle.root.proofs.RootLemmas.{within_from_all}
 use Rattle.root.proofs.root.check_root.Goals as goal
@@ -31,11 +29,10 @@ returns-in_err-check_tables-clause-reports c =
 
 pub invariant_of-result : goal.invariant_of-result
 invariant_of-result c =
-    let Shown : ℕ → Type 0 = λ n. AllShow c.args.bytes.now n in
     record {
       small = c.in_ok-root_header.ensures.small;
       start = c.in_ok-root_header.ensures.start;
-      shows = subst Shown (sym c.in_ok-root_header.ensures.count) (shows_from_all c.args.bytes.now (header_count c.args.bytes.now) c.in_ok-check_headers.ensures.reports);
+      shows = rw (c.in_ok-root_header.ensures.count) (shows_from_all c.args.bytes.now (header_count c.args.bytes.now) c.in_ok-check_headers.ensures.reports);
       within = within_from_all c.args.bytes.now _ (header_count c.args.bytes.now) c.in_ok-root_header.ensures.count c.in_ok-check_headers.ensures.reports;
     }
 

@@ -1,8 +1,8 @@
-use Rattle.std.proofs.Common.{arith, ◌≡◌, ◌<◌, ◌-◌, ◌+◌, [], List, ℕ, ap, refl}
+use Rattle.std.proofs.Common.{rules, arith, ◌≡◌, ◌<◌, ◌-◌, ◌+◌, [], ◌∷◌, List, ℕ, ap, refl}
 use Rattle.std.specs.Prelude.{codes}
-use Rattle.sig_text.specs.SignatureText.{Piece}
-use Rattle.sig_text.specs.Shown.{core_shown, before}
-use Rattle.sig_text.proofs.Chains.{pieces_first, start_left, end_left}
+use Rattle.sig_text.specs.SignatureText.{Piece, param_name}
+use Rattle.sig_text.specs.Shown.{core_shown, before, named_slots_shown}
+use Rattle.sig_text.proofs.Chains.{pass_on, pieces_first, start_left, end_left, shut_left}
 use Rattle.sig_text.proofs.ShapeShown.{named_more, named_end}
 use Rattle.sig_text.proofs.declared.params.Goals as goal
 
@@ -15,9 +15,14 @@ loop-done-preserved g c =
     let less : c.args.count - (c.loop-done.done + 1) ≡ c.args.count - c.loop-done.done - 1 = omega arith in
     record {
       goes = λ new after end h. c.loop-done.invariant.goes new after end
-          (rw (named_more (core_shown 128) (before (codes ", ") c.loop-done.done) (c.loop-done.done + 1) (c.args.count - c.loop-done.done) c.loop-done.done c.loop-done.tail.now lt, ← c.slot-tail.ensures.tail, ← less)
-          (pieces_first c.put_if.ensures (pieces_first c.slot-tail.ensures.wrote (pieces_first c.put_param_name.ensures h))));
+          (rw (named_more (core_shown 128) (before (codes ", ") c.loop-done.done) (c.loop-done.done + 1) (c.args.count - c.loop-done.done) c.loop-done.done c.loop-done.tail.now lt, ← less)
+          (pieces_first c.put_if.ensures (pieces_first c.slot-tail.ensures.wrote
+          (pass_on (λ (b : List ℕ). (param_name (c.loop-done.done + 1) ∷ named_slots_shown (core_shown 128) (before (codes ", ") (c.loop-done.done + 1)) (c.loop-done.done + 1 + 1) (c.args.count - (c.loop-done.done + 1)) b, [])) c.slot-tail.ensures
+          (pieces_first c.put_param_name.ensures h)))));
     }
+
+pub returns-then-not-taken : goal.returns-then-not-taken
+returns-then-not-taken g c = (shut_left [] (search rules) c.loop-done.invariant).wrote
 
 pub returns : goal.returns
 returns g c =

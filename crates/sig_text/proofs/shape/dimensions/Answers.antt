@@ -1,7 +1,7 @@
-use Rattle.std.proofs.Common.{arith, ◌≡◌, ◌<◌, ◌-◌, ◌+◌, refl}
+use Rattle.std.proofs.Common.{rules, arith, ◌≡◌, ◌<◌, ◌-◌, ◌+◌, refl}
 use Rattle.std.specs.Prelude.{codes}
 use Rattle.sig_text.specs.Shown.{before}
-use Rattle.sig_text.proofs.Chains.{pieces_first, start_left, end_left}
+use Rattle.sig_text.proofs.Chains.{pieces_first, start_left, end_left, shut_left}
 use Rattle.sig_text.proofs.ShapeShown.{dimensions_next, dimensions_end}
 use Rattle.sig_text.proofs.shape.dimensions.Goals as goal
 
@@ -17,6 +17,9 @@ loop-done-preserved g c =
           (rw (dimensions_next (before (codes ",") c.loop-done.done) (c.args.count - c.loop-done.done) c.loop-done.done (c.loop-done.sizes_left, c.loop-done.size_bytes.now) (c.loop-done.low_left, c.loop-done.low_bytes.now) lt, ← c.next_size-size.ensures, ← c.next_low-low.ensures, ← less)
           (pieces_first c.put_if.ensures (pieces_first c.dimension.ensures h)));
     }
+
+pub returns-then-not-taken : goal.returns-then-not-taken
+returns-then-not-taken g c = shut_left c.loop-done.low_bytes.now (search rules) c.loop-done.invariant
 
 pub returns : goal.returns
 returns g c =

@@ -1,8 +1,9 @@
-use Rattle.std.proofs.Common.{rules, arith, ◌≡◌, ◌<◌, ◌+◌, ◌-◌, eqb, true, false, refl}
+use Rattle.std.proofs.Common.{rules, arith, ◌≡◌, ◌<◌, ◌+◌, ◌-◌, eqb, true, false, refl, ℕ, List, ◌∷◌, ◌++◌}
 use Rattle.std.specs.Prelude.{codes}
 use Rattle.std.proofs.lemmas.Bool.{ne_eqb}
-use Rattle.sig_text.specs.Shown.{slot_shown, content_shown, by_ref_shown, core_shown, code_shown, around_shown, enclosed_shown, instance_shown, method_shown, before}
-use Rattle.sig_text.proofs.Chains.{silent, and_then, pieces_only, pieces_first, pieces_last, in_turn, start_left, end_left}
+use Rattle.sig_text.specs.Shown.{slot_shown, content_shown, by_ref_shown, core_shown, code_shown, around_shown, enclosed_shown, instance_shown, listed_shown, method_shown, after_element_shown, number_or, before}
+use Rattle.sig_text.specs.SignatureText.{word, arity_text}
+use Rattle.sig_text.proofs.Chains.{silent, and_then, pieces_only, pieces_first, pieces_last, in_turn, start_left, end_left, shut_left}
 use Rattle.sig_text.proofs.Arms.{core_none, core_element, core_code}
 use Rattle.sig_text.proofs.ShapeShown.{listed_next, listed_end}
 use Rattle.sig_text.proofs.types.+text.Goals as goal
@@ -71,7 +72,7 @@ coded-returns-in_default g t c =
 
 pub around-returns : goal.around-returns
 unfolding around_shown
-around-returns g t c = rw (← c.slot-tail.ensures.tail) (in_turn c.slot-tail.ensures c.after_element.ensures)
+around-returns g t c = in_turn (after_element_shown c.args.code) c.slot-tail.ensures c.after_element.ensures
 
 pub listed-loop-done-init : goal.listed-loop-done-init
 listed-loop-done-init g t c = let e : c.args.count - 0 ≡ c.args.count = omega arith in start_left (rw e refl)
@@ -82,8 +83,8 @@ listed-loop-done-preserved g t c =
     let less : c.args.count - (c.loop-done.done + 1) ≡ c.args.count - c.loop-done.done - 1 = omega arith in
     record {
       goes = λ new after end h. c.loop-done.invariant.goes new after end
-          (rw (listed_next (core_shown c.args.depth) (before (codes ", ") c.loop-done.done) (c.args.count - c.loop-done.done) c.loop-done.done c.loop-done.tail.now lt, ← c.sentinel-found.ensures.behind, ← c.sentinel-found.ensures.marked, ← c.slot-tail.ensures.tail, ← less)
-          (pieces_first c.put_if.ensures (pieces_first c.put_if-in-loop-done.ensures (in_turn c.slot-tail.ensures h))));
+          (rw (listed_next (core_shown c.args.depth) (before (codes ", ") c.loop-done.done) (c.args.count - c.loop-done.done) c.loop-done.done c.loop-done.tail.now lt, ← c.sentinel-found.ensures.behind, ← c.sentinel-found.ensures.marked, ← less)
+          (pieces_first c.put_if.ensures (pieces_first c.put_if-in-loop-done.ensures (in_turn (listed_shown (core_shown c.args.depth) (before (codes ", ") (c.loop-done.done + 1)) (c.args.count - (c.loop-done.done + 1))) c.slot-tail.ensures h))));
     }
 
 pub listed-returns : goal.listed-returns
@@ -91,16 +92,25 @@ listed-returns g t c =
     let e : c.args.count - c.loop-done.done ≡ 0 = omega arith in
     end_left (listed_end (core_shown c.args.depth) (before (codes ", ") c.loop-done.done) (c.args.count - c.loop-done.done) c.loop-done.tail.now e) c.loop-done.invariant
 
+pub listed-returns-then-not-taken : goal.listed-returns-then-not-taken
+listed-returns-then-not-taken g t c = shut_left c.loop-done.tail.now (search rules) c.loop-done.invariant
+
 pub enclosed-returns : goal.enclosed-returns
 unfolding enclosed_shown
 enclosed-returns g t c = pieces_first c.put_text.ensures (pieces_last c.listed-tail.ensures c.put_text-2.ensures)
 
 pub instance-returns : goal.instance-returns
 unfolding instance_shown
-instance-returns g t c = rw (← c.byte-code.ensures, ← c.named-tail.ensures.tail, ← c.number-count.ensures) (in_turn c.named-tail.ensures c.enclosed.ensures)
+instance-returns g t c =
+    let core = core_shown c.args.depth in
+    rw (← c.byte-code.ensures)
+    (in_turn (λ (b : List ℕ). enclosed_shown core (codes "<") (codes ">") (number_or b).0 (number_or b).1) c.named-tail.ensures (rw (← c.number-count.ensures) c.enclosed.ensures))
 
 pub method-returns : goal.method-returns
 unfolding method_shown
 method-returns g t c =
-    rw (← c.byte-code.ensures, ← c.generic-generic.ensures, ← c.number-count.ensures, ← c.slot-tail.ensures.tail)
-    (pieces_first c.put_text.ensures (pieces_first c.convention.ensures (in_turn c.slot-tail.ensures (pieces_first c.put_text-2.ensures (pieces_first c.arity.ensures c.enclosed.ensures)))))
+    let params = enclosed_shown (core_shown c.args.depth) (codes "(") (codes ")") c.number-count.result.0 in
+    rw (← c.byte-code.ensures, ← c.generic-generic.ensures, ← c.number-count.ensures)
+    (pieces_first c.put_text.ensures (pieces_first c.convention.ensures
+    (in_turn (λ (b : List ℕ). (word (codes " *") ∷ (arity_text c.generic-generic.result.0 ++ (params b).0), (params b).1)) c.slot-tail.ensures
+    (pieces_first c.put_text-2.ensures (pieces_first c.arity.ensures c.enclosed.ensures)))))

@@ -1,7 +1,14 @@
-use Rattle.sig_text.specs.Shown.{property_shown}
+use Rattle.std.proofs.Common.{ℕ, List, ◌∷◌}
+use Rattle.std.specs.Prelude.{codes}
+use Rattle.sig_text.specs.SignatureText.{word}
+use Rattle.sig_text.specs.Shown.{core_shown, enclosed_shown, property_shown}
 use Rattle.sig_text.proofs.Chains.{pieces_first, in_turn}
 use Rattle.sig_text.proofs.whole.property.Goals as goal
 
 pub returns : goal.returns
 unfolding property_shown
-returns g c = rw (← c.number-count.ensures, ← c.slot-tail.ensures.tail) (pieces_first c.put_if.ensures (in_turn c.slot-tail.ensures (pieces_first c.put_text.ensures c.enclosed.ensures)))
+returns g c =
+    let params = enclosed_shown (core_shown 128) (codes "(") (codes ")") c.number-count.result.0 in
+    rw (← c.number-count.ensures)
+    (pieces_first c.put_if.ensures
+    (in_turn (λ (b : List ℕ). (word (codes " ") ∷ (params b).0, (params b).1)) c.slot-tail.ensures (pieces_first c.put_text.ensures c.enclosed.ensures)))

@@ -11,11 +11,9 @@ known c = record {
   signed_again = c.numbers_are_read.ensures.signed_only;
 }
 
-pub returns-clause-read : goal.returns-clause-read
-returns-clause-read c = encoded_read (known c)
-
-pub returns-clause-encoded : goal.returns-clause-encoded
-returns-clause-encoded c = λ kind signature bytes each limit read. read_encoded (known c) kind signature bytes (IsBytes-from_each bytes each) limit read
-
-pub returns-clause-one : goal.returns-clause-one
-returns-clause-one c = one_signature (known c)
+pub returns : goal.returns
+returns c = record {
+  read = encoded_read (known c);
+  encoded = λ kind signature bytes each limit read. read_encoded (known c) kind signature bytes (IsBytes-from_each bytes each) limit read;
+  one = one_signature (known c);
+}

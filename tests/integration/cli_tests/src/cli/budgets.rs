@@ -1,5 +1,5 @@
 use crate::runs::answer;
-use sample_roots::{TWO_TYPES, image, write_at};
+use sample_roots::{RootBuilder, TWO_TYPES, image, write_at};
 use std::fs;
 use std::test::Fail;
 
@@ -22,6 +22,26 @@ fn checks_within_a_budget(rt: HostRuntime) -> Result<(), Fail> {
         );
     }
     fs::remove_file(&rt, "budget.root")?;
+    Ok(())
+}
+
+/// A name in `#Strings` that is not UTF-8 counts a byte, since a 1024th of that heap has one byte.
+#[test]
+fn checks_texts_within_a_budget(rt: HostRuntime) -> Result<(), Fail> {
+    let mut root = RootBuilder::new(rt.alloc());
+    root.row(0x1A, b"\x03\0")?;
+    root.row(0x1A, b"\x03\0")?;
+    root.heap("#Strings", b"\0\xFF\0abc\0")?;
+    fs::write(&rt, "texts.root", root.finish()?.as_slice())?;
+    for (budget, want) in [
+        ("1", (3, "", "error: budget spent\n")),
+        ("2", (0, "ok\n", "")),
+    ] {
+        let words = ["clim", "check", "--bare", "--budget", budget, "texts.root"];
+        let (status, out, err) = answer(&rt, &words)?;
+        assert_eq!(rt; (status, out.as_str(), err.as_str()), want, "within {budget}");
+    }
+    fs::remove_file(&rt, "texts.root")?;
     Ok(())
 }
 

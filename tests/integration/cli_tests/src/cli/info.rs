@@ -54,7 +54,7 @@ const IDENTITIES_JSON: &str = "\
 {\"version\":\"v4.0.30319\"}
 ";
 
-/// A root with an assembly that refers to others: with a token, with a key, without both, and with a token of 4,097 bytes.
+/// A root with an assembly that refers to others: with a token, with a key, without both, and with a token of 2,081 bytes.
 fn root_of_identities(alloc: Global) -> Result<Vec<u8>, AllocError> {
     let mut root = RootBuilder::new(alloc);
     root.row(0x20, b"\x04\x80\0\0\x01\0\x02\0\x03\0\x04\0\0\0\0\0\x01\0\x01\0\0\0")?;
@@ -63,8 +63,8 @@ fn root_of_identities(alloc: Global) -> Result<Vec<u8>, AllocError> {
     root.row(0x23, b"\0\0\0\0\0\0\0\0\x01\0\0\0\0\0\x03\0\0\0\0\0")?;
     root.row(0x23, b"\0\0\0\0\0\0\0\0\0\0\0\0\x05\0\x03\0\0\0\0\0")?;
     root.heap("#Strings", b"\0A\0B\0de\0")?;
-    let mut blobs = Vec::from_slice(alloc, b"\0\x03\x01\x02\x03\x90\x01".as_slice())?;
-    blobs.extend_from_slice([7; 4097].as_slice())?;
+    let mut blobs = Vec::from_slice(alloc, b"\0\x03\x01\x02\x03\x88\x21".as_slice())?;
+    blobs.extend_from_slice([7; 2081].as_slice())?;
     root.heap("#Blob", blobs.as_slice())?;
     root.finish()
 }
@@ -83,6 +83,53 @@ fn prints_identities(rt: HostRuntime) -> Result<(), Fail> {
     for file in ["ids.root", "info.root"] {
         fs::remove_file(&rt, file)?;
     }
+    Ok(())
+}
+
+const ATTRIBUTES: &str = "\
+attribute N.A \"hi\" N=\"x\"
+attribute B null \"a\"
+";
+
+const ATTRIBUTES_JSON: &str = "\
+{\"directive\":\"attribute\",\"namespace\":\"N\",\"name\":\"A\",\"text\":\"hi\"}
+{\"directive\":\"attribute\",\"namespace\":\"\",\"name\":\"B\",\"text\":null}
+";
+
+/// A root with attributes of a type, of the assembly by a method and by a MemberRef, and of the assembly with a number.
+fn root_of_own_attributes(alloc: Global) -> Result<Vec<u8>, AllocError> {
+    let mut root = RootBuilder::new(alloc);
+    root.row(0x01, b"\0\0\x05\0\0\0")?;
+    root.row(0x02, b"\0\0\0\0\x03\0\x01\0\0\0\x01\0\x01\0")?;
+    root.row(0x06, b"\0\0\0\0\0\0\0\0\x07\0\x01\0\x01\0")?;
+    root.row(0x0A, b"\x09\0\x07\0\x06\0")?;
+    root.row(0x0A, b"\x09\0\x07\0\x0C\0")?;
+    root.row(0x0C, b"\x23\0\x0A\0\x11\0")?;
+    root.row(0x0C, b"\x2E\0\x0A\0\x11\0")?;
+    root.row(0x0C, b"\x2E\0\x0B\0\x1F\0")?;
+    root.row(0x0C, b"\x2E\0\x13\0\x1F\0")?;
+    root.row(0x20, b"\x04\x80\0\0\0\0\0\0\0\0\0\0\0\0\0\0\0\0\x03\0\0\0")?;
+    root.heap("#Strings", b"\0N\0A\0B\0.ctor\0")?;
+    root.heap(
+        "#Blob",
+        b"\0\x04\x20\x01\x01\x0E\x05\x20\x02\x01\x0E\x0E\x04\x20\x01\x01\x08\x0D\x01\0\x02hi\x01\0\x54\x0E\x01N\x01x\x07\x01\0\xFF\x01a\0\0",
+    )?;
+    root.finish()
+}
+
+#[test]
+fn prints_attributes_of_strings(rt: HostRuntime) -> Result<(), Fail> {
+    let root = root_of_own_attributes(rt.alloc())?;
+    fs::write(&rt, "attributes.root", root.as_slice())?;
+    for (words, want) in [
+        (["clim", "info", "--bare", "attributes.root"].as_slice(), ATTRIBUTES),
+        (&["clim", "info", "--bare", "--json", "attributes.root"], ATTRIBUTES_JSON),
+    ] {
+        let (status, out, err) = answer(&rt, words)?;
+        assert!(rt; out.ends_with(want));
+        assert_eq!(rt; (status, err.as_str()), (0, ""));
+    }
+    fs::remove_file(&rt, "attributes.root")?;
     Ok(())
 }
 

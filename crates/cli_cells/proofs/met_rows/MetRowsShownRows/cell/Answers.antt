@@ -1,13 +1,10 @@
-use Rattle.std.proofs.Common.{◌≤◌, ℕ, subst, sym}
-use Rattle.table_schema.specs.Columns.{column_at}
+use Rattle.std.proofs.Common.{◌≤◌, ◌∙◌, ap, subst, sym}
 use Rattle.table_schema.specs.CellColumns.{column_of}
-use Rattle.metadata.specs.Cell.{Cell}
-use Rattle.metadata.specs.Metadata.{cell_in}
-use Rattle.reading.specs.Shown.{Shows}
+use Rattle.reading.specs.Shown.{ShowsCell}
 use Rattle.cli_cells.specs.MetRows.{Met, rows_before}
-use Rattle.cli_cells.specs.Shown.{IsShown, IsShownIn}
+use Rattle.cli_cells.specs.Shown.{Content, cell_at, content_at}
 use Rattle.cli_cells.proofs.BrokenLemmas.{row_met}
-use Rattle.cli_cells.proofs.ShownLemmas.{cell_of_row, cell_shown}
+use Rattle.cli_cells.proofs.ReadLemmas.{cell_of_row}
 use Rattle.cli_cells.proofs.met_rows.MetRowsShownRows.cell.Goals as goal
 
 pub cell_in_pass-requires-clause-last : goal.cell_in_pass-requires-clause-last
@@ -26,24 +23,13 @@ cell_in_pass-requires-clause-rules c =
 
 pub returns-clause-some : goal.returns-clause-some
 returns-clause-some c = λ none.
-    let here = c.self.inside.source.now in
-    let last = subst (λ (met : Met). c.args.row ≤ rows_before met.here.source met.broken c.args.table) (sym c.self.view_is) c.requires.last in
-    let met = row_met here c.tables_stand.ensures.stand c.tables_stand.ensures.table_index c.self.inside.broken c.self.invariant.broken
-    c.args.table c.args.row c.requires.first last in
-    let index = column_of c.args.table c.args.cell_index in
-    let column = c.cells_have_columns.ensures.column c.args.table c.args.cell_index c.requires.cell_index in
-    let P : ℕ → Type 0 = λ n. (held : Cell) → IsShownIn here.source c.args.table c.args.row n held → Shows (column_at c.args.table n).kind c.cell_in_pass.result held in
-    let shows = subst P c.column_of_cell-column.ensures.value c.cell_in_pass.ensures.cell in
-    cell_shown here c.args.table c.args.row index column.1 (cell_of_row here c.args.table c.args.row index column.0 met.1)
-    (λ some. none (some.0, shows some.0 some.1))
+    none (
+      cell_at c.self.inside.source.now.source c.args.table c.args.row (column_of c.args.table c.args.cell_index),
+      rw c.column_of_cell-column.ensures.value at c.cell_in_pass.ensures.cell,
+    )
 
 pub returns-clause-cell : goal.returns-clause-cell
-returns-clause-cell c = λ model shown.
-    let here = c.self.inside.source.now in
-    let last = subst (λ (met : Met). c.args.row ≤ rows_before met.here.source met.broken c.args.table) (sym c.self.view_is) c.requires.last in
-    let met = row_met here c.tables_stand.ensures.stand c.tables_stand.ensures.table_index c.self.inside.broken c.self.invariant.broken
-    c.args.table c.args.row c.requires.first last in
-    let P : ℕ → Type 0 = λ n. (held : Cell) → IsShownIn here.source c.args.table c.args.row n held → Shows (column_at c.args.table n).kind c.cell_in_pass.result held in
-    let shows = subst P c.column_of_cell-column.ensures.value c.cell_in_pass.ensures.cell in
-    let is = subst (λ (held : Met). IsShown held.here model) (sym c.self.view_is) shown in
-    shows (cell_in model c.args.table c.args.row c.args.cell_index) (is.cells c.args.table c.args.row c.args.cell_index c.requires.first met.0 c.requires.cell_index met.1)
+returns-clause-cell c = λ content is.
+    let read = ap (λ (met : Met). content_at met.here.source) c.self.view_is ∙ sym is in
+    subst (λ (of : Content). ShowsCell c.args.table c.args.cell_index c.cell_in_pass.result (of.cell c.args.table c.args.row c.args.cell_index)) read
+    (rw c.column_of_cell-column.ensures.value at c.cell_in_pass.ensures.cell)

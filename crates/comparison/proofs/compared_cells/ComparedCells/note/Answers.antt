@@ -3,4 +3,4 @@ use Rattle.comparison.proofs.compared_cells.ComparedCells.note.Goals as goal
 
 pub returns : goal.returns
 returns c = λ first second table was is.
-    outcomes_after first second table c.args.self.now (record { outcomes = c.insert.new.self }) (c.args.cell_index, c.args.left, c.args.right) c.args.same c.in_ok-insert.ensures.updates.0 was is
+    outcomes_after first second table c.args.self.now (record { outcomes = c.insert.new.self }) c.key_of-key.result c.args.noted c.in_ok-insert.ensures.updates.0 was is

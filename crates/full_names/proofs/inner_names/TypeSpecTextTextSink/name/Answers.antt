@@ -1,13 +1,9 @@
-use Rattle.std.proofs.Common.{refl}
-use Rattle.full_names.specs.Texts.{IsInnerName}
-use Rattle.full_names.proofs.NameExists.{inner_name}
-use Rattle.full_names.proofs.PieceLemmas.{passed_over}
+use Rattle.std.proofs.Common.{refl, sym, ◌∙◌}
+use Rattle.full_names.proofs.PieceLemmas.{on_taken}
 use Rattle.full_names.proofs.inner_names.TypeSpecTextTextSink.name.Goals as goal
 
-pub returns-then-is_reached-clause-piece : goal.returns-then-is_reached-clause-piece
-returns-then-is_reached-clause-piece g c = λ taken. (
-  refl,
-  refl,
-  λ model shown. passed_over g.W.Write.write_str_gives c.args.self.now.writer.now (IsInnerName model c.args.token) (c.if-is_reached.ensures refl)
-      (inner_name model (c.holds_one.ensures.valid model shown) c.args.token),
+pub returns-clause-piece : goal.returns-clause-piece
+returns-clause-piece g c = (
+  λ taken. (c.keep_refusal.ensures.kept taken, refl, refl, λ model shown. on_taken c.write_inner_name-written.result (sym c.keep_refusal.ensures.taken ∙ taken) (c.write_inner_name-written.ensures model shown)),
+  λ refused whole. absurd (c.keep_refusal.ensures.failed refused whole),
 )

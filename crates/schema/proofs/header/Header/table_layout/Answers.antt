@@ -5,12 +5,13 @@ use Rattle.table_schema.specs.declared.column.Column.{Column}
 use Rattle.schema.specs.Offsets.{columns_width}
 use Rattle.schema.specs.Kept.{sizes_kept}
 use Rattle.table_schema.proofs.TableFacts.{columns_few}
-use Rattle.schema.proofs.TableLayoutLemmas.{columns_width_more, no_columns_width, number_kept}
+use Rattle.schema.proofs.CellLemmas.{columns_width-nil}
+use Rattle.schema.proofs.TableLayoutLemmas.{columns_width_more, number_kept}
 use Rattle.schema.proofs.header.Header.table_layout.Goals as goal
 
 pub loop-index-init : goal.loop-index-init
 loop-index-init c = record {
-  width = sym (no_columns_width (sizes_kept c.args.self.now));
+  width = sym (columns_width-nil (sizes_kept c.args.self.now));
   room = refl;
   small = omega arith;
   offsets = λ column h. absurd (omega arith);

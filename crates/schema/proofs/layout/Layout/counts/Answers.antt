@@ -21,8 +21,5 @@ loop-table-preserved c =
       others = others_kept c.loop-table.counts _ c.number.result c.count.result c.number.ensures.value before.others;
     }
 
-pub returns-clause-each : goal.returns-clause-each
-returns-clause-each c = tables_kept (count_of c.args.self.now) c.loop-table.counts (λ k h. c.loop-table.invariant.each k (omega arith))
-
-pub returns-clause-others : goal.returns-clause-others
-returns-clause-others c = c.loop-table.invariant.others
+pub returns : goal.returns
+returns c = record { each = tables_kept (count_of c.args.self.now) c.loop-table.counts (λ k h. c.loop-table.invariant.each k (omega arith)); others = c.loop-table.invariant.others }

@@ -2,12 +2,13 @@ use Rattle.std.proofs.Common.{◌*◌, ◌≤◌, ◌<◌, get_or, arith, ◌∙
 use Rattle.table_schema.specs.declared.table.TableId.TheVariants.{Module}
 use Rattle.table_schema.specs.Tables.{tables}
 use Rattle.schema.specs.Kept.{IsTableLayout, sizes_kept}
-use Rattle.schema.proofs.TableLayoutLemmas.{no_tables_size, item_kept, next_start, start_at}
+use Rattle.schema.proofs.CellLemmas.{tables_size-nil}
+use Rattle.schema.proofs.TableLayoutLemmas.{item_kept, next_start, start_at}
 use Rattle.schema.proofs.layout.Layout.new.Goals as goal
 
 pub loop-table_index-init : goal.loop-table_index-init
 loop-table_index-init c = record {
-  start = omega (arith, no_tables_size (sizes_kept c.args.header));
+  start = omega (arith, tables_size-nil (sizes_kept c.args.header));
   small = let body = c.requires.body in omega arith;
   room = refl;
   table_layouts = λ table_index none h. absurd (omega arith);

@@ -1,0 +1,2 @@
+pub mod Constructors
+pub mod Values

@@ -1,0 +1,4 @@
+mod PartLemmas
+mod ElementLemmas
+mod WalkLemmas
+mod StepLemmas

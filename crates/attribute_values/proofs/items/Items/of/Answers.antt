@@ -1,0 +1,32 @@
+use Rattle.std.proofs.Common.{◌∙◌, ℕ, ◌<◌, ◌^◌, Some, get_or, ap, is_some, rules}
+use Rattle.attribute_values.specs.Steps.{all_at, items_in}
+use Rattle.attribute_values.proofs.PartLemmas.{NumbersAreRead, bytes_each}
+use Rattle.attribute_values.proofs.StepLemmas.{none_read, whole_read, whole_some, whole_value, value_items, value_ends}
+use Rattle.attribute_values.proofs.items.Items.of.Goals as goal
+
+pub returns-clause-sound : goal.returns-clause-sound
+returns-clause-sound c =
+    let known : NumbersAreRead = record { found = c.numbers_are_read.ensures.unsigned; again = c.numbers_are_read.ensures.unsigned_only } in
+    let small : (k : ℕ) → get_or c.args.blob.now k 0 < 2 ^ 8 = λ k. let f = c.type_inv.blob k in search rules in
+    let whole = whole_value known c.args.params.now c.args.blob.now (bytes_each c.args.blob.now small) c.in_ok-bytes.ensures.whole in
+    (whole.0, whole.1, ap items_in c.in_ok-bytes.ensures.same ∙ whole.2)
+
+pub returns-clause-complete : goal.returns-clause-complete
+returns-clause-complete c = λ v is.
+    let known : NumbersAreRead = record { found = c.numbers_are_read.ensures.unsigned; again = c.numbers_are_read.ensures.unsigned_only } in
+    ap items_in c.in_ok-bytes.ensures.same ∙ value_items known c.args.params.now c.args.blob.now v is
+
+pub returns-in_err-bytes-clause-complete : goal.returns-in_err-bytes-clause-complete
+returns-in_err-bytes-clause-complete c = λ v is.
+    let known : NumbersAreRead = record { found = c.numbers_are_read.ensures.unsigned; again = c.numbers_are_read.ensures.unsigned_only } in
+    absurd (value_ends known c.args.params.now c.args.blob.now v is c.in_err-bytes.ensures.none)
+
+pub invariant_of-result : goal.invariant_of-result
+invariant_of-result c = ap is_some c.in_ok-bytes.ensures.same ∙ whole_some (all_at c.args.params.now c.args.blob.now) c.in_ok-bytes.ensures.whole
+
+pub returns-clause-read : goal.returns-clause-read
+returns-clause-read c =
+    ap (λ o. Some (items_in o)) c.in_ok-bytes.ensures.same ∙ whole_read (all_at c.args.params.now c.args.blob.now) c.in_ok-bytes.ensures.whole
+
+pub returns-in_err-bytes-clause-read : goal.returns-in_err-bytes-clause-read
+returns-in_err-bytes-clause-read c = c.from_residual.ensures ∙ none_read (all_at c.args.params.now c.args.blob.now) c.in_err-bytes.ensures.none

@@ -1,0 +1,35 @@
+-- Errors of parts of the rules for tables.
+use Rattle.std.proofs.Common.{◌++◌, inl, append_assoc, arith}
+use Rattle.packed.specs.declared.fault.Fault.{Fault as First}
+use Rattle.packed.specs.Rule.{AllHold, FirstBroken}
+use Rattle.packed.proofs.RuleLemmas.{fails_prefix, fails_back}
+use Rattle.metadata.specs.SourceAt.{SourceAt}
+use Rattle.metadata.specs.Rules.{rules_of_cells, rules_of_order, rules_of_runs, rules_of_nesting, rules_of_signatures, rules_of_tables}
+use Rattle.checks.specs.declared.budget.Budget.{Budget}
+use Rattle.checks.specs.declared.budget.BoundedError.{BoundedError}
+use Rattle.checks.specs.declared.budget.BoundedError.TheVariants.{Fault, BudgetSpent}
+use Rattle.checks.specs.TextBytes.{text_bytes_to}
+use Rattle.checks.specs.Within.{FailsWithin, IsSpent, TextsSpend, counted_bytes}
+use Rattle.checks.proofs.Spending.{below_within}
+use Rattle.checks.proofs.SpendingTexts.{to_all}
+
+-- an error of the cells is one of the tables
+pub cells_fail : (here : SourceAt) (budget : Budget) (error : BoundedError) → FailsWithin (TextsSpend budget here) (rules_of_cells here) error
+    → FailsWithin (IsSpent budget here) (rules_of_tables here) error
+unfolding rules_of_tables
+cells_fail here budget (Fault found) fails =
+    fails_prefix (rules_of_cells here) (rules_of_order here ++ (rules_of_runs here ++ (rules_of_nesting here ++ rules_of_signatures here))) found fails
+cells_fail here budget BudgetSpent spent = (
+  below_within budget (text_bytes_to here.source spent.table_index spent.rows) (counted_bytes here.source)
+      (omega (arith, to_all here.source spent.table_index spent.rows spent.last spent.listed)) spent.below,
+  inl spent,
+)
+
+-- so is a fault of the rules after those, but for signatures
+pub rows_fail : (here : SourceAt) (found : First) → AllHold (rules_of_cells here)
+    → FirstBroken (rules_of_order here ++ (rules_of_runs here ++ rules_of_nesting here)) found → FirstBroken (rules_of_tables here) found
+unfolding rules_of_tables
+rows_fail here found cells first =
+    let tail = rules_of_order here ++ (rules_of_runs here ++ (rules_of_nesting here ++ rules_of_signatures here)) in
+    let more = fails_prefix (rules_of_order here ++ (rules_of_runs here ++ rules_of_nesting here)) (rules_of_signatures here) found first in
+    fails_back (rules_of_cells here) tail found cells (rw (append_assoc (rules_of_order here) (rules_of_runs here ++ rules_of_nesting here) (rules_of_signatures here), append_assoc (rules_of_runs here) (rules_of_nesting here) (rules_of_signatures here)) at more)

@@ -1,0 +1,42 @@
+-- The cells that the parts of a line name are in its row.
+use Rattle.std.proofs.Common.{ℕ, zero, suc, ◌<◌, List, [], ◌∷◌, length, get_or, arith, rules}
+use Rattle.std.specs.Prelude.{⊤}
+use Rattle.table_schema.specs.declared.table.TableId.{TableId}
+use Rattle.table_schema.specs.declared.table.TableId.TheVariants.{Assembly, AssemblyRef, Module, ModuleRef, File, ManifestResource, TypeDef, Field, MethodDef, InterfaceImpl, GenericParam, GenericParamConstraint, ExportedType, MethodImpl, MethodSemantics, Event, Property, ImplMap, CustomAttribute}
+use Rattle.table_schema.specs.CellColumns.{cell_columns}
+use Rattle.cli_declarations.specs.Layouts.{parts_of}
+use Rattle.cli_declarations.specs.Parts.{Part}
+use Rattle.cli_declarations.specs.Shown.{IsWithin}
+
+-- all parts of a list
+abbrev pub AllWithin : TableId → List Part → Type 0
+AllWithin table [] = ⊤
+AllWithin table (p ∷ ps) = IsWithin table p × AllWithin table ps
+
+pub parts_within : (table : TableId) → AllWithin table (parts_of table)
+unfolding cell_columns
+parts_within Assembly = search rules
+parts_within AssemblyRef = search rules
+parts_within Module = search rules
+parts_within ModuleRef = search rules
+parts_within File = search rules
+parts_within ManifestResource = search rules
+parts_within TypeDef = search rules
+parts_within Field = search rules
+parts_within MethodDef = search rules
+parts_within InterfaceImpl = search rules
+parts_within GenericParam = search rules
+parts_within GenericParamConstraint = search rules
+parts_within ExportedType = search rules
+parts_within MethodImpl = search rules
+parts_within MethodSemantics = search rules
+parts_within Event = search rules
+parts_within Property = search rules
+parts_within ImplMap = search rules
+parts_within CustomAttribute = search rules
+parts_within _ = tt
+
+pub at_index : (table : TableId) (parts : List Part) (i : ℕ) (d : Part) → AllWithin table parts → i < length parts → IsWithin table (get_or parts i d)
+at_index table [] i d all lt = absurd (omega arith)
+at_index table (p ∷ ps) zero d all lt = all.0
+at_index table (p ∷ ps) (suc i) d all lt = at_index table ps i d all.1 (omega arith)

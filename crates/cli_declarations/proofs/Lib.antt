@@ -1,0 +1,4 @@
+pub mod TextLemmas
+pub mod LayoutLemmas
+pub mod PieceLemmas
+pub mod WriterLemmas

@@ -1,0 +1,101 @@
+-- Texts one after another, and what a writer that escapes took.
+use Rattle.std.proofs.Common.{◌≡◌, ◌∙◌, ℕ, zero, suc, ◌+◌, ◌-◌, ◌/◌, ◌%◌, ◌<◌, ◌≤◌, Bool, false, cond, eqb, ltb, List, [], ◌∷◌, ◌++◌, length, get_or, drop, take, refl, ap, sym, subst, append_assoc, append-nil, length-append, arith, ⊎_elim}
+use Rattle.std.proofs.lemmas.Bool.{cases_lt, eq-eqb, le-ltb, lt-ltb, ne_eqb}
+use Rattle.std.proofs.lemmas.List.{flat_map_more}
+use Rattle.std.proofs.Math.Seq.{drop-append_seam, take-suc}
+use Rattle.std.specs.List.{flat_map, FoldsTo, concat}
+use Rattle.std.specs.Fmt.{WritesInCalls, digit_glyph}
+use Rattle.std.proofs.lemmas.Fmt.{hex_byte}
+use Rattle.table_schema.specs.Tokens.{hexadecimal}
+use Rattle.cli_declarations.specs.Parts.{cut_mark, cut_text, text_limit}
+use Rattle.cli_declarations.specs.Texts.{AreTexts, Gains}
+
+module _ {X : Type 0} (is_text : X → List ℕ → Type 0) where
+  -- one more text
+  pub texts_append : (xs ys : List X) (a b : List ℕ) → AreTexts is_text xs a → AreTexts is_text ys b → AreTexts is_text (xs ++ ys) (a ++ b)
+  texts_append [] ys a b are more = subst (λ (t : List ℕ). AreTexts is_text ys (t ++ b)) (sym are) more
+  texts_append (x ∷ xs) ys a b are more =
+      (are.0, are.1, are.2 ++ b, texts_append xs ys are.2 b are.3 more, ap (λ t. t ++ b) are.4 ∙ append_assoc are.0 are.2 b)
+
+  pub texts_one : (x : X) (a : List ℕ) → is_text x a → AreTexts is_text (x ∷ []) a
+  texts_one x a is = (a, is, [], refl, sym (append-nil a))
+
+-- the first items of two lists
+take_nothing : {X : Type 0} (n : ℕ) → take {A = X} n [] ≡ []
+take_nothing zero = refl
+take_nothing (suc n) = refl
+
+take_parts : {X : Type 0} (n : ℕ) (a b : List X) → take n (a ++ b) ≡ take n a ++ take (n - length a) b
+take_parts zero a b = let none : 0 - length a ≡ 0 = omega arith in sym (ap (λ m. take m b) none)
+take_parts (suc n) [] b = let all : suc n ≡ suc n - 0 = omega arith in ap (λ m. take m b) all
+take_parts (suc n) (x ∷ a) b = let less : n - length a ≡ suc n - suc (length a) = omega arith in
+    ap (λ t. x ∷ t) (take_parts n a b ∙ ap (λ m. take n a ++ take m b) less)
+
+-- whether a text is longer than the limit, from what a writer still takes after it
+longer : (left : ℕ) (text : List ℕ) → left ≡ text_limit + 1 - length text → eqb left 0 ≡ ltb text_limit (length text)
+longer left text is = ⊎_elim
+    (λ (lt : text_limit < length text). eq-eqb left 0 (omega (arith, is, lt)) ∙ sym (lt-ltb text_limit (length text) lt))
+    (λ (le : length text ≤ text_limit). ne_eqb left 0 (λ none. let zero_left : left ≡ 0 = none in absurd (omega (arith, zero_left, is, le))) ∙ sym (le-ltb text_limit (length text) le))
+    (cases_lt text_limit (length text))
+
+-- a writer that takes the first bytes of what it is given has the first bytes of the whole text
+module _ {W : Type 0} (bytes : W → List ℕ) (left begun : W → ℕ) where
+  abbrev pub Takes : W → List ℕ → W → Type 0
+  Takes before text after = (bytes after ≡ bytes before ++ take (left before - 1) text) × (left after ≡ left before - length text) × (begun after ≡ begun before)
+
+  folds_cut : (before : W) (parts : List (List ℕ)) (after : W) → FoldsTo Takes before parts after → Takes before (concat parts) after
+  folds_cut before [] after is =
+      let all : left before ≡ left before - 0 = omega arith in
+      (ap bytes (sym is) ∙ sym (append-nil (bytes before)) ∙ ap (λ (t : List ℕ). bytes before ++ t) (sym (take_nothing (left before - 1))), ap left (sym is) ∙ all, ap begun (sym is))
+  folds_cut before (part ∷ parts) after (between, one, more) =
+      let later = folds_cut between parts after more in
+      let room : left between - 1 ≡ left before - 1 - length part = omega (arith, one.1) in (
+        later.0 ∙ ap (λ (t : List ℕ). t ++ take (left between - 1) (concat parts)) one.0
+            ∙ append_assoc (bytes before) (take (left before - 1) part) (take (left between - 1) (concat parts))
+            ∙ ap (λ (m : ℕ). bytes before ++ (take (left before - 1) part ++ take m (concat parts))) room
+            ∙ ap (λ (t : List ℕ). bytes before ++ t) (sym (take_parts (left before - 1) part (concat parts))),
+        omega (arith, later.1, one.1, length-append part (concat parts)),
+        later.2 ∙ one.2,
+      )
+
+  -- with a mark after it if it was cut
+  pub text_cut : (before : W) (text : List ℕ) (after : W) (marked : List ℕ) → left before ≡ text_limit + 1 → begun before ≡ length (bytes before) → WritesInCalls Takes before text after
+      → marked ≡ bytes after ++ cond (eqb (left after) 0) (cut_mark (drop (begun after) (bytes after))) [] → marked ≡ bytes before ++ cut_text text
+  unfolding cut_text
+  text_cut before text after marked full begins calls is =
+      let takes : Takes before text after = subst (λ (t : List ℕ). Takes before t after) calls.whole (folds_cut before calls.parts after calls.calls) in
+      let room : left before - 1 ≡ text_limit = omega (arith, full) in
+      let gone : left after ≡ text_limit + 1 - length text = omega (arith, full, takes.1) in
+      let first = take text_limit text in
+      let whole : bytes after ≡ bytes before ++ first = takes.0 ∙ ap (λ (m : ℕ). bytes before ++ take m text) room in
+      let mine : drop (begun after) (bytes after) ≡ first =
+      ap (λ (m : ℕ). drop m (bytes after)) (takes.2 ∙ begins) ∙ ap (drop (length (bytes before))) whole ∙ drop-append_seam (bytes before) first in
+      is ∙ ap (λ (m : List ℕ). bytes after ++ cond (eqb (left after) 0) (cut_mark m) []) mine
+      ∙ ap (λ (b : List ℕ). b ++ cond (eqb (left after) 0) (cut_mark first) []) whole
+      ∙ append_assoc (bytes before) first (cond (eqb (left after) 0) (cut_mark first) [])
+      ∙ ap (λ (t : Bool). bytes before ++ (first ++ cond t (cut_mark first) [])) (longer (left after) text gone)
+
+pub take_more : {X : Type 0} (xs : List X) (i : ℕ) (d : X) → i < length xs → take (i + 1) xs ≡ take i xs ++ get_or xs i d ∷ []
+take_more xs i d lt = let e : i + 1 ≡ suc i = omega arith in ap (λ n. take n xs) e ∙ take-suc xs i d lt
+
+-- one more item of a list
+module _ {X : Type 0} (is_text : X → List ℕ → Type 0) where
+  pub gains_more : (xs : List X) (i : ℕ) (d : X) (first between after : List ℕ) → i < length xs → Gains (AreTexts is_text (take i xs)) first between
+      → Gains (is_text (get_or xs i d)) between after → Gains (AreTexts is_text (take (i + 1) xs)) first after
+  gains_more xs i d first between after lt before one = (
+    before.0 ++ one.0,
+    subst (λ (ys : List X). AreTexts is_text ys (before.0 ++ one.0)) (sym (take_more xs i d lt))
+        (texts_append is_text (take i xs) (get_or xs i d ∷ []) before.0 one.0 before.1 (texts_one is_text (get_or xs i d) one.0 one.1)),
+    one.2 ∙ ap (λ (t : List ℕ). t ++ one.0) before.2 ∙ append_assoc first before.0 one.0,
+  )
+
+-- one more item of a list that is appended item by item
+pub items_more : {X : Type 0} (f : X → List ℕ) (line : List ℕ) (xs : List X) (i : ℕ) (d : X) → i < length xs
+    → (line ++ flat_map f (take i xs)) ++ f (get_or xs i d) ≡ line ++ flat_map f (take (i + 1) xs)
+items_more f line xs i d lt = flat_map_more f line (take i xs) (get_or xs i d) ∙ ap (λ ys. line ++ flat_map f ys) (sym (take_more xs i d lt))
+
+-- the two hexadecimal digits of a byte
+pub two_digits : (line : List ℕ) (byte high low : ℕ) → byte < 256 → high ≡ digit_glyph false (byte / 16) → low ≡ digit_glyph false (byte % 16)
+    → (line ++ high ∷ []) ++ low ∷ [] ≡ line ++ hexadecimal 2 byte
+two_digits line byte high low small high_is low_is =
+    append_assoc line (high ∷ []) (low ∷ []) ∙ (λ k. line ++ high_is k ∷ low_is k ∷ []) ∙ ap (λ ys. line ++ ys) (sym (hex_byte false byte small))

@@ -1,0 +1,6 @@
+use Rattle.std.proofs.Common.{string_bytes, ◌≡◌, ◌++◌, take}
+use Rattle.declarations.specs.FlagWords.{words_of, words_text}
+use Rattle.cli_declarations.proofs.pieces.push_words.Given as goal
+
+abbrev pub invariant-loop-word : goal.invariant-loop-word
+invariant-loop-word l = (string_bytes l.declared.text) ≡ (string_bytes l.initial.declared.text) ++ words_text l.flags (take l.word-index (words_of l.fn.of))

@@ -1,0 +1,39 @@
+-- The parts of the program, as values of specs/.
+use Rattle.std.specs.Prelude.{◌<◌, ⊤}
+use Rattle.table_schema.specs.declared.table.TableId.{TableId}
+use Rattle.table_schema.specs.CellColumns.{cell_count}
+use Rattle.cli_declarations.specs.Parts as part
+use Rattle.cli_declarations.specs.Parts.{Part}
+use Rattle.cli_declarations.specs.declared.layouts.Piece.{Piece}
+use Rattle.cli_declarations.specs.declared.layouts.Piece.TheVariants.{Word as PlainWord, Flags, Text, Number, QuotedAfter, BytesAfter, Key, Hex, TokenAfter, Signature, Declaration, OwnName, NameAfter}
+
+abbrev pub shown : Piece → Part
+shown (PlainWord of) = part.word of.now
+shown (Flags of cell) = part.flags of cell
+shown (Text cell) = part.text cell
+shown (Number cell) = part.number cell
+shown (QuotedAfter of cell) = part.quoted_after of.now cell
+shown (BytesAfter of cell) = part.bytes_after of.now cell
+shown (Key of cell) = part.key of cell
+shown (Hex cell) = part.hex cell
+shown (TokenAfter of cell) = part.token_after of.now cell
+shown (Signature cell) = part.signature cell
+shown Declaration = part.declaration
+shown OwnName = part.own_name
+shown (NameAfter of cell) = part.name_after of.now cell
+
+-- the cells of a part are in the rows of a table
+abbrev pub IsWithin : TableId → Part → Type 0
+IsWithin table (part.word of) = ⊤
+IsWithin table (part.flags of cell) = cell < cell_count table
+IsWithin table (part.text cell) = cell < cell_count table
+IsWithin table (part.number cell) = cell < cell_count table
+IsWithin table (part.quoted_after of cell) = cell < cell_count table
+IsWithin table (part.bytes_after of cell) = cell < cell_count table
+IsWithin table (part.key of cell) = (of < cell_count table) × (cell < cell_count table)
+IsWithin table (part.hex cell) = cell < cell_count table
+IsWithin table (part.token_after of cell) = cell < cell_count table
+IsWithin table (part.signature cell) = cell < cell_count table
+IsWithin table part.declaration = ⊤
+IsWithin table part.own_name = ⊤
+IsWithin table (part.name_after of cell) = cell < cell_count table

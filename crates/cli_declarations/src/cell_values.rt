@@ -1,0 +1,61 @@
+//! The value of a cell of a view, by its kind. A cell of another kind has an empty value.
+ghost use Rattle.std.specs.Prelude.{◌≡◌, ◌≤◌, ◌<◌};
+ghost use Rattle.table_schema.specs.CellColumns.{cell_count};
+ghost use Rattle.metadata.specs.Metadata.{Metadata, cell_in};
+ghost use Rattle.metadata.specs.Model.{IsModel};
+ghost use Rattle.opening.specs.Views.{row_count};
+ghost use Rattle.cli_declarations.specs.Parts.{bytes_of, number_of, reference_of, text_of};
+
+use opening::{CellRef, TableId, Token, View};
+
+/// The number in a cell, otherwise 0.
+pub fn number(view: &View<'_>, table: TableId, row: u32, cell: usize) -> u32
+    requires first { 1 ≤ row }
+    requires last { row ≤ row_count view.now table }
+    requires cell { cell < cell_count table }
+    ensures { (model : Metadata) → IsModel view.now model → result ≡ number_of (cell_in model table row cell) }
+{
+    match view.cell(table, row, cell) {
+        CellRef::Number(number) => number,
+        _ => 0,
+    }
+}
+
+/// The text in a cell, otherwise an empty one.
+pub fn text<'a>(view: &View<'a>, table: TableId, row: u32, cell: usize) -> &'a str
+    requires first { 1 ≤ row }
+    requires last { row ≤ row_count view.now table }
+    requires cell { cell < cell_count table }
+    ensures { (model : Metadata) → IsModel view.now model → result.now ≡ text_of (cell_in model table row cell) }
+{
+    match view.cell(table, row, cell) {
+        CellRef::Text(text) => text,
+        _ => "",
+    }
+}
+
+/// The bytes in a cell, otherwise none.
+pub fn bytes<'a>(view: &View<'a>, table: TableId, row: u32, cell: usize) -> &'a [u8]
+    requires first { 1 ≤ row }
+    requires last { row ≤ row_count view.now table }
+    requires cell { cell < cell_count table }
+    ensures { (model : Metadata) → IsModel view.now model → result.now ≡ bytes_of (cell_in model table row cell) }
+{
+    match view.cell(table, row, cell) {
+        CellRef::Bytes(bytes) => bytes,
+        _ => &[],
+    }
+}
+
+/// The reference in a cell, otherwise null.
+pub(crate) fn reference(view: &View<'_>, table: TableId, row: u32, cell: usize) -> Option<Token>
+    requires first { 1 ≤ row }
+    requires last { row ≤ row_count view.now table }
+    requires cell { cell < cell_count table }
+    ensures { (model : Metadata) → IsModel view.now model → result ≡ reference_of (cell_in model table row cell) }
+{
+    match view.cell(table, row, cell) {
+        CellRef::Ref(token) => token,
+        _ => None,
+    }
+}

@@ -1,0 +1,205 @@
+//! The text of a declaration.
+ghost use Rattle.std.specs.Prelude.{◌≡◌, ◌==◌, ◌<◌, ◌+◌, ◌++◌, false, if◌then◌else◌, [], count_by, drop, length, take, string_bytes, OnOk};
+ghost use Rattle.full_names.specs.declared.quoted.NameKind.TheVariants.{Dotted};
+ghost use Rattle.full_names.specs.Quoted.{name_text, quoted_bytes};
+ghost use Rattle.cli_lines.specs.Texts.{escaped_bytes};
+ghost use Rattle.cli_declarations.specs.Parts.{cut_mark, cut_text, is_open, text_limit};
+ghost use Rattle.std.specs.Fmt.{digit_glyph};
+ghost use Rattle.table_schema.specs.Tokens.{hexadecimal};
+
+use full_names::{Limit, NameKind, write_name, write_quoted};
+use std::alloc::{AllocError, Global};
+use std::fmt::{self, Write};
+
+/// The number of bytes of a name, a signature or another text of the file that are printed.
+const LIMIT: usize = 1 << 16;
+
+/// The text of a declaration, as a writer of ASCII texts. Of a text that [`begin_text`] begins it takes the first bytes, and
+/// passes over the others. It refuses a text only if out of memory.
+#[derive(Drop)]
+pub struct Declared {
+    /// For its memory.
+    pub alloc: Global,
+    /// The text so far.
+    pub text: String,
+    /// One more than the number of bytes of the text that it still takes; 0 after a byte that it passed over.
+    pub left: usize,
+    /// Where the text that it takes begins.
+    pub begun: usize,
+}
+
+impl Declared {
+    ghost use Rattle.std.specs.Prelude.{◌≡◌, [], string_bytes};
+
+    /// An empty text.
+    pub fn new(alloc: Global) -> Declared {
+        Declared {
+            alloc,
+            text: String::new(alloc),
+            left: 0,
+            begun: 0,
+        }
+    }
+
+    /// Makes the text empty.
+    pub(crate) fn clear(&mut self)
+        ensures { string_bytes self.new.text ≡ [] }
+    {
+        self.text.clear();
+    }
+}
+
+impl fmt::Write for Declared {
+    ghost use Rattle.std.specs.Prelude.{◌≡◌, ◌-◌, ◌++◌, length, take, string_bytes};
+
+    ghost write_str_gives = { λ before text after. (string_bytes after.text ≡ string_bytes before.text ++ take (before.left - 1) text)
+        × (after.left ≡ before.left - length text) × (after.begun ≡ before.begun) };
+
+    /// Appends the bytes of a text that are still taken.
+    ///
+    /// # Errors
+    ///
+    /// Out of memory.
+    fn write_str(&mut self, text: &str) -> fmt::Result {
+        let room = self.left.saturating_sub(1);
+        self.left = self.left.saturating_sub(text.len());
+        match push_first(text, room, &mut self.text) {
+            Ok(()) => Ok(()),
+            Err(_) => Err(fmt::Error),
+        }
+    }
+}
+
+/// Appends the first bytes of a text. A part of a character is refused; names and signatures are ASCII.
+fn push_first(text: &str, room: usize, out: &mut String) -> Result<(), AllocError>
+    ensures { OnOk result (string_bytes out.new ≡ string_bytes out.old ++ take room text.now) }
+{
+    match text.split_at_checked(room.min(text.len())) {
+        Some((first, _)) => out.push_str(first),
+        None => Err(AllocError),
+    }
+}
+
+/// Appends the two hexadecimal digits of a byte.
+fn push_digits(byte: u8, out: &mut String) -> Result<(), AllocError>
+    ensures { OnOk result (string_bytes out.new ≡ string_bytes out.old ++ hexadecimal 2 byte) }
+{
+    out.push(digit(byte / 16))?;
+    out.push(digit(byte % 16))?;
+    Ok(())
+}
+
+/// The limit of a text of the file.
+pub(crate) struct TextLimit;
+
+impl Limit<Declared> for TextLimit {
+    fn is_reached(&self, declared: &Declared) -> bool {
+        declared.left == 0
+    }
+}
+
+/// Begins a text of the file.
+pub(crate) fn begin_text(declared: &mut Declared)
+    ensures same { string_bytes declared.new.text ≡ string_bytes declared.old.text }
+    ensures left { declared.new.left ≡ text_limit + 1 }
+    ensures begun { declared.new.begun ≡ length (string_bytes declared.old.text) }
+{
+    declared.left = LIMIT + 1;
+    declared.begun = declared.text.len();
+}
+
+/// The number of quotes in a text.
+fn quotes_in(text: &[u8]) -> usize
+    ensures { result ≡ count_by (λ byte. byte == 39) text.now }
+{
+    text.iter().filter(|byte| **byte == b'\'').count()
+}
+
+/// Whether a quote is open at the end of a text.
+fn is_open(text: &[u8]) -> bool
+    ensures { result ≡ is_open text.now }
+{
+    quotes_in(text) % 2 == 1
+}
+
+/// What marks a cut after a text.
+fn cut_mark(text: &[u8]) -> &'static str
+    ensures { result.now ≡ cut_mark text.now }
+{
+    if is_open(text) {
+        return "'..";
+    }
+    ".."
+}
+
+/// The bytes of a text from an offset on.
+fn bytes_from(text: &str, begun: usize) -> &[u8]
+    ensures { result.now ≡ drop begun text.now }
+{
+    let bytes = text.as_bytes();
+    bytes.split_at(begun.min(bytes.len())).1
+}
+
+/// Ends a text of the file: appends a mark if it was cut.
+pub(crate) fn end_text(declared: &mut Declared) -> Result<(), AllocError>
+    ensures { OnOk result (string_bytes declared.new.text ≡ string_bytes declared.old.text
+        ++ (if declared.old.left == 0 then cut_mark (drop declared.old.begun (string_bytes declared.old.text)) else [])) }
+{
+    if declared.left == 0 {
+        let mark = cut_mark(bytes_from(declared.text.as_str(), declared.begun));
+        return push_plain(mark, declared);
+    }
+    Ok(())
+}
+
+/// Appends a name of the file (II.5.3).
+pub(crate) fn push_text(name: &str, declared: &mut Declared) -> Result<(), AllocError>
+    ensures { OnOk result (string_bytes declared.new.text ≡ string_bytes declared.old.text ++ cut_text (name_text Dotted name.now)) }
+{
+    begin_text(declared);
+    match write_name(declared, NameKind::Dotted, name, &TextLimit) {
+        Ok(()) => end_text(declared),
+        Err(_) => Err(AllocError),
+    }
+}
+
+/// Appends a text of the file as it is between quotes.
+pub(crate) fn push_string(text: &str, declared: &mut Declared) -> Result<(), AllocError>
+    ensures { OnOk result (string_bytes declared.new.text ≡ string_bytes declared.old.text ++ cut_text (quoted_bytes text.now)) }
+{
+    begin_text(declared);
+    match write_quoted(declared, text, &TextLimit) {
+        Ok(()) => end_text(declared),
+        Err(_) => Err(AllocError),
+    }
+}
+
+/// Appends a text of the program, as it is.
+pub(crate) fn push_plain(text: &str, declared: &mut Declared) -> Result<(), AllocError>
+    ensures { OnOk result (string_bytes declared.new.text ≡ string_bytes declared.old.text ++ text.now) }
+{
+    declared.text.push_str(text)
+}
+
+/// The lower-case digit of a number below 16.
+fn digit(number: u8) -> char
+    requires { number < 16 }
+    ensures glyph { result ≡ digit_glyph false number }
+    ensures ascii { result < 128 }
+{
+    if number < 10 {
+        char::from(b'0' + number)
+    } else {
+        char::from(b'a' - 10 + number)
+    }
+}
+
+/// Appends two hexadecimal digits for each byte.
+pub(crate) fn push_hexadecimal(bytes: &[u8], declared: &mut Declared) -> Result<(), AllocError>
+    ensures { OnOk result (string_bytes declared.new.text ≡ string_bytes declared.old.text ++ escaped_bytes bytes.now) }
+{
+    for byte in bytes {
+        push_digits(*byte, &mut declared.text)?;
+    }
+    Ok(())
+}

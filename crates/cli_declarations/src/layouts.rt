@@ -1,0 +1,158 @@
+//! The line of a row of each table, as a list of pieces (II.6 and II.10).
+ghost use Rattle.std.specs.Prelude.{◌≡◌, map};
+ghost use Rattle.cli_declarations.specs.Layouts.{parts_of};
+ghost use Rattle.cli_declarations.specs.Shown.{shown};
+
+use declarations::FlagTable;
+use opening::TableId;
+
+/// A piece of the line of a row. Numbers are indexes of cells in the row, from 0.
+#[derive(Clone, Copy)]
+pub enum Piece {
+    /// This text.
+    Word(&'static str),
+    /// The words of the flags in a cell, a space before each (II.23.1).
+    Flags(FlagTable, usize),
+    /// The name in a cell (II.5.3), up to the limit.
+    Text(usize),
+    /// The number in a cell, in decimal.
+    Number(usize),
+    /// Unless the text in a cell is empty: this word, and the text in quotes.
+    QuotedAfter(&'static str, usize),
+    /// Unless the bytes in a cell are empty: this word, and the bytes in hexadecimal in parentheses.
+    BytesAfter(&'static str, usize),
+    /// The public key, or the token of one, in the second cell, by the flags in the first (II.6.3).
+    Key(usize, usize),
+    /// The bytes in a cell, in hexadecimal.
+    Hex(usize),
+    /// Unless the reference in a cell is null: this word, and the token.
+    TokenAfter(&'static str, usize),
+    /// The signature in a cell, with the full names of types (II.23.2).
+    Signature(usize),
+    /// The declaration of the method that the row is (II.15.3).
+    Declaration,
+    /// The name of the row (II.5.3).
+    OwnName,
+    /// Unless the reference in a cell is null: this word, and the name of the row.
+    NameAfter(&'static str, usize),
+}
+
+use Piece::{
+    BytesAfter, Declaration, Flags, Hex, Key, NameAfter, Number, OwnName, QuotedAfter, Signature,
+    Text, TokenAfter, Word,
+};
+
+macro_rules! pieces {
+    ($($piece:expr;)*) => {
+        &[$($piece),*]
+    };
+}
+
+const ASSEMBLY: &[Piece] = pieces![
+    Word(".assembly"); Flags(FlagTable::Assembly, 5); Word(" "); Text(7); Word(" { .ver ");
+    Number(1); Word(":"); Number(2); Word(":"); Number(3); Word(":"); Number(4);
+    QuotedAfter(" .culture ", 8); BytesAfter(" .publickey = ", 6); Word(" }");
+];
+
+const ASSEMBLY_REF: &[Piece] = pieces![
+    Word(".assembly extern"); Flags(FlagTable::Assembly, 4); Word(" "); Text(6); Word(" { .ver ");
+    Number(0); Word(":"); Number(1); Word(":"); Number(2); Word(":"); Number(3);
+    QuotedAfter(" .culture ", 7); Key(4, 5); Word(" }");
+];
+
+const MODULE: &[Piece] = pieces![Word(".module "); Text(1);];
+
+const MODULE_REF: &[Piece] = pieces![Word(".module extern "); Text(0);];
+
+const FILE: &[Piece] = pieces![Word(".file"); Flags(FlagTable::File, 0); Word(" "); Text(1);];
+
+const RESOURCE: &[Piece] =
+    pieces![Word(".mresource"); Flags(FlagTable::Resource, 1); Word(" "); Text(2);];
+
+const TYPE_DEF: &[Piece] = &[
+    Word(".class"),
+    Flags(FlagTable::Type, 0),
+    Word(" "),
+    OwnName,
+    NameAfter(" extends ", 3),
+];
+
+const FIELD: &[Piece] = pieces![
+    Word("  .field"); Flags(FlagTable::Field, 0); Word(" "); Signature(2); Word(" "); Text(1);
+];
+
+const METHOD_DEF: &[Piece] = pieces![
+    Word("  .method"); Flags(FlagTable::Method, 2); Word(" "); Declaration;
+    Flags(FlagTable::Implementation, 1);
+];
+
+const INTERFACE_IMPL: &[Piece] = pieces![
+    Word(".interfaceimpl type"); NameAfter(" ", 0); NameAfter(" implements ", 1);
+];
+
+const GENERIC_PARAM: &[Piece] = pieces![
+    Word(".param type"); Flags(FlagTable::Generic, 1); Word(" "); Text(3); Word(" ["); Number(0);
+    Word("]"); NameAfter(" of ", 2);
+];
+
+const CONSTRAINT: &[Piece] = pieces![
+    Word(".param constraint"); NameAfter(" ", 0); TokenAfter(" ", 0); NameAfter(", ", 1);
+];
+
+const EXPORTED_TYPE: &[Piece] = pieces![
+    Word(".class extern"); Flags(FlagTable::Type, 0); Word(" "); OwnName;
+    TokenAfter(" in ", 4); NameAfter(" ", 4);
+];
+
+const METHOD_IMPL: &[Piece] = pieces![
+    Word(".override"); NameAfter(" ", 2); NameAfter(" with ", 1); NameAfter(" in ", 0);
+];
+
+const EVENT: &[Piece] = pieces![
+    Word("  .event"); Flags(FlagTable::Mapped, 0); NameAfter(" ", 2); Word(" "); OwnName;
+];
+
+const PROPERTY: &[Piece] = pieces![
+    Word("  .property"); Flags(FlagTable::Mapped, 0); Word(" "); Signature(2); Word(" "); OwnName;
+];
+
+const SEMANTICS: &[Piece] = pieces![
+    Word("   "); Flags(FlagTable::Semantics, 0); NameAfter(" ", 1); NameAfter(" of ", 2);
+];
+
+const IMPL_MAP: &[Piece] = pieces![
+    Word(".pinvokeimpl("); NameAfter("\"", 3); Word("\""); QuotedAfter(" as ", 2);
+    Flags(FlagTable::Import, 0); Word(")"); NameAfter(" of ", 1);
+];
+
+const CUSTOM: &[Piece] = pieces![
+    Word(".custom"); NameAfter(" ", 1); Word(" = ("); Hex(2); Word(")"); TokenAfter(" of ", 0);
+];
+
+/// The pieces of the line of a row. A row of a table that is not named here has none.
+pub(crate) fn pieces_of(table: TableId) -> &'static [Piece]
+    ensures { map shown result.now ≡ parts_of table }
+{
+    match table {
+        TableId::Assembly => ASSEMBLY,
+        TableId::AssemblyRef => ASSEMBLY_REF,
+        TableId::Module => MODULE,
+        TableId::ModuleRef => MODULE_REF,
+        TableId::File => FILE,
+        TableId::ManifestResource => RESOURCE,
+        TableId::TypeDef => TYPE_DEF,
+        TableId::Field => FIELD,
+        TableId::MethodDef => METHOD_DEF,
+        TableId::InterfaceImpl => INTERFACE_IMPL,
+        TableId::GenericParam => GENERIC_PARAM,
+        TableId::GenericParamConstraint => CONSTRAINT,
+        TableId::ExportedType => EXPORTED_TYPE,
+        TableId::MethodImpl => METHOD_IMPL,
+        TableId::Event => EVENT,
+        TableId::Property => PROPERTY,
+        TableId::MethodSemantics => SEMANTICS,
+        TableId::ImplMap => IMPL_MAP,
+        TableId::CustomAttribute => CUSTOM,
+        _ => &[],
+    }
+}

@@ -1,0 +1,22 @@
+//! The declaration of a row of an assembly, in the notation of ILAsm (ECMA-335 II.5 to II.22).
+//!
+//! [`declare`] makes a text the declaration of a row, and [`name_row`] its name. `specs/Layouts.antt` says what the declaration of a row is, as a list
+//! of parts, and `specs/Parts.antt` what the text of a part is. [`number`], [`text`] and [`bytes`] are the values of cells.
+//!
+//! ```text
+//! .assembly Hello { .ver 1:0:0:0 }
+//! .class public auto ansi beforefieldinit Hello.Greeter extends System.Object
+//!   .method public hidebysig instance string Hello.Greeter::Greet(int32 times) cil managed
+//! ```
+#![tactic(auto)]
+
+mod cell_values;
+mod declaration;
+mod declared;
+mod layouts;
+mod pieces;
+mod signature_sink;
+
+pub use cell_values::{bytes, number, text};
+pub use declaration::{declare, name_row};
+pub use declared::Declared;

@@ -1,0 +1,112 @@
+//! Appends the text of a signature (II.7.1), and the declaration of a method (II.15.3), with the full names of types.
+ghost use Rattle.std.specs.Prelude.{◌≤◌, ◌<◌, string_bytes, OnOk};
+ghost use Rattle.table_schema.specs.declared.table.TableId.TheVariants.{MethodDef};
+ghost use Rattle.table_schema.specs.CellColumns.{cell_count};
+ghost use Rattle.sig_grammar.specs.Syntax.{Body};
+ghost use Rattle.sig_grammar.specs.Encodes.{Encodes};
+ghost use Rattle.metadata.specs.Cell.{Cell};
+ghost use Rattle.metadata.specs.Metadata.{Metadata, cell_in};
+ghost use Rattle.metadata.specs.Model.{IsModel};
+ghost use Rattle.reading.specs.Shown.{ShowsSignature};
+ghost use Rattle.opening.specs.Views.{row_count};
+ghost use Rattle.cli_declarations.specs.Parts.{IsDeclarationAt, IsMethodText, IsSignatureOf, IsSignatureText};
+ghost use Rattle.cli_declarations.specs.Texts.{Gains};
+
+use crate::declared::{Declared, TextLimit, begin_text, end_text};
+use declarations::{write_method_within, write_signature_text};
+use metadata_source::kind_of;
+use navigation::Neighbours;
+use opening::{CellRef, TableId, View};
+use std::alloc::AllocError;
+use table_schema::{ColumnKind, SigKind};
+
+/// Appends the text of a signature in a blob.
+fn push_blob(
+    view: &View<'_>,
+    blob: &[u8],
+    kind: SigKind,
+    declared: &mut Declared,
+) -> Result<(), AllocError>
+    ensures { (model : Metadata) → IsModel view.now model → (signature : Body) → Encodes kind signature blob.now
+        → OnOk result (Gains (IsSignatureText model signature) (string_bytes declared.old.text) (string_bytes declared.new.text)) }
+{
+    begin_text(declared);
+    match write_signature_text(declared.alloc, view, blob, kind, &TextLimit, declared) {
+        Ok(()) => end_text(declared),
+        Err(_) => Err(AllocError),
+    }
+}
+
+/// Appends the text of a signature in a blob, in a column of a kind.
+fn push_in_column(
+    view: &View<'_>,
+    kind: ColumnKind,
+    blob: &[u8],
+    declared: &mut Declared,
+) -> Result<(), AllocError>
+    ensures { (model : Metadata) → IsModel view.now model → (cell : Cell) → ShowsSignature kind blob.now cell
+        → OnOk result (Gains (IsSignatureOf model cell) (string_bytes declared.old.text) (string_bytes declared.new.text)) }
+{
+    match kind {
+        ColumnKind::Signature(kind) => push_blob(view, blob, kind, declared),
+        _ => Ok(()),
+    }
+}
+
+/// Appends the text of the signature in a cell, or nothing if the cell is none.
+pub(crate) fn push_signature(
+    view: &View<'_>,
+    table: TableId,
+    row: u32,
+    cell: usize,
+    declared: &mut Declared,
+) -> Result<(), AllocError>
+    requires first { 1 ≤ row }
+    requires last { row ≤ row_count view.now table }
+    requires cell { cell < cell_count table }
+    ensures { (model : Metadata) → IsModel view.now model
+        → OnOk result (Gains (IsSignatureOf model (cell_in model table row cell)) (string_bytes declared.old.text) (string_bytes declared.new.text)) }
+{
+    match view.cell(table, row, cell) {
+        CellRef::Sig(blob) => push_in_column(view, kind_of(table, cell), blob, declared),
+        _ => Ok(()),
+    }
+}
+
+/// Appends the declaration of a method, with its full name and the names of its parameters.
+fn push_method(
+    source: &Neighbours<'_, '_>,
+    row: u32,
+    declared: &mut Declared,
+) -> Result<(), AllocError>
+    requires first { 1 ≤ row }
+    requires last { row ≤ row_count source.now.view.now MethodDef }
+    ensures { (model : Metadata) → IsModel source.now.view.now model
+        → OnOk result (Gains (IsMethodText model row) (string_bytes declared.old.text) (string_bytes declared.new.text)) }
+{
+    metadata::laws::models_are_read();
+    metadata::laws::models_of_roots_are_valid();
+    begin_text(declared);
+    match write_method_within(declared.alloc, source, row, &TextLimit, declared) {
+        Ok(()) => end_text(declared),
+        Err(_) => Err(AllocError),
+    }
+}
+
+/// Appends the declaration of the method that a row is, or nothing if it is of another table.
+pub(crate) fn push_declaration(
+    source: &Neighbours<'_, '_>,
+    table: TableId,
+    row: u32,
+    declared: &mut Declared,
+) -> Result<(), AllocError>
+    requires first { 1 ≤ row }
+    requires last { row ≤ row_count source.now.view.now table }
+    ensures { (model : Metadata) → IsModel source.now.view.now model
+        → OnOk result (Gains (IsDeclarationAt model table row) (string_bytes declared.old.text) (string_bytes declared.new.text)) }
+{
+    match table {
+        TableId::MethodDef => push_method(source, row, declared),
+        _ => Ok(()),
+    }
+}

@@ -1,0 +1,9 @@
+use Rattle.std.specs.Prelude.{flat_map}
+use Rattle.cli_lines.specs.Printed.{Adds, Printed}
+use Rattle.cli_info.specs.Attributes.{item_parts}
+use Rattle.cli_info.proofs.attributes.print_others.Given as goal
+
+-- the parts of the items that are left complete those of all
+abbrev pub invariant-loop-item : goal.invariant-loop-item
+invariant-loop-item g l =
+    (later : Printed _) → Adds l.out later (flat_map item_parts l.item-iterator) → Adds l.initial.out later (flat_map item_parts l.fn.items)

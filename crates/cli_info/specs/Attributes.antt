@@ -1,0 +1,81 @@
+-- The custom attributes of the assembly whose arguments are all strings (ECMA-335 II.22.10 and II.23.3).
+use Rattle.std.specs.Prelude.{ℕ, ◌+◌, ◌-◌, List, [], ◌∷◌, ◌++◌, codes, flat_map, Option, None, Some}
+use Rattle.std.specs.List.{range_with_len}
+use Rattle.table_schema.specs.declared.table.TableId.{TableId}
+use Rattle.table_schema.specs.declared.table.TableId.TheVariants.{CustomAttribute, TypeDef, TypeRef}
+use Rattle.table_schema.specs.declared.token.Token.{Token}
+use Rattle.attribute_values.specs.Items.{Item, fixed, entry, named_count, named}
+use Rattle.assembly_attributes.specs.Constructors.{constructor_of, strings_taken, type_of}
+use Rattle.assembly_attributes.specs.Values.{string_in, strings, texts_in}
+use Rattle.metadata.specs.Metadata.{Metadata, cell_in, count_in}
+use Rattle.cli_declarations.specs.Parts.{bytes_of, text_of}
+use Rattle.cli_lines.specs.declared.names.Name.TheVariants as name
+use Rattle.cli_lines.specs.Lines as line
+use Rattle.cli_lines.specs.Lines.{Part, Value, word, field, note, member, plain, quoted, null}
+use Rattle.cli_print.specs.TypeLines.{dot_after}
+
+abbrev pub quoted_or_null : Option (List ℕ) → Value
+quoted_or_null None = null
+quoted_or_null (Some of) = quoted of
+
+-- an argument in a line of text, if it is a string
+abbrev pub argument_parts : List ℕ → Option (Option (List ℕ)) → List Part
+argument_parts before None = []
+argument_parts before (Some of) = word before ∷ note (quoted_or_null of) ∷ []
+
+-- an argument, and the name of a named one before it
+abbrev pub item_parts : Item → List Part
+item_parts (fixed head) = argument_parts (codes " ") (string_in head)
+item_parts (entry e) = []
+item_parts (named_count n) = []
+item_parts (named of own head) = word (codes " ") ∷ note (line.text own) ∷ argument_parts (codes "=") (string_in head)
+
+-- the first argument, which is in JSON too
+abbrev pub string_parts : Option (Option (List ℕ)) → List Part
+string_parts None = []
+string_parts (Some of) = word (codes " ") ∷ field name.Text (quoted_or_null of) ∷ []
+
+abbrev pub first_parts : Item → List Part
+first_parts (fixed head) = string_parts (string_in head)
+first_parts _ = []
+
+abbrev pub items_parts : List Item → List Part
+items_parts [] = []
+items_parts (first ∷ others) = first_parts first ++ flat_map item_parts others
+
+abbrev pub line_head : List ℕ → List ℕ → List Part
+line_head namespace own =
+    member name.Directive (plain (codes "attribute")) ∷ word (codes "attribute ") ∷ field name.Namespace (line.text namespace)
+    ∷ word (dot_after namespace) ∷ field name.Name (line.text own) ∷ []
+
+-- the name of the type after its namespace and a dot, the fixed arguments, and the named ones
+unfoldable pub attribute_line : List ℕ → List ℕ → List Item → List Part
+attribute_line namespace own items = line_head namespace own ++ items_parts items
+
+-- of a type that is a row of TypeDef or TypeRef
+abbrev pub lines_of_type : Metadata → TableId → ℕ → List Item → List (List Part)
+lines_of_type model TypeDef row items = attribute_line (text_of (cell_in model TypeDef row 2)) (text_of (cell_in model TypeDef row 1)) items ∷ []
+lines_of_type model TypeRef row items = attribute_line (text_of (cell_in model TypeRef row 2)) (text_of (cell_in model TypeRef row 1)) items ∷ []
+lines_of_type model _ row items = []
+
+abbrev pub lines_of_items : Metadata → Option Token → Option (List Item) → List (List Part)
+lines_of_items model (Some class) (Some items) = lines_of_type model class.table class.row items
+lines_of_items model _ _ = []
+
+abbrev pub lines_of_value : Metadata → Option Token → List ℕ → List (List Part)
+lines_of_value model None value = []
+lines_of_value model (Some of) value = lines_of_items model (type_of model of.table of.row) (texts_in (strings (strings_taken model of.table of.row)) value)
+
+-- The line of an attribute. Left out are attributes of anything but the assembly, those whose constructor takes anything but
+-- strings, or none, or too many, those whose type is no row of TypeDef or TypeRef, and those whose value is too long, does not
+-- fit the constructor, or has an argument that is no string.
+unfoldable pub attribute_lines : Metadata → ℕ → List (List Part)
+attribute_lines model row = lines_of_value model (constructor_of model row) (bytes_of (cell_in model CustomAttribute row 2))
+
+-- those of the rows after the first ones
+unfoldable pub attributes_after : Metadata → ℕ → ℕ → List (List Part)
+attributes_after model earlier count = flat_map (attribute_lines model) (range_with_len (earlier + 1) (count - earlier))
+
+-- those of all rows, in order
+abbrev pub attributes_lines : Metadata → List (List Part)
+attributes_lines model = attributes_after model 0 (count_in model CustomAttribute)

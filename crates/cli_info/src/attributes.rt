@@ -1,0 +1,263 @@
+//! Prints the attributes of the assembly whose arguments are all strings (II.22.10 and II.23.3).
+ghost use Rattle.std.specs.Prelude.{◌≡◌, ◌≤◌, ◌<◌, ◌∷◌, [], Some, flat_map, option_map};
+ghost use Rattle.table_schema.specs.declared.table.TableId.TheVariants.{CustomAttribute};
+ghost use Rattle.table_schema.specs.CellColumns.{cell_count};
+ghost use Rattle.attribute_values.specs.Views.{head_view, view};
+ghost use Rattle.metadata.specs.Metadata.{Metadata, cell_in};
+ghost use Rattle.metadata.specs.Model.{IsModel};
+ghost use Rattle.opening.specs.Views.{row_count};
+ghost use Rattle.cli_declarations.specs.Parts.{text_of};
+ghost use Rattle.cli_print.specs.TypeLines.{dot_after};
+ghost use Rattle.cli_lines.specs.Printed.{Adds, Prints};
+ghost use Rattle.cli_lines.specs.Shown.{shown_value};
+ghost use Rattle.assembly_attributes.specs.Constructors.{type_of};
+ghost use Rattle.assembly_attributes.specs.Values.{string_in};
+ghost use Rattle.cli_info.specs.Attributes.{argument_parts, attribute_line, attribute_lines, attributes_lines, first_parts, item_parts, items_parts, lines_of_items, lines_of_type, lines_of_value, quoted_or_null, string_parts};
+
+use assembly_attributes::{constructor_of, params_of, string_in, texts_in, type_of};
+use attribute_values::{Argument, Item, Items};
+use cli_declarations::{bytes, text};
+use cli_lines::Part::{Field, Member, Note, Word};
+use cli_lines::Value::{Null, Plain, Quoted, Text};
+use cli_lines::{Name, Printer, Value};
+use navigation::Neighbours;
+use opening::{TableId, Token, View};
+use std::alloc::Global;
+use std::io::Write;
+
+/// The index of the cell with the value of an attribute (II.22.10).
+const VALUE: usize = 2;
+
+/// The indexes of the cells with the name and the namespace of a type (II.22.37, II.22.38).
+const NAME: usize = 1;
+
+const NAMESPACE: usize = 2;
+
+/// A text in quotes, or `null`.
+fn quoted_or_null(text: Option<&str>) -> Value<'_>
+    ensures { shown_value result ≡ quoted_or_null (option_map (λ of. of.now) text.entry) }
+{
+    match text {
+        Some(text) => Quoted(text),
+        None => Null,
+    }
+}
+
+/// Adds an argument, if it is a string, after what is before it.
+fn print_argument<W: Write>(before: &str, argument: Argument<'_>, out: &mut Printer<'_, W>)
+    ensures { Adds out.old out.new (argument_parts before.now (string_in (head_view argument.entry))) }
+{
+    cli_lines::laws::parts_follow::<W>();
+    match string_in(argument) {
+        Some(text) => {
+            out.part(&Word(before));
+            out.part(&Note(quoted_or_null(text)));
+        }
+        None => {}
+    }
+}
+
+/// Adds an item of a value.
+fn print_item<W: Write>(item: Item<'_>, out: &mut Printer<'_, W>)
+    ensures { Adds out.old out.new (item_parts (view item.entry)) }
+{
+    cli_lines::laws::parts_follow::<W>();
+    match item {
+        Item::Fixed(argument) => print_argument(" ", argument, out),
+        Item::Element(_) => {}
+        Item::NamedCount(_) => {}
+        Item::Named(_, name, argument) => {
+            out.part(&Word(" "));
+            out.part(&Note(Text(name)));
+            print_argument("=", argument, out);
+        }
+    }
+}
+
+/// Adds the items of a value after the first one.
+fn print_others<W: Write>(items: Items<'_>, out: &mut Printer<'_, W>)
+    ensures { Adds out.old out.new (flat_map item_parts items.entry) }
+{
+    cli_lines::laws::parts_follow::<W>();
+    for item in items {
+        print_item(item, out);
+    }
+}
+
+/// Adds the first argument, if it is a string.
+fn print_string<W: Write>(argument: Argument<'_>, out: &mut Printer<'_, W>)
+    ensures { Adds out.old out.new (string_parts (string_in (head_view argument.entry))) }
+{
+    cli_lines::laws::parts_follow::<W>();
+    match string_in(argument) {
+        Some(text) => {
+            out.part(&Word(" "));
+            out.part(&Field(Name::Text, quoted_or_null(text)));
+        }
+        None => {}
+    }
+}
+
+/// Adds the first item of a value.
+fn print_first<W: Write>(item: Item<'_>, out: &mut Printer<'_, W>)
+    ensures { Adds out.old out.new (first_parts (view item.entry)) }
+{
+    cli_lines::laws::parts_follow::<W>();
+    match item {
+        Item::Fixed(argument) => print_string(argument, out),
+        Item::Element(_) => {}
+        Item::NamedCount(_) => {}
+        Item::Named(_, _, _) => {}
+    }
+}
+
+/// Adds the items of a value.
+fn print_items<W: Write>(mut items: Items<'_>, out: &mut Printer<'_, W>)
+    ensures { Adds out.old out.new (items_parts items.entry) }
+{
+    cli_lines::laws::parts_follow::<W>();
+    match items.next() {
+        Some(first) => {
+            print_first(first, out);
+            print_others(items, out);
+        }
+        None => {}
+    }
+}
+
+/// What is between a namespace and a name.
+fn dot_after(namespace: &str) -> &'static str
+    ensures { result.now ≡ dot_after namespace.now }
+{
+    if namespace.is_empty() { "" } else { "." }
+}
+
+/// Prints the line of an attribute whose type has this name.
+#[tactic(auto, unfolding(crate::specs::Attributes::attribute_line))]
+fn print_line<'a, W: Write>(
+    namespace: &'a str,
+    name: &'a str,
+    items: Items<'_>,
+    out: &mut Printer<'_, W>,
+)
+    ensures { Prints out.old out.new (attribute_line namespace.now name.now items.entry ∷ []) }
+{
+    cli_lines::laws::parts_follow::<W>();
+    out.begin(&[
+        Member(Name::Directive, Plain("attribute")),
+        Word("attribute "),
+        Field(Name::Namespace, Text(namespace)),
+        Word(dot_after(namespace)),
+        Field(Name::Name, Text(name)),
+    ]);
+    print_items(items, out);
+    out.end();
+}
+
+/// Prints the line of an attribute whose type is this row.
+fn print_named<W: Write>(
+    view: &View<'_>,
+    table: TableId,
+    row: u32,
+    items: Items<'_>,
+    out: &mut Printer<'_, W>,
+)
+    requires first { 1 ≤ row }
+    requires last { row ≤ row_count view.now table }
+    requires cells { 2 < cell_count table }
+    ensures { (model : Metadata) → IsModel view.now model
+        → Prints out.old out.new (attribute_line (text_of (cell_in model table row 2)) (text_of (cell_in model table row 1)) items.entry ∷ []) }
+{
+    let namespace = text(view, table, row, NAMESPACE);
+    let name = text(view, table, row, NAME);
+    print_line(namespace, name, items, out);
+}
+
+/// Prints the line of an attribute of this type, if that is a row of TypeDef or TypeRef.
+#[tactic(auto, unfolding(table_schema::specs::CellColumns::cell_columns))]
+fn print_typed<W: Write>(view: &View<'_>, class: Token, items: Items<'_>, out: &mut Printer<'_, W>)
+    requires first { 1 ≤ class.row }
+    requires last { class.row ≤ row_count view.now class.table }
+    ensures { (model : Metadata) → IsModel view.now model → Prints out.old out.new (lines_of_type model class.table class.row items.entry) }
+{
+    cli_lines::laws::lines_follow::<W>();
+    match class.table {
+        TableId::TypeDef => print_named(view, TableId::TypeDef, class.row, items, out),
+        TableId::TypeRef => print_named(view, TableId::TypeRef, class.row, items, out),
+        _ => {}
+    }
+}
+
+/// Prints the line of an attribute with this constructor and these arguments.
+fn print_constructed<W: Write>(
+    source: &Neighbours<'_, '_>,
+    of: Token,
+    items: Items<'_>,
+    out: &mut Printer<'_, W>,
+)
+    requires first { 1 ≤ of.row }
+    requires last { of.row ≤ row_count source.now.view.now of.table }
+    ensures { (model : Metadata) → IsModel source.now.view.now model
+        → Prints out.old out.new (lines_of_items model (type_of model of.table of.row) (Some items.entry)) }
+{
+    cli_lines::laws::lines_follow::<W>();
+    match type_of(source, of) {
+        Some(class) => print_typed(source.view, class, items, out),
+        None => {}
+    }
+}
+
+/// Prints the line of an attribute with this constructor and this value, if all arguments are strings.
+fn print_value<W: Write>(
+    source: &Neighbours<'_, '_>,
+    of: Token,
+    value: &[u8],
+    out: &mut Printer<'_, W>,
+)
+    requires first { 1 ≤ of.row }
+    requires last { of.row ≤ row_count source.now.view.now of.table }
+    ensures { (model : Metadata) → IsModel source.now.view.now model → Prints out.old out.new (lines_of_value model (Some of) value.now) }
+{
+    cli_lines::laws::lines_follow::<W>();
+    match texts_in(value, params_of(source.view, of)) {
+        Some(items) => print_constructed(source, of, items, out),
+        None => {}
+    }
+}
+
+/// Prints the line of the attribute in a row, if it has one.
+#[tactic(auto, unfolding(crate::specs::Attributes::attribute_lines, table_schema::specs::CellColumns::cell_columns))]
+fn print_attribute<W: Write>(source: &Neighbours<'_, '_>, row: u32, out: &mut Printer<'_, W>)
+    requires first { 1 ≤ row }
+    requires last { row ≤ row_count source.now.view.now CustomAttribute }
+    ensures { (model : Metadata) → IsModel source.now.view.now model → Prints out.old out.new (attribute_lines model row) }
+{
+    cli_lines::laws::lines_follow::<W>();
+    match constructor_of(source.view, row) {
+        Some(of) => {
+            let value = bytes(source.view, TableId::CustomAttribute, row, VALUE);
+            print_value(source, of, value, out);
+        }
+        None => {}
+    }
+}
+
+/// Prints the lines of all attributes.
+fn print_rows<W: Write>(source: &Neighbours<'_, '_>, out: &mut Printer<'_, W>)
+    ensures { (model : Metadata) → IsModel source.now.view.now model → Prints out.old out.new (attributes_lines model) }
+{
+    cli_lines::laws::lines_follow::<W>();
+    for earlier in 0..source.view.count(TableId::CustomAttribute) {
+        print_attribute(source, earlier + 1, out);
+    }
+}
+
+/// Prints the attributes of the assembly whose arguments are all strings.
+pub(crate) fn print_attributes<W: Write>(alloc: Global, view: &View<'_>, out: &mut Printer<'_, W>)
+    ensures { (model : Metadata) → IsModel view.now model → Prints out.old out.new (attributes_lines model) }
+{
+    match Neighbours::new(alloc, view) {
+        Ok(source) => print_rows(&source, out),
+        Err(_) => out.fail(),
+    }
+}

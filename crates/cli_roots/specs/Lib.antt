@@ -1,0 +1,5 @@
+pub mod Budget
+pub mod Compared
+pub mod Rewritten
+pub mod Embedded
+pub mod Runs

@@ -1,0 +1,41 @@
+//! The budget of a check.
+ghost use Rattle.std.specs.Prelude.{IfErr, IsTrue, OnOk};
+ghost use Rattle.cli_input.specs.Checked.{IsWhole};
+ghost use Rattle.cli_roots.specs.Budget.{IsSpent, StopsWithin};
+
+use cli_input::{Input, open, open_within};
+use opening::BoundedError;
+
+/// Checks bytes against the rules, within a budget if there is one.
+///
+/// # Errors
+///
+/// The fault of the first rule that fails, or that the budget is spent.
+pub fn check_within(bytes: &[u8], input: Input, budget: Option<u64>) -> Result<(), BoundedError>
+    ensures sound { OnOk result (IsWhole input bytes.now) }
+    ensures first_error { IfErr result (StopsWithin budget input bytes.now) }
+{
+    let Some(budget) = budget else {
+        return match open(bytes, input) {
+            Ok(_) => Ok(()),
+            Err(fault) => Err(BoundedError::Fault(fault)),
+        };
+    };
+    match open_within(bytes, input, budget) {
+        Ok(_) => Ok(()),
+        Err(error) => Err(error),
+    }
+}
+
+/// Whether a budget, if there is one, is spent before all rules for the bytes are checked. Without one they are not read.
+pub fn is_spent(bytes: &[u8], input: Input, budget: Option<u64>) -> bool
+    ensures { IsTrue result → IsSpent budget input bytes.now }
+{
+    if budget.is_none() {
+        return false;
+    }
+    match check_within(bytes, input, budget) {
+        Err(BoundedError::BudgetSpent) => true,
+        Ok(()) | Err(BoundedError::Fault(_)) => false,
+    }
+}

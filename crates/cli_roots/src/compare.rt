@@ -1,0 +1,165 @@
+//! `clim compare`: what differs between the metadata of two files.
+ghost use Rattle.std.specs.Prelude.{All, IfErr, IfOk};
+ghost use Rattle.metadata.specs.Metadata.{Metadata};
+ghost use Rattle.metadata.specs.Model.{IsModel};
+ghost use Rattle.comparison.specs.Differences.{IsThere};
+ghost use Rattle.cli_faults.specs.Status.{IsOutput};
+ghost use Rattle.cli_compare.specs.ComparedLines.{compared_lines};
+ghost use Rattle.cli_input.specs.Checked.{IsModelOf, IsWhole};
+ghost use Rattle.cli_lines.specs.Lines.{report_text};
+ghost use Rattle.cli_sending.specs.Sent.{Sent};
+ghost use Rattle.cli_roots.specs.Compared.{IsComparing, IsRefusal, IsShown};
+ghost use Rattle.cli_roots.specs.Runs.{IsFileRun, IsWithin};
+
+use crate::budget::is_spent;
+use cli_compare::print_differences;
+use cli_faults::{Failure, Stop};
+use cli_files::{Stopped, read_file};
+use cli_input::{Input as Given, open};
+use cli_lines::{Form, Printer};
+use comparison::{Difference, IgnoredColumns, differences_but};
+use opening::View;
+use std::alloc::Global;
+use std::io::Write;
+use std::rt::Files;
+
+/// The largest number of cells that are printed.
+const CELLS: usize = 20;
+
+/// How two files are compared.
+#[derive(Clone, Copy, Debug)]
+pub struct CompareOptions {
+    /// What the bytes of the files are.
+    pub input: Given,
+    /// The form in which what differs is printed.
+    pub form: Form,
+    /// The columns whose cells are not compared.
+    pub ignored: IgnoredColumns,
+    /// The largest number of bytes of texts and signature blobs that are checked of each file, if there is a limit.
+    pub budget: Option<u64>,
+}
+
+/// A file that was read.
+#[derive(Clone, Copy, Debug)]
+pub(crate) struct ReadFile<'a, 'b> {
+    /// The path that was given.
+    pub path: &'a str,
+    /// The bytes of the file.
+    pub bytes: &'b [u8],
+}
+
+/// Prints what differs between a file and another besides the cells of ignored columns.
+///
+/// # Errors
+///
+/// One of them cannot be read or breaks a rule; they differ; out of memory, or the output cannot be written.
+pub fn compare_files<'a, R: Files + Input + AllocGlobal, W: Write>(
+    rt: &R,
+    file: &'a str,
+    other: &'a str,
+    options: &CompareOptions,
+    out: &mut W,
+) -> Result<(), Stopped<'a>>
+    ensures { IsFileRun out.old out.new file.now (λ left. IsFileRun out.old out.new other.now
+        (λ right. IsWithin out.old out.new options.now.budget options.now.input left (IsWithin out.old out.new options.now.budget options.now.input right
+        (IsComparing W.contents out.old out.new options.now.form options.now.ignored options.now.input left right file.now other.now)))) result }
+{
+    let left = read_file(rt, file)?;
+    let right = read_file(rt, other)?;
+    let left = ReadFile {
+        path: file,
+        bytes: &left,
+    };
+    let right = ReadFile {
+        path: other,
+        bytes: &right,
+    };
+    if is_spent(left.bytes, options.input, options.budget) {
+        return Err(Stopped::from(Stop::BudgetSpent));
+    }
+    if is_spent(right.bytes, options.input, options.budget) {
+        return Err(Stopped::from(Stop::BudgetSpent));
+    }
+    compare(rt.alloc(), left, right, options, out)
+}
+
+/// Prints what differs between two files besides the cells of ignored columns, or that nothing does. It stops with
+/// `Different` if something differs.
+///
+/// Bytes that are the same are opened once.
+pub(crate) fn compare<'a, W: Write>(
+    alloc: Global,
+    left: ReadFile<'a, '_>,
+    right: ReadFile<'a, '_>,
+    options: &CompareOptions,
+    out: &mut W,
+) -> Result<(), Stopped<'a>>
+    ensures { IsComparing W.contents out.old out.new options.now.form options.now.ignored options.now.input left.entry.bytes.now right.entry.bytes.now left.entry.path.now right.entry.path.now result }
+{
+    let left_view = open_of(left, options.input)?;
+    if left.bytes == right.bytes {
+        return compare_views(alloc, &left_view, &left_view, options, out);
+    }
+    let right_view = open_of(right, options.input)?;
+    compare_views(alloc, &left_view, &right_view, options, out)
+}
+
+/// Prints what differs between two views besides the cells of ignored columns, or that nothing does. It stops with
+/// `Different` if something differs.
+fn compare_views<'a, W: Write>(
+    alloc: Global,
+    left: &View<'_>,
+    right: &View<'_>,
+    options: &CompareOptions,
+    out: &mut W,
+) -> Result<(), Stopped<'a>>
+    ensures { IsShown W.contents out.old out.new options.now.form options.now.ignored (IsModel left.now) (IsModel right.now) result }
+{
+    comparison::laws::models_without_other_differences_are_equal_but();
+    comparison::laws::models_equal_but_for_no_columns_are_equal();
+    metadata::laws::models_of_roots_are_valid();
+    let Ok(found) = differences_but(alloc, left, right, &options.ignored, CELLS) else {
+        return Err(Stopped::from(Failure::OutOfMemory));
+    };
+    match print_found(alloc, options.form, left, right, &found, out) {
+        Err(failure) => Err(Stopped::from(failure)),
+        Ok(()) if found.is_empty() => Ok(()),
+        Ok(()) => Err(Stopped::from(Stop::Different)),
+    }
+}
+
+/// Prints what differs between two views in a form, or that nothing does.
+fn print_found<'a, W: Write>(
+    alloc: Global,
+    form: Form,
+    left: &View<'_>,
+    right: &View<'_>,
+    found: &[Difference],
+    out: &mut W,
+) -> Result<(), Failure<'a>>
+    requires { All (IsThere left.now right.now) found.now }
+    ensures printed { (model other : Metadata) → IsModel left.now model → IsModel right.now other
+        → Sent (W.contents out.old) (W.contents out.new) result (report_text form (compared_lines model other found.now)) }
+    ensures failed { IfErr result IsOutput }
+{
+    let mut printer = Printer::new(alloc, form, out);
+    print_differences(alloc, left, right, found, &mut printer);
+    let (writer, sent) = printer.finish();
+    let _ = writer;
+    sent
+}
+
+/// Opens the bytes of a file. A fault is reported with its path.
+fn open_of<'a, 'b>(file: ReadFile<'a, 'b>, input: Given) -> Result<View<'b>, Stopped<'a>>
+    ensures sound { IfOk result (λ _. IsWhole input file.entry.bytes.now) }
+    ensures models { IfOk result (λ view. (model : Metadata) → IsModelOf input file.entry.bytes.now model → IsModel view model) }
+    ensures first_error { IfErr result (IsRefusal file.entry.path.now input file.entry.bytes.now) }
+{
+    match open(file.bytes, input) {
+        Ok(view) => Ok(view),
+        Err(fault) => {
+            let stop = Stop::Failed(Failure::Fault(fault));
+            Err(Stopped::at(stop, Some(file.path), input, file.bytes))
+        }
+    }
+}

@@ -1,0 +1,237 @@
+//! `clim embed`: a copy of a file with its canonical root, or with another.
+ghost use Rattle.std.specs.Prelude.{◌≡◌, ◌⊎◌, IfErr, OnOk, Some, option_map};
+ghost use Rattle.std.specs.Io.KnownBytes.{Appends};
+ghost use Rattle.cli_faults.specs.Status.{IsOutput, IsUnwritten};
+ghost use Rattle.cli_faults.specs.declared.failure.Failure.{Failure as Why};
+ghost use Rattle.cli_sending.specs.Sent.{SendsPrefix, Sent};
+ghost use Rattle.cli_roots.specs.Embedded.{IsEmbedding, IsLineOf, IsPutDone, IsPutUndone, IsRootRun, IsSent, WarnsOf, failure_of, line_if, warnings};
+ghost use Rattle.cli_roots.specs.Runs.{IsFileRun, IsMixed, StopsBy};
+
+use crate::canonical::canonical_root;
+use crate::compare::ReadFile;
+use crate::one_line::print_one;
+use cli_faults::{Failure, Misfit, Stop};
+use cli_files::{Stopped, read_file};
+use cli_input::Input as Given;
+use cli_lines::Part::{Field, Member, Word};
+use cli_lines::Value::Number;
+use cli_lines::{Form, Name};
+use cli_output::{check_path, write_file};
+use cli_sending::send_message;
+use embedding::{EmbedError, EmbedPlan, StrongName, plan_embedding};
+use std::alloc::Global;
+use std::fmt;
+use std::io::Write;
+use std::rt::Files;
+
+/// What `clim embed` writes, and how.
+#[derive(Clone, Copy, Debug)]
+pub struct EmbedOptions<'a> {
+    /// The path of the file to write.
+    pub path: &'a str,
+    /// The path of the root. Without one it is the canonical root of the file.
+    pub root: Option<&'a str>,
+    /// What becomes of the strong name.
+    pub strong_name: StrongName,
+    /// The form in which the length is printed.
+    pub form: Form,
+}
+
+/// Writes a copy of a file with its canonical root, or with another, and prints the length of the copy. The path of the copy
+/// must not be that of the standard output.
+///
+/// # Errors
+///
+/// The path is that of the standard output; a file cannot be read or breaks a rule; the root does not fit into the file; out
+/// of memory; or the path or the output cannot be written.
+pub fn embed_file<'a, R: Files + Input + AllocGlobal, W: Write, E: Write>(
+    rt: &R,
+    file: &'a str,
+    options: &EmbedOptions<'a>,
+    out: &mut W,
+    err: &mut E,
+) -> Result<(), Stopped<'a>>
+    ensures { IsFileRun out.old out.new file.now (λ bytes. IsRootRun out.old out.new (option_map (λ path. path.now) options.now.root)
+        (λ root outcome. IsEmbedding W.contents R.File.contents out.old out.new options.now.form options.now.strong_name bytes options.now.path.now root outcome
+        × WarnsOf options.now.strong_name bytes err.old err.new)) result
+        ⊎ IsMixed out.old out.new options.now.path.now result }
+{
+    check_path(rt, options.path)?;
+    let bytes = read_file(rt, file)?;
+    let file = ReadFile {
+        path: file,
+        bytes: &bytes,
+    };
+    match options.root {
+        None => embed(rt, file, None, options, out, err),
+        Some(path) => {
+            let root = read_file(rt, path)?;
+            embed(rt, file, Some(&root), options, out, err)
+        }
+    }
+}
+
+/// Writes a copy of a file with a root, or with its canonical root if there is none, and prints its length.
+fn embed<'a, R: Files + AllocGlobal, W: Write, E: Write>(
+    rt: &R,
+    file: ReadFile<'a, '_>,
+    given: Option<&[u8]>,
+    options: &EmbedOptions<'a>,
+    out: &mut W,
+    err: &mut E,
+) -> Result<(), Stopped<'a>>
+    ensures run { IsEmbedding W.contents R.File.contents out.old out.new options.now.form options.now.strong_name file.entry.bytes.now
+        options.now.path.now (option_map (λ root. root.now) given.entry) result }
+    ensures quiet { WarnsOf options.now.strong_name file.entry.bytes.now err.old err.new }
+{
+    match given {
+        Some(root) => put(rt, file, root, options, out, err),
+        None => {
+            let root = canonical_root(rt.alloc(), file.bytes, Given::File)?;
+            put(rt, file, root.bytes(), options, out, err)
+        }
+    }
+}
+
+/// Writes a copy of a file with this root, and prints its length.
+fn put<'a, R: Files + AllocGlobal, W: Write, E: Write>(
+    rt: &R,
+    file: ReadFile<'a, '_>,
+    root: &[u8],
+    options: &EmbedOptions<'a>,
+    out: &mut W,
+    err: &mut E,
+) -> Result<(), Stopped<'a>>
+    ensures done { OnOk result (IsPutDone W.contents R.File.contents out.old out.new options.now.form options.now.strong_name file.entry.bytes.now root.now) }
+    ensures stopped { IfErr result (λ stopped. (failure : Why) × StopsBy failure stopped
+        × IsPutUndone W.contents R.File.contents out.old out.new options.now.form options.now.strong_name file.entry.bytes.now options.now.path.now root.now failure) }
+    ensures quiet { WarnsOf options.now.strong_name file.entry.bytes.now err.old err.new }
+{
+    match plan_embedding(file.bytes, root, options.strong_name) {
+        Ok(plan) => Ok(write(rt, &plan, file.path, options, out, err)?),
+        Err(error) => Err(refused(error, file.path, options.root)),
+    }
+}
+
+/// Writes what was planned for a file, and prints its length.
+fn write<'a, R: Files + AllocGlobal, W: Write, E: Write>(
+    rt: &R,
+    plan: &EmbedPlan<'_>,
+    file: &str,
+    options: &EmbedOptions<'a>,
+    out: &mut W,
+    err: &mut E,
+) -> Result<(), Failure<'a>>
+    ensures done { OnOk result (IsSent R.File.contents plan.now options.now.form (λ text. Appends (W.contents out.old) (W.contents out.new) text)) }
+    ensures stopped { IfErr result (λ failure. (IsUnwritten options.now.path.now failure × (out.new ≡ out.old))
+        ⊎ (IsOutput failure × IsSent R.File.contents plan.now options.now.form (λ text. SendsPrefix (W.contents out.old) (W.contents out.new) text))) }
+    ensures quiet { WarnsOf plan.now.strong_name plan.now.file err.old err.new }
+{
+    let Ok(bytes) = plan.make(rt.alloc()) else {
+        return Err(Failure::OutOfMemory);
+    };
+    let read = [file, options.root.unwrap_or(file)];
+    write_file(rt, &bytes, &read, options.path)?;
+    warn(rt.alloc(), plan, err);
+    print_length(rt.alloc(), plan, options.form, out)
+}
+
+/// Prints the length of what was written, and in JSON where the root is in it.
+#[tactic(auto, unfolding(crate::specs::Embedded::embed_line))]
+fn print_length<'a, W: Write>(
+    alloc: Global,
+    plan: &EmbedPlan<'_>,
+    form: Form,
+    out: &mut W,
+) -> Result<(), Failure<'a>>
+    ensures sent { IsLineOf plan.now form (Sent (W.contents out.old) (W.contents out.new) result) }
+    ensures failed { IfErr result IsOutput }
+{
+    let range = plan.root_range();
+    let length = Number(plan.len() as u64);
+    let offset = Number(range.start as u64);
+    let size = Number((range.end - range.start) as u64);
+    let line = [
+        Word("wrote "),
+        Field(Name::Length, length),
+        Word(" bytes"),
+        Member(Name::Offset, offset),
+        Member(Name::Size, size),
+    ];
+    print_one(alloc, form, &line, out)
+}
+
+/// The signatures of a file that no longer fit. `Display` gives a line for each.
+#[derive(Clone, Copy)]
+struct Stale {
+    name: bool,
+    certificate: bool,
+}
+
+impl fmt::Display for Stale {
+    ghost output = { λ stale. Some (warnings stale.name stale.certificate) };
+
+    fn fmt<W: fmt::Write>(&self, f: &mut fmt::Formatter<W>) -> fmt::Result {
+        let name = line_if(
+            self.name,
+            "warning: the strong name no longer fits; sign OUT again, or clear it by '--unsigned'\n",
+        );
+        let certificate = line_if(
+            self.certificate,
+            "warning: the certificate no longer fits; OUT has none\n",
+        );
+        write!(f, "{name}{certificate}")
+    }
+}
+
+/// A line, or nothing if it is not meant.
+fn line_if<'a>(is_meant: bool, line: &'a str) -> &'a str
+    ensures { result.now ≡ line_if is_meant line.now }
+{
+    if is_meant { line } else { "" }
+}
+
+/// Reports the signatures of a file that no longer fit.
+fn warn<E: Write>(alloc: Global, plan: &EmbedPlan<'_>, err: &mut E)
+    ensures { WarnsOf plan.now.strong_name plan.now.file err.old err.new }
+{
+    let stale = Stale {
+        name: plan.has_stale_name(),
+        certificate: plan.has_certificate(),
+    };
+    if stale.name || stale.certificate {
+        // A warning that cannot be written changes nothing.
+        let _ = send_message(alloc, &stale, err);
+    }
+}
+
+/// The stop for a root that is refused. A fault is reported with the path of its file, if there are two.
+fn refused<'a>(error: EmbedError, file: &'a str, root: Option<&'a str>) -> Stopped<'a>
+    ensures { StopsBy (failure_of error) result }
+{
+    let about = match error {
+        EmbedError::File(_) if root.is_some() => Some(file),
+        EmbedError::Root(_) => root,
+        _ => None,
+    };
+    Stopped {
+        stop: Stop::Failed(failure_of(error)),
+        file: about,
+        hint: None,
+    }
+}
+
+/// What reports why a root was not put into a file.
+fn failure_of<'a>(error: EmbedError) -> Failure<'a>
+    ensures { result ≡ failure_of error }
+{
+    match error {
+        EmbedError::File(fault) | EmbedError::Root(fault) => Failure::Fault(fault),
+        EmbedError::Unlike => Failure::CannotEmbed(Misfit::Unlike),
+        EmbedError::Headers => Failure::CannotEmbed(Misfit::Headers),
+        EmbedError::Occupied => Failure::CannotEmbed(Misfit::Occupied),
+        EmbedError::NoRoom => Failure::CannotEmbed(Misfit::NoRoom),
+        EmbedError::TooLong => Failure::CannotEmbed(Misfit::TooLong),
+        EmbedError::Memory => Failure::OutOfMemory,
+    }
+}

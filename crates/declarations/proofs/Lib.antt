@@ -1,0 +1,3 @@
+mod ParamLemmas
+mod ParamExists
+mod ParamNames

@@ -1,0 +1,97 @@
+-- Each parameter has a text, and each piece of a declaration.
+use Rattle.std.proofs.Common.{◌≡◌, ℕ, ◌<◌, ◌≤◌, List, [], ◌∷◌, ◌++◌, ◌⊎◌, inl, inr, refl, ap, ◌∙◌, arith}
+use Rattle.std.specs.Prelude.{codes}
+use Rattle.std.specs.Fmt.{decimal, signed_decimal}
+use Rattle.std.proofs.lemmas.Bool.{cases_eq, cases_lt}
+use Rattle.table_schema.specs.declared.table.TableId.TheVariants.{Param}
+use Rattle.table_schema.specs.declared.column.ColumnKind.TheVariants as kind
+use Rattle.table_schema.specs.CellColumns.{cell_columns}
+use Rattle.table_schema.specs.declared.token.Token.{Token}
+use Rattle.sig_text.specs.SignatureText.{Piece, word, number, signed, name, method_name, param_name}
+use Rattle.metadata.specs.Cell.{Cell, Number, Text, Bytes, Guid, Ref, Start, Sig}
+use Rattle.metadata.specs.Kinds.{IsOfKind}
+use Rattle.metadata.specs.Lookups.{HasRow}
+use Rattle.metadata.specs.Metadata.{Metadata, cell_in, count_in}
+use Rattle.metadata.specs.Valid.{IsValid}
+use Rattle.full_names.specs.declared.quoted.NameKind.TheVariants.{Member}
+use Rattle.full_names.specs.Quoted.{name_text}
+use Rattle.full_names.specs.Texts.{ArePiecesText}
+use Rattle.full_names.proofs.NameExists.{HasText, any_name, first_row, is_text}
+use Rattle.declarations.specs.Declarations.{IsDeclaredPiece, IsParamText, position_in, position_of, spaced}
+use Rattle.declarations.proofs.ParamLemmas.{found_text}
+
+is_number : (cell : Cell) → IsOfKind kind.U16 cell → cell ≡ Number (position_of cell)
+is_number (Number value) of = refl
+is_number (Text text) of = absurd of
+is_number (Ref reference) of = absurd of
+is_number (Bytes bytes) of = absurd of
+is_number (Guid guid) of = absurd of
+is_number (Start start) of = absurd of
+is_number (Sig signature) of = absurd of
+
+module _ (model : Metadata) (valid : IsValid model) (first past position : ℕ) where
+  param_number : (row : ℕ) → HasRow model Param row → cell_in model Param row 1 ≡ Number (position_of (cell_in model Param row 1))
+  unfolding cell_columns
+  param_number row there = is_number (cell_in model Param row 1) (valid.cells Param row 1 there (omega arith)).of_kind
+
+  param_own : (row : ℕ) → HasRow model Param row → (own : List ℕ) × (cell_in model Param row 2 ≡ Text own)
+  unfolding cell_columns
+  param_own row there = is_text (cell_in model Param row 2) (valid.cells Param row 2 there (omega arith)).of_kind
+
+  abbrev is_at : ℕ → Type 0
+  is_at row = (first ≤ row) × (row < past) × (position_in model row ≡ position)
+
+  at_or_not : (row : ℕ) → is_at row ⊎ ¬ is_at row
+  at_or_not row = elim (cases_lt row first) [
+    | inl before ↦ inr (λ is. let from = is.0 in absurd (omega (arith, before, from)))
+    | inr from ↦ elim (cases_lt row past) [
+      | inr after ↦ inr (λ is. let to = is.1 in absurd (omega (arith, after, to)))
+      | inl to ↦ elim (cases_eq (position_in model row) position) [
+        | inl same ↦ inl (from, to, same)
+        | inr differs ↦ inr (λ is. differs is.2)
+      ]
+    ]
+  ]
+
+  pub param_is : (row : ℕ) → HasRow model Param row → is_at row → ((earlier : ℕ) → HasRow model Param earlier → earlier < row → ¬ is_at earlier)
+      → (own : List ℕ) → cell_in model Param row 2 ≡ Text own → IsParamText model first past position (spaced own)
+  param_is row there at none own is = found_text model first past position row own (record {
+    there = there;
+    from = at.0;
+    to = at.1;
+    sequence = param_number row there ∙ ap (λ (n : ℕ). Number n) at.2;
+    before = λ earlier before from same. elim (cases_lt earlier row) [
+      | inl less ↦ let to = at.1 in absurd (none earlier before less (from, omega (arith, less, to), ap position_of same))
+      | inr least ↦ least
+    ];
+  }) is
+
+  pub param_none : ((row : ℕ) → HasRow model Param row → ¬ is_at row) → IsParamText model first past position []
+  param_none none = record {
+    named = λ row at own is. absurd (none row at.there (at.from, at.to, ap position_of at.sequence));
+    unnamed = λ _. refl;
+  }
+
+  pub param_text : HasText (IsParamText model first past position)
+  param_text = elim (first_row is_at at_or_not (count_in model Param)) [
+    | inl found ↦ let own = param_own found.0 found.1.0 in (spaced own.0, param_is found.0 found.1.0 found.1.1 (λ earlier there less. found.1.2 earlier there.0 less) own.0 own.1)
+    | inr none ↦ ([], param_none (λ row there. none row there.0 there.1))
+  ]
+
+-- ---- the pieces of a declaration
+
+module _ (model : Metadata) (valid : IsValid model) (class : Token) (own : List ℕ) (first past : ℕ) where
+  declared_piece : (piece : Piece) → HasText (IsDeclaredPiece model class own first past piece)
+  declared_piece method_name = let of = any_name model valid class in (of.0 ++ (codes "::" ++ name_text Member own), (of.0, of.1, refl))
+  declared_piece (param_name position) = param_text model valid first past position
+  declared_piece (word of) = (of, refl)
+  declared_piece (number of) = (decimal of, refl)
+  declared_piece (signed of) = (signed_decimal of, refl)
+  declared_piece (name token) = any_name model valid token
+
+  pub declared_texts : (pieces : List Piece) → HasText (ArePiecesText (IsDeclaredPiece model class own first past) pieces)
+  declared_texts [] = ([], refl)
+  declared_texts (piece ∷ pieces) =
+      let one = declared_piece piece in
+      let more = declared_texts pieces in
+      (one.0 ++ more.0, (one.0, one.1, more.0, more.1, refl))

@@ -1,0 +1,42 @@
+use Rattle.std.proofs.Common.{◌∙◌, ◌-◌, ◌≤◌, List, ap, arith}
+use Rattle.std.specs.List.{filter}
+use Rattle.std.proofs.lemmas.List.Elements.{All-filter, All-same}
+use Rattle.table_schema.specs.declared.table.TableId.TheVariants.{Param}
+use Rattle.navigation.specs.declared.keyed.KeyedRow.{KeyedRow}
+use Rattle.navigation.specs.Keyed.{has_key}
+use Rattle.declarations.proofs.params.Params.new.Goals as goal
+
+pub returns-clause-rows : goal.returns-clause-rows
+returns-clause-rows g c = λ model shown.
+    let first = c.min-first.result in
+    let past = c.max-past.result in
+    let rows = c.holds_one.ensures.rows model shown Param in
+    let count = c.count.ensures.rows in
+    let least = c.min.ensures in
+    let end = c.max-past.ensures in
+    let most = c.max.ensures in
+    let begin = c.min-first.ensures in (
+      first,
+      past - first,
+      λ position. c.in_ok-sort_by_key.ensures.stable position ∙ ap (λ (rows : List KeyedRow). filter (has_key position) rows) (c.in_ok-found.ensures.rows model shown),
+      λ row. (
+        λ is.
+            let there = is.0.0 in
+            let last = is.0.1 in
+            let from = is.1 in
+            let to = is.2 in (omega (arith, there, last, from, to, rows, count, least, end, most, begin), omega (arith, there, last, from, to, rows, count, least, end, most, begin)),
+        λ is.
+            let low = is.0 in
+            let high = is.1 in (
+              (omega (arith, low, high, rows, count, least, end, most, begin), omega (arith, low, high, rows, count, least, end, most, begin)),
+              omega (arith, low, high, rows, count, least, end, most, begin),
+              omega (arith, low, high, rows, count, least, end, most, begin),
+            ),
+      ),
+    )
+
+pub invariant_of-result-clause-within : goal.invariant_of-result-clause-within
+invariant_of-result-clause-within g c = λ key.
+    let read = c.in_ok-found.found.items in
+    let within : KeyedRow → Type 0 = λ param. (1 ≤ param.row) × (param.row ≤ g.S.ReadMetadata.row_count c.args.source.now Param) in
+    All-same within _ (filter (has_key key) read) (c.in_ok-sort_by_key.ensures.stable key) (All-filter (has_key key) within read c.in_ok-found.ensures.within)

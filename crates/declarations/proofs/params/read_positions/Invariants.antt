@@ -1,0 +1,14 @@
+use Rattle.std.proofs.Common.{◌≡◌, ◌-◌, ◌≤◌}
+use Rattle.std.specs.List.{All}
+use Rattle.table_schema.specs.declared.table.TableId.TheVariants.{Param}
+use Rattle.metadata.specs.Metadata.{Metadata}
+use Rattle.navigation.specs.Keyed.{keyed_rows}
+use Rattle.declarations.specs.Declarations.{position_in}
+use Rattle.declarations.proofs.params.read_positions.Given as goal
+
+-- the rows before this one are read
+abbrev pub invariant-loop-row : goal.invariant-loop-row
+invariant-loop-row g l = record {
+  within : All (λ param. (1 ≤ param.row) × (param.row ≤ g.S.ReadMetadata.row_count l.source Param)) l.read.items;
+  rows : (model : Metadata) → g.S.ReadMetadata.shows l.source model → l.read.items ≡ keyed_rows (position_in model) l.first (l.row - l.first);
+}

@@ -1,0 +1,19 @@
+//! Declarations of methods and texts of signatures, in the notation of ILAsm (ECMA-335 II.15.3), with the names that
+//! `full_names` writes, and the words of flags (II.23.1). Of a method, eight bytes are allocated for each row of Param, and
+//! the bytes of signatures that are held as values.
+//!
+//! ```text
+//! write_method(alloc, &view, method, &mut out)?; // string Hello.Greeter::Greet(string name, int32 times)
+//! ```
+#![tactic(auto)]
+
+mod flag_words;
+mod method_text;
+mod methods;
+mod params;
+mod signature_text;
+
+pub use flag_words::{FlagTable, FlagWord, words_of};
+pub use full_names::{Limit, NoLimit, ReadCells, ReadMetadata, TableId, TextError, Token};
+pub use methods::{write_method, write_method_within};
+pub use signature_text::write_signature_text;

@@ -1,0 +1,154 @@
+ghost use Rattle.std.specs.Prelude.{◌≡◌, None};
+ghost use Rattle.table_schema.specs.declared.column.SigKind.TheVariants.{MethodDef};
+ghost use Rattle.sig_grammar.specs.Syntax.{Method, method_body};
+ghost use Rattle.sig_grammar.specs.Encodes.{Encodes};
+ghost use Rattle.sig_text.specs.SignatureText.{declared_text};
+ghost use Rattle.metadata.specs.Metadata.{Metadata};
+ghost use Rattle.full_names.specs.Names.{Wrote};
+ghost use Rattle.full_names.specs.TextEnd.{IsWhole};
+ghost use Rattle.full_names.specs.Texts.{ArePiecesText};
+ghost use Rattle.declarations.specs.Declarations.{AreParams, IsDeclaredPiece};
+
+use crate::params::{Params, write_spaced};
+use full_names::{
+    Limit, TextEnd, keep, keep_refusal, write_full_name_within, write_member_name, write_number,
+    write_signed, write_text,
+};
+use navigation::ReadCells;
+use sig_text::{MethodSink, TextSink, write_encoded_method};
+use std::alloc::Global;
+use std::fmt;
+use table_schema::Token;
+
+/// What the declaration of a method has besides its signature.
+#[derive(Clone, Copy)]
+pub struct Declared<'s> {
+    /// Its type.
+    pub class: Token,
+    /// Its name.
+    pub name: &'s str,
+    /// The first row of its parameters.
+    pub first: u32,
+    /// The row after that of its last parameter.
+    pub past: u32,
+}
+
+/// A sink for the declaration of a method.
+#[derive(Drop)]
+pub struct MethodText<'s, 'w, S: ReadCells, W, L> {
+    alloc: Global,
+    params: &'s Params<'s, S>,
+    writer: &'w mut W,
+    limit: &'s L,
+    of: Declared<'s>,
+    /// Why it takes no more, if it does not.
+    pub ended: Option<TextEnd>,
+}
+
+impl<'s, 'w, S: ReadCells, W: fmt::Write, L: Limit<W>> MethodText<'s, 'w, S, W, L> {
+    /// A sink that has not yet received a piece.
+    pub fn new(
+        alloc: Global,
+        params: &'s Params<'s, S>,
+        of: Declared<'s>,
+        limit: &'s L,
+        writer: &'w mut W,
+    ) -> MethodText<'s, 'w, S, W, L>
+        ensures params { result.params.now ≡ params.now }
+        ensures same { result.writer.ghost_name ≡ writer.entry.ghost_name }
+        ensures writer { result.writer.now ≡ writer.old }
+        ensures of { result.of ≡ of.entry }
+        ensures ended { result.ended ≡ None }
+    {
+        MethodText {
+            alloc,
+            params,
+            writer,
+            limit,
+            of,
+            ended: None,
+        }
+    }
+}
+
+impl<S: ReadCells, W: fmt::Write, L: Limit<W>> TextSink for MethodText<'_, '_, S, W, L> {
+    ghost use Rattle.std.specs.Prelude.{◌≡◌, ℕ, List, false, true, is_some};
+    ghost use Rattle.metadata.specs.Metadata.{Metadata};
+    ghost use Rattle.full_names.specs.Names.{Wrote};
+    ghost use Rattle.full_names.specs.TextEnd.{IsWhole};
+    ghost use Rattle.declarations.specs.Declarations.{AreParams, IsDeclaredPiece};
+
+    ghost refused = { λ s. is_some s.ended };
+
+    ghost gives = { λ s piece taken t.
+        (taken ≡ true → (t.ended ≡ s.ended) × (t.params.now ≡ s.params.now) × (t.of ≡ s.of) × (t.writer.ghost_name ≡ s.writer.ghost_name)
+        × ((model : Metadata) → S.shows s.params.now.source.now model → AreParams model s.of.first s.of.past s.params.now.rows.items
+        → Wrote W.write_str_gives s.writer.now (IsDeclaredPiece model s.of.class s.of.name.now s.of.first s.of.past piece) t.writer.now))
+        × (taken ≡ false → IsWhole t.ended → (t.writer.ghost_name ≡ s.writer.ghost_name)
+        × ((text : List ℕ) → W.write_str_gives s.writer.now text t.writer.now)) };
+
+    fn text(&mut self, text: &str) -> Option<()> {
+        if self.limit.is_reached(self.writer) {
+            self.ended = Some(TextEnd::Limit);
+            return None;
+        }
+        let written = write_text(self.writer, text);
+        keep_refusal(&mut self.ended, written)
+    }
+
+    fn number(&mut self, number: u32) -> Option<()> {
+        let written = write_number(self.writer, number);
+        keep_refusal(&mut self.ended, written)
+    }
+
+    fn signed(&mut self, value: i64) -> Option<()> {
+        let written = write_signed(self.writer, value);
+        keep_refusal(&mut self.ended, written)
+    }
+
+    fn name(&mut self, token: Token) -> Option<()> {
+        let written = write_full_name_within(
+            self.alloc,
+            self.params.source,
+            token,
+            self.limit,
+            self.writer,
+        );
+        keep(&mut self.ended, written)
+    }
+}
+
+impl<S: ReadCells, W: fmt::Write, L: Limit<W>> MethodSink for MethodText<'_, '_, S, W, L> {
+    fn method_name(&mut self) -> Option<()> {
+        let of = self.of;
+        let written = write_member_name(
+            self.alloc,
+            self.params.source,
+            of.class,
+            of.name,
+            self.limit,
+            self.writer,
+        );
+        keep(&mut self.ended, written)
+    }
+
+    fn param_name(&mut self, position: u32) -> Option<()> {
+        let written = write_spaced(self.writer, self.params.name(position), self.limit);
+        keep_refusal(&mut self.ended, written)
+    }
+}
+
+/// Puts the declaration of a method into its sink, from the bytes of its signature.
+pub fn put_declaration<S: ReadCells, W: fmt::Write, L: Limit<W>>(
+    sink: &mut MethodText<'_, '_, S, W, L>,
+    bytes: &[u8],
+)
+    ensures { (model : Metadata) → S.shows sink.old.params.now.source.now model → (method : Method) → Encodes MethodDef (method_body method) bytes.now
+        → AreParams model sink.old.of.first sink.old.of.past sink.old.params.now.rows.items → sink.old.ended ≡ None → IsWhole sink.new.ended
+        → (sink.new.writer.ghost_name ≡ sink.old.writer.ghost_name) × Wrote W.write_str_gives sink.old.writer.now
+        (ArePiecesText (IsDeclaredPiece model sink.old.of.class sink.old.of.name.now sink.old.of.first sink.old.of.past) (declared_text method))
+        sink.new.writer.now }
+{
+    sink.params.source.holds_one();
+    let _ = write_encoded_method(sink, bytes);
+}

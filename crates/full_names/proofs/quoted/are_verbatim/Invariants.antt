@@ -1,0 +1,6 @@
+use Rattle.std.proofs.Common.{ℕ, ◌<◌, IsTrue, slice_index}
+use Rattle.full_names.specs.Quoted.{is_verbatim}
+use Rattle.full_names.proofs.quoted.are_verbatim.Given as goal
+
+abbrev pub invariant-loop-byte : goal.invariant-loop-byte
+invariant-loop-byte l = IsTrue l.all → (k : ℕ) → k < l.byte-index → IsTrue (is_verbatim (slice_index l.text k))

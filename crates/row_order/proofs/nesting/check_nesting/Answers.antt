@@ -1,0 +1,21 @@
+use Rattle.std.proofs.Common.{arith}
+use Rattle.std.proofs.lemmas.Result.{err_from_is_err_and}
+use Rattle.packed.proofs.RuleLemmas.{before_none, before_more, before_all, before_fails}
+use Rattle.metadata.specs.Rules.{rules_of_nesting}
+use Rattle.row_order.proofs.nesting.check_nesting.Goals as goal
+
+pub loop-row-init : goal.loop-row-init
+loop-row-init c = before_none _ _ _ (omega arith)
+
+pub loop-row-preserved : goal.loop-row-preserved
+loop-row-preserved c = before_more _ _ _ c.loop-row.invariant c.in_ok-check_nested.ensures
+
+pub returns-in_err-check_nested : goal.returns-in_err-check_nested
+unfolding rules_of_nesting
+returns-in_err-check_nested c =
+    let p = err_from_is_err_and c.from_residual.result c.from_residual.ensures.1 in
+    rw (p.1, p.2) (before_fails _ _ _ _ _ c.loop-row.invariant c.loop-row.auto.row (omega arith) c.in_err-check_nested.ensures)
+
+pub returns : goal.returns
+unfolding rules_of_nesting
+returns c = before_all _ _ _ _ c.loop-row.invariant (omega arith)
