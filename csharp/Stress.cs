@@ -3,8 +3,9 @@
 //     Stress.exe threads FILE SECONDS     two threads for this time in each call: one calls, and another writes the bytes
 //         [NAME..]                        that were given, closes the assembly, or changes the tables. With names, in the
 //                                         calls that have them
-//     Stress.exe growth FOLDER            calls on the roots of python/tests/hostile_roots.py. The time and the memory for
-//                                         twice the bytes may be 2.3 times those for the bytes
+//     Stress.exe growth FOLDER            calls on the roots of python/tests/hostile_roots.py. The memory for twice the
+//                                         bytes may be 2.3 times that for the bytes, and the time, which caches and other
+//                                         programs change, 2.8 times
 
 using System;
 using System.Collections.Generic;
@@ -18,10 +19,10 @@ using Assembly = Clim.Assembly;
 
 static class Stress
 {
-    // How often the time or the memory for half the bytes those for all may be.
-    const double MostGrowth = 2.3;
+    // How often the memory, or the time, for half the bytes those for all may be. A square gives 4.
+    const double MostMemory = 2.3, MostTime = 2.8;
     // A call is measured this number of times at most, until the least of each size show that it grows as it may.
-    const int Runs = 5;
+    const int Runs = 20;
     // The longest time after which an assembly is closed, in milliseconds.
     const int Longest = 3;
 
@@ -220,8 +221,9 @@ static class Stress
     static void Measure(string folder, string text, string name, Func<double> measure, Action<Assembly> call)
     {
         var roots = new[] { 1, 2, 4 }.Select(times => File.ReadAllBytes(Path.Combine(folder, name + "." + times)));
+        double most = measure == Now ? MostTime : MostMemory;
         double[] least = null;
-        for (int run = 0; run < Runs && (least == null || Grows(least)); run++)
+        for (int run = 0; run < Runs && (least == null || Grows(least, most)); run++)
         {
             var found = roots.Select(root => Added(measure, root, call)).ToArray();
             least = least == null ? found : found.Zip(least, Math.Min).ToArray();
@@ -229,10 +231,10 @@ static class Stress
         string unit = measure == Now ? " ms" : " MB";
         string shown = text + " of " + name + ": " + string.Join(", ", least.Select(it => (it / 1e6).ToString("F2") + unit));
         Console.WriteLine(shown);
-        Report(!Grows(least), shown);
+        Report(!Grows(least, most), shown);
     }
 
-    static bool Grows(double[] least) { return least[2] > MostGrowth * MostGrowth * least[0]; }
+    static bool Grows(double[] least, double most) { return least[2] > most * most * least[0]; }
 
     // The root of the tables of an assembly, with another name in the first row.
     static void Change(Assembly assembly)
