@@ -1,3 +1,4 @@
+pub mod AsIsLemmas
 pub mod TextLemmas
 pub mod LayoutLemmas
 pub mod PieceLemmas

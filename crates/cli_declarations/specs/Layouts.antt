@@ -48,7 +48,7 @@ parts_of MethodImpl = word (codes ".override") ∷ name_after (codes " ") 2 ∷ 
 -- II.18, II.22.13
 parts_of Event = word (codes "  .event") ∷ flags table.Mapped 0 ∷ name_after (codes " ") 2 ∷ word (codes " ") ∷ own_name ∷ []
 -- II.17, II.22.34
-parts_of Property = word (codes "  .property") ∷ flags table.Mapped 0 ∷ word (codes " ") ∷ signature 2 ∷ word (codes " ") ∷ own_name ∷ []
+parts_of Property = word (codes "  .property") ∷ flags table.Mapped 0 ∷ word (codes " ") ∷ declaration ∷ []
 -- II.17, II.18, II.22.28
 parts_of MethodSemantics = word (codes "   ") ∷ flags table.Semantics 0 ∷ name_after (codes " ") 1 ∷ name_after (codes " of ") 2 ∷ []
 -- II.15.5.2, II.22.22

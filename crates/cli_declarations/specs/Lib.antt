@@ -1,3 +1,4 @@
+pub mod AsIs
 pub mod Texts
 pub mod Parts
 pub mod Layouts

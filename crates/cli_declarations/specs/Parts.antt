@@ -2,10 +2,11 @@
 use Rattle.std.specs.Prelude.{◌≡◌, ℕ, ◌%◌, ◌==◌, Bool, nat_lt, if◌then◌else◌, List, [], ◌∷◌, ◌++◌, length, take, codes, count_by, Option, None, Some}
 use Rattle.std.specs.Prelude.{decimal as digits}
 use Rattle.table_schema.specs.declared.table.TableId.{TableId}
-use Rattle.table_schema.specs.declared.table.TableId.TheVariants.{MethodDef}
+use Rattle.table_schema.specs.declared.table.TableId.TheVariants.{MethodDef, Property}
 use Rattle.table_schema.specs.declared.token.Token.{Token}
 use Rattle.table_schema.specs.Tokens.{token_text}
-use Rattle.sig_grammar.specs.Syntax.{Body, Method, method_body}
+use Rattle.sig_grammar.specs.Syntax.{Body, Method, Slot, method_body, property}
+use Rattle.sig_text.specs.Declares.{as_method}
 use Rattle.sig_text.specs.SignatureText.{text_of as pieces_of_signature}
 use Rattle.metadata.specs.Cell.{Cell, Number, Text, Bytes, Ref, Sig}
 use Rattle.metadata.specs.Metadata.{Metadata, cell_in}
@@ -13,7 +14,7 @@ use Rattle.full_names.specs.declared.quoted.NameKind.TheVariants.{Dotted}
 use Rattle.full_names.specs.Quoted.{name_text, quoted_bytes}
 use Rattle.full_names.specs.RowNames.{IsRowName}
 use Rattle.full_names.specs.Texts.{ArePiecesText, IsFullName, IsPieceText}
-use Rattle.declarations.specs.Declarations.{IsDeclaration}
+use Rattle.declarations.specs.Declarations.{IsDeclaration, IsPropertyDeclaration}
 use Rattle.cli_lines.specs.Texts.{escaped_bytes}
 use Rattle.declarations.specs.FlagWords.{words_of, words_text}
 use Rattle.declarations.specs.declared.flag_words.FlagTable.{FlagTable}
@@ -41,7 +42,7 @@ pub data Part : Type 0 where
   token_after : List ℕ → ℕ → Part
   -- the signature in a cell, with the full names of types (II.23.2)
   signature : ℕ → Part
-  -- the declaration of the method that the row is (II.15.3)
+  -- the declaration of the method (II.15.3) or the property (II.17) that the row is
   declaration : Part
   -- the name of the row
   own_name : Part
@@ -119,9 +120,16 @@ abbrev pub IsMethodText : Metadata → ℕ → List ℕ → Type 0
 IsMethodText model row out =
     (method : Method) × (cell_in model MethodDef row 4 ≡ Sig (method_body method)) × (plain : List ℕ) × IsDeclaration model row method plain × (out ≡ cut_text plain)
 
--- the same of a row, which has no text if it is no method
+-- the declaration of a property, with its full name, up to the limit (II.17)
+abbrev pub IsPropertyText : Metadata → ℕ → List ℕ → Type 0
+IsPropertyText model row out =
+    (this : Bool) × (of : Slot) × (params : List Slot) × (cell_in model Property row 2 ≡ Sig (property this of params))
+    × (plain : List ℕ) × IsPropertyDeclaration model row (as_method this of params) plain × (out ≡ cut_text plain)
+
+-- the same of a row, which has no text if it is neither
 abbrev pub IsDeclarationAt : Metadata → TableId → ℕ → List ℕ → Type 0
 IsDeclarationAt model MethodDef row out = IsMethodText model row out
+IsDeclarationAt model Property row out = IsPropertyText model row out
 IsDeclarationAt model _ row out = out ≡ []
 
 -- a word and the name of a row, unless the reference is null

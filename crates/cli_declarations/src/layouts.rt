@@ -29,7 +29,7 @@ pub enum Piece {
     TokenAfter(&'static str, usize),
     /// The signature in a cell, with the full names of types (II.23.2).
     Signature(usize),
-    /// The declaration of the method that the row is (II.15.3).
+    /// The declaration of the method (II.15.3) or the property (II.17) that the row is.
     Declaration,
     /// The name of the row (II.5.3).
     OwnName,
@@ -113,7 +113,7 @@ const EVENT: &[Piece] = pieces![
 ];
 
 const PROPERTY: &[Piece] = pieces![
-    Word("  .property"); Flags(FlagTable::Mapped, 0); Word(" "); Signature(2); Word(" "); OwnName;
+    Word("  .property"); Flags(FlagTable::Mapped, 0); Word(" "); Declaration;
 ];
 
 const SEMANTICS: &[Piece] = pieces![

@@ -1,7 +1,8 @@
 //! The declaration of a row of an assembly, in the notation of ILAsm (ECMA-335 II.5 to II.22).
 //!
-//! [`declare`] makes a text the declaration of a row, and [`name_row`] its name. `specs/Layouts.antt` says what the declaration of a row is, as a list
-//! of parts, and `specs/Parts.antt` what the text of a part is. [`number`], [`text`] and [`bytes`] are the values of cells.
+//! [`declare`] makes a text the declaration of a row, and [`name_row`] its name. `specs/Layouts.antt` says what the
+//! declaration of a row is, as a list of parts, and `specs/Parts.antt` what the text of a part is. [`unescape`] reads back
+//! the escapes of names for JSON, which has its own. [`number`], [`text`] and [`bytes`] are the values of cells.
 //!
 //! ```text
 //! .assembly Hello { .ver 1:0:0:0 }
@@ -10,6 +11,7 @@
 //! ```
 #![tactic(auto)]
 
+mod as_is;
 mod cell_values;
 mod declaration;
 mod declared;
@@ -17,6 +19,7 @@ mod layouts;
 mod pieces;
 mod signature_sink;
 
+pub use as_is::{text_or, unescape};
 pub use cell_values::{bytes, number, text};
 pub use declaration::{declare, name_row};
 pub use declared::Declared;

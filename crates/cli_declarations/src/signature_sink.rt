@@ -1,6 +1,7 @@
-//! Appends the text of a signature (II.7.1), and the declaration of a method (II.15.3), with the full names of types.
+//! Appends the text of a signature (II.7.1), and the declaration of a method (II.15.3) or a property (II.17), with the full
+//! names of types.
 ghost use Rattle.std.specs.Prelude.{◌≤◌, ◌<◌, string_bytes, OnOk};
-ghost use Rattle.table_schema.specs.declared.table.TableId.TheVariants.{MethodDef};
+ghost use Rattle.table_schema.specs.declared.table.TableId.TheVariants.{MethodDef, Property};
 ghost use Rattle.table_schema.specs.CellColumns.{cell_count};
 ghost use Rattle.sig_grammar.specs.Syntax.{Body};
 ghost use Rattle.sig_grammar.specs.Encodes.{Encodes};
@@ -9,11 +10,11 @@ ghost use Rattle.metadata.specs.Metadata.{Metadata, cell_in};
 ghost use Rattle.metadata.specs.Model.{IsModel};
 ghost use Rattle.reading.specs.Shown.{ShowsSignature};
 ghost use Rattle.opening.specs.Views.{row_count};
-ghost use Rattle.cli_declarations.specs.Parts.{IsDeclarationAt, IsMethodText, IsSignatureOf, IsSignatureText};
+ghost use Rattle.cli_declarations.specs.Parts.{IsDeclarationAt, IsMethodText, IsPropertyText, IsSignatureOf, IsSignatureText};
 ghost use Rattle.cli_declarations.specs.Texts.{Gains};
 
 use crate::declared::{Declared, TextLimit, begin_text, end_text};
-use declarations::{write_method_within, write_signature_text};
+use declarations::{write_method_within, write_property_within, write_signature_text};
 use metadata_source::kind_of;
 use navigation::Neighbours;
 use opening::{CellRef, TableId, View};
@@ -93,7 +94,27 @@ fn push_method(
     }
 }
 
-/// Appends the declaration of the method that a row is, or nothing if it is of another table.
+/// Appends the declaration of a property, with its full name.
+fn push_property(
+    source: &Neighbours<'_, '_>,
+    row: u32,
+    declared: &mut Declared,
+) -> Result<(), AllocError>
+    requires first { 1 ≤ row }
+    requires last { row ≤ row_count source.now.view.now Property }
+    ensures { (model : Metadata) → IsModel source.now.view.now model
+        → OnOk result (Gains (IsPropertyText model row) (string_bytes declared.old.text) (string_bytes declared.new.text)) }
+{
+    metadata::laws::models_are_read();
+    metadata::laws::models_of_roots_are_valid();
+    begin_text(declared);
+    match write_property_within(declared.alloc, source, row, &TextLimit, declared) {
+        Ok(()) => end_text(declared),
+        Err(_) => Err(AllocError),
+    }
+}
+
+/// Appends the declaration of the method or the property that a row is, or nothing if it is of another table.
 pub(crate) fn push_declaration(
     source: &Neighbours<'_, '_>,
     table: TableId,
@@ -107,6 +128,7 @@ pub(crate) fn push_declaration(
 {
     match table {
         TableId::MethodDef => push_method(source, row, declared),
+        TableId::Property => push_property(source, row, declared),
         _ => Ok(()),
     }
 }

@@ -8,6 +8,7 @@ use Rattle.table_schema.specs.declared.token.Token.{Token}
 use Rattle.metadata.specs.Metadata.{Metadata, cell_in}
 use Rattle.cli_lines.specs.Lines.{Part, member, note, plain, text, token, word}
 use Rattle.cli_lines.specs.declared.names.Name.TheVariants as name
+use Rattle.cli_declarations.specs.AsIs.{as_is}
 use Rattle.cli_declarations.specs.Parts.{number_of}
 
 -- a space or a parenthesis: the first word ends before it
@@ -40,8 +41,8 @@ abbrev pub directive_part : Bool → List ℕ → Part
 directive_part true declared = member name.Directive (text (before_first ends_word declared))
 directive_part false declared = no_part
 
--- the line; the text of the member has no spaces at its start
+-- the line; the text of the member has no spaces at its start, and names as they are in the file
 unfoldable pub declaration_line : Token → Option Token → Bool → List ℕ → List Part
 declaration_line of class directive declared =
     member name.Token (token of) ∷ type_part class ∷ directive_part directive (unindented declared)
-    ∷ note (plain declared) ∷ member name.Text (plain (unindented declared)) ∷ word (codes "  // ") ∷ note (token of) ∷ []
+    ∷ note (plain declared) ∷ member name.Text (plain (as_is (unindented declared))) ∷ word (codes "  // ") ∷ note (token of) ∷ []

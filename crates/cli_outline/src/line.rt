@@ -1,21 +1,24 @@
 //! The line of a declaration.
-ghost use Rattle.std.specs.Prelude.{◌≡◌, ◌≤◌, ◌∷◌, []};
+ghost use Rattle.std.specs.Prelude.{◌≡◌, ◌≤◌, ◌∷◌, ◌++◌, [], OnOk};
 ghost use Rattle.std.specs.List.{before_first, position};
 ghost use Rattle.metadata.specs.Metadata.{Metadata};
 ghost use Rattle.metadata.specs.Model.{IsModel};
 ghost use Rattle.opening.specs.Views.{row_count};
+ghost use Rattle.cli_lines.specs.declared.parts.Form.TheVariants.{JsonLines};
 ghost use Rattle.cli_lines.specs.Printed.{Prints};
 ghost use Rattle.cli_lines.specs.Shown.{shown};
 ghost use Rattle.full_names.specs.RowNames.{IsMemberOf};
-ghost use Rattle.cli_outline.specs.Declarations.{declaration_line, directive_part, ends_word, has_directive, type_part};
+ghost use Rattle.cli_declarations.specs.AsIs.{unescaped};
+ghost use Rattle.cli_outline.specs.Declarations.{declaration_line, directive_part, ends_word, has_directive, type_part, unindented};
 ghost use Rattle.cli_outline.specs.Printed.{PrintsRows};
 
-use cli_declarations::{Declared, declare, number};
+use cli_declarations::{Declared, declare, number, text_or, unescape};
 use cli_lines::Part::{Member, Note, Word};
 use cli_lines::Value::{self, Plain, Text};
-use cli_lines::{Name, Part, Printer};
+use cli_lines::{Form, Name, Part, Printer};
 use navigation::Neighbours;
 use opening::{TableId, Token, View};
+use std::alloc::AllocError;
 use std::io::Write;
 
 /// The cell of the flags of an accessor (II.22.28).
@@ -76,16 +79,26 @@ fn directive_part(has_directive: bool, text: &str) -> Part<'_>
     Word("")
 }
 
-/// Prints the line of a declaration.
-#[tactic(auto, unfolding(crate::specs::Declarations::declaration_line))]
-fn print_declaration<W: Write>(
+/// In JSON, appends the bytes of a declaration without the spaces at its start, with the names as they are in the file.
+fn read_names(form: Form, text: &str, named: &mut Vec<u8>) -> Result<(), AllocError>
+    ensures { form ≡ JsonLines → OnOk result (named.new.items ≡ named.old.items ++ unescaped (unindented text.now)) }
+{
+    match form {
+        Form::Text => Ok(()),
+        Form::JsonLines => unescape(text.trim_ascii_start().as_bytes(), named),
+    }
+}
+
+/// Prints the line of a declaration. In JSON `named` has the bytes of [`read_names`].
+fn print_declaration<'t, W: Write>(
     of: Token,
     class: Option<Token>,
     has_directive: bool,
-    text: &str,
+    text: &'t str,
+    named: &'t [u8],
     out: &mut Printer<'_, W>,
 )
-    ensures { Prints out.old out.new (declaration_line of class has_directive text.now ∷ []) }
+    ensures { (out.old.style.form ≡ JsonLines → named.now ≡ unescaped (unindented text.now)) → Prints out.old out.new (declaration_line of class has_directive text.now ∷ []) }
 {
     let unindented = text.trim_ascii_start();
     out.line(&[
@@ -93,7 +106,7 @@ fn print_declaration<W: Write>(
         type_part(class),
         directive_part(has_directive, unindented),
         Note(Plain(text)),
-        Member(Name::Text, Plain(unindented)),
+        Member(Name::Text, Plain(text_or(named, unindented))),
         Word("  // "),
         Note(Value::Token(of)),
     ]);
@@ -115,7 +128,13 @@ pub(crate) fn print_line<W: Write>(
     match declare(source, token, declared) {
         Ok(()) => {
             let has_directive = has_directive(source.view, token);
-            print_declaration(token, class, has_directive, &declared.text, out);
+            let mut named = Vec::new(declared.alloc);
+            match read_names(out.form(), &declared.text, &mut named) {
+                Ok(()) => {
+                    print_declaration(token, class, has_directive, &declared.text, &named, out);
+                }
+                Err(_) => out.fail(),
+            }
         }
         Err(_) => out.fail(),
     }

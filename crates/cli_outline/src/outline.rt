@@ -229,7 +229,8 @@ fn print_all<W: Write>(
 /// with the token of its row in a comment, as eight hexadecimal digits. Texts of the file are escaped: printable ASCII
 /// except `"` and `\` is as it is, any other byte is `\x` and two hexadecimal digits. Of a name, a signature or another
 /// text that is longer than 65,536 bytes the first ones are printed, and `..`. As JSON Lines a line is an object: `token`,
-/// of a member `type` (the token of its type), `directive` (the first word), and `text` (the declaration).
+/// of a member `type` (the token of its type), `directive` (the first word), and `text` (the declaration). There the names
+/// are as they are in the file, and only a quote and a backslash are escaped, unless a name was cut within a character.
 ///
 /// First come the assembly, the references to others, the module, files, resources and exported types. Then come the types
 /// in the order of their rows, each with its fields, methods, events and properties below it. Below an event and a

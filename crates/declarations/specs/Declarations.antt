@@ -1,7 +1,7 @@
--- The declarations of methods (ECMA-335 II.15.3, II.22.33).
+-- The declarations of methods and properties (ECMA-335 II.15.3, II.17, II.22.33).
 use Rattle.std.specs.Prelude.{◌≡◌, ℕ, ◌+◌, ◌≤◌, ◌<◌, ◌↔◌, List, [], ◌∷◌, ◌++◌, codes}
 use Rattle.std.specs.List.{filter}
-use Rattle.table_schema.specs.declared.table.TableId.TheVariants.{TypeDef, MethodDef, Param}
+use Rattle.table_schema.specs.declared.table.TableId.TheVariants.{TypeDef, MethodDef, Param, Property}
 use Rattle.table_schema.specs.declared.token.Token.{Token}
 use Rattle.sig_grammar.specs.Syntax.{Method}
 use Rattle.sig_text.specs.SignatureText.{Piece, method_name, param_name, declared_text}
@@ -14,6 +14,7 @@ use Rattle.navigation.specs.Owners.{Owns}
 use Rattle.navigation.specs.declared.keyed.KeyedRow.{KeyedRow}
 use Rattle.full_names.specs.declared.quoted.NameKind.TheVariants.{Identifier}
 use Rattle.full_names.specs.Quoted.{name_text}
+use Rattle.full_names.specs.RowNames.{IsTypeOfProperty}
 use Rattle.full_names.specs.Texts.{ArePiecesText, IsFullName, IsMemberName, IsPieceText}
 
 -- the position in a cell, and that of a row of Param (II.22.33)
@@ -48,7 +49,7 @@ pub record IsParamText (model : Metadata) (first past position : ℕ) (text : Li
   pub named : (row : ℕ) → IsParamAt model first past position row → (own : List ℕ) → cell_in model Param row 2 ≡ Text own → text ≡ spaced own
   pub unnamed : ((row : ℕ) → ¬ IsParamAt model first past position row) → text ≡ []
 
--- the pieces of a declaration: of a method of a class, with its own name, and the run of its parameters
+-- the pieces of a declaration: of a method or a property of a class, with its own name, and the run of its parameters
 abbrev pub IsDeclaredPiece : Metadata → Token → List ℕ → ℕ → ℕ → Piece → List ℕ → Type 0
 IsDeclaredPiece model class own first past method_name text = IsMemberName model class own text
 IsDeclaredPiece model class own first past (param_name position) text = IsParamText model first past position text
@@ -64,3 +65,11 @@ pub record IsDeclaration (model : Metadata) (row : ℕ) (method : Method) (text 
   pub past : ℕ
   pub params : IsRun model MethodDef 5 Param row first past
   pub pieces : ArePiecesText (IsDeclaredPiece model (record { table = TypeDef; row = class }) own first past) (declared_text method) text
+
+-- the text of the declaration of a property that has the form of this method; its parameters have no rows, so no names
+pub record IsPropertyDeclaration (model : Metadata) (row : ℕ) (form : Method) (text : List ℕ) : Type 0 where
+  pub class : Token
+  pub member : IsTypeOfProperty model row class
+  pub own : List ℕ
+  pub is_named : cell_in model Property row 1 ≡ Text own
+  pub pieces : ArePiecesText (IsDeclaredPiece model class own 0 0) (declared_text form) text

@@ -1,4 +1,4 @@
-//! Declarations of methods and texts of signatures, in the notation of ILAsm (ECMA-335 II.15.3), with the names that
+//! Declarations of methods and properties and texts of signatures, in the notation of ILAsm (ECMA-335 II.15.3, II.17), with the names that
 //! `full_names` writes, and the words of flags (II.23.1). Of a method, eight bytes are allocated for each row of Param, and
 //! the bytes of signatures that are held as values.
 //!
@@ -15,5 +15,5 @@ mod signature_text;
 
 pub use flag_words::{FlagTable, FlagWord, words_of};
 pub use full_names::{Limit, NoLimit, ReadCells, ReadMetadata, TableId, TextError, Token};
-pub use methods::{write_method, write_method_within};
+pub use methods::{write_method, write_method_within, write_property_within};
 pub use signature_text::write_signature_text;

@@ -1,7 +1,6 @@
 ghost use Rattle.std.specs.Prelude.{◌≡◌, None};
-ghost use Rattle.table_schema.specs.declared.column.SigKind.TheVariants.{MethodDef};
-ghost use Rattle.sig_grammar.specs.Syntax.{Method, method_body};
-ghost use Rattle.sig_grammar.specs.Encodes.{Encodes};
+ghost use Rattle.sig_grammar.specs.Syntax.{Method};
+ghost use Rattle.sig_text.specs.Declares.{Declares};
 ghost use Rattle.sig_text.specs.SignatureText.{declared_text};
 ghost use Rattle.metadata.specs.Metadata.{Metadata};
 ghost use Rattle.full_names.specs.Names.{Wrote};
@@ -15,25 +14,25 @@ use full_names::{
     write_signed, write_text,
 };
 use navigation::ReadCells;
-use sig_text::{MethodSink, TextSink, write_encoded_method};
+use sig_text::{MethodSink, TextSink, write_declaration};
 use std::alloc::Global;
 use std::fmt;
 use table_schema::Token;
 
-/// What the declaration of a method has besides its signature.
+/// What the declaration of a method or a property has besides its signature.
 #[derive(Clone, Copy)]
 pub struct Declared<'s> {
     /// Its type.
     pub class: Token,
     /// Its name.
     pub name: &'s str,
-    /// The first row of its parameters.
+    /// The first row of its parameters. Those of a property have no rows.
     pub first: u32,
     /// The row after that of its last parameter.
     pub past: u32,
 }
 
-/// A sink for the declaration of a method.
+/// A sink for the declaration of a method or a property.
 #[derive(Drop)]
 pub struct MethodText<'s, 'w, S: ReadCells, W, L> {
     alloc: Global,
@@ -138,17 +137,17 @@ impl<S: ReadCells, W: fmt::Write, L: Limit<W>> MethodSink for MethodText<'_, '_,
     }
 }
 
-/// Puts the declaration of a method into its sink, from the bytes of its signature.
+/// Puts the declaration of a method or a property into its sink, from the bytes of its signature.
 pub fn put_declaration<S: ReadCells, W: fmt::Write, L: Limit<W>>(
     sink: &mut MethodText<'_, '_, S, W, L>,
     bytes: &[u8],
 )
-    ensures { (model : Metadata) → S.shows sink.old.params.now.source.now model → (method : Method) → Encodes MethodDef (method_body method) bytes.now
+    ensures { (model : Metadata) → S.shows sink.old.params.now.source.now model → (form : Method) → Declares form bytes.now
         → AreParams model sink.old.of.first sink.old.of.past sink.old.params.now.rows.items → sink.old.ended ≡ None → IsWhole sink.new.ended
         → (sink.new.writer.ghost_name ≡ sink.old.writer.ghost_name) × Wrote W.write_str_gives sink.old.writer.now
-        (ArePiecesText (IsDeclaredPiece model sink.old.of.class sink.old.of.name.now sink.old.of.first sink.old.of.past) (declared_text method))
+        (ArePiecesText (IsDeclaredPiece model sink.old.of.class sink.old.of.name.now sink.old.of.first sink.old.of.past) (declared_text form))
         sink.new.writer.now }
 {
     sink.params.source.holds_one();
-    let _ = write_encoded_method(sink, bytes);
+    let _ = write_declaration(sink, bytes);
 }

@@ -1,16 +1,19 @@
-ghost use Rattle.std.specs.Prelude.{◌≡◌, ◌≤◌, OnOk};
-ghost use Rattle.table_schema.specs.declared.table.TableId.TheVariants.{MethodDef};
-ghost use Rattle.sig_grammar.specs.Syntax.{Method, method_body};
+ghost use Rattle.std.specs.Prelude.{◌≡◌, ◌≤◌, Bool, List, OnOk};
+ghost use Rattle.table_schema.specs.declared.table.TableId.TheVariants.{MethodDef, Property};
+ghost use Rattle.sig_grammar.specs.Syntax.{Method, Slot, method_body, property};
+ghost use Rattle.sig_text.specs.Declares.{Declares, as_method};
+ghost use Rattle.sig_text.specs.SignatureText.{declared_text};
 ghost use Rattle.metadata.specs.Cell.{Sig};
 ghost use Rattle.metadata.specs.Metadata.{Metadata, cell_in};
 ghost use Rattle.full_names.specs.Names.{Wrote};
-ghost use Rattle.declarations.specs.Declarations.{IsDeclaration};
+ghost use Rattle.full_names.specs.Texts.{ArePiecesText};
+ghost use Rattle.declarations.specs.Declarations.{IsDeclaration, IsDeclaredPiece, IsPropertyDeclaration};
 
 use crate::method_text::{Declared, MethodText, put_declaration};
 use crate::params::Params;
 use full_names::{Limit, NoLimit, TextError, bytes_of, result_of};
 use metadata_source::params_of;
-use navigation::{ReadCells, cells, type_of_method};
+use navigation::{ReadCells, cells, type_of_method, type_of_property};
 use std::alloc::Global;
 use std::fmt;
 use table_schema::{SigKind, TableId, Token};
@@ -20,6 +23,30 @@ const METHOD_NAME: usize = 3;
 
 /// The cell of the signature of a method (II.22.26).
 const METHOD_SIGNATURE: usize = 4;
+
+/// The cell of a property's name (II.22.34).
+const PROPERTY_NAME: usize = 1;
+
+/// The cell of the signature of a property (II.22.34).
+const PROPERTY_SIGNATURE: usize = 2;
+
+/// Writes the declaration of a method or a property from the bytes of its signature, up to a limit.
+fn write_declared<S: ReadCells, W: fmt::Write, L: Limit<W>>(
+    alloc: Global,
+    source: &S,
+    of: Declared<'_>,
+    bytes: &[u8],
+    limit: &L,
+    out: &mut W,
+) -> Result<(), TextError>
+    ensures { (model : Metadata) → S.shows source.now model → (form : Method) → Declares form bytes.now
+        → OnOk result (Wrote W.write_str_gives out.old (ArePiecesText (IsDeclaredPiece model of.entry.class of.entry.name.now of.entry.first of.entry.past) (declared_text form)) out.new) }
+{
+    let params = Params::new(alloc, source, of.first..of.past)?;
+    let mut sink = MethodText::new(alloc, &params, of, limit, out);
+    put_declaration(&mut sink, bytes);
+    result_of(sink.ended)
+}
 
 /// Writes a method as it is declared (II.15.3): `string Hello.Greeter::Greet(string name, int32 times)`.
 ///
@@ -79,8 +106,42 @@ pub fn write_method_within<S: ReadCells, W: fmt::Write, L: Limit<W>>(
         first: rows.start,
         past: rows.end,
     };
-    let params = Params::new(alloc, source, rows)?;
-    let mut sink = MethodText::new(alloc, &params, of, limit, out);
-    put_declaration(&mut sink, bytes_of(&bytes));
-    result_of(sink.ended)
+    write_declared(alloc, source, of, bytes_of(&bytes), limit, out)
+}
+
+/// Writes a property as it is declared (II.17), up to a limit: `instance int32 Hello.Greeter::Item(string)`.
+///
+/// It has the form of a method (II.23.2.5), and its parameters have no names. When the limit is reached, what follows is
+/// passed over.
+///
+/// # Errors
+///
+/// `Writer` if the writer refused a part of the text. `Memory` if out of memory.
+#[tactic(auto, unfolding(table_schema::specs::CellColumns::cell_columns))]
+pub fn write_property_within<S: ReadCells, W: fmt::Write, L: Limit<W>>(
+    alloc: Global,
+    source: &S,
+    row: u32,
+    limit: &L,
+    out: &mut W,
+) -> Result<(), TextError>
+    requires first { 1 ≤ row }
+    requires last { row ≤ S.row_count source.now Property }
+    ensures text { (model : Metadata) → S.shows source.now model → (this : Bool) (of : Slot) (params : List Slot) → cell_in model Property row 2 ≡ Sig (property this of params)
+        → OnOk result (Wrote W.write_str_gives out.old (IsPropertyDeclaration model row (as_method this of params)) out.new) }
+{
+    sig_values::laws::shortest_encodes();
+    source.holds_one();
+    let kind = SigKind::Property;
+    let bytes = source.signature(alloc, kind, TableId::Property, row, PROPERTY_SIGNATURE)?;
+    let of = Declared {
+        class: Token {
+            table: TableId::TypeDef,
+            row: type_of_property(source, row),
+        },
+        name: cells::text(source, TableId::Property, row, PROPERTY_NAME),
+        first: 0,
+        past: 0,
+    };
+    write_declared(alloc, source, of, bytes_of(&bytes), limit, out)
 }

@@ -1,14 +1,12 @@
--- What a writer took, from the pieces that a sink received; and the bytes of a signature.
-use Rattle.std.proofs.Common.{◌≡◌, ℕ, Bool, true, List, [], ◌++◌, Option, Some, None, Result, Ok, Err, OnOk, OnSome, IfSome, IfNone, refl, sym, ap, subst, ◌∙◌}
-use Rattle.std.specs.Prelude.{is_some, is_ok}
+-- The bytes of a signature, and what follows from the result of a writer.
+use Rattle.std.proofs.Common.{◌≡◌, ℕ, true, List, Option, Some, None, Result, Ok, Err, OnOk, IfSome, IfNone, refl, sym, ap, subst, ◌∙◌}
+use Rattle.std.specs.Prelude.{is_ok}
 use Rattle.table_schema.specs.declared.table.TableId.TheVariants.{TypeDef, TypeRef, TypeSpec}
 use Rattle.table_schema.specs.declared.token.Token.{Token}
 use Rattle.table_schema.specs.declared.column.SigKind.{SigKind}
 use Rattle.table_schema.specs.declared.column.ColumnKind.TheVariants as kind
 use Rattle.sig_grammar.specs.Syntax.{Body}
 use Rattle.sig_grammar.specs.Encodes.{Encodes, Holds, IsEncodable, short}
-use Rattle.sig_text.specs.SignatureText.{Piece}
-use Rattle.sig_text.specs.Receives.{Receives, nothing, refused, taken}
 use Rattle.metadata.specs.Cell.{Cell, Sig}
 use Rattle.metadata.specs.Kinds.{IsHeld, IsOfKind}
 use Rattle.metadata.specs.Lookups.{HasRow}
@@ -19,21 +17,9 @@ use Rattle.metadata_source.specs.SignatureBytes.{AreBytesOf}
 use Rattle.std.specs.Fmt.{WritesInCalls}
 use Rattle.full_names.specs.Names.{Wrote}
 use Rattle.full_names.specs.SignatureBytes.{bytes_in}
-use Rattle.full_names.specs.Texts.{ArePiecesText, IsFullName, IsTypeSpecText}
+use Rattle.full_names.specs.Texts.{IsFullName, IsTypeSpecText}
 use Rattle.full_names.specs.declared.text_error.TextError.{TextError}
-use Rattle.full_names.proofs.TextLemmas.{writes_append, writes_nothing, writes_once}
-
--- a sink that keeps a fact, and writes the text of each piece, writes the texts of all pieces that it takes
-module _ {K W : Type 0} (gives : K → Piece → Bool → K → Type 0) (took : W → List ℕ → W → Type 0) (writer : K → W) (keeps : K → Type 0) (is_text : Piece → List ℕ → Type 0)
-    (step : (s : K) (p : Piece) (t : K) → gives s p true t → keeps s → keeps t × Wrote took (writer s) (is_text p) (writer t)) where
-  pub received : {s t : K} {ps : List Piece} {all : Bool} → Receives gives s ps all t → all ≡ true → keeps s
-      → keeps t × Wrote took (writer s) (ArePiecesText is_text ps) (writer t)
-  received {s = s} nothing whole kept = (kept, ([], refl, writes_nothing took (writer s)))
-  received (refused call) whole kept = absurd cc
-  received {s = s} {t = t} (taken {t = u} {p = p} call more) whole kept =
-      let one = step s p u call kept in
-      let later = received more whole one.0 in
-      (later.0, (one.1.0 ++ later.1.0, (one.1.0, one.1.1, later.1.0, later.1.1, refl), writes_append took (writer s) one.1.0 (writer u) later.1.0 (writer t) one.1.2 later.1.2))
+use Rattle.full_names.proofs.TextLemmas.{writes_once}
 
 signature_in : Body → Cell → Body
 signature_in other (Sig signature) = signature
@@ -57,10 +43,6 @@ encoded_in kind (Canonical bytes) cell signature short_encodes (other, items, is
 -- a signature in a column of signatures is of the column's kind and has an encoding
 pub held_in : (column : SigKind) (signature : Body) → IsHeld (kind.Signature column) (Sig signature) → Holds column signature × IsEncodable signature
 held_in column signature held = held
-
-pub when_taken : {P : Type 0} (written : Option (Unit {0})) → (is_some written ≡ true → P) → OnSome written P
-when_taken None holds = tt
-when_taken (Some u) holds = holds refl
 
 -- what follows from what holds of a result
 pub ok_then : {E P Q : Type 0} (result : Result (Unit {0}) E) → OnOk result P → (P → Q) → OnOk result Q

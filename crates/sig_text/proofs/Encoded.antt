@@ -71,7 +71,7 @@ code_bits kind generic this explicit lt =
     let e = flag_is explicit 0x40 in
     (omega arith, bit_is _ generic (omega arith), bit_is _ this (omega arith), bit_is _ explicit (omega arith))
 
-kind_few : (kind : ℕ) → IsMethodKind kind → kind < 16
+pub kind_few : (kind : ℕ) → IsMethodKind kind → kind < 16
 kind_few kind (inl h) = omega arith
 kind_few kind (inr h) = omega arith
 
@@ -261,10 +261,10 @@ module _ (known : NumbersAreRead) where
   generic_read c None qs b remainder e h = (b, rw e refl, h)
   generic_read c (Some n) qs b remainder e h = let x = first_number n qs b remainder h in (x.0, rw (e, x.1) refl, x.2)
 
-  pub method_head : (kind : ℕ) (this explicit : Bool) (generic : Option ℕ) (qs : List Part) (b remainder : List ℕ) → IsMethodKind kind → Head (byte (method_code kind this explicit generic) ∷ (generic_parts generic ++ qs)) b remainder → IsHead kind this explicit generic qs b remainder
+  pub method_head : (kind : ℕ) (this explicit : Bool) (generic : Option ℕ) (qs : List Part) (b remainder : List ℕ) → kind < 16 → Head (byte (method_code kind this explicit generic) ∷ (generic_parts generic ++ qs)) b remainder → IsHead kind this explicit generic qs b remainder
   method_head kind this explicit generic qs b remainder is h =
       let f = first_byte (method_code kind this explicit generic) (generic_parts generic ++ qs) b remainder h in
-      let bits = code_bits kind (is_some generic) this explicit (kind_few kind is) in
+      let bits = code_bits kind (is_some generic) this explicit is in
       let g = generic_read (method_code kind this explicit generic) generic qs f.0 remainder bits.1 f.2 in
       record { code = method_code kind this explicit generic; tail = f.0; after = g.0; bytes = f.1; kind = bits.0; this = bits.2; explicit = bits.3; generic = g.1; more = g.2 }
 
@@ -370,7 +370,7 @@ module _ (known : NumbersAreRead) where
 
     pub method_read : (m : Method) (d : ℕ) (b remainder : List ℕ) → method_depth m ≤ d → IsMethod m → Head (method_parts m) b remainder → method_shown (core_shown d) b ≡ (method_text m, remainder)
     method_read (method kind this explicit generic ret params sentinel) d b remainder le is h =
-        let code = method_head kind this explicit generic (number (count_slots params) ∷ (ret_parts ret ++ slots_parts params sentinel)) b remainder is.0 h in
+        let code = method_head kind this explicit generic (number (count_slots params) ∷ (ret_parts ret ++ slots_parts params sentinel)) b remainder (kind_few kind is.0) h in
         let count = first_number (count_slots params) (ret_parts ret ++ slots_parts params sentinel) code.after remainder code.more in
         let s = split_head (ret_parts ret) (slots_parts params sentinel) count.0 remainder count.2 in
         let of = ret_read ret d count.0 s.0 (omega arith) is.2 s.1 in

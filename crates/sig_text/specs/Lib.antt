@@ -1,3 +1,4 @@
+pub mod Declares
 pub mod PieceText
 pub mod Receives
 pub mod Refused

@@ -192,7 +192,7 @@ text_of (locals variables) = word (codes "(") ∷ (listed local_text [] variable
 text_of (instance_body args) = word (codes "<") ∷ (listed typed_text [] args ++ word (codes ">") ∷ [])
 text_of (type_spec ret) = ret_text ret
 
--- ---- the declaration of a method (II.15.3): its name and those of its parameters stand in it
+-- ---- the declaration of a method (II.15.3) or of a property (II.17): its name stands in it, and those of its parameters
 
 -- parameters with their names; positions are counted from 1
 abbrev pub named_slots_text : List Piece → ℕ → Slots → List Piece

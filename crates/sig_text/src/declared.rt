@@ -1,11 +1,10 @@
-ghost use Rattle.std.specs.Prelude.{◌≡◌, ◌∷◌, [], is_some};
-ghost use Rattle.table_schema.specs.declared.column.SigKind.TheVariants.{MethodDef};
-ghost use Rattle.sig_grammar.specs.Syntax.{Body, Method, method_body};
-ghost use Rattle.sig_grammar.specs.Encodes.{Encodes};
+ghost use Rattle.std.specs.Prelude.{◌≡◌, ◌∷◌, List, [], is_some};
+ghost use Rattle.sig_grammar.specs.Syntax.{Method};
+ghost use Rattle.sig_text.specs.Declares.{Declares};
 ghost use Rattle.sig_text.specs.Receives.{Receives};
 ghost use Rattle.sig_text.specs.Refused.{refused_after};
 ghost use Rattle.sig_text.specs.Shown.{core_shown, named_slots_shown, declared_shown};
-ghost use Rattle.sig_text.specs.SignatureText.{method_name, param_name, declared_text};
+ghost use Rattle.sig_text.specs.SignatureText.{Piece, method_name, param_name, declared_text};
 ghost use Rattle.sig_text.specs.Wrote.{Wrote};
 
 use crate::head::{byte, generic, number};
@@ -13,16 +12,14 @@ use crate::sink::TextSink;
 use crate::types::{arity, convention, slot};
 use crate::words::{put_if, put_text, result_of};
 use sig_grammar::DEPTH_LIMIT;
-use sig_recogniser::recognise;
-use table_schema::SigKind;
 
-/// A sink that also knows the names of one method and of its parameters.
+/// A sink that also knows the names of one method or property and of its parameters.
 pub trait MethodSink: TextSink {
     ghost use Rattle.std.specs.Prelude.{◌≡◌, is_some};
     ghost use Rattle.sig_text.specs.Refused.{refused_after};
     ghost use Rattle.sig_text.specs.SignatureText.{method_name as method_piece, param_name as param_piece};
 
-    /// The name of the method.
+    /// The name of the method or the property.
     fn method_name(&mut self) -> Option<()>
         ensures refusal { Self.refused self.new ≡ refused_after result (Self.refused self.old) }
         ensures piece { Self.gives self.old method_piece (is_some result) self.new };
@@ -34,7 +31,7 @@ pub trait MethodSink: TextSink {
         ensures piece { Self.gives self.old (param_piece position) (is_some result) self.new };
 }
 
-/// Writes the name of the method.
+/// Writes the name of the method or the property.
 #[tactic(auto, using(crate::proofs::Chains::one, crate::proofs::Chains::shut))]
 fn put_method_name<S: MethodSink>(sink: &mut S, taken: &mut bool)
     ensures { Wrote S.refused S.gives sink.old taken.old (method_name ∷ []) sink.new taken.new }
@@ -69,7 +66,7 @@ fn params<S: MethodSink>(sink: &mut S, taken: &mut bool, bytes: &[u8], count: u3
     }
 }
 
-/// Writes the bytes of a method as it is declared.
+/// Writes the bytes of a method or a property as it is declared.
 fn declaration<S: MethodSink>(sink: &mut S, taken: &mut bool, bytes: &[u8])
     ensures { Wrote S.refused S.gives sink.old taken.old (declared_shown (core_shown 128) bytes.now) sink.new taken.new }
 {
@@ -86,34 +83,19 @@ fn declaration<S: MethodSink>(sink: &mut S, taken: &mut bool, bytes: &[u8])
     put_text(sink, taken, ")");
 }
 
-/// Writes the method that all the bytes together encode (II.23.2.1) as it is declared (II.15.3): its calling convention,
-/// its result, its name, and its parameters with their names.
+/// Writes the method or the property that all the bytes together encode (II.23.2.1, II.23.2.5) as it is declared (II.15.3,
+/// II.17): its calling convention, its result or its type, its name, and its parameters with their names.
 ///
-/// `instance void Name<[1]>(!!0 first, int32)` is a generic method of an instance, whose second parameter has no name. If
-/// the bytes encode no method, nothing is written.
-///
-/// # Errors
-///
-/// `None` if and only if the sink refused a word.
-pub fn write_method<S: MethodSink>(sink: &mut S, bytes: &[u8]) -> Option<()>
-    ensures words { S.refused sink.new ≡ refused_after result (S.refused sink.old) }
-    ensures text { (method : Method) → Encodes MethodDef (method_body method) bytes.now → Receives S.gives sink.old (declared_text method) (is_some result) sink.new }
-    ensures nothing { ¬ ((signature : Body) × Encodes MethodDef signature bytes.now) → sink.new ≡ sink.old }
-{
-    if !recognise(bytes, SigKind::MethodDef) {
-        return Some(());
-    }
-    write_encoded_method(sink, bytes)
-}
-
-/// The same for bytes that are known to encode a method: it does not check them. If they encode none, it may write anything.
+/// `instance void Name<[1]>(!!0 first, int32)` is a generic method of an instance, whose second parameter has no name. The
+/// bytes are not checked: if they encode neither, it is not specified which pieces the sink receives.
 ///
 /// # Errors
 ///
 /// `None` if and only if the sink refused a word.
-pub fn write_encoded_method<S: MethodSink>(sink: &mut S, bytes: &[u8]) -> Option<()>
+pub fn write_declaration<S: MethodSink>(sink: &mut S, bytes: &[u8]) -> Option<()>
     ensures words { S.refused sink.new ≡ refused_after result (S.refused sink.old) }
-    ensures text { (method : Method) → Encodes MethodDef (method_body method) bytes.now → Receives S.gives sink.old (declared_text method) (is_some result) sink.new }
+    ensures text { (form : Method) → Declares form bytes.now → Receives S.gives sink.old (declared_text form) (is_some result) sink.new }
+    ensures pieces { (pieces : List Piece) × Receives S.gives sink.old pieces (is_some result) sink.new }
 {
     packed::laws::numbers_are_read();
     sig_grammar::laws::indexes_are_read();

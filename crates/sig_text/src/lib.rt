@@ -2,8 +2,8 @@
 //!
 //! [`write_signature`] reads the bytes of a blob and passes the text to a [`TextSink`], word by word. The sink
 //! writes the names of tokens, because only its owner knows them. [`NamedText`] is a sink that writes to any
-//! `fmt::Write`. [`write_method`] writes a method with its name and the names of its parameters. The recursion is as deep
-//! as types nest, at most 128.
+//! `fmt::Write`. [`write_declaration`] writes a method or a property with its name and the names of its parameters.
+//! The recursion is as deep as types nest, at most 128.
 //!
 //! The text of a signature is the definition `text_of` in `specs/SignatureText.antt`. It is proved that a sink receives
 //! its pieces and nothing else, until it refuses one (`specs/Receives.antt`). It is linear in the bytes of the blob and
@@ -29,7 +29,7 @@ mod types;
 mod whole;
 mod words;
 
-pub use declared::{MethodSink, write_encoded_method, write_method};
+pub use declared::{MethodSink, write_declaration};
 pub use named::{NamedText, TokenNames};
 pub use sink::TextSink;
 pub use table_schema::{SigKind, Token};

@@ -3,7 +3,7 @@
 import re
 from collections import defaultdict
 
-from texts import ACCESSORS, CODE, Quoted, flags_of, no_kinds, opening, ordered, plain
+from texts import ACCESSORS, CODE, Quoted, flags_of, no_kinds, ordered, plain
 
 
 def declared(text):
@@ -69,10 +69,6 @@ class Reader:
         if word == ".method":
             code = CODE.search(tail)
             self.add("method", f"{flags} {self.own(tail[:code.start() + 1])} {ordered(code[1])}")
-        elif word == ".property":
-            signature, _, name = tail.rpartition(f" {self.type}::")
-            start = opening(signature, len(signature) - 1)
-            self.add("property", f"{flags} {signature[:start].rstrip()} {name}{signature[start:]}")
         else:
             self.add(word[1:], f"{flags} {self.own(tail)}")
 

@@ -9,7 +9,7 @@ use Rattle.declarations.proofs.ParamExists.{declared_texts}
 use Rattle.declarations.proofs.method_text.put_declaration.Goals as goal
 
 pub returns : goal.returns
-returns g c = λ model shown method encodes params none whole.
+returns g c = λ model shown form declares params none whole.
     let sink = c.args.sink.now in
     let of = sink.of in
     let took = g.W.Write.write_str_gives in
@@ -25,4 +25,4 @@ returns g c = λ model shown method encodes params none whole.
       subst (λ (d : Declared). Wrote took s.writer.now (IsDeclaredPiece model d.class d.name.now d.first d.past p) t.writer.now) kept.2 did,
     ))
     (λ s p t call kept done. let gave = call.1 refl done in (gave.0 ∙ kept.3, gave.1))
-    (c.write_encoded_method.ensures.text method encodes) tt (none, refl, refl, refl) whole
+    (c.write_declaration.ensures.text form declares) tt (none, refl, refl, refl) whole

@@ -1,0 +1,45 @@
+-- A text whose escapes are read back, byte by byte.
+use Rattle.std.proofs.Common.{◌≡◌, ℕ, zero, suc, ◌-◌, ◌<◌, ◌≤◌, Bool, if◌then◌else◌, Option, Some, None, Result, Ok, Err, MatchResult, IsUtf8, Bor, List, [], ◌∷◌, ◌++◌, drop, length, ap, append_assoc, append-nil, arith, refl, sym, ◌∙◌}
+use Rattle.std.specs.Prelude.{slice_get}
+use Rattle.std.specs.Option.{unwrap_or}
+use Rattle.std.specs.Result.{result_unwrap_or}
+use Rattle.std.specs.Str.{is_utf8}
+use Rattle.std.proofs.lemmas.Bool.{false_from_ne_true}
+use Rattle.std.proofs.lemmas.Str.{IsUtf8-from_is_utf8, is_utf8-from_IsUtf8}
+use Rattle.std.proofs.lemmas.List.{drop_all}
+use Rattle.cli_declarations.specs.AsIs.{escaped_at, unescaped, unescaped_after}
+
+-- a byte is passed over
+pub passed : (skipped : ℕ) (text : List ℕ) → 0 < skipped → unescaped_after (skipped - 1) (drop 1 text) ≡ unescaped_after skipped text
+unfolding unescaped_after
+passed zero text some = absurd (omega arith)
+passed (suc n) [] some = refl
+passed (suc n) (byte ∷ tail) some = let less : suc n - 1 ≡ n = omega arith in ap (λ m. unescaped_after m tail) less
+
+-- an escape, and a byte that begins none
+pub escape_read : (before text : List ℕ) (skipped byte : ℕ) → skipped ≡ 0 → Some byte ≡ escaped_at text
+    → (before ++ byte ∷ []) ++ unescaped_after 3 (drop 1 text) ≡ before ++ unescaped_after skipped text
+unfolding unescaped_after escaped_at
+escape_read before [] skipped byte none is = absurd cc
+escape_read before (first ∷ tail) skipped byte none is = rw (none, ← is) (append_assoc before (byte ∷ []) (unescaped_after 3 tail))
+
+pub byte_read : (before text : List ℕ) (skipped first : ℕ) → skipped ≡ 0 → None ≡ escaped_at text → Some first ≡ slice_get text 0
+    → (before ++ first ∷ []) ++ unescaped_after 0 (drop 1 text) ≡ before ++ unescaped_after skipped text
+unfolding unescaped_after
+byte_read before [] skipped first none is at = absurd cc
+byte_read before (byte ∷ tail) skipped first none is at =
+    let same : first ≡ byte = ap (λ (o : Option ℕ). unwrap_or o 0) at in
+    rw (none, ← is, same) (append_assoc before (byte ∷ []) (unescaped_after 0 tail))
+
+-- at the end nothing is left
+pub all_read : (before first text : List ℕ) (skipped i : ℕ) → length text ≤ i → before ++ unescaped_after skipped (drop i text) ≡ first ++ unescaped text → before ≡ first ++ unescaped text
+unfolding unescaped_after
+all_read before first text skipped i end is = sym (append-nil before) ∙ ap (λ t. before ++ unescaped_after skipped t) (sym (drop_all i text end)) ∙ is
+
+-- a text, or another one if it is no UTF-8
+pub text_is : {E : Type 0} (result : Result (Bor (List ℕ)) E) (other out : Bor (List ℕ)) (bytes : List ℕ) (IsFault : E → Type 0) → out ≡ result_unwrap_or result other
+    → MatchResult result (λ text. (text.now ≡ bytes) × IsUtf8 bytes) (λ error. ¬ IsUtf8 bytes × IsFault error) → out.now ≡ (if is_utf8 bytes then bytes else other.now)
+text_is (Ok text) other out bytes IsFault is found =
+    ap (λ (t : Bor (List ℕ)). t.now) is ∙ found.0 ∙ ap (λ (t : Bool). if t then bytes else other.now) (sym (is_utf8-from_IsUtf8 bytes found.1))
+text_is (Err error) other out bytes IsFault is found =
+    ap (λ (t : Bor (List ℕ)). t.now) is ∙ ap (λ (t : Bool). if t then bytes else other.now) (sym (false_from_ne_true (is_utf8 bytes) (λ yes. found.0 (IsUtf8-from_is_utf8 bytes yes))))
