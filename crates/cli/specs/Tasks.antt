@@ -87,13 +87,13 @@ verdict_of true locates = Quiet
 verdict_of false true = Explained
 verdict_of false false = Line
 
--- the task of `check`; a list of files comes from the standard input alone
-abbrev pub check_task_from : Option (Bor (List ℕ)) → Ask → Report → Result Task Failure
-check_task_from None ask of = if ask.null then list_task ask of else report_task ask (Ok of)
-check_task_from (Some word) ask of = if bytes_eq word.now (codes "-") then list_task ask of else Err (failed.Usage (wrong.NoList word))
+-- the task is a report on the files that the arguments name, or on those of a list, which comes from the standard input alone
+abbrev pub named_or_listed_from : Option (Bor (List ℕ)) → Ask → Report → Result Task Failure
+named_or_listed_from None ask of = if ask.null then list_task ask of else report_task ask (Ok of)
+named_or_listed_from (Some word) ask of = if bytes_eq word.now (codes "-") then list_task ask of else Err (failed.Usage (wrong.NoList word))
 
-abbrev pub check_task : Ask → Result Task Failure
-check_task ask = check_task_from ask.files_from ask (report.Check (verdict_of ask.quiet ask.locates))
+abbrev pub named_or_listed : Ask → Report → Result Task Failure
+named_or_listed ask of = named_or_listed_from ask.files_from ask of
 
 -- the failure says that this argument is not a token
 abbrev pub IsNoToken : List ℕ → Failure → Type 0
@@ -256,7 +256,7 @@ IsExplainTask words result = MatchResult result (IsExplanation words) (IsFirstNo
 abbrev pub IsTask : Subcommand → Ask → Result Task Failure → Type 0
 IsTask word.Root ask result = result ≡ report_task ask (Ok report.Root)
 IsTask word.Info ask result = result ≡ report_task ask (Ok report.Info)
-IsTask word.Check ask result = result ≡ check_task ask
+IsTask word.Check ask result = result ≡ named_or_listed ask (report.Check (verdict_of ask.quiet ask.locates))
 IsTask word.Show ask result = IsReportTask ask (IsShow ask) result
 IsTask word.Types ask result = result ≡ report_task ask (Ok (report.Listing listing.Types))
 IsTask word.Outline ask result = IsReportTask ask (λ made. IsOkAnd made (IsOutline ask.part)) result
@@ -265,6 +265,6 @@ IsTask word.Token ask result = IsReportTask ask (IsTokens ask.tokens.items) resu
 IsTask word.Where ask result = IsReportTask ask (IsWhere ask.second) result
 IsTask word.Rewrite ask result = result ≡ rewrite_task ask.file ask.second
 IsTask word.Embed ask result = result ≡ embed_task ask
-IsTask word.Digest ask result = result ≡ report_task ask (Ok report.Digest)
+IsTask word.Digest ask result = result ≡ named_or_listed ask report.Digest
 IsTask word.Compare ask result = IsCompareTask ask result
 IsTask word.Explain ask result = IsExplainTask ask.codes.items result

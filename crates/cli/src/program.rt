@@ -28,7 +28,7 @@ use std::rt::Files;
 /// - 2: usage error; no file was read;
 /// - 3: I/O error, out of memory, or budget spent.
 ///
-/// If several files are checked, it is the greatest of theirs.
+/// For several files it is the greatest of theirs.
 ///
 /// Results go to `out`, but only after the whole file was read. Errors go to `err`. If `err` cannot be written, nothing
 /// else changes.

@@ -1,6 +1,6 @@
 //! What the arguments ask the program to do.
 ghost use Rattle.std.specs.Prelude.{◌≡◌, IfErr, IfOk};
-ghost use Rattle.cli.specs.Tasks.{AreTokens, IsCompareTask, IsExplainTask, IsFirstNoToken, IsOutline, IsShow, IsTableNamed, IsTask, IsTokens, IsWhere, NamesNoTable, NamesType, check_task, embed_task, form_of, input_of, list_task, names_of, naming_of, paths_of, report_task, request_of, rewrite_task, strong_name_of, verdict_of};
+ghost use Rattle.cli.specs.Tasks.{AreTokens, IsCompareTask, IsExplainTask, IsFirstNoToken, IsOutline, IsShow, IsTableNamed, IsTask, IsTokens, IsWhere, NamesNoTable, NamesType, embed_task, form_of, input_of, list_task, named_or_listed, names_of, naming_of, paths_of, report_task, request_of, rewrite_task, strong_name_of, verdict_of};
 
 use crate::columns::columns_of;
 use cli_arguments::{Ask, Subcommand};
@@ -46,7 +46,9 @@ pub(crate) fn task_of<'a>(alloc: Global, ask: &'a Ask<'a>) -> Result<Task<'a>, F
     match ask.subcommand {
         Subcommand::Root => on_files(ask, Ok(Report::Root)),
         Subcommand::Info => on_files(ask, Ok(Report::Info)),
-        Subcommand::Check => check_of(ask),
+        Subcommand::Check => {
+            on_files_or_list(ask, Report::Check(verdict_of(ask.quiet, ask.locates)))
+        }
         Subcommand::Show => on_files(ask, show_of(alloc, ask)),
         Subcommand::Types => on_files(ask, Ok(Report::Listing(Listing::Types))),
         Subcommand::Outline => on_files(ask, Ok(outline_of(ask.part))),
@@ -55,7 +57,7 @@ pub(crate) fn task_of<'a>(alloc: Global, ask: &'a Ask<'a>) -> Result<Task<'a>, F
         Subcommand::Where => on_files(ask, where_of(ask.second)),
         Subcommand::Rewrite => rewrite_of(ask.file, ask.second),
         Subcommand::Embed => embed_of(ask),
-        Subcommand::Digest => on_files(ask, Ok(Report::Digest)),
+        Subcommand::Digest => on_files_or_list(ask, Report::Digest),
         Subcommand::Compare => compare_of(alloc, ask),
         Subcommand::Explain => explain_of(alloc, ask.codes.as_slice()),
     }
@@ -124,11 +126,10 @@ fn on_list<'a>(ask: &'a Ask<'a>, report: Report<'a>) -> Result<Task<'a>, Failure
     }
 }
 
-/// The task of `check`: the names of the files are arguments, or the standard input lists them.
-fn check_of<'a>(ask: &'a Ask<'a>) -> Result<Task<'a>, Failure<'a>>
-    ensures { result ≡ check_task ask.now }
+/// The task of a report on files whose names are arguments, or which the standard input lists.
+fn on_files_or_list<'a>(ask: &'a Ask<'a>, report: Report<'a>) -> Result<Task<'a>, Failure<'a>>
+    ensures { result ≡ named_or_listed ask.now report.entry }
 {
-    let report = Report::Check(verdict_of(ask.quiet, ask.locates));
     match ask.files_from {
         Some(source) if source == STANDARD_INPUT => on_list(ask, report),
         Some(source) => Err(Failure::Usage(UsageError::NoList(source))),

@@ -1,5 +1,5 @@
 -- What the arguments of a command line ask for, by what `clap` gives for them.
-use Rattle.std.specs.Prelude.{◌≡◌, ◌↔◌, ℕ, ◌<◌, ◌^◌, IsTrue, MatchOption, List, [], map, Option, Some, None, codes, if◌then◌else◌, option_map, unwrap_or}
+use Rattle.std.specs.Prelude.{◌≡◌, ◌≢◌, ◌↔◌, ℕ, ◌<◌, ◌^◌, EachIndex, IsTrue, MatchOption, List, [], ◌∷◌, ◌++◌, map, Option, Some, None, codes, if◌then◌else◌, option_map, slice_index, unwrap_or}
 use Rattle.std.specs.Str.{bytes_eq}
 use Rattle.std.specs.Option.{SomeIff}
 use Rattle.std.specs.Str.Parse.{IsNumeral, digits_value, without_leading_plus}
@@ -36,6 +36,24 @@ IsByteCount word = IsNumeral 10 (without_leading_plus word) × (digits_value 10 
 abbrev pub IsCountOf : Option Text → Option ℕ → Type 0
 IsCountOf given number = MatchOption given (number ≡ None) (λ word. SomeIff number (IsByteCount word) (digits_value 10 (without_leading_plus word)))
 
+-- no dash, dot or slash
+abbrev pub IsPlainWord : Text → Type 0
+IsPlainWord word = EachIndex word (λ k. (slice_index word k ≢ 45) × (slice_index word k ≢ 46) × (slice_index word k ≢ 47))
+
+-- the last of several arguments of `show` is a TABLE: it has no dash, dot or slash
+abbrev pub IsTableLast : List Text → List Text → Text → Type 0
+IsTableLast words files table = (words ≡ files ++ table ∷ []) × (files ≢ []) × IsPlainWord table
+
+-- the files among the arguments of `show`, and the table, if the last argument is one
+abbrev pub AreShown : List Text → List Text → Option Text → Type 0
+AreShown words files (Some table) = IsTableLast words files table
+AreShown words files None = (files ≡ words) × ((before : List Text) (last : Text) → ¬ IsTableLast words before last)
+
+-- the files, and what alone to print of them: a value of its own, but of `show` one of the values of FILE
+abbrev pub AreParts : Subcommand → Option Text → List Text → List Text → Option Text → Type 0
+AreParts Show given words files part = AreShown words files part
+AreParts of given words files part = (files ≡ words) × (part ≡ given)
+
 -- the arguments name the subcommand, and give it this flag and these values
 pub record Gives (words : List Text) (ask : Ask) : Type 0 where
   -- the values that `clap` gives for each argument of the subcommand
@@ -47,10 +65,9 @@ pub record Gives (words : List Text) (ask : Ask) : Type 0 where
   pub tokens : map (λ word. word.now) ask.tokens.items ≡ unwrap_or (all_of (codes "HEX") rows) []
   pub ignored : map (λ word. word.now) ask.ignored.items ≡ unwrap_or (all_of (codes "ignore") rows) []
   pub budget : IsCountOf (one_of (codes "budget") rows) ask.budget
-  pub part : option_map (λ word. word.now) ask.part ≡ first_of (codes "part") rows
+  pub parts : AreParts ask.subcommand (first_of (codes "part") rows) (unwrap_or (all_of (codes "FILE") rows) []) (map (λ word. word.now) ask.files.items) (option_map (λ word. word.now) ask.part)
   pub json : IsTrue ask.json ↔ (one_of (codes "json") rows ≡ Some (codes "true"))
   pub faults : map (λ word. word.now) ask.codes.items ≡ unwrap_or (all_of (codes "CODE") rows) []
-  pub files : map (λ word. word.now) ask.files.items ≡ unwrap_or (all_of (codes "FILE") rows) []
   pub files_from : option_map (λ word. word.now) ask.files_from ≡ first_of (codes "files-from") rows
   pub null : IsTrue ask.null ↔ (one_of (codes "null") rows ≡ Some (codes "true"))
   pub quiet : IsTrue ask.quiet ↔ (one_of (codes "quiet") rows ≡ Some (codes "true"))

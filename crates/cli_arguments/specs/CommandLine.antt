@@ -61,9 +61,12 @@ shape_with name rules = record (new_shape name) { rules = rules }
 abbrev pub shape : Usage → Shape
 shape of = shape_with of.name.now (map rule of.arguments.now)
 
--- the arguments of several subcommands: the file, and the flags `--bare` and `--json`
+-- the arguments of several subcommands: the file or the files, and the flags `--bare` and `--json`
 abbrev pub file : Rule
 file = required (value (codes "FILE"))
+
+abbrev pub files : Rule
+files = required (values (codes "FILE"))
 
 abbrev pub bare : Rule
 bare = flag (codes "bare")
@@ -74,6 +77,13 @@ json = flag (codes "json")
 -- `--budget N`, the limit of what is checked
 abbrev pub budget : Rule
 budget = number (codes "budget")
+
+-- `--files-from LIST` and `-0`, the source of a list of files; the ASCII code of `0` is 48
+abbrev pub files_from : Rule
+files_from = option (codes "files-from")
+
+abbrev pub null : Rule
+null = record (new_rule (codes "null")) { short = Some 48; action = Some SetTrue }
 
 -- the value after the file
 abbrev pub second : Rule
@@ -102,23 +112,21 @@ name_of Explain = codes "explain"
 
 -- the arguments of a subcommand
 abbrev pub rules_of : Subcommand → List Rule
--- `root [--bare] [--json] FILE`
-rules_of Root = file ∷ bare ∷ json ∷ []
+-- `root [--bare] [--json] FILE..`
+rules_of Root = files ∷ bare ∷ json ∷ []
 -- `info [--bare] [--budget N] [--json] FILE..`
-rules_of Info = required (values (codes "FILE")) ∷ bare ∷ budget ∷ json ∷ []
--- `check [--bare] [--budget N] [--files-from LIST] [-0] [-q] [--json] [--where] [FILE]..`; the ASCII codes of `0` and `q` are 48 and 113
+rules_of Info = files ∷ bare ∷ budget ∷ json ∷ []
+-- `check [--bare] [--budget N] [--files-from LIST] [-0] [-q] [--json] [--where] [FILE]..`; the ASCII code of `q` is 113
 rules_of Check =
-    values (codes "FILE") ∷ bare ∷ budget ∷ option (codes "files-from")
-    ∷ record (new_rule (codes "null")) { short = Some 48; action = Some SetTrue } ∷ record (flag (codes "quiet")) { short = Some 113 }
-    ∷ json ∷ flag (codes "where") ∷ []
--- `show [--bare] [--budget N] [--json] [--names] [--until-fault] FILE [TABLE]`
-rules_of Show = file ∷ bare ∷ budget ∷ json ∷ value (codes "part") ∷ flag (codes "names") ∷ flag (codes "until-fault") ∷ []
--- `types [--bare] [--budget N] [--json] FILE`
-rules_of Types = file ∷ bare ∷ budget ∷ json ∷ []
+    values (codes "FILE") ∷ bare ∷ budget ∷ files_from ∷ null ∷ record (flag (codes "quiet")) { short = Some 113 } ∷ json ∷ flag (codes "where") ∷ []
+-- `show [--bare] [--budget N] [--json] [--names] [--until-fault] FILE.. [TABLE]`; the TABLE is among the values of FILE
+rules_of Show = files ∷ bare ∷ budget ∷ json ∷ flag (codes "names") ∷ flag (codes "until-fault") ∷ []
+-- `types [--bare] [--budget N] [--json] FILE..`
+rules_of Types = files ∷ bare ∷ budget ∷ json ∷ []
 -- `outline [--bare] [--budget N] [--json] FILE [NAME]`
 rules_of Outline = file ∷ bare ∷ budget ∷ json ∷ value (codes "part") ∷ []
--- `strings [--bare] [--budget N] [--json] FILE`
-rules_of Strings = file ∷ bare ∷ budget ∷ json ∷ []
+-- `strings [--bare] [--budget N] [--json] FILE..`
+rules_of Strings = files ∷ bare ∷ budget ∷ json ∷ []
 -- `token [--bare] [--budget N] [--json] FILE HEX..`
 rules_of Token = file ∷ bare ∷ budget ∷ json ∷ required (values (codes "HEX")) ∷ []
 -- `where [--bare] [--budget N] [--json] FILE OFFSET`
@@ -127,8 +135,8 @@ rules_of Where = file ∷ bare ∷ budget ∷ json ∷ second ∷ []
 rules_of Rewrite = file ∷ bare ∷ budget ∷ second ∷ []
 -- `embed [--json] [--root ROOT] [--unsigned] FILE OUT`
 rules_of Embed = file ∷ json ∷ second ∷ option (codes "root") ∷ flag (codes "unsigned") ∷ []
--- `digest [--bare] [--budget N] [--json] FILE..`
-rules_of Digest = required (values (codes "FILE")) ∷ bare ∷ budget ∷ json ∷ []
+-- `digest [--bare] [--budget N] [--files-from LIST] [-0] [--json] [FILE]..`
+rules_of Digest = values (codes "FILE") ∷ bare ∷ budget ∷ files_from ∷ null ∷ json ∷ []
 -- `compare [--bare] [--budget N] [--json] [--ignore TABLE.COLUMN].. FILE OTHER`
 rules_of Compare = file ∷ bare ∷ budget ∷ json ∷ second ∷ record (option (codes "ignore")) { action = Some Append } ∷ []
 -- `explain [--json] [CODE]..`

@@ -8,6 +8,7 @@ ghost use Rattle.cli_arguments.specs.CommandLine as line;
 use crate::argument::arg_of;
 use crate::asked::{Ask, Subcommand};
 use crate::help::HELP;
+use crate::parts::part_of;
 use crate::subcommands::usage_of;
 use clap::{ArgMatches, Command, Error};
 use std::alloc::{AllocError, Global};
@@ -28,18 +29,21 @@ pub fn ask<'a>(alloc: Global, words: &'a [&'a str]) -> Result<Ask<'a>, Error>
 {
     let matches = command(alloc)?.try_get_matches_from(words)?;
     let (name, given) = matches.subcommand().unwrap();
+    let subcommand = Subcommand::named(name).unwrap();
+    let mut files = list(alloc, given, "FILE")?;
+    let part = part_of(subcommand, given, &mut files);
     Ok(Ask {
-        subcommand: Subcommand::named(name).unwrap(),
+        subcommand,
         bare: flag(given, "bare"),
         file: given.get_str("FILE"),
         second: given.get_str("second"),
         tokens: list(alloc, given, "HEX")?,
         ignored: list(alloc, given, "ignore")?,
         budget: given.get_one::<u64>("budget"),
-        part: given.get_str("part"),
+        part,
         json: flag(given, "json"),
         codes: list(alloc, given, "CODE")?,
-        files: list(alloc, given, "FILE")?,
+        files,
         files_from: given.get_str("files-from"),
         null: flag(given, "null"),
         quiet: flag(given, "quiet"),

@@ -8,7 +8,7 @@ pub struct Ask<'a> {
     pub subcommand: Subcommand,
     /// Whether the file is a metadata root instead of a PE file.
     pub bare: bool,
-    /// The path of the file to read, the first of `files`. `explain` has none, and `check` may have none.
+    /// The path of the file to read, the first of `files`. `explain` has none, and `check` and `digest` may have none.
     pub file: Option<&'a str>,
     /// The argument after the file: the offset of `where`, the output path of `rewrite` and `embed`, the other file of
     /// `compare`.
@@ -19,7 +19,7 @@ pub struct Ask<'a> {
     pub ignored: Vec<&'a str>,
     /// The largest number of bytes of texts and signatures that may be checked of each file, if given.
     pub budget: Option<u64>,
-    /// What alone to print of the file, as it was given: the table of `show`, the type of `outline`.
+    /// What alone to print of a file, as it was given: the table of `show`, the type of `outline`.
     pub part: Option<&'a str>,
     /// Whether to print JSON Lines instead of text.
     pub json: bool,
@@ -31,11 +31,11 @@ pub struct Ask<'a> {
     pub locates: bool,
     /// The faults to `explain`, as they were given; all if there is none.
     pub codes: Vec<&'a str>,
-    /// The paths of all files to read, in the order given: several only for `check` and `digest`.
+    /// The paths of all files to read, in the order given.
     pub files: Vec<&'a str>,
-    /// What `check` was given as the source of a list of files.
+    /// What `check` or `digest` was given as the source of a list of files.
     pub files_from: Option<&'a str>,
-    /// Whether `check` was given `-0`: the standard input is a list of files.
+    /// Whether `check` or `digest` was given `-0`: the standard input is a list of files.
     pub null: bool,
     /// Whether `check` was given `-q`: only the exit code says whether files break a rule.
     pub quiet: bool,

@@ -44,5 +44,5 @@ Exit status:
      root has more than 2^30 bytes; or FILE and OTHER differ; or ROOT is refused, or does not fit
   2  usage error; FILE was not read
   3  I/O error, out of memory, or budget spent
-The status of 'clim check', 'clim info' and 'clim digest' for several files is the greatest of theirs.
+The status for several files is the greatest of theirs.
 FILE may be '-', the standard input.";

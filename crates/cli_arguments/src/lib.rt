@@ -12,6 +12,7 @@ mod argument;
 mod arguments;
 mod asked;
 mod help;
+mod parts;
 mod subcommands;
 
 pub use arguments::ask;

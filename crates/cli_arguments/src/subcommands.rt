@@ -66,6 +66,9 @@ pub(crate) fn usage_of<'a>(subcommand: Subcommand) -> Usage<'a>
     }
 }
 
+/// `FILE..`, the paths of the files to read.
+const FILES: Argument<'static> = argument!["FILE" Several "The files to read"];
+
 /// `FILE`, the path of the file to read.
 const FILE: Argument<'static> = argument!["FILE" Required("FILE") "The file to read"];
 
@@ -75,6 +78,13 @@ const BARE: Argument<'static> = argument!["bare" Flag "FILE is a metadata root, 
 /// `--budget`, the limit of what is checked.
 const BUDGET: Argument<'static> =
     argument!["budget" Number("N") "Check at most N bytes of texts and signatures, or stop with exit status 3"];
+
+/// `--files-from`, the source of a list of files.
+const FILES_FROM: Argument<'static> =
+    argument!["files-from" Option("-") "Read the names of the files from standard input, each ended by a NUL"];
+
+/// `-0`, the flag for a list of files.
+const NULL: Argument<'static> = argument!["null" ShortFlag('0') "The same as '--files-from -'"];
 
 /// `--json`, the flag for JSON Lines.
 const JSON: Argument<'static> = argument!["json" Flag "Print a JSON value on each line"];

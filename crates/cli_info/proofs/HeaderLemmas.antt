@@ -1,5 +1,5 @@
 -- The headers of an image end within it (ECMA-335 II.25.2); and the name of a method, by whether its row exists.
-use Rattle.std.proofs.Common.{◌≡◌, ◌∙◌, ◌≤◌, ◌<◌, ◌⊎◌, ◌&&◌, ◌+◌, ℕ, Bool, true, false, List, [], cond, leb, length, ap, arith, inl, inr, refl}
+use Rattle.std.proofs.Common.{◌≡◌, ◌∙◌, ◌≤◌, ◌<◌, ◌⊎◌, ◌&&◌, ℕ, Bool, true, false, List, [], cond, leb, ap, arith, inl, inr, refl}
 use Rattle.std.proofs.Math.Logic.{∥∥₁_elim}
 use Rattle.std.proofs.lemmas.Bool.{le-leb, lt-leb}
 use Rattle.std.specs.Coded.{le_prop}

@@ -43,16 +43,8 @@ counts_line model =
     ∷ word (codes " fields ") ∷ field name.Fields (number (count_in model table.Field))
     ∷ word (codes " resources ") ∷ field name.Resources (number (count_in model table.ManifestResource)) ∷ []
 
--- the name of the file, if it is one of several
-abbrev pub file_lines : Option (List ℕ) → List (List Part)
-file_lines None = []
-file_lines (Some file) = (word (codes "file ") ∷ field name.File (text file) ∷ []) ∷ []
-
 -- of the bytes of a file only those of its PE headers are looked at
-abbrev pub fact_lines : List ℕ → Option CliHeader → Metadata → List (List Part)
-fact_lines bytes header model =
+abbrev pub info_lines : List ℕ → Option CliHeader → Metadata → List (List Part)
+info_lines bytes header model =
     identity_lines kind.Assembly model ++ (module_lines model ++ (version_line model.version ∷ (header_lines bytes header model
     ++ (counts_line model ∷ (identity_lines kind.Reference model ++ attributes_lines model)))))
-
-abbrev pub info_lines : Option (List ℕ) → List ℕ → Option CliHeader → Metadata → List (List Part)
-info_lines file bytes header model = file_lines file ++ fact_lines bytes header model

@@ -5,6 +5,7 @@ ghost use Rattle.cli_lines.specs.Printed.{Prints};
 ghost use Rattle.metadata.specs.Metadata.{Metadata};
 ghost use Rattle.metadata.specs.Model.{IsModel};
 ghost use Rattle.opening.specs.Views.{row_count};
+ghost use Rattle.sha1.specs.Sha1.{sha1};
 
 use cli_declarations::{bytes, number, text};
 use cli_lines::Part::{Field, Word};
@@ -14,12 +15,16 @@ use opening::{TableId, View};
 use sha1::Sha1;
 use std::alloc::{AllocError, Global};
 use std::io::Write;
+use std::marker::Model;
 
 /// The largest key whose token is printed, in bytes: that of 16,384 bits, the longest one of .NET.
 const KEY_LIMIT: usize = 2080;
 
 /// The number of bytes of the token of a key.
 const TOKEN_SIZE: usize = 8;
+
+/// The number of bytes of a SHA-1.
+const DIGEST_SIZE: usize = 20;
 
 /// Whose identity is printed.
 #[derive(Clone, Copy)]
@@ -71,10 +76,59 @@ impl Kind {
     }
 }
 
+/// The key that was hashed last, and its SHA-1. Rows often have the same key, which is then hashed once.
+#[derive(Drop)]
+struct LastKey {
+    key: Vec<u8>,
+    digest: [u8; DIGEST_SIZE],
+}
+
+impl Model for LastKey {
+    ghost use Rattle.std.specs.Prelude.{◌≡◌, List, ℕ};
+    ghost use Rattle.sha1.specs.Sha1.{sha1};
+
+    ghost Value = { List ℕ };
+
+    ghost view = { λ last. last.key.items };
+
+    ghost invariant = { λ last. last.digest ≡ sha1 last.key.items };
+}
+
+impl LastKey {
+    /// The empty key.
+    fn new(alloc: Global) -> LastKey {
+        LastKey {
+            key: Vec::new(alloc),
+            digest: Sha1::digest(b""),
+        }
+    }
+
+    /// The SHA-1 of a key, which is the last one from now on.
+    fn digest_of(&mut self, alloc: Global, key: &[u8]) -> Result<[u8; DIGEST_SIZE], AllocError>
+        ensures { IfOk result (λ digest. digest ≡ sha1 key.now) }
+    {
+        if self.key.as_slice() == key {
+            return Ok(self.digest);
+        }
+        let digest = Sha1::digest(key);
+        *self = LastKey {
+            key: Vec::from_slice(alloc, key)?,
+            digest,
+        };
+        Ok(digest)
+    }
+}
+
 /// The token of a key in hexadecimal: the last eight bytes of its SHA-1 in reverse order (II.6.3), unless it is a token
 /// already. It is `null` if there is no key, and `?` if it is too long.
 #[tactic(auto, using(crate::proofs::TokenLemmas::token_of_long, crate::proofs::TokenLemmas::token_of_token, crate::proofs::TokenLemmas::token_of_key), unfolding(crate::specs::Identities::token_text))]
-fn token_text(alloc: Global, kind: Kind, flags: u32, key: &[u8]) -> Result<String, AllocError>
+fn token_text(
+    alloc: Global,
+    kind: Kind,
+    flags: u32,
+    key: &[u8],
+    last: &mut LastKey,
+) -> Result<String, AllocError>
     ensures { IfOk result (λ text. string_bytes text ≡ token_text kind flags key.now) }
 {
     if key.is_empty() {
@@ -86,7 +140,7 @@ fn token_text(alloc: Global, kind: Kind, flags: u32, key: &[u8]) -> Result<Strin
     if kind.has_token(flags) {
         return hex::encode(alloc, key);
     }
-    let mut digest = Sha1::digest(key);
+    let mut digest = last.digest_of(alloc, key)?;
     digest.reverse();
     let (token, _) = digest.split_at(TOKEN_SIZE);
     hex::encode(alloc, token)
@@ -110,6 +164,7 @@ fn print_identity<W: Write>(
     view: &View<'_>,
     kind: Kind,
     row: u32,
+    last: &mut LastKey,
     out: &mut Printer<'_, W>,
 )
     requires first { 1 ≤ row }
@@ -126,7 +181,7 @@ fn print_identity<W: Write>(
     let key = bytes(view, table, row, first + 5);
     let own_name = text(view, table, row, first + 6);
     let culture = text(view, table, row, first + 7);
-    match token_text(alloc, kind, flags, key) {
+    match token_text(alloc, kind, flags, key, last) {
         Ok(token) => out.line(&[
             Word(word),
             Field(name, Text(own_name)),
@@ -159,7 +214,8 @@ pub(crate) fn print_identities<W: Write>(
     cli_lines::laws::lines_follow::<W>();
     cli_lines::laws::rows_follow::<W>();
     let (table, _) = kind.columns();
+    let mut last = LastKey::new(alloc);
     for earlier in 0..view.count(table) {
-        print_identity(alloc, view, kind, earlier + 1, out);
+        print_identity(alloc, view, kind, earlier + 1, &mut last, out);
     }
 }

@@ -1,9 +1,8 @@
 //! `clim info`: what one wants to know first of an assembly.
 ghost use Rattle.std.specs.Prelude.{◌≡◌, ◌≤◌, ◌∷◌, [], IfErr, IfOk, OnErr, OnOk, Option, Some};
-ghost use Rattle.std.specs.Option.{option_map};
 ghost use Rattle.cli_header.specs.declared.header.CliHeader.{CliHeader as Header};
 ghost use Rattle.cli_info.specs.HeaderLines.{HasRoom};
-ghost use Rattle.cli_info.specs.InfoLines.{AreFacts, counts_line, fact_lines, file_lines, guid_of, info_lines, module_lines};
+ghost use Rattle.cli_info.specs.InfoLines.{AreFacts, counts_line, guid_of, info_lines, module_lines};
 ghost use Rattle.cli_input.specs.Checked.{IsWhole, rules_of};
 ghost use Rattle.cli_lines.specs.Printed.{Prints};
 ghost use Rattle.metadata.specs.Metadata.{Metadata, cell_in};
@@ -32,12 +31,12 @@ const MODULE_NAME: usize = 1;
 
 const MVID: usize = 2;
 
-/// Prints what one wants to know first: the name of the file, if it is given; the identity of the assembly; its module; the
-/// version of the runtime; the headers, unless the bytes are a bare root; the numbers of types, methods, fields and resources;
-/// the identity of each assembly that it refers to; and each attribute of the assembly whose arguments are strings.
+/// Prints what one wants to know first: the identity of the assembly; its module; the version of the runtime; the headers,
+/// unless the bytes are a bare root; the numbers of types, methods, fields and resources; the identity of each assembly that it
+/// refers to; and each attribute of the assembly whose arguments are strings.
 ///
-/// Its time is that of the lines, and of the SHA-1 of each key, of which at most 2,080 bytes are read for a row. Of the value of
-/// an attribute at most 1,024 bytes are read.
+/// Its time is that of the lines, and of the SHA-1 of each key, of which at most 2,080 bytes are read for a row; a key that is
+/// that of the row before is not hashed again. Of the value of an attribute at most 1,024 bytes are read.
 ///
 /// # Errors
 ///
@@ -46,18 +45,15 @@ pub fn print_info<W: Write>(
     alloc: Global,
     bytes: &[u8],
     input: Input,
-    file: Option<&str>,
     out: &mut Printer<'_, W>,
 ) -> Result<(), Fault>
     ensures first_error { IfErr result (FirstBroken (rules_of input bytes.now)) }
     ensures untouched { OnErr result (out.new ≡ out.old) }
     ensures whole { OnOk result (IsWhole input bytes.now) }
     ensures printed { OnOk result ((header : Option Header) (model : Metadata) → AreFacts input bytes.now header model
-        → Prints out.old out.new (info_lines (option_map (λ name. name.now) file.entry) bytes.now header model)) }
+        → Prints out.old out.new (info_lines bytes.now header model)) }
 {
-    cli_lines::laws::lines_follow::<W>();
     let (header, view) = open_facts(bytes, input)?;
-    print_file(file, out);
     print_facts(alloc, bytes, &header, &view, out);
     Ok(())
 }
@@ -83,17 +79,6 @@ fn open_facts(bytes: &[u8], input: Input) -> Result<(Option<CliHeader>, View<'_>
     }
 }
 
-/// Prints the name of a file, if there is one.
-fn print_file<W: Write>(file: Option<&str>, out: &mut Printer<'_, W>)
-    ensures { Prints out.old out.new (file_lines (option_map (λ name. name.now) file.entry)) }
-{
-    cli_lines::laws::lines_follow::<W>();
-    match file {
-        Some(name) => out.line(&[Word("file "), Field(Name::File, Text(name))]),
-        None => {}
-    }
-}
-
 /// Prints the lines of a CLI header, if there is one, and of the metadata.
 fn print_facts<W: Write>(
     alloc: Global,
@@ -103,7 +88,7 @@ fn print_facts<W: Write>(
     out: &mut Printer<'_, W>,
 )
     requires { (of : Header) → header.now ≡ Some of → HasRoom bytes.now }
-    ensures { (model : Metadata) → IsModel view.now model → Prints out.old out.new (fact_lines bytes.now header.now model) }
+    ensures { (model : Metadata) → IsModel view.now model → Prints out.old out.new (info_lines bytes.now header.now model) }
 {
     cli_lines::laws::lines_follow::<W>();
     print_identities(alloc, view, Kind::Assembly, out);

@@ -1,19 +1,20 @@
 -- The parts of a line of JSON, one after another.
-use Rattle.std.proofs.Common.{◌≡◌, ◌∙◌, ◌⊎◌, ℕ, Bool, true, false, List, [], ◌∷◌, ◌++◌, None, Some, map, refl, ap, sym, append_assoc, codes, cond, decimal}
+use Rattle.std.proofs.Common.{◌≡◌, ◌≢◌, ◌∙◌, ◌⊎◌, ℕ, Bool, true, false, List, [], ◌∷◌, ◌++◌, None, Some, map, refl, ap, sym, append_assoc, codes, cond, decimal}
+use Rattle.std.specs.Borrow.{Bor}
 use Rattle.std.specs.Char.Utf16.{has_unpaired_surrogate, utf16_lossy_chars}
 use Rattle.std.specs.Str.{encode_utf8_all}
 use Rattle.std.proofs.Math.Logic.{⊎_elim}
 use Rattle.json.specs.Print.{escape_byte, print_from, quoted as string_text}
 use Rattle.json.specs.Token as json
 use Rattle.cli_lines.specs.JsonTexts.{array_json, items_json, member_json, opener, row_json, units_json, value_json}
-use Rattle.cli_lines.specs.Lines.{Value, number, hex, byte, text, plain, token, reference, quoted, bytes, guid, start, signature, yes, null, json_from, line_feed, named_token, part_tokens, units_tokens, value_tokens}
+use Rattle.cli_lines.specs.Lines.{Value, number, hex, byte, text, plain, token, reference, quoted, bytes, guid, start, signature, yes, null, json_from, line_feed, named_from, named_token, part_tokens, units_tokens, value_tokens}
 use Rattle.table_schema.specs.declared.token.Token.{Token}
 use Rattle.table_schema.specs.Tables.{table_name}
 use Rattle.table_schema.specs.Tokens.{token_text}
 use Rattle.cli_lines.specs.Names.{name_text}
 use Rattle.cli_lines.specs.Shown.{shown, shown_value}
 use Rattle.cli_lines.specs.declared.parts.Part.{Part as KeptPart}
-use Rattle.cli_lines.specs.declared.parts.Part.TheVariants.{Field, Member, Spaced, RowNumber, RowToken}
+use Rattle.cli_lines.specs.declared.parts.Part.TheVariants.{Word, Field, Note, Member, Spaced, RowNumber, RowToken, Units, Open, Close}
 use Rattle.cli_lines.specs.declared.parts.Value.{Value as KeptValue}
 use Rattle.cli_lines.specs.Texts.{escaped_bytes}
 use Rattle.cli_lines.specs.declared.line.Before.{Before}
@@ -159,3 +160,23 @@ pub array_units : (units : List ℕ) → has_unpaired_surrogate units ≡ true �
 array_units units unpaired =
     let chars = string_text (encode_utf8_all (utf16_lossy_chars units)) in
     sym (ap (λ t. cond t (member_json name.Units (array_json units)) (member_json name.Text chars)) unpaired)
+
+-- ---- the first member of a line that begins with the name of a file
+
+first_of_either : (file : List ℕ) (test : Bool) (x y : json.Token) (xs ys more : List json.Token)
+    → json_from Line (named_token name.File ∷ json.string file ∷ (cond test (x ∷ xs) (y ∷ ys) ++ more)) ≡ named_from (Some file) Line (cond test (x ∷ xs) (y ∷ ys) ++ more)
+first_of_either file true x y xs ys more = refl
+first_of_either file false x y xs ys more = refl
+
+pub first_tokens : (file : List ℕ) (part : KeptPart) → ((of : Bor (List ℕ)) → part ≢ Word of) → ((value : KeptValue) → part ≢ Note value) → (more : List json.Token)
+    → json_from Line (named_token name.File ∷ json.string file ∷ (part_tokens (shown part) ++ more)) ≡ named_from (Some file) Line (part_tokens (shown part) ++ more)
+first_tokens file (Word of) word note more = absurd (word of refl)
+first_tokens file (Field key value) word note more = refl
+first_tokens file (Note value) word note more = absurd (note value refl)
+first_tokens file (Member key value) word note more = refl
+first_tokens file (Spaced key value) word note more = refl
+first_tokens file (RowNumber row) word note more = refl
+first_tokens file (RowToken row) word note more = refl
+first_tokens file (Units of) word note more = first_of_either file (has_unpaired_surrogate of.now.units) _ _ _ _ more
+first_tokens file (Open key) word note more = refl
+first_tokens file Close word note more = refl

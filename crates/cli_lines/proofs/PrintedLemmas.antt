@@ -1,47 +1,52 @@
 -- What a printer was asked to print.
 use Rattle.std.proofs.Common.{◌≡◌, ◌∙◌, ℕ, true, false, List, [], ◌∷◌, ◌++◌, Option, None, Some, Result, Ok, Err, refl, ap, sym, subst, append_assoc, append-nil}
 use Rattle.std.specs.Prelude.{IsErr, is_some}
-use Rattle.std.specs.Borrow.{GName}
+use Rattle.std.specs.Borrow.{Bor, GName}
 use Rattle.std.specs.declared.io.ErrorKind.{ErrorKind}
 use Rattle.std.proofs.lemmas.Grind.{flat_map-append}
 use Rattle.cli_lines.specs.declared.line.Before.{Before}
 use Rattle.cli_lines.specs.declared.parts.Form.{Form}
-use Rattle.cli_lines.specs.Lines.{Part, line_from, line_text, report_text}
+use Rattle.cli_lines.specs.Lines.{Part, Style, line_from, line_text, style, styled_text}
 use Rattle.cli_lines.specs.Printed.{Adds, Asked, Awaits, Begins, Completes, Ends, Moves, Printed, Prints, Same, waits}
+use Rattle.cli_lines.specs.Shown.{shown_file}
 use Rattle.cli_sending.specs.Sent.{Sends, SendsPrefix}
 use Rattle.cli_sending.proofs.SentLemmas.{prefix_longer, prefix_more, sends_more}
 
-no_report : (form : Form) → report_text form [] ≡ []
-unfolding report_text
-no_report form = refl
+no_report : (look : Style) → styled_text look [] ≡ []
+unfolding styled_text
+no_report look = refl
 
-report_of_line : (form : Form) (line : List Part) → report_text form (line ∷ []) ≡ line_text form line
-unfolding report_text
-report_of_line form line = append-nil (line_text form line)
+report_of_line : (look : Style) (line : List Part) → styled_text look (line ∷ []) ≡ line_text look line
+unfolding styled_text
+report_of_line look line = append-nil (line_text look line)
 
-report_joined : (form : Form) (xs ys : List (List Part)) → report_text form (xs ++ ys) ≡ report_text form xs ++ report_text form ys
-unfolding report_text
-report_joined form xs ys = flat_map-append (line_text form) xs ys
+report_joined : (look : Style) (xs ys : List (List Part)) → styled_text look (xs ++ ys) ≡ styled_text look xs ++ styled_text look ys
+unfolding styled_text
+report_joined look xs ys = flat_map-append (line_text look) xs ys
+
+-- the style of a printer
+abbrev pub style_in : Form → Option (Bor (List ℕ)) → Style
+style_in form file = style form (shown_file file)
 
 -- what contracts see of a printer
-abbrev pub seen : {W : Type 0} → Form → GName → W → Option (List ℕ) → List ℕ → Option ErrorKind → Before → Printed W
-seen form borrow out contents waiting stopped at =
-    record { form = form; borrow = borrow; out = out; contents = contents; waiting = waits waiting stopped; at = at }
+abbrev pub seen : {W : Type 0} → Style → GName → W → Option (List ℕ) → List ℕ → Option ErrorKind → Before → Printed W
+seen look borrow out contents waiting stopped at =
+    record { style = look; borrow = borrow; out = out; contents = contents; waiting = waits waiting stopped; at = at }
 
 pub then_same : {W : Type 0} (a b c : Printed W) → Same a b → Same b c → Same a c
 then_same a b c first second = record {
-  form = second.form ∙ first.form;
+  style = second.style ∙ first.style;
   borrow = second.borrow ∙ first.borrow;
   stays = λ none. let unchanged = first.stays none in second.stays (ap (λ (p : Printed _). p.waiting) unchanged ∙ none) ∙ unchanged;
 }
 
 pub itself : {W : Type 0} (a : Printed W) → Same a a
-itself a = record { form = refl; borrow = refl; stays = λ none. refl }
+itself a = record { style = refl; borrow = refl; stays = λ none. refl }
 
 pub prints_nothing : {W : Type 0} (a : Printed W) → Prints a a []
 prints_nothing a = record {
   same = itself a;
-  asked = λ start text asked. subst (Asked start a) (sym (ap (λ xs. text ++ xs) (no_report a.form) ∙ append-nil text)) asked;
+  asked = λ start text asked. subst (Asked start a) (sym (ap (λ xs. text ++ xs) (no_report a.style) ∙ append-nil text)) asked;
 }
 
 pub prints_more : {W : Type 0} (a b c : Printed W) (xs ys : List (List Part)) → Prints a b xs → Prints b c ys → Prints a c (xs ++ ys)
@@ -49,10 +54,10 @@ prints_more a b c xs ys first second = record {
   same = then_same a b c first.same second.same;
   asked = λ start text asked.
       subst (Asked start c)
-      (append_assoc text (report_text a.form xs) (report_text b.form ys)
-      ∙ ap (λ form. text ++ (report_text a.form xs ++ report_text form ys)) first.same.form
-      ∙ ap (λ bytes. text ++ bytes) (sym (report_joined a.form xs ys)))
-      (second.asked start (text ++ report_text a.form xs) (first.asked start text asked));
+      (append_assoc text (styled_text a.style xs) (styled_text b.style ys)
+      ∙ ap (λ look. text ++ (styled_text a.style xs ++ styled_text look ys)) first.same.style
+      ∙ ap (λ bytes. text ++ bytes) (sym (report_joined a.style xs ys)))
+      (second.asked start (text ++ styled_text a.style xs) (first.asked start text asked));
 }
 
 -- the bytes that went out come first
@@ -60,98 +65,98 @@ moved_on : (sent waiting left x y prefix whole : List ℕ) → prefix ≡ sent +
 moved_on sent waiting left x y prefix whole prefix_is same is =
     append_assoc sent left x ∙ ap (λ bytes. sent ++ bytes) same ∙ sym (append_assoc sent waiting y) ∙ ap (λ bytes. bytes ++ y) (sym prefix_is) ∙ is
 
-module _ {W : Type 0} (form : Form) (borrow : GName) (out : W) (contents : Option (List ℕ)) (waiting left : List ℕ) (parts : List Part) (at now : Before) where
+module _ {W : Type 0} (look : Style) (borrow : GName) (out : W) (contents : Option (List ℕ)) (waiting left : List ℕ) (parts : List Part) (at now : Before) where
   abbrev before : Option ErrorKind → Printed W
-  before stopped = seen form borrow out contents waiting stopped at
+  before stopped = seen look borrow out contents waiting stopped at
 
   -- a printer that failed takes nothing
   pub begins_stopped : (stopped : Option ErrorKind) → is_some stopped ≡ true → Begins (before stopped) (before stopped) parts
-  begins_stopped (Some kind) is = record { same = record { form = refl; borrow = refl; stays = λ none. refl }; awaits = λ start text more asked. prefix_longer start contents text (line_text form (parts ++ more)) asked }
+  begins_stopped (Some kind) is = record { same = record { style = refl; borrow = refl; stays = λ none. refl }; awaits = λ start text more asked. prefix_longer start contents text (line_text look (parts ++ more)) asked }
   begins_stopped None is = cc
 
   pub adds_stopped : (stopped : Option ErrorKind) → is_some stopped ≡ true → Adds (before stopped) (before stopped) parts
-  adds_stopped (Some kind) is = record { same = record { form = refl; borrow = refl; stays = λ none. refl }; awaits = λ start whole more awaits. awaits }
+  adds_stopped (Some kind) is = record { same = record { style = refl; borrow = refl; stays = λ none. refl }; awaits = λ start whole more awaits. awaits }
   adds_stopped None is = cc
 
   pub ends_stopped : (stopped : Option ErrorKind) → is_some stopped ≡ true → Ends (before stopped) (before stopped)
-  ends_stopped (Some kind) is = record { same = record { form = refl; borrow = refl; stays = λ none. refl }; asked = λ start whole awaits. awaits }
+  ends_stopped (Some kind) is = record { same = record { style = refl; borrow = refl; stays = λ none. refl }; asked = λ start whole awaits. awaits }
   ends_stopped None is = cc
 
   pub begun : (stopped : Option ErrorKind) → is_some stopped ≡ false
-      → ((more : List Part) → left ++ line_from form now more ≡ waiting ++ line_text form (parts ++ more))
-      → Begins (before stopped) (seen form borrow out contents left stopped now) parts
+      → ((more : List Part) → left ++ line_from look now more ≡ waiting ++ line_text look (parts ++ more))
+      → Begins (before stopped) (seen look borrow out contents left stopped now) parts
   begun None is pushed = record {
-    same = record { form = refl; borrow = refl; stays = λ none. cc };
+    same = record { style = refl; borrow = refl; stays = λ none. cc };
     awaits = λ start text more asked.
-        (asked.0 ++ left, (asked.0, refl, asked.2), moved_on asked.0 waiting left (line_from form now more) (line_text form (parts ++ more)) text _ asked.1 (pushed more) refl);
+        (asked.0 ++ left, (asked.0, refl, asked.2), moved_on asked.0 waiting left (line_from look now more) (line_text look (parts ++ more)) text _ asked.1 (pushed more) refl);
   }
   begun (Some kind) is pushed = cc
 
-  pub begun_cut : (stopped : Option ErrorKind) (kind : ErrorKind) → is_some stopped ≡ false → Begins (before stopped) (seen form borrow out contents left (Some kind) at) parts
+  pub begun_cut : (stopped : Option ErrorKind) (kind : ErrorKind) → is_some stopped ≡ false → Begins (before stopped) (seen look borrow out contents left (Some kind) at) parts
   begun_cut None kind is = record {
-    same = record { form = refl; borrow = refl; stays = λ none. cc };
-    awaits = λ start text more asked. prefix_longer start contents text (line_text form (parts ++ more)) (waiting, asked);
+    same = record { style = refl; borrow = refl; stays = λ none. cc };
+    awaits = λ start text more asked. prefix_longer start contents text (line_text look (parts ++ more)) (waiting, asked);
   }
   begun_cut (Some _) kind is = cc
 
   pub added : (stopped : Option ErrorKind) → is_some stopped ≡ false
-      → ((more : List Part) → left ++ line_from form now more ≡ waiting ++ line_from form at (parts ++ more))
-      → Adds (before stopped) (seen form borrow out contents left stopped now) parts
+      → ((more : List Part) → left ++ line_from look now more ≡ waiting ++ line_from look at (parts ++ more))
+      → Adds (before stopped) (seen look borrow out contents left stopped now) parts
   added None is pushed = record {
-    same = record { form = refl; borrow = refl; stays = λ none. cc };
+    same = record { style = refl; borrow = refl; stays = λ none. cc };
     awaits = λ start whole more awaits. (
       awaits.1.0 ++ left,
       (awaits.1.0, refl, awaits.1.2),
-      moved_on awaits.1.0 waiting left (line_from form now more) (line_from form at (parts ++ more)) awaits.0 whole awaits.1.1 (pushed more) awaits.2,
+      moved_on awaits.1.0 waiting left (line_from look now more) (line_from look at (parts ++ more)) awaits.0 whole awaits.1.1 (pushed more) awaits.2,
     );
   }
   added (Some kind) is pushed = cc
 
-  pub added_cut : (stopped : Option ErrorKind) (kind : ErrorKind) → is_some stopped ≡ false → Adds (before stopped) (seen form borrow out contents left (Some kind) at) parts
+  pub added_cut : (stopped : Option ErrorKind) (kind : ErrorKind) → is_some stopped ≡ false → Adds (before stopped) (seen look borrow out contents left (Some kind) at) parts
   added_cut None kind is = record {
-    same = record { form = refl; borrow = refl; stays = λ none. cc };
+    same = record { style = refl; borrow = refl; stays = λ none. cc };
     awaits = λ start whole more awaits.
         subst (λ (bytes : List ℕ). SendsPrefix start contents bytes) awaits.2
-        (prefix_longer start contents awaits.0 (line_from form at (parts ++ more)) (waiting, awaits.1));
+        (prefix_longer start contents awaits.0 (line_from look at (parts ++ more)) (waiting, awaits.1));
   }
   added_cut (Some _) kind is = cc
 
 -- a printer that fails takes any lines and parts
-module _ {W : Type 0} (form : Form) (borrow : GName) (out : W) (contents : Option (List ℕ)) (waiting : List ℕ) (at : Before) where
+module _ {W : Type 0} (look : Style) (borrow : GName) (out : W) (contents : Option (List ℕ)) (waiting : List ℕ) (at : Before) where
   pub prints_stopped : (stopped : Option ErrorKind) (lines : List (List Part)) → is_some stopped ≡ true
-      → Prints (seen form borrow out contents waiting stopped at) (seen form borrow out contents waiting stopped at) lines
+      → Prints (seen look borrow out contents waiting stopped at) (seen look borrow out contents waiting stopped at) lines
   prints_stopped (Some kind) lines is = record {
-    same = itself (seen form borrow out contents waiting (Some kind) at);
-    asked = λ start text asked. prefix_longer start contents text (report_text form lines) asked;
+    same = itself (seen look borrow out contents waiting (Some kind) at);
+    asked = λ start text asked. prefix_longer start contents text (styled_text look lines) asked;
   }
   prints_stopped None lines is = cc
 
   pub prints_cut : (stopped : Option ErrorKind) (kind : ErrorKind) (lines : List (List Part)) → is_some stopped ≡ false
-      → Prints (seen form borrow out contents waiting stopped at) (seen form borrow out contents waiting (Some kind) at) lines
+      → Prints (seen look borrow out contents waiting stopped at) (seen look borrow out contents waiting (Some kind) at) lines
   prints_cut None kind lines is = record {
-    same = record { form = refl; borrow = refl; stays = λ none. cc };
-    asked = λ start text asked. prefix_longer start contents text (report_text form lines) (waiting, asked);
+    same = record { style = refl; borrow = refl; stays = λ none. cc };
+    asked = λ start text asked. prefix_longer start contents text (styled_text look lines) (waiting, asked);
   }
   prints_cut (Some _) kind lines is = cc
 
-module _ {W : Type 0} (form : Form) (borrow : GName) (out later : W) (before after : Option (List ℕ)) (waiting left : List ℕ) (at : Before) where
-  pub ended : (stopped : Option ErrorKind) → is_some stopped ≡ false → Sends before after (waiting ++ line_from form at []) left
-      → Ends (seen form borrow out before waiting stopped at) (seen form borrow later after left stopped at)
+module _ {W : Type 0} (look : Style) (borrow : GName) (out later : W) (before after : Option (List ℕ)) (waiting left : List ℕ) (at : Before) where
+  pub ended : (stopped : Option ErrorKind) → is_some stopped ≡ false → Sends before after (waiting ++ line_from look at []) left
+      → Ends (seen look borrow out before waiting stopped at) (seen look borrow later after left stopped at)
   ended None is sends = record {
-    same = record { form = refl; borrow = refl; stays = λ none. cc };
+    same = record { style = refl; borrow = refl; stays = λ none. cc };
     asked = λ start whole awaits.
         subst (λ (bytes : List ℕ). Sends start after bytes left) awaits.2
-        (sends_more start before after awaits.0 waiting (line_from form at []) left awaits.1 sends);
+        (sends_more start before after awaits.0 waiting (line_from look at []) left awaits.1 sends);
   }
   ended (Some kind) is sends = cc
 
-  pub ended_cut : (stopped : Option ErrorKind) (kind : ErrorKind) → is_some stopped ≡ false → SendsPrefix before after (waiting ++ line_from form at [])
-      → Ends (seen form borrow out before waiting stopped at) (seen form borrow later after left (Some kind) at)
+  pub ended_cut : (stopped : Option ErrorKind) (kind : ErrorKind) → is_some stopped ≡ false → SendsPrefix before after (waiting ++ line_from look at [])
+      → Ends (seen look borrow out before waiting stopped at) (seen look borrow later after left (Some kind) at)
   ended_cut None kind is cut = record {
-    same = record { form = refl; borrow = refl; stays = λ none. cc };
+    same = record { style = refl; borrow = refl; stays = λ none. cc };
     asked = λ start whole awaits.
         subst (λ (bytes : List ℕ). SendsPrefix start after bytes) awaits.2
-        (prefix_more start before after awaits.0 waiting (line_from form at []) awaits.1 cut);
+        (prefix_more start before after awaits.0 waiting (line_from look at []) awaits.1 cut);
   }
   ended_cut (Some other) kind is cut = cc
 
@@ -169,18 +174,18 @@ pub begins_more : {W : Type 0} (a b c : Printed W) (xs ys : List Part) → Begin
 begins_more a b c xs ys begins adds = record {
   same = then_same a b c begins.same adds.same;
   awaits = λ start text more asked.
-      subst (λ (parts : List Part). Awaits start c (text ++ line_text a.form parts) more) (sym (append_assoc xs ys more))
-      (adds.awaits start (text ++ line_text a.form (xs ++ (ys ++ more))) more (begins.awaits start text (ys ++ more) asked));
+      subst (λ (parts : List Part). Awaits start c (text ++ line_text a.style parts) more) (sym (append_assoc xs ys more))
+      (adds.awaits start (text ++ line_text a.style (xs ++ (ys ++ more))) more (begins.awaits start text (ys ++ more) asked));
 }
 
 pub line_printed : {W : Type 0} (a b c d : Printed W) (xs ys : List Part) → Begins a b xs → Adds b c ys → Ends c d → Prints a d ((xs ++ ys) ∷ [])
 line_printed a b c d xs ys begins adds ends = record {
   same = then_same a b d begins.same (then_same b c d adds.same ends.same);
   asked = λ start text asked.
-      let begun : Awaits start b (text ++ line_text a.form (xs ++ ys)) (ys ++ []) =
-      subst (λ (parts : List Part). Awaits start b (text ++ line_text a.form (xs ++ parts)) (ys ++ [])) (append-nil ys) (begins.awaits start text (ys ++ []) asked) in
-      subst (λ (bytes : List ℕ). Asked start d (text ++ bytes)) (sym (report_of_line a.form (xs ++ ys)))
-      (ends.asked start (text ++ line_text a.form (xs ++ ys)) (adds.awaits start (text ++ line_text a.form (xs ++ ys)) [] begun));
+      let begun : Awaits start b (text ++ line_text a.style (xs ++ ys)) (ys ++ []) =
+      subst (λ (parts : List Part). Awaits start b (text ++ line_text a.style (xs ++ parts)) (ys ++ [])) (append-nil ys) (begins.awaits start text (ys ++ []) asked) in
+      subst (λ (bytes : List ℕ). Asked start d (text ++ bytes)) (sym (report_of_line a.style (xs ++ ys)))
+      (ends.asked start (text ++ line_text a.style (xs ++ ys)) (adds.awaits start (text ++ line_text a.style (xs ++ ys)) [] begun));
 }
 
 pub whole_line : {W : Type 0} (a b c : Printed W) (xs : List Part) → Begins a b xs → Ends b c → Prints a c (xs ∷ [])

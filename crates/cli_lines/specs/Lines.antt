@@ -158,17 +158,42 @@ json_from before.Line (next ∷ tokens) = print (json.begin_object ∷ next ∷ 
 json_from before.Brace tokens = print (tokens ++ json.end_object ∷ []) ++ line_feed
 json_from before.Value tokens = print_from true (tokens ++ json.end_object ∷ []) ++ line_feed
 
--- ---- a line in a form
+-- the same of a line that begins with the name of a file, if there is one: the member `file` comes first
+abbrev pub named_from : Option (List ℕ) → Before → List json.Token → List ℕ
+named_from (Some file) before.Line (next ∷ tokens) = json_from before.Line (named_token name.File ∷ json.string file ∷ next ∷ tokens)
+named_from file at tokens = json_from at tokens
+
+-- ---- a line in a style
+
+-- a form, and the name of the file that each line begins with, if there is one
+pub record Style : Type 0 where
+  pub form : Form
+  pub file : Option (List ℕ)
+
+abbrev pub style : Form → Option (List ℕ) → Style
+style form file = record { form = form; file = file }
+
+-- in a line of text the name of the file comes first, then a colon and a space
+abbrev pub lead : Form → Option (List ℕ) → List ℕ
+lead Text (Some file) = escaped_text file ++ codes ": "
+lead form file = []
+
+abbrev pub form_from : Form → Option (List ℕ) → Before → List Part → List ℕ
+form_from Text file at parts = flat_map part_text parts ++ line_feed
+form_from JsonLines file at parts = named_from file at (flat_map part_tokens parts)
 
 -- these parts, and the end of the line, from where the printer is
-unfoldable pub line_from : Form → Before → List Part → List ℕ
-line_from Text at parts = flat_map part_text parts ++ line_feed
-line_from JsonLines at parts = json_from at (flat_map part_tokens parts)
+unfoldable pub line_from : Style → Before → List Part → List ℕ
+line_from of at parts = form_from of.form of.file at parts
 
-abbrev pub line_text : Form → List Part → List ℕ
-line_text form parts = line_from form before.Line parts
+abbrev pub line_text : Style → List Part → List ℕ
+line_text of parts = lead of.form of.file ++ line_from of before.Line parts
 
 -- ---- a report
 
-unfoldable pub report_text : Form → List (List Part) → List ℕ
-report_text form lines = flat_map (line_text form) lines
+unfoldable pub styled_text : Style → List (List Part) → List ℕ
+styled_text of lines = flat_map (line_text of) lines
+
+-- a report that does not begin its lines with the name of a file
+abbrev pub report_text : Form → List (List Part) → List ℕ
+report_text form lines = styled_text (style form None) lines

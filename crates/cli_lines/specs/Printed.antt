@@ -5,16 +5,15 @@ use Rattle.std.specs.Borrow.{GName}
 use Rattle.std.specs.declared.io.ErrorKind.{ErrorKind}
 use Rattle.cli_sending.specs.Sent.{Sends, SendsPrefix}
 use Rattle.cli_lines.specs.declared.line.Before.{Before}
-use Rattle.cli_lines.specs.declared.parts.Form.{Form}
-use Rattle.cli_lines.specs.Lines.{Part, line_from, line_text, report_text}
+use Rattle.cli_lines.specs.Lines.{Part, Style, line_from, line_text, styled_text}
 
 -- all of the text went out but what is left if it succeeds; else nothing or a prefix of it
 abbrev pub Moves : {T E : Type 0} → Option (List ℕ) → Option (List ℕ) → Result T E → List ℕ → List ℕ → Type 0
 Moves before after result text left = MatchResult result (λ done. Sends before after text left) (λ error. SendsPrefix before after text)
 
--- a printer: its form, its writer, what waits to be sent unless printing failed, and its position in the line
+-- a printer: its style, its writer, what waits to be sent unless printing failed, and its position in the line
 pub record Printed (W : Type 0) : Type 0 where
-  pub form : Form
+  pub style : Style
   -- the borrow of its writer, the writer, and the bytes of the writer
   pub borrow : GName
   pub out : W
@@ -41,25 +40,25 @@ module _ {W : Type 0} where
   abbrev pub Asked : Option (List ℕ) → Printed W → List ℕ → Type 0
   Asked start printer text = SendsOrFails start printer.contents text printer.waiting
 
-  -- the printer has the form and the writer that it had; if printing had failed, it is as it was
+  -- the printer has the style and the writer that it had; if printing had failed, it is as it was
   pub record Same (old new : Printed W) : Type 0 where
-    pub form : new.form ≡ old.form
+    pub style : new.style ≡ old.style
     pub borrow : new.borrow ≡ old.borrow
     pub stays : old.waiting ≡ None → new ≡ old
 
   -- the printer was asked to print these lines
   pub record Prints (old new : Printed W) (lines : List (List Part)) : Type 0 where
     pub same : Same old new
-    pub asked : (start : Option (List ℕ)) (text : List ℕ) → Asked start old text → Asked start new (text ++ report_text old.form lines)
+    pub asked : (start : Option (List ℕ)) (text : List ℕ) → Asked start old text → Asked start new (text ++ styled_text old.style lines)
 
   -- the printer has begun a line: with these parts and the end of the line it was asked to print the text
   abbrev pub Awaits : Option (List ℕ) → Printed W → List ℕ → List Part → Type 0
-  Awaits start printer whole more = AwaitsOrFails start printer.contents printer.waiting (line_from printer.form printer.at) whole more
+  Awaits start printer whole more = AwaitsOrFails start printer.contents printer.waiting (line_from printer.style printer.at) whole more
 
   -- the printer began a line with these parts
   pub record Begins (old new : Printed W) (parts : List Part) : Type 0 where
     pub same : Same old new
-    pub awaits : (start : Option (List ℕ)) (text : List ℕ) (more : List Part) → Asked start old text → Awaits start new (text ++ line_text old.form (parts ++ more)) more
+    pub awaits : (start : Option (List ℕ)) (text : List ℕ) (more : List Part) → Asked start old text → Awaits start new (text ++ line_text old.style (parts ++ more)) more
 
   -- the printer took more parts of its line
   pub record Adds (old new : Printed W) (parts : List Part) : Type 0 where

@@ -1,10 +1,17 @@
 -- The parts of the program, as values of specs/.
+use Rattle.std.specs.Prelude.{ℕ, List, Option}
+use Rattle.std.specs.Borrow.{Bor}
+use Rattle.std.specs.Option.{option_map}
 use Rattle.cli_lines.specs.Lines as line
 use Rattle.cli_lines.specs.Lines.{Part, Value}
 use Rattle.cli_lines.specs.declared.parts.Part.{Part as KeptPart}
 use Rattle.cli_lines.specs.declared.parts.Part.TheVariants.{Word, Field, Note, Member, Spaced, RowNumber, RowToken, Units, Open, Close}
 use Rattle.cli_lines.specs.declared.parts.Value.{Value as KeptValue}
 use Rattle.cli_lines.specs.declared.parts.Value.TheVariants.{Number, Hex, Byte, Text, Plain, Token, Reference, Quoted, Bytes, Guid, Start, Signature, Yes, Null}
+
+-- the name of a file, if there is one
+abbrev pub shown_file : Option (Bor (List ℕ)) → Option (List ℕ)
+shown_file = option_map (λ name. name.now)
 
 abbrev pub shown_value : KeptValue → Value
 shown_value (Number n) = line.number n

@@ -72,7 +72,7 @@ fn push_row(alloc: Global, at: Before, row: Token, line: &mut Vec<u8>) -> Result
 
 /// Appends a member.
 #[inline(always)]
-fn push_member(
+pub(crate) fn push_member(
     alloc: Global,
     at: Before,
     name: Name,
@@ -105,7 +105,9 @@ pub(crate) fn push_json_part(
     part: Part<'_>,
     line: &mut Vec<u8>,
 ) -> Result<Before, AllocError>
-    ensures { IfOk result (λ now. (more : List json.Token) → line.new.items ++ json_from now more ≡ line.old.items ++ json_from at (part_tokens (shown part.entry) ++ more)) }
+    ensures pushed { IfOk result (λ now. (more : List json.Token) → line.new.items ++ json_from now more ≡ line.old.items ++ json_from at (part_tokens (shown part.entry) ++ more)) }
+    // A line that has a token keeps it.
+    ensures begun { IfOk result (λ now. now ≡ here.Line → at ≡ here.Line) }
 {
     match &part {
         Part::Word(_) | Part::Note(_) => Ok(at),

@@ -18,6 +18,7 @@ mod json_texts;
 mod json_units;
 pub mod laws;
 mod line;
+mod named_line;
 mod names;
 mod parts;
 mod printer;

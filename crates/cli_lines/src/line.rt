@@ -1,9 +1,11 @@
 //! Appends the parts of a line to the bytes that wait to be sent.
-ghost use Rattle.std.specs.Prelude.{◌≡◌, ◌++◌, ◌∷◌, [], List, OnOk, IfOk, map};
-ghost use Rattle.cli_lines.specs.Lines.{Part as ThePart, line_from, line_text, part_text, value_text};
-ghost use Rattle.cli_lines.specs.Shown.{shown, shown_value};
+ghost use Rattle.std.specs.Prelude.{◌≡◌, ◌++◌, ◌∷◌, [], ℕ, List, OnOk, Option, IfOk, map};
+ghost use Rattle.cli_lines.specs.declared.line.Before.TheVariants as here;
+ghost use Rattle.cli_lines.specs.Lines.{Part as ThePart, line_from, line_text, part_text, style, value_text};
+ghost use Rattle.cli_lines.specs.Shown.{shown, shown_file, shown_value};
 
-use crate::json_line::{push_json_end, push_json_part};
+use crate::json_line::push_json_end;
+use crate::named_line::{push_lead, push_named_part};
 use crate::parts::{Form, Part, Value};
 use crate::texts::{
     push_bracketed, push_byte_digits, push_decimal, push_escaped, push_guid, push_plain,
@@ -72,33 +74,52 @@ fn push_text_part(alloc: Global, part: &Part<'_>, line: &mut Vec<u8>) -> Result<
 pub(crate) fn push_part(
     alloc: Global,
     form: Form,
+    file: Option<&str>,
     at: Before,
     part: &Part<'_>,
     line: &mut Vec<u8>,
 ) -> Result<Before, AllocError>
-    ensures { IfOk result (λ now. (more : List ThePart) → line.new.items ++ line_from form now more ≡ line.old.items ++ line_from form at (shown part.now ∷ more)) }
+    ensures { IfOk result (λ now. (more : List ThePart) → line.new.items ++ line_from (style form (shown_file file.entry)) now more
+        ≡ line.old.items ++ line_from (style form (shown_file file.entry)) at (shown part.now ∷ more)) }
 {
     match form {
         Form::Text => {
             push_text_part(alloc, part, line)?;
             Ok(at)
         }
-        Form::JsonLines => push_json_part(alloc, at, *part, line),
+        Form::JsonLines => push_named_part(alloc, file, at, part, line),
     }
 }
 
-/// Appends the first parts of a line. Returns where the printer is then.
-pub(crate) fn push_parts(
+/// Begins a line, and appends its first parts. Returns where the printer is then.
+pub(crate) fn begin_line(
     alloc: Global,
     form: Form,
+    file: Option<&str>,
     parts: &[Part<'_>],
     line: &mut Vec<u8>,
 ) -> Result<Before, AllocError>
-    ensures { IfOk result (λ now. (more : List ThePart) → line.new.items ++ line_from form now more ≡ line.old.items ++ line_text form (map shown parts.now ++ more)) }
+    ensures { IfOk result (λ now. (more : List ThePart) → line.new.items ++ line_from (style form (shown_file file.entry)) now more
+        ≡ line.old.items ++ line_text (style form (shown_file file.entry)) (map shown parts.now ++ more)) }
+{
+    push_lead(form, file, line)?;
+    push_parts(alloc, form, file, parts, line)
+}
+
+/// Appends the first parts of a line. Returns where the printer is then.
+fn push_parts(
+    alloc: Global,
+    form: Form,
+    file: Option<&str>,
+    parts: &[Part<'_>],
+    line: &mut Vec<u8>,
+) -> Result<Before, AllocError>
+    ensures { IfOk result (λ now. (more : List ThePart) → line.new.items ++ line_from (style form (shown_file file.entry)) now more
+        ≡ line.old.items ++ line_from (style form (shown_file file.entry)) here.Line (map shown parts.now ++ more)) }
 {
     let mut at = Before::Line;
     for part in parts {
-        at = push_part(alloc, form, at, part, line)?;
+        at = push_part(alloc, form, file, at, part, line)?;
     }
     Ok(at)
 }
@@ -106,7 +127,7 @@ pub(crate) fn push_parts(
 /// Appends the end of a line.
 #[tactic(auto, unfolding(crate::specs::Lines::line_from))]
 pub(crate) fn push_end(form: Form, at: Before, line: &mut Vec<u8>) -> Result<(), AllocError>
-    ensures { OnOk result (line.new.items ≡ line.old.items ++ line_from form at []) }
+    ensures { OnOk result ((file : Option (List ℕ)) → line.new.items ≡ line.old.items ++ line_from (style form file) at []) }
 {
     match form {
         Form::Text => Ok(line.push(b'\n')?),

@@ -1,12 +1,12 @@
 //! Prints lines.
 ghost use Rattle.std.specs.Prelude.{◌≡◌, ◌∷◌, ◌++◌, [], ℕ, IfErr, IsSome, List, None, OnOk, Option, map};
 ghost use Rattle.cli_faults.specs.Status.{IsOutput};
-ghost use Rattle.cli_lines.specs.Lines.{Part as ThePart, line_from};
+ghost use Rattle.cli_lines.specs.Lines.{Part as ThePart, line_from, style};
 ghost use Rattle.cli_lines.specs.Printed.{Adds, Asked, Begins, Ends, Moves, Prints, SendsOrFails, waits};
 ghost use Rattle.cli_sending.specs.Sent.{SendsPrefix, Sent};
-ghost use Rattle.cli_lines.specs.Shown.{shown};
+ghost use Rattle.cli_lines.specs.Shown.{shown, shown_file};
 
-use crate::line::{Before, push_end, push_part, push_parts};
+use crate::line::{Before, begin_line, push_end, push_part};
 use crate::parts::{Form, Part};
 use crate::sending::send_full;
 use cli_faults::Failure;
@@ -20,6 +20,7 @@ use std::marker::Model;
 pub struct Printer<'o, W: Write> {
     alloc: Global,
     form: Form,
+    file: Option<&'o str>,
     waiting: Vec<u8>,
     at: Before,
     stopped: Option<ErrorKind>,
@@ -27,17 +28,30 @@ pub struct Printer<'o, W: Write> {
 }
 
 impl<'o, W: Write> Model for Printer<'o, W> {
+    ghost use Rattle.cli_lines.specs.Lines.{style};
     ghost use Rattle.cli_lines.specs.Printed.{Printed, waits};
+    ghost use Rattle.cli_lines.specs.Shown.{shown_file};
 
     ghost Value = { Printed W };
 
-    ghost view = { λ a. record { form = a.form; borrow = a.out.ghost_name; out = a.out.now; contents = W.contents a.out.now; waiting = waits a.waiting.items a.stopped; at = a.at } };
+    ghost view = { λ a. record { style = style a.form (shown_file a.file); borrow = a.out.ghost_name; out = a.out.now; contents = W.contents a.out.now; waiting = waits a.waiting.items a.stopped; at = a.at } };
 }
 
 impl<'o, W: Write> Printer<'o, W> {
     /// A printer that has printed nothing.
     pub fn new(alloc: Global, form: Form, out: &'o mut W) -> Printer<'o, W>
-        ensures form { result.form ≡ form }
+        ensures style { result.style ≡ style form None }
+        ensures borrow { result.borrow ≡ out.entry.ghost_name }
+        ensures out { result.out ≡ out.old }
+        ensures asked { Asked (W.contents out.old) result [] }
+    {
+        Printer::named(alloc, form, None, out)
+    }
+
+    /// A printer that has printed nothing, and begins each line with the name of a file, if there is one: `FILE: `, or the
+    /// member `file`.
+    pub fn named(alloc: Global, form: Form, file: Option<&'o str>, out: &'o mut W) -> Printer<'o, W>
+        ensures style { result.style ≡ style form (shown_file file.entry) }
         ensures borrow { result.borrow ≡ out.entry.ghost_name }
         ensures out { result.out ≡ out.old }
         ensures asked { Asked (W.contents out.old) result [] }
@@ -45,6 +59,7 @@ impl<'o, W: Write> Printer<'o, W> {
         Printer {
             alloc,
             form,
+            file,
             waiting: Vec::new(alloc),
             at: Before::Line,
             stopped: None,
@@ -54,7 +69,7 @@ impl<'o, W: Write> Printer<'o, W> {
 
     /// The form of the lines.
     pub fn form(&self) -> Form
-        ensures { result ≡ self.now.form }
+        ensures { result ≡ self.now.style.form }
     {
         self.form
     }
@@ -75,7 +90,7 @@ impl<'o, W: Write> Printer<'o, W> {
         if self.stopped.is_some() {
             return;
         }
-        match push_parts(self.alloc, self.form, parts, &mut self.waiting) {
+        match begin_line(self.alloc, self.form, self.file, parts, &mut self.waiting) {
             Ok(at) => self.at = at,
             Err(_) => self.stopped = Some(ErrorKind::OutOfMemory),
         }
@@ -89,7 +104,14 @@ impl<'o, W: Write> Printer<'o, W> {
         if self.stopped.is_some() {
             return;
         }
-        match push_part(self.alloc, self.form, self.at, part, &mut self.waiting) {
+        match push_part(
+            self.alloc,
+            self.form,
+            self.file,
+            self.at,
+            part,
+            &mut self.waiting,
+        ) {
             Ok(at) => self.at = at,
             Err(_) => self.stopped = Some(ErrorKind::OutOfMemory),
         }
@@ -133,6 +155,7 @@ impl<'o, W: Write> Printer<'o, W> {
         let Printer {
             alloc: _,
             form: _,
+            file: _,
             waiting,
             at: _,
             stopped,
@@ -150,6 +173,7 @@ impl<'o, W: Write> Printer<'o, W> {
         let Printer {
             alloc: _,
             form: _,
+            file: _,
             waiting: _,
             at: _,
             stopped: _,
@@ -161,7 +185,7 @@ impl<'o, W: Write> Printer<'o, W> {
 
 /// Ends a line, and sends the lines that wait if they are many.
 fn end_line<W: Write>(form: Form, at: Before, waiting: &mut Vec<u8>, out: &mut W) -> io::Result<()>
-    ensures { Moves (W.contents out.old) (W.contents out.new) result (waiting.old.items ++ line_from form at []) waiting.new.items }
+    ensures { (file : Option (List ℕ)) → Moves (W.contents out.old) (W.contents out.new) result (waiting.old.items ++ line_from (style form file) at []) waiting.new.items }
 {
     push_end(form, at, waiting)?;
     send_full(waiting, out)

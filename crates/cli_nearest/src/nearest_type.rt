@@ -62,10 +62,10 @@ fn is_short(view: &View<'_>, row: u32, cell: usize) -> bool
         view.index_in_heap(TableId::TypeDef, row, cell),
         view.strings_heap(),
     ) {
-        (Some(index), Some(heap)) if index > 0 => {
-            let mut near = heap.iter().skip(index as usize).take(LONGEST_NAME + 1);
-            near.any(|byte| *byte == 0)
-        }
+        (Some(index), Some(heap)) if index > 0 => match heap.split_at_checked(index as usize) {
+            Some((_, text)) => text.iter().take(LONGEST_NAME + 1).any(|byte| *byte == 0),
+            None => false,
+        },
         _ => true,
     }
 }

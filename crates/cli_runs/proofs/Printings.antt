@@ -1,5 +1,5 @@
 -- What each report handed to a printer.
-use Rattle.std.proofs.Common.{◌≡◌, ℕ, List, Option, Result, Ok, Err, inl, inr, subst}
+use Rattle.std.proofs.Common.{◌≡◌, ℕ, List, Option, Result, Ok, Err, inl, inr}
 use Rattle.std.specs.Prelude.{IfErr, OnErr, OnOk}
 use Rattle.cli_header.specs.declared.header.CliHeader.{CliHeader}
 use Rattle.packed.specs.declared.fault.Fault.{Fault}
@@ -17,7 +17,7 @@ use Rattle.cli_outline.specs.Printed.{PrintsRows}
 use Rattle.cli_where.specs.Located.{AreListed}
 use Rattle.cli_print.specs.RootLines.{heads_lines}
 use Rattle.cli_runs.specs.Printing.{Hands, HasPrinted}
-use Rattle.cli_runs.specs.Reports.{AreDeclared, IsListed, OfModel, ended_by, label}
+use Rattle.cli_runs.specs.Reports.{AreDeclared, IsListed, OfModel, ended_by}
 use Rattle.cli_runs.specs.declared.report.Ended.TheVariants.{Refused}
 use Rattle.cli_runs.specs.declared.report.Listing.{Listing}
 use Rattle.cli_runs.specs.declared.report.Report.TheVariants as report
@@ -31,15 +31,12 @@ module _ {W : Type 0} (request : Request) (name bytes : List ℕ) (old new : Pri
   root_ended (Ok done) has first same printed = (has, (λ header root are. (printed header root are, (λ live. tt))))
   root_ended (Err found) has first same printed = (first, same)
 
-  pub info_ended : (file : Option (List ℕ)) (done : Result (Unit {0}) Fault) → file ≡ label request.naming name → OnOk done (IsWhole request.input bytes)
+  pub info_ended : (done : Result (Unit {0}) Fault) → OnOk done (IsWhole request.input bytes)
       → IfErr done (FirstBroken (rules_of request.input bytes)) → OnErr done (new ≡ old)
-      → OnOk done ((header : Option CliHeader) (model : Metadata) → AreFacts request.input bytes header model → Prints old new (info_lines file bytes header model))
+      → OnOk done ((header : Option CliHeader) (model : Metadata) → AreFacts request.input bytes header model → Prints old new (info_lines bytes header model))
       → HasPrinted request name bytes old new report.Info (ended_by done)
-  info_ended file (Ok done) is whole first same printed = (
-    whole,
-    (λ header model are. (subst (λ (of : Option (List ℕ)). Prints old new (info_lines of bytes header model)) is (printed header model are), (λ live. tt))),
-  )
-  info_ended file (Err found) is whole first same printed = (first, same)
+  info_ended (Ok done) whole first same printed = (whole, (λ header model are. (printed header model are, (λ live. tt))))
+  info_ended (Err found) whole first same printed = (first, same)
 
   pub listing_ended : (of : Listing) (done : Result (Unit {0}) Fault) → IfErr done (FirstBroken (rules_of request.input bytes)) → OnErr done (new ≡ old)
       → OnOk done (OfModel request.input bytes (IsListed (Hands old new) of)) → HasPrinted request name bytes old new (report.Listing of) (ended_by done)

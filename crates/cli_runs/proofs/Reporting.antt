@@ -8,12 +8,11 @@ use Rattle.metadata.specs.Metadata.{Metadata}
 use Rattle.cli_faults.specs.declared.failure.Failure.{Failure}
 use Rattle.cli_faults.specs.declared.stop.Stop.{Stop}
 use Rattle.cli_input.specs.declared.opened.Input.{Input}
-use Rattle.cli_lines.specs.declared.parts.Form.{Form}
-use Rattle.cli_lines.specs.Lines.{Part, report_text}
+use Rattle.cli_lines.specs.Lines.{Part, Style, styled_text}
 use Rattle.cli_lines.specs.Printed.{Asked, Printed}
 use Rattle.cli_sending.specs.Sent.{Sent}
 use Rattle.cli_runs.specs.Printing.{AreNone, Hands, HasPrinted}
-use Rattle.cli_runs.specs.Reports.{AreDeclared, AreNamed, HasEnded, IsFaultOut, IsListed, IsPrinted, IsStopped, OfModel, verdict_lines}
+use Rattle.cli_runs.specs.Reports.{AreDeclared, AreNamed, HasEnded, IsFaultOut, IsListed, IsPrinted, IsStopped, OfModel, lead_of, style_of, verdict_lines}
 use Rattle.cli_runs.specs.Runs.{AreCut, AreSent, IsReported}
 use Rattle.cli_runs.specs.declared.report.Ended.{Ended}
 use Rattle.cli_runs.specs.declared.report.Ended.TheVariants as ended
@@ -81,29 +80,29 @@ module _ (P Q : Type 0 → List (List Part) → Type 0) (weaker : (all : Type 0)
 -- ---- the lines went out
 
 module _ (request : Request) {W : Type 0} (contents : W → Option (List ℕ)) (before after : W) (name bytes : List ℕ) where
-  module _ (old new : Printed W) (form : old.form ≡ request.form) (asked : Asked (contents before) old []) where
+  module _ (old new : Printed W) (look : old.style ≡ style_of request name) (asked : Asked (contents before) old []) where
     -- the text of lines that the printer was asked to print
-    asked_lines : (all : Type 0) (lines : List (List Part)) → Hands old new all lines → Asked (contents before) new (report_text request.form lines)
+    asked_lines : (all : Type 0) (lines : List (List Part)) → Hands old new all lines → Asked (contents before) new (styled_text (style_of request name) lines)
     asked_lines all lines hands =
-        subst (λ (of : Form). Asked (contents before) new (report_text of lines)) form (hands.0.asked (contents before) [] asked)
+        subst (λ (of : Style). Asked (contents before) new (styled_text of lines)) look (hands.0.asked (contents before) [] asked)
 
     -- all that was asked for went out
     pub sent_ended : (done : Result (Unit {0}) Failure) → ((start : Option (List ℕ)) (text : List ℕ) → Asked start new text → Sent start (contents after) done text)
         → OnOk done (IsSome new.waiting) → done ≡ Ok tt → (of : Report) (ends : Ended) → HasEnded (Hands old new) request name bytes of ends
-        → HasEnded (AreSent request contents before after) request name bytes of ends
+        → HasEnded (AreSent request contents before after name) request name bytes of ends
     sent_ended (Ok done) sends live is of ends out =
-        ended_weaker (Hands old new) (AreSent request contents before after)
-        (λ all lines hands. (hands.1 live, sends (contents before) (report_text request.form lines) (asked_lines all lines hands))) request name bytes of ends out
+        ended_weaker (Hands old new) (AreSent request contents before after name)
+        (λ all lines hands. (hands.1 live, sends (contents before) (styled_text (style_of request name) lines) (asked_lines all lines hands))) request name bytes of ends out
     sent_ended (Err failure) sends live is of ends out = cc
 
     -- a prefix of it went out
     pub sent_cut : (done : Result (Unit {0}) Failure) (failure : Failure) → ((start : Option (List ℕ)) (text : List ℕ) → Asked start new text → Sent start (contents after) done text)
         → done ≡ Err failure → (of : Report) (ends : Ended) → HasEnded (Hands old new) request name bytes of ends
-        → HasEnded (AreCut request contents before after) request name bytes of ends
+        → HasEnded (AreCut request contents before after name) request name bytes of ends
     sent_cut (Ok done) failure sends is of ends out = cc
     sent_cut (Err other) failure sends is of ends out =
-        ended_weaker (Hands old new) (AreCut request contents before after)
-        (λ all lines hands. sends (contents before) (report_text request.form lines) (asked_lines all lines hands)) request name bytes of ends out
+        ended_weaker (Hands old new) (AreCut request contents before after name)
+        (λ all lines hands. sends (contents before) (styled_text (style_of request name) lines) (asked_lines all lines hands)) request name bytes of ends out
 
     -- what was not refused was handed to the printer
     pub handed : (of : Report) (ends : Ended) → ((why : Stop) → ends ≢ ended.Refused why) → HasPrinted request name bytes old new of ends → HasEnded (Hands old new) request name bytes of ends
@@ -112,22 +111,22 @@ module _ (request : Request) {W : Type 0} (contents : W → Option (List ℕ)) (
     handed of (ended.Refused why) other out = absurd (other why refl)
 
 module _ (request : Request) {W : Type 0} (contents : W → Option (List ℕ)) (before : W) (name bytes : List ℕ) where
-  appends_none : (known : Option (List ℕ)) → Appends known known (report_text request.form [])
-  unfolding report_text
+  appends_none : (known : Option (List ℕ)) → Appends known known (styled_text (style_of request name) [])
+  unfolding styled_text
   appends_none None = tt
   appends_none (Some known) = sym (append-nil known)
 
   -- of no line all went out before
-  none_sent : (all : Type 0) (lines : List (List Part)) → AreNone all lines → AreSent request contents before before all lines
+  none_sent : (all : Type 0) (lines : List (List Part)) → AreNone all lines → AreSent request contents before before name all lines
   none_sent all lines none = (
     none.0,
-    subst (λ (of : List (List Part)). Appends (contents before) (contents before) (report_text request.form of)) (sym none.1) (appends_none (contents before)),
+    subst (λ (of : List (List Part)). Appends (contents before) (contents before) (styled_text (style_of request name) of)) (sym none.1) (appends_none (contents before)),
   )
 
-  quiet_ended : (of : Report) (ends : Ended) → HasEnded AreNone request name bytes of ends → HasEnded (AreSent request contents before before) request name bytes of ends
-  quiet_ended of ends out = ended_weaker AreNone (AreSent request contents before before) none_sent request name bytes of ends out
+  quiet_ended : (of : Report) (ends : Ended) → HasEnded AreNone request name bytes of ends → HasEnded (AreSent request contents before before name) request name bytes of ends
+  quiet_ended of ends out = ended_weaker AreNone (AreSent request contents before before name) none_sent request name bytes of ends out
 
-  as_reported : (ends : Ended) → HasEnded (AreSent request contents before before) request name bytes request.report ends → IsReported request contents before before name bytes (Ok ends)
+  as_reported : (ends : Ended) → HasEnded (AreSent request contents before before name) request name bytes request.report ends → IsReported request contents before before name bytes (Ok ends)
   as_reported ended.Printed out = out
   as_reported (ended.Stopped why) out = out
   as_reported (ended.Refused why) out = (out, refl)
@@ -145,8 +144,21 @@ fault_out Out verdict.Line input bytes file found other out = out
 fault_out Out verdict.Explained input bytes file found other out = absurd (other refl)
 
 module _ (request : Request) {W : Type 0} (contents : W → Option (List ℕ)) (before after : W) (name bytes : List ℕ) where
-  pub sent_reported : (ends : Ended) → ((why : Stop) → ends ≢ ended.Refused why) → HasEnded (AreSent request contents before after) request name bytes request.report ends
+  pub sent_reported : (ends : Ended) → ((why : Stop) → ends ≢ ended.Refused why) → HasEnded (AreSent request contents before after name) request name bytes request.report ends
       → IsReported request contents before after name bytes (Ok ends)
   sent_reported ended.Printed other out = out
   sent_reported (ended.Stopped why) other out = out
   sent_reported (ended.Refused why) other out = absurd (other why refl)
+
+-- the name that a line begins with, of a report whose lines do not have it already
+pub other_lead : (of : Report) (file : Option (List ℕ)) → ((v : Verdict) → of ≢ report.Check v) → of ≢ report.Digest → file ≡ lead_of of file
+other_lead report.Root file check digest = refl
+other_lead report.Info file check digest = refl
+other_lead report.Strings file check digest = refl
+other_lead (report.Listing listing) file check digest = refl
+other_lead (report.Check verdict) file check digest = absurd (check verdict refl)
+other_lead (report.ShowUntilFault table names) file check digest = refl
+other_lead (report.OutlineOf subject) file check digest = refl
+other_lead (report.Tokens numbers) file check digest = refl
+other_lead (report.Where offset) file check digest = refl
+other_lead report.Digest file check digest = absurd (digest refl)

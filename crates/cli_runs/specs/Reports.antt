@@ -18,7 +18,7 @@ use Rattle.cli_faults.specs.declared.stop.Stop.{Stop}
 use Rattle.cli_faults.specs.declared.stop.Stop.TheVariants.{Broken, BudgetSpent, Failed, NoSuchType, NothingAt}
 use Rattle.cli_lines.specs.declared.parts.Form.{Form}
 use Rattle.cli_lines.specs.declared.parts.Form.TheVariants.{Text}
-use Rattle.cli_lines.specs.Lines.{Part}
+use Rattle.cli_lines.specs.Lines.{Part, Style, style}
 use Rattle.cli_input.specs.Checked.{IsModelOf, IsOpened, IsWhole, rules_of}
 use Rattle.cli_input.specs.declared.opened.Input.{Input}
 use Rattle.cli_input.specs.Heads.{AreHeads, HasHeads, rules_of_heads}
@@ -70,6 +70,16 @@ tables_of (Some table) = table ∷ []
 abbrev pub label : Naming → List ℕ → Option (List ℕ)
 label Alone name = None
 label Named name = Some name
+
+-- the name that each line of a report begins with; a line of a check or a digest has it already
+abbrev pub lead_of : Report → Option (List ℕ) → Option (List ℕ)
+lead_of (report.Check verdict) file = None
+lead_of report.Digest file = None
+lead_of of file = file
+
+-- how the lines of a report on the file with this name are printed
+abbrev pub style_of : Request → List ℕ → Style
+style_of request name = style request.form (lead_of request.report (label request.naming name))
 
 -- a fault is reported to standard error, and not printed: that of a file alone, in text, of which one line is asked
 abbrev pub is_reported : Verdict → Form → Naming → Bool
@@ -150,7 +160,7 @@ module _ (Out : Type 0 → List (List Part) → Type 0) where
         × ((header : Option CliHeader) (root : RootRead) → AreHeads request.input bytes header root → AreOut (heads_lines header root))
     IsPrinted report.Info =
         IsWhole request.input bytes
-        × ((header : Option CliHeader) (model : Metadata) → AreFacts request.input bytes header model → AreOut (info_lines (label request.naming name) bytes header model))
+        × ((header : Option CliHeader) (model : Metadata) → AreFacts request.input bytes header model → AreOut (info_lines bytes header model))
     IsPrinted report.Strings =
         OfModel request.input bytes (λ model. (entries : List Entry) × AreEntries model.user 1 entries × AreOut (flat_map entry_lines entries))
     IsPrinted (report.Listing listing) = OfModel request.input bytes (IsListed listing)

@@ -8,10 +8,10 @@ use Rattle.cli_faults.specs.Stops.{status_of_stop}
 use Rattle.cli_faults.specs.declared.failure.Failure.{Failure}
 use Rattle.cli_files.specs.Read.{IsRefused}
 use Rattle.cli_lines.specs.declared.parts.Form.{Form}
-use Rattle.cli_lines.specs.Lines.{Part, report_text}
+use Rattle.cli_lines.specs.Lines.{Part, report_text, styled_text}
 use Rattle.cli_sending.specs.Sent.{SendsPrefix, Sent}
 use Rattle.cli_print.specs.Explanations.{AreExplanations}
-use Rattle.cli_runs.specs.Reports.{HasEnded}
+use Rattle.cli_runs.specs.Reports.{HasEnded, style_of}
 use Rattle.cli_runs.specs.declared.report.Ended.{Ended}
 use Rattle.cli_runs.specs.declared.report.Ended.TheVariants as ended
 use Rattle.cli_runs.specs.declared.report.Request.{Request}
@@ -36,20 +36,20 @@ IsExplained form rules before after result =
     × MatchResult result (λ done. Unit {0}) IsOutput
 
 module _ (request : Request) {W : Type 0} (contents : W → Option (List ℕ)) where
-  -- these lines went out
-  abbrev pub AreSent : W → W → Type 0 → List (List Part) → Type 0
-  AreSent before after all lines = all × Appends (contents before) (contents after) (report_text request.form lines)
+  -- these lines of a report on the file with this name went out
+  abbrev pub AreSent : W → W → List ℕ → Type 0 → List (List Part) → Type 0
+  AreSent before after name all lines = all × Appends (contents before) (contents after) (styled_text (style_of request name) lines)
 
   -- a prefix of these lines went out
-  abbrev pub AreCut : W → W → Type 0 → List (List Part) → Type 0
-  AreCut before after all lines = SendsPrefix (contents before) (contents after) (report_text request.form lines)
+  abbrev pub AreCut : W → W → List ℕ → Type 0 → List (List Part) → Type 0
+  AreCut before after name all lines = SendsPrefix (contents before) (contents after) (styled_text (style_of request name) lines)
 
   -- A report on the bytes of the file with this name ended, and its lines went out. Nothing is written if it was refused. Or
   -- the output could not be written or memory ran out, after a prefix of the lines.
   abbrev pub IsReported : W → W → List ℕ → List ℕ → Result Ended Failure → Type 0
-  IsReported before after name bytes (Ok (ended.Refused stop)) = HasEnded (AreSent before after) request name bytes request.report (ended.Refused stop) × (after ≡ before)
-  IsReported before after name bytes (Ok ended) = HasEnded (AreSent before after) request name bytes request.report ended
-  IsReported before after name bytes (Err failure) = IsOutput failure × ((ended : Ended) × HasEnded (AreCut before after) request name bytes request.report ended)
+  IsReported before after name bytes (Ok (ended.Refused stop)) = HasEnded (AreSent before after name) request name bytes request.report (ended.Refused stop) × (after ≡ before)
+  IsReported before after name bytes (Ok ended) = HasEnded (AreSent before after name) request name bytes request.report ended
+  IsReported before after name bytes (Err failure) = IsOutput failure × ((ended : Ended) × HasEnded (AreCut before after name) request name bytes request.report ended)
 
   -- the report on bytes that were read ended, with this exit code
   abbrev pub IsReportedAs : W → W → List ℕ → List ℕ → ℕ → Type 0

@@ -9,7 +9,7 @@ ghost use Rattle.metadata.specs.Metadata.{Metadata};
 ghost use Rattle.metadata.specs.Model.{IsModel};
 ghost use Rattle.packed.specs.Rule.{FirstBroken};
 
-use crate::print_check::{label_of, print_check};
+use crate::print_check::print_check;
 use crate::report::{Ended, Listing, Report, Request, ended_by};
 use cli_cells::{Names, print_show, print_tokens, print_until_fault};
 use cli_faults::{Failure, Stop};
@@ -42,10 +42,9 @@ pub(crate) fn print_report<'a, W: Write>(
     if !is_check(&request.report) && is_spent(bytes, input, request.budget) {
         return Ended::Refused(Stop::BudgetSpent);
     }
-    let file = label_of(request.naming, name);
     match &request.report {
         Report::Root => ended_by(print_root(bytes, input, out)),
-        Report::Info => ended_by(print_info(alloc, bytes, input, file, out)),
+        Report::Info => ended_by(print_info(alloc, bytes, input, out)),
         Report::Strings => print_user_strings(alloc, request, name, bytes, out),
         Report::Listing(listing) => ended_by(print_listing(alloc, *listing, bytes, input, out)),
         Report::Check(verdict) => print_check(alloc, request, *verdict, name, bytes, out),

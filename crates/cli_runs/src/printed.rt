@@ -1,7 +1,10 @@
 //! Prints a report on the bytes of a file.
+ghost use Rattle.std.specs.Prelude.{◌≡◌};
+ghost use Rattle.std.specs.Option.{option_map};
+ghost use Rattle.cli_runs.specs.Reports.{label, lead_of};
 ghost use Rattle.cli_runs.specs.Runs.{IsReported};
 
-use crate::print_check::check_quietly;
+use crate::print_check::{check_quietly, label_of};
 use crate::print_report::print_report;
 use crate::report::{Ended, Report, Request, Verdict};
 use cli_faults::Failure;
@@ -29,6 +32,16 @@ pub fn report_on<'a, W: Write>(
     }
 }
 
+/// The name that each line of a report begins with, if there is one. The lines of a check and a digest have it already.
+fn lead_of<'a>(request: &Request<'_>, name: &'a str) -> Option<&'a str>
+    ensures { option_map (λ file. file.now) result ≡ lead_of request.now.report (label request.now.naming name.now) }
+{
+    match &request.report {
+        Report::Check(_) | Report::Digest => None,
+        _ => label_of(request.naming, name),
+    }
+}
+
 /// Prints a report, and sends what was printed unless the report was refused.
 fn send_report<'a, W: Write>(
     alloc: Global,
@@ -39,7 +52,7 @@ fn send_report<'a, W: Write>(
 ) -> Result<Ended<'a>, Failure<'a>>
     ensures { IsReported request.now W.contents out.old out.new name.now bytes.now result }
 {
-    let mut printer = Printer::new(alloc, request.form, out);
+    let mut printer = Printer::named(alloc, request.form, lead_of(request, name), out);
     let ended = print_report(alloc, request, name, bytes, &mut printer);
     match ended {
         Ended::Refused(_) => {

@@ -62,7 +62,7 @@ pub enum Report<'a> {
 pub enum Naming {
     /// It is the only one, so its name is not printed.
     Alone,
-    /// It may be one of several. Verdicts and failures have its name.
+    /// It may be one of several. Its lines and failures have its name.
     Named,
 }
 

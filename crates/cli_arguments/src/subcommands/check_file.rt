@@ -1,5 +1,5 @@
 //! `clim check`: checks files against the rules of the standard.
-use crate::subcommands::{BARE, BUDGET, JSON, Usage};
+use crate::subcommands::{BARE, BUDGET, FILES_FROM, JSON, NULL, Usage};
 
 pub(crate) const USAGE: Usage<'static> = Usage {
     name: "check",
@@ -8,8 +8,8 @@ pub(crate) const USAGE: Usage<'static> = Usage {
         argument!["FILE" AnyNumber "The files to read"],
         BARE,
         BUDGET,
-        argument!["files-from" Option("-") "Read the names of the files from standard input, each ended by a NUL"],
-        argument!["null" ShortFlag('0') "The same as '--files-from -'"],
+        FILES_FROM,
+        NULL,
         argument!["quiet" EitherFlag('q') "Print nothing about faults; only the exit status reports them"],
         JSON,
         argument!["where" Flag "Print what contains the byte at the offset of the fault, and explain the fault"],

@@ -1,13 +1,15 @@
 //! `clim digest`: the SHA-256 digests of the canonical roots of files.
-use crate::subcommands::{BARE, BUDGET, JSON, Usage};
+use crate::subcommands::{BARE, BUDGET, FILES_FROM, JSON, NULL, Usage};
 
 pub(crate) const USAGE: Usage<'static> = Usage {
     name: "digest",
     about: "Print the SHA-256 digest of the canonical metadata root of each file",
     arguments: &[
-        argument!["FILE" Several "The files to read"],
+        argument!["FILE" AnyNumber "The files to read"],
         BARE,
         BUDGET,
+        FILES_FROM,
+        NULL,
         JSON,
     ],
     output: "\
@@ -19,7 +21,8 @@ first, as by 'clim check'.
 
 Several FILEs have a line each, in the order given. A FILE without a digest (it breaks a rule, or cannot
 be read) is reported to standard error with its name, and the next one follows. The exit status is the
-greatest.
+greatest. 'find . -name '*.dll' -print0 | clim digest -0' prints the digests of all assemblies of a
+folder.
 
 '--json' prints a JSON object (RFC 8259) on each line, with the 'digest' and the 'file'.
 

@@ -1,15 +1,10 @@
 //! `clim info`: what one wants to know first of an assembly.
-use crate::subcommands::{BARE, BUDGET, JSON, Usage};
+use crate::subcommands::{BARE, BUDGET, FILES, JSON, Usage};
 
 pub(crate) const USAGE: Usage<'static> = Usage {
     name: "info",
     about: "Print what an assembly is: its identity, its headers and its references",
-    arguments: &[
-        argument!["FILE" Several "The files to read"],
-        BARE,
-        BUDGET,
-        JSON,
-    ],
+    arguments: &[FILES, BARE, BUDGET, JSON],
     output: "\
 Each line begins with a word for what follows it:
   assembly   the identity of the assembly, as .NET writes it; a module alone has none
@@ -24,15 +19,16 @@ Each line begins with a word for what follows it:
   reference  the identity of an assembly that this one refers to
   attribute  the type and the arguments of a custom attribute of the assembly, if all arguments are strings;
              one with a value of more than 1,024 bytes has no line
-With '--bare' there are no lines from 'format' to 'signature'. Texts are escaped like those of 'clim show'.
+With '--bare' there are no lines from 'format' to 'signature'. Texts are escaped like those of 'clim show',
+but not quoted: a name may have commas. '--json' has it apart.
 PublicKeyToken is computed from the key; it is '?' if the key has more than 2,080 bytes. FILE is checked
 first, as by 'clim check'.
 
-The lines of each of several FILEs follow a line 'file FILE', in the order given. A FILE that breaks a rule is
-reported to standard error with its name, and the next one follows. The exit status is the greatest.
+For several FILEs each line begins with 'FILE: '. A FILE that breaks a rule or cannot be read is reported
+to standard error with its name, and the next one follows. The exit status is the greatest.
 
 With '--json' each line is a JSON object (RFC 8259) with the same values, the parts of an identity apart.
-Of an attribute it has the first argument.
+Of an attribute it has the first argument. For several FILEs the 'file' comes first.
 
 Examples:
   $ clim info one_module.dll

@@ -15,15 +15,16 @@ pub(crate) const USAGE: Usage<'static> = Usage {
 Prints a line for each declaration, in a notation close to ILAsm (ECMA-335, II.5 to II.22). A line ends
 with the token of its row in a comment. First come the assembly, what it refers to, the module, files,
 resources and exported types. Then come the types in the order of their rows, each with its fields,
-methods, events and properties, and accessors below these. Events, properties and accessors whose rows
-are out of order follow the types. Last come interfaces, generic parameters and their constraints,
+methods, events and properties, and accessors below these. A nested type has the path of its outer types
+only if the rows of NestedClass are in order. Last come interfaces, generic parameters and their constraints,
 overrides, imports and custom attributes, table by table. A name that is no identifier is in single
 quotes, with '\\xNN' for bytes that cannot stand there. Names and signatures longer than 65,536 bytes are
 cut and end in '..'. FILE is checked first, as by 'clim check'.
 
 NAME is the full name of a type: its namespace, a dot and its name, or its name alone. A nested type
 follows the type that encloses it and a slash, as in 'N.Outer/Inner'. Names are divided at their last
-dot. If several types have the same full name, the first one is printed. If no type has it, a NAME
+dot. It is given without quotes; a name with a dot or a slash of its own is found by its token. If several
+types have the same full name, the first one is printed. If no type has it, a NAME
 without a dot or a slash stands for the only type of this name, in any namespace or type. Eight
 hexadecimal digits that begin with 02 are a token instead. Only that type, its fields, methods, events
 and properties are printed. If FILE has no such type, 'no such type' is written to standard error, and

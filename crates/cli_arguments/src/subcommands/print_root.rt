@@ -1,10 +1,10 @@
 //! `clim root`: the CLI header of a PE file, and the version and the stream headers of its metadata root.
-use crate::subcommands::{BARE, FILE, JSON, Usage};
+use crate::subcommands::{BARE, FILES, JSON, Usage};
 
 pub(crate) const USAGE: Usage<'static> = Usage {
     name: "root",
     about: "Print the CLI header, and the version and the stream headers of the metadata root",
-    arguments: &[FILE, BARE, JSON],
+    arguments: &[FILES, BARE, JSON],
     output: "\
 For a PE file the first line is 'cli MAJOR.MINOR flags F entry E root OFFSET SIZE' (ECMA-335,
 II.25.3.3). F and E are hexadecimal, and OFFSET is an offset in the file. Then it prints 'version TEXT',
@@ -12,7 +12,11 @@ and for each stream header 'stream OFFSET SIZE NAME' (II.24.2.1 and II.24.2.2), 
 root. In TEXT and NAME, a quote, a backslash and a byte that is not printable ASCII become \\x and two
 hexadecimal digits. Tables, heaps and signatures are not checked.
 
-'--json' prints a JSON object (RFC 8259) on each line, whose one member is 'cli', 'version' or 'stream'.
+For several FILEs each line begins with 'FILE: '. A FILE that breaks a rule or cannot be read is reported
+to standard error with its name, and the next one follows. The exit status is the greatest.
+
+'--json' prints a JSON object (RFC 8259) on each line, whose one member is 'cli', 'version' or 'stream';
+for several FILEs the 'file' comes first.
 A fault is printed to standard error as without the option.
 
 Examples:

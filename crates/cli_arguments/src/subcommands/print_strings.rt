@@ -1,10 +1,10 @@
 //! `clim strings`: the user strings of a file.
-use crate::subcommands::{BARE, BUDGET, FILE, JSON, Usage};
+use crate::subcommands::{BARE, BUDGET, FILES, JSON, Usage};
 
 pub(crate) const USAGE: Usage<'static> = Usage {
     name: "strings",
     about: "Print the user strings, with their tokens",
-    arguments: &[FILE, BARE, BUDGET, JSON],
+    arguments: &[FILES, BARE, BUDGET, JSON],
     output: "\
 Prints a line 'TOKEN TEXT' for each entry of '#US' that is not empty (ECMA-335, II.24.2.4), in the order
 of their offsets. 'clim token' prints the entry of a TOKEN. The entries follow one another from offset
@@ -12,9 +12,12 @@ of their offsets. 'clim token' prints the entry of a TOKEN. The entries follow o
 unit that is not printable ASCII become \\u and four hexadecimal digits. FILE is checked first, as by
 'clim check'.
 
+For several FILEs each line begins with 'FILE: '. A FILE that breaks a rule or cannot be read is reported
+to standard error with its name, and the next one follows. The exit status is the greatest.
+
 '--json' prints a JSON object (RFC 8259) on each line, with the 'token' and the 'text', or the numbers
-of the text as 'units' if it is not well-formed UTF-16. A fault is printed to standard error as without
-the option.
+of the text as 'units' if it is not well-formed UTF-16. For several FILEs the 'file' comes first. A fault
+is printed to standard error as without the option.
 
 Examples:
   $ clim strings --bare two_strings.root

@@ -1,15 +1,14 @@
 //! `clim show`: the rows of all tables, or of one.
-use crate::subcommands::{BARE, BUDGET, FILE, JSON, Usage};
+use crate::subcommands::{BARE, BUDGET, JSON, Usage};
 
 pub(crate) const USAGE: Usage<'static> = Usage {
     name: "show",
     about: "Print the rows of all tables, or of one",
     arguments: &[
-        FILE,
+        argument!["FILE" Several "The files to read, then the TABLE to print alone, if it is one"],
         BARE,
         BUDGET,
         JSON,
-        argument!["part" Optional("TABLE") "The table to print alone, by its name or number"],
         argument!["names" Flag "Print the name of each column before its cell"],
         argument!["until-fault" Flag "Print the rows before the first fault, too, and then the fault"],
     ],
@@ -26,7 +25,11 @@ of these:
   a decimal number, or the token of a row in eight hexadecimal digits
 FILE is checked first, as by 'clim check'. If it breaks a rule, only the fault is printed.
 
-TABLE is the name or the number of a table. Only its rows are printed. The tables are:
+For several FILEs each line begins with 'FILE: '. A FILE that breaks a rule or cannot be read is reported
+to standard error with its name, and the next one follows. The exit status is the greatest.
+
+TABLE is the name or the number of a table. Only its rows are printed. The last argument after a FILE is
+TABLE if it has no dash, dot or slash; a FILE with such a name can be given as ./NAME. The tables are:
   00 Module          01 TypeRef         02 TypeDef         04 Field           06 MethodDef
   08 Param           09 InterfaceImpl   0A MemberRef       0B Constant        0C CustomAttribute
   0D FieldMarshal    0E DeclSecurity    0F ClassLayout     10 FieldLayout     11 StandAloneSig
@@ -47,8 +50,9 @@ later rule is. The blob of a broken signature is printed as bytes. After the row
 to standard error, and the exit status is 1.
 
 '--json' prints a JSON object (RFC 8259) for each row, with its 'table', 'row' and 'token', and then its
-cells by the names of their columns. A signature is an object with its bytes as 'blob' and its 'text' in
-the notation of ILAsm. A fault is printed to standard error as without the option.
+cells by the names of their columns. For several FILEs the 'file' comes first. A signature is an object
+with its bytes as 'blob' and its 'text' in the notation of ILAsm. A fault is printed to standard error as
+without the option.
 
 Examples:
   $ clim show --bare one_module.root

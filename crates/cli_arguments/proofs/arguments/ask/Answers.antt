@@ -5,8 +5,9 @@ use Rattle.std.proofs.lemmas.Result.{err_from_is_err_and}
 use Rattle.std.specs.declared.num.ParseIntError.{ParseIntError}
 use Rattle.std.specs.Str.Parse.{ExplainsUnsignedError, HasUnsignedDigitsIfOk, ParsesUnsigned}
 use Rattle.clap.specs.declared.error.Error.{Error}
-use Rattle.clap.specs.Words.{App, HasKind, HasMatchesOf, Row, Text, fault_of, found_of, is_simple, is_simple_and_free, one_of, rows_of, subcommand_name_of, subcommand_of, subcommand_rows_of}
+use Rattle.clap.specs.Words.{App, HasKind, HasMatchesOf, Row, Text, fault_of, first_of, found_of, is_simple, is_simple_and_free, one_of, rows_of, subcommand_name_of, subcommand_of, subcommand_rows_of}
 use Rattle.clap.specs.declared.ArgMatches.{ArgMatches}
+use Rattle.cli_arguments.specs.Asked.{AreParts}
 use Rattle.cli_arguments.specs.CommandLine.{clim}
 use Rattle.cli_arguments.proofs.KnownNames.{is_known}
 use Rattle.cli_arguments.proofs.Readings.{count_is, named_back, rows_met}
@@ -48,8 +49,8 @@ entered c =
     (sym c.subcommand.ensures.name ∙ ap (option_map (λ p. p.0.now)) c.unwrap.ensures)
     (sym c.subcommand.ensures.rows ∙ ap (option_map (λ p. rows_of (found_of p.1.now))) c.unwrap.ensures)
 
-pub unwrap-requires-2 : goal.unwrap-requires-2
-unwrap-requires-2 c =
+pub unwrap-subcommand-requires : goal.unwrap-subcommand-requires
+unwrap-subcommand-requires c =
     let met = entered_by _ (map (λ word. word.now) c.args.words.now) c.in_ok-matches.matches _ _ c.in_ok-command.ensures c.in_ok-matches.ensures.matches
     (sym c.subcommand.ensures.name ∙ ap (option_map (λ p. p.0.now)) c.unwrap.ensures)
     (sym c.subcommand.ensures.rows ∙ ap (option_map (λ p. rows_of (found_of p.1.now))) c.unwrap.ensures) in
@@ -61,7 +62,7 @@ pub returns-clause-given : goal.returns-clause-given
 returns-clause-given c =
     let found = found_of c.unwrap.result.1.now in
     let rows : List Row = rows_of found in
-    let word = named_back c.unwrap.result.0.now c.unwrap-2.result (sym c.named.ensures ∙ c.unwrap-2.ensures) in
+    let word = named_back c.unwrap.result.0.now c.unwrap-subcommand.result (sym c.named.ensures ∙ c.unwrap-subcommand.ensures) in
     record {
       rows = rows;
       subcommand = entered c ∙ ap (λ (n : Text). Some (n, rows)) word;
@@ -74,16 +75,16 @@ returns-clause-given c =
           (λ t r. ParsesUnsigned 64 10 t r × ExplainsUnsignedError 10 t r × HasUnsignedDigitsIfOk t r) (λ t r gives. gives.0) (one_of (codes "budget") rows) c.get_one.result
           (λ none. c.get_one.ensures.none (one_text-rows found (codes "budget") ∙ none))
           (λ t is. c.get_one.ensures.value t (one_text-rows found (codes "budget") ∙ is));
-      part = c.get_str-3.ensures ∙ first_value-rows found (codes "part");
+      parts = subst (λ (words : List Text). AreParts c.unwrap-subcommand.result (first_of (codes "part") rows) words (map (λ word. word.now) c.part_of-part.new.files.items) (option_map (λ word. word.now) c.part_of-part.result))
+          c.in_ok-files.ensures c.part_of-part.ensures;
       json = c.flag-2.ensures;
       faults = c.in_ok-list-3.ensures;
-      files = c.in_ok-list-4.ensures;
-      files_from = c.get_str-4.ensures ∙ first_value-rows found (codes "files-from");
+      files_from = c.get_str-3.ensures ∙ first_value-rows found (codes "files-from");
       null = c.flag-3.ensures;
       quiet = c.flag-4.ensures;
       names = c.flag-5.ensures;
       until_fault = c.flag-6.ensures;
       locates = c.flag-7.ensures;
-      root = c.get_str-5.ensures ∙ first_value-rows found (codes "root");
+      root = c.get_str-4.ensures ∙ first_value-rows found (codes "root");
       unsigned = c.flag-8.ensures;
     }

@@ -1,12 +1,11 @@
 use Rattle.std.proofs.Common.{Option, subst}
 use Rattle.cli_header.specs.declared.header.CliHeader.{CliHeader}
 use Rattle.cli_lines.specs.Printed.{Prints}
-use Rattle.cli_info.specs.InfoLines.{fact_lines}
+use Rattle.cli_info.specs.InfoLines.{info_lines}
 use Rattle.cli_info.proofs.info.print_info.Goals as goal
 
 pub returns-clause-printed : goal.returns-clause-printed
 returns-clause-printed g c = λ header model are.
     let facts = c.in_ok-header.ensures.facts header model are in
-    c.lines_follow.ensures.more _ _ _ _ _ c.print_file.ensures
-    (subst (λ (h : Option CliHeader). Prints c.print_file.new.out c.print_facts.new.out (fact_lines c.args.bytes.now h model)) facts.0
-    (c.print_facts.ensures model facts.1))
+    subst (λ (h : Option CliHeader). Prints c.args.out.now c.print_facts.new.out (info_lines c.args.bytes.now h model)) facts.0
+    (c.print_facts.ensures model facts.1)

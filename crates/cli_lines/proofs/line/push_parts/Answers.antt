@@ -1,6 +1,6 @@
 use Rattle.std.proofs.Common.{◌+◌, ◌++◌, ◌∷◌, ◌∙◌, ap, drop, map, sym}
-use Rattle.cli_lines.specs.Lines.{line_from}
-use Rattle.cli_lines.specs.Shown.{shown}
+use Rattle.cli_lines.specs.Lines.{line_from, style}
+use Rattle.cli_lines.specs.Shown.{shown, shown_file}
 use Rattle.cli_lines.proofs.LineLemmas.{left_more, left_none}
 use Rattle.cli_lines.proofs.line.push_parts.Goals as goal
 
@@ -11,12 +11,12 @@ loop-part-preserved c = λ more.
     let line = c.loop-part.line.items in
     let next = map shown (drop (index + 1) parts) in
     c.in_ok-at.ensures (next ++ more)
-    ∙ ap (λ item. line ++ line_from c.args.form c.loop-part.at (shown item ∷ (next ++ more))) c.part-item.is
-    ∙ ap (λ ys. line ++ line_from c.args.form c.loop-part.at (ys ++ more)) (sym (left_more shown parts index c.part-item.result c.loop-part-test.true))
+    ∙ ap (λ item. line ++ line_from (style c.args.form (shown_file c.args.file)) c.loop-part.at (shown item ∷ (next ++ more))) c.part-item.is
+    ∙ ap (λ ys. line ++ line_from (style c.args.form (shown_file c.args.file)) c.loop-part.at (ys ++ more)) (sym (left_more shown parts index c.part-item.result c.loop-part-test.true))
     ∙ c.loop-part.invariant more
 
 pub returns : goal.returns
 returns c = λ more.
-    ap (λ ys. c.loop-part.line.items ++ line_from c.args.form c.loop-part.at (ys ++ more))
+    ap (λ ys. c.loop-part.line.items ++ line_from (style c.args.form (shown_file c.args.file)) c.loop-part.at (ys ++ more))
     (sym (left_none shown c.args.parts.now c.loop-part.part-index c.loop-part-test.false))
     ∙ c.loop-part.invariant more

@@ -1,8 +1,10 @@
 use Rattle.std.proofs.Common.{◌≡◌, ◌++◌, List, drop, map}
-use Rattle.cli_lines.specs.Lines.{Part, line_from, line_text}
-use Rattle.cli_lines.specs.Shown.{shown}
+use Rattle.cli_lines.specs.declared.line.Before.TheVariants as before
+use Rattle.cli_lines.specs.Lines.{Part, line_from, style}
+use Rattle.cli_lines.specs.Shown.{shown, shown_file}
 use Rattle.cli_lines.proofs.line.push_parts.Given as goal
 
 abbrev pub invariant-loop-part : goal.invariant-loop-part
 invariant-loop-part l =
-    (more : List Part) → l.line.items ++ line_from l.form l.at (map shown (drop l.part-index l.parts) ++ more) ≡ l.initial.line.items ++ line_text l.form (map shown l.parts ++ more)
+    (more : List Part) → l.line.items ++ line_from (style l.form (shown_file l.file)) l.at (map shown (drop l.part-index l.parts) ++ more)
+    ≡ l.initial.line.items ++ line_from (style l.form (shown_file l.file)) before.Line (map shown l.parts ++ more)

@@ -1,7 +1,7 @@
 use Rattle.std.proofs.Common.{refl}
-use Rattle.cli_lines.specs.Lines.{line_from, report_text}
+use Rattle.cli_lines.specs.Lines.{line_from, styled_text}
 use Rattle.cli_print.proofs.laws.whole_files_are_ok.Goals as goal
 
 pub returns : goal.returns
-unfolding line_from report_text
+unfolding line_from styled_text
 returns c = refl

@@ -10,7 +10,7 @@ returns-in-Root g c =
 pub returns-in-Info : goal.returns-in-Info
 returns-in-Info g c =
     rw (c.in-Info.is, c.ended_by-in-Info.ensures)
-    (info_ended c.args.request.now c.args.name.now c.args.bytes.now c.args.out.now c.print_info.new.out _ c.print_info.result c.label_of-file.ensures
+    (info_ended c.args.request.now c.args.name.now c.args.bytes.now c.args.out.now c.print_info.new.out c.print_info.result
     c.print_info.ensures.whole c.print_info.ensures.first_error c.print_info.ensures.untouched c.print_info.ensures.printed)
 
 pub returns-in-Listing : goal.returns-in-Listing
