@@ -1,9 +1,14 @@
 # Completions of clim for bash.
 
+# The names of the tables, from the help of `show`, with this after each.
+_clim_tables() {
+    clim show --help 2>/dev/null | grep -oE '\b[0-9A-F]{2} [A-Z][A-Za-z]+' | sed "s/^...//; s/\$/$1/"
+}
+
 _clim() {
     local word=${COMP_WORDS[COMP_CWORD]}
     local subcommands='root info check show types outline strings token where rewrite embed digest compare explain help'
-    local line
+    local line given files=0
     COMPREPLY=()
     if [ "$COMP_CWORD" -eq 1 ]; then
         while read -r line; do COMPREPLY+=("$line"); done < <(compgen -W "$subcommands --help --version" -- "$word")
@@ -20,16 +25,30 @@ _clim() {
         *)
             local flags='--bare --help'
             if [ "${COMP_WORDS[1]}" = embed ]; then flags='--help --json --root --unsigned'; fi
-            if [ "${COMP_WORDS[1]}" = check ]; then flags="$flags --files-from -0 --quiet --where"; fi
+            case ${COMP_WORDS[1]} in check | digest) flags="$flags --files-from -0" ;; esac
+            if [ "${COMP_WORDS[1]}" = check ]; then flags="$flags --quiet --where"; fi
             case ${COMP_WORDS[1]} in root | embed) ;; *) flags="$flags --budget" ;; esac
             case ${COMP_WORDS[1]} in root | info | check | show | types | outline | strings | token | where | digest | compare) flags="$flags --json" ;; esac
             if [ "${COMP_WORDS[1]}" = show ]; then flags="$flags --names --until-fault"; fi
             if [ "${COMP_WORDS[1]}" = compare ]; then flags="$flags --ignore"; fi
             # A list of files comes from the standard input alone. The budget is a number, and a column a name.
             if [ "${COMP_WORDS[COMP_CWORD-1]}" = --files-from ]; then COMPREPLY=(-); return; fi
-            case ${COMP_WORDS[COMP_CWORD-1]} in --budget | --ignore) return ;; esac
+            case ${COMP_WORDS[COMP_CWORD-1]} in
+                --budget) return ;;
+                --ignore)
+                    while read -r line; do COMPREPLY+=("$line"); done < <(compgen -W "$(_clim_tables .)" -- "$word")
+                    return
+                    ;;
+            esac
+            for given in "${COMP_WORDS[@]:2:COMP_CWORD-2}"; do
+                [[ $given == -* ]] || files=$((files + 1))
+            done
             if [[ $word == -* ]]; then
                 while read -r line; do COMPREPLY+=("$line"); done < <(compgen -W "$flags" -- "$word")
+            elif [[ $files -gt 0 && ${COMP_WORDS[1]} =~ ^(outline|token|where)$ ]]; then
+                return
+            elif [[ $files -gt 0 && ${COMP_WORDS[1]} = show ]]; then
+                while read -r line; do COMPREPLY+=("$line"); done < <(compgen -f -W "$(_clim_tables)" -- "$word")
             else
                 while read -r line; do COMPREPLY+=("$line"); done < <(compgen -f -- "$word")
             fi

@@ -25,14 +25,15 @@ complete -c clim -n "__fish_seen_subcommand_from $readers" -F
 complete -c clim -n "__fish_seen_subcommand_from root info check show types outline strings token where rewrite digest compare" -l bare -d 'FILE is a metadata root, not a PE file'
 complete -c clim -n "__fish_seen_subcommand_from root info check show types outline strings token where embed digest compare explain" -l json -d 'Print a JSON value on each line'
 complete -c clim -n "__fish_seen_subcommand_from info check show types outline strings token where rewrite digest compare" -l budget -x -d 'Check at most N bytes of texts and signatures, or stop with exit status 3'
-complete -c clim -n "__fish_seen_subcommand_from check" -l files-from -x -a - -d 'Read the names of the files from standard input, each ended by a NUL'
-complete -c clim -n "__fish_seen_subcommand_from check" -s 0 -d "The same as '--files-from -'"
+complete -c clim -n "__fish_seen_subcommand_from check digest" -l files-from -x -a - -d 'Read the names of the files from standard input, each ended by a NUL'
+complete -c clim -n "__fish_seen_subcommand_from check digest" -s 0 -d "The same as '--files-from -'"
 complete -c clim -n "__fish_seen_subcommand_from check" -s q -l quiet -d 'Print nothing about faults; only the exit status reports them'
 complete -c clim -n "__fish_seen_subcommand_from check" -l where -d 'Print what contains the byte at the offset of the fault, and explain the fault'
+complete -c clim -n "__fish_seen_subcommand_from show" -a "(clim show --help | string match -arg '\b[0-9A-F]{2} ([A-Z][A-Za-z]+)')" -d 'Table'
 complete -c clim -n "__fish_seen_subcommand_from show" -l names -d 'Print the name of each column before its cell'
 complete -c clim -n "__fish_seen_subcommand_from show" -l until-fault -d 'Print the rows before the first fault, too, and then the fault'
 complete -c clim -n "__fish_seen_subcommand_from embed" -l root -r -F -d 'A metadata root to take instead of the canonical one'
 complete -c clim -n "__fish_seen_subcommand_from embed" -l unsigned -d 'Clear the strong name: its flag and its directory'
-complete -c clim -n "__fish_seen_subcommand_from compare" -l ignore -x -d 'Do not compare the cells of this column'
+complete -c clim -n "__fish_seen_subcommand_from compare" -l ignore -x -a "(clim show --help | string match -arg '\b[0-9A-F]{2} ([A-Z][A-Za-z]+)' | string replace -r '\$' .)" -d 'Do not compare the cells of this column'
 complete -c clim -n "__fish_seen_subcommand_from explain" -a "(clim explain | string replace -r '^(\d+)[ :]+' '\$1\t')"
 complete -c clim -n "__fish_seen_subcommand_from help" -a "$readers explain help"

@@ -571,6 +571,11 @@ def types_with_near_names(size):
     return Root({"TypeDef": [type_row()] * (size // 20)}, heap(b"a" * NEAR, b"\0"))
 
 
+def types_with_near_names_at_the_end(size):
+    """The same, in a heap that is long before them."""
+    return Root({"TypeDef": [type_row(size // 2 + 2)] * (size // 40)}, heap(b"b" * (size // 2), b"\0", b"a" * NEAR, b"\0"))
+
+
 # ---- user strings
 
 

@@ -1,5 +1,5 @@
-//! Tests of `cli`: budgets, `rewrite`, `embed`, `info`, `digest`, `compare`, `check` of several files, the standard input, hints, escaped
-//! arguments, and files and outputs that fail.
+//! Tests of `cli`: budgets, `rewrite`, `embed`, `info`, `digest`, `compare`, `check` and other reports of several files, the
+//! standard input, hints, escaped arguments, and files and outputs that fail.
 
 mod budgets;
 mod comparing;
@@ -10,6 +10,7 @@ mod fault_answers;
 mod hints;
 mod info;
 mod json;
+mod named_lines;
 mod one_type;
 mod replacing;
 mod rewriting;

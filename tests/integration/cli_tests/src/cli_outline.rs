@@ -83,10 +83,10 @@ fn prints_events_and_properties_below_their_type(rt: HostRuntime) -> Result<(), 
   .method public hidebysig specialname instance int32 N.C::get_P() cil managed  // 06000001
   .method public static pinvokeimpl void N.C::M() cil managed  // 06000002
   .event N.C N.C::E  // 14000001
-  .property specialname instance int32 () N.C::P  // 17000001
+  .property specialname instance int32 N.C::P()  // 17000001
     .get N.C::get_P of N.C::P  // 18000001
 .class private auto ansi '\\x1bD' extends N.C  // 02000003
-  .property instance int32 () '\\x1bD'::M  // 17000002
+  .property instance int32 '\\x1bD'::M()  // 17000002
 .pinvokeimpl(\"k.dll\" as \"M\" platformapi) of N.C::M  // 1c000001
 .custom N.C::.ctor = (0100) of 02000002  // 0c000001
 ";
@@ -118,10 +118,10 @@ fn prints_each_declaration_as_an_object(rt: HostRuntime) -> Result<(), Fail> {
 {"token":"06000001","type":"02000002","directive":".method","text":".method public hidebysig specialname instance int32 N.C::get_P() cil managed"}
 {"token":"06000002","type":"02000002","directive":".method","text":".method public static pinvokeimpl void N.C::M() cil managed"}
 {"token":"14000001","type":"02000002","directive":".event","text":".event N.C N.C::E"}
-{"token":"17000001","type":"02000002","directive":".property","text":".property specialname instance int32 () N.C::P"}
+{"token":"17000001","type":"02000002","directive":".property","text":".property specialname instance int32 N.C::P()"}
 {"token":"18000001","directive":".get","text":".get N.C::get_P of N.C::P"}
-{"token":"02000003","directive":".class","text":".class private auto ansi '\\x1bD' extends N.C"}
-{"token":"17000002","type":"02000003","directive":".property","text":".property instance int32 () '\\x1bD'::M"}
+{"token":"02000003","directive":".class","text":".class private auto ansi '\u001bD' extends N.C"}
+{"token":"17000002","type":"02000003","directive":".property","text":".property instance int32 '\u001bD'::M()"}
 {"token":"1c000001","directive":".pinvokeimpl","text":".pinvokeimpl(\"k.dll\" as \"M\" platformapi) of N.C::M"}
 {"token":"0c000001","directive":".custom","text":".custom N.C::.ctor = (0100) of 02000002"}
 "#;
@@ -153,6 +153,32 @@ fn cuts_long_names(rt: HostRuntime) -> Result<(), Fail> {
         assert!(rt; out.as_str().starts_with(begin), "{len}");
         assert!(rt; out.as_str().ends_with(end), "{len}");
         assert!(rt; out.len() <= 65_600, "{len}");
+    }
+    Ok(())
+}
+
+/// In JSON names are as they are, but for quotes and backslashes. If a name is cut within a character, all escapes stay. The
+/// limit counts the bytes of escapes: each byte of the last character has four.
+#[test]
+fn names_are_as_they_are_in_json(rt: HostRuntime) -> Result<(), Fail> {
+    let quoted = r#"{"token":"1a000001","directive":".module","text":".module extern 'Café\\x27\\x22\\x5c'"}"#;
+    let long = r#"{"token":"1a000002","directive":".module","text":".module extern 'aa"#;
+    for (len, end) in [(65_527, r#"aaé'.."}"#), (65_531, r#"aa\\xc3'.."}"#)] {
+        let mut heap = vec![in rt.alloc(); 0]?;
+        heap.extend_from_slice("Caf\u{e9}'\"\\\0".as_bytes())?;
+        for _ in 0..len {
+            heap.push(b'a')?;
+        }
+        heap.extend_from_slice("\u{e9}\0".as_bytes())?;
+        let mut root = RootBuilder::new(rt.alloc());
+        root.row(0x1A, b"\x01\0")?;
+        root.row(0x1A, b"\x0A\0")?;
+        root.heap("#Strings", heap.as_slice())?;
+        let root = root.finish()?;
+        let out = json_of(rt.alloc(), root.as_slice())?;
+        let mut lines = out.as_str().lines();
+        assert_eq!(rt; lines.next(), Some(quoted));
+        assert!(rt; lines.next().is_some_and(|line| line.starts_with(long) && line.ends_with(end)), "{len}");
     }
     Ok(())
 }
@@ -222,12 +248,12 @@ fn prints_properties_below_their_type_in_any_order(rt: HostRuntime) -> Result<()
   .method public hidebysig specialname instance int32 N.C::get_P() cil managed  // 06000001
   .method public static pinvokeimpl void N.C::M() cil managed  // 06000002
   .event N.C N.C::E  // 14000001
-  .property instance int32 () N.C::M  // 17000002
+  .property instance int32 N.C::M()  // 17000002
     .get N.C::get_P of N.C::M  // 18000001
 ";
     let next = "\
 .class private auto ansi '\\x1bD' extends N.C  // 02000003
-  .property specialname instance int32 () '\\x1bD'::P  // 17000001
+  .property specialname instance int32 '\\x1bD'::P()  // 17000001
     .set N.C::M of '\\x1bD'::P  // 18000002
 .pinvokeimpl";
     let out = outline_of(&rt, root.as_slice())?;

@@ -83,7 +83,7 @@ fn escapes_usage_errors(rt: HostRuntime) -> Result<(), Fail> {
             &["clim", "check", "--budget", text, "lacks"],
             &["clim", "check", budget.as_str(), "lacks"],
             &["clim", "check", bare.as_str(), "lacks"],
-            &["clim", "types", "lacks", text],
+            &["clim", "where", "lacks", "1", text],
             &["clim", "token", "lacks", "1", text],
             &["clim", "rewrite", "lacks", "out", text],
             &["clim", "explain", "501", text],

@@ -179,6 +179,25 @@ fn checks_listed_files(rt: HostRuntime) -> Result<(), Fail> {
     remove_files(&rt)
 }
 
+/// A name that is not UTF-8 is reported, and the others have their digests.
+#[test]
+fn digests_listed_files(rt: HostRuntime) -> Result<(), Fail> {
+    write_files(&rt)?;
+    let (_, good, _) = answer(&rt, &["clim", "digest", "good.dll"])?;
+    let (_, types, _) = answer(&rt, &["clim", "digest", "--bare", "types.root"])?;
+    let not_text = "error: cannot read a\\xff\n  reason: its name is not UTF-8\n";
+    for (words, list, status, printed, reported) in [
+        (["clim", "digest", "-0"].as_slice(), b"".as_slice(), 0, "", ""),
+        (&["clim", "digest", "-0"], b"a\xFF\0good.dll\0", 3, good.as_str(), not_text),
+        (&["clim", "digest", "--files-from", "-"], b"lacks\0good.dll", 3, good.as_str(), LACKS),
+        (&["clim", "digest", "--bare", "-0"], b"types.root\0", 0, types.as_str(), ""),
+    ] {
+        let (ended, out, err) = answer_on(with_input(&rt, list), words)?;
+        assert_eq!(rt; (ended, out.as_str(), err.as_str()), (status, printed, reported));
+    }
+    remove_files(&rt)
+}
+
 /// `-` is the standard input, for one file and among several. It can be read once.
 #[test]
 fn reads_the_standard_input(rt: HostRuntime) -> Result<(), Fail> {

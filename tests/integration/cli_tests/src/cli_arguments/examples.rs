@@ -45,7 +45,7 @@ fn print_what_help_reports(rt: HostRuntime) -> Result<(), Fail> {
         ("root", 3),
         ("check", 4),
         ("show", 4),
-        ("types", 2),
+        ("types", 3),
         ("outline", 3),
         ("strings", 1),
         ("token", 3),
