@@ -13,9 +13,10 @@
  * result is what its contract in crates/clim_c states. No function keeps state between calls, so threads may call them
  * at the same time. Rows count from 1. Columns, which are the cells of a row, count from 0.
  *
- * Memory: only clim_canonical_root, clim_digest, clim_compare, clim_tables and clim_embed allocate; clim_embed does not
- * if a root is given. They call malloc, realloc and free, and free all of it before they return. So do not call them in
- * a signal handler, or after fork in a process with threads.
+ * Memory: only clim_canonical_root, clim_digest, clim_compare, clim_tables, clim_embed and clim_declaration allocate;
+ * clim_embed does not if a root is given, and clim_declaration only for a method. They call malloc, realloc and free,
+ * and free all of it before they return. So do not call them in a signal handler, or after fork in a process with
+ * threads.
  *
  * A call on a view reads the directory of the root and the row counts again, but no heap. It takes about 3
  * microseconds, for a small file and for one of 5 MB alike; a crafted root of 200 kB with 16,000 stream headers makes
@@ -26,16 +27,15 @@
  *
  * Errors: clim_check, clim_open, clim_read_header and their variants return false and write a clim_fault, or say that
  * a budget is spent. clim_tables returns 0 and writes a clim_refusal. clim_embed returns a number that says why there
- * is no copy; for two of these it writes a clim_fault. clim_canonical_root, clim_digest, clim_compare, clim_tables
- * and clim_embed say if memory runs out. Any other call has no error: for a view that is not open, and for a number
- * that refers to nothing, it returns false, 0 or no bytes. A fault has no table, row or column, only the offset of
- * what is wrong; a refusal has these, and no offset.
+ * is no copy; for two of these it writes a clim_fault. What allocates says if memory runs out. Any other call has no
+ * error: for a view that is not open, and for a number that refers to nothing, it returns false, 0 or no bytes. A fault
+ * has no table, row or column, only the offset of what is wrong; a refusal has these, and no offset.
  *
  * Sizes: a clim_view has 5,208 bytes. All other memory is stack. These figures are not proved: up to 128 kB in the
  * calls that check or open, up to 384 kB in clim_canonical_root, clim_digest, clim_compare, clim_tables and
- * clim_embed (64 kB, and more for nested types), up to 192 kB in clim_signature_text, and up to 48 kB in any other call.
- * So a thread needs CLIM_STACK bytes beside its own. Measured on three assemblies: 44 kB to check,
- * 48 kB to open. Equivalent calls took 54 kB to check a root whose types nest 127 deep in a signature. For a file
+ * clim_embed (64 kB, and more for nested types), up to 192 kB in clim_signature_text, clim_row_name and
+ * clim_declaration, and up to 48 kB in any other call. So a thread needs CLIM_STACK bytes beside its own. Measured on
+ * three assemblies: 44 kB to check, 48 kB to open. Equivalent calls took 54 kB to check a root whose types nest 127 deep in a signature. For a file
  * with such types they add up to 61 kB.
  *
  * A caller must ensure the following. Nothing checks it:
@@ -516,6 +516,12 @@ bool clim_open_within(const uint8_t *file, size_t len, uint64_t budget, clim_vie
 bool clim_open_root_within(const uint8_t *root, size_t len, uint64_t budget, clim_view *view, clim_fault *fault,
                            bool *spent);
 
+/* Writes *offset, the offset in the file of size bytes at a relative virtual address (II.25.3): the method body of a
+ * row of MethodDef, the data of a row of FieldRVA, or a directory of a clim_header. They are in the first section that
+ * contains all of them. False if the file is no image, or no section contains them, or the file ends before they do;
+ * then *offset is unchanged. It checks the PE headers alone (II.25.2). Reads the file. */
+bool clim_offset_of(const uint8_t *file, size_t len, uint32_t rva, uint32_t size, size_t *offset);
+
 /* Writes the name of the rule with this number, for example "BadIndex"; no bytes if no rule has it. The bytes belong
  * to the library. */
 void clim_fault_name(uint16_t code, clim_bytes *name);
@@ -583,8 +589,9 @@ bool clim_cell_at(const clim_view *view, uint8_t table, uint32_t row, size_t col
  * Reads *view and the root. Much faster than a call of clim_cell_at for each cell. */
 size_t clim_cells(const clim_view *view, uint8_t table, uint32_t first, size_t column, clim_cell *cells, size_t room);
 
-/* What clim_signature_text returns for a text of more than 65,536 bytes, clim_canonical_root, clim_digest and
- * clim_tables for a root of more than 2^30 bytes, and clim_embed for such a root or such a copy. */
+/* What clim_signature_text, clim_row_name and clim_declaration return for a text of more than 65,536 bytes,
+ * clim_canonical_root, clim_digest and clim_tables for a root of more than 2^30 bytes, and clim_embed for such a root or
+ * such a copy. */
 #define CLIM_TOO_LONG SIZE_MAX
 
 /* Writes a signature in the notation of ILAsm (II.7.1, II.15.3), such as "method instance string *(int32, class
@@ -621,8 +628,44 @@ uint32_t clim_find_type(const clim_view *view, const uint8_t *name_space, size_t
 size_t clim_rows_by_key(const clim_view *view, uint8_t table, uint8_t key_table, uint32_t key_row, uint32_t *rows,
                         size_t room);
 
-/* What clim_canonical_root, clim_digest, clim_compare, clim_tables and clim_embed return if memory runs out. */
+/* What a call that allocates returns if memory runs out. */
 #define CLIM_NO_MEMORY (SIZE_MAX - 1)
+
+/* Writes the name of a row in the notation of ILAsm (II.5.3) into buffer[0] to buffer[room - 1]; characters that do not
+ * fit are left out. A token contains the number of the table in its high byte, and the row in the others.
+ *
+ *     char name[200];
+ *     size_t len = clim_row_name(&view, 0x06000002, (uint8_t *)name, sizeof name); // Hello.Greeter::Greet
+ *
+ *   - A type: Namespace.Outer/Inner, with at most 64 types, and ".." before them if there are more. A row of TypeSpec is
+ *     named by the type that it is.
+ *   - A field, a method, an event, a property or a row of MemberRef: its type or its module, "::", and its own name.
+ *   - An exported type: its namespace, a dot, and its own name.
+ *   - A row of ModuleRef, AssemblyRef, File or GenericParam: its own name. Any other row: "..".
+ *
+ * A name that is no identifier is quoted, as in '<Module>': a quote, a backslash and a byte that is not printable ASCII
+ * are \x and two hexadecimal digits. So the text is ASCII, and each name in it ends where a reader sees it end.
+ *
+ * Returns the length of the entire name, which can be more than room: so call with room 0 to get the length. No NUL
+ * follows it. Returns 0 if the view is not open, or has no such row; the buffer is then unchanged. Returns CLIM_TOO_LONG
+ * for a name of more than 65,536 bytes; the buffer then contains the first 65,536 bytes of it, or those that fit.
+ * Takes time in proportion to the names that it reads, which end after 65,536 bytes are written. Reads *view and the
+ * root. Allocates nothing. */
+size_t clim_row_name(const clim_view *view, uint32_t token, uint8_t *buffer, size_t room);
+
+/* Writes the declaration of a type, a field, a method or a property in the notation of ILAsm, with the names of types,
+ * as clim_row_name writes a name: what clim outline prints of the row between the words of its flags.
+ *
+ *   - A type (II.10.1): its full name.
+ *   - A field (II.16.1): its signature, a space, and its own name, such as "class System.Type count".
+ *   - A method (II.15.3): "string Hello.Greeter::Greet(string name, int32 times)". A parameter has the name of the first
+ *     row of Param with its position.
+ *   - A property (II.17): "instance int32 Hello.Greeter::Item(string)".
+ *
+ * Returns what clim_row_name does, and 0 for a row of any other table too. Returns CLIM_NO_MEMORY if memory runs out;
+ * what is in the buffer is then not specified. Takes time in proportion to what it reads, and n log n for the n
+ * parameters of a method. Reads *view and the root. Allocates in proportion to the rows of Param of a method. */
+size_t clim_declaration(const clim_view *view, uint32_t token, uint8_t *buffer, size_t room);
 
 /* Writes the canonical root of the view (II.24.2) into buffer[0] to buffer[room - 1], if there is room for all of it;
  * otherwise the buffer is unchanged. Returns the length of the root, which can be more than room. It is what clim

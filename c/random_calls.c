@@ -210,6 +210,27 @@ static void ask_signature(const opened *it) {
     EXPECT((len <= 65536 || len == CLIM_TOO_LONG) && is_unwritten(text, least(room, len)));
 }
 
+static void ask_row_text(const opened *it) {
+    uint8_t table = odd_table();
+    uint32_t token = (uint32_t)(below(8) == 0 ? any() : (uint32_t)table << 24 | (odd(clim_count(&it->view, table)) & 0xFFFFFF));
+    size_t room = below(ROOM);
+    uint8_t *text = with_room(room);
+    size_t len = clim_row_name(&it->view, token, text, room);
+    EXPECT((len <= 65536 || len == CLIM_TOO_LONG) && is_unwritten(text, least(room, len)));
+    text = with_room(room);
+    size_t text_len = clim_declaration(&it->view, token, text, room);
+    EXPECT((text_len <= 65536 || text_len == CLIM_TOO_LONG) && is_unwritten(text, least(room, text_len)));
+    EXPECT(len > 0 || text_len == 0);
+}
+
+static void ask_offset(const opened *it) {
+    clim_bytes part = below(2) == 0 ? part_of(it->file) : (clim_bytes){it->file.at, it->file.len};
+    size_t offset = SIZE_MAX;
+    uint32_t size = (uint32_t)odd(part.len);
+    bool found = clim_offset_of(part.at, part.len, (uint32_t)odd(below(2) == 0 ? 0x2000 : part.len), size, &offset);
+    EXPECT(found ? offset <= part.len && size <= part.len - offset : offset == SIZE_MAX);
+}
+
 static void ask_rows(const opened *it) {
     uint8_t table = odd_table(), other = odd_table();
     uint32_t first = 7, past = 7, row = (uint32_t)odd(clim_count(&it->view, table));
@@ -325,7 +346,7 @@ static void ask_embed(const opened *it) {
 
 static void *call_some(void *which) {
     static some_call *const often[] = {ask_fault, ask_parts, ask_stream, ask_user_string, ask_names, ask_cell,
-                                       ask_cells, ask_signature, ask_rows, ask_where};
+                                       ask_cells, ask_signature, ask_rows, ask_where, ask_row_text, ask_offset};
     static some_call *const seldom[] = {ask_root, ask_compare, ask_tables, ask_embed};
     size_t thread = (size_t)which;
     state = (seed + 1) * 0x9E3779B97F4A7C15 + thread + 1;

@@ -586,6 +586,106 @@ static void ask_signatures(const clim_view *view, uint8_t table) {
     CHECK(clim_signature_text(view, table, 1, SIZE_MAX, NULL_BUFFER, 0) == 0);
 }
 
+/* ---- names and declarations */
+
+typedef struct row_token {
+    const clim_view *view;
+    uint32_t token;
+} row_token;
+
+static size_t write_row_name(const void *of, uint8_t *buffer, size_t room) {
+    const row_token *row = of;
+    return clim_row_name(row->view, row->token, buffer, room);
+}
+
+static size_t write_row_declaration(const void *of, uint8_t *buffer, size_t room) {
+    const row_token *row = of;
+    return clim_declaration(row->view, row->token, buffer, room);
+}
+
+/* Each row has a name, and the rows of four tables have declarations. The name of a type is its declaration, and that of a
+ * method or a property contains its name. Both are ASCII. */
+static void ask_row_texts(const clim_view *view, uint8_t table) {
+    bool declared = table == CLIM_TYPE_DEF || table == CLIM_FIELD || table == CLIM_METHOD_DEF || table == CLIM_PROPERTY;
+    uint32_t rows = clim_count(view, table), step = rows / 300 + 1, first = (uint32_t)table << 24;
+    bool same = true;
+    for (uint32_t row = 1; row <= rows; row += step) {
+        row_token at = {view, first | row};
+        char name[1001] = "", text[1001] = "";
+        size_t len = clim_row_name(view, at.token, (uint8_t *)name, 1000);
+        size_t text_len = clim_declaration(view, at.token, (uint8_t *)text, 1000);
+        same &= len > 0 && (text_len > 0) == declared;
+        if (len >= 1000 || text_len >= 1000) continue;
+        same &= same_text(write_row_name, &at, len) && (!declared || same_text(write_row_declaration, &at, text_len));
+        for (size_t i = 0; i < len; i++) same &= name[i] >= 32 && name[i] <= 126;
+        for (size_t i = 0; i < text_len; i++) same &= text[i] >= 32 && text[i] <= 126;
+        if (table == CLIM_TYPE_DEF) same &= strcmp(name, text) == 0;
+        if (table == CLIM_METHOD_DEF || table == CLIM_PROPERTY) same &= strstr(text, name) != NULL;
+    }
+    CHECK(same);
+    CHECK(clim_row_name(view, first, NULL_BUFFER, 0) == 0 && clim_declaration(view, first, NULL_BUFFER, 0) == 0);
+    if (rows < 0xFFFFFF) {
+        uint8_t byte = 7;
+        CHECK(clim_row_name(view, first | (rows + 1), &byte, 1) == 0 && byte == 7);
+        CHECK(clim_declaration(view, first | (rows + 1), &byte, 1) == 0 && byte == 7);
+    }
+}
+
+/* Tokens of no row, and a view that is not open. */
+static void ask_no_row(const clim_view *view) {
+    static const uint32_t tokens[] = {0, 0x70000001, 0x03000001, 0xFF000001, 0xFFFFFFFF, 0x02FFFFFF};
+    clim_view closed = CLOSED;
+    uint8_t text[2] = {7, 7};
+    for (size_t i = 0; i < sizeof tokens / sizeof *tokens; i++)
+        CHECK(clim_row_name(view, tokens[i], text, 2) == 0 && clim_declaration(view, tokens[i], text, 2) == 0);
+    CHECK(clim_row_name(&closed, 0x02000001, text, 2) == 0 && clim_declaration(&closed, 0x02000001, text, 2) == 0);
+    CHECK(text[0] == 7 && text[1] == 7);
+}
+
+/* ---- offsets of addresses */
+
+/* The offset of an address, by the section headers in the order of the file; SIZE_MAX if it has none. */
+static size_t plain_offset(guarded file, uint32_t rva, uint32_t size) {
+    size_t at = (size_t)little_endian(file.at + 0x3C, 4), sections = (size_t)little_endian(file.at + at + 6, 2);
+    const uint8_t *header = file.at + at + 24 + little_endian(file.at + at + 20, 2);
+    for (; sections > 0; sections--, header += 40) {
+        uint64_t start = little_endian(header + 12, 4), len = little_endian(header + 16, 4), from = little_endian(header + 20, 4);
+        if (rva < start || rva - start + (uint64_t)size > len) continue;
+        uint64_t offset = from + rva - start;
+        return offset + size <= file.len ? (size_t)offset : SIZE_MAX;
+    }
+    return SIZE_MAX;
+}
+
+static bool same_offset(guarded file, uint32_t rva, uint32_t size) {
+    size_t wanted = plain_offset(file, rva, size), offset = 7;
+    bool found = clim_offset_of(file.at, file.len, rva, size, &offset);
+    return found == (wanted != SIZE_MAX) && offset == (found ? wanted : 7);
+}
+
+/* The addresses in the headers, those of method bodies, and others around sections. */
+static void ask_offsets(guarded file, const clim_view *view) {
+    clim_header header = CLIM_NO_HEADER;
+    clim_fault fault = CLIM_NO_FAULT;
+    size_t offset = 7;
+    CHECK(clim_read_header(file.at, file.len, &header, &fault));
+    CHECK(clim_offset_of(file.at, file.len, header.metadata.rva, header.metadata.size, &offset) && offset == header.root_start);
+    bool same = true;
+    for (uint32_t row = 1; row <= clim_count(view, CLIM_METHOD_DEF); row++) {
+        clim_cell cell = NO_CELL;
+        same &= clim_cell_at(view, CLIM_METHOD_DEF, row, CLIM_METHOD_DEF_RVA, &cell) && same_offset(file, cell.number, 1);
+    }
+    for (uint32_t rva = 0; rva < 0x10000; rva += 0x1FF)
+        for (uint32_t size = 0; size < 0x2000; size += 0x3FF) same &= same_offset(file, rva, size);
+    same &= same_offset(file, UINT32_MAX, UINT32_MAX) && same_offset(file, header.metadata.rva, UINT32_MAX);
+    CHECK(same);
+    /* A file that is cut, and no file. */
+    offset = 7;
+    CHECK(!clim_offset_of(file.at, header.root_end - 1, header.metadata.rva, header.metadata.size, &offset) && offset == 7);
+    CHECK(!clim_offset_of(file.at, 0, header.metadata.rva, 1, &offset) && offset == 7);
+    CHECK(!clim_offset_of(view->root.at, view->root.len, header.metadata.rva, 1, &offset) && offset == 7);
+}
+
 /* ---- the stack that clim.h says */
 
 #if defined(__SANITIZE_ADDRESS__)
@@ -633,6 +733,8 @@ static void open_deep(void) {
     deep_same &= clim_open_root_within(deep.at, deep.len, deep.len, &view, &fault, &spent) && !spent;
     size_t len = clim_signature_text(&view, CLIM_TYPE_SPEC, 1, CLIM_TYPE_SPEC_SIGNATURE, text, sizeof text);
     deep_same &= len > 127 && len <= sizeof text;
+    /* No type in it has a name, so both texts are the same. */
+    deep_same &= clim_row_name(&view, 0x1B000001, text, sizeof text) == len && clim_declaration(&view, 0x1B000001, text, 1) == 0;
     uint8_t digest[32] = {0};
     len = clim_canonical_root(&view, text, sizeof text);
     deep_same &= len > 0 && len <= sizeof text && clim_digest(&view, digest) == len && is_built_deep(&view, text, len);
@@ -706,6 +808,8 @@ static void ask_long(void) {
         CHECK(clim_open_root(root.at, root.len, &view, &fault));
         size_t text_len = clim_signature_text(&view, CLIM_TYPE_SPEC, 1, CLIM_TYPE_SPEC_SIGNATURE, part.at, 8);
         CHECK(text_len == (pointers == 4 ? CLIM_TOO_LONG : 65536) && memcmp(part.at, "method v\xEE", 9) == 0);
+        memset(part.at, 0xEE, part.len);
+        CHECK(clim_row_name(&view, 0x1B000001, part.at, 8) == text_len && memcmp(part.at, "method v\xEE", 9) == 0);
         munmap(root.pages, root.room);
         munmap(part.pages, part.room);
     }
@@ -744,6 +848,23 @@ void *__wrap_malloc(size_t len) {
 
 void *__wrap_realloc(void *at, size_t len) {
     return has_block() ? __real_realloc(at, len) : NULL;
+}
+
+/* A name does not allocate. A declaration that cannot allocate says so. */
+static void ask_no_memory_for_rows(const clim_view *view) {
+    bool as_stated = true;
+    for (uint32_t row = 1; row <= clim_count(view, CLIM_METHOD_DEF) && row < 100; row++) {
+        size_t wanted = clim_declaration(view, 0x06000000 | row, NULL_BUFFER, 0), len = CLIM_NO_MEMORY;
+        for (long blocks = 1; len == CLIM_NO_MEMORY; blocks++) {
+            blocks_left = blocks;
+            len = clim_declaration(view, 0x06000000 | row, NULL_BUFFER, 0);
+            blocks_left = 1;
+            as_stated &= clim_row_name(view, 0x06000000 | row, NULL_BUFFER, 0) < CLIM_NO_MEMORY;
+            blocks_left = -1;
+        }
+        as_stated &= len == wanted;
+    }
+    CHECK(as_stated);
 }
 
 /* Memory runs out at each block in turn: nothing is written then, and the view stays as it is. */
@@ -1471,7 +1592,10 @@ static void calls(guarded file, clim_view *view, bool bare) {
     for (unsigned table = 0; table < 256; table++) {
         if (clim_count(view, (uint8_t)table) > 0 && clim_count(view, (uint8_t)table) < 30000) compare_cells(view, (uint8_t)table);
         ask_signatures(view, (uint8_t)table);
+        ask_row_texts(view, (uint8_t)table);
     }
+    ask_no_row(view);
+    ask_no_memory_for_rows(view);
     for (size_t i = 0; i < sizeof runs / sizeof *runs; i++) compare_runs(view, runs[i].owner, runs[i].column, runs[i].member);
     compare_types(view);
     for (size_t i = 0; i < sizeof keys / sizeof *keys; i++) compare_keys(view, keys[i].table, keys[i].column);
@@ -1501,6 +1625,7 @@ static void calls(guarded file, clim_view *view, bool bare) {
     ask_refused_rows();
     ask_given(view);
     if (!bare) {
+        ask_offsets(file, view);
         ask_embed(file, view);
         ask_longer_root(file, view);
         ask_no_room(file, view);

@@ -7,7 +7,7 @@ _clim_tables() {
 
 _clim() {
     local word=${COMP_WORDS[COMP_CWORD]}
-    local subcommands='root info check show types outline strings token where rewrite embed digest compare explain help'
+    local subcommands='root info check show types outline refs resources strings token where rewrite embed digest compare explain help'
     local line given files=0
     COMPREPLY=()
     if [ "$COMP_CWORD" -eq 1 ]; then
@@ -25,16 +25,21 @@ _clim() {
         *)
             local flags='--bare --help'
             if [ "${COMP_WORDS[1]}" = embed ]; then flags='--help --json --root --unsigned'; fi
-            case ${COMP_WORDS[1]} in check | digest) flags="$flags --files-from -0" ;; esac
+            if [ "${COMP_WORDS[1]}" = resources ]; then flags='--help --extract'; fi
+            case ${COMP_WORDS[1]} in
+                root | info | check | show | types | outline | refs | resources | strings | where | digest)
+                    flags="$flags --files-from -0 --recursive"
+                    ;;
+            esac
             if [ "${COMP_WORDS[1]}" = check ]; then flags="$flags --quiet --where"; fi
             case ${COMP_WORDS[1]} in root | embed) ;; *) flags="$flags --budget" ;; esac
-            case ${COMP_WORDS[1]} in root | info | check | show | types | outline | strings | token | where | digest | compare) flags="$flags --json" ;; esac
+            case ${COMP_WORDS[1]} in root | info | check | show | types | outline | refs | resources | strings | token | where | digest | compare) flags="$flags --json" ;; esac
             if [ "${COMP_WORDS[1]}" = show ]; then flags="$flags --names --until-fault"; fi
             if [ "${COMP_WORDS[1]}" = compare ]; then flags="$flags --ignore"; fi
             # A list of files comes from the standard input alone. The budget is a number, and a column a name.
             if [ "${COMP_WORDS[COMP_CWORD-1]}" = --files-from ]; then COMPREPLY=(-); return; fi
             case ${COMP_WORDS[COMP_CWORD-1]} in
-                --budget) return ;;
+                --budget | --extract) return ;;
                 --ignore)
                     while read -r line; do COMPREPLY+=("$line"); done < <(compgen -W "$(_clim_tables .)" -- "$word")
                     return
@@ -45,7 +50,7 @@ _clim() {
             done
             if [[ $word == -* ]]; then
                 while read -r line; do COMPREPLY+=("$line"); done < <(compgen -W "$flags" -- "$word")
-            elif [[ $files -gt 0 && ${COMP_WORDS[1]} =~ ^(outline|token|where)$ ]]; then
+            elif [[ $files -gt 0 && ${COMP_WORDS[1]} = token ]]; then
                 return
             elif [[ $files -gt 0 && ${COMP_WORDS[1]} = show ]]; then
                 while read -r line; do COMPREPLY+=("$line"); done < <(compgen -f -W "$(_clim_tables)" -- "$word")

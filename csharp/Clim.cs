@@ -1,6 +1,6 @@
 // clim for C# and other .NET languages: one file to add to a program. It calls the shared library libclim.so.
 //
-//     using (var assembly = Clim.Assembly.Open(File.ReadAllBytes("one.dll")))         // or throws Clim.ClimFault
+//     using (var assembly = Clim.Assembly.Open("one.dll"))                            // or throws Clim.ClimFault
 //         foreach (var type in assembly.Rows<Clim.TypeDefRow>())
 //             foreach (var method in assembly.Methods(type))
 //                 Console.WriteLine(type.TypeName + "." + method.Name);
@@ -13,6 +13,7 @@
 
 using System;
 using System.Collections.Generic;
+using System.IO;
 using System.Runtime.InteropServices;
 using System.Text;
 using System.Threading;
@@ -605,6 +606,20 @@ namespace Clim
             [In, Out] byte[] buffer, UIntPtr room, ref NativeFault fault);
 
         [DllImport(Library)]
+        [return: MarshalAs(UnmanagedType.I1)]
+        public static extern bool clim_offset_of(byte[] file, UIntPtr length, uint rva, uint size, ref UIntPtr offset);
+
+        [DllImport(Library)]
+        [return: MarshalAs(UnmanagedType.I1)]
+        public static extern bool clim_offset_of(IntPtr file, UIntPtr length, uint rva, uint size, ref UIntPtr offset);
+
+        [DllImport(Library)]
+        public static extern UIntPtr clim_row_name(Memory view, uint token, [In, Out] byte[] buffer, UIntPtr room);
+
+        [DllImport(Library)]
+        public static extern UIntPtr clim_declaration(Memory view, uint token, [In, Out] byte[] buffer, UIntPtr room);
+
+        [DllImport(Library)]
         static extern uint clim_abi_version();
 
         // The interface that this file calls, CLIM_ABI_VERSION of clim.h.
@@ -673,6 +688,20 @@ namespace Clim
             return WrittenText((buffer, room) => Newer(() => clim_explain((ushort)code, buffer, room)));
         }
 
+        /// <summary>
+        /// The text that a call writes into a buffer, and whose length it returns; null if there is none.
+        /// </summary>
+        public static string RowText(Writing write)
+        {
+            for (var buffer = new byte[Usual]; ;)
+            {
+                int length = CheckedLength((ulong)Newer(() => write(buffer, Length(buffer))), "the text of the row has more than 65,536 bytes");
+                if (length <= buffer.Length)
+                    return length == 0 ? null : Encoding.ASCII.GetString(buffer, 0, length);
+                buffer = new byte[length];
+            }
+        }
+
         /// <summary>The length of a canonical root, or the result of a comparison, as a call returned it.</summary>
         public static int RootLength(Func<UIntPtr> call)
         {
@@ -680,10 +709,10 @@ namespace Clim
         }
 
         /// <summary>The same of what the call returned.</summary>
-        public static int CheckedLength(ulong length)
+        public static int CheckedLength(ulong length, string tooLong = "the root, or the copy with it, has more than 2^30 bytes")
         {
             if (length == TooLong)
-                throw new OverflowException("the root, or the copy with it, has more than 2^30 bytes");
+                throw new OverflowException(tooLong);
             if (length == NoMemory)
                 throw new OutOfMemoryException();
             return (int)length;
@@ -798,6 +827,11 @@ namespace Clim
         const int Depth = 64;
         // The number of bytes by which a copy of a file is mostly longer than the file and its root.
         const int Padding = 1 << 16;
+        // The largest row that a token can name.
+        const int LargestRow = 0xFFFFFF;
+        // The number of bytes that a file has at most; a longer one is fault 101. And how many are read at a time.
+        const long Longest = 1 << 30;
+        const int Part = 1 << 16;
 
         readonly Memory memory;
         readonly bool isBare;
@@ -840,6 +874,27 @@ namespace Clim
         public static Assembly Open(byte[] file)
         {
             return new Assembly(file, false, Native.clim_open);
+        }
+
+        /// <summary>Reads and opens a file.</summary>
+        /// <exception cref="ClimFault">The file breaks a rule. It is that of the first one.</exception>
+        /// <exception cref="IOException">The file cannot be read.</exception>
+        public static Assembly Open(string path)
+        {
+            return Open(ReadFile(path));
+        }
+
+        /// <summary>The bytes of a file; of a longer one, enough for its fault.</summary>
+        static byte[] ReadFile(string path)
+        {
+            using (var file = new FileStream(path, FileMode.Open, FileAccess.Read, FileShare.Read))
+            using (var content = new MemoryStream())
+            {
+                var part = new byte[Part];
+                for (int count; content.Length <= Longest && (count = file.Read(part, 0, part.Length)) > 0;)
+                    content.Write(part, 0, count);
+                return content.ToArray();
+            }
         }
 
         /// <summary>Opens a bare metadata root, without the file around it (II.24.2.1). The bytes are copied.</summary>
@@ -945,6 +1000,38 @@ namespace Clim
             if (!Native.clim_read_header(copy, Native.Length(copy), ref header, ref fault))
                 throw FaultOf(fault);
             return header;
+        }
+
+        /// <summary>
+        /// The offset in a file of bytes at a relative virtual address; null if the file does not have them, or is no image
+        /// (II.25.3). They are in the first section that contains all of them. Only the PE headers are checked.
+        /// </summary>
+        /// <exception cref="NotSupportedException">The library is older than this file.</exception>
+        public static long? OffsetOf(byte[] file, uint rva, uint size)
+        {
+            var offset = UIntPtr.Zero;
+            var copy = Native.CopyOf(file);
+            bool found = Native.Newer(() => Native.clim_offset_of(copy, Native.Length(copy), rva, size, ref offset));
+            return found ? (long)offset : (long?)null;
+        }
+
+        /// <summary>The bytes of the file at a relative virtual address; null if the file does not have them.</summary>
+        /// <exception cref="InvalidOperationException">It is a bare root, without a file around it.</exception>
+        /// <exception cref="NotSupportedException">The library is older than this file.</exception>
+        public byte[] BytesAt(uint rva, uint size)
+        {
+            if (isBare)
+                throw new InvalidOperationException("a bare root has no file around it");
+            return Held(() =>
+            {
+                var offset = UIntPtr.Zero;
+                bool found = Native.Newer(
+                    () => Native.clim_offset_of(memory.Bytes, (UIntPtr)memory.Length, rva, size, ref offset));
+                if (!found)
+                    return null;
+                var start = (IntPtr)((long)memory.Bytes + (long)offset);
+                return Copied(new NativeBytes { At = start, Length = (UIntPtr)size });
+            });
         }
 
         /// <summary>The name of a table, for example <c>TypeDef</c>.</summary>
@@ -1072,6 +1159,75 @@ namespace Clim
             uint row = Native.clim_find_type(
                 memory, spaceBytes, Native.Length(spaceBytes), nameBytes, Native.Length(nameBytes));
             return row == 0 ? (TypeDefRow?)null : Row<TypeDefRow>((int)row);
+        }
+
+        /// <summary>
+        /// The first type whose full name it is, or null: <c>System.String</c>, or <c>Hello.Greeter/Settings</c> for a type that
+        /// is nested in another. All before the last dot is the namespace. A name of more than 64 types is not found.
+        /// </summary>
+        /// <remarks>It looks at all types once for each part of the name.</remarks>
+        public TypeDefRow? FindType(string fullName)
+        {
+            if (fullName == null)
+                throw new ArgumentNullException("fullName");
+            var parts = fullName.Split('/');
+            var outer = new Token(TableId.TypeDef, 0);
+            TypeDefRow? found = null;
+            CheckOpen();
+            if (parts.Length > Depth)
+                return null;
+            foreach (string part in parts)
+            {
+                found = FindIn(outer.Row, part);
+                if (found == null)
+                    return null;
+                outer = found.Value.Token;
+            }
+            return found;
+        }
+
+        // The first type with a namespace and a name that another directly encloses, or none if that is row 0.
+        TypeDefRow? FindIn(int outer, string part)
+        {
+            int dot = part.LastIndexOf('.');
+            string space = dot < 0 ? "" : part.Substring(0, dot), name = part.Substring(dot + 1);
+            var first = FindType(space, name);
+            if (first == null || EnclosingType(first.Value.Token) == outer)
+                return first;
+            foreach (var type in Rows<TypeDefRow>(new RowRange(first.Value.Token.Row + 1, int.MaxValue)))
+                if (type.TypeName == name && type.TypeNamespace == space && EnclosingType(type.Token) == outer)
+                    return type;
+            return null;
+        }
+
+        /// <summary>
+        /// The name of a row in the notation of ILAsm (II.5.3), such as <c>Hello.Greeter::Greet</c> or
+        /// <c>Namespace.Outer/Inner</c>; null if there is no such row. A name that is no identifier is quoted, as in
+        /// <c>'&lt;Module&gt;'</c>; so the text is ASCII. A row without a name is <c>..</c>.
+        /// </summary>
+        /// <exception cref="OverflowException">It has more than 65,536 bytes, as in crafted files.</exception>
+        /// <exception cref="NotSupportedException">The library is older than this file.</exception>
+        public string NameOf(Token row)
+        {
+            if (row.Row < 0 || row.Row > LargestRow)
+                return null;
+            return Native.RowText((buffer, room) => Native.clim_row_name(memory, (uint)row.Value, buffer, room));
+        }
+
+        /// <summary>
+        /// The declaration of a type, a field, a method or a property, in the notation of ILAsm: of a type its full name, of a
+        /// field its signature and its own name (II.16.1), of a method "string Hello.Greeter::Greet(string name, int32 times)"
+        /// (II.15.3), and of a property "instance int32 Hello.Greeter::Item(string)" (II.17). The names in it are those of
+        /// <see cref="NameOf(Token)"/>. It is null for any other row, and if there is no such row.
+        /// </summary>
+        /// <exception cref="OverflowException">It has more than 65,536 bytes, as in crafted files.</exception>
+        /// <exception cref="OutOfMemoryException">Memory ran out.</exception>
+        /// <exception cref="NotSupportedException">The library is older than this file.</exception>
+        public string Declaration(Token row)
+        {
+            if (row.Row < 0 || row.Row > LargestRow)
+                return null;
+            return Native.RowText((buffer, room) => Native.clim_declaration(memory, (uint)row.Value, buffer, room));
         }
 
         /// <summary>The rows of a table whose key is a row, in ascending order; none if the table has no key.</summary>
@@ -1952,6 +2108,49 @@ namespace Clim
             Type = cells.Number();
             Parent = cells.Row();
             Value = cells.Blob();
+        }
+
+        /// <summary>
+        /// The value, by its type (II.23.1.16): a boolean, a character, a number, a string, or null for a null reference. If the
+        /// bytes are no value of the type, it is the bytes.
+        /// </summary>
+        public object TypedValue
+        {
+            get
+            {
+                bool isNull = Type == 0x12 && Value.Length == 4 && Array.TrueForAll(Value, it => it == 0);
+                return isNull ? null : ValueOf(Type, Value) ?? Value;
+            }
+        }
+
+        // A value that is not null, by its type and the number of its bytes; null if the bytes are none.
+        static object ValueOf(uint type, byte[] bytes)
+        {
+            using (var reader = new BinaryReader(new MemoryStream(bytes)))
+                switch ((ulong)type << 4 | (uint)Math.Min(bytes.Length, 0xF))
+                {
+                    case 0x021: return bytes[0] > 1 ? null : (object)(bytes[0] == 1);
+                    case 0x032: return (char)reader.ReadUInt16();
+                    case 0x041: return reader.ReadSByte();
+                    case 0x051: return reader.ReadByte();
+                    case 0x062: return reader.ReadInt16();
+                    case 0x072: return reader.ReadUInt16();
+                    case 0x084: return reader.ReadInt32();
+                    case 0x094: return reader.ReadUInt32();
+                    case 0x0A8: return reader.ReadInt64();
+                    case 0x0B8: return reader.ReadUInt64();
+                    case 0x0C4: return reader.ReadSingle();
+                    case 0x0D8: return reader.ReadDouble();
+                    default: return type == 0x0E && bytes.Length % 2 == 0 ? Units(bytes) : null;
+                }
+        }
+
+        // A string, whose units need not be valid UTF-16.
+        static string Units(byte[] bytes)
+        {
+            var units = new char[bytes.Length / 2];
+            Buffer.BlockCopy(bytes, 0, units, 0, bytes.Length);
+            return new string(units);
         }
     }
 

@@ -45,6 +45,7 @@ static class Stress
         { "Check within a budget", file => Assembly.Check(file, 1000) },
         { "ReadHeader", file => Assembly.ReadHeader(file) },
         { "Open", file => Assembly.Open(file).Dispose() },
+        { "OffsetOf", file => Assembly.OffsetOf(file, 0x2000, 16) },
         { "Open within a budget", file => Assembly.Open(file, 1000).Dispose() },
     };
 
@@ -83,6 +84,9 @@ static class Stress
         { "Params", it => it.Params(it.Row<MethodDefRow>(2)).Count() },
         { "FindType", it => it.FindType("Hello", "Greeter") },
         { "ByKey", it => it.ByKey<NestedClassRow>(type) },
+        { "FindType by a full name", it => it.FindType("Hello.Greeter/Settings") },
+        { "NameOf", it => it.NameOf(new Token(TableId.MethodDef, 2)) },
+        { "Declaration", it => it.Declaration(new Token(TableId.MethodDef, 2)) },
         { "SignatureText", it => it.SignatureText(new Token(TableId.MethodDef, 2)) },
         { "UserString", it => it.UserString(0x70000001) },
         { "CanonicalRoot", it => it.CanonicalRoot() },
@@ -97,6 +101,7 @@ static class Stress
     static readonly Dictionary<string, Action<Assembly>> readFile = new Dictionary<string, Action<Assembly>>
     {
         { "Embed", it => { try { it.Embed(); } catch (EmbedException) { } } },
+        { "BytesAt", it => it.BytesAt(0x2000, 16) },
     };
 
     // Makes a call again and again while another thread changes what it uses.

@@ -55,7 +55,9 @@ static class Tests
         Check(Assembly.Check(new byte[0]).Code == 102 && Assembly.CheckRoot(new byte[0]).Code == 301, "no bytes");
         Throws<ClimFault>(() => Assembly.OpenRoot(new byte[0]));
         Throws<ClimFault>(() => Assembly.ReadHeader(new byte[0]));
-        Throws<ArgumentNullException>(() => Assembly.Open(null));
+        Throws<ArgumentNullException>(() => Assembly.Open((byte[])null));
+        Throws<ArgumentNullException>(() => Assembly.Open((string)null));
+        Throws<FileNotFoundException>(() => Assembly.Open("no such file"));
         Throws<ArgumentNullException>(() => Assembly.Check(null));
         Throws<ArgumentNullException>(() => Assembly.ReadHeader(null));
     }
@@ -184,6 +186,68 @@ static class Tests
         Throws<ArgumentOutOfRangeException>(() => assembly.Embed(null, (StrongName)0));
         using (var bare = Assembly.OpenRoot(assembly.CanonicalRoot()))
             Throws<InvalidOperationException>(() => bare.Embed());
+    }
+
+    // Names, declarations and addresses of a file that is opened by its path.
+    static void Names(string path)
+    {
+        var file = File.ReadAllBytes(path);
+        var header = Assembly.ReadHeader(file);
+        uint rva = header.Metadata.Rva, size = header.Metadata.Size;
+        using (var assembly = Assembly.Open(path))
+        {
+            Check(assembly.NameOf(new Token(TableId.TypeDef, 1)) == "'<Module>'", "a name in quotes");
+            foreach (var type in assembly.Rows<TypeDefRow>())
+            {
+                Check(assembly.FindType(assembly.FullName(type)).Value.Token.Equals(type.Token), "a type by its full name");
+                Check(assembly.Declaration(type.Token) == assembly.NameOf(type.Token), "the declaration of a type");
+            }
+            foreach (string name in new[] { "", "/", "Derived/", "/Derived", "No.Type", new string('/', 100) })
+                Check(assembly.FindType(name) == null, "no type by its full name");
+            foreach (var method in assembly.Rows<MethodDefRow>())
+            {
+                string name = assembly.NameOf(method.Token);
+                Check(name.EndsWith("::" + method.Name) && assembly.Declaration(method.Token).Contains(name), "a method");
+                Check(method.RVA == 0 || assembly.BytesAt(method.RVA, 1).Length == 1, "its body");
+            }
+            Check(assembly.Declaration(new Token(TableId.Module, 1)) == null, "a row without a declaration");
+            foreach (int row in new[] { 0, -1, int.MinValue, int.MaxValue, 0x1000001, 0xFFFFFF })
+                Check((assembly.NameOf(new Token(TableId.TypeDef, row)) ?? assembly.Declaration(new Token(TableId.TypeDef, row))) == null, "no row");
+            Check(assembly.NameOf(new Token((TableId)0x70, 1)) == null, "no table");
+            Check(Assembly.OffsetOf(file, rva, size) == header.RootStart, "where the root is");
+            Check(assembly.BytesAt(rva, 4).SequenceEqual(new byte[] { 0x42, 0x53, 0x4A, 0x42 }), "its first bytes");
+            Check(assembly.BytesAt(rva, size).Length == size && assembly.BytesAt(rva, 0).Length == 0, "all of it, and none");
+            Check(assembly.BytesAt(uint.MaxValue, uint.MaxValue) == null && assembly.BytesAt(0, 1) == null, "no bytes");
+            Check(Assembly.OffsetOf(file, uint.MaxValue, 1) == null && Assembly.OffsetOf(new byte[0], rva, 1) == null, "no offset");
+            Throws<ArgumentNullException>(() => Assembly.OffsetOf(null, 0, 0));
+            using (var bare = Assembly.OpenRoot(assembly.CanonicalRoot()))
+                Throws<InvalidOperationException>(() => bare.BytesAt(rva, 4));
+            assembly.Dispose();
+            Throws<ObjectDisposedException>(() => assembly.NameOf(new Token(TableId.TypeDef, 1)));
+            Throws<ObjectDisposedException>(() => assembly.Declaration(new Token(TableId.TypeDef, 1)));
+            Throws<ObjectDisposedException>(() => assembly.BytesAt(rva, 4));
+            Throws<ObjectDisposedException>(() => assembly.FindType("Derived"));
+        }
+    }
+
+    static object Value(uint type, params byte[] bytes)
+    {
+        return new ConstantRow { Type = type, Value = bytes }.TypedValue;
+    }
+
+    static void Constants()
+    {
+        Check(true.Equals(Value(2, 1)) && '\ud841'.Equals(Value(3, 0x41, 0xD8)), "a boolean and a character");
+        Check(((sbyte)-1).Equals(Value(4, 255)) && ((byte)255).Equals(Value(5, 255)), "numbers of 8 bits");
+        Check(((short)-2).Equals(Value(6, 254, 255)) && ((ushort)65534).Equals(Value(7, 254, 255)), "of 16");
+        Check((-2).Equals(Value(8, 254, 255, 255, 255)) && 4294967294u.Equals(Value(9, 254, 255, 255, 255)), "of 32");
+        Check((-1L).Equals(Value(10, BitConverter.GetBytes(-1L))) && ulong.MaxValue.Equals(Value(11, BitConverter.GetBytes(-1L))), "of 64");
+        Check(1.5f.Equals(Value(12, BitConverter.GetBytes(1.5f))) && (-1.5).Equals(Value(13, BitConverter.GetBytes(-1.5))), "with a point");
+        Check("ab".Equals(Value(14, 97, 0, 98, 0)) && "".Equals(Value(14)) && Value(18, 0, 0, 0, 0) == null, "a string, and null");
+        foreach (var bytes in new[] { new byte[0], new byte[3], new byte[16] })
+            for (uint type = 0; type < 32; type++)
+                Check(type == 14 || ReferenceEquals(new ConstantRow { Type = type, Value = bytes }.TypedValue, bytes), "no value");
+        Check(Value(2, 2) is byte[] && Value(14, 97, 0, 98) is byte[] && Value(18, 1, 0, 0, 0) is byte[], "other bytes");
     }
 
     static void NewerFunctions(byte[] root)
@@ -486,6 +550,8 @@ static class Tests
         ClosedHalfway(File.ReadAllBytes(Path.Combine(samples, "greeter.root")));
         Closed(File.ReadAllBytes(Path.Combine(samples, "one_module.dll")));
         NewerFunctions(File.ReadAllBytes(Path.Combine(samples, "greeter.root")));
+        Constants();
+        Newer("clim_", () => Names(Path.Combine(samples, "members.dll")));
         Newer("clim_embed", () =>
         {
             StrongNames(File.ReadAllBytes(Path.Combine(samples, "members.dll")));

@@ -24,7 +24,8 @@ from typing import Optional
 
 from . import rows
 from ._library import Unsupported, supports
-from .assembly import Assembly, Source, Table, fault_in, fault_of, header_of, read_source
+from .assembly import Assembly, Source, Table, fault_in, fault_of, header_of, offset_in, read_source
+from .flags import FieldFlags, MethodFlags, ParamFlags, TypeFlags
 from .rows import Row
 from .tables import Tables
 from .values import (
@@ -51,8 +52,11 @@ __all__ = [
     "Directory",
     "EmbedError",
     "Fault",
+    "FieldFlags",
     "Header",
     "Location",
+    "MethodFlags",
+    "ParamFlags",
     "Refusal",
     "Row",
     "Signature",
@@ -61,9 +65,11 @@ __all__ = [
     "Table",
     "Tables",
     "Token",
+    "TypeFlags",
     "Unsupported",
     "check",
     "compare",
+    "offset_of",
     "open",
     "read_header",
     "rows",
@@ -127,3 +133,17 @@ def read_header(source: Source) -> Header:
         OSError: The file cannot be read.
     """
     return header_of(read_source(source))
+
+
+def offset_of(source: Source, rva: int, size: int) -> Optional[int]:
+    """The offset in a file of `size` bytes at a relative virtual address, or `None` if the file does not have them (II.25.3).
+
+    They are in the first section that contains all of them. Only the PE headers are checked, and a file that is no image has
+    no such bytes.
+
+    Raises:
+        OSError: The file cannot be read.
+        ValueError: A number is negative, or has more than 32 bits.
+        Unsupported: The library is older than this package.
+    """
+    return offset_in(read_source(source), rva, size)

@@ -198,6 +198,9 @@ _NEWER: dict[str, tuple[Any, ...]] = {
     "clim_compare": (c_size_t, _VIEW, _VIEW, POINTER(DifferenceStruct)),
     "clim_tables": (c_size_t, *[c_void_p, c_size_t] * 4, POINTER(RefusalStruct)),
     "clim_embed": (c_size_t, *[c_void_p, c_size_t] * 2, c_uint8, c_void_p, c_size_t, _FAULT),
+    "clim_offset_of": (c_bool, c_void_p, c_size_t, c_uint32, c_uint32, POINTER(c_size_t)),
+    "clim_row_name": (c_size_t, _VIEW, c_uint32, c_void_p, c_size_t),
+    "clim_declaration": (c_size_t, _VIEW, c_uint32, c_void_p, c_size_t),
 }
 
 
@@ -282,6 +285,8 @@ def written_text(call: Callable[..., int], *arguments: Any) -> Optional[str]:
             return buffer.raw[:length].decode()
         if length == TOO_LONG:
             return None
+        if length == NO_MEMORY:
+            raise MemoryError
         room = length
 
 

@@ -70,7 +70,7 @@ _KEYS = {
 }
 # The streams that the standard names (II.24.2.2).
 _STREAMS = ("#~", "#Strings", "#US", "#GUID", "#Blob")
-# The largest token, and the largest budget.
+# The largest token, address or size, and the largest budget.
 _LARGEST_TOKEN, _LARGEST_BUDGET = (1 << 32) - 1, (1 << 64) - 1
 
 
@@ -129,6 +129,17 @@ def header_of(data: bytes) -> Header:
         raise fault_of(fault)
     fields = [getattr(header, name) for name in Header._fields]
     return Header(*(Directory(it.rva, it.size) if isinstance(it, _c.DirectoryStruct) else it for it in fields))
+
+
+def offset_in(data: bytes, rva: int, size: int) -> Optional[int]:
+    """The offset in a file of bytes at an address, or `None` if the file does not have them."""
+    span = operator.index(rva), operator.index(size)
+    for number in span:
+        if not 0 <= number <= _LARGEST_TOKEN:
+            raise ValueError(f"{number} is not from 0 to {_LARGEST_TOKEN}")
+    offset = ctypes.c_size_t()
+    found = library.clim_offset_of(address_of(data), len(data), *span, ctypes.byref(offset))
+    return offset.value if found else None
 
 
 def _read_streams(data: bytes, root: int) -> Iterator[Tuple[str, int, int]]:
@@ -355,11 +366,84 @@ class Assembly:
 
     # -- look-ups
 
-    def find_type(self, namespace: str, name: str) -> Optional[TypeDef]:
-        """The first type with a namespace and a name, or `None`. A nested type has its own name and namespace."""
+    @overload
+    def find_type(self, namespace: str, /) -> Optional[TypeDef]: ...
+    @overload
+    def find_type(self, namespace: str, name: str) -> Optional[TypeDef]: ...
+    def find_type(self, namespace: str, name: Optional[str] = None) -> Optional[TypeDef]:
+        """The first type with a namespace and a name, or `None`. A nested type has its own name and namespace.
+
+        With one argument, the first type whose full name it is: `"System.String"`, or `"Hello.Greeter/Settings"` for a type
+        that is nested in another. All before the last dot is the namespace.
+        """
+        if name is None:
+            return self._find_full_name(namespace)
         space, own = str.encode(namespace), str.encode(name)
         row = library.clim_find_type(self._view(), address_of(space), len(space), address_of(own), len(own))
         return self.types.row(row) if row else None
+
+    def _find_full_name(self, full_name: str) -> Optional[TypeDef]:
+        """The first type with a full name. Its outermost type is nested in no other."""
+        outermost, *inner = full_name.split("/")
+        namespace, _, name = outermost.rpartition(".")
+        found = self.find_type(namespace, name)
+        if found is not None and found.enclosing_type is not None:
+            its = namespace, name
+            found = next((it for it in self.types if (it.namespace, it.name) == its and it.enclosing_type is None), None)
+        for part in inner:
+            if found is None:
+                break
+            found = next((it for it in found.nested_types if it._own_name == part), None)
+        return found
+
+    def name_of(self, token: int) -> str:
+        """The name of the row of a token in the notation of ILAsm (II.5.3): `"Hello.Greeter::Greet"`, `"N.Outer/Inner"`.
+
+        A name that is no identifier is quoted, as in `"'<Module>'"`; so the text is ASCII. A row without a name is `".."`.
+
+        Raises:
+            KeyError: No table has the number.
+            IndexError: The table has no such row.
+            OverflowError: The name has more than 65,536 bytes, as in crafted files.
+            Unsupported: The library is older than this package.
+        """
+        return self._row_text(library.clim_row_name, self.row(token))
+
+    def declaration(self, token: int) -> str:
+        """The declaration of the type, field, method or property of a token, in the notation of ILAsm.
+
+        Of a type that is its full name (II.10.1), of a field its signature and its own name (II.16.1):
+        `"class System.Type count"`, of a method (II.15.3) `"string Hello.Greeter::Greet(string name, int32 times)"`, and of
+        a property (II.17) `"instance int32 Hello.Greeter::Item(string)"`. The names in it are those of `name_of`.
+
+        Raises:
+            KeyError: No table has the number, or its rows have no declarations.
+            IndexError: The table has no such row.
+            OverflowError: The declaration has more than 65,536 bytes, as in crafted files.
+            MemoryError: Memory ran out.
+            Unsupported: The library is older than this package.
+        """
+        row = self.row(token)
+        text = self._row_text(library.clim_declaration, row)
+        if not text:
+            raise KeyError(f"rows of {row.table.name} have no declarations")
+        return text
+
+    def bytes_at(self, rva: int, size: int) -> Optional[bytes]:
+        """The bytes of the file at an address (II.25.3), or `None` if the file does not have all of them.
+
+        Such addresses are the RVAs of methods and of the data of fields, and those in `header`.
+
+        Raises:
+            ValueError: It is a bare root, without a file around it; or a number is negative, or has more than 32 bits.
+            Unsupported: The library is older than this package.
+        """
+        data = self._data
+        self._view()
+        if self._bare:
+            raise ValueError("a bare root has no file around it")
+        offset = offset_in(data, rva, size)
+        return None if offset is None else data[offset : offset + size]
 
     def user_string(self, token: int) -> str:
         """The user string of a token such as `0x70000001`, as `ldstr` uses it (II.24.2.4).
@@ -488,6 +572,13 @@ class Assembly:
                 groups.setdefault(token, []).append(row)
             self._groups[table, column] = groups
         return groups
+
+    def _row_text(self, call: Any, row: Row) -> str:
+        """The text that a call writes of a row."""
+        text = _c.written_text(call, self._view(), row.token)
+        if text is None:
+            raise OverflowError("the text of the row has more than 65,536 bytes")
+        return text
 
     def _signature_text(self, row: Row, column: str, is_long: bool) -> Optional[str]:
         """The text of a signature; `None` if it is too long. Rows with the same long signature share its text."""

@@ -23,6 +23,7 @@ import uuid
 from typing import TYPE_CHECKING, Any, Dict, Generic, List, Optional, Type, TypeVar, Union, overload
 
 from . import values
+from .flags import FieldFlags, MethodFlags, ParamFlags, TypeFlags
 from .values import Start, Token
 
 if TYPE_CHECKING:
@@ -164,6 +165,17 @@ class _Named(Row):
     name: Cell[str] = Cell("Name")
 
 
+class _Declared(Row):
+    """A row with a declaration."""
+
+    __slots__ = ()
+
+    @property
+    def declaration(self) -> str:
+        """The declaration in the notation of ILAsm; it raises what `Assembly.declaration` raises."""
+        return self.assembly.declaration(self.token)
+
+
 class _NamedType(Row):
     """A type: a row of TypeDef, TypeRef or ExportedType."""
 
@@ -183,7 +195,7 @@ class _NamedType(Row):
         parts: List[str] = []
         row: Optional[_NamedType] = self
         while row is not None and len(parts) < DEPTH:
-            parts.append(f"{row.namespace}.{row.name}" if row.namespace else row.name)
+            parts.append(row._own_name)
             row = row.enclosing_type
         return "/".join(reversed(parts if row is None else [*parts, ".."]))
 
@@ -191,6 +203,11 @@ class _NamedType(Row):
     def enclosing_type(self) -> Optional[_NamedType]:
         """The type that directly encloses this one, or `None`."""
         raise NotImplementedError
+
+    @property
+    def _own_name(self) -> str:
+        """The name after its namespace and a dot, unless the namespace is empty."""
+        return f"{self.namespace}.{self.name}" if self.namespace else self.name
 
 
 class Module(_Named, table=0x00):
@@ -223,7 +240,7 @@ class TypeRef(_NamedType, table=0x01):
         return scope if isinstance(scope, TypeRef) else None
 
 
-class TypeDef(_NamedType, table=0x02):
+class TypeDef(_NamedType, _Declared, table=0x02):
     """A type (II.22.37)."""
 
     __slots__ = ()
@@ -232,6 +249,11 @@ class TypeDef(_NamedType, table=0x02):
     Extends: Cell[Optional[Token]] = Cell()
     FieldList: Cell[Start] = Cell()
     MethodList: Cell[Start] = Cell()
+
+    @property
+    def flags(self) -> TypeFlags:
+        """The cell `Flags`, with names for its bits (II.23.1.15)."""
+        return TypeFlags(self.Flags)
 
     @property
     def base(self) -> Any:
@@ -293,7 +315,7 @@ class TypeDef(_NamedType, table=0x02):
         return owners[0].members(owners[0].member_table) if owners else []
 
 
-class Field(_Named, table=0x04):
+class Field(_Named, _Declared, table=0x04):
     """A field (II.22.15)."""
 
     __slots__ = ()
@@ -303,6 +325,11 @@ class Field(_Named, table=0x04):
 
     #: The signature of the field (II.23.2.4).
     signature: Cell[values.Signature] = _SignatureCell("Signature")
+
+    @property
+    def flags(self) -> FieldFlags:
+        """The cell `Flags`, with names for its bits (II.23.1.5)."""
+        return FieldFlags(self.Flags)
 
     @property
     def declaring_type(self) -> TypeDef:
@@ -316,7 +343,7 @@ class Field(_Named, table=0x04):
         return constant
 
 
-class MethodDef(_Named, table=0x06):
+class MethodDef(_Named, _Declared, table=0x06):
     """A method (II.22.26)."""
 
     __slots__ = ()
@@ -329,6 +356,11 @@ class MethodDef(_Named, table=0x06):
 
     #: The signature of the method (II.23.2.1).
     signature: Cell[values.Signature] = _SignatureCell("Signature")
+
+    @property
+    def flags(self) -> MethodFlags:
+        """The cell `Flags`, with names for its bits (II.23.1.10)."""
+        return MethodFlags(self.Flags)
 
     @property
     def params(self) -> List[Param]:
@@ -359,6 +391,11 @@ class Param(_Named, table=0x08):
 
     Flags: Cell[int] = Cell()
     Sequence: Cell[int] = Cell()
+
+    @property
+    def flags(self) -> ParamFlags:
+        """The cell `Flags`, with names for its bits (II.23.1.13)."""
+        return ParamFlags(self.Flags)
 
     @property
     def method(self) -> MethodDef:
@@ -406,6 +443,20 @@ class Constant(Row, table=0x0B):
     Type: Cell[int] = Cell()
     Parent: Cell[Token] = Cell()
     Value: Cell[bytes] = Cell()
+
+    @property
+    def parent(self) -> Any:
+        """The row that has the constant: of Field, Param or Property."""
+        return self._row(self.Parent)
+
+    @property
+    def value(self) -> Union[bool, int, float, str, bytes, None]:
+        """The value, by its type (II.23.1.16): an `int`, a `float`, a `bool`, a `str`, or `None` for a null reference.
+
+        A character is a `str` too. Unpaired surrogates stay unchanged. If the bytes are not those of a value of the type,
+        the value is the bytes.
+        """
+        return values.constant_of(self.Type, self.Value)
 
 
 class CustomAttribute(Row, table=0x0C):
@@ -527,7 +578,7 @@ class PropertyMap(Row, table=0x15):
     PropertyList: Cell[Start] = Cell()
 
 
-class Property(_Named, table=0x17):
+class Property(_Named, _Declared, table=0x17):
     """A property (II.22.34)."""
 
     __slots__ = ()

@@ -3,7 +3,8 @@
 from __future__ import annotations
 
 import enum
-from typing import TYPE_CHECKING, NamedTuple, Optional, Tuple
+import struct
+from typing import TYPE_CHECKING, NamedTuple, Optional, Tuple, Union
 
 from ._library import explanation
 
@@ -12,6 +13,9 @@ if TYPE_CHECKING:
 
 # The number of bytes from which on a signature is long.
 _LONG = 256
+# The types of constants (II.23.1.16): a boolean, a character, numbers by their formats, a string, and a null reference.
+_BOOLEAN, _CHAR, _STRING, _CLASS = 0x02, 0x03, 0x0E, 0x12
+_NUMBERS = {0x04: "<b", 0x05: "<B", 0x06: "<h", 0x07: "<H", 0x08: "<i", 0x09: "<I", 0x0A: "<q", 0x0B: "<Q", 0x0C: "<f", 0x0D: "<d"}
 
 
 class Fault(Exception):
@@ -209,6 +213,19 @@ class Signature(bytes):
         if text is None:
             raise OverflowError("the text of the signature has more than 65,536 bytes")
         return text
+
+
+def constant_of(type_: int, blob: bytes) -> Union[bool, int, float, str, bytes, None]:
+    """The value of a constant of a type (II.22.9, II.23.1.16); the bytes themselves if they are none."""
+    form = _NUMBERS.get(type_)
+    if form is not None and len(blob) == struct.calcsize(form):
+        number: Union[int, float] = struct.unpack(form, blob)[0]
+        return number
+    if type_ == _BOOLEAN and blob in (b"\0", b"\1"):
+        return blob == b"\1"
+    if (type_ == _STRING and len(blob) % 2 == 0) or (type_ == _CHAR and len(blob) == 2):
+        return blob.decode("utf-16-le", "surrogatepass")
+    return None if type_ == _CLASS and blob == bytes(4) else blob
 
 
 class Directory(NamedTuple):

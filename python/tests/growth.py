@@ -39,6 +39,15 @@ def read_names(assembly):
     return [row.full_name for row in assembly.types]
 
 
+def read_row_names(assembly):
+    return [assembly.name_of(row.token) for row in assembly.types]
+
+
+def find_nested(assembly):
+    """A type by its full name, which several types have as theirs but for those that enclose them."""
+    return assembly.find_type(assembly.types[len(assembly.types) - 1].full_name)
+
+
 def read_attributes(assembly):
     return [row.custom_attributes for row in assembly.types]
 
@@ -83,6 +92,9 @@ CASES = [
     (seconds, read_heaps, "many_streams"),
     (seconds, read_names, "nested_in_one"),
     (seconds, read_names, "nested_out_of_order"),
+    (seconds, read_row_names, "nested_in_one"),
+    (seconds, read_row_names, "nested_out_of_order"),
+    (seconds, find_nested, "nested_in_one"),
     (seconds, read_attributes, "attributes_out_of_order"),
     (seconds, read_texts, "one_signature"),
 ]

@@ -406,7 +406,7 @@ class Reading(unittest.TestCase):
                         its = getattr(row, name)
                         self.assertEqual(its.token if its else None, row[column])
                     for name in dir(row):
-                        if not name.startswith("_"):
+                        if not name.startswith("_") and (name != "declaration" or clim.supports("clim_declaration")):
                             getattr(row, name)
 
     def test_many_look_ups_find_the_same_rows(self):
@@ -730,6 +730,163 @@ class Features(unittest.TestCase):
         return version + streams + struct.pack("<IBBBBQQ", 0, 2, 0, 0, 1, 0, 0x16003301FA00) + user
 
 
+class Names(unittest.TestCase):
+    """Names, declarations, addresses and constants."""
+
+    PATH = SAMPLES / "members.dll"
+
+    def lacks(self, *functions):
+        """Whether the library lacks one of some functions. Then the calls say so."""
+        missing = [it for it in functions if not clim.supports(it)]
+        if missing:
+            with clim.open(self.PATH) as assembly:
+                for call in (
+                    lambda: assembly.name_of(0x02000001),
+                    lambda: assembly.declaration(0x02000001),
+                    lambda: assembly.bytes_at(0, 0),
+                    lambda: clim.offset_of(self.PATH, 0, 0),
+                ):
+                    self.assertRaises(clim.Unsupported, call)
+        return bool(missing)
+
+    def test_names_and_declarations(self):
+        if self.lacks("clim_row_name", "clim_declaration"):
+            return
+        for path, assembly in opened():
+            for table in assembly:
+                for row in table:
+                    name = assembly.name_of(row.token)
+                    self.assertTrue(name and name.isascii(), path)
+                    if not isinstance(row, (rows.TypeDef, rows.Field, rows.MethodDef, rows.Property)):
+                        self.assertFalse(hasattr(row, "declaration"))
+                        self.assertRaises(KeyError, assembly.declaration, row.token)
+                    elif isinstance(row, rows.TypeDef):
+                        self.assertEqual(row.declaration, name)
+                    elif isinstance(row, rows.Field):
+                        own = name.rpartition("::")[2]
+                        self.assertTrue(row.declaration.endswith(f" {own}") and (own == row.name or own[0] == "'"), path)
+                    else:
+                        self.assertIn(name, row.declaration)
+            for token, error in ((0x02000000, IndexError), (0x02FFFFFF, IndexError), (0x70000001, KeyError), (-1, KeyError), (1 << 32, KeyError)):
+                self.assertRaises(error, assembly.name_of, token)
+                self.assertRaises(error, assembly.declaration, token)
+        with clim.open(SAMPLES / "greeter.root", bare=True) as assembly:
+            self.assertEqual(assembly.name_of(0x02000001), "'<Module>'")
+            self.assertEqual(assembly.types[1].methods[1].declaration, "string Hello.Greeter::Greet(string name, int32 times)")
+            greet = assembly.methods[1]
+        self.assertRaises(ValueError, lambda: greet.declaration)
+        self.assertRaises(ValueError, assembly.name_of, 0x02000001)
+
+    def test_a_text_that_is_too_long(self):
+        if self.lacks("clim_row_name", "clim_declaration") or not clim.supports("clim_tables"):
+            return
+        for length, error in ((65536, None), (65537, OverflowError)):
+            tables = clim.Tables()
+            # Names of more than 1,023 bytes are quoted.
+            tables.add("TypeDef", TypeName="a" * (length - 2))
+            with clim.open(tables.root(), bare=True) as assembly:
+                if error is None:
+                    self.assertEqual(len(assembly.types[0].declaration), length)
+                else:
+                    self.assertRaises(error, assembly.name_of, 0x02000001)
+                    self.assertRaises(error, assembly.declaration, 0x02000001)
+
+    def test_memory_that_runs_out(self):
+        with clim.open(self.PATH) as assembly:
+            out = unittest.mock.Mock(return_value=_library.NO_MEMORY)
+            self.assertRaises(MemoryError, assembly._row_text, out, assembly.types[0])
+
+    def test_types_by_their_full_names(self):
+        for path, assembly in opened():
+            for its in assembly.types:
+                found = assembly.find_type(its.full_name)
+                # Of a name that is too long the outermost types are not known.
+                if its.full_name.startswith("../"):
+                    self.assertIsNone(found, path)
+                else:
+                    self.assertEqual(found.full_name, its.full_name, path)
+            for name in ("", "/", "No.Type", "No/Type", "Greeter", "Hello.Greeter/", "/Hello.Greeter", "/" * 1000):
+                self.assertIsNone(assembly.find_type(name), path)
+        with clim.open(SAMPLES / "greeter.root", bare=True) as assembly:
+            greeter = assembly.types[1]
+            self.assertEqual(assembly.find_type("Hello.Greeter"), greeter)
+            self.assertEqual(assembly.find_type("Hello", "Greeter"), greeter)
+            self.assertEqual(assembly.find_type(namespace="Hello", name="Greeter"), greeter)
+
+    def test_a_nested_type_is_not_one_of_its_name(self):
+        if not clim.supports("clim_tables"):
+            return
+        tables = clim.Tables()
+        outer = [tables.add("TypeDef", TypeName=name, TypeNamespace="N") for name in ("A", "B")]
+        inner = [tables.add("TypeDef", TypeName="Inner") for _ in outer]
+        alone = tables.add("TypeDef", TypeName="Inner")
+        deep = tables.add("TypeDef", TypeName="Deep", TypeNamespace="N.M")
+        for pair in (*zip(inner, outer), (deep, inner[1])):
+            tables.add("NestedClass", *pair)
+        with clim.open(tables.root(), bare=True) as assembly:
+            wanted = {"N.A/Inner": inner[0], "N.B/Inner": inner[1], "Inner": alone, "N.B/Inner/N.M.Deep": deep}
+            self.assertEqual({name: assembly.find_type(name).token for name in wanted}, wanted)
+            self.assertEqual([assembly.row(it).full_name for it in wanted.values()], list(wanted))
+            self.assertIsNone(assembly.find_type("N.A/Inner/N.M.Deep"))
+
+    def test_addresses(self):
+        if self.lacks("clim_offset_of"):
+            return
+        data, header = self.PATH.read_bytes(), clim.read_header(self.PATH)
+        rva, size = header.metadata
+        self.assertEqual(clim.offset_of(self.PATH, rva, size), header.root_start)
+        self.assertEqual(clim.offset_of(bytearray(data), rva, 0), header.root_start)
+        for at in ((0, 1), (rva, size + len(data)), (0xFFFFFFFF, 0xFFFFFFFF)):
+            self.assertIsNone(clim.offset_of(data, *at))
+        self.assertIsNone(clim.offset_of(b"", rva, size))
+        self.assertIsNone(clim.offset_of(data[: header.root_end - 1], rva, size))
+        with clim.open(data) as assembly:
+            self.assertEqual(assembly.bytes_at(rva, size), data[header.root_start : header.root_end])
+            self.assertTrue(all(len(assembly.bytes_at(it.RVA, 1)) == 1 for it in assembly.methods if it.RVA))
+            self.assertEqual((assembly.bytes_at(rva, 0), assembly.bytes_at(0, 1)), (b"", None))
+            for at in ((-1, 1), (1, -1), (1 << 32, 1), (1, 1 << 32)):
+                self.assertRaises(ValueError, assembly.bytes_at, *at)
+                self.assertRaises(ValueError, clim.offset_of, data, *at)
+            self.assertRaises(TypeError, assembly.bytes_at, 1.5, 1)
+        self.assertRaises(ValueError, assembly.bytes_at, rva, size)
+        with clim.open(SAMPLES / "greeter.root", bare=True) as assembly:
+            self.assertRaises(ValueError, assembly.bytes_at, rva, 4)
+
+    def test_flags(self):
+        with clim.open(SAMPLES / "greeter.root", bare=True) as assembly:
+            constructor, greet = assembly.methods
+            self.assertEqual(greet.flags, greet.Flags)
+            self.assertEqual(greet.flags & ~7, clim.MethodFlags.STATIC | clim.MethodFlags.HIDE_BY_SIG)
+            self.assertIn(clim.MethodFlags.RT_SPECIAL_NAME, constructor.flags)
+            self.assertTrue(all(int(it.flags) == it.Flags for table in ("TypeDef", "Field", "MethodDef", "Param") for it in assembly[table]))
+        for flags in (clim.TypeFlags, clim.FieldFlags, clim.MethodFlags, clim.ParamFlags):
+            self.assertTrue(all(bin(it).count("1") == 1 for it in flags))
+            self.assertEqual(int(flags((1 << 32) - 1)), (1 << 32) - 1)
+
+    def test_constants(self):
+        value = clim.values.constant_of
+        for type_, form, number in (
+            (0x04, "<b", -1), (0x05, "<B", 255), (0x06, "<h", -2), (0x07, "<H", 65534), (0x08, "<i", -3), (0x09, "<I", 1 << 31),
+            (0x0A, "<q", -4), (0x0B, "<Q", 1 << 63), (0x0C, "<f", 1.5), (0x0D, "<d", -1e300),
+        ):
+            found = value(type_, struct.pack(form, number))
+            self.assertEqual((found, type(found)), (number, type(number)))
+            self.assertEqual(value(type_, struct.pack(form, number) + b"\0"), struct.pack(form, number) + b"\0")
+        self.assertEqual((value(0x02, b"\1"), value(0x02, b"\0")), (True, False))
+        self.assertEqual((value(0x03, b"A\0"), value(0x0E, b"a\0\x41\xd8"), value(0x0E, b"")), ("A", "a\ud841", ""))
+        self.assertIsNone(value(0x12, bytes(4)))
+        for type_, blob in ((0x02, b"\2"), (0x02, b""), (0x03, b"A"), (0x0E, b"abc"), (0x12, b"\1\0\0\0"), (0, b"a"), (1 << 31, b"")):
+            self.assertEqual(value(type_, blob), blob)
+        if clim.supports("clim_tables"):
+            tables = clim.Tables()
+            tables.add("TypeDef", TypeName="a")
+            field = tables.add("Field", Flags=0x56, Name="count", Signature=b"\x06\x08")
+            tables.add("Constant", 8, field, struct.pack("<i", -7))
+            with clim.open(tables.root(), bare=True) as assembly:
+                constant = assembly.fields[0].constant
+                self.assertEqual((constant.value, constant.parent), (-7, assembly.fields[0]))
+
+
 class Built(unittest.TestCase):
     """Tables that a program fills."""
 
@@ -965,9 +1122,13 @@ class Embedded(unittest.TestCase):
 
 
 class Examples(doctest.DocTestParser):
-    """The examples of README.md, without those of its last sections if the library is too old for them."""
+    """The examples of README.md, without those from some lines on if the library is too old for them."""
 
-    NEWER = (("## New metadata\n", "clim_tables"), ("## A copy of a file\n", "clim_embed"))
+    NEWER = (
+        ("Names and declarations are those of ILAsm", "clim_declaration"),
+        ("## New metadata\n", "clim_tables"),
+        ("## A copy of a file\n", "clim_embed"),
+    )
 
     def get_examples(self, string, name="<string>"):
         for heading, function in self.NEWER:

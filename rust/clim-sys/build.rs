@@ -25,6 +25,9 @@ const NEWER: &[&str] = &[
     "clim_compare",
     "clim_tables",
     "clim_embed",
+    "clim_offset_of",
+    "clim_row_name",
+    "clim_declaration",
 ];
 
 /// The folder of the library by pkg-config, or why there is none.

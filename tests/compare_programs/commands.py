@@ -23,7 +23,7 @@ COMMANDS = """
 1 check --budget N FILES
 1 check -q --budget N FILES
 2 check -0 LIST
-1 check --files-from - LIST
+1 check -0 --files-from - LIST
 1 check -q -0 LIST
 1 check --budget N -0 LIST
 1 check --json FILES

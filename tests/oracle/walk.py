@@ -3,8 +3,12 @@
 import bisect
 import json
 
-# The number of cells of a heap entry that have a line.
-MOST_CELLS = 10
+# The number of cells of a heap entry, and of methods, that have a line.
+MOST_CELLS = MOST_METHODS = 10
+# The number of data sections of a method body that are looked at.
+MOST_DATA = 64
+# The streams of the standard, in the order of their lines (II.24.2.2).
+STREAMS = (b"#Strings", b"#US", b"#GUID", b"#Blob", b"#~")
 # The layers of faults: the PE headers, the CLI header, the root and its stream headers, the table stream; and the last one.
 PE_LAYER, CLI_LAYER, ROOT_LAYER, TABLE_LAYER, LAST_LAYER = 1, 2, 3, 4, 8
 
@@ -151,6 +155,8 @@ def structure_line(line):
     what = value["structure"]
     if keys[3:] == ["stream", "token"]:
         what = f"{what} {value['token']}" if value["stream"] == "#US" else None
+    elif what == "method" and keys[3:] == ["token", "name"]:
+        what = f"method {value['token']} {escaped(value['name'].encode())}"
     elif what == "padding" and keys[3:] == ["table", "row"]:
         what = f"table {NUMBERS[value['table']]:02X} {value['table']} row {value['row']} padding"
     elif keys[3:] in (["table", "row", "column"], ["stream", "table", "row", "column"]):
@@ -187,6 +193,8 @@ class Walk:
         if layer is None:
             self.entries()
             self.user_strings()
+            if not bare:
+                self.methods()
 
     def within(self, start, size):
         first = bisect.bisect_left(self.offsets, start)
@@ -274,16 +282,22 @@ class Walk:
             ("Signature", 4), ("MajorVersion", 2), ("MinorVersion", 2), ("Reserved", 4), ("Length", 4),
             ("Version", version), ("Flags", 2), ("Streams", 2),
         ])
-        streams = {}
+        streams, others = {}, []
         header = root + 16 + version + 4
         for _ in range(number(data, header - 2, 2)):
             name = data[header + 8:data.index(0, header + 8)]
             length = 8 + padded(len(name) + 1)
             self.put(header, length, f"stream header {escaped(name)}")
             self.fields("stream header", header, [("Offset", 4), ("Size", 4), ("Name", length - 8)])
-            streams[name] = root + number(data, header, 4), number(data, header + 4, 4)
+            start, count = number(data, header, 4), number(data, header + 4, 4)
+            if name in STREAMS:
+                streams[name] = root + start, count
+            else:
+                others.append((root + start, min(count, max(size - start, 0)), escaped(name)))
             header += length
-        for name in (b"#Strings", b"#US", b"#GUID", b"#Blob", b"#~"):
+        for start, count, name in others:
+            self.put(start, count, f"stream {name}")
+        for name in STREAMS:
             if name in streams:
                 self.put(*streams[name], f"stream {name.decode()}")
         self.streams = streams
@@ -365,3 +379,46 @@ class Walk:
                 break
             self.put(start + at, min(sum(length), size - at), f"user string {0x70000000 + at:08x}")
             at += sum(length)
+
+    def methods(self):
+        """The methods with code of CIL whose bodies contain a byte (II.22.26, II.23.1.10)."""
+        counts = dict.fromkeys(self.offsets, 0)
+        for row in range(1, self.counts[0x06] + 1):
+            cells = {column: cell for _, column, _, cell in self.cells(0x06, row)}
+            at = [raw + cells["RVA"] - start for start, size, raw in self.sections if start <= cells["RVA"] < start + size]
+            if not cells["RVA"] or cells["ImplFlags"] % 4 or not at or at[0] >= len(self.data):
+                continue
+            size = self.body_size(at[0])
+            start, _ = self.streams.get(b"#Strings", (0, 0))
+            start += cells["Name"]
+            name = self.data[start:self.data.index(0, start)] if cells["Name"] else b""
+            for offset in self.within(at[0], size or 0):
+                if self.lines[offset] and counts[offset] < MOST_METHODS:
+                    counts[offset] += 1
+                    self.lines[offset].append(f"{at[0]} {size} method {0x06000000 + row:08x} {escaped(name)}")
+
+    def body_size(self, start):
+        """The number of bytes of the body that begins at an offset (II.25.4), if the file has its header and its data."""
+        data = self.data
+        if data[start] % 4 == 2:
+            return 1 + data[start] // 4
+        if data[start] % 4 != 3:
+            return 1
+        if start + 12 > len(data):
+            return None
+        flags = number(data, start, 2)
+        end = 4 * (flags >> 12) + number(data, start + 4, 4)
+        if not flags & 8:
+            return end
+        for _ in range(MOST_DATA):
+            end = padded(end)
+            if start + end + 4 > len(data):
+                return None
+            kind = data[start + end]
+            size = number(data, start + end, 4) >> 8 if kind & 0x40 else data[start + end + 1]
+            if size < 4:
+                return None
+            end += size
+            if not kind & 0x80:
+                return end
+        return None

@@ -16,7 +16,7 @@ use Rattle.embedding.specs.declared.strong_name.StrongName.TheVariants.{Keep, Cl
 use Rattle.embedding.specs.Embedded.{IsEmbedded}
 use Rattle.embedding.specs.Errors.{IsReason, MatchFault}
 use Rattle.c_values.specs.Copies.{IsAsked, IsCanonicalRootOf, IsNoCopy, IsStrongName, IsWritten}
-use Rattle.c_values.specs.Texts.{HasWhole}
+use Rattle.c_texts.specs.Texts.{HasWhole}
 
 -- the canonical root of each model of the view of a file is that of the file
 pub canonical_of : (file root view : List ℕ) (header : CliHeader) → HasImage file header → view ≡ root_in file header

@@ -1,8 +1,3 @@
-pub mod Buffers
-pub mod GuidLemmas
-pub mod HexLemmas
-pub mod SinkLemmas
-pub mod UserLemmas
 pub mod CellLemmas
 pub mod RowLemmas
 pub mod OneLemmas
@@ -10,3 +5,4 @@ pub mod RefusedLemmas
 pub mod ReasonLemmas
 pub mod StepLemmas
 pub mod CopyLemmas
+pub mod LocationLemmas

@@ -13,7 +13,7 @@ use Rattle.embedding.specs.declared.error.EmbedError.{EmbedError}
 use Rattle.embedding.specs.declared.error.EmbedError.TheVariants.{File, Root, Unlike, Headers, Occupied, NoRoom, TooLong, Memory}
 use Rattle.embedding.specs.Embedded.{IsEmbedded}
 use Rattle.embedding.specs.Errors.{IsReason}
-use Rattle.c_values.specs.Texts.{HasWhole}
+use Rattle.c_texts.specs.Texts.{HasWhole}
 
 -- the number for C of what becomes of a strong name
 abbrev pub IsStrongName : ℕ → StrongName → Type 0

@@ -5,10 +5,10 @@ ghost use Rattle.metadata.specs.Rules.{rules_of_file, rules_of_metadata};
 ghost use Rattle.embedding.specs.declared.strong_name.StrongName.{StrongName as Name};
 ghost use Rattle.embedding.specs.Errors.{IsReason, MatchFault};
 ghost use Rattle.embedding.specs.Planned.{result_of};
+ghost use Rattle.c_texts.specs.Texts.{HasWhole};
 ghost use Rattle.c_values.specs.Copies.{IsAsked, IsCanonicalRootOf, IsCopied, IsFaultOfRoot, IsNoCopy, IsStrongName, IsWritten};
-ghost use Rattle.c_values.specs.Texts.{HasWhole};
 
-use crate::parts::ROOT_LIMIT;
+use c_texts::ROOT_LIMIT;
 use embedding::{EmbedError, EmbedPlan, StrongName, plan_embedding};
 use opening::open_image;
 use std::alloc::Global;

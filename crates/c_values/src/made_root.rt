@@ -6,9 +6,9 @@ ghost use Rattle.c_values.specs.Given.{IsGiven};
 ghost use Rattle.c_values.specs.Refused.{IsGivenValid, IsNoRoot, MatchNoRoot};
 
 use crate::no_root::NoRoot;
-use crate::parts::ROOT_LIMIT;
 use crate::read_rows::read_tables;
 use crate::row::ClimRow;
+use c_texts::ROOT_LIMIT;
 use metadata::Refusal;
 use owned_model::Model;
 use packed::FaultCode;

@@ -1,5 +1,5 @@
 -- What a run of the program does with its arguments, and with what reading FILE gave.
-use Rattle.std.specs.Prelude.{◌≡◌, ◌≢◌, ℕ, List, ◌⊎◌, map, Option, option_map, Result, Ok, Err, MatchResult}
+use Rattle.std.specs.Prelude.{◌≡◌, ◌≢◌, ℕ, false, List, ◌⊎◌, map, Option, option_map, Result, Ok, Err, MatchResult}
 use Rattle.packed.specs.declared.code.FaultCode.{FaultCode}
 use Rattle.clap.specs.Words.{IsAmong, Text, fault_of}
 use Rattle.clap.specs.declared.error.kind.ErrorKind.{ErrorKind}
@@ -15,7 +15,10 @@ use Rattle.cli_roots.specs.Compared.{IsComparing}
 use Rattle.cli_roots.specs.Embedded.{IsEmbedding, IsRootRun}
 use Rattle.cli_roots.specs.Rewritten.{IsRewriting}
 use Rattle.cli_roots.specs.Runs.{IsFileRun, IsMixed, IsWithin}
-use Rattle.cli_runs.specs.Runs.{IsExplained, IsRunOn, IsRunOnList}
+use Rattle.cli_input.specs.declared.opened.Input.TheVariants.{File}
+use Rattle.cli_runs.specs.Extracted.{IsExtracting}
+use Rattle.cli_runs.specs.Runs.{IsExplained, IsRunOn, IsRunOnList, byte_of}
+use Rattle.cli_runs.specs.declared.report.Directories.TheVariants.{Walked}
 use Rattle.cli.specs.Tasks.{IsTask, form_of, input_of}
 use Rattle.cli.specs.declared.task.Task.{Task}
 use Rattle.cli.specs.declared.task.Task.TheVariants as task
@@ -29,9 +32,11 @@ status_of_run (Err failure) = status_of failure
 abbrev pub IsExplaining : Form → List FaultCode → Option (List ℕ) → Option (List ℕ) → ℕ → Type 0
 IsExplaining form rules before after status = (result : Result (Unit {0}) Failure) × IsExplained form rules before after result × (status ≡ status_of_run result)
 
--- only `embed` may warn of something and succeed
+-- what may write to standard error and succeed: `embed`, and a report on what is in directories
 abbrev pub MayWarn : Task → Type 0
 MayWarn (task.Embed file options) = Unit {0}
+MayWarn (task.OnFiles request) = request.directories ≡ Walked
+MayWarn (task.OnList request separator) = request.directories ≡ Walked
 MayWarn _ = ⊥
 
 -- the arguments ask for a task that may warn
@@ -45,8 +50,8 @@ module _ {W : Type 0} (contents : W → Option (List ℕ)) (before after : W) wh
 
   -- the run of a task, over files of this kind, ends with this exit code
   abbrev pub IsRunOf : {F : Type 0} → (F → Option (List ℕ)) → Task → Ask → ℕ → Type 0
-  IsRunOf file_contents (task.OnFiles request) ask status = IsRunOn request contents before after (map (λ file. file.now) ask.files.items) status
-  IsRunOf file_contents (task.OnList request) ask status = IsRunOnList request contents before after status
+  IsRunOf file_contents (task.OnFiles request) ask status = IsRunOn request contents false before after (map (λ file. file.now) ask.files.items) status
+  IsRunOf file_contents (task.OnList request separator) ask status = IsRunOnList request contents (byte_of separator) before after status
   IsRunOf file_contents (task.Rewrite file out) ask status =
       EndsWith (λ outcome. IsFileRun before after file.now
       (λ bytes. IsWithin before after ask.budget (input_of ask.bare) bytes (IsRewriting contents file_contents before after (input_of ask.bare) bytes out.now)) outcome
@@ -55,6 +60,8 @@ module _ {W : Type 0} (contents : W → Option (List ℕ)) (before after : W) wh
       EndsWith (λ outcome. IsFileRun before after file.now (λ bytes. IsRootRun before after (option_map (λ path. path.now) options.root)
       (IsEmbedding contents file_contents before after options.form options.strong_name bytes options.path.now)) outcome
       ⊎ IsMixed before after options.path.now outcome) status
+  IsRunOf file_contents (task.Extract file name) ask status =
+      EndsWith (IsFileRun before after file.now (λ bytes. IsWithin before after ask.budget File bytes (IsExtracting contents before after bytes name.now))) status
   IsRunOf file_contents (task.Compare file other options) ask status =
       EndsWith (IsFileRun before after file.now (λ left. IsFileRun before after other.now
       (λ right. IsWithin before after options.budget options.input left (IsWithin before after options.budget options.input right

@@ -1,5 +1,5 @@
 -- What the arguments ask the program to do.
-use Rattle.std.specs.Prelude.{◌≡◌, ℕ, ◌%◌, ◌^◌, Bool, true, false, List, [], ◌∷◌, ◌++◌, Option, Some, None, Result, Ok, Err, IsOkAnd, MatchOption, MatchResult, codes, if◌then◌else◌, map}
+use Rattle.std.specs.Prelude.{◌≡◌, ℕ, ◌%◌, ◌^◌, Bool, true, false, List, [], ◌∷◌, ◌++◌, ◌||◌, Option, Some, None, is_some, Result, Ok, Err, IsOkAnd, MatchOption, MatchResult, codes, if◌then◌else◌, map}
 use Rattle.std.specs.List.{All}
 use Rattle.std.specs.Borrow.{Bor}
 use Rattle.std.specs.Str.{bytes_eq}
@@ -25,6 +25,10 @@ use Rattle.cli_lines.specs.declared.parts.Form.{Form}
 use Rattle.cli_lines.specs.declared.parts.Form.TheVariants.{JsonLines, Text}
 use Rattle.cli_outline.specs.declared.subject.Subject.{Subject}
 use Rattle.cli_outline.specs.declared.subject.Subject.TheVariants as subject
+use Rattle.cli_runs.specs.declared.listed.Separator.{Separator}
+use Rattle.cli_runs.specs.declared.listed.Separator.TheVariants.{LineFeed, Nul}
+use Rattle.cli_runs.specs.declared.report.Directories.{Directories}
+use Rattle.cli_runs.specs.declared.report.Directories.TheVariants.{Refused, Walked}
 use Rattle.cli_runs.specs.declared.report.Listing.TheVariants as listing
 use Rattle.cli_runs.specs.declared.report.Naming.{Naming}
 use Rattle.cli_runs.specs.declared.report.Naming.TheVariants.{Alone, Named}
@@ -49,35 +53,60 @@ abbrev pub input_of : Bool → Input
 input_of true = BareRoot
 input_of false = File
 
--- whether files are named: not the only one, unless the arguments have `-q`
-abbrev pub naming_of : Bool → List (Bor (List ℕ)) → Naming
-naming_of false (file ∷ []) = Alone
-naming_of quiet files = Named
+-- whether files are named: not the only one, unless the arguments have `-q` or `-r`
+abbrev pub naming_of : Bool → Bool → List (Bor (List ℕ)) → Naming
+naming_of false false (file ∷ []) = Alone
+naming_of is_quiet is_recursive files = Named
+
+-- what becomes of directories, by whether the arguments have `-r`
+abbrev pub directories_of : Bool → Directories
+directories_of true = Walked
+directories_of false = Refused
 
 -- this report, as the arguments ask for it
 abbrev pub request_of : Ask → Naming → Report → Request
-request_of ask naming of = record { report = of; form = form_of ask.json; naming = naming; input = input_of ask.bare; budget = ask.budget }
+request_of ask naming of = record {
+  report = of;
+  form = form_of ask.json;
+  naming = naming;
+  directories = directories_of ask.recursive;
+  input = input_of ask.bare;
+  budget = ask.budget;
+}
 
 -- the task is a report on the files that the arguments name
-abbrev pub files_task : Ask → List (Bor (List ℕ)) → Report → Result Task Failure
-files_task ask [] of = Err (failed.Usage wrong.NoFile)
-files_task ask files of = Ok (task.OnFiles (request_of ask (naming_of ask.quiet files) of))
+abbrev pub named_task_with : Ask → List (Bor (List ℕ)) → Report → Result Task Failure
+named_task_with ask [] of = Err (failed.Usage wrong.NoFile)
+named_task_with ask files of = Ok (task.OnFiles (request_of ask (naming_of ask.quiet ask.recursive files) of))
 
--- the same; a failure if there is no such report
-abbrev pub report_task : Ask → Result Report Failure → Result Task Failure
-report_task ask (Ok of) = files_task ask ask.files.items of
-report_task ask (Err failure) = Err failure
+abbrev pub named_task : Ask → Report → Result Task Failure
+named_task ask of = named_task_with ask ask.files.items of
 
-abbrev pub IsReportTask : Ask → (Result Report Failure → Type 0) → Result Task Failure → Type 0
-IsReportTask ask is_report result = (of : Result Report Failure) × is_report of × (result ≡ report_task ask of)
+-- what follows each name in a list, by whether the arguments have `-0`
+abbrev pub separator_of : Bool → Separator
+separator_of true = Nul
+separator_of false = LineFeed
 
 -- the task is a report on the files of a list, besides which no file may be given
 abbrev pub list_task_with : Ask → List (Bor (List ℕ)) → Report → Result Task Failure
-list_task_with ask [] of = Ok (task.OnList (request_of ask Named of))
+list_task_with ask [] of = Ok (task.OnList (request_of ask Named of) (separator_of ask.null))
 list_task_with ask (file ∷ more) of = Err (failed.Usage wrong.FilesAndList)
 
 abbrev pub list_task : Ask → Report → Result Task Failure
 list_task ask of = list_task_with ask ask.files.items of
+
+-- the task is a report on the files that the arguments name, or on those of a list, which comes from the standard input alone
+abbrev pub files_task : Option (Bor (List ℕ)) → Ask → Report → Result Task Failure
+files_task None ask of = if ask.null then list_task ask of else named_task ask of
+files_task (Some word) ask of = if bytes_eq word.now (codes "-") then list_task ask of else Err (failed.Usage (wrong.NoList word))
+
+-- the same; a failure if there is no such report
+abbrev pub report_task : Ask → Result Report Failure → Result Task Failure
+report_task ask (Ok of) = files_task ask.files_from ask of
+report_task ask (Err failure) = Err failure
+
+abbrev pub IsReportTask : Ask → (Result Report Failure → Type 0) → Result Task Failure → Type 0
+IsReportTask ask is_report result = (of : Result Report Failure) × is_report of × (result ≡ report_task ask of)
 
 -- ---- the reports
 
@@ -86,14 +115,6 @@ abbrev pub verdict_of : Bool → Bool → Verdict
 verdict_of true locates = Quiet
 verdict_of false true = Explained
 verdict_of false false = Line
-
--- the task is a report on the files that the arguments name, or on those of a list, which comes from the standard input alone
-abbrev pub named_or_listed_from : Option (Bor (List ℕ)) → Ask → Report → Result Task Failure
-named_or_listed_from None ask of = if ask.null then list_task ask of else report_task ask (Ok of)
-named_or_listed_from (Some word) ask of = if bytes_eq word.now (codes "-") then list_task ask of else Err (failed.Usage (wrong.NoList word))
-
-abbrev pub named_or_listed : Ask → Report → Result Task Failure
-named_or_listed ask of = named_or_listed_from ask.files_from ask of
 
 -- the failure says that this argument is not a token
 abbrev pub IsNoToken : List ℕ → Failure → Type 0
@@ -181,8 +202,8 @@ IsTokens words result = MatchResult result (IsOnTokens words) (IsFirstNoToken wo
 
 -- the report of `where`: what has the byte if the argument is an offset; else the failure says that it is not, or is missing
 abbrev pub IsWhere : Option (Bor (List ℕ)) → Result Report Failure → Type 0
-IsWhere second result =
-    MatchOption second (result ≡ Err (failed.Usage wrong.NoFile))
+IsWhere part result =
+    MatchOption part (result ≡ Err (failed.Usage wrong.NoFile))
     (λ given. MatchResult result (λ made. (offset : ℕ) × IsOffset given.now offset × (made ≡ report.Where offset))
     (λ failure. IsNoOffset given.now failure × ((offset : ℕ) → ¬ IsOffset given.now offset)))
 
@@ -198,6 +219,26 @@ paths_of (Some file) (Some out) = if bytes_eq out.now (codes "-") then Err (fail
 abbrev pub task_on : (Bor (List ℕ) → Bor (List ℕ) → Task) → Result (Bor (List ℕ) × Bor (List ℕ)) Failure → Result Task Failure
 task_on of (Ok paths) = Ok (of paths.0 paths.1)
 task_on of (Err failure) = Err failure
+
+-- the arguments ask for JSON, for a list of files or for directories
+abbrev pub is_plural : Ask → Bool
+is_plural ask = ask.json || ask.null || ask.recursive || is_some ask.files_from
+
+-- the task that writes the content of the resource with this name, which takes one file, and no other form
+abbrev pub extract_with : List (Bor (List ℕ)) → Bool → Bor (List ℕ) → Result Task Failure
+extract_with (file ∷ []) false name = Ok (task.Extract file name)
+extract_with files plural name = Err (failed.Usage wrong.ExtractAlone)
+
+abbrev pub extract_task : Ask → Bor (List ℕ) → Result Task Failure
+extract_task ask name = extract_with ask.files.items (is_plural ask) name
+
+-- the task of `resources`
+abbrev pub resources_task_from : Option (Bor (List ℕ)) → Ask → Result Task Failure
+resources_task_from None ask = report_task ask (Ok report.Resources)
+resources_task_from (Some name) ask = extract_task ask name
+
+abbrev pub resources_task : Ask → Result Task Failure
+resources_task ask = resources_task_from ask.extract ask
 
 -- the task of `rewrite`
 abbrev pub rewrite_task : Option (Bor (List ℕ)) → Option (Bor (List ℕ)) → Result Task Failure
@@ -256,15 +297,17 @@ IsExplainTask words result = MatchResult result (IsExplanation words) (IsFirstNo
 abbrev pub IsTask : Subcommand → Ask → Result Task Failure → Type 0
 IsTask word.Root ask result = result ≡ report_task ask (Ok report.Root)
 IsTask word.Info ask result = result ≡ report_task ask (Ok report.Info)
-IsTask word.Check ask result = result ≡ named_or_listed ask (report.Check (verdict_of ask.quiet ask.locates))
+IsTask word.Check ask result = result ≡ report_task ask (Ok (report.Check (verdict_of ask.quiet ask.locates)))
 IsTask word.Show ask result = IsReportTask ask (IsShow ask) result
 IsTask word.Types ask result = result ≡ report_task ask (Ok (report.Listing listing.Types))
 IsTask word.Outline ask result = IsReportTask ask (λ made. IsOkAnd made (IsOutline ask.part)) result
+IsTask word.Refs ask result = result ≡ report_task ask (Ok (report.Listing listing.Refs))
+IsTask word.Resources ask result = result ≡ resources_task ask
 IsTask word.Strings ask result = result ≡ report_task ask (Ok report.Strings)
 IsTask word.Token ask result = IsReportTask ask (IsTokens ask.tokens.items) result
-IsTask word.Where ask result = IsReportTask ask (IsWhere ask.second) result
+IsTask word.Where ask result = IsReportTask ask (IsWhere ask.part) result
 IsTask word.Rewrite ask result = result ≡ rewrite_task ask.file ask.second
 IsTask word.Embed ask result = result ≡ embed_task ask
-IsTask word.Digest ask result = result ≡ named_or_listed ask report.Digest
+IsTask word.Digest ask result = result ≡ report_task ask (Ok report.Digest)
 IsTask word.Compare ask result = IsCompareTask ask result
 IsTask word.Explain ask result = IsExplainTask ask.codes.items result

@@ -13,7 +13,7 @@ use cli_faults::printed;
 use cli_files::{Stopped, out_of_memory, status};
 use cli_lines::Form;
 use cli_roots::{compare_files, embed_file, rewrite_file};
-use cli_runs::{explain_rules, run_files, run_listed};
+use cli_runs::{explain_rules, extract_file, run_files, run_listed};
 use packed::FaultCode;
 use std::alloc::Global;
 use std::io::{self, Write};
@@ -42,7 +42,7 @@ pub fn go<R: Files + Input + AllocGlobal, W: Write, E: Write>(
     // It does what the arguments ask for, with what reading the files gave. The exit code and the output are those of
     // that run.
     ensures run { Ran W.contents out.old out.new R.File.contents (map (λ word. word.now) words.now) result }
-    // If it succeeds, nothing goes to `err`, unless it is `embed`.
+    // If it succeeds, nothing goes to `err`, unless it is `embed` or directories are walked.
     ensures quiet { result ≡ 0 → (err.new ≡ err.old) ⊎ ((given : Asked) × Gives (map (λ word. word.now) words.now) given × AsksToWarn given) }
 {
     match ask(rt.alloc(), &*words) {
@@ -112,7 +112,7 @@ fn run_task<R: Files + Input + AllocGlobal, W: Write, E: Write>(
     let alloc = rt.alloc();
     match task {
         Task::OnFiles(request) => run_files(rt, &request, ask.files.as_slice(), out, err),
-        Task::OnList(request) => run_listed(rt, &request, out, err),
+        Task::OnList(request, separator) => run_listed(rt, &request, separator, out, err),
         Task::Rewrite(file, path) => {
             let outcome = rewrite_file(rt, path, file, input_of(ask.bare), ask.budget, out);
             status(alloc, outcome, err)
@@ -120,6 +120,9 @@ fn run_task<R: Files + Input + AllocGlobal, W: Write, E: Write>(
         Task::Embed(file, options) => {
             let outcome = embed_file(rt, file, &options, out, err);
             status(alloc, outcome, err)
+        }
+        Task::Extract(file, name) => {
+            status(alloc, extract_file(rt, file, name, ask.budget, out), err)
         }
         Task::Compare(file, other, options) => {
             status(alloc, compare_files(rt, file, other, &options, out), err)

@@ -1,6 +1,6 @@
 //! What the arguments ask the program to do.
 ghost use Rattle.std.specs.Prelude.{◌≡◌, IfErr, IfOk};
-ghost use Rattle.cli.specs.Tasks.{AreTokens, IsCompareTask, IsExplainTask, IsFirstNoToken, IsOutline, IsShow, IsTableNamed, IsTask, IsTokens, IsWhere, NamesNoTable, NamesType, embed_task, form_of, input_of, list_task, named_or_listed, names_of, naming_of, paths_of, report_task, request_of, rewrite_task, strong_name_of, verdict_of};
+ghost use Rattle.cli.specs.Tasks.{AreTokens, IsCompareTask, IsExplainTask, IsFirstNoToken, IsOutline, IsShow, IsTableNamed, IsTask, IsTokens, IsWhere, NamesNoTable, NamesType, directories_of, embed_task, extract_task, form_of, input_of, is_plural, list_task, named_task, names_of, naming_of, paths_of, report_task, request_of, resources_task, rewrite_task, separator_of, strong_name_of, verdict_of};
 
 use crate::columns::columns_of;
 use cli_arguments::{Ask, Subcommand};
@@ -13,7 +13,7 @@ use cli_names::{code_of, offset_of, table_of, token_of, type_row_of};
 use cli_nearest::{nearest_code, nearest_column, nearest_table};
 use cli_outline::Subject;
 use cli_roots::{CompareOptions, EmbedOptions};
-use cli_runs::{Listing, Naming, Report, Request, Verdict};
+use cli_runs::{Directories, Listing, Naming, Report, Request, Separator, Verdict};
 use embedding::StrongName;
 use packed::FaultCode;
 use std::alloc::Global;
@@ -27,12 +27,14 @@ const STANDARD_OUTPUT: &str = "-";
 pub(crate) enum Task<'a> {
     /// Report on the files that the arguments name.
     OnFiles(Request<'a>),
-    /// Report on the files that the standard input lists.
-    OnList(Request<'a>),
+    /// Report on the files that the standard input lists, with this after each name.
+    OnList(Request<'a>, Separator),
     /// Write the canonical root of a file to the path after it.
     Rewrite(&'a str, &'a str),
     /// Write a copy of a file with its canonical root, or with another.
     Embed(&'a str, EmbedOptions<'a>),
+    /// Write the content of the resource of a file that has this name.
+    Extract(&'a str, &'a str),
     /// Print what differs between two files.
     Compare(&'a str, &'a str, CompareOptions),
     /// Explain these rules, or list all if there is none.
@@ -46,18 +48,18 @@ pub(crate) fn task_of<'a>(alloc: Global, ask: &'a Ask<'a>) -> Result<Task<'a>, F
     match ask.subcommand {
         Subcommand::Root => on_files(ask, Ok(Report::Root)),
         Subcommand::Info => on_files(ask, Ok(Report::Info)),
-        Subcommand::Check => {
-            on_files_or_list(ask, Report::Check(verdict_of(ask.quiet, ask.locates)))
-        }
+        Subcommand::Check => on_files(ask, Ok(Report::Check(verdict_of(ask.quiet, ask.locates)))),
         Subcommand::Show => on_files(ask, show_of(alloc, ask)),
         Subcommand::Types => on_files(ask, Ok(Report::Listing(Listing::Types))),
         Subcommand::Outline => on_files(ask, Ok(outline_of(ask.part))),
+        Subcommand::Refs => on_files(ask, Ok(Report::Listing(Listing::Refs))),
+        Subcommand::Resources => resources_of(ask),
         Subcommand::Strings => on_files(ask, Ok(Report::Strings)),
         Subcommand::Token => on_files(ask, tokens_of(alloc, ask.tokens.as_slice())),
-        Subcommand::Where => on_files(ask, where_of(ask.second)),
+        Subcommand::Where => on_files(ask, where_of(ask.part)),
         Subcommand::Rewrite => rewrite_of(ask.file, ask.second),
         Subcommand::Embed => embed_of(ask),
-        Subcommand::Digest => on_files_or_list(ask, Report::Digest),
+        Subcommand::Digest => on_files(ask, Ok(Report::Digest)),
         Subcommand::Compare => compare_of(alloc, ask),
         Subcommand::Explain => explain_of(alloc, ask.codes.as_slice()),
     }
@@ -77,13 +79,24 @@ pub(crate) fn input_of(bare: bool) -> Input
     if bare { Input::BareRoot } else { Input::File }
 }
 
-/// Whether files are named. The one of a check that is not quiet is not, nor is that of another report.
-fn naming_of(quiet: bool, files: &[&str]) -> Naming
-    ensures { result ≡ naming_of quiet files.now }
+/// Whether files are named: not the only one, unless it may be a directory or the check is quiet.
+fn naming_of(is_quiet: bool, is_recursive: bool, files: &[&str]) -> Naming
+    ensures { result ≡ naming_of is_quiet is_recursive files.now }
 {
     match files {
-        [_] if !quiet => Naming::Alone,
+        [_] if !is_quiet && !is_recursive => Naming::Alone,
         _ => Naming::Named,
+    }
+}
+
+/// What becomes of directories, by whether the arguments have `-r`.
+fn directories_of(is_recursive: bool) -> Directories
+    ensures { result ≡ directories_of is_recursive }
+{
+    if is_recursive {
+        Directories::Walked
+    } else {
+        Directories::Refused
     }
 }
 
@@ -95,23 +108,40 @@ fn request_of<'a>(ask: &Ask<'_>, naming: Naming, report: Report<'a>) -> Request<
         report,
         form: form_of(ask.json),
         naming,
+        directories: directories_of(ask.recursive),
         input: input_of(ask.bare),
         budget: ask.budget,
     }
 }
 
-/// The task of a report on the files that the arguments name.
+/// The task of a report on the files that the arguments name, or on those that the standard input lists.
 fn on_files<'a>(
     ask: &'a Ask<'a>,
     report: Result<Report<'a>, Failure<'a>>,
 ) -> Result<Task<'a>, Failure<'a>>
     ensures { result ≡ report_task ask.now report.entry }
 {
-    let files = ask.files.as_slice();
     match report {
+        Ok(report) => match ask.files_from {
+            Some(source) if source == STANDARD_INPUT => on_list(ask, report),
+            Some(source) => Err(Failure::Usage(UsageError::NoList(source))),
+            None if ask.null => on_list(ask, report),
+            None => on_named(ask, report),
+        },
         Err(failure) => Err(failure),
-        Ok(_) if files.is_empty() => Err(Failure::Usage(UsageError::NoFile)),
-        Ok(report) => Ok(Task::OnFiles(request_of(ask, naming_of(ask.quiet, files), report))),
+    }
+}
+
+/// The task of a report on the files that the arguments name.
+fn on_named<'a>(ask: &'a Ask<'a>, report: Report<'a>) -> Result<Task<'a>, Failure<'a>>
+    ensures { result ≡ named_task ask.now report.entry }
+{
+    let files = ask.files.as_slice();
+    if files.is_empty() {
+        Err(Failure::Usage(UsageError::NoFile))
+    } else {
+        let naming = naming_of(ask.quiet, ask.recursive, files);
+        Ok(Task::OnFiles(request_of(ask, naming, report)))
     }
 }
 
@@ -120,22 +150,49 @@ fn on_list<'a>(ask: &'a Ask<'a>, report: Report<'a>) -> Result<Task<'a>, Failure
     ensures { result ≡ list_task ask.now report.entry }
 {
     if ask.files.is_empty() {
-        Ok(Task::OnList(request_of(ask, Naming::Named, report)))
+        let request = request_of(ask, Naming::Named, report);
+        Ok(Task::OnList(request, separator_of(ask.null)))
     } else {
         Err(Failure::Usage(UsageError::FilesAndList))
     }
 }
 
-/// The task of a report on files whose names are arguments, or which the standard input lists.
-fn on_files_or_list<'a>(ask: &'a Ask<'a>, report: Report<'a>) -> Result<Task<'a>, Failure<'a>>
-    ensures { result ≡ named_or_listed ask.now report.entry }
+/// What follows each name in a list, by whether the arguments have `-0`.
+fn separator_of(is_null: bool) -> Separator
+    ensures { result ≡ separator_of is_null }
 {
-    match ask.files_from {
-        Some(source) if source == STANDARD_INPUT => on_list(ask, report),
-        Some(source) => Err(Failure::Usage(UsageError::NoList(source))),
-        None if ask.null => on_list(ask, report),
-        None => on_files(ask, Ok(report)),
+    if is_null {
+        Separator::Nul
+    } else {
+        Separator::LineFeed
     }
+}
+
+/// The task of `resources`: to print where those of files are, or to write the content of one of a file.
+fn resources_of<'a>(ask: &'a Ask<'a>) -> Result<Task<'a>, Failure<'a>>
+    ensures { result ≡ resources_task ask.now }
+{
+    match ask.extract {
+        Some(name) => extract_of(ask, name),
+        None => on_files(ask, Ok(Report::Resources)),
+    }
+}
+
+/// The task that writes the content of the resource with this name, which takes one file, and no other form.
+fn extract_of<'a>(ask: &'a Ask<'a>, name: &'a str) -> Result<Task<'a>, Failure<'a>>
+    ensures { result ≡ extract_task ask.now name.entry }
+{
+    match ask.files.as_slice() {
+        [file] if !is_plural(ask) => Ok(Task::Extract(file, name)),
+        _ => Err(Failure::Usage(UsageError::ExtractAlone)),
+    }
+}
+
+/// Whether the arguments ask for JSON, for a list of files or for directories.
+fn is_plural(ask: &Ask<'_>) -> bool
+    ensures { result ≡ is_plural ask.now }
+{
+    ask.json || ask.null || ask.recursive || ask.files_from.is_some()
 }
 
 /// What `check` prints.

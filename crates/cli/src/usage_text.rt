@@ -4,7 +4,7 @@ ghost use Rattle.std.specs.String.{string_bytes};
 ghost use Rattle.cli_faults.specs.Escaped.{escaped_text};
 
 use clap::error::ErrorKind;
-use cli_arguments::ask;
+use cli_arguments::{SHORT_HELP, ask};
 use cli_faults::Escaped;
 use cli_nearest::nearest_command;
 use std::alloc::{AllocError, Global};
@@ -12,7 +12,8 @@ use std::alloc::{AllocError, Global};
 /// The text if `clap` accepts the escaped arguments, although it did not accept the given ones.
 const ACCEPTED: &str = "error: the arguments are not those of a command\n";
 
-/// The text of `clap` for arguments that it does not accept, or for a request for help or the version.
+/// The text for arguments that `clap` does not accept, or for a request for help or the version: that of `clap`, or the short
+/// help if there is no subcommand or it is asked for.
 ///
 /// It is made from the escaped arguments. So it has no control character of theirs, and no line that begins in an
 /// argument.
@@ -29,6 +30,9 @@ pub(crate) fn usage_text(alloc: Global, words: &[&str]) -> Result<String, AllocE
                 ErrorKind::InvalidSubcommand => command_near(alloc, words),
                 _ => None,
             };
+            if error.kind() == ErrorKind::MissingSubcommand || matches!(words, [_, "-h"]) {
+                return String::from_str(alloc, SHORT_HELP);
+            }
             match nearest {
                 Some(name) => format!(in alloc; "{error}  hint: the nearest command is '{name}'\n"),
                 None => format!(in alloc; "{error}"),

@@ -1,12 +1,13 @@
 -- The last of several arguments.
-use Rattle.std.proofs.Common.{◌≡◌, ◌≢◌, ◌∙◌, ◌<◌, ℕ, List, [], ◌∷◌, ◌++◌, Option, Some, None, ap, arith, length, map, option_map, option_to_list, refl, subst, sym}
-use Rattle.std.specs.Prelude.{IsSome}
+use Rattle.std.proofs.Common.{◌≡◌, ◌≢◌, ◌∙◌, ◌<◌, ◌⊎◌, Bool, true, false, List, [], ◌∷◌, ◌++◌, Option, Some, None, ap, arith, eqb, length, not, map, option_map, option_to_list, refl, subst, sym}
+use Rattle.std.specs.Prelude.{◌↔◌, IsSome, IsTrue}
 use Rattle.std.specs.Borrow.{Bor}
+use Rattle.std.proofs.lemmas.Bool.Decides.{Decides-eqb}
 use Rattle.std.proofs.lemmas.List.{map-append}
 use Rattle.clap.specs.Words.{Text}
-use Rattle.cli_arguments.specs.Asked.{AreParts, AreShown, IsPlainWord, IsTableLast}
+use Rattle.cli_arguments.specs.Asked.{AreParts, IsPart, IsPartLast}
 use Rattle.cli_arguments.specs.declared.asked.Subcommand.{Subcommand}
-use Rattle.cli_arguments.specs.declared.asked.Subcommand.TheVariants.{Root, Info, Check, Show, Types, Outline, Strings, Token, Where, Rewrite, Embed, Digest, Compare, Explain}
+use Rattle.cli_arguments.specs.declared.asked.Subcommand.TheVariants.{Root, Info, Check, Show, Types, Outline, Refs, Resources, Strings, Token, Where, Rewrite, Embed, Digest, Compare, Explain}
 
 -- the last of these texts, and those before it, of which the first one is given apart
 abbrev last_in : Text → List Text → Text
@@ -44,67 +45,72 @@ some_in [] [] x is = cc
 some_in [] (y ∷ ys) x is = cc
 some_in (z ∷ xs) ys x is = omega arith
 
--- the last argument was taken
-pub shown_taken : (words files : List (Bor Text)) (table : Option (Bor Text)) → words ≡ files ++ option_to_list table → (0 < length words → IsSome table)
-    → (before : List Text) × (last : Text) × IsTableLast (texts words) before last → AreShown (texts words) (texts files) (option_map (λ word. word.now) table)
-shown_taken words files None is some ends = let wrong = some (length_of words (some_in (texts words) ends.0 ends.1 ends.2.0)) in cc
-  where
-    length_of : (xs : List (Bor Text)) → 0 < length (texts xs) → 0 < length xs
-    length_of [] lt = lt
-    length_of (x ∷ xs) lt = omega arith
-shown_taken words files (Some table) is some ends =
-    let whole : texts words ≡ texts files ++ table.now ∷ [] = ap texts is ∙ map-append (λ (word : Bor Text). word.now) files (table ∷ []) in
-    let same = same_end ends.0 (texts files) ends.1 table.now (sym ends.2.0 ∙ whole) in
-    (whole, subst (λ (xs : List Text). xs ≢ []) same.0 ends.2.1, subst IsPlainWord same.1 ends.2.2)
+-- an emptiness test of the arguments
+pub some_given : (words : List (Bor Text)) (is_empty : Bool) → is_empty ≡ eqb (length words) 0 → IsTrue (not is_empty) → texts words ≢ []
+some_given [] true is some = cc
+some_given [] false is some = cc
+some_given (word ∷ words) is_empty is some = λ none. cc
 
--- of another subcommand all values are files
-pub other_parts : (of : Subcommand) (given : Option Text) (words files : List Text) (part : Option Text) → of ≢ Show → files ≡ words → part ≡ given
-    → AreParts of given words files part
-other_parts Root given words files part other same is = (same, is)
-other_parts Info given words files part other same is = (same, is)
-other_parts Check given words files part other same is = (same, is)
-other_parts Show given words files part other same is = absurd (other refl)
-other_parts Types given words files part other same is = (same, is)
-other_parts Outline given words files part other same is = (same, is)
-other_parts Strings given words files part other same is = (same, is)
-other_parts Token given words files part other same is = (same, is)
-other_parts Where given words files part other same is = (same, is)
-other_parts Rewrite given words files part other same is = (same, is)
-other_parts Embed given words files part other same is = (same, is)
-other_parts Digest given words files part other same is = (same, is)
-other_parts Compare given words files part other same is = (same, is)
-other_parts Explain given words files part other same is = (same, is)
+pub given_some : (words : List (Bor Text)) (is_empty : Bool) → is_empty ≡ eqb (length words) 0 → texts words ≢ [] → IsTrue (not is_empty)
+given_some [] is_empty is some = absurd (some refl)
+given_some (word ∷ words) true is some = let none = (Decides-eqb (length (word ∷ words)) 0).0 (sym is) in absurd (omega (arith, none))
+given_some (word ∷ words) false is some = refl
 
--- the last argument is a table, or is not
-pub ends_there : (words before : List (Bor Text)) (last : Bor Text) → words ≡ before ++ last ∷ [] → before ≢ [] → IsPlainWord last.now
-    → (first : List Text) × (end : Text) × IsTableLast (texts words) first end
-ends_there words before last is some plain = (
-  texts before,
-  last.now,
-  (ap texts is ∙ map-append (λ (word : Bor Text). word.now) before (last ∷ []), (λ none. some (none_of before none)), plain),
-)
-  where
-    none_of : (xs : List (Bor Text)) → texts xs ≡ [] → xs ≡ []
-    none_of [] is = refl
-    none_of (x ∷ xs) is = cc
+-- whether there are files besides matters to the last argument alone
+pub part_if : (of : Subcommand) (P Q : Type 0) (word : Text) → (P → Q) → IsPart of P word → IsPart of Q word
+part_if Show P Q word is part = (is part.0, part.1)
+part_if Outline P Q word is part = (is part.0, part.1)
+part_if Where P Q word is part = tt
+part_if Root P Q word is part = part
+part_if Info P Q word is part = part
+part_if Check P Q word is part = part
+part_if Types P Q word is part = part
+part_if Refs P Q word is part = part
+part_if Resources P Q word is part = part
+part_if Strings P Q word is part = part
+part_if Token P Q word is part = part
+part_if Rewrite P Q word is part = part
+part_if Embed P Q word is part = part
+part_if Digest P Q word is part = part
+part_if Compare P Q word is part = part
+part_if Explain P Q word is part = part
 
-pub ends_elsewhere : (words before : List (Bor Text)) (last : Bor Text) → words ≡ before ++ last ∷ [] → (before ≢ [] → ¬ IsPlainWord last.now)
-    → ((first : List Text) × (end : Text) × IsTableLast (texts words) first end) → ⊥
-ends_elsewhere words before last is other ends =
-    let whole : texts words ≡ texts before ++ last.now ∷ [] = ap texts is ∙ map-append (λ (word : Bor Text). word.now) before (last ∷ []) in
-    let same = same_end ends.0 (texts before) ends.1 last.now (sym ends.2.0 ∙ whole) in
-    other (λ none. ends.2.1 (same.0 ∙ ap texts none)) (subst IsPlainWord same.1 ends.2.2)
+module _ (of : Subcommand) (Listed : Type 0) where
+  -- the last of these arguments says what to print
+  abbrev pub EndsWithPart : List Text → Type 0
+  EndsWithPart words = (before : List Text) × (last : Text) × IsPartLast of Listed words before last
 
-pub plain_end : (words before : List (Bor Text)) (last : Bor Text) → words ≡ before ++ last ∷ [] → (first : List Text) × (end : Text) × IsTableLast (texts words) first end
-    → IsPlainWord last.now
-plain_end words before last is ends =
-    let whole : texts words ≡ texts before ++ last.now ∷ [] = ap texts is ∙ map-append (λ (word : Bor Text). word.now) before (last ∷ []) in
-    subst IsPlainWord (same_end ends.0 (texts before) ends.1 last.now (sym ends.2.0 ∙ whole)).1 ends.2.2
+  -- it is taken
+  pub part_taken : (words files : List (Bor Text)) (part : Option (Bor Text)) → words ≡ files ++ option_to_list part → (0 < length words → IsSome part)
+      → EndsWithPart (texts words) → AreParts of Listed (texts words) (texts files) (option_map (λ word. word.now) part)
+  part_taken words files None is some ends = let wrong = some (length_of words (some_in (texts words) ends.0 ends.1 ends.2.0)) in cc
+    where
+      length_of : (xs : List (Bor Text)) → 0 < length (texts xs) → 0 < length xs
+      length_of [] lt = lt
+      length_of (x ∷ xs) lt = omega arith
+  part_taken words files (Some part) is some ends =
+      let whole : texts words ≡ texts files ++ part.now ∷ [] = ap texts is ∙ map-append (λ (word : Bor Text). word.now) files (part ∷ []) in
+      let same = same_end ends.0 (texts files) ends.1 part.now (sym ends.2.0 ∙ whole) in (
+        whole,
+        subst (λ (word : Text). IsPart of (Listed ⊎ (texts files ≢ [])) word) same.1
+            (subst (λ (before : List Text). IsPart of (Listed ⊎ (before ≢ [])) ends.1) same.0 ends.2.1),
+      )
 
-pub none_ends : (words : List (Bor Text)) → length words ≡ 0 → (first : List Text) × (end : Text) × IsTableLast (texts words) first end → ⊥
-none_ends [] none ends = let some = some_in [] ends.0 ends.1 ends.2.0 in absurd (omega (arith, some))
-none_ends (word ∷ words) none ends = absurd (omega (arith, none))
+  module _ (words before : List (Bor Text)) (last : Bor Text) (is : words ≡ before ++ last ∷ []) (has_files : Bool)
+      (has : IsTrue has_files ↔ (Listed ⊎ (texts before ≢ []))) where
+    whole : texts words ≡ texts before ++ last.now ∷ []
+    whole = ap texts is ∙ map-append (λ (word : Bor Text). word.now) before (last ∷ [])
 
-pub empty_is : {X : Type 0} (xs : List X) → length xs ≡ 0 → xs ≡ []
-empty_is [] is = refl
-empty_is (x ∷ xs) is = absurd (omega (arith, is))
+    pub ends_there : IsPart of (IsTrue has_files) last.now → EndsWithPart (texts words)
+    ends_there part = (texts before, last.now, (whole, part_if of (IsTrue has_files) (Listed ⊎ (texts before ≢ [])) last.now has.0 part))
+
+    pub part_there : EndsWithPart (texts words) → IsPart of (IsTrue has_files) last.now
+    part_there ends =
+        let same = same_end ends.0 (texts before) ends.1 last.now (sym ends.2.0 ∙ whole) in
+        part_if of (Listed ⊎ (texts before ≢ [])) (IsTrue has_files) last.now has.1
+        (subst (λ (word : Text). IsPart of (Listed ⊎ (texts before ≢ [])) word) same.1
+        (subst (λ (files : List Text). IsPart of (Listed ⊎ (files ≢ [])) ends.1) same.0 ends.2.1))
+
+  pub none_ends : (words : List (Bor Text)) → length words ≡ 0 → EndsWithPart (texts words) → ⊥
+  none_ends [] none ends = let some = some_in [] ends.0 ends.1 ends.2.0 in absurd (omega (arith, some))
+  none_ends (word ∷ words) none ends = absurd (omega (arith, none))

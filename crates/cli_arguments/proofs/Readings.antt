@@ -13,7 +13,7 @@ use Rattle.clap.specs.declared.ArgMatches.TheViews.{out-ArgMatches}
 use Rattle.cli_arguments.specs.Asked.{IsCountOf, subcommand_named}
 use Rattle.cli_arguments.specs.CommandLine.{name_of}
 use Rattle.cli_arguments.specs.declared.asked.Subcommand.{Subcommand}
-use Rattle.cli_arguments.specs.declared.asked.Subcommand.TheVariants.{Root, Info, Check, Show, Types, Outline, Strings, Token, Where, Rewrite, Embed, Digest, Compare, Explain}
+use Rattle.cli_arguments.specs.declared.asked.Subcommand.TheVariants.{Root, Info, Check, Show, Types, Outline, Refs, Resources, Strings, Token, Where, Rewrite, Embed, Digest, Compare, Explain}
 
 option_map_map : {A B C : Type 0} (f : B → C) (g : A → B) (o : Option A) → option_map f (option_map g o) ≡ option_map (λ x. f (g x)) o
 option_map_map f g None = refl
@@ -45,6 +45,8 @@ named_back word s e =
     (named_by word (bytes_eq word (name_of Show)) Show _ s (bytes_eq-Decides word (name_of Show)).0
     (named_by word (bytes_eq word (name_of Types)) Types _ s (bytes_eq-Decides word (name_of Types)).0
     (named_by word (bytes_eq word (name_of Outline)) Outline _ s (bytes_eq-Decides word (name_of Outline)).0
+    (named_by word (bytes_eq word (name_of Refs)) Refs _ s (bytes_eq-Decides word (name_of Refs)).0
+    (named_by word (bytes_eq word (name_of Resources)) Resources _ s (bytes_eq-Decides word (name_of Resources)).0
     (named_by word (bytes_eq word (name_of Strings)) Strings _ s (bytes_eq-Decides word (name_of Strings)).0
     (named_by word (bytes_eq word (name_of Token)) Token _ s (bytes_eq-Decides word (name_of Token)).0
     (named_by word (bytes_eq word (name_of Where)) Where _ s (bytes_eq-Decides word (name_of Where)).0
@@ -53,7 +55,7 @@ named_back word s e =
     (named_by word (bytes_eq word (name_of Digest)) Digest _ s (bytes_eq-Decides word (name_of Digest)).0
     (named_by word (bytes_eq word (name_of Compare)) Compare _ s (bytes_eq-Decides word (name_of Compare)).0
     (named_by word (bytes_eq word (name_of Explain)) Explain _ s (bytes_eq-Decides word (name_of Explain)).0
-    (λ none. cc)))))))))))))) e
+    (λ none. cc)))))))))))))))) e
 
 -- a flag is read as true if and only if its text is `true`
 flag_reads : (E : Type 0) (o : Option Text) (r : Option Bool) → (o ≡ None → r ≡ None)

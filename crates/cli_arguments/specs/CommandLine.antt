@@ -10,7 +10,7 @@ use Rattle.cli_arguments.specs.declared.argument.Argument.{Argument}
 use Rattle.cli_arguments.specs.declared.argument.Kind.{Kind}
 use Rattle.cli_arguments.specs.declared.argument.Kind.TheVariants as kind
 use Rattle.cli_arguments.specs.declared.asked.Subcommand.{Subcommand}
-use Rattle.cli_arguments.specs.declared.asked.Subcommand.TheVariants.{Root, Info, Check, Show, Types, Outline, Strings, Token, Where, Rewrite, Embed, Digest, Compare, Explain}
+use Rattle.cli_arguments.specs.declared.asked.Subcommand.TheVariants.{Root, Info, Check, Show, Types, Outline, Refs, Resources, Strings, Token, Where, Rewrite, Embed, Digest, Compare, Explain}
 use Rattle.cli_arguments.specs.declared.subcommands.Usage.{Usage}
 
 -- `NAME`, one value
@@ -39,7 +39,6 @@ number id = record (option id) { parser = Some (Unsigned 0 0xFFFF_FFFF_FFFF_FFFF
 -- an argument of this kind
 abbrev pub rule_of_kind : Text → Kind → Rule
 rule_of_kind id (kind.Required name) = required (value id)
-rule_of_kind id (kind.Optional name) = value id
 rule_of_kind id kind.Several = required (values id)
 rule_of_kind id kind.AnyNumber = values id
 rule_of_kind id kind.Flag = flag id
@@ -66,7 +65,7 @@ abbrev pub file : Rule
 file = required (value (codes "FILE"))
 
 abbrev pub files : Rule
-files = required (values (codes "FILE"))
+files = values (codes "FILE")
 
 abbrev pub bare : Rule
 bare = flag (codes "bare")
@@ -85,6 +84,10 @@ files_from = option (codes "files-from")
 abbrev pub null : Rule
 null = record (new_rule (codes "null")) { short = Some 48; action = Some SetTrue }
 
+-- `-r` or `--recursive`, for directories; the ASCII code of `r` is 114
+abbrev pub recursive : Rule
+recursive = record (flag (codes "recursive")) { short = Some 114 }
+
 -- the value after the file
 abbrev pub second : Rule
 second = required (value (codes "second"))
@@ -101,6 +104,8 @@ name_of Check = codes "check"
 name_of Show = codes "show"
 name_of Types = codes "types"
 name_of Outline = codes "outline"
+name_of Refs = codes "refs"
+name_of Resources = codes "resources"
 name_of Strings = codes "strings"
 name_of Token = codes "token"
 name_of Where = codes "where"
@@ -112,31 +117,36 @@ name_of Explain = codes "explain"
 
 -- the arguments of a subcommand
 abbrev pub rules_of : Subcommand → List Rule
--- `root [--bare] [--json] FILE..`
-rules_of Root = files ∷ bare ∷ json ∷ []
--- `info [--bare] [--budget N] [--json] FILE..`
-rules_of Info = files ∷ bare ∷ budget ∷ json ∷ []
--- `check [--bare] [--budget N] [--files-from LIST] [-0] [-q] [--json] [--where] [FILE]..`; the ASCII code of `q` is 113
+-- `root [--bare] [--files-from LIST] [-0] [-r] [--json] [FILE]..`
+rules_of Root = files ∷ bare ∷ files_from ∷ null ∷ recursive ∷ json ∷ []
+-- `info [--bare] [--budget N] [--files-from LIST] [-0] [-r] [--json] [FILE]..`
+rules_of Info = files ∷ bare ∷ budget ∷ files_from ∷ null ∷ recursive ∷ json ∷ []
+-- `check [--bare] [--budget N] [--files-from LIST] [-0] [-r] [-q] [--json] [--where] [FILE]..`; the ASCII code of `q` is 113
 rules_of Check =
-    values (codes "FILE") ∷ bare ∷ budget ∷ files_from ∷ null ∷ record (flag (codes "quiet")) { short = Some 113 } ∷ json ∷ flag (codes "where") ∷ []
--- `show [--bare] [--budget N] [--json] [--names] [--until-fault] FILE.. [TABLE]`; the TABLE is among the values of FILE
-rules_of Show = files ∷ bare ∷ budget ∷ json ∷ flag (codes "names") ∷ flag (codes "until-fault") ∷ []
--- `types [--bare] [--budget N] [--json] FILE..`
-rules_of Types = files ∷ bare ∷ budget ∷ json ∷ []
--- `outline [--bare] [--budget N] [--json] FILE [NAME]`
-rules_of Outline = file ∷ bare ∷ budget ∷ json ∷ value (codes "part") ∷ []
--- `strings [--bare] [--budget N] [--json] FILE..`
-rules_of Strings = files ∷ bare ∷ budget ∷ json ∷ []
+    files ∷ bare ∷ budget ∷ files_from ∷ null ∷ recursive ∷ record (flag (codes "quiet")) { short = Some 113 } ∷ json ∷ flag (codes "where") ∷ []
+-- `show [--bare] [--budget N] [--files-from LIST] [-0] [-r] [--json] [--names] [--until-fault] [FILE].. [TABLE]`; here, of
+-- `outline` and of `where` the last argument is among the values of FILE
+rules_of Show = files ∷ bare ∷ budget ∷ files_from ∷ null ∷ recursive ∷ json ∷ flag (codes "names") ∷ flag (codes "until-fault") ∷ []
+-- `types [--bare] [--budget N] [--files-from LIST] [-0] [-r] [--json] [FILE]..`
+rules_of Types = files ∷ bare ∷ budget ∷ files_from ∷ null ∷ recursive ∷ json ∷ []
+-- `outline [--bare] [--budget N] [--files-from LIST] [-0] [-r] [--json] [FILE].. [NAME]`
+rules_of Outline = files ∷ bare ∷ budget ∷ files_from ∷ null ∷ recursive ∷ json ∷ []
+-- `refs [--bare] [--budget N] [--files-from LIST] [-0] [-r] [--json] [FILE]..`
+rules_of Refs = files ∷ bare ∷ budget ∷ files_from ∷ null ∷ recursive ∷ json ∷ []
+-- `resources [--budget N] [--files-from LIST] [-0] [-r] [--json] [--extract NAME] [FILE]..`
+rules_of Resources = files ∷ budget ∷ files_from ∷ null ∷ recursive ∷ json ∷ option (codes "extract") ∷ []
+-- `strings [--bare] [--budget N] [--files-from LIST] [-0] [-r] [--json] [FILE]..`
+rules_of Strings = files ∷ bare ∷ budget ∷ files_from ∷ null ∷ recursive ∷ json ∷ []
 -- `token [--bare] [--budget N] [--json] FILE HEX..`
 rules_of Token = file ∷ bare ∷ budget ∷ json ∷ required (values (codes "HEX")) ∷ []
--- `where [--bare] [--budget N] [--json] FILE OFFSET`
-rules_of Where = file ∷ bare ∷ budget ∷ json ∷ second ∷ []
+-- `where [--bare] [--budget N] [--files-from LIST] [-0] [-r] [--json] [FILE].. OFFSET`
+rules_of Where = files ∷ bare ∷ budget ∷ files_from ∷ null ∷ recursive ∷ json ∷ []
 -- `rewrite [--bare] [--budget N] FILE OUT`
 rules_of Rewrite = file ∷ bare ∷ budget ∷ second ∷ []
 -- `embed [--json] [--root ROOT] [--unsigned] FILE OUT`
 rules_of Embed = file ∷ json ∷ second ∷ option (codes "root") ∷ flag (codes "unsigned") ∷ []
--- `digest [--bare] [--budget N] [--files-from LIST] [-0] [--json] [FILE]..`
-rules_of Digest = values (codes "FILE") ∷ bare ∷ budget ∷ files_from ∷ null ∷ json ∷ []
+-- `digest [--bare] [--budget N] [--files-from LIST] [-0] [-r] [--json] [FILE]..`
+rules_of Digest = files ∷ bare ∷ budget ∷ files_from ∷ null ∷ recursive ∷ json ∷ []
 -- `compare [--bare] [--budget N] [--json] [--ignore TABLE.COLUMN].. FILE OTHER`
 rules_of Compare = file ∷ bare ∷ budget ∷ json ∷ second ∷ record (option (codes "ignore")) { action = Some Append } ∷ []
 -- `explain [--json] [CODE]..`
@@ -148,7 +158,7 @@ shape_of of = shape_with (name_of of) (rules_of of)
 
 -- the subcommands
 abbrev pub subcommands : List Subcommand
-subcommands = Root ∷ Info ∷ Check ∷ Show ∷ Types ∷ Outline ∷ Strings ∷ Token ∷ Where ∷ Rewrite ∷ Embed ∷ Digest ∷ Compare ∷ Explain ∷ []
+subcommands = Root ∷ Info ∷ Check ∷ Show ∷ Types ∷ Outline ∷ Refs ∷ Resources ∷ Strings ∷ Token ∷ Where ∷ Rewrite ∷ Embed ∷ Digest ∷ Compare ∷ Explain ∷ []
 
 -- the command line with its subcommands; `clap` adds `help`
 abbrev pub clim : App

@@ -22,8 +22,6 @@ pub(crate) struct Argument<'a> {
 pub(crate) enum Kind<'a> {
     /// `NAME`, one value.
     Required(&'a str),
-    /// `[NAME]`, one value or none.
-    Optional(&'a str),
     /// `ID..`, at least one value.
     Several,
     /// `[ID]..`, any number of values.
@@ -51,7 +49,6 @@ pub(crate) fn arg_of<'a>(alloc: Global, argument: &Argument<'a>) -> Arg<'a>
     let arg = Arg::new(alloc, id).help(argument.help);
     match argument.kind {
         Kind::Required(name) => arg.value_name(name).action(ArgAction::Set).required(true),
-        Kind::Optional(name) => arg.value_name(name).action(ArgAction::Set),
         Kind::Several => arg.num_args(1..).action(ArgAction::Append).required(true),
         Kind::AnyNumber => arg.num_args(1..).action(ArgAction::Append),
         Kind::Flag => arg.long(id).action(ArgAction::SetTrue),

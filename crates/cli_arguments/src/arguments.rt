@@ -8,13 +8,13 @@ ghost use Rattle.cli_arguments.specs.CommandLine as line;
 use crate::argument::arg_of;
 use crate::asked::{Ask, Subcommand};
 use crate::help::HELP;
-use crate::parts::part_of;
+use crate::parts::take_part;
 use crate::subcommands::usage_of;
 use clap::{ArgMatches, Command, Error};
 use std::alloc::{AllocError, Global};
 
 /// What `--version` prints after the name of the program: its version, and what it is proved and built with (`rt version`).
-const LONG_VERSION: &str = "0.1.0\nproved and built with rattle-kit-13f logic dac8208d650f15bf";
+const LONG_VERSION: &str = "0.1.0\nproved and built with rattle-kit-13b logic dac8208d650f15bf";
 
 /// Parses the arguments of a command line, the program name first.
 ///
@@ -31,7 +31,7 @@ pub fn ask<'a>(alloc: Global, words: &'a [&'a str]) -> Result<Ask<'a>, Error>
     let (name, given) = matches.subcommand().unwrap();
     let subcommand = Subcommand::named(name).unwrap();
     let mut files = list(alloc, given, "FILE")?;
-    let part = part_of(subcommand, given, &mut files);
+    let part = take_part(subcommand, given, &mut files);
     Ok(Ask {
         subcommand,
         bare: flag(given, "bare"),
@@ -52,11 +52,13 @@ pub fn ask<'a>(alloc: Global, words: &'a [&'a str]) -> Result<Ask<'a>, Error>
         locates: flag(given, "where"),
         root: given.get_str("root"),
         unsigned: flag(given, "unsigned"),
+        recursive: flag(given, "recursive"),
+        extract: given.get_str("extract"),
     })
 }
 
 /// Whether the flag was given.
-fn flag(given: &ArgMatches<'_>, id: &str) -> bool
+pub(crate) fn flag(given: &ArgMatches<'_>, id: &str) -> bool
     ensures { IsTrue result ↔ (one_of id.now (rows_of (found_of given.now)) ≡ Some (codes "true")) }
 {
     given.get_one::<bool>(id) == Some(true)
@@ -92,7 +94,7 @@ fn command_of<'a>(alloc: Global, subcommand: Subcommand) -> Result<Command<'a>, 
     let usage = usage_of(subcommand);
     let mut command = Command::new(alloc, usage.name)
         .about(usage.about)
-        .after_help(usage.output);
+        .after_long_help(usage.output);
     for argument in usage.arguments {
         command = command.arg(arg_of(alloc, argument))?;
     }

@@ -8,10 +8,9 @@ pub struct Ask<'a> {
     pub subcommand: Subcommand,
     /// Whether the file is a metadata root instead of a PE file.
     pub bare: bool,
-    /// The path of the file to read, the first of `files`. `explain` has none, and `check` and `digest` may have none.
+    /// The first of the arguments that name files, if there is one. `explain` has none.
     pub file: Option<&'a str>,
-    /// The argument after the file: the offset of `where`, the output path of `rewrite` and `embed`, the other file of
-    /// `compare`.
+    /// The argument after the file: the output path of `rewrite` and `embed`, the other file of `compare`.
     pub second: Option<&'a str>,
     /// The tokens of `token`, in the order given.
     pub tokens: Vec<&'a str>,
@@ -19,7 +18,8 @@ pub struct Ask<'a> {
     pub ignored: Vec<&'a str>,
     /// The largest number of bytes of texts and signatures that may be checked of each file, if given.
     pub budget: Option<u64>,
-    /// What alone to print of a file, as it was given: the table of `show`, the type of `outline`.
+    /// What to print of the files, as it was given after them: the table of `show`, the type of `outline`, the offset of
+    /// `where`.
     pub part: Option<&'a str>,
     /// Whether to print JSON Lines instead of text.
     pub json: bool,
@@ -33,9 +33,9 @@ pub struct Ask<'a> {
     pub codes: Vec<&'a str>,
     /// The paths of all files to read, in the order given.
     pub files: Vec<&'a str>,
-    /// What `check` or `digest` was given as the source of a list of files.
+    /// What was given as the source of a list of files.
     pub files_from: Option<&'a str>,
-    /// Whether `check` or `digest` was given `-0`: the standard input is a list of files.
+    /// Whether `-0` was given: the standard input is a list of files, whose names end with NULs.
     pub null: bool,
     /// Whether `check` was given `-q`: only the exit code says whether files break a rule.
     pub quiet: bool,
@@ -43,6 +43,10 @@ pub struct Ask<'a> {
     pub root: Option<&'a str>,
     /// Whether `embed` clears the strong name.
     pub unsigned: bool,
+    /// Whether files may be directories, whose files are read.
+    pub recursive: bool,
+    /// The name of the resource whose content is written.
+    pub extract: Option<&'a str>,
 }
 
 /// The subcommands of the program.
@@ -60,6 +64,10 @@ pub enum Subcommand {
     Types,
     /// `outline`: print the declarations of the assembly, or of one type.
     Outline,
+    /// `refs`: print what the assembly refers to in other modules.
+    Refs,
+    /// `resources`: print where the resources are, or the content of one.
+    Resources,
     /// `strings`: print the user strings.
     Strings,
     /// `token`: print the row or the user string that each token names.
@@ -87,6 +95,8 @@ impl Subcommand {
         Subcommand::Show,
         Subcommand::Types,
         Subcommand::Outline,
+        Subcommand::Refs,
+        Subcommand::Resources,
         Subcommand::Strings,
         Subcommand::Token,
         Subcommand::Where,
@@ -108,6 +118,8 @@ impl Subcommand {
             "show" => Some(Subcommand::Show),
             "types" => Some(Subcommand::Types),
             "outline" => Some(Subcommand::Outline),
+            "refs" => Some(Subcommand::Refs),
+            "resources" => Some(Subcommand::Resources),
             "strings" => Some(Subcommand::Strings),
             "token" => Some(Subcommand::Token),
             "where" => Some(Subcommand::Where),

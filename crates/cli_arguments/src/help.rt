@@ -1,47 +1,77 @@
 //! The help of the program.
 
+/// The commands, with the texts of their own help.
+pub const SHORT_HELP: &str = "\
+Read, check and rewrite .NET metadata (ECMA-335, Partition II)
+
+Usage: clim <COMMAND>
+
+  info       Print what an assembly is: its identity, headers and references
+  root       Print the CLI header, the version and the stream headers
+  show       Print the rows of all tables, or of one
+  types      Print the types, with the number of their fields and methods
+  outline    Print the declarations of the assembly, or of one type
+  refs       Print what the assembly refers to in other modules
+  resources  Print where the resources are, or write the content of one
+  strings    Print the user strings, with their tokens
+  token      Print the row or the user string of each token
+  where      Print which header, stream or cell contains the byte at an offset
+  check      Check files against the rules of the standard
+  explain    Explain faults, or list all
+  compare    Compare the metadata of two files
+  digest     Print the SHA-256 digest of the canonical root of each file
+  rewrite    Write the canonical metadata root of a file
+  embed      Write a copy of a file with its canonical root, or with another
+
+'clim <COMMAND> --help' shows options and examples. 'clim --help' says more.
+";
+
 /// The commands in groups, with the texts of their own help, and the exit statuses.
 pub(crate) const HELP: &str = "\
-Read, check and rewrite the metadata of .NET assemblies (ECMA-335, Partition II)
+Read, check and rewrite .NET metadata (ECMA-335, Partition II)
 
 Usage: clim <COMMAND>
 
 Look:
-  info     Print what an assembly is: its identity, its headers and its references
-  root     Print the CLI header, and the version and the stream headers of the metadata root
-  show     Print the rows of all tables, or of one
-  types    Print the types, with the number of their fields and methods
-  outline  Print the declarations of the assembly, or of one type, in a notation close to ILAsm
-  strings  Print the user strings, with their tokens
-  token    Print the row or the user string of each token
-  where    Print what the byte at an offset belongs to: a header, a stream or a cell
+  info       Print what an assembly is: its identity, headers and references
+  root       Print the CLI header, the version and the stream headers
+  show       Print the rows of all tables, or of one
+  types      Print the types, with the number of their fields and methods
+  outline    Print the declarations of the assembly, or of one type
+  refs       Print what the assembly refers to in other modules
+  resources  Print where the resources are, or write the content of one
+  strings    Print the user strings, with their tokens
+  token      Print the row or the user string of each token
+  where      Print which header, stream or cell contains the byte at an offset
 
 Check:
-  check    Check files against the rules of the standard
-  explain  Explain faults, or list all
+  check      Check files against the rules of the standard
+  explain    Explain faults, or list all
 
 Compare:
-  compare  Compare the metadata of two files
-  digest   Print the SHA-256 digest of the canonical metadata root of each file
+  compare    Compare the metadata of two files
+  digest     Print the SHA-256 digest of the canonical root of each file
 
 Write:
-  rewrite  Write the canonical metadata root of a file
-  embed    Write a copy of a file with its canonical metadata root, or with another
+  rewrite    Write the canonical metadata root of a file
+  embed      Write a copy of a file with its canonical root, or with another
 
 Help:
-  help     Print this message or the help of the given subcommand(s)
+  help       Print this message or the help of the given subcommand(s)
 
 Options:
-  -h, --help     Print help
+  -h, --help     Print help; '-h' prints less of it
   -V, --version  Print version
 
-'clim <COMMAND> --help' shows examples of each command. 'clim explain CODE' explains a fault.
+'clim <COMMAND> --help' shows examples of each command. 'clim explain CODE'
+explains a fault.
 
 Exit status:
   0  success
-  1  FILE breaks a rule of the standard, printed as 'fault LAYER CODE at OFFSET: NAME';
-     or there is no row or string for HEX, no type NAME, or nothing at OFFSET; or the canonical
-     root has more than 2^30 bytes; or FILE and OTHER differ; or ROOT is refused, or does not fit
+  1  FILE breaks a rule of the standard, printed as
+     'fault LAYER CODE at OFFSET: NAME'; or there is no row or string for HEX,
+     no type NAME, or nothing at OFFSET; or the canonical root has more than
+     2^30 bytes; or FILE and OTHER differ; or ROOT is refused, or does not fit
   2  usage error; FILE was not read
   3  I/O error, out of memory, or budget spent
 The status for several files is the greatest of theirs.

@@ -17,3 +17,4 @@ mod subcommands;
 
 pub use arguments::ask;
 pub use asked::{Ask, Subcommand};
+pub use help::SHORT_HELP;

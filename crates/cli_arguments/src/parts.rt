@@ -1,44 +1,58 @@
-//! The files among the arguments, and what alone to print of them.
-ghost use Rattle.std.specs.Prelude.{◌↔◌, IsTrue, List, codes, map, option_map};
-ghost use Rattle.clap.specs.Words.{Text, first_of, found_of, rows_of};
-ghost use Rattle.cli_arguments.specs.Asked.{AreParts, AreShown, IsPlainWord, IsTableLast};
+//! The files among the arguments, and the last argument if it is none of them.
+ghost use Rattle.std.specs.Prelude.{◌≡◌, ◌≢◌, ◌↔◌, ◌⊎◌, [], IsTrue, List, map, option_map};
+ghost use Rattle.clap.specs.Words.{Text, found_of, rows_of};
+ghost use Rattle.cli_arguments.specs.Asked.{AreParts, IsPart, IsPartLast, IsPlainWord, TakesList, ends_in, has_directory, is_assembly, is_image, is_path};
 
+use crate::arguments::flag;
 use crate::asked::Subcommand;
 use clap::ArgMatches;
 
-/// What alone to print of the files. Of `show` it is taken from the arguments that name files.
-pub(crate) fn part_of<'a>(
+/// Takes the last of the arguments that name files, if it is none of them but says what to print of them.
+pub(crate) fn take_part<'a>(
     subcommand: Subcommand,
     given: &ArgMatches<'a>,
-    files: &mut Vec<&'a str>,
+    words: &mut Vec<&'a str>,
 ) -> Option<&'a str>
-    ensures { AreParts subcommand (first_of (codes "part") (rows_of (found_of given.now))) (map (λ word. word.now) files.old.items)
-        (map (λ word. word.now) files.new.items) (option_map (λ word. word.now) result) }
+    ensures { AreParts subcommand (TakesList (rows_of (found_of given.now))) (map (λ word. word.now) words.old.items)
+        (map (λ word. word.now) words.new.items) (option_map (λ word. word.now) result) }
 {
-    match subcommand {
-        Subcommand::Show => take_table(files),
-        _ => given.get_str("part"),
-    }
-}
-
-/// Takes the table from the arguments of `show`, if the last one is a table.
-fn take_table<'a>(words: &mut Vec<&'a str>) -> Option<&'a str>
-    ensures { AreShown (map (λ word. word.now) words.old.items) (map (λ word. word.now) words.new.items) (option_map (λ word. word.now) result) }
-{
-    if ends_with_table(words.as_slice()) {
+    if ends_with_part(subcommand, given, words.as_slice()) {
         words.pop()
     } else {
         None
     }
 }
 
-/// Whether the last of several arguments is a table.
-fn ends_with_table(words: &[&str]) -> bool
-    ensures { IsTrue result ↔ ((before : List Text) × (last : Text) × IsTableLast (map (λ word. word.now) words.now) before last) }
+/// Whether the last argument says what to print of the files before it, or of those of a list.
+fn ends_with_part(subcommand: Subcommand, given: &ArgMatches<'_>, words: &[&str]) -> bool
+    ensures { IsTrue result ↔ ((before : List Text) × (last : Text)
+        × IsPartLast subcommand (TakesList (rows_of (found_of given.now))) (map (λ word. word.now) words.now) before last) }
 {
     match words.split_last() {
-        Some((last, before)) => !before.is_empty() && is_plain_word(last),
+        Some((last, before)) => is_part(subcommand, has_files(given, before), last),
         None => false,
+    }
+}
+
+/// Whether there are files: these arguments, or those of a list.
+fn has_files(given: &ArgMatches<'_>, words: &[&str]) -> bool
+    ensures { IsTrue result ↔ (TakesList (rows_of (found_of given.now)) ⊎ (map (λ word. word.now) words.now ≢ [])) }
+{
+    match given.get_str("files-from") {
+        Some(_) => true,
+        None => flag(given, "null") || !words.is_empty(),
+    }
+}
+
+/// Whether the last argument says what to print of files, if there are any besides.
+fn is_part(subcommand: Subcommand, has_files: bool, word: &str) -> bool
+    ensures { IsTrue result ↔ IsPart subcommand (IsTrue has_files) word.now }
+{
+    match subcommand {
+        Subcommand::Show => has_files && is_plain_word(word),
+        Subcommand::Outline => has_files && !is_path(word),
+        Subcommand::Where => true,
+        _ => false,
     }
 }
 
@@ -49,4 +63,41 @@ fn is_plain_word(word: &str) -> bool
     word.as_bytes()
         .iter()
         .all(|byte| *byte != b'-' && *byte != b'.' && *byte != b'/')
+}
+
+/// Whether a word has the form of a path: that of the standard input, of a directory, or of an assembly.
+fn is_path(word: &str) -> bool
+    ensures { result ≡ is_path word.now }
+{
+    let word = word.as_bytes();
+    word == b"-".as_slice() || has_directory(word) || is_assembly(word)
+}
+
+/// Whether a word begins at the root, in this directory or in the one that contains it.
+fn has_directory(word: &[u8]) -> bool
+    ensures { result ≡ has_directory word.now }
+{
+    word.starts_with(b"/") || word.starts_with(b"./") || word.starts_with(b"../")
+}
+
+/// Whether a word ends like the name of an assembly.
+fn is_assembly(word: &[u8]) -> bool
+    ensures { result ≡ is_assembly word.now }
+{
+    is_image(word) || ends_in(word, b".winmd") || ends_in(word, b".netmodule")
+}
+
+/// Whether a word ends like the name of a program or a library.
+fn is_image(word: &[u8]) -> bool
+    ensures { result ≡ is_image word.now }
+{
+    ends_in(word, b".dll") || ends_in(word, b".exe")
+}
+
+/// Whether a word ends with these small letters, in any case.
+fn ends_in(word: &[u8], ending: &[u8]) -> bool
+    ensures { result ≡ ends_in ending.now word.now }
+{
+    let (_, last) = word.split_at(word.len().saturating_sub(ending.len()));
+    last.eq_ignore_ascii_case(ending)
 }

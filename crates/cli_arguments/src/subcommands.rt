@@ -23,6 +23,8 @@ pub(crate) mod embed_root;
 pub(crate) mod explain_fault;
 pub(crate) mod print_info;
 pub(crate) mod print_outline;
+pub(crate) mod print_refs;
+pub(crate) mod print_resources;
 pub(crate) mod print_root;
 pub(crate) mod print_strings;
 pub(crate) mod print_token;
@@ -55,6 +57,8 @@ pub(crate) fn usage_of<'a>(subcommand: Subcommand) -> Usage<'a>
         Subcommand::Show => show_tables::USAGE,
         Subcommand::Types => print_types::USAGE,
         Subcommand::Outline => print_outline::USAGE,
+        Subcommand::Refs => print_refs::USAGE,
+        Subcommand::Resources => print_resources::USAGE,
         Subcommand::Strings => print_strings::USAGE,
         Subcommand::Token => print_token::USAGE,
         Subcommand::Where => print_where::USAGE,
@@ -66,8 +70,8 @@ pub(crate) fn usage_of<'a>(subcommand: Subcommand) -> Usage<'a>
     }
 }
 
-/// `FILE..`, the paths of the files to read.
-const FILES: Argument<'static> = argument!["FILE" Several "The files to read"];
+/// `[FILE]..`, the paths of the files to read.
+const FILES: Argument<'static> = argument!["FILE" AnyNumber "The files to read"];
 
 /// `FILE`, the path of the file to read.
 const FILE: Argument<'static> = argument!["FILE" Required("FILE") "The file to read"];
@@ -77,14 +81,19 @@ const BARE: Argument<'static> = argument!["bare" Flag "FILE is a metadata root, 
 
 /// `--budget`, the limit of what is checked.
 const BUDGET: Argument<'static> =
-    argument!["budget" Number("N") "Check at most N bytes of texts and signatures, or stop with exit status 3"];
+    argument!["budget" Number("N") "Check at most N bytes of texts and signatures"];
 
 /// `--files-from`, the source of a list of files.
 const FILES_FROM: Argument<'static> =
-    argument!["files-from" Option("-") "Read the names of the files from standard input, each ended by a NUL"];
+    argument!["files-from" Option("-") "Read file names from standard input, one on each line"];
 
-/// `-0`, the flag for a list of files.
-const NULL: Argument<'static> = argument!["null" ShortFlag('0') "The same as '--files-from -'"];
+/// `-0`, the flag for a list of files whose names end with NULs.
+const NULL: Argument<'static> =
+    argument!["null" ShortFlag('0') "Read file names from standard input, each ended by NUL"];
+
+/// `-r`, the flag for directories.
+const RECURSIVE: Argument<'static> =
+    argument!["recursive" EitherFlag('r') "Read the PE files in each FILE that is a directory"];
 
 /// `--json`, the flag for JSON Lines.
 const JSON: Argument<'static> = argument!["json" Flag "Print a JSON value on each line"];

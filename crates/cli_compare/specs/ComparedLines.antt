@@ -1,5 +1,5 @@
 -- What `clim compare` prints of two models (ECMA-335 II.22 and II.24.2).
-use Rattle.std.specs.Prelude.{◌≤◌, ◌<◌, ℕ, List, [], ◌∷◌, ◌++◌, codes, length, map}
+use Rattle.std.specs.Prelude.{◌≤◌, ◌<◌, ◌==◌, if◌then◌else◌, ℕ, suc, List, [], ◌∷◌, ◌++◌, codes, length, map}
 use Rattle.table_schema.specs.CellColumns.{cell_count}
 use Rattle.table_schema.specs.Tables.{table_number, table_name}
 use Rattle.metadata.specs.Metadata.{Metadata, cell_in, count_in}
@@ -33,10 +33,22 @@ value_part key model UserStrings = note (line.number (length model.user))
 value_part key model (RowCount table left right) = field key (line.number (count_in model table))
 value_part key model (Cell table row cell_index) = field key (cell_value (cell_in model table row cell_index))
 
--- the line of something that differs: what it is, and what each model has there
+-- the number of bytes before the first that differs, or that one of the lists does not have
+abbrev pub same_bytes : List ℕ → List ℕ → ℕ
+same_bytes [] right = 0
+same_bytes (byte ∷ left) [] = 0
+same_bytes (byte ∷ left) (other ∷ right) = if byte == other then suc (same_bytes left right) else 0
+
+-- where the user strings differ: the offset of the first byte that differs
+unfoldable pub offset_parts : Metadata → Metadata → Difference → List Part
+offset_parts left right UserStrings = word (codes " at ") ∷ field name.Offset (line.number (same_bytes left.user right.user)) ∷ []
+offset_parts left right _ = []
+
+-- the line of something that differs: what it is, what each model has there, and of user strings where they differ
 abbrev pub difference_line : Metadata → Metadata → Difference → List Part
 difference_line left right difference =
-    label_parts difference ++ word (codes ": ") ∷ value_part name.Left left difference ∷ word (codes " | ") ∷ value_part name.Right right difference ∷ []
+    label_parts difference ++ word (codes ": ") ∷ value_part name.Left left difference ∷ word (codes " | ") ∷ value_part name.Right right difference
+    ∷ offset_parts left right difference
 
 -- nothing differs
 unfoldable pub equal_line : List Part

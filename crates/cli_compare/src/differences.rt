@@ -1,5 +1,5 @@
 //! The lines of what differs.
-ghost use Rattle.std.specs.Prelude.{◌≡◌, ◌++◌, ◌∷◌, ◌<◌, [], All, length, map};
+ghost use Rattle.std.specs.Prelude.{◌≡◌, ◌++◌, ◌∷◌, ◌<◌, [], All, length, map, slice_index};
 ghost use Rattle.heap_entries.specs.Padding.{zero_padded};
 ghost use Rattle.metadata.specs.Metadata.{Metadata};
 ghost use Rattle.metadata.specs.Model.{IsModel};
@@ -7,7 +7,7 @@ ghost use Rattle.comparison.specs.Differences.{IsThere};
 ghost use Rattle.comparison.specs.declared.difference.Difference.TheVariants.{Cell, RowCount, UserStrings, Version};
 ghost use Rattle.table_schema.specs.CellColumns.{cell_count};
 ghost use Rattle.cli_lines.specs.Printed.{Adds, Begins, Prints};
-ghost use Rattle.cli_compare.specs.ComparedLines.{HasColumn, HasRows, compared_lines, difference_line, equal_line, label_parts, value_part};
+ghost use Rattle.cli_compare.specs.ComparedLines.{HasColumn, HasRows, compared_lines, difference_line, equal_line, label_parts, offset_parts, same_bytes, value_part};
 
 use cli_cells::{Names, column_name, print_cell};
 use cli_lines::Part::{Field, Member, Note, Word};
@@ -20,7 +20,8 @@ use std::io::Write;
 
 /// Prints what differs between two views, as `comparison::differences` found it: a line `WHAT: A | B` for each, and `equal`
 /// if there is none. WHAT is `version`, `user strings`, `rows NN NAME`, or the token of a row and the name of a column. A
-/// cell is printed as by `clim show`.
+/// cell is printed as by `clim show`. Of user strings A and B are the numbers of bytes, and ` at OFFSET` follows: the first
+/// offset in `#US` at which they differ.
 pub fn print_differences<W: Write>(
     alloc: Global,
     left: &View<'_>,
@@ -86,6 +87,7 @@ fn print_difference<W: Write>(
     print_value(alloc, Name::Left, left, difference, out);
     out.part(&Word(" | "));
     print_value(alloc, Name::Right, right, difference, out);
+    print_offset(left.view(), right.view(), difference, out);
     out.end();
 }
 
@@ -187,6 +189,57 @@ fn print_value<W: Write>(
             cell_index,
             out,
         ),
+    }
+}
+
+/// Adds where the user strings of two views differ, if these differ.
+#[tactic(auto, unfolding(crate::specs::ComparedLines::offset_parts))]
+fn print_offset<W: Write>(
+    left: &View<'_>,
+    right: &View<'_>,
+    difference: Difference,
+    out: &mut Printer<'_, W>,
+)
+    ensures { (model other : Metadata) → IsModel left.now model → IsModel right.now other
+        → Adds out.old out.new (offset_parts model other difference) }
+{
+    cli_lines::laws::parts_follow::<W>();
+    match difference {
+        Difference::UserStrings => {
+            let offset = same_bytes(left.user(), right.user());
+            out.part(&Word(" at "));
+            out.part(&Field(Name::Offset, Number(offset as u64)));
+        }
+        Difference::Version => {}
+        Difference::RowCount { .. } => {}
+        Difference::Cell { .. } => {}
+    }
+}
+
+/// The number of bytes before the first that differs, of two heaps that are padded with zeros to a multiple of four.
+fn same_bytes(left: &[u8], right: &[u8]) -> usize
+    ensures { result ≡ same_bytes (zero_padded left.now) (zero_padded right.now) }
+{
+    let most = padded_len(left).min(padded_len(right));
+    for offset in 0..most {
+        let here = padded_byte(left, offset);
+        let there = padded_byte(right, offset);
+        if here != there {
+            return offset;
+        }
+    }
+    most
+}
+
+/// The byte at an offset of bytes that are padded with zeros to a multiple of four.
+fn padded_byte(bytes: &[u8], offset: usize) -> u8
+    requires { offset < length (zero_padded bytes.now) }
+    ensures { result ≡ slice_index (zero_padded bytes.now) offset }
+{
+    if offset < bytes.len() {
+        bytes[offset]
+    } else {
+        0
     }
 }
 

@@ -1,6 +1,6 @@
 -- A text whose escapes are read back, byte by byte.
-use Rattle.std.proofs.Common.{◌≡◌, ℕ, zero, suc, ◌-◌, ◌<◌, ◌≤◌, Bool, if◌then◌else◌, Option, Some, None, Result, Ok, Err, MatchResult, IsUtf8, Bor, List, [], ◌∷◌, ◌++◌, drop, length, ap, append_assoc, append-nil, arith, refl, sym, ◌∙◌}
-use Rattle.std.specs.Prelude.{slice_get}
+use Rattle.std.proofs.Common.{OnOk, is_ok, ◌==◌, ◌+◌, false, true, ◌≡◌, ℕ, zero, suc, ◌-◌, ◌<◌, ◌≤◌, Bool, if◌then◌else◌, Option, Some, None, Result, Ok, Err, MatchResult, IsUtf8, Bor, List, [], ◌∷◌, ◌++◌, drop, length, ap, append_assoc, append-nil, arith, refl, sym, ◌∙◌}
+use Rattle.std.specs.Prelude.{slice_get, slice_index}
 use Rattle.std.specs.Option.{unwrap_or}
 use Rattle.std.specs.Result.{result_unwrap_or}
 use Rattle.std.specs.Str.{is_utf8}
@@ -43,3 +43,26 @@ text_is (Ok text) other out bytes IsFault is found =
     ap (λ (t : Bor (List ℕ)). t.now) is ∙ found.0 ∙ ap (λ (t : Bool). if t then bytes else other.now) (sym (is_utf8-from_IsUtf8 bytes found.1))
 text_is (Err error) other out bytes IsFault is found =
     ap (λ (t : Bor (List ℕ)). t.now) is ∙ ap (λ (t : Bool). if t then bytes else other.now) (sym (false_from_ne_true (is_utf8 bytes) (λ yes. found.0 (IsUtf8-from_is_utf8 bytes yes))))
+
+-- a byte that is no backslash begins no escape
+not_escaped : (byte : ℕ) (tail : List ℕ) → (byte == 92) ≡ false → None ≡ escaped_at (byte ∷ tail)
+unfolding escaped_at
+not_escaped byte [] other = refl
+not_escaped byte (second ∷ []) other = refl
+not_escaped byte (second ∷ (high ∷ [])) other = refl
+not_escaped byte (second ∷ (high ∷ (low ∷ tail))) other = rw other refl
+
+-- a text without backslashes has no escapes
+pub plain_read : (text : List ℕ) → ((k : ℕ) → 0 ≤ k → k < length text → ¬ ((slice_index text k == 92) ≡ true)) → unescaped text ≡ text
+unfolding unescaped_after
+plain_read [] none = refl
+plain_read (byte ∷ tail) none =
+    let first : (byte == 92) ≡ false = false_from_ne_true (byte == 92) (none 0 (omega arith) (omega arith)) in
+    let later = plain_read tail (λ k low lt. none (suc k) (omega arith) (omega (arith, lt))) in
+    rw (← not_escaped byte tail first) (ap (λ t. byte ∷ t) later)
+
+-- a text that was appended, unless memory ran out
+pub appended : {T E : Type 0} (result : Result T E) (old new text : List ℕ) → new ≡ (if is_ok result then old ++ text else old) → unescaped text ≡ text
+    → OnOk result (new ≡ old ++ unescaped text)
+appended (Ok done) old new text is plain = is ∙ ap (λ t. old ++ t) (sym plain)
+appended (Err error) old new text is plain = tt

@@ -1,12 +1,10 @@
 -- Texts one after another, and what a writer that escapes took.
-use Rattle.std.proofs.Common.{◌≡◌, ◌∙◌, ℕ, zero, suc, ◌+◌, ◌-◌, ◌/◌, ◌%◌, ◌<◌, ◌≤◌, Bool, false, cond, eqb, ltb, List, [], ◌∷◌, ◌++◌, length, get_or, drop, take, refl, ap, sym, subst, append_assoc, append-nil, length-append, arith, ⊎_elim}
+use Rattle.std.proofs.Common.{◌≡◌, ◌∙◌, ℕ, zero, suc, ◌+◌, ◌-◌, ◌<◌, ◌≤◌, Bool, cond, eqb, ltb, List, [], ◌∷◌, ◌++◌, length, get_or, drop, take, refl, ap, sym, subst, append_assoc, append-nil, length-append, arith, ⊎_elim}
 use Rattle.std.proofs.lemmas.Bool.{cases_lt, eq-eqb, le-ltb, lt-ltb, ne_eqb}
 use Rattle.std.proofs.lemmas.List.{flat_map_more}
 use Rattle.std.proofs.Math.Seq.{drop-append_seam, take-suc}
 use Rattle.std.specs.List.{flat_map, FoldsTo, concat}
-use Rattle.std.specs.Fmt.{WritesInCalls, digit_glyph}
-use Rattle.std.proofs.lemmas.Fmt.{hex_byte}
-use Rattle.table_schema.specs.Tokens.{hexadecimal}
+use Rattle.std.specs.Fmt.{WritesInCalls}
 use Rattle.cli_declarations.specs.Parts.{cut_mark, cut_text, text_limit}
 use Rattle.cli_declarations.specs.Texts.{AreTexts, Gains}
 
@@ -93,9 +91,3 @@ module _ {X : Type 0} (is_text : X → List ℕ → Type 0) where
 pub items_more : {X : Type 0} (f : X → List ℕ) (line : List ℕ) (xs : List X) (i : ℕ) (d : X) → i < length xs
     → (line ++ flat_map f (take i xs)) ++ f (get_or xs i d) ≡ line ++ flat_map f (take (i + 1) xs)
 items_more f line xs i d lt = flat_map_more f line (take i xs) (get_or xs i d) ∙ ap (λ ys. line ++ flat_map f ys) (sym (take_more xs i d lt))
-
--- the two hexadecimal digits of a byte
-pub two_digits : (line : List ℕ) (byte high low : ℕ) → byte < 256 → high ≡ digit_glyph false (byte / 16) → low ≡ digit_glyph false (byte % 16)
-    → (line ++ high ∷ []) ++ low ∷ [] ≡ line ++ hexadecimal 2 byte
-two_digits line byte high low small high_is low_is =
-    append_assoc line (high ∷ []) (low ∷ []) ∙ (λ k. line ++ high_is k ∷ low_is k ∷ []) ∙ ap (λ ys. line ++ ys) (sym (hex_byte false byte small))

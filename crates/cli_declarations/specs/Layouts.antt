@@ -1,18 +1,19 @@
 -- The line of a row of each table, as a list of parts (ECMA-335 II.6 and II.10). A row of another table has no line.
 use Rattle.std.specs.Prelude.{ℕ, List, [], ◌∷◌, codes}
 use Rattle.table_schema.specs.declared.table.TableId.{TableId}
-use Rattle.table_schema.specs.declared.table.TableId.TheVariants.{Assembly, AssemblyRef, Module, ModuleRef, File, ManifestResource, TypeDef, Field, MethodDef, InterfaceImpl, GenericParam, GenericParamConstraint, ExportedType, MethodImpl, MethodSemantics, Event, Property, ImplMap, CustomAttribute}
+use Rattle.table_schema.specs.declared.table.TableId.TheVariants.{Assembly, AssemblyRef, Module, ModuleRef, File, ManifestResource, TypeDef, Field, MethodDef, InterfaceImpl, GenericParam, GenericParamConstraint, ExportedType, MethodImpl, MethodSemantics, Event, Property, ImplMap, DeclSecurity, CustomAttribute, TypeRef, MemberRef}
 use Rattle.table_schema.specs.declared.token.Token.{Token}
 use Rattle.metadata.specs.Metadata.{Metadata}
 use Rattle.declarations.specs.declared.flag_words.FlagTable.TheVariants as table
+use Rattle.navigation.specs.declared.links.Link.TheVariants as link
 use Rattle.cli_declarations.specs.Texts.{AreTexts}
-use Rattle.cli_declarations.specs.Parts.{IsPartText, Part, word, flags, text, number, quoted_after, bytes_after, key, hex, token_after, signature, declaration, own_name, name_after}
+use Rattle.cli_declarations.specs.Parts.{IsPartText, Part, word, flags, text, number, quoted_after, bytes_after, key, first_bytes, token_after, signature, declaration, own_name, name_after, eight_digits, guid_comment, action, linked_by, own_reference, reference_after, scope_after, attribute_value}
 
 abbrev pub parts_of : TableId → List Part
 -- II.6.2, II.22.2
 parts_of Assembly =
     word (codes ".assembly") ∷ flags table.Assembly 5 ∷ word (codes " ") ∷ text 7 ∷
-    word (codes " { .ver ") ∷ number 1 ∷ word (codes ":") ∷ number 2 ∷ word (codes ":") ∷ number 3 ∷ word (codes ":") ∷ number 4 ∷
+    word (codes " { .hash algorithm 0x") ∷ eight_digits 0 ∷ word (codes " .ver ") ∷ number 1 ∷ word (codes ":") ∷ number 2 ∷ word (codes ":") ∷ number 3 ∷ word (codes ":") ∷ number 4 ∷
     quoted_after (codes " .culture ") 8 ∷ bytes_after (codes " .publickey = ") 6 ∷ word (codes " }") ∷ []
 -- II.6.3, II.22.5
 parts_of AssemblyRef =
@@ -20,17 +21,20 @@ parts_of AssemblyRef =
     word (codes " { .ver ") ∷ number 0 ∷ word (codes ":") ∷ number 1 ∷ word (codes ":") ∷ number 2 ∷ word (codes ":") ∷ number 3 ∷
     quoted_after (codes " .culture ") 7 ∷ key 4 5 ∷ word (codes " }") ∷ []
 -- II.6.4, II.22.30
-parts_of Module = word (codes ".module ") ∷ text 1 ∷ []
+parts_of Module = word (codes ".module ") ∷ text 1 ∷ guid_comment 2 ∷ []
 -- II.6.5, II.22.31
 parts_of ModuleRef = word (codes ".module extern ") ∷ text 0 ∷ []
 -- II.6.2.3, II.22.19
 parts_of File = word (codes ".file") ∷ flags table.File 0 ∷ word (codes " ") ∷ text 1 ∷ []
 -- II.6.2.2, II.22.24
 parts_of ManifestResource = word (codes ".mresource") ∷ flags table.Resource 1 ∷ word (codes " ") ∷ text 2 ∷ []
--- II.10.1, II.22.37
-parts_of TypeDef = word (codes ".class") ∷ flags table.Type 0 ∷ word (codes " ") ∷ own_name ∷ name_after (codes " extends ") 3 ∷ []
+-- II.10.1, II.10.7, II.22.37
+parts_of TypeDef =
+    word (codes ".class") ∷ flags table.Type 0 ∷ word (codes " ") ∷ own_name ∷ name_after (codes " extends ") 3 ∷ linked_by link.TypeLayouts ∷ []
 -- II.16.1, II.22.15
-parts_of Field = word (codes "  .field") ∷ flags table.Field 0 ∷ word (codes " ") ∷ signature 2 ∷ word (codes " ") ∷ text 1 ∷ []
+parts_of Field =
+    word (codes "  .field") ∷ linked_by link.FieldOffsets ∷ flags table.Field 0 ∷ linked_by link.Marshalling ∷ word (codes " ") ∷ signature 2 ∷
+    word (codes " ") ∷ text 1 ∷ linked_by link.Constants ∷ linked_by link.FieldData ∷ []
 -- II.15.4, II.22.26
 parts_of MethodDef = word (codes "  .method") ∷ flags table.Method 2 ∷ word (codes " ") ∷ declaration ∷ flags table.Implementation 1 ∷ []
 -- II.12.2, II.22.23
@@ -44,20 +48,26 @@ parts_of GenericParamConstraint = word (codes ".param constraint") ∷ name_afte
 parts_of ExportedType =
     word (codes ".class extern") ∷ flags table.Type 0 ∷ word (codes " ") ∷ own_name ∷ token_after (codes " in ") 4 ∷ name_after (codes " ") 4 ∷ []
 -- II.10.3.2, II.22.27
-parts_of MethodImpl = word (codes ".override") ∷ name_after (codes " ") 2 ∷ name_after (codes " with ") 1 ∷ name_after (codes " in ") 0 ∷ []
+parts_of MethodImpl = word (codes ".override") ∷ reference_after (codes " ") 2 ∷ reference_after (codes " with ") 1 ∷ name_after (codes " in ") 0 ∷ []
 -- II.18, II.22.13
 parts_of Event = word (codes "  .event") ∷ flags table.Mapped 0 ∷ name_after (codes " ") 2 ∷ word (codes " ") ∷ own_name ∷ []
 -- II.17, II.22.34
-parts_of Property = word (codes "  .property") ∷ flags table.Mapped 0 ∷ word (codes " ") ∷ declaration ∷ []
+parts_of Property = word (codes "  .property") ∷ flags table.Mapped 0 ∷ word (codes " ") ∷ declaration ∷ linked_by link.Constants ∷ []
 -- II.17, II.18, II.22.28
-parts_of MethodSemantics = word (codes "   ") ∷ flags table.Semantics 0 ∷ name_after (codes " ") 1 ∷ name_after (codes " of ") 2 ∷ []
+parts_of MethodSemantics = word (codes "   ") ∷ flags table.Semantics 0 ∷ reference_after (codes " ") 1 ∷ name_after (codes " of ") 2 ∷ []
 -- II.15.5.2, II.22.22
 parts_of ImplMap =
     word (codes ".pinvokeimpl(") ∷ name_after (codes "\"") 3 ∷ word (codes "\"") ∷ quoted_after (codes " as ") 2 ∷ flags table.Import 0 ∷ word (codes ")") ∷
     name_after (codes " of ") 1 ∷ []
+-- II.20, II.22.11
+parts_of DeclSecurity = word (codes ".permissionset ") ∷ action 0 ∷ word (codes " = (") ∷ first_bytes 2 ∷ word (codes ")") ∷ name_after (codes " of ") 1 ∷ []
 -- II.21, II.22.10
 parts_of CustomAttribute =
-    word (codes ".custom") ∷ name_after (codes " ") 1 ∷ word (codes " = (") ∷ hex 2 ∷ word (codes ")") ∷ token_after (codes " of ") 0 ∷ []
+    word (codes ".custom") ∷ reference_after (codes " ") 1 ∷ attribute_value ∷ reference_after (codes " of ") 0 ∷ []
+-- II.7.3, II.22.38
+parts_of TypeRef = word (codes ".typeref ") ∷ scope_after [] ∷ own_name ∷ []
+-- II.15.3, II.22.25
+parts_of MemberRef = word (codes ".memberref ") ∷ own_reference ∷ scope_after (codes " of ") ∷ []
 parts_of _ = []
 
 -- the declaration of a row: the texts of its parts

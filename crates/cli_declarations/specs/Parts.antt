@@ -1,21 +1,35 @@
 -- The parts of a line, and their texts (ECMA-335 II.5, II.6, II.10).
-use Rattle.std.specs.Prelude.{◌≡◌, ℕ, ◌%◌, ◌==◌, Bool, nat_lt, if◌then◌else◌, List, [], ◌∷◌, ◌++◌, length, take, codes, count_by, Option, None, Some}
+use Rattle.std.specs.Prelude.{◌≡◌, ℕ, ◌%◌, ◌==◌, Bool, true, false, nat_lt, if◌then◌else◌, List, [], ◌∷◌, ◌++◌, length, take, codes, count_by, Option, None, Some, ◌⊎◌, nat_le, option_and_then}
 use Rattle.std.specs.Prelude.{decimal as digits}
 use Rattle.table_schema.specs.declared.table.TableId.{TableId}
-use Rattle.table_schema.specs.declared.table.TableId.TheVariants.{MethodDef, Property}
+use Rattle.table_schema.specs.declared.table.TableId.TheVariants.{MethodDef, Property, Constant, ClassLayout, FieldLayout, FieldRVA, FieldMarshal, AssemblyRef, Event, Field, MemberRef, ModuleRef, TypeDef, CustomAttribute}
 use Rattle.table_schema.specs.declared.token.Token.{Token}
-use Rattle.table_schema.specs.Tokens.{token_text}
+use Rattle.table_schema.specs.Tokens.{hexadecimal, token_text}
 use Rattle.sig_grammar.specs.Syntax.{Body, Method, Slot, method_body, property}
 use Rattle.sig_text.specs.Declares.{as_method}
 use Rattle.sig_text.specs.SignatureText.{text_of as pieces_of_signature}
-use Rattle.metadata.specs.Cell.{Cell, Number, Text, Bytes, Ref, Sig}
+use Rattle.metadata.specs.Cell.{Cell, Number, Text, Bytes, Guid, Ref, Sig}
+use Rattle.attribute_values.specs.declared.types.ArgumentType.{ArgumentType}
+use Rattle.attribute_values.specs.Values.{AttributeValue}
+use Rattle.attribute_values.specs.Parts.{IsAttributeValue}
+use Rattle.attribute_constructors.specs.Signatures.{reference_in}
+use Rattle.attribute_constructors.specs.Params.{params_of_constructor}
+use Rattle.attribute_text.specs.Texts.{value_text as attribute_value_text}
 use Rattle.metadata.specs.Metadata.{Metadata, cell_in}
 use Rattle.full_names.specs.declared.quoted.NameKind.TheVariants.{Dotted}
 use Rattle.full_names.specs.Quoted.{name_text, quoted_bytes}
 use Rattle.full_names.specs.RowNames.{IsRowName}
 use Rattle.full_names.specs.Texts.{ArePiecesText, IsFullName, IsPieceText}
-use Rattle.declarations.specs.Declarations.{IsDeclaration, IsPropertyDeclaration}
+use Rattle.declarations.specs.Declarations.{IsDeclaration, IsPropertyDeclaration, IsReference}
+use Rattle.navigation.specs.declared.links.Link.{Link}
+use Rattle.navigation.specs.declared.links.Link.TheVariants as link_of
+use Rattle.navigation.specs.Linked.{first_linked}
+use Rattle.cli_lines.specs.Lines.{guid_text}
+use Rattle.declarations.specs.Scopes.{IsScopeOf}
 use Rattle.cli_lines.specs.Texts.{escaped_bytes}
+use Rattle.cli_values.specs.Actions.{action_text}
+use Rattle.cli_values.specs.Constants.{constant_text, value_limit}
+use Rattle.cli_values.specs.Constants.{bytes_text as value_bytes_text}
 use Rattle.declarations.specs.FlagWords.{words_of, words_text}
 use Rattle.declarations.specs.declared.flag_words.FlagTable.{FlagTable}
 use Rattle.declarations.specs.declared.flag_words.FlagTable.TheVariants as table_of
@@ -36,8 +50,8 @@ pub data Part : Type 0 where
   bytes_after : List ℕ → ℕ → Part
   -- the public key, or the token of one, in the second cell, by the flags in the first (II.6.3)
   key : ℕ → ℕ → Part
-  -- the bytes in a cell, in hexadecimal
-  hex : ℕ → Part
+  -- the first bytes in a cell, in hexadecimal, up to the limit of values
+  first_bytes : ℕ → Part
   -- unless the reference in a cell is null: a word, and the token
   token_after : List ℕ → ℕ → Part
   -- the signature in a cell, with the full names of types (II.23.2)
@@ -48,6 +62,22 @@ pub data Part : Type 0 where
   own_name : Part
   -- unless the reference in a cell is null: a word, and the name of the row
   name_after : List ℕ → ℕ → Part
+  -- the number in a cell, in eight hexadecimal digits
+  eight_digits : ℕ → Part
+  -- unless the GUID in a cell is null: the GUID in braces, in a comment
+  guid_comment : ℕ → Part
+  -- the action in a cell (II.22.11)
+  action : ℕ → Part
+  -- what the first row that refers to the row adds to it
+  linked_by : Link → Part
+  -- the reference to the row: a method or a field with its signature (II.15.3, II.22.25)
+  own_reference : Part
+  -- unless the reference in a cell is null: a word, and the reference to a type or a member, or the token of any other row
+  reference_after : List ℕ → ℕ → Part
+  -- unless the row is of no other module: a word, and the scope of the row in brackets (II.7.3)
+  scope_after : List ℕ → Part
+  -- the value of the attribute that the row is
+  attribute_value : Part
 
 -- the values of cells
 abbrev pub number_of : Cell → ℕ
@@ -65,6 +95,10 @@ bytes_of _ = []
 abbrev pub reference_of : Cell → Option Token
 reference_of (Ref reference) = reference
 reference_of _ = None
+
+abbrev pub guid_of : Cell → Option (List ℕ)
+guid_of (Guid guid) = guid
+guid_of _ = None
 
 -- the number of bytes of a name, a signature or another text of the file that are printed
 abbrev pub text_limit : ℕ
@@ -137,9 +171,127 @@ abbrev pub IsNameAfter : Metadata → List ℕ → Option Token → List ℕ →
 IsNameAfter model before None out = out ≡ []
 IsNameAfter model before (Some token) out = (name : List ℕ) × IsNameText model token name × (out ≡ before ++ name)
 
+-- whether the reference to a row of a table says which row it is: a type or a member of this module, or a MemberRef
+abbrev pub has_reference : TableId → Bool
+has_reference TypeDef = true
+has_reference Field = true
+has_reference MethodDef = true
+has_reference Event = true
+has_reference Property = true
+has_reference MemberRef = true
+has_reference _ = false
+
+-- the reference to a row, up to the limit, or its token
+abbrev pub IsReferred : Metadata → Bool → Token → List ℕ → Type 0
+IsReferred model true token out = (plain : List ℕ) × IsReference model token plain × (out ≡ cut_text plain)
+IsReferred model false token out = out ≡ token_text token
+
+abbrev pub IsReferenceText : Metadata → Token → List ℕ → Type 0
+IsReferenceText model token out = IsReferred model (has_reference token.table) token out
+
+-- a word and the reference to a row, unless the reference is null
+abbrev pub IsReferenceAfter : Metadata → List ℕ → Option Token → List ℕ → Type 0
+IsReferenceAfter model before None out = out ≡ []
+IsReferenceAfter model before (Some token) out = (reference : List ℕ) × IsReferenceText model token reference × (out ≡ before ++ reference)
+
+-- what is before the name of a scope (II.7.3): this module has no mark
+abbrev pub scope_mark : TableId → Option (List ℕ)
+scope_mark AssemblyRef = Some (codes "[")
+scope_mark ModuleRef = Some (codes "[.module ")
+scope_mark _ = None
+
+-- a word, the mark of a scope, its name, and a bracket
+abbrev pub IsMarked : Metadata → List ℕ → Option (List ℕ) → Token → List ℕ → Type 0
+IsMarked model before None scope out = out ≡ []
+IsMarked model before (Some mark) scope out = (name : List ℕ) × IsNameText model scope name × (out ≡ before ++ (mark ++ (name ++ codes "]")))
+
+abbrev pub IsScopeAfter : Metadata → List ℕ → Option Token → List ℕ → Type 0
+IsScopeAfter model before None out = out ≡ []
+IsScopeAfter model before (Some scope) out = IsMarked model before (scope_mark scope.table) scope out
+
+-- the same of the scope of a row
+abbrev pub IsScopeOfRow : Metadata → TableId → ℕ → List ℕ → List ℕ → Type 0
+IsScopeOfRow model table row before out = (scope : Option Token) × IsScopeOf model table row scope × IsScopeAfter model before scope out
+
+-- ---- the values of custom attributes (II.21, II.22.10)
+
+-- the types of the parameters of an attribute's constructor, unless its value is too long
+abbrev pub params_for : Metadata → ℕ → List ℕ → Option (List ArgumentType)
+params_for model row blob =
+    if nat_le (length blob) value_limit
+    then option_and_then (λ of. params_of_constructor model of.table of.row) (reference_in (cell_in model CustomAttribute row 1))
+    else None
+
+-- bytes in hexadecimal, up to the limit
+abbrev pub bytes_value : List ℕ → List ℕ
+bytes_value blob = codes " = (" ++ (value_bytes_text blob ++ codes ")")
+
+-- the text of a value, up to the limit
+abbrev pub decoded_value : AttributeValue → List ℕ
+decoded_value v = codes " = {" ++ (cut_text (attribute_value_text v) ++ codes " }")
+
+-- the bytes are a value, for a constructor with parameters of these types
+abbrev pub HasValue : List ArgumentType → List ℕ → Type 0
+HasValue params blob = (v : AttributeValue) × IsAttributeValue params v blob
+
+-- the text of the value that the bytes are, and of the bytes if they are none
+abbrev pub IsValueText : Option (List ArgumentType) → List ℕ → List ℕ → Type 0
+IsValueText None blob out = out ≡ bytes_value blob
+IsValueText (Some params) blob out =
+    ((v : AttributeValue) × IsAttributeValue params v blob × (out ≡ decoded_value v)) ⊎ (¬ HasValue params blob × (out ≡ bytes_value blob))
+
+-- the text of the value of the attribute in a row
+abbrev pub IsAttributeText : Metadata → ℕ → List ℕ → Type 0
+IsAttributeText model row out =
+    let blob = bytes_of (cell_in model CustomAttribute row 2) in
+    IsValueText (params_for model row blob) blob out
+
+-- the same of a row, which has no text if it is no attribute
+abbrev pub IsAttributeAt : Metadata → TableId → ℕ → List ℕ → Type 0
+IsAttributeAt model CustomAttribute row out = IsAttributeText model row out
+IsAttributeAt model _ row out = out ≡ []
+
+-- ---- the parts of a line
+
 -- the token of a row
 abbrev pub token_at : TableId → ℕ → Token
 token_at table row = record { table = table; row = row }
+
+-- the value of a constant (II.16.2), the layout of a type (II.10.7), the offset of a field, the address of its data (II.16.3) and how
+-- it is marshalled (II.16.1): the bytes of its descriptor
+abbrev pub value_text : ℕ → List ℕ → List ℕ
+value_text code bytes = codes " = " ++ constant_text code bytes
+
+abbrev pub layout_text : ℕ → ℕ → List ℕ
+layout_text packing size = codes " { .pack " ++ digits packing ++ codes " .size " ++ digits size ++ codes " }"
+
+abbrev pub offset_text : ℕ → List ℕ
+offset_text offset = codes " [" ++ digits offset ++ codes "]"
+
+abbrev pub address_text : ℕ → List ℕ
+address_text address = codes " at D_" ++ hexadecimal 8 address
+
+abbrev pub marshal_text : List ℕ → List ℕ
+marshal_text descriptor = codes " marshal(" ++ value_bytes_text descriptor ++ codes ")"
+
+-- what a row adds to the row that it refers to
+abbrev pub referring_text : Metadata → Link → ℕ → List ℕ
+referring_text model link_of.Constants row = value_text (number_of (cell_in model Constant row 0)) (bytes_of (cell_in model Constant row 2))
+referring_text model link_of.TypeLayouts row = layout_text (number_of (cell_in model ClassLayout row 0)) (number_of (cell_in model ClassLayout row 1))
+referring_text model link_of.FieldOffsets row = offset_text (number_of (cell_in model FieldLayout row 0))
+referring_text model link_of.FieldData row = address_text (number_of (cell_in model FieldRVA row 0))
+referring_text model link_of.Marshalling row = marshal_text (bytes_of (cell_in model FieldMarshal row 1))
+referring_text model _ row = []
+
+-- that of the first row that refers to a row, if there is one: if there are several, the others have no text
+abbrev pub linked_text : Metadata → Link → Option ℕ → List ℕ
+linked_text model of None = []
+linked_text model of (Some row) = referring_text model of row
+
+-- a GUID in a comment, unless it is null
+abbrev pub guid_text_in_comment : Option (List ℕ) → List ℕ
+guid_text_in_comment None = []
+guid_text_in_comment (Some guid) = codes " /* {" ++ guid_text guid ++ codes "} */"
 
 -- the text of a part of the line of a row
 abbrev pub IsPartText : Metadata → TableId → ℕ → Part → List ℕ → Type 0
@@ -150,9 +302,17 @@ IsPartText model table row (number cell) out = out ≡ digits (number_of (cell_i
 IsPartText model table row (quoted_after before cell) out = out ≡ quoted_text before (text_of (cell_in model table row cell))
 IsPartText model table row (bytes_after before cell) out = out ≡ bytes_text before (bytes_of (cell_in model table row cell))
 IsPartText model table row (key of cell) out = out ≡ key_text (number_of (cell_in model table row of)) (bytes_of (cell_in model table row cell))
-IsPartText model table row (hex cell) out = out ≡ escaped_bytes (bytes_of (cell_in model table row cell))
+IsPartText model table row (first_bytes cell) out = out ≡ value_bytes_text (bytes_of (cell_in model table row cell))
 IsPartText model table row (token_after before cell) out = out ≡ token_text_after before (reference_of (cell_in model table row cell))
 IsPartText model table row (signature cell) out = IsSignatureOf model (cell_in model table row cell) out
 IsPartText model table row declaration out = IsDeclarationAt model table row out
 IsPartText model table row own_name out = IsNameText model (token_at table row) out
 IsPartText model table row (name_after before cell) out = IsNameAfter model before (reference_of (cell_in model table row cell)) out
+IsPartText model table row (eight_digits cell) out = out ≡ hexadecimal 8 (number_of (cell_in model table row cell))
+IsPartText model table row (guid_comment cell) out = out ≡ guid_text_in_comment (guid_of (cell_in model table row cell))
+IsPartText model table row (action cell) out = out ≡ action_text (number_of (cell_in model table row cell))
+IsPartText model table row (linked_by of) out = out ≡ linked_text model of (first_linked model of (token_at table row))
+IsPartText model table row own_reference out = IsReferenceText model (token_at table row) out
+IsPartText model table row (reference_after before cell) out = IsReferenceAfter model before (reference_of (cell_in model table row cell)) out
+IsPartText model table row (scope_after before) out = IsScopeOfRow model table row before out
+IsPartText model table row attribute_value out = IsAttributeAt model table row out

@@ -4,6 +4,7 @@ ghost use Rattle.std.specs.Char.{digit_value};
 ghost use Rattle.std.specs.Str.{is_utf8};
 ghost use Rattle.cli_declarations.specs.AsIs.{byte_of, escape_of, escaped_at, is_quote, unescaped, unescaped_after};
 
+use memchr::memchr;
 use std::alloc::AllocError;
 use std::str;
 
@@ -70,6 +71,17 @@ fn read_first(text: &[u8], skipped: usize, out: &mut Vec<u8>) -> Result<usize, A
     }
 }
 
+/// Appends the bytes of a text whose escapes are read back, one byte at a time.
+fn read_escapes(text: &[u8], out: &mut Vec<u8>) -> Result<(), AllocError>
+    ensures { OnOk result (out.new.items ≡ out.old.items ++ unescaped text.now) }
+{
+    let mut skipped = 0;
+    for index in 0..text.len() {
+        skipped = read_first(text.split_at(index).1, skipped, out)?;
+    }
+    Ok(())
+}
+
 /// Appends the bytes of a text whose escapes are read back.
 ///
 /// # Errors
@@ -78,11 +90,10 @@ fn read_first(text: &[u8], skipped: usize, out: &mut Vec<u8>) -> Result<usize, A
 pub fn unescape(text: &[u8], out: &mut Vec<u8>) -> Result<(), AllocError>
     ensures { OnOk result (out.new.items ≡ out.old.items ++ unescaped text.now) }
 {
-    let mut skipped = 0;
-    for index in 0..text.len() {
-        skipped = read_first(text.split_at(index).1, skipped, out)?;
+    match memchr(b'\\', text) {
+        Some(_) => read_escapes(text, out),
+        None => out.extend_from_slice(text),
     }
-    Ok(())
 }
 
 /// The text that bytes are, or another text if they are no UTF-8.

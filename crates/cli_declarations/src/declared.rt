@@ -1,11 +1,8 @@
 //! The text of a declaration.
-ghost use Rattle.std.specs.Prelude.{◌≡◌, ◌==◌, ◌<◌, ◌+◌, ◌++◌, false, if◌then◌else◌, [], count_by, drop, length, take, string_bytes, OnOk};
+ghost use Rattle.std.specs.Prelude.{◌≡◌, ◌==◌, ◌+◌, ◌++◌, if◌then◌else◌, [], count_by, drop, length, take, string_bytes, OnOk};
 ghost use Rattle.full_names.specs.declared.quoted.NameKind.TheVariants.{Dotted};
 ghost use Rattle.full_names.specs.Quoted.{name_text, quoted_bytes};
-ghost use Rattle.cli_lines.specs.Texts.{escaped_bytes};
 ghost use Rattle.cli_declarations.specs.Parts.{cut_mark, cut_text, is_open, text_limit};
-ghost use Rattle.std.specs.Fmt.{digit_glyph};
-ghost use Rattle.table_schema.specs.Tokens.{hexadecimal};
 
 use full_names::{Limit, NameKind, write_name, write_quoted};
 use std::alloc::{AllocError, Global};
@@ -78,15 +75,6 @@ fn push_first(text: &str, room: usize, out: &mut String) -> Result<(), AllocErro
         Some((first, _)) => out.push_str(first),
         None => Err(AllocError),
     }
-}
-
-/// Appends the two hexadecimal digits of a byte.
-fn push_digits(byte: u8, out: &mut String) -> Result<(), AllocError>
-    ensures { OnOk result (string_bytes out.new ≡ string_bytes out.old ++ hexadecimal 2 byte) }
-{
-    out.push(digit(byte / 16))?;
-    out.push(digit(byte % 16))?;
-    Ok(())
 }
 
 /// The limit of a text of the file.
@@ -179,27 +167,4 @@ pub(crate) fn push_plain(text: &str, declared: &mut Declared) -> Result<(), Allo
     ensures { OnOk result (string_bytes declared.new.text ≡ string_bytes declared.old.text ++ text.now) }
 {
     declared.text.push_str(text)
-}
-
-/// The lower-case digit of a number below 16.
-fn digit(number: u8) -> char
-    requires { number < 16 }
-    ensures glyph { result ≡ digit_glyph false number }
-    ensures ascii { result < 128 }
-{
-    if number < 10 {
-        char::from(b'0' + number)
-    } else {
-        char::from(b'a' - 10 + number)
-    }
-}
-
-/// Appends two hexadecimal digits for each byte.
-pub(crate) fn push_hexadecimal(bytes: &[u8], declared: &mut Declared) -> Result<(), AllocError>
-    ensures { OnOk result (string_bytes declared.new.text ≡ string_bytes declared.old.text ++ escaped_bytes bytes.now) }
-{
-    for byte in bytes {
-        push_digits(*byte, &mut declared.text)?;
-    }
-    Ok(())
 }

@@ -4,6 +4,7 @@ ghost use Rattle.cli_declarations.specs.Layouts.{parts_of};
 ghost use Rattle.cli_declarations.specs.Shown.{shown};
 
 use declarations::FlagTable;
+use navigation::Link;
 use opening::TableId;
 
 /// A piece of the line of a row. Numbers are indexes of cells in the row, from 0.
@@ -23,8 +24,8 @@ pub enum Piece {
     BytesAfter(&'static str, usize),
     /// The public key, or the token of one, in the second cell, by the flags in the first (II.6.3).
     Key(usize, usize),
-    /// The bytes in a cell, in hexadecimal.
-    Hex(usize),
+    /// The first bytes in a cell, in hexadecimal, up to the limit of values.
+    FirstBytes(usize),
     /// Unless the reference in a cell is null: this word, and the token.
     TokenAfter(&'static str, usize),
     /// The signature in a cell, with the full names of types (II.23.2).
@@ -35,11 +36,29 @@ pub enum Piece {
     OwnName,
     /// Unless the reference in a cell is null: this word, and the name of the row.
     NameAfter(&'static str, usize),
+    /// The number in a cell, in eight hexadecimal digits.
+    EightDigits(usize),
+    /// Unless the GUID in a cell is null: the GUID in braces, in a comment.
+    GuidComment(usize),
+    /// The action in a cell (II.22.11).
+    Action(usize),
+    /// What the first row that refers to the row adds to it; nothing if there is none.
+    Linked(Link),
+    /// The reference to the row, a method or a field with its signature (II.15.3, II.22.25).
+    OwnReference,
+    /// Unless the reference in a cell is null: this word, and the reference to a type or a member, or the token of any other
+    /// row.
+    ReferenceAfter(&'static str, usize),
+    /// Unless the row is of no other module: this word, and the scope of the row in brackets (II.7.3).
+    ScopeAfter(&'static str),
+    /// The value of the attribute that the row is (II.21).
+    AttributeValue,
 }
 
 use Piece::{
-    BytesAfter, Declaration, Flags, Hex, Key, NameAfter, Number, OwnName, QuotedAfter, Signature,
-    Text, TokenAfter, Word,
+    Action, AttributeValue, BytesAfter, Declaration, EightDigits, FirstBytes, Flags, GuidComment,
+    Key, Linked, NameAfter, Number, OwnName, OwnReference, QuotedAfter, ReferenceAfter, ScopeAfter,
+    Signature, Text, TokenAfter, Word,
 };
 
 macro_rules! pieces {
@@ -49,7 +68,8 @@ macro_rules! pieces {
 }
 
 const ASSEMBLY: &[Piece] = pieces![
-    Word(".assembly"); Flags(FlagTable::Assembly, 5); Word(" "); Text(7); Word(" { .ver ");
+    Word(".assembly"); Flags(FlagTable::Assembly, 5); Word(" "); Text(7);
+    Word(" { .hash algorithm 0x"); EightDigits(0); Word(" .ver ");
     Number(1); Word(":"); Number(2); Word(":"); Number(3); Word(":"); Number(4);
     QuotedAfter(" .culture ", 8); BytesAfter(" .publickey = ", 6); Word(" }");
 ];
@@ -60,7 +80,7 @@ const ASSEMBLY_REF: &[Piece] = pieces![
     QuotedAfter(" .culture ", 7); Key(4, 5); Word(" }");
 ];
 
-const MODULE: &[Piece] = pieces![Word(".module "); Text(1);];
+const MODULE: &[Piece] = pieces![Word(".module "); Text(1); GuidComment(2);];
 
 const MODULE_REF: &[Piece] = pieces![Word(".module extern "); Text(0);];
 
@@ -75,10 +95,13 @@ const TYPE_DEF: &[Piece] = &[
     Word(" "),
     OwnName,
     NameAfter(" extends ", 3),
+    Linked(Link::TypeLayouts),
 ];
 
 const FIELD: &[Piece] = pieces![
-    Word("  .field"); Flags(FlagTable::Field, 0); Word(" "); Signature(2); Word(" "); Text(1);
+    Word("  .field"); Linked(Link::FieldOffsets); Flags(FlagTable::Field, 0);
+    Linked(Link::Marshalling); Word(" "); Signature(2); Word(" "); Text(1);
+    Linked(Link::Constants); Linked(Link::FieldData);
 ];
 
 const METHOD_DEF: &[Piece] = pieces![
@@ -105,7 +128,7 @@ const EXPORTED_TYPE: &[Piece] = pieces![
 ];
 
 const METHOD_IMPL: &[Piece] = pieces![
-    Word(".override"); NameAfter(" ", 2); NameAfter(" with ", 1); NameAfter(" in ", 0);
+    Word(".override"); ReferenceAfter(" ", 2); ReferenceAfter(" with ", 1); NameAfter(" in ", 0);
 ];
 
 const EVENT: &[Piece] = pieces![
@@ -114,10 +137,11 @@ const EVENT: &[Piece] = pieces![
 
 const PROPERTY: &[Piece] = pieces![
     Word("  .property"); Flags(FlagTable::Mapped, 0); Word(" "); Declaration;
+    Linked(Link::Constants);
 ];
 
 const SEMANTICS: &[Piece] = pieces![
-    Word("   "); Flags(FlagTable::Semantics, 0); NameAfter(" ", 1); NameAfter(" of ", 2);
+    Word("   "); Flags(FlagTable::Semantics, 0); ReferenceAfter(" ", 1); NameAfter(" of ", 2);
 ];
 
 const IMPL_MAP: &[Piece] = pieces![
@@ -125,9 +149,17 @@ const IMPL_MAP: &[Piece] = pieces![
     Flags(FlagTable::Import, 0); Word(")"); NameAfter(" of ", 1);
 ];
 
-const CUSTOM: &[Piece] = pieces![
-    Word(".custom"); NameAfter(" ", 1); Word(" = ("); Hex(2); Word(")"); TokenAfter(" of ", 0);
+const SECURITY: &[Piece] = pieces![
+    Word(".permissionset "); Action(0); Word(" = ("); FirstBytes(2); Word(")"); NameAfter(" of ", 1);
 ];
+
+const CUSTOM: &[Piece] = pieces![
+    Word(".custom"); ReferenceAfter(" ", 1); AttributeValue; ReferenceAfter(" of ", 0);
+];
+
+const TYPE_REF: &[Piece] = pieces![Word(".typeref "); ScopeAfter(""); OwnName;];
+
+const MEMBER_REF: &[Piece] = pieces![Word(".memberref "); OwnReference; ScopeAfter(" of ");];
 
 /// The pieces of the line of a row. A row of a table that is not named here has none.
 pub(crate) fn pieces_of(table: TableId) -> &'static [Piece]
@@ -152,7 +184,10 @@ pub(crate) fn pieces_of(table: TableId) -> &'static [Piece]
         TableId::Property => PROPERTY,
         TableId::MethodSemantics => SEMANTICS,
         TableId::ImplMap => IMPL_MAP,
+        TableId::DeclSecurity => SECURITY,
         TableId::CustomAttribute => CUSTOM,
+        TableId::TypeRef => TYPE_REF,
+        TableId::MemberRef => MEMBER_REF,
         _ => &[],
     }
 }

@@ -5,17 +5,19 @@
 //! the escapes of names for JSON, which has its own. [`number`], [`text`] and [`bytes`] are the values of cells.
 //!
 //! ```text
-//! .assembly Hello { .ver 1:0:0:0 }
+//! .assembly Hello { .hash algorithm 0x00008004 .ver 1:0:0:0 }
 //! .class public auto ansi beforefieldinit Hello.Greeter extends System.Object
 //!   .method public hidebysig instance string Hello.Greeter::Greet(int32 times) cil managed
 //! ```
 #![tactic(auto)]
 
 mod as_is;
+mod attribute_sink;
 mod cell_values;
 mod declaration;
 mod declared;
 mod layouts;
+mod linked;
 mod pieces;
 mod signature_sink;
 

@@ -1,5 +1,5 @@
 //! Appends the pieces of a line.
-ghost use Rattle.std.specs.Prelude.{◌≡◌, ◌≤◌, ◌<◌, ◌++◌, decimal, string_bytes, OnOk};
+ghost use Rattle.std.specs.Prelude.{◌≡◌, ◌≤◌, ◌<◌, ◌++◌, Some, option_map, string_bytes, OnOk};
 ghost use Rattle.table_schema.specs.CellColumns.{cell_count};
 ghost use Rattle.metadata.specs.Metadata.{Metadata, cell_in};
 ghost use Rattle.metadata.specs.Model.{IsModel};
@@ -7,18 +7,24 @@ ghost use Rattle.declarations.specs.FlagWords.{shown_word, word_text, words_of, 
 ghost use Rattle.opening.specs.Views.{row_count};
 ghost use Rattle.cli_lines.specs.Texts.{escaped_bytes};
 ghost use Rattle.table_schema.specs.Tokens.{token_text};
-ghost use Rattle.cli_declarations.specs.Parts.{IsNameAfter, IsNameText, IsPartText, bytes_text, key_text, quoted_text, token_text_after};
+ghost use Rattle.cli_declarations.specs.Parts.{IsNameAfter, IsNameText, IsPartText, bytes_text, guid_text_in_comment, key_text, quoted_text, token_text_after, IsMarked, IsReferenceAfter, IsReferenceText, IsScopeAfter, has_reference, scope_mark};
 ghost use Rattle.cli_declarations.specs.Shown.{IsWithin, shown};
 ghost use Rattle.cli_declarations.specs.Texts.{Gains};
 
-use crate::cell_values::{bytes, number, reference, text};
+use crate::attribute_sink::push_attribute_at;
+use crate::cell_values::{bytes, guid, number, reference, text};
 use crate::declared::{
-    Declared, TextLimit, begin_text, end_text, push_hexadecimal, push_plain, push_string, push_text,
+    Declared, TextLimit, begin_text, end_text, push_plain, push_string, push_text,
 };
 use crate::layouts::Piece;
+use crate::linked::push_linked;
 use crate::signature_sink::{push_declaration, push_signature};
-use declarations::{FlagTable, FlagWord, words_of};
+use cli_values::{
+    push_action, push_decimal, push_eight_digits, push_hexadecimal, push_value_bytes,
+};
+use declarations::{FlagTable, FlagWord, scope_of, words_of, write_reference};
 use full_names::write_row_name;
+use heap_entries::guid_text;
 use navigation::Neighbours;
 use opening::{TableId, Token};
 use std::alloc::AllocError;
@@ -33,16 +39,6 @@ fn push_word(flags: u32, word: FlagWord, declared: &mut Declared) -> Result<(), 
     }
     push_plain(" ", declared)?;
     push_plain(word.text, declared)
-}
-
-/// Appends a number in decimal.
-fn push_decimal(number: u32, declared: &mut Declared) -> Result<(), AllocError>
-    ensures { OnOk result (string_bytes declared.new.text ≡ string_bytes declared.old.text ++ decimal number) }
-{
-    match write!(declared.text, "{number}") {
-        Ok(()) => Ok(()),
-        Err(_) => Err(AllocError),
-    }
 }
 
 /// Appends the digits of a token.
@@ -87,7 +83,7 @@ fn push_bytes(word: &str, bytes: &[u8], declared: &mut Declared) -> Result<(), A
     }
     push_plain(word, declared)?;
     push_plain("(", declared)?;
-    push_hexadecimal(bytes, declared)?;
+    push_hexadecimal(bytes, &mut declared.text)?;
     push_plain(")", declared)
 }
 
@@ -137,6 +133,119 @@ fn push_name_after(
     }
 }
 
+/// Whether the reference to a row of a table says which row it is: a type or a member of this module, or a MemberRef.
+fn has_reference(table: TableId) -> bool
+    ensures { result ≡ has_reference table }
+{
+    matches!(
+        table,
+        TableId::TypeDef
+            | TableId::Field
+            | TableId::MethodDef
+            | TableId::Event
+            | TableId::Property
+            | TableId::MemberRef
+    )
+}
+
+/// Appends the reference to a row, or its token if the reference does not say which row it is.
+fn push_reference(
+    source: &Neighbours<'_, '_>,
+    token: Token,
+    declared: &mut Declared,
+) -> Result<(), AllocError>
+    ensures { (model : Metadata) → IsModel source.now.view.now model
+        → OnOk result (Gains (IsReferenceText model token) (string_bytes declared.old.text) (string_bytes declared.new.text)) }
+{
+    if !has_reference(token.table) {
+        return push_token(token, declared);
+    }
+    begin_text(declared);
+    match write_reference(declared.alloc, source, token, &TextLimit, declared) {
+        Ok(()) => end_text(declared),
+        Err(_) => Err(AllocError),
+    }
+}
+
+/// Appends a word and the reference to a row, unless the reference is null.
+fn push_reference_after(
+    source: &Neighbours<'_, '_>,
+    word: &str,
+    reference: Option<Token>,
+    declared: &mut Declared,
+) -> Result<(), AllocError>
+    ensures { (model : Metadata) → IsModel source.now.view.now model
+        → OnOk result (Gains (IsReferenceAfter model word.now reference) (string_bytes declared.old.text) (string_bytes declared.new.text)) }
+{
+    match reference {
+        Some(token) => {
+            push_plain(word, declared)?;
+            push_reference(source, token, declared)
+        }
+        None => Ok(()),
+    }
+}
+
+/// What is before the name of a scope (II.7.3); `None` if it is this module.
+fn scope_mark(table: TableId) -> Option<&'static str>
+    ensures { option_map (λ mark. mark.now) result ≡ scope_mark table }
+{
+    match table {
+        TableId::AssemblyRef => Some("["),
+        TableId::ModuleRef => Some("[.module "),
+        _ => None,
+    }
+}
+
+/// Appends a word, the mark of a scope, its name, and a bracket.
+fn push_marked(
+    source: &Neighbours<'_, '_>,
+    word: &str,
+    mark: &str,
+    scope: Token,
+    declared: &mut Declared,
+) -> Result<(), AllocError>
+    ensures { (model : Metadata) → IsModel source.now.view.now model
+        → OnOk result (Gains (IsMarked model word.now (Some mark.now) scope) (string_bytes declared.old.text) (string_bytes declared.new.text)) }
+{
+    push_plain(word, declared)?;
+    push_plain(mark, declared)?;
+    push_name(source, scope, declared)?;
+    push_plain("]", declared)
+}
+
+/// Appends a word and a scope in brackets, unless it is this module.
+fn push_bracketed(
+    source: &Neighbours<'_, '_>,
+    word: &str,
+    scope: Token,
+    declared: &mut Declared,
+) -> Result<(), AllocError>
+    ensures { (model : Metadata) → IsModel source.now.view.now model
+        → OnOk result (Gains (IsMarked model word.now (scope_mark scope.table) scope) (string_bytes declared.old.text) (string_bytes declared.new.text)) }
+{
+    match scope_mark(scope.table) {
+        Some(mark) => push_marked(source, word, mark, scope, declared),
+        None => Ok(()),
+    }
+}
+
+/// Appends a word and a scope in brackets, unless there is none.
+fn push_scope(
+    source: &Neighbours<'_, '_>,
+    word: &str,
+    scope: Option<Token>,
+    declared: &mut Declared,
+) -> Result<(), AllocError>
+    ensures { (model : Metadata) → IsModel source.now.view.now model
+        → OnOk result (Gains (IsScopeAfter model word.now scope) (string_bytes declared.old.text) (string_bytes declared.new.text)) }
+{
+    match scope {
+        Some(scope) => push_bracketed(source, word, scope, declared),
+        None => Ok(()),
+    }
+}
+
 /// Appends a word and a token, unless the reference is null.
 fn push_token_after(
     word: &str,
@@ -154,6 +263,21 @@ fn push_token_after(
     }
 }
 
+/// Appends a GUID in braces in a comment, unless it is null.
+fn push_guid_comment(guid: Option<[u8; 16]>, declared: &mut Declared) -> Result<(), AllocError>
+    ensures { OnOk result (string_bytes declared.new.text ≡ string_bytes declared.old.text ++ guid_text_in_comment guid) }
+{
+    match guid {
+        Some(guid) => {
+            let digits = guid_text(declared.alloc, &guid)?;
+            push_plain(" /* {", declared)?;
+            push_plain(&digits, declared)?;
+            push_plain("} */", declared)
+        }
+        None => Ok(()),
+    }
+}
+
 /// Appends a piece of the line of a row.
 pub(crate) fn push_piece(
     source: &Neighbours<'_, '_>,
@@ -165,45 +289,50 @@ pub(crate) fn push_piece(
     requires first { 1 ≤ row }
     requires last { row ≤ row_count source.now.view.now table }
     requires within { IsWithin table (shown piece) }
-    ensures { (model : Metadata) → IsModel source.now.view.now model
-        → OnOk result (Gains (IsPartText model table row (shown piece)) (string_bytes declared.old.text) (string_bytes declared.new.text)) }
+    ensures { (model : Metadata) → IsModel source.now.view.now model → OnOk result (Gains (IsPartText model table row (shown piece)) (string_bytes declared.old.text) (string_bytes declared.new.text)) }
 {
+    let (view, token) = (source.view, Token { table, row });
     match piece {
         Piece::Word(word) => push_plain(word, declared),
-        Piece::Flags(of, cell) => push_words(number(source.view, table, row, cell), of, declared),
-        Piece::Text(cell) => push_text(text(source.view, table, row, cell), declared),
+        Piece::Flags(of, cell) => push_words(number(view, table, row, cell), of, declared),
+        Piece::Text(cell) => push_text(text(view, table, row, cell), declared),
         Piece::Number(cell) => {
-            let number = number(source.view, table, row, cell);
-            push_decimal(number, declared)
+            let number = number(view, table, row, cell);
+            push_decimal(number as u64, &mut declared.text)
         }
-        Piece::QuotedAfter(word, cell) => push_quoted(
-            word,
-            text(source.view, table, row, cell),
-            declared,
-        ),
-        Piece::BytesAfter(word, cell) => push_bytes(
-            word,
-            bytes(source.view, table, row, cell),
-            declared,
-        ),
+        Piece::QuotedAfter(word, cell) => push_quoted(word, text(view, table, row, cell), declared),
+        Piece::BytesAfter(word, cell) => push_bytes(word, bytes(view, table, row, cell), declared),
         Piece::Key(flags, cell) => {
-            let flags = number(source.view, table, row, flags);
-            push_key(flags, bytes(source.view, table, row, cell), declared)
+            let flags = number(view, table, row, flags);
+            push_key(flags, bytes(view, table, row, cell), declared)
         }
-        Piece::Hex(cell) => push_hexadecimal(bytes(source.view, table, row, cell), declared),
+        Piece::FirstBytes(cell) => {
+            push_value_bytes(bytes(view, table, row, cell), &mut declared.text)
+        }
         Piece::TokenAfter(word, cell) => {
-            push_token_after(word, reference(source.view, table, row, cell), declared)
+            push_token_after(word, reference(view, table, row, cell), declared)
         }
-        Piece::Signature(cell) => push_signature(source.view, table, row, cell, declared),
+        Piece::Signature(cell) => push_signature(view, table, row, cell, declared),
         Piece::Declaration => push_declaration(source, table, row, declared),
-        Piece::OwnName => push_name(source, Token { table, row }, declared),
+        Piece::OwnName => push_name(source, token, declared),
+        Piece::AttributeValue => push_attribute_at(source, table, row, declared),
         Piece::NameAfter(word, cell) => {
-            push_name_after(
-                source,
-                word,
-                reference(source.view, table, row, cell),
-                declared,
-            )
+            push_name_after(source, word, reference(view, table, row, cell), declared)
         }
+        Piece::EightDigits(cell) => {
+            let number = number(view, table, row, cell);
+            push_eight_digits(number as u64, &mut declared.text)
+        }
+        Piece::GuidComment(cell) => push_guid_comment(guid(view, table, row, cell), declared),
+        Piece::Action(cell) => {
+            let action = number(view, table, row, cell);
+            push_action(action, &mut declared.text)
+        }
+        Piece::Linked(link) => push_linked(source, link, table, row, declared),
+        Piece::OwnReference => push_reference(source, token, declared),
+        Piece::ReferenceAfter(word, cell) => {
+            push_reference_after(source, word, reference(view, table, row, cell), declared)
+        }
+        Piece::ScopeAfter(word) => push_scope(source, word, scope_of(source, token), declared),
     }
 }

@@ -1,9 +1,10 @@
 -- Why a run stopped: its exit code and its line.
-use Rattle.std.specs.Prelude.{ℕ, List, codes}
+use Rattle.std.specs.Prelude.{ℕ, List, ◌++◌, codes}
+use Rattle.table_schema.specs.Tokens.{token_text}
 use Rattle.cli_faults.specs.Status.{status_of}
 use Rattle.cli_faults.specs.Texts.{failure_text}
 use Rattle.cli_faults.specs.declared.stop.Stop.{Stop}
-use Rattle.cli_faults.specs.declared.stop.Stop.TheVariants.{Failed, BudgetSpent, Different, NothingAt, Broken, NoSuchType}
+use Rattle.cli_faults.specs.declared.stop.Stop.TheVariants.{Failed, BudgetSpent, Different, NothingAt, Broken, NoSuchType, NoSuchResource, ResourceElsewhere, ResourceOutside}
 
 -- the exit code of a stop
 abbrev pub status_of_stop : Stop → ℕ
@@ -13,6 +14,9 @@ status_of_stop Different = 1
 status_of_stop (NothingAt offset) = 1
 status_of_stop Broken = 1
 status_of_stop NoSuchType = 1
+status_of_stop NoSuchResource = 1
+status_of_stop (ResourceElsewhere row) = 1
+status_of_stop (ResourceOutside row) = 1
 
 -- the line that reports a stop, without its line feed
 abbrev pub stop_text : Stop → List ℕ
@@ -22,3 +26,6 @@ stop_text Different = codes "the files differ"
 stop_text (NothingAt offset) = codes "nothing is at the offset"
 stop_text Broken = codes "the file breaks a rule"
 stop_text NoSuchType = codes "no such type"
+stop_text NoSuchResource = codes "no such resource"
+stop_text (ResourceElsewhere row) = codes "the resource " ++ token_text row ++ codes " is not in this file"
+stop_text (ResourceOutside row) = codes "the resource " ++ token_text row ++ codes " is not within the resources directory"

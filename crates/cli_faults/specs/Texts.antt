@@ -14,7 +14,7 @@ use Rattle.cli_faults.specs.declared.misfit.Misfit.TheVariants.{Unlike, Headers,
 use Rattle.cli_faults.specs.declared.usage_error.Nearest.{Nearest}
 use Rattle.cli_faults.specs.declared.usage_error.Nearest.TheVariants as nearest
 use Rattle.cli_faults.specs.declared.usage_error.UsageError.{UsageError}
-use Rattle.cli_faults.specs.declared.usage_error.UsageError.TheVariants.{NoToken, NoCode, NoFile, FilesAndList, OutputIsDash, NoList, NoTable, NoOffset, NoColumn}
+use Rattle.cli_faults.specs.declared.usage_error.UsageError.TheVariants.{NoToken, NoCode, NoFile, FilesAndList, OutputIsDash, ExtractAlone, NoList, NoTable, NoOffset, NoColumn}
 
 -- the line of a hint, after a line feed; nothing without a name
 abbrev pub nearest_text : Nearest → List ℕ
@@ -48,6 +48,7 @@ usage_text (NoCode word code) =
 usage_text NoFile = codes "error: FILE is missing, and so is '--files-from -'"
 usage_text FilesAndList = codes "error: '--files-from' and FILE exclude each other"
 usage_text OutputIsDash = codes "error: OUT is a file, and '-' is none" ++ 10 ∷ codes "  hint: './-' is the file with that name"
+usage_text ExtractAlone = codes "error: '--extract' takes one FILE, and no '--json', '-r' or list of files"
 usage_text (NoList word) = codes "error: '--files-from' takes '-', the standard input, not '" ++ escaped_text word.now ++ codes "'"
 usage_text (NoTable word table) =
     codes "error: TABLE is a table, which 'clim show --help' lists, not '" ++ escaped_text word.now ++ codes "'" ++ hint_of_table table

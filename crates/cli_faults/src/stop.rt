@@ -5,6 +5,7 @@ ghost use Rattle.cli_faults.specs.declared.stop.Stop.TheVariants.{Failed};
 
 use crate::failure::Failure;
 use std::fmt;
+use table_schema::Token;
 
 /// Why the program stopped early. `Display` gives the line for standard error, without the line feed.
 #[derive(Clone, Copy, Debug, PartialEq, Eq)]
@@ -21,6 +22,12 @@ pub enum Stop<'a> {
     Broken,
     /// No type of the file is the one that was asked for.
     NoSuchType,
+    /// No resource has the name that was asked for.
+    NoSuchResource,
+    /// The resource in this row is in another file or assembly.
+    ResourceElsewhere(Token),
+    /// The resource in this row is not within the resources directory (II.25.3.3), or the file does not have this directory.
+    ResourceOutside(Token),
 }
 
 impl Stop<'_> {
@@ -28,14 +35,16 @@ impl Stop<'_> {
     ghost use Rattle.cli_faults.specs.Stops.{status_of_stop};
 
     /// The exit code of the process: that of the failure; 3 if the budget was spent; 1 if the files differ, if nothing is
-    /// at the offset, if the file breaks a rule, or if it does not have the type.
+    /// at the offset, if the file breaks a rule, or if it does not have the type or the resource.
     pub fn status(&self) -> u8
         ensures { result ≡ status_of_stop self.now }
     {
         match self {
             Stop::Failed(failure) => failure.status(),
             Stop::BudgetSpent => 3,
-            Stop::Different | Stop::NothingAt(_) | Stop::Broken | Stop::NoSuchType => 1,
+            Stop::Different | Stop::NothingAt(_) | Stop::Broken => 1,
+            Stop::NoSuchType | Stop::NoSuchResource => 1,
+            Stop::ResourceElsewhere(_) | Stop::ResourceOutside(_) => 1,
         }
     }
 }
@@ -59,6 +68,14 @@ impl fmt::Display for Stop<'_> {
             Stop::NothingAt(_) => f.write_str("nothing is at the offset"),
             Stop::Broken => f.write_str("the file breaks a rule"),
             Stop::NoSuchType => f.write_str("no such type"),
+            Stop::NoSuchResource => f.write_str("no such resource"),
+            Stop::ResourceElsewhere(row) => write!(f, "the resource {row} is not in this file"),
+            Stop::ResourceOutside(row) => {
+                write!(
+                    f,
+                    "the resource {row} is not within the resources directory"
+                )
+            }
         }
     }
 }

@@ -21,6 +21,8 @@ pub enum UsageError<'a> {
     FilesAndList,
     /// `rewrite` got `-` as OUT.
     OutputIsDash,
+    /// `resources --extract` got several files, or another form.
+    ExtractAlone,
     /// The argument is not where a list of files can come from.
     NoList(&'a str),
     /// The argument is not the name or the number of a table. The table with the nearest name, if one is near.
@@ -115,6 +117,9 @@ impl fmt::Display for UsageError<'_> {
             }
             UsageError::OutputIsDash => f.write_str(
                 "error: OUT is a file, and '-' is none\n  hint: './-' is the file with that name",
+            ),
+            UsageError::ExtractAlone => f.write_str(
+                "error: '--extract' takes one FILE, and no '--json', '-r' or list of files",
             ),
             UsageError::NoList(word) => write!(
                 f,

@@ -1,5 +1,5 @@
 -- The identity of an assembly as .NET prints it: its name, version, culture and public key token (ECMA-335 II.22.2 and II.22.5).
-use Rattle.std.specs.Prelude.{ℕ, ◌+◌, ◌%◌, ◌==◌, nat_lt, Bool, false, if◌then◌else◌, List, [], ◌∷◌, codes, length, map, reverse, take}
+use Rattle.std.specs.Prelude.{ℕ, ◌+◌, ◌%◌, ◌==◌, nat_lt, Bool, false, if◌then◌else◌, List, [], ◌∷◌, ◌++◌, codes, length, map, reverse, take}
 use Rattle.std.specs.List.{range_with_len}
 use Rattle.hex.specs.Hex.{encode_lower}
 use Rattle.sha1.specs.Sha1.{sha1}
@@ -9,8 +9,9 @@ use Rattle.metadata.specs.Cell.{Cell}
 use Rattle.metadata.specs.Metadata.{Metadata, cell_in, count_in}
 use Rattle.cli_lines.specs.declared.names.Name.{Name}
 use Rattle.cli_lines.specs.declared.names.Name.TheVariants as name
-use Rattle.cli_lines.specs.Lines.{Part, word, field, number, plain, text}
+use Rattle.cli_lines.specs.Lines.{Part, word, field, member, note, number, plain, text}
 use Rattle.cli_declarations.specs.Parts.{bytes_of, number_of, text_of}
+use Rattle.cli_info.specs.DisplayNames.{display_name}
 use Rattle.cli_info.specs.declared.identities.Kind.{Kind}
 use Rattle.cli_info.specs.declared.identities.Kind.TheVariants.{Assembly, Reference}
 
@@ -54,16 +55,26 @@ abbrev pub culture_text : List ℕ → List ℕ
 culture_text [] = codes "neutral"
 culture_text culture = culture
 
+-- the numbers of the version
+abbrev pub version_parts : ℕ → ℕ → ℕ → ℕ → List Part
+version_parts major minor build revision =
+    word (codes ", Version=") ∷ field name.Major (number major) ∷ word (codes ".") ∷ field name.Minor (number minor)
+    ∷ word (codes ".") ∷ field name.Build (number build) ∷ word (codes ".") ∷ field name.Revision (number revision) ∷ []
+
+-- a name or a culture in a line of text; in JSON it is as it is
+abbrev pub shown_part : List ℕ → Part
+shown_part of = note (plain (display_name of))
+
+abbrev pub token_part : Kind → ℕ → List ℕ → Part
+token_part kind flags key = field name.Token (plain (token_text kind flags key))
+
 -- the identity in these cells of a row, in this order: four numbers of the version, flags, key, name and culture
 abbrev pub identity_in : Kind → (ℕ → Cell) → List Part
 identity_in kind cell =
-    word (word_of kind) ∷ field (name_of kind) (text (text_of (cell 6)))
-    ∷ word (codes ", Version=") ∷ field name.Major (number (number_of (cell 0)))
-    ∷ word (codes ".") ∷ field name.Minor (number (number_of (cell 1)))
-    ∷ word (codes ".") ∷ field name.Build (number (number_of (cell 2)))
-    ∷ word (codes ".") ∷ field name.Revision (number (number_of (cell 3)))
-    ∷ word (codes ", Culture=") ∷ field name.Culture (text (culture_text (text_of (cell 7))))
-    ∷ word (codes ", PublicKeyToken=") ∷ field name.Token (plain (token_text kind (number_of (cell 4)) (bytes_of (cell 5)))) ∷ []
+    word (word_of kind) ∷ member (name_of kind) (text (text_of (cell 6))) ∷ shown_part (text_of (cell 6))
+    ∷ version_parts (number_of (cell 0)) (number_of (cell 1)) (number_of (cell 2)) (number_of (cell 3))
+    ++ word (codes ", Culture=") ∷ member name.Culture (text (culture_text (text_of (cell 7)))) ∷ shown_part (culture_text (text_of (cell 7)))
+    ∷ word (codes ", PublicKeyToken=") ∷ token_part kind (number_of (cell 4)) (bytes_of (cell 5)) ∷ []
 
 unfoldable pub identity_line : Kind → Metadata → ℕ → List Part
 identity_line kind model row = identity_in kind (λ index. cell_in model (table_of kind) row (first_cell kind + index))

@@ -1,4 +1,5 @@
 pub mod HeaderLines
+pub mod DisplayNames
 pub mod Identities
 pub mod Attributes
 pub mod InfoLines

@@ -1,14 +1,15 @@
 //! Prints the identities of assemblies, as .NET prints them (II.22.2 and II.22.5).
 ghost use Rattle.std.specs.Prelude.{◌≡◌, ◌≤◌, ◌∷◌, [], IfOk, string_bytes};
-ghost use Rattle.cli_info.specs.Identities.{culture_text, identity_line, identity_lines, table_of, token_text};
-ghost use Rattle.cli_lines.specs.Printed.{Prints};
+ghost use Rattle.cli_info.specs.Identities.{culture_text, identity_line, identity_lines, shown_part, table_of, token_part, token_text, version_parts};
+ghost use Rattle.cli_lines.specs.Printed.{Adds, Prints};
 ghost use Rattle.metadata.specs.Metadata.{Metadata};
 ghost use Rattle.metadata.specs.Model.{IsModel};
 ghost use Rattle.opening.specs.Views.{row_count};
 ghost use Rattle.sha1.specs.Sha1.{sha1};
 
+use crate::display_names::display_name;
 use cli_declarations::{bytes, number, text};
-use cli_lines::Part::{Field, Word};
+use cli_lines::Part::{Field, Member, Note, Word};
 use cli_lines::Value::{Number, Plain, Text};
 use cli_lines::{Name, Printer};
 use opening::{TableId, View};
@@ -157,6 +158,54 @@ fn culture_text(culture: &str) -> &str
     }
 }
 
+/// Adds a name or a culture, escaped.
+fn print_shown<W: Write>(alloc: Global, name: &str, out: &mut Printer<'_, W>)
+    ensures { Adds out.old out.new (shown_part name.now ∷ []) }
+{
+    match display_name(alloc, name) {
+        Ok(shown) => out.part(&Note(Plain(&shown))),
+        Err(_) => out.fail(),
+    }
+}
+
+/// Adds the numbers of a version.
+fn print_version<W: Write>(
+    major: u32,
+    minor: u32,
+    build: u32,
+    revision: u32,
+    out: &mut Printer<'_, W>,
+)
+    ensures { Adds out.old out.new (version_parts major minor build revision) }
+{
+    cli_lines::laws::parts_follow::<W>();
+    out.part(&Word(", Version="));
+    out.part(&Field(Name::Major, Number(major as u64)));
+    out.part(&Word("."));
+    out.part(&Field(Name::Minor, Number(minor as u64)));
+    out.part(&Word("."));
+    out.part(&Field(Name::Build, Number(build as u64)));
+    out.part(&Word("."));
+    out.part(&Field(Name::Revision, Number(revision as u64)));
+}
+
+/// Adds the token of a key.
+fn print_token<W: Write>(
+    alloc: Global,
+    kind: Kind,
+    flags: u32,
+    key: &[u8],
+    last: &mut LastKey,
+    out: &mut Printer<'_, W>,
+)
+    ensures { Adds out.old out.new (token_part kind flags key.now ∷ []) }
+{
+    match token_text(alloc, kind, flags, key, last) {
+        Ok(token) => out.part(&Field(Name::Token, Plain(&token))),
+        Err(_) => out.fail(),
+    }
+}
+
 /// Prints the identity in a row.
 #[tactic(auto, unfolding(crate::specs::Identities::identity_line))]
 fn print_identity<W: Write>(
@@ -171,6 +220,7 @@ fn print_identity<W: Write>(
     requires last { row ≤ row_count view.now (table_of kind) }
     ensures { (model : Metadata) → IsModel view.now model → Prints out.old out.new (identity_line kind model row ∷ []) }
 {
+    cli_lines::laws::parts_follow::<W>();
     let (table, first) = kind.columns();
     let (word, name) = kind.label();
     let major = number(view, table, row, first);
@@ -180,26 +230,16 @@ fn print_identity<W: Write>(
     let flags = number(view, table, row, first + 4);
     let key = bytes(view, table, row, first + 5);
     let own_name = text(view, table, row, first + 6);
-    let culture = text(view, table, row, first + 7);
-    match token_text(alloc, kind, flags, key, last) {
-        Ok(token) => out.line(&[
-            Word(word),
-            Field(name, Text(own_name)),
-            Word(", Version="),
-            Field(Name::Major, Number(major as u64)),
-            Word("."),
-            Field(Name::Minor, Number(minor as u64)),
-            Word("."),
-            Field(Name::Build, Number(build as u64)),
-            Word("."),
-            Field(Name::Revision, Number(revision as u64)),
-            Word(", Culture="),
-            Field(Name::Culture, Text(culture_text(culture))),
-            Word(", PublicKeyToken="),
-            Field(Name::Token, Plain(&token)),
-        ]),
-        Err(_) => out.fail(),
-    }
+    let culture = culture_text(text(view, table, row, first + 7));
+    out.begin(&[Word(word), Member(name, Text(own_name))]);
+    print_shown(alloc, own_name, out);
+    print_version(major, minor, build, revision, out);
+    out.part(&Word(", Culture="));
+    out.part(&Member(Name::Culture, Text(culture)));
+    print_shown(alloc, culture, out);
+    out.part(&Word(", PublicKeyToken="));
+    print_token(alloc, kind, flags, key, last, out);
+    out.end();
 }
 
 /// Prints the identities in all rows of a table.

@@ -13,6 +13,7 @@
 #![tactic(auto)]
 
 mod attributes;
+mod display_names;
 mod headers;
 mod identities;
 mod info;

@@ -53,6 +53,7 @@ name_text name.Native = codes "native"
 name_text name.Offset = codes "offset"
 name_text name.Ok = codes "ok"
 name_text name.Reference = codes "reference"
+name_text name.Resource = codes "resource"
 name_text name.Resources = codes "resources"
 name_text name.Revision = codes "revision"
 name_text name.Right = codes "right"
@@ -72,6 +73,7 @@ name_text name.Type = codes "type"
 name_text name.Types = codes "types"
 name_text name.Units = codes "units"
 name_text name.Version = codes "version"
+name_text name.Visibility = codes "visibility"
 
 -- the name of a table, and the name of the next member of its row
 abbrev pub row_start : TableId → List ℕ

@@ -44,6 +44,7 @@ pub enum Name {
     Offset,
     Ok,
     Reference,
+    Resource,
     Resources,
     Revision,
     Right,
@@ -63,11 +64,22 @@ pub enum Name {
     Types,
     Units,
     Version,
+    Visibility,
 }
 
 /// A name in quotes, after a comma and before a colon.
 macro_rules! key {
     ($name:ident) => { concat!(",\"", stringify!($name), "\":") };
+}
+
+/// The key of a name: that of a cell, or the word beside the name.
+macro_rules! key_of {
+    ($name:expr; $($variant:ident $word:ident,)+) => {
+        match $name {
+            Name::Cell(table, index) => cell_key(table, index),
+            $(Name::$variant => key!($word),)+
+        }
+    };
 }
 
 /// What the members of a row begin with: its table with the key of its number, and the key of each cell; and the label of
@@ -97,61 +109,18 @@ impl Name {
     pub(crate) fn key(self) -> &'static str
         ensures { result.now ≡ key_text (name_text self) }
     {
-        match self {
-            Name::Cell(table, index) => cell_key(table, index),
-            Name::Assembly => key!(assembly),
-            Name::Blob => key!(blob),
-            Name::Build => key!(build),
-            Name::Cause => key!(cause),
-            Name::Cli => key!(cli),
-            Name::Code => key!(code),
-            Name::Column => key!(column),
-            Name::Culture => key!(culture),
-            Name::Debug => key!(debug),
-            Name::Difference => key!(difference),
-            Name::Digest => key!(digest),
-            Name::Directive => key!(directive),
-            Name::Entry => key!(entry),
-            Name::Equal => key!(equal),
-            Name::Fields => key!(fields),
-            Name::File => key!(file),
-            Name::Flag => key!(flag),
-            Name::Flags => key!(flags),
-            Name::Format => key!(format),
-            Name::Layer => key!(layer),
-            Name::Left => key!(left),
-            Name::Length => key!(length),
-            Name::Machine => key!(machine),
-            Name::Major => key!(major),
-            Name::Methods => key!(methods),
-            Name::Minor => key!(minor),
-            Name::Module => key!(module),
-            Name::Mvid => key!(mvid),
-            Name::Name => key!(name),
-            Name::Namespace => key!(namespace),
-            Name::Native => key!(native),
-            Name::Offset => key!(offset),
-            Name::Ok => key!(ok),
-            Name::Reference => key!(reference),
-            Name::Resources => key!(resources),
-            Name::Revision => key!(revision),
-            Name::Right => key!(right),
-            Name::Root => key!(root),
-            Name::Row => key!(row),
-            Name::Rule => key!(rule),
-            Name::Section => key!(section),
-            Name::Signature => key!(signature),
-            Name::Size => key!(size),
-            Name::Stream => key!(stream),
-            Name::Structure => key!(structure),
-            Name::Summary => key!(summary),
-            Name::Table => key!(table),
-            Name::Text => key!(text),
-            Name::Token => key!(token),
-            Name::Type => key!(type),
-            Name::Types => key!(types),
-            Name::Units => key!(units),
-            Name::Version => key!(version),
+        key_of! {
+            self;
+            Assembly assembly, Blob blob, Build build, Cause cause, Cli cli, Code code,
+            Column column, Culture culture, Debug debug, Difference difference, Digest digest,
+            Directive directive, Entry entry, Equal equal, Fields fields, File file, Flag flag,
+            Flags flags, Format format, Layer layer, Left left, Length length, Machine machine,
+            Major major, Methods methods, Minor minor, Module module, Mvid mvid, Name name,
+            Namespace namespace, Native native, Offset offset, Ok ok, Reference reference,
+            Resource resource, Resources resources, Revision revision, Right right, Root root,
+            Row row, Rule rule, Section section, Signature signature, Size size, Stream stream,
+            Structure structure, Summary summary, Table table, Text text, Token token, Type type,
+            Types types, Units units, Version version, Visibility visibility,
         }
     }
 }

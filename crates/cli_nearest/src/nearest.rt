@@ -87,9 +87,24 @@ pub fn nearest_column(alloc: Global, word: &str) -> Option<(TableId, &'static st
 }
 
 /// The names of all subcommands, that of `help` too.
-const COMMANDS: [&str; 15] = [
-    "root", "info", "check", "show", "types", "outline", "strings", "token", "where", "rewrite",
-    "embed", "digest", "compare", "explain", "help",
+const COMMANDS: [&str; 17] = [
+    "root",
+    "info",
+    "check",
+    "show",
+    "types",
+    "outline",
+    "refs",
+    "resources",
+    "strings",
+    "token",
+    "where",
+    "rewrite",
+    "embed",
+    "digest",
+    "compare",
+    "explain",
+    "help",
 ];
 
 /// The subcommand whose name is nearest to the one that `help` is asked for, by these arguments, the program name not among

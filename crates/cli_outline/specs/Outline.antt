@@ -2,7 +2,7 @@
 use Rattle.std.specs.Prelude.{ℕ, ◌+◌, ◌-◌, nat_le, if◌then◌else◌, List, [], ◌∷◌, ◌++◌}
 use Rattle.std.specs.List.{flat_map, range_with_len}
 use Rattle.table_schema.specs.declared.table.TableId.{TableId}
-use Rattle.table_schema.specs.declared.table.TableId.TheVariants.{Assembly, AssemblyRef, Module, ModuleRef, File, ManifestResource, ExportedType, TypeDef, InterfaceImpl, GenericParam, GenericParamConstraint, MethodImpl, MethodSemantics, ImplMap, CustomAttribute}
+use Rattle.table_schema.specs.declared.table.TableId.TheVariants.{Assembly, AssemblyRef, Module, ModuleRef, File, ManifestResource, ExportedType, TypeDef, InterfaceImpl, GenericParam, GenericParamConstraint, MethodImpl, MethodSemantics, ImplMap, DeclSecurity, CustomAttribute, TypeRef, MemberRef}
 use Rattle.table_schema.specs.declared.token.Token.{Token}
 use Rattle.metadata.specs.Metadata.{Metadata, cell_in, count_in}
 use Rattle.metadata.specs.Valid.{start_in}
@@ -81,10 +81,20 @@ first_tables = Assembly ∷ AssemblyRef ∷ Module ∷ ModuleRef ∷ File ∷ Ma
 
 -- the tables whose rows come after the types
 unfoldable pub last_tables : List TableId
-last_tables = InterfaceImpl ∷ GenericParam ∷ GenericParamConstraint ∷ MethodImpl ∷ ImplMap ∷ CustomAttribute ∷ []
+last_tables = InterfaceImpl ∷ GenericParam ∷ GenericParamConstraint ∷ MethodImpl ∷ ImplMap ∷ DeclSecurity ∷ CustomAttribute ∷ []
 
 -- the rows that have a line, in the order of the lines
 unfoldable pub outline_rows : Metadata → List Token
 outline_rows model =
     flat_map (all_rows model) first_tables
     ++ (each_from (class_rows model) 1 (count_in model TypeDef + 1) ++ flat_map (all_rows model) last_tables)
+
+-- ---- references to other modules
+
+-- the tables whose rows refer to other modules and to what is in them (II.22.25, II.22.31, II.22.38)
+unfoldable pub ref_tables : List TableId
+ref_tables = ModuleRef ∷ TypeRef ∷ MemberRef ∷ []
+
+-- their rows, by table and row
+abbrev pub refs_rows : Metadata → List Token
+refs_rows model = flat_map (all_rows model) ref_tables

@@ -1,12 +1,13 @@
 //! The outline of an assembly: its declarations in the notation of ILAsm (ECMA-335 II.5 to II.22), one per line.
 //!
-//! [`print_outline`] prints the outline of a view, and [`print_outline_of`] that of one type. `specs/Outline.antt` says which
+//! [`print_outline`] prints the outline of a view, [`print_outline_of`] that of one type, and [`print_refs`] what a view
+//! refers to in other modules. `specs/Outline.antt` says which
 //! rows have a line, and in which order. `specs/Layouts.antt` says what the declaration of a row is, as a list of parts,
 //! `specs/Parts.antt` what the text of a part is, and `specs/Declarations.antt` what the line of a declaration is. It is
 //! proved that these lines are printed and nothing else.
 //!
 //! ```text
-//! .assembly Hello { .ver 1:0:0:0 }  // 20000001
+//! .assembly Hello { .hash algorithm 0x00008004 .ver 1:0:0:0 }  // 20000001
 //! .class public auto ansi beforefieldinit Hello.Greeter extends System.Object  // 02000002
 //!   .field private string name  // 04000001
 //!   .method public hidebysig instance string Hello.Greeter::Greet(int32 times) cil managed  // 06000001
@@ -21,5 +22,5 @@ mod outline;
 mod path;
 mod subject;
 
-pub use outline::{print_outline, print_outline_of};
+pub use outline::{print_outline, print_outline_of, print_refs};
 pub use subject::{Outcome, Subject};

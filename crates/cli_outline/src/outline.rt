@@ -9,7 +9,7 @@ ghost use Rattle.metadata.specs.Model.{IsModel};
 ghost use Rattle.metadata_source.specs.MemberLists.{cell_of, member_of, owner_of};
 ghost use Rattle.full_names.specs.RowNames.{IsMemberOf};
 ghost use Rattle.opening.specs.Views.{row_count};
-ghost use Rattle.cli_outline.specs.Outline.{all_rows, class_rows, each_from, first_tables, last_tables, members, outline_rows, row_of, run_start};
+ghost use Rattle.cli_outline.specs.Outline.{all_rows, class_rows, each_from, first_tables, last_tables, members, outline_rows, ref_tables, refs_rows, row_of, run_start};
 ghost use Rattle.cli_outline.specs.Printed.{PrintsRows};
 ghost use Rattle.cli_outline.specs.Subjects.{PrintsNone, PrintsSubject};
 
@@ -207,6 +207,7 @@ fn last_tables() -> &'static [TableId]
         TableId::GenericParamConstraint,
         TableId::MethodImpl,
         TableId::ImplMap,
+        TableId::DeclSecurity,
         TableId::CustomAttribute,
     ]
 }
@@ -248,6 +249,28 @@ pub fn print_outline<W: Write>(alloc: Global, view: &View<'_>, out: &mut Printer
 {
     match Neighbours::new(alloc, view) {
         Ok(source) => print_all(&source, &mut Declared::new(alloc), out),
+        Err(_) => out.fail(),
+    }
+}
+
+/// The tables whose rows refer to other modules and to what is in them.
+#[tactic(auto, unfolding(crate::specs::Outline::ref_tables))]
+fn ref_tables() -> &'static [TableId]
+    ensures { result.now ≡ ref_tables }
+{
+    &[TableId::ModuleRef, TableId::TypeRef, TableId::MemberRef]
+}
+
+/// Prints what a view refers to in other modules, one per line as [`print_outline`] prints declarations: the modules, the
+/// types, and the methods and fields, in the order of their rows (II.22.25, II.22.31, II.22.38). A type has its scope in
+/// brackets before its name, a member after it (II.7.3).
+///
+/// Its time is that of the lines, and of the blobs in them. Its memory is that of [`print_outline`].
+pub fn print_refs<W: Write>(alloc: Global, view: &View<'_>, out: &mut Printer<'_, W>)
+    ensures { (model : Metadata) → IsModel view.now model → PrintsRows model out.old out.new (refs_rows model) }
+{
+    match Neighbours::new(alloc, view) {
+        Ok(source) => print_tables(&source, ref_tables(), &mut Declared::new(alloc), out),
         Err(_) => out.fail(),
     }
 }

@@ -1,6 +1,7 @@
 //! The file that `clim rewrite` and `clim embed` write.
-ghost use Rattle.std.specs.Prelude.{IfErr, IfOk};
+ghost use Rattle.std.specs.Prelude.{◌≡◌, ◌<◌, ◌≤◌, ℕ, IfErr, IfOk, length, take};
 ghost use Rattle.std.specs.Io.KnownBytes.{Appends};
+ghost use Rattle.std.specs.Str.{IsCharBoundary};
 ghost use Rattle.cli_faults.specs.Status.{IsUnwritten};
 ghost use Rattle.cli_output.specs.Written.{WasGiven};
 
@@ -26,6 +27,9 @@ const NULL_DEVICE: &str = "/dev/null";
 
 /// What is appended to the path of a file that is replaced, for the file that is written first.
 const SUFFIX: &str = ".clim-new";
+
+/// The largest number of bytes in the name of a file, on most file systems.
+const NAME_LIMIT: usize = 255;
 
 /// The number of such files that are tried. Runs that were killed may have left the first ones.
 const ATTEMPTS: u32 = 100;
@@ -213,13 +217,40 @@ fn create_beside<R: Files + AllocGlobal>(rt: &R, target: &str) -> io::Result<(R:
     Err(io::Error::from(ErrorKind::AlreadyExists))
 }
 
-/// The path of the file with this number beside a file: PATH.clim-new, PATH.clim-new2, PATH.clim-new3 ..
+/// The path of the file with this number beside a file: PATH.clim-new, PATH.clim-new2, PATH.clim-new3 .. If that name is too
+/// long for a file system, it has only the first characters of the file's name: those that fit.
 fn path_beside(alloc: Global, target: &str, number: u32) -> Result<String, AllocError> {
-    if number == 1 {
-        format!(in alloc; "{target}{SUFFIX}")
-    } else {
-        format!(in alloc; "{target}{SUFFIX}{number}")
+    let suffix = suffix_of(alloc, number)?;
+    let room = NAME_LIMIT.saturating_sub(suffix.len());
+    match target.rsplit_once('/') {
+        Some((directory, name)) => {
+            let prefix = prefix_of(name, room);
+            format!(in alloc; "{directory}/{prefix}{suffix}")
+        }
+        None => {
+            let prefix = prefix_of(target, room);
+            format!(in alloc; "{prefix}{suffix}")
+        }
     }
+}
+
+/// What is appended to the name of the file with this number.
+fn suffix_of(alloc: Global, number: u32) -> Result<String, AllocError> {
+    if number == 1 {
+        String::from_str(alloc, SUFFIX)
+    } else {
+        format!(in alloc; "{SUFFIX}{number}")
+    }
+}
+
+/// The longest prefix of a name with at most this number of bytes, in whole characters.
+fn prefix_of(name: &str, room: usize) -> &str
+    ensures prefix { result.now ≡ take (length result.now) name.now }
+    ensures short { length result.now ≤ room }
+    ensures longest { (i : ℕ) → length result.now < i → i ≤ room → ¬ (IsCharBoundary name.now i) }
+{
+    let (prefix, _) = name.split_at(name.floor_char_boundary(room));
+    prefix
 }
 
 /// A new file that only its owner may use.

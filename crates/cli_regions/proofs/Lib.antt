@@ -4,3 +4,4 @@ pub mod PeLemmas
 pub mod NulLemmas
 pub mod FileLemmas
 pub mod HeaderLemmas
+pub mod NameLemmas

@@ -1,6 +1,7 @@
 -- A metadata root, its streams and the row counts of its tables as structures, outermost first (ECMA-335 II.24.2).
-use Rattle.std.specs.Prelude.{ℕ, ◌+◌, ◌-◌, if◌then◌else◌, List, [], ◌∷◌, ◌++◌, codes, length, map, Option, None, Some}
-use Rattle.std.specs.List.{flat_map}
+use Rattle.std.specs.Prelude.{ℕ, ◌+◌, ◌-◌, min, Bool, if◌then◌else◌, List, [], ◌∷◌, ◌++◌, codes, length, map, Option, None, Some}
+use Rattle.std.specs.List.{flat_map, list_any}
+use Rattle.std.specs.Str.{bytes_eq}
 use Rattle.root.specs.declared.kind.Kind.{Kind}
 use Rattle.root.specs.declared.kind.Kind.TheVariants.{Tables, Strings, UserStrings, Guids, Blobs}
 use Rattle.root.specs.Fields.{header_length, root_read, version_length}
@@ -33,6 +34,16 @@ ranged start kind (Some range) = region (start + range.0) (range.1 - range.0) (c
 unfoldable pub stream_regions : ℕ → RootRead → Kind → List Region
 stream_regions start root kind = ranged start kind (range_of root kind)
 
+-- the standard defines a stream of this name (II.24.2.2)
+abbrev pub is_standard : List ℕ → Bool
+is_standard name = list_any (λ kind. bytes_eq name (stream_name kind)) streams
+
+-- A stream of another name, in a root of `size` bytes. The standard does not define its range, which can be outside the root:
+-- it has the bytes that are within the root.
+unfoldable pub other_stream_regions : ℕ → ℕ → Header → List Region
+other_stream_regions start size header =
+    if is_standard header.name then [] else (region (start + header.offset) (min header.size (size - header.offset)) (codes "stream" ++ (codes " " ++ escaped_text header.name)) ∷ [])
+
 -- a table by its number and name (II.22)
 abbrev pub table_words : TableId → List ℕ
 table_words table = upper_hexadecimal (table_number table) ++ codes " " ++ table_name table
@@ -64,4 +75,5 @@ abbrev pub root_regions : ℕ → List ℕ → List Region
 root_regions start root =
     root_header_regions start root
     ++ flat_map (stream_header_regions start) (root_read root).headers
+    ++ flat_map (other_stream_regions start (length root)) (root_read root).headers
     ++ flat_map (stream_regions start (root_read root)) streams

@@ -5,7 +5,7 @@ ghost use Rattle.packed.specs.Rule.{AllHold};
 ghost use Rattle.root.specs.Fields.{header_length, root_read};
 ghost use Rattle.root.specs.Rules.{rules_of_root};
 ghost use Rattle.root.specs.Views.{view};
-ghost use Rattle.cli_regions.specs.Headers.{root_header_regions, root_regions, stream_header_regions, stream_regions, streams};
+ghost use Rattle.cli_regions.specs.Headers.{is_standard, other_stream_regions, root_header_regions, root_regions, stream_header_regions, stream_regions, streams};
 ghost use Rattle.cli_regions.specs.Kept.{Adds};
 
 use crate::fields::{AFTER_VERSION, BEFORE_NAME, BEFORE_VERSION, find_fields, find_header};
@@ -71,6 +71,38 @@ fn find_stream_headers<'a>(headers: Headers<'a>, start: u64, found: &mut Search<
     }
 }
 
+/// Whether the standard defines a stream of this name (II.24.2.2).
+fn is_standard(name: &str) -> bool
+    ensures { result ≡ is_standard name.now }
+{
+    Kind::of(name).is_some()
+}
+
+/// Looks at a stream if its name is not one of the standard. It has the bytes that are within the root.
+#[tactic(auto, unfolding(crate::specs::Headers::other_stream_regions))]
+fn find_other_stream<'a>(header: &StreamHeader<'a>, start: u64, size: u64, found: &mut Search<'a>)
+    requires start { start ≤ 0x40000000 }
+    ensures { Adds found.old found.new (other_stream_regions start size (view header.now)) }
+{
+    if is_standard(header.name) {
+        return;
+    }
+    let start = start + u64::from(header.offset);
+    let left = size.saturating_sub(u64::from(header.offset));
+    let count = u64::from(header.size).min(left);
+    found.look(start, count, "stream", Name::Text(header.name));
+}
+
+/// Looks at the streams of a root of `size` bytes whose names are not those of the standard.
+fn find_other_streams<'a>(headers: Headers<'a>, start: u64, size: u64, found: &mut Search<'a>)
+    requires { start ≤ 0x40000000 }
+    ensures { Adds found.old found.new (flat_map (other_stream_regions start size) headers.entry) }
+{
+    for header in headers {
+        find_other_stream(&header, start, size, found);
+    }
+}
+
 /// Looks at a stream.
 fn find_stream(root: &Root<'_>, kind: Kind, start: u64, found: &mut Search<'_>)
     requires start { start ≤ 0x40000000 }
@@ -111,5 +143,6 @@ pub fn find_root<'a>(root: &[u8], directory: &Root<'a>, start: u64, found: &mut 
     root::laws::roots_are_read();
     find_root_header(root, start, found);
     find_stream_headers(directory.headers(), start, found);
+    find_other_streams(directory.headers(), start, root.len() as u64, found);
     find_streams(directory, start, found);
 }

@@ -27,19 +27,19 @@ empty_is : {X : Type 0} (xs : List X) → length xs ≡ 0 → xs ≡ []
 empty_is [] is = refl
 empty_is (x ∷ xs) is = absurd (omega (arith, is))
 
-module _ (given : List ℕ) (pieces : List (Bor (List ℕ))) (split : names_in pieces ≡ slice_split (λ byte. byte == 0) given) where
-  pub none_listed : (names : List (Bor (List ℕ))) → length pieces ≡ 0 → names ≡ [] → AreListed given (names_in names)
+module _ (separator : ℕ) (given : List ℕ) (pieces : List (Bor (List ℕ))) (split : names_in pieces ≡ slice_split (λ byte. byte == separator) given) where
+  pub none_listed : (names : List (Bor (List ℕ))) → length pieces ≡ 0 → names ≡ [] → AreListed separator given (names_in names)
   none_listed names none is =
-      subst (λ (xs : List (Bor (List ℕ))). AreListed given (names_in xs)) (sym is)
+      subst (λ (xs : List (Bor (List ℕ))). AreListed separator given (names_in xs)) (sym is)
       (inr (sym split ∙ ap names_in (empty_is pieces none), (λ more same. never_nil more [] same)))
 
-  -- nothing follows the last NUL
-  pub ended_listed : (names : List (Bor (List ℕ))) (last : Bor (List ℕ)) → pieces ≡ names ++ last ∷ [] → length last.now ≡ 0 → AreListed given (names_in names)
+  -- nothing follows the last separator
+  pub ended_listed : (names : List (Bor (List ℕ))) (last : Bor (List ℕ)) → pieces ≡ names ++ last ∷ [] → length last.now ≡ 0 → AreListed separator given (names_in names)
   ended_listed names last is none =
       inl (sym split ∙ ap names_in is ∙ map-append (λ (name : Bor (List ℕ)). name.now) names (last ∷ []) ∙ ap (λ (xs : List ℕ). names_in names ++ xs ∷ []) (empty_is last.now none))
 
-  -- the last name has no NUL
-  pub all_listed : (names all : List (Bor (List ℕ))) (last : Bor (List ℕ)) → pieces ≡ names ++ last ∷ [] → all ≡ names ++ last ∷ [] → (length last.now ≡ 0 → ⊥) → AreListed given (names_in all)
+  -- the last name has no separator after it
+  pub all_listed : (names all : List (Bor (List ℕ))) (last : Bor (List ℕ)) → pieces ≡ names ++ last ∷ [] → all ≡ names ++ last ∷ [] → (length last.now ≡ 0 → ⊥) → AreListed separator given (names_in all)
   all_listed names all last is all_is some =
       inr (
         sym split ∙ ap names_in (is ∙ sym all_is),

@@ -17,7 +17,14 @@ use Rattle.cli_outline.specs.Printed.{PrintsRows}
 use Rattle.cli_where.specs.Located.{AreListed}
 use Rattle.cli_print.specs.RootLines.{heads_lines}
 use Rattle.cli_runs.specs.Printing.{Hands, HasPrinted}
-use Rattle.cli_runs.specs.Reports.{AreDeclared, IsListed, OfModel, ended_by}
+use Rattle.cli_runs.specs.Reports.{AreDeclared, IsListed, OfModel, ended_at, ended_by}
+use Rattle.cli_input.specs.declared.opened.Input.TheVariants.{File}
+use Rattle.metadata.specs.Model.{IsModelOfFile}
+use Rattle.resources.specs.Resources.{Where}
+use Rattle.cli_resources.specs.ResourceLines.{AreLocations, resource_lines}
+use Rattle.cli_resources.specs.Unfound.{AreAllLocated, IsUnlisted}
+use Rattle.cli_resources.specs.declared.opened.Unfound.{Unfound}
+use Rattle.cli_resources.specs.declared.opened.Unfound.TheVariants as unfound
 use Rattle.cli_runs.specs.declared.report.Ended.TheVariants.{Refused}
 use Rattle.cli_runs.specs.declared.report.Listing.{Listing}
 use Rattle.cli_runs.specs.declared.report.Report.TheVariants as report
@@ -37,6 +44,16 @@ module _ {W : Type 0} (request : Request) (name bytes : List ℕ) (old new : Pri
       → HasPrinted request name bytes old new report.Info (ended_by done)
   info_ended (Ok done) whole first same printed = (whole, (λ header model are. (printed header model are, (λ live. tt))))
   info_ended (Err found) whole first same printed = (first, same)
+
+  pub resources_ended : (done : Result (Unit {0}) Unfound) → IfErr done (IsUnlisted bytes) → OnErr done (new ≡ old) → OnOk done (IsWhole File bytes)
+      → OnOk done ((header : CliHeader) (model : Metadata) → IsModelOfFile bytes header model → AreAllLocated bytes header model)
+      → OnOk done ((header : CliHeader) (model : Metadata) → IsModelOfFile bytes header model → (locations : ℕ → Where) → AreLocations bytes header model locations → Prints old new (resource_lines model locations))
+      → HasPrinted request name bytes old new report.Resources (ended_at done)
+  resources_ended (Ok done) first same whole located printed = (whole, (λ header model is. (located header model is, (λ locations are. (printed header model is locations are, (λ live. tt))))))
+  resources_ended (Err (unfound.Fault found)) first same whole located printed = (first, same)
+  resources_ended (Err unfound.NoSuchResource) first same whole located printed = absurd first
+  resources_ended (Err (unfound.Elsewhere of)) first same whole located printed = absurd first
+  resources_ended (Err (unfound.Outside of)) first same whole located printed = (first, same)
 
   pub listing_ended : (of : Listing) (done : Result (Unit {0}) Fault) → IfErr done (FirstBroken (rules_of request.input bytes)) → OnErr done (new ≡ old)
       → OnOk done (OfModel request.input bytes (IsListed (Hands old new) of)) → HasPrinted request name bytes old new (report.Listing of) (ended_by done)

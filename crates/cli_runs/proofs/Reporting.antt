@@ -34,6 +34,7 @@ module _ (P Q : Type 0 → List (List Part) → Type 0) (weaker : (all : Type 0)
   listed_weaker (listing.Show table names) model out = weaker _ _ out
   listed_weaker listing.Types model out = weaker _ _ out
   listed_weaker listing.Outline model out = declared_weaker model _ out
+  listed_weaker listing.Refs model out = declared_weaker model _ out
 
   fault_weaker : (of : Verdict) (input : Input) (bytes : List ℕ) (file : Option (List ℕ)) (found : Fault) → IsFaultOut P of input bytes file found → IsFaultOut Q of input bytes file found
   fault_weaker verdict.Quiet input bytes file found out = weaker _ _ out
@@ -48,26 +49,29 @@ module _ (P Q : Type 0 → List (List Part) → Type 0) (weaker : (all : Type 0)
     printed_weaker report.Root out = (out.0, (λ header root are. weaker _ _ (out.1 header root are)))
     printed_weaker report.Info out = (out.0, (λ header model are. weaker _ _ (out.1 header model are)))
     printed_weaker report.Strings out = (out.0, (λ model is. let at = out.1 model is in (at.0, at.1, weaker _ _ at.2)))
+    printed_weaker report.Resources out =
+        (out.0, (λ header model is. let at = out.1 header model is in (at.0, (λ locations are. weaker _ _ (at.1 locations are)))))
     printed_weaker (report.Listing of) out = (out.0, (λ model is. listed_weaker of model (out.1 model is)))
     printed_weaker (report.Check of) out = (out.0, weaker _ _ out.1)
     printed_weaker (report.ShowUntilFault table names) out = (out.0, (λ model is. weaker _ _ (out.1 model is)))
     printed_weaker (report.OutlineOf subject) out =
         (out.0, (λ model is. let at = out.1 model is in (at.0, at.1, declared_weaker model _ at.2)))
     printed_weaker (report.Tokens numbers) out = (out.0, out.1, out.2, named_weaker numbers.items out.3)
-    printed_weaker (report.Where offset) out = (out.0, (out.1.0, out.1.1, out.1.2, weaker _ _ out.1.3))
+    printed_weaker (report.Where offset) out = (out.0, (out.1.0, out.1.1, out.1.2, (λ methods are. weaker _ _ (out.1.3 methods are))))
     printed_weaker report.Digest out = (out.0, out.1, weaker _ _ out.2)
 
     stopped_weaker : (of : Report) (why : Stop) → IsStopped P request name bytes of why → IsStopped Q request name bytes of why
     stopped_weaker report.Root why out = absurd out
     stopped_weaker report.Info why out = absurd out
     stopped_weaker report.Strings why out = absurd out
+    stopped_weaker report.Resources why out = absurd out
     stopped_weaker (report.Listing of) why out = absurd out
     stopped_weaker (report.Check of) why out = (out.0, out.1, (out.2.0, out.2.1, fault_weaker of request.input bytes _ out.2.0 out.2.2))
     stopped_weaker (report.ShowUntilFault table names) why out = (out.0, out.1, out.2, (out.3.0, out.3.1, weaker _ _ out.3.2))
     stopped_weaker (report.OutlineOf subject) why out = absurd out
     stopped_weaker (report.Tokens numbers) why out =
         (out.0, out.1, out.2, out.3, out.4, out.5, out.6, out.7, out.8, named_weaker out.3 out.9)
-    stopped_weaker (report.Where offset) why (inl out) = inl (out.0, out.1, (out.2.0, out.2.1, out.2.2, weaker _ _ out.2.3))
+    stopped_weaker (report.Where offset) why (inl out) = inl (out.0, out.1, (out.2.0, out.2.1, out.2.2, (λ methods are. weaker _ _ (out.2.3 methods are))))
     stopped_weaker (report.Where offset) why (inr out) = inr (out.0, out.1, out.2, (out.3.0, out.3.1, weaker _ _ out.3.2))
     stopped_weaker report.Digest why out = absurd out
 
@@ -155,6 +159,7 @@ pub other_lead : (of : Report) (file : Option (List ℕ)) → ((v : Verdict) →
 other_lead report.Root file check digest = refl
 other_lead report.Info file check digest = refl
 other_lead report.Strings file check digest = refl
+other_lead report.Resources file check digest = refl
 other_lead (report.Listing listing) file check digest = refl
 other_lead (report.Check verdict) file check digest = absurd (check verdict refl)
 other_lead (report.ShowUntilFault table names) file check digest = refl

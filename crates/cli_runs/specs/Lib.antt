@@ -1,3 +1,4 @@
+pub mod Extracted
 pub mod Printing
 pub mod Reports
 pub mod Runs

@@ -13,20 +13,29 @@ use Rattle.table_schema.specs.Tables.{tables}
 use Rattle.cli_header.specs.declared.header.CliHeader.{CliHeader}
 use Rattle.root.specs.Streams.{RootRead}
 use Rattle.metadata.specs.Metadata.{Metadata}
+use Rattle.metadata.specs.Model.{IsModelOfFile}
+use Rattle.metadata.specs.Rules.{rules_of_file}
+use Rattle.resources.specs.Resources.{Where}
+use Rattle.cli_resources.specs.ResourceLines.{AreLocations, resource_lines}
+use Rattle.cli_resources.specs.Unfound.{AreAllLocated, IsUnlisted}
+use Rattle.cli_resources.specs.declared.opened.Unfound.{Unfound}
+use Rattle.cli_resources.specs.declared.opened.Unfound.TheVariants as unfound
 use Rattle.cli_faults.specs.declared.failure.Failure.TheVariants.{Fault, NoSuchRow, OutOfMemory}
 use Rattle.cli_faults.specs.declared.stop.Stop.{Stop}
+use Rattle.cli_faults.specs.declared.stop.Stop.TheVariants as stopped
 use Rattle.cli_faults.specs.declared.stop.Stop.TheVariants.{Broken, BudgetSpent, Failed, NoSuchType, NothingAt}
 use Rattle.cli_lines.specs.declared.parts.Form.{Form}
 use Rattle.cli_lines.specs.declared.parts.Form.TheVariants.{Text}
 use Rattle.cli_lines.specs.Lines.{Part, Style, style}
 use Rattle.cli_input.specs.Checked.{IsModelOf, IsOpened, IsWhole, rules_of}
 use Rattle.cli_input.specs.declared.opened.Input.{Input}
+use Rattle.cli_input.specs.declared.opened.Input.TheVariants.{File}
 use Rattle.cli_input.specs.Heads.{AreHeads, HasHeads, rules_of_heads}
 use Rattle.cli_cells.specs.Before.{AreLinesBefore}
 use Rattle.cli_cells.specs.RowLines.{show_lines}
 use Rattle.cli_cells.specs.TokenLines.{AreTokenLines, IsNamed}
 use Rattle.cli_info.specs.InfoLines.{AreFacts, info_lines}
-use Rattle.cli_outline.specs.Outline.{class_rows, outline_rows}
+use Rattle.cli_outline.specs.Outline.{class_rows, outline_rows, refs_rows}
 use Rattle.cli_outline.specs.Printed.{AreLines}
 use Rattle.cli_outline.specs.Subjects.{IsSubject}
 use Rattle.cli_print.specs.DigestLines.{digest_line}
@@ -36,7 +45,7 @@ use Rattle.cli_print.specs.TypeLines.{types_lines}
 use Rattle.cli_print.specs.Verdicts.{verdict_line}
 use Rattle.cli_regions.specs.Regions.{Region}
 use Rattle.cli_where.specs.Lines.{entry_lines, structure_line}
-use Rattle.cli_where.specs.Located.{found_of, where_lines}
+use Rattle.cli_where.specs.Located.{AreOfCode, found_of, where_lines}
 use Rattle.cli_where.specs.UserStrings.{AreEntries, Entry}
 use Rattle.cli_where.specs.Where.{AreStructuresAt}
 use Rattle.cli_where.specs.declared.report.Found.{Found as FoundAt}
@@ -60,6 +69,18 @@ use Rattle.cli_runs.specs.declared.report.Verdict.TheVariants.{Explained, Line, 
 abbrev pub ended_by : Result (Unit {0}) Found → Ended
 ended_by (Ok done) = Printed
 ended_by (Err found) = Refused (Failed (Fault found))
+
+-- why a run stopped that found no resource
+abbrev pub stop_of : Unfound → Stop
+stop_of (unfound.Fault found) = Failed (Fault found)
+stop_of unfound.NoSuchResource = stopped.NoSuchResource
+stop_of (unfound.Elsewhere row) = stopped.ResourceElsewhere row
+stop_of (unfound.Outside row) = stopped.ResourceOutside row
+
+-- a report on resources ended when its lines were printed, or with the reason for which it was refused; for private clauses
+abbrev pub ended_at : Result (Unit {0}) Unfound → Ended
+ended_at (Ok done) = Printed
+ended_at (Err why) = Refused (stop_of why)
 
 -- the tables of `show`: one, or all
 abbrev pub tables_of : Option TableId → List TableId
@@ -110,6 +131,8 @@ IsRefused request bytes (report.OutlineOf subject) NoSuchType = OfModel request.
 IsRefused request bytes (report.OutlineOf subject) (Failed OutOfMemory) = IsWhole request.input bytes
 IsRefused request bytes (report.Check Explained) (Failed OutOfMemory) = Unit {0}
 IsRefused request bytes report.Strings (Failed OutOfMemory) = Unit {0}
+IsRefused request bytes report.Resources (Failed (Fault found)) = FirstBroken (rules_of_file bytes) found
+IsRefused request bytes report.Resources (stopped.ResourceOutside of) = IsUnlisted bytes (unfound.Outside of)
 IsRefused request bytes (report.Where offset) (Failed failure) = failure ≡ OutOfMemory
 IsRefused request bytes (report.Tokens numbers) (Failed OutOfMemory) = IsWhole request.input bytes
 IsRefused request bytes report.Digest (Failed failure) = ReportsUnwritten request.input bytes failure
@@ -137,6 +160,7 @@ module _ (Out : Type 0 → List (List Part) → Type 0) where
   IsListed (listing.Show table names) model = AreOut (show_lines names model (tables_of table))
   IsListed listing.Types model = AreOut (types_lines model)
   IsListed listing.Outline model = AreDeclared model (outline_rows model)
+  IsListed listing.Refs model = AreDeclared model (refs_rows model)
 
   -- this fault went out, with what is asked about it
   abbrev pub IsFaultOut : Verdict → Input → List ℕ → Option (List ℕ) → Found → Type 0
@@ -147,11 +171,11 @@ module _ (Out : Type 0 → List (List Part) → Type 0) where
   IsFaultOut verdict input bytes file found = AreOut (verdict_lines verdict file (Some found))
 
   module _ (request : Request) (name bytes : List ℕ) where
-    -- the lines of the structures that contain the byte at an offset went out, and there are some or none
+    -- the lines of the structures that contain the byte at an offset went out, and those of methods; there are some structures or none
     abbrev pub IsLocated : ℕ → FoundAt → Type 0
     IsLocated offset found =
         (structures : List Region) × AreStructuresAt request.input Entries bytes offset structures × (found ≡ found_of structures)
-        × AreOut (where_lines structures)
+        × ((methods : List (List Part)) → AreOfCode found request.input bytes offset methods → AreOut (where_lines structures ++ methods))
 
     -- all lines of a report went out
     abbrev pub IsPrinted : Report → Type 0
@@ -163,6 +187,10 @@ module _ (Out : Type 0 → List (List Part) → Type 0) where
         × ((header : Option CliHeader) (model : Metadata) → AreFacts request.input bytes header model → AreOut (info_lines bytes header model))
     IsPrinted report.Strings =
         OfModel request.input bytes (λ model. (entries : List Entry) × AreEntries model.user 1 entries × AreOut (flat_map entry_lines entries))
+    IsPrinted report.Resources =
+        IsWhole File bytes
+        × ((header : CliHeader) (model : Metadata) → IsModelOfFile bytes header model → AreAllLocated bytes header model
+        × ((locations : ℕ → Where) → AreLocations bytes header model locations → AreOut (resource_lines model locations)))
     IsPrinted (report.Listing listing) = OfModel request.input bytes (IsListed listing)
     IsPrinted (report.Check verdict) = IsWhole request.input bytes × AreOut (verdict_lines verdict (label request.naming name) None)
     IsPrinted (report.ShowUntilFault table names) = OfModel request.input bytes (IsListed (listing.Show table names))

@@ -1,7 +1,8 @@
 -- What a run prints of the bytes of one file, and of several files.
-use Rattle.std.specs.Prelude.{◌≡◌, ◌≢◌, ℕ, ◌==◌, ◌⊎◌, List, [], ◌∷◌, ◌++◌, codes, max, Option, Result, Ok, Err, MatchResult}
+use Rattle.std.specs.Prelude.{◌≡◌, ◌≢◌, ℕ, ◌==◌, ◌⊎◌, ◌&&◌, ◌||◌, Bool, true, false, List, [], ◌∷◌, ◌++◌, codes, max, Option, Result, Ok, Err, MatchResult}
 use Rattle.std.specs.Io.KnownBytes.{Appends}
 use Rattle.std.specs.List.{slice_split}
+use Rattle.std.specs.Str.{bytes_eq}
 use Rattle.packed.specs.declared.code.FaultCode.{FaultCode}
 use Rattle.cli_faults.specs.Status.{IsOutput, status_of}
 use Rattle.cli_faults.specs.Stops.{status_of_stop}
@@ -12,6 +13,9 @@ use Rattle.cli_lines.specs.Lines.{Part, report_text, styled_text}
 use Rattle.cli_sending.specs.Sent.{SendsPrefix, Sent}
 use Rattle.cli_print.specs.Explanations.{AreExplanations}
 use Rattle.cli_runs.specs.Reports.{HasEnded, style_of}
+use Rattle.cli_runs.specs.declared.listed.Separator.{Separator}
+use Rattle.cli_runs.specs.declared.listed.Separator.TheVariants.{LineFeed, Nul}
+use Rattle.cli_runs.specs.declared.report.Directories.TheVariants.{Walked}
 use Rattle.cli_runs.specs.declared.report.Ended.{Ended}
 use Rattle.cli_runs.specs.declared.report.Ended.TheVariants as ended
 use Rattle.cli_runs.specs.declared.report.Request.{Request}
@@ -22,12 +26,21 @@ status_of_ended ended.Printed = 0
 status_of_ended (ended.Stopped stop) = status_of_stop stop
 status_of_ended (ended.Refused stop) = status_of_stop stop
 
--- These bytes list the names: each ends with a NUL, which the last one may lack. What is between two NULs, or after the
+-- the byte of a separator: a line feed, whose ASCII code is 10, or a NUL
+abbrev pub byte_of : Separator → ℕ
+byte_of LineFeed = 10
+byte_of Nul = 0
+
+-- These bytes list the names: each ends with this byte, which the last one may lack. What is between two of them, or after the
 -- last one, is a name; but nothing after the last one is none.
-abbrev pub AreListed : List ℕ → List (List ℕ) → Type 0
-AreListed given names =
-    (slice_split (λ byte. byte == 0) given ≡ names ++ [] ∷ [])
-    ⊎ ((slice_split (λ byte. byte == 0) given ≡ names) × ((more : List (List ℕ)) → names ≢ more ++ [] ∷ []))
+abbrev pub AreListed : ℕ → List ℕ → List (List ℕ) → Type 0
+AreListed separator given names =
+    (slice_split (λ byte. byte == separator) given ≡ names ++ [] ∷ [])
+    ⊎ ((slice_split (λ byte. byte == separator) given ≡ names) × ((more : List (List ℕ)) → names ≢ more ++ [] ∷ []))
+
+-- the name stands for the standard input
+abbrev pub is_input : List ℕ → Bool
+is_input name = bytes_eq name (codes "-")
 
 -- the explanations of these rules went out; or the output failed after a prefix of them
 abbrev pub IsExplained : Form → List FaultCode → Option (List ℕ) → Option (List ℕ) → Result (Unit {0}) Failure → Type 0
@@ -66,21 +79,49 @@ module _ (request : Request) {W : Type 0} (contents : W → Option (List ℕ)) w
   abbrev pub IsCutAt : W → W → List ℕ → Type 0
   IsCutAt before after name = (bytes : List ℕ) × (failure : Failure) × IsReported before after name bytes (Err failure)
 
-  -- The runs on these files ended, one after another, and the exit code is the greatest of theirs. Or the output failed at
-  -- one of them: then no file after that was read.
-  abbrev pub AreRun : W → W → List (List ℕ) → ℕ → Type 0
-  AreRun before after [] status = (after ≡ before) × (status ≡ 0)
-  AreRun before after (name ∷ names) status =
-      ((between : W) × (first later : ℕ) × IsRun before between name first × AreRun between after names later × (status ≡ max first later))
-      ⊎ (IsCutAt before after name × (status ≡ 3))
+  -- nothing was reported on, or the run on a file ended with this exit code; for private clauses
+  abbrev pub IsVisited : W → W → ℕ → Type 0
+  IsVisited before after status = ((after ≡ before) × (status ≡ 0)) ⊎ ((name : List ℕ) × IsRun before after name status)
+
+  -- the runs on these files ended, one after another, and the exit code is the greatest of theirs
+  abbrev pub AreRunAll : W → W → List (List ℕ) → ℕ → Type 0
+  AreRunAll before after [] status = (after ≡ before) × (status ≡ 0)
+  AreRunAll before after (name ∷ names) status =
+      (between : W) × (first later : ℕ) × IsRun before between name first × AreRunAll between after names later × (status ≡ max first later)
+
+  -- the runs on some files ended, and the output failed at the next one
+  abbrev pub IsCutAmong : W → W → Type 0
+  IsCutAmong before after =
+      (between : W) × (names : List (List ℕ)) × (name : List ℕ) × (status : ℕ) × AreRunAll before between names status × IsCutAt between after name
+
+  -- The run on the next argument ended: on the file; or, if directories are walked, on files that were found in the directory.
+  -- The standard input is refused if it was read before; the first argument is whether it is that.
+  abbrev pub IsNext : Bool → W → W → List ℕ → ℕ → Type 0
+  IsNext true before after name status = (after ≡ before) × (status ≡ 3)
+  IsNext false before after name status =
+      IsRun before after name status ⊎ ((request.directories ≡ Walked) × (found : List (List ℕ)) × AreRunAll before after found status)
+
+  -- the output failed at the file with this name, or in the directory
+  abbrev pub IsCutIn : W → W → List ℕ → Type 0
+  IsCutIn before after name = IsCutAt before after name ⊎ ((request.directories ≡ Walked) × IsCutAmong before after)
+
+  -- The runs on these arguments ended, one after another, and the exit code is the greatest of theirs. Or the output failed at
+  -- one of them: then no file after that was read. The standard input is read once; the first argument is whether it was
+  -- read before.
+  abbrev pub AreRun : Bool → W → W → List (List ℕ) → ℕ → Type 0
+  AreRun is_read before after [] status = (after ≡ before) × (status ≡ 0)
+  AreRun is_read before after (name ∷ names) status =
+      ((between : W) × (first later : ℕ) × IsNext (is_read && is_input name) before between name first
+      × AreRun (is_read || is_input name) between after names later × (status ≡ max first later))
+      ⊎ (IsCutIn before after name × (status ≡ 3))
 
   -- the same; or memory ran out before a file was read
-  abbrev pub IsRunOn : W → W → List (List ℕ) → ℕ → Type 0
-  IsRunOn before after names status = AreRun before after names status ⊎ ((after ≡ before) × (status ≡ 3))
+  abbrev pub IsRunOn : Bool → W → W → List (List ℕ) → ℕ → Type 0
+  IsRunOn is_read before after names status = AreRun is_read before after names status ⊎ ((after ≡ before) × (status ≡ 3))
 
-  -- the same for the files that the standard input lists, with what reading it gave
-  abbrev pub IsRunOnList : W → W → ℕ → Type 0
-  IsRunOnList before after status =
+  -- the same for the files that the standard input lists, with this byte after each name, with what reading it gave
+  abbrev pub IsRunOnList : ℕ → W → W → ℕ → Type 0
+  IsRunOnList separator before after status =
       (read : Result (List ℕ) Failure)
-      × MatchResult read (λ given. (names : List (List ℕ)) × AreListed given names × IsRunOn before after names status)
+      × MatchResult read (λ given. (names : List (List ℕ)) × AreListed separator given names × IsRunOn true before after names status)
       (λ failure. IsRefused (codes "-") failure × (status ≡ status_of failure) × (after ≡ before))

@@ -1,21 +1,26 @@
 //! Reads files and reports on each.
-ghost use Rattle.std.specs.Prelude.{◌≡◌, ◌≤◌, Err, IfErr, IfOk, map, max};
+ghost use Rattle.std.specs.Prelude.{◌≡◌, ◌≤◌, ◌⊎◌, ◌&&◌, ◌||◌, Err, IfErr, IfOk, IfSome, false, map, max};
 ghost use Rattle.cli_faults.specs.Status.{IsOutput, status_of};
 ghost use Rattle.cli_faults.specs.Stops.{status_of_stop};
 ghost use Rattle.cli_files.specs.Read.{IsRefused};
-ghost use Rattle.cli_runs.specs.Runs.{AreRun, IsCutAt, IsReported, IsReportedAs, IsRun, IsRunOn, status_of_ended};
+ghost use Rattle.cli_runs.specs.Runs.{AreRun, IsCutAt, IsCutIn, IsNext, IsReported, IsReportedAs, IsRun, IsRunOn, is_input, status_of_ended};
+ghost use Rattle.cli_runs.specs.declared.report.Directories.TheVariants.{Walked};
 
 use crate::printed::report_on;
-use crate::report::{Ended, Naming, Report, Request};
+use crate::report::{Directories, Ended, Naming, Report, Request};
+use crate::tree::{report_others, run_tree};
 use cli_faults::{Failure, Stop};
-use cli_files::{Stopped, out_of_memory, read_into, status};
+use cli_files::{STANDARD_INPUT, Stopped, out_of_memory, read_into, status};
 use cli_nearest::report_missing_type;
+use cli_walk::{Unread, refuse};
 use std::alloc::{AllocError, Global};
+use std::fs;
 use std::io::Write;
 use std::rt::Files;
 
 /// Reads files in the order given, and reports on each. What cannot be read or printed is reported to `err`. Returns the
-/// greatest exit code of them, or 3 if the output could not be written: then no further file is read.
+/// greatest exit code of them, or 3 if the output could not be written: then no further file is read. The standard input is read
+/// once. Of directories see [`Directories`]; the number of files that were passed over in them is written to `err` at the end.
 pub fn run_files<R: Files + Input + AllocGlobal, W: Write, E: Write>(
     rt: &R,
     request: &Request<'_>,
@@ -24,11 +29,11 @@ pub fn run_files<R: Files + Input + AllocGlobal, W: Write, E: Write>(
     err: &mut E,
 ) -> u8
     ensures limit { result ≤ 3 }
-    ensures run { IsRunOn request.now W.contents out.old out.new (map (λ file. file.now) files.now) result }
-    ensures quiet { result ≡ 0 → err.new ≡ err.old }
+    ensures run { IsRunOn request.now W.contents false out.old out.new (map (λ file. file.now) files.now) result }
+    ensures quiet { result ≡ 0 → (err.new ≡ err.old) ⊎ (request.now.directories ≡ Walked) }
 {
     match names_of(rt.alloc(), files) {
-        Ok(names) => run_each(rt, request, names.as_slice(), out, err),
+        Ok(names) => run_each(rt, request, names.as_slice(), false, out, err),
         Err(AllocError) => out_of_memory(rt.alloc(), err),
     }
 }
@@ -44,36 +49,113 @@ fn names_of<'a>(alloc: Global, files: &[&'a str]) -> Result<Vec<&'a [u8]>, Alloc
     Ok(names)
 }
 
-/// Reads the files with these names, and reports on each, as [`run_files`] does.
-///
-/// The bytes of all files are read into one buffer, which grows to the largest.
+/// What a run on several files uses for one after another.
+#[derive(Drop)]
+pub(crate) struct Room {
+    /// The bytes of a file. This grows to the largest.
+    pub(crate) bytes: Vec<u8>,
+    /// The number of files in directories that were passed over.
+    pub(crate) others: u64,
+}
+
+/// Reads the files with these names, and reports on each, as [`run_files`] does. `is_read` is whether the standard input was
+/// read before: it is read once.
 pub(crate) fn run_each<R: Files + Input + AllocGlobal, W: Write, E: Write>(
     rt: &R,
     request: &Request<'_>,
     names: &[&[u8]],
+    is_read: bool,
     out: &mut W,
     err: &mut E,
 ) -> u8
     ensures limit { result ≤ 3 }
-    ensures run { AreRun request.now W.contents out.old out.new (map (λ name. name.now) names.now) result }
-    ensures quiet { result ≡ 0 → err.new ≡ err.old }
+    ensures run { AreRun request.now W.contents is_read out.old out.new (map (λ name. name.now) names.now) result }
+    ensures quiet { result ≡ 0 → (err.new ≡ err.old) ⊎ (request.now.directories ≡ Walked) }
 {
-    let mut bytes = Vec::new(rt.alloc());
+    let mut room = Room {
+        bytes: Vec::new(rt.alloc()),
+        others: 0,
+    };
+    let mut is_read = is_read;
     let mut greatest = 0;
     for name in names {
-        match run_next(rt, request, name, &mut bytes, out, err) {
+        match run_next(rt, request, name, is_read, &mut room, out, err) {
             Ok(next) => greatest = greater(greatest, next),
             Err(failure) => return status(rt.alloc(), Err(Stopped::from(failure)), err),
         }
+        is_read = is_read_after(is_read, name);
     }
+    report_others(rt.alloc(), request, room.others, err);
     greatest
 }
 
+/// Whether a name is that of the standard input.
+fn is_input(name: &[u8]) -> bool
+    ensures { result ≡ is_input name.now }
+{
+    name == STANDARD_INPUT.as_bytes()
+}
+
+/// Whether the standard input was read, after what has this name.
+fn is_read_after(is_read: bool, name: &[u8]) -> bool
+    ensures { result ≡ (is_read || is_input name.now) }
+{
+    is_read || is_input(name)
+}
+
+/// Whether a name is that of the standard input, which was read before.
+fn is_again(is_read: bool, name: &[u8]) -> bool
+    ensures { result ≡ (is_read && is_input name.now) }
+{
+    is_read && is_input(name)
+}
+
 /// The greater of two exit codes.
-fn greater(left: u8, right: u8) -> u8
+pub(crate) fn greater(left: u8, right: u8) -> u8
     ensures { result ≡ max left right }
 {
     if left < right { right } else { left }
+}
+
+/// Reports on what has this name: a file, or the files in a directory if it is walked. Returns the exit code. The standard input
+/// is refused if it was read before.
+///
+/// # Errors
+///
+/// The output could not be written, or memory ran out. By then it has nothing or a prefix of the reports.
+fn run_next<'a, R: Files + Input + AllocGlobal, W: Write, E: Write>(
+    rt: &R,
+    request: &Request<'_>,
+    name: &[u8],
+    is_read: bool,
+    room: &mut Room,
+    out: &mut W,
+    err: &mut E,
+) -> Result<u8, Failure<'a>>
+    ensures limit { IfOk result (λ next. next ≤ 3) }
+    ensures done { IfOk result (IsNext request.now W.contents (is_read && is_input name.now) out.old out.new name.now) }
+    ensures cut { IfErr result (λ failure. IsOutput failure × IsCutIn request.now W.contents out.old out.new name.now) }
+    ensures quiet { IfOk result (λ next. next ≡ 0 → err.new ≡ err.old) }
+{
+    if is_again(is_read, name) {
+        return Ok(refuse(rt.alloc(), Unread::InputAgain, err));
+    }
+    match directory_of(rt, request, name) {
+        Some(root) => run_tree(rt, request, root, room, out, err),
+        None => run_file(rt, request, name, room, out, err),
+    }
+}
+
+/// The path of the directory with this name, if directories are walked and it is one.
+fn directory_of<'a, R: Files>(rt: &R, request: &Request<'_>, name: &'a [u8]) -> Option<&'a str>
+    ensures { IfSome result (λ _. request.now.directories ≡ Walked) }
+{
+    if request.directories == Directories::Refused || is_input(name) {
+        return None;
+    }
+    let path = str::from_utf8(name).ok()?;
+    let found = fs::metadata(rt, path).ok()?;
+    found.is_dir().then_some(path)
 }
 
 /// Reads the file with this name and reports on it. Returns its exit code.
@@ -81,11 +163,11 @@ fn greater(left: u8, right: u8) -> u8
 /// # Errors
 ///
 /// The output could not be written, or memory ran out. By then it has nothing or a prefix of the report.
-fn run_next<'a, R: Files + Input + AllocGlobal, W: Write, E: Write>(
+pub(crate) fn run_file<'a, R: Files + Input + AllocGlobal, W: Write, E: Write>(
     rt: &R,
     request: &Request<'_>,
     name: &[u8],
-    bytes: &mut Vec<u8>,
+    room: &mut Room,
     out: &mut W,
     err: &mut E,
 ) -> Result<u8, Failure<'a>>
@@ -94,8 +176,8 @@ fn run_next<'a, R: Files + Input + AllocGlobal, W: Write, E: Write>(
     ensures cut { IfErr result (λ failure. IsOutput failure × IsCutAt request.now W.contents out.old out.new name.now) }
     ensures quiet { IfOk result (λ next. next ≡ 0 → err.new ≡ err.old) }
 {
-    match read_named(rt, name, bytes) {
-        Ok(file) => run_on_bytes(rt.alloc(), request, file, bytes.as_slice(), out, err),
+    match read_named(rt, name, &mut room.bytes) {
+        Ok(file) => run_on_bytes(rt.alloc(), request, file, room.bytes.as_slice(), out, err),
         Err(failure) => Ok(report_unread(rt.alloc(), request, failure, name, err)),
     }
 }
@@ -166,8 +248,8 @@ fn report_end<E: Write>(
     }
 }
 
-/// Reports to `err` why a report on a file stopped, and returns the exit code. If no type has the name that was asked for, the
-/// nearest one follows.
+/// Reports to `err` why a report on a file stopped, and returns the exit code. If no type of the only file has the name that was
+/// asked for, the nearest one follows.
 fn report_stop<E: Write>(
     alloc: Global,
     request: &Request<'_>,
@@ -180,11 +262,13 @@ fn report_stop<E: Write>(
     ensures limit { result ≤ 3 }
     ensures quiet { result ≡ 0 → err.new ≡ err.old }
 {
-    match (&stop, &request.report) {
-        (Stop::NoSuchType, Report::OutlineOf(subject)) => {
+    match (&stop, &request.report, request.naming) {
+        (Stop::NoSuchType, Report::OutlineOf(subject), Naming::Alone) => {
             report_missing_type(alloc, bytes, request.input, *subject, err);
             stop.status()
         }
+        // Its line says so.
+        (Stop::NothingAt(_), _, Naming::Named) => stop.status(),
         _ => {
             let file = match (&stop, request.naming) {
                 (Stop::Broken, _) | (_, Naming::Alone) => None,
@@ -198,7 +282,7 @@ fn report_stop<E: Write>(
 
 /// Reports to `err` why a file was not read, and returns the exit code. If memory ran out, the line of that does not name the
 /// file.
-fn report_unread<E: Write>(
+pub(crate) fn report_unread<E: Write>(
     alloc: Global,
     request: &Request<'_>,
     failure: Failure<'_>,

@@ -1,24 +1,28 @@
 //! What `clim` prints of files and their bytes.
 //!
 //! [`report_on`] prints a [`Report`] on the bytes of a file, and [`run_files`] and [`run_listed`] read files and report on each.
-//! [`explain_rules`] prints what rules say. `specs/Reports.antt` says what a report prints, and when it prints nothing.
+//! [`extract_file`] writes the content of a resource, and [`explain_rules`] prints what rules say. `specs/Reports.antt` says what a report prints, and when it prints nothing.
 //!
 //! ```text
-//! let request = Request { report: Report::Listing(Listing::Types), form: Form::Text, naming: Naming::Alone, input: Input::File, budget: None };
+//! let request = Request { report: Report::Listing(Listing::Types), form: Form::Text, naming: Naming::Alone,
+//!     directories: Directories::Refused, input: Input::File, budget: None };
 //! run_files(&rt, &request, &["one_module.dll"], &mut out, &mut err) // a line for each type of the file, and the exit code 0
 //! ```
 #![tactic(auto)]
 
 mod explain;
+mod extract;
 mod files;
 mod listed;
 mod print_check;
 mod print_report;
 mod printed;
 mod report;
+mod tree;
 
 pub use explain::explain_rules;
+pub use extract::extract_file;
 pub use files::run_files;
-pub use listed::run_listed;
+pub use listed::{Separator, run_listed};
 pub use printed::report_on;
-pub use report::{Ended, Listing, Naming, Report, Request, Verdict};
+pub use report::{Directories, Ended, Listing, Naming, Report, Request, Verdict};

@@ -10,14 +10,15 @@ ghost use Rattle.metadata.specs.Model.{IsModel};
 ghost use Rattle.packed.specs.Rule.{FirstBroken};
 
 use crate::print_check::print_check;
-use crate::report::{Ended, Listing, Report, Request, ended_by};
+use crate::report::{Ended, Listing, Report, Request, ended_at, ended_by};
 use cli_cells::{Names, print_show, print_tokens, print_until_fault};
 use cli_faults::{Failure, Stop};
 use cli_info::print_info;
 use cli_input::{Input, open};
 use cli_lines::Printer;
-use cli_outline::{Outcome, Subject, print_outline, print_outline_of};
+use cli_outline::{Outcome, Subject, print_outline, print_outline_of, print_refs};
 use cli_print::{print_digest, print_root, print_types};
+use cli_resources::print_resources;
 use cli_roots::{canonical_root, is_spent};
 use cli_where::{Found, print_strings, print_where};
 use comparison::digest;
@@ -46,6 +47,7 @@ pub(crate) fn print_report<'a, W: Write>(
         Report::Root => ended_by(print_root(bytes, input, out)),
         Report::Info => ended_by(print_info(alloc, bytes, input, out)),
         Report::Strings => print_user_strings(alloc, request, name, bytes, out),
+        Report::Resources => ended_at(print_resources(bytes, out)),
         Report::Listing(listing) => ended_by(print_listing(alloc, *listing, bytes, input, out)),
         Report::Check(verdict) => print_check(alloc, request, *verdict, name, bytes, out),
         Report::ShowUntilFault(table, names) => {
@@ -92,6 +94,7 @@ fn print_view<W: Write>(alloc: Global, listing: Listing, view: &View<'_>, out: &
         Listing::Show(table, names) => print_show(alloc, view, tables_of(&table), names, out),
         Listing::Types => print_types(view, out),
         Listing::Outline => print_outline(alloc, view, out),
+        Listing::Refs => print_refs(alloc, view, out),
     }
 }
 

@@ -1,12 +1,13 @@
 //! What to print of a file, and how printing it ends.
 ghost use Rattle.std.specs.Prelude.{◌≡◌};
-ghost use Rattle.cli_runs.specs.Reports.{ended_by};
+ghost use Rattle.cli_runs.specs.Reports.{ended_at, ended_by, stop_of};
 
 use cli_cells::Names;
 use cli_faults::{Failure, Stop};
 use cli_input::Input;
 use cli_lines::Form;
 use cli_outline::Subject;
+use cli_resources::Unfound;
 use packed::Fault;
 use table_schema::TableId;
 
@@ -19,6 +20,8 @@ pub enum Listing {
     Types,
     /// The declarations.
     Outline,
+    /// What is referred to in other modules.
+    Refs,
 }
 
 /// What is printed of a check.
@@ -41,6 +44,8 @@ pub enum Report<'a> {
     Info,
     /// The user strings (II.24.2.4).
     Strings,
+    /// Where the resources of a PE file are (II.22.24).
+    Resources,
     /// What the tables have.
     Listing(Listing),
     /// Whether it breaks a rule.
@@ -66,6 +71,15 @@ pub enum Naming {
     Named,
 }
 
+/// What becomes of a directory that is named as a file.
+#[derive(Clone, Copy, Debug, PartialEq, Eq)]
+pub enum Directories {
+    /// It cannot be read.
+    Refused,
+    /// The files in it are read, and those in the directories in it. Files that do not begin like one are passed over.
+    Walked,
+}
+
 /// What is asked of each file.
 #[derive(Drop)]
 pub struct Request<'a> {
@@ -75,6 +89,8 @@ pub struct Request<'a> {
     pub form: Form,
     /// Whether it is named.
     pub naming: Naming,
+    /// What becomes of it if it is a directory.
+    pub directories: Directories,
     /// What its bytes are.
     pub input: Input,
     /// The largest number of bytes of texts and signature blobs that are checked, if there is a limit.
@@ -90,6 +106,28 @@ pub enum Ended<'a> {
     Stopped(Stop<'a>),
     /// It stopped before a line was printed.
     Refused(Stop<'a>),
+}
+
+/// The end of a report on resources.
+pub(crate) fn ended_at<'a>(printed: Result<(), Unfound>) -> Ended<'a>
+    ensures { result ≡ ended_at printed }
+{
+    match printed {
+        Ok(()) => Ended::Printed,
+        Err(unfound) => Ended::Refused(stop_of(unfound)),
+    }
+}
+
+/// Why a run stopped that found no resource.
+pub(crate) fn stop_of<'a>(unfound: Unfound) -> Stop<'a>
+    ensures { result ≡ stop_of unfound }
+{
+    match unfound {
+        Unfound::Fault(fault) => Stop::Failed(Failure::Fault(fault)),
+        Unfound::NoSuchResource => Stop::NoSuchResource,
+        Unfound::Elsewhere(row) => Stop::ResourceElsewhere(row),
+        Unfound::Outside(row) => Stop::ResourceOutside(row),
+    }
 }
 
 /// The end of a report that prints its lines, or is refused by a fault.

@@ -1,5 +1,5 @@
 -- What `clim where` and `clim strings` print.
-use Rattle.std.specs.Prelude.{◌≡◌, ℕ, ◌⊎◌, List, [], ◌∷◌, codes, map, Result, Ok, Err}
+use Rattle.std.specs.Prelude.{◌≡◌, ℕ, ◌⊎◌, List, [], ◌∷◌, ◌++◌, codes, map, Result, Ok, Err}
 use Rattle.std.specs.List.{flat_map}
 use Rattle.packed.specs.declared.fault.Fault.{Fault as TheFault}
 use Rattle.packed.specs.Rule.{FirstBroken}
@@ -8,6 +8,9 @@ use Rattle.cli_faults.specs.declared.failure.Failure.TheVariants.{Fault, OutOfMe
 use Rattle.metadata.specs.Metadata.{Metadata}
 use Rattle.cli_input.specs.Checked.{IsModelOf, IsWhole, rules_of}
 use Rattle.cli_input.specs.declared.opened.Input.{Input}
+use Rattle.cli_input.specs.declared.opened.Input.TheVariants.{File}
+use Rattle.cli_code.specs.Lines.{method_lines}
+use Rattle.pe.specs.Image.{Image, IsImage}
 use Rattle.cli_lines.specs.Lines.{Part, word}
 use Rattle.cli_lines.specs.Printed.{Printed, Prints}
 use Rattle.cli_regions.specs.Regions.{Region}
@@ -28,10 +31,17 @@ abbrev pub where_lines : List Region → List (List Part)
 where_lines [] = (word (codes "nothing") ∷ []) ∷ []
 where_lines (first ∷ later) = map structure_line (first ∷ later)
 
--- the lines of the structures that contain the byte at an offset were printed, or memory ran out before
+-- the lines of the methods of a file whose bodies contain the byte at an offset (II.25.4); a bare root has no code
+abbrev pub AreOfCode : Found → Input → List ℕ → ℕ → List (List Part) → Type 0
+AreOfCode Something File bytes offset lines =
+    (image : Image) × IsImage bytes image × (model : Metadata) × IsModelOf File bytes model × (lines ≡ method_lines image model offset)
+AreOfCode found input bytes offset lines = lines ≡ []
+
+-- the lines of the structures that contain the byte at an offset were printed, and those of methods; or memory ran out before
 abbrev pub HasFound : {W : Type 0} → Input → List ℕ → ℕ → Printed W → Printed W → Result Found Failure → Type 0
 HasFound input bytes offset old new (Ok found) =
-    (structures : List Region) × AreStructuresAt input Entries bytes offset structures × (found ≡ found_of structures) × Prints old new (where_lines structures)
+    (structures : List Region) × AreStructuresAt input Entries bytes offset structures × (found ≡ found_of structures)
+    × ((methods : List (List Part)) → AreOfCode found input bytes offset methods → Prints old new (where_lines structures ++ methods))
 HasFound input bytes offset old new (Err failure) = (failure ≡ OutOfMemory) × (new ≡ old)
 
 -- The bytes have a model, and the lines were printed; or memory ran out before; or a rule is broken, and the lines of the

@@ -1,18 +1,23 @@
 //! Prints what a byte of a file belongs to.
-ghost use Rattle.std.specs.Prelude.{◌≡◌, map};
+ghost use Rattle.std.specs.Prelude.{◌≡◌, List, map};
+ghost use Rattle.cli_lines.specs.Lines.{Part as ThePart};
 ghost use Rattle.cli_lines.specs.Printed.{Prints};
 ghost use Rattle.cli_regions.specs.Kept.{seen};
-ghost use Rattle.cli_input.specs.Checked.{rules_of};
+ghost use Rattle.cli_input.specs.Checked.{IsModelOf, rules_of};
+ghost use Rattle.metadata.specs.Metadata.{Metadata};
+ghost use Rattle.metadata.specs.Model.{IsModel};
 ghost use Rattle.packed.specs.Rule.{FirstBroken};
-ghost use Rattle.cli_where.specs.Located.{HasFound, IsLocated, found_of, where_lines};
+ghost use Rattle.cli_where.specs.Located.{AreOfCode, HasFound, IsLocated, found_of, where_lines};
 
 use crate::structure_lines::print_structures;
 use crate::walk::{Reach, structures_at};
+use cli_code::print_methods;
 use cli_faults::Failure;
 use cli_input::{Input, open};
 use cli_lines::Part::Word;
 use cli_lines::Printer;
 use cli_regions::Structure;
+use opening::View;
 use packed::Fault;
 use std::alloc::Global;
 use std::io::Write;
@@ -53,17 +58,18 @@ fn print_found<W: Write>(
 /// - each section that has the byte in the file: its number from 1 and its name (II.25.3);
 /// - the CLI header and its field, and what it refers to except the metadata root (II.25.3.3);
 /// - the metadata root and its field, or a stream header and its field (II.24.2.1, II.24.2.2);
-/// - the streams of the standard, which may overlap;
+/// - the streams, which may overlap. One with a name that is not of the standard has its bytes that are within the root;
 /// - the field or row count of the table stream (II.24.2.6), or the cell: its table, its row from 1, and its column from
 ///   0 and by name (II.22), which the padding of Constant has not;
 /// - the entries of `#Strings`, `#GUID` and `#Blob` that contain the byte, each with the cell that refers to it, for the
 ///   first ten cells that refer to one. The NUL of a string and the packed length of a blob count (II.24.2.3 to II.24.2.5);
 /// - the user string that contains the byte, with its token, if `clim strings` walks over it (II.24.2.4, III.1.9). A string
-///   that ends in the zeros with which `#US` is padded has only the bytes before them.
+///   that ends in the zeros with which `#US` is padded has only the bytes before them;
+/// - the first ten methods of a file whose bodies contain the byte (II.25.4).
 ///
 /// If no structure contains the byte, or the offset is not before the end, it prints `nothing`, or no line of JSON. Of bytes
 /// that break a rule it prints the lines of the layers that break none, down to the cells. After opening it takes one pass
-/// over the sections, one over `#US` and one over the cells, so its time is that of opening. It copies `#US` if its size is no
+/// over the sections, one over `#US`, one over the cells and one over the methods, so its time is that of opening. It copies `#US` if its size is no
 /// multiple of four.
 ///
 /// # Errors
@@ -79,8 +85,31 @@ pub fn print_where<W: Write>(
     ensures { IsLocated input bytes.now offset out.old out.new result }
 {
     match open(bytes, input) {
-        Ok(_) => print_entire(alloc, bytes, input, offset, out),
+        Ok(view) => print_entire(alloc, bytes, input, &view, offset, out),
         Err(fault) => print_broken(alloc, bytes, input, offset, fault, out),
+    }
+}
+
+/// Prints the methods of a file whose bodies contain the byte at an offset, if a structure contains it. A bare root has no code.
+fn print_code<W: Write>(
+    alloc: Global,
+    bytes: &[u8],
+    input: Input,
+    found: Found,
+    view: &View<'_>,
+    offset: u64,
+    out: &mut Printer<'_, W>,
+)
+    requires { (model : Metadata) → IsModelOf input bytes.now model → IsModel view.now model }
+    ensures { (methods : List (List ThePart)) → AreOfCode found input bytes.now offset methods → Prints out.old out.new methods }
+{
+    cli_lines::laws::lines_follow::<W>();
+    match found {
+        Found::Nothing => {}
+        Found::Something => match input {
+            Input::BareRoot => {}
+            Input::File => print_methods(alloc, bytes, view, offset, out),
+        },
     }
 }
 
@@ -89,13 +118,20 @@ fn print_entire<W: Write>(
     alloc: Global,
     bytes: &[u8],
     input: Input,
+    view: &View<'_>,
     offset: u64,
     out: &mut Printer<'_, W>,
 ) -> Result<Found, Failure<'static>>
+    requires { (model : Metadata) → IsModelOf input bytes.now model → IsModel view.now model }
     ensures { HasFound input bytes.now offset out.old out.new result }
 {
+    cli_lines::laws::lines_follow::<W>();
     match structures_at(alloc, bytes, input, Reach::Entries, offset) {
-        Ok(found) => Ok(print_found(alloc, &found, out)),
+        Ok(structures) => {
+            let found = print_found(alloc, &structures, out);
+            print_code(alloc, bytes, input, found, view, offset, out);
+            Ok(found)
+        }
         Err(_) => Err(Failure::OutOfMemory),
     }
 }

@@ -115,8 +115,8 @@ fn find_all<'a>(bytes: &'a [u8], input: Input, reach: Reach, found: &mut Search<
 ///
 /// Only the layers that break no rule are taken apart: the PE headers, then the CLI header, the metadata root, and its table
 /// stream with the cells. So a broken file has the structures around its first fault. The heaps are walked over if `reach`
-/// says so. The time is linear in the number of bytes. The memory is that of the structures: at most one for each section,
-/// and fewer than fifty others; and that of a copy of `#US` if its size is no multiple of four.
+/// says so. The time is linear in the number of bytes. The memory is that of the structures: at most one for each section
+/// and each stream, and fewer than fifty others; and that of a copy of `#US` if its size is no multiple of four.
 ///
 /// # Errors
 ///

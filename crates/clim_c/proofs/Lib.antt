@@ -1,7 +1,6 @@
 pub mod ComparedLemmas
 pub mod GivenLemmas
 pub mod HeaderLemmas
-pub mod LocationLemmas
 pub mod RootLemmas
 pub mod SignatureLemmas
 pub mod Texts

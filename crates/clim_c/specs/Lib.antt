@@ -1,10 +1,9 @@
 pub mod Words
 pub mod Faults
-pub mod Headers
 pub mod Reported
 pub mod LookUps
 pub mod Streams
 pub mod SignatureCells
 pub mod CanonicalRoots
-pub mod Locations
 pub mod Compared
+pub mod OpenRows

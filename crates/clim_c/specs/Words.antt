@@ -17,6 +17,7 @@ pub use Rattle.table_schema.specs.Columns.{column_at, key_of}
 pub use Rattle.table_schema.specs.Tables.{table_name, table_number}
 pub use Rattle.table_schema.specs.declared.column.SigKind.{SigKind as Kind}
 pub use Rattle.table_schema.specs.declared.column.ColumnKind.TheVariants.{Signature}
+pub use Rattle.table_schema.specs.declared.token.Token.{Token as TheToken}
 pub use Rattle.table_schema.specs.declared.table.TableId.{TableId as Table}
 pub use Rattle.table_schema.specs.declared.table.TableId.TheVariants.{TypeDef}
 pub use Rattle.schema.specs.ColumnNames.{column_names_of}
@@ -32,6 +33,7 @@ pub use Rattle.reading.specs.Shown.{ShowsSignature}
 pub use Rattle.opening.specs.Heads.{rules_of_heads}
 pub use Rattle.opening.specs.Views.{AreFound, HasImage, HasModel, row_count, user_of}
 pub use Rattle.opening.specs.Within.{IsSpentIn, IsSpentInFile, Left, named_bytes_in, named_bytes_in_file}
+pub use Rattle.full_names.specs.RowNames.{IsRowName}
 pub use Rattle.cli_faults.specs.declared.explained.Explanation.{Explanation as Explained}
 pub use Rattle.root_writer.specs.Canonical.{canonical}
 pub use Rattle.embedding.specs.declared.strong_name.StrongName.{StrongName}

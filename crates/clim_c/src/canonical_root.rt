@@ -1,11 +1,11 @@
 ghost use Rattle.std.specs.Prelude.{◌≡◌, ◌⊎◌, ◌^◌, ◌<◌, ◌≤◌, IfOk, IfErr, OnOk, true, length};
-ghost use Rattle.c_values.specs.Texts.{HasWhole};
+ghost use Rattle.c_texts.specs.Texts.{HasWhole};
 ghost use Rattle.clim_c.specs.CanonicalRoots.{IsNoRoot};
 ghost use Rattle.clim_c.specs.Words.{IsModel, Metadata, canonical, sha256};
 
 use crate::opened::seen;
 use crate::view::ClimView;
-use c_values::{NO_MEMORY, ROOT_LIMIT, TOO_LONG, copy_at};
+use c_texts::{NO_MEMORY, ROOT_LIMIT, TOO_LONG, copy_at};
 use sha2::{Digest, Sha256};
 use std::alloc::Global;
 use writer::{Prepared, WriteError, prepare};

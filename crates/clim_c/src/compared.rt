@@ -5,7 +5,8 @@ ghost use Rattle.clim_c.specs.Words.{IsModel, Metadata};
 
 use crate::opened::seen;
 use crate::view::ClimView;
-use c_values::{ClimDifference, NO_MEMORY, reported_difference};
+use c_texts::NO_MEMORY;
+use c_values::{ClimDifference, reported_difference};
 use comparison::{Difference, differing_cells, outline_difference};
 use opening::View;
 use std::alloc::{AllocError, Global};

@@ -5,9 +5,10 @@ ghost use Rattle.clim_c.specs.Faults.{fault_of};
 ghost use Rattle.clim_c.specs.Words.{FirstBroken, StrongName, rules_of_file};
 
 use crate::fault::ClimFault;
+use c_texts::{NO_MEMORY, TOO_LONG};
 use c_values::{
-    BAD_FILE, BAD_ROOT, EmbedError, HEADERS_OVERLAP, NO_MEMORY, NO_ROOM, OCCUPIED, TOO_LONG,
-    UNLIKE, strong_name_of, write_copy,
+    BAD_FILE, BAD_ROOT, EmbedError, HEADERS_OVERLAP, NO_ROOM, OCCUPIED, UNLIKE, strong_name_of,
+    write_copy,
 };
 use std::alloc::Global;
 

@@ -1,9 +1,9 @@
 ghost use Rattle.std.specs.Prelude.{◌≡◌, ◌≢◌, length};
-ghost use Rattle.c_values.specs.Explained.{explanation_text};
-ghost use Rattle.c_values.specs.Texts.{counted, with_text};
+ghost use Rattle.c_texts.specs.Explained.{explanation_text};
+ghost use Rattle.c_texts.specs.Texts.{counted, with_text};
 ghost use Rattle.clim_c.specs.Words.{Explained, RuleCode, number_of_code};
 
-use c_values::write_explanation;
+use c_texts::write_explanation;
 use cli_faults::{code_of_number, explain};
 
 /// Writes the text that explains a rule into a buffer, up to its length, and returns the length of the whole text: the

@@ -1,9 +1,10 @@
 ghost use Rattle.std.specs.Prelude.{◌≡◌, ◌⊎◌, ◌-◌, ◌^◌, ◌<◌, ◌≤◌, length};
-ghost use Rattle.c_values.specs.Texts.{HasWhole};
+ghost use Rattle.c_texts.specs.Texts.{HasWhole};
 ghost use Rattle.clim_c.specs.Words.{IsGiven, IsGivenValid, IsRefused, IsValid, Metadata, canonical, refusal_of};
 
 use crate::canonical_root::write_whole;
-use c_values::{ClimRefusal, ClimRow, NO_MEMORY, NoRoot, TOO_LONG, root_of};
+use c_texts::{NO_MEMORY, TOO_LONG};
+use c_values::{ClimRefusal, ClimRow, NoRoot, root_of};
 use std::alloc::Global;
 
 /// Makes the canonical root of the metadata that is given by its version, its user strings and its rows, and writes it

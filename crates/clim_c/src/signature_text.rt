@@ -1,12 +1,12 @@
 ghost use Rattle.std.specs.Prelude.{◌≡◌, ◌≢◌, ◌≤◌, ◌<◌, ◌⊎◌, ◌^◌, ◌-◌, IfSome, IfNone, true, false, take};
-ghost use Rattle.c_values.specs.SignatureTexts.{signature_text};
-ghost use Rattle.c_values.specs.Texts.{IsLenWithin, text_limit, with_text};
+ghost use Rattle.c_texts.specs.SignatureTexts.{signature_text};
+ghost use Rattle.c_texts.specs.Texts.{IsLenWithin, text_limit, with_text};
 ghost use Rattle.clim_c.specs.SignatureCells.{HasSignature};
 ghost use Rattle.clim_c.specs.Words.{Body, IsModel, Kind, Metadata, ShowsSignature, Sig, Signature, Table, cell_count, cell_in, column_at, column_of, row_count, table_number};
 
 use crate::opened::seen;
 use crate::view::ClimView;
-use c_values::write_signature_text;
+use c_texts::write_signature_text;
 use opening::{CellRef, TableId, View};
 use table_schema::{ColumnKind, SigKind, cell_count, column_of_cell, columns};
 

@@ -1,8 +1,8 @@
 ghost use Rattle.std.specs.Prelude.{◌≡◌};
-ghost use Rattle.c_values.specs.Texts.{with_text};
+ghost use Rattle.c_texts.specs.Texts.{with_text};
 ghost use Rattle.clim_c.specs.Words.{as_read, braced_text, lower};
 
-use c_values::write_guid;
+use c_texts::write_guid;
 
 /// Writes the text of a GUID into a buffer, up to its length: 32 hexadecimal digits in lower case and four hyphens, in
 /// braces (II.24.2.5). Returns 38, the length of the text.

@@ -1,10 +1,10 @@
 ghost use Rattle.std.specs.Prelude.{◌≡◌, ◌/◌, ◌%◌, ◌^◌, true, length, unwrap_or};
-ghost use Rattle.c_values.specs.Texts.{with_text};
+ghost use Rattle.c_texts.specs.Texts.{with_text};
 ghost use Rattle.clim_c.specs.Words.{IsUserString, OnFalse, OnTrue, UserText, user_of, zero_padded};
 
 use crate::opened::seen;
 use crate::view::ClimView;
-use c_values::write_user_string;
+use c_texts::write_user_string;
 
 /// The high byte of the token of a user string (III.1.9).
 const USER_STRINGS: u32 = 0x70;

@@ -1,3 +1,6 @@
 mod ParamLemmas
 mod ParamExists
 mod ParamNames
+mod ClassNames
+mod ScopeLemmas
+mod ReferenceLemmas

@@ -1,5 +1,5 @@
--- Each parameter has a text, and each piece of a declaration.
-use Rattle.std.proofs.Common.{◌≡◌, ℕ, ◌<◌, ◌≤◌, List, [], ◌∷◌, ◌++◌, ◌⊎◌, inl, inr, refl, ap, ◌∙◌, arith}
+-- Each parameter has a name and flags, and each piece of a declaration has a text.
+use Rattle.std.proofs.Common.{◌≡◌, ℕ, ◌<◌, ◌≤◌, List, [], ◌∷◌, ◌++◌, ◌⊎◌, inl, inr, Option, Some, None, refl, ap, ◌∙◌, arith}
 use Rattle.std.specs.Prelude.{codes}
 use Rattle.std.specs.Fmt.{decimal, signed_decimal}
 use Rattle.std.proofs.lemmas.Bool.{cases_eq, cases_lt}
@@ -7,7 +7,7 @@ use Rattle.table_schema.specs.declared.table.TableId.TheVariants.{Param}
 use Rattle.table_schema.specs.declared.column.ColumnKind.TheVariants as kind
 use Rattle.table_schema.specs.CellColumns.{cell_columns}
 use Rattle.table_schema.specs.declared.token.Token.{Token}
-use Rattle.sig_text.specs.SignatureText.{Piece, word, number, signed, name, method_name, param_name}
+use Rattle.sig_text.specs.SignatureText.{Piece, word, number, signed, name, method_name, param_flags, param_name}
 use Rattle.metadata.specs.Cell.{Cell, Number, Text, Bytes, Guid, Ref, Start, Sig}
 use Rattle.metadata.specs.Kinds.{IsOfKind}
 use Rattle.metadata.specs.Lookups.{HasRow}
@@ -15,10 +15,12 @@ use Rattle.metadata.specs.Metadata.{Metadata, cell_in, count_in}
 use Rattle.metadata.specs.Valid.{IsValid}
 use Rattle.full_names.specs.declared.quoted.NameKind.TheVariants.{Member}
 use Rattle.full_names.specs.Quoted.{name_text}
+use Rattle.full_names.specs.RowNames.{IsRowName}
 use Rattle.full_names.specs.Texts.{ArePiecesText}
 use Rattle.full_names.proofs.NameExists.{HasText, any_name, first_row, is_text}
-use Rattle.declarations.specs.Declarations.{IsDeclaredPiece, IsParamText, position_in, position_of, spaced}
-use Rattle.declarations.proofs.ParamLemmas.{found_text}
+use Rattle.declarations.specs.Declarations.{IsDeclaredPiece, IsFlagsOf, IsNameOf, IsParamAt, IsParamRow, IsParamText, position_in, position_of, spaced}
+use Rattle.declarations.specs.FlagWords.{leading_words, words_of}
+use Rattle.declarations.specs.declared.flag_words.FlagTable.TheVariants as flag_table
 
 is_number : (cell : Cell) → IsOfKind kind.U16 cell → cell ≡ Number (position_of cell)
 is_number (Number value) of = refl
@@ -33,6 +35,10 @@ module _ (model : Metadata) (valid : IsValid model) (first past position : ℕ) 
   param_number : (row : ℕ) → HasRow model Param row → cell_in model Param row 1 ≡ Number (position_of (cell_in model Param row 1))
   unfolding cell_columns
   param_number row there = is_number (cell_in model Param row 1) (valid.cells Param row 1 there (omega arith)).of_kind
+
+  param_flags_of : (row : ℕ) → HasRow model Param row → cell_in model Param row 0 ≡ Number (position_of (cell_in model Param row 0))
+  unfolding cell_columns
+  param_flags_of row there = is_number (cell_in model Param row 0) (valid.cells Param row 0 there (omega arith)).of_kind
 
   param_own : (row : ℕ) → HasRow model Param row → (own : List ℕ) × (cell_in model Param row 2 ≡ Text own)
   unfolding cell_columns
@@ -53,9 +59,8 @@ module _ (model : Metadata) (valid : IsValid model) (first past position : ℕ) 
     ]
   ]
 
-  pub param_is : (row : ℕ) → HasRow model Param row → is_at row → ((earlier : ℕ) → HasRow model Param earlier → earlier < row → ¬ is_at earlier)
-      → (own : List ℕ) → cell_in model Param row 2 ≡ Text own → IsParamText model first past position (spaced own)
-  param_is row there at none own is = found_text model first past position row own (record {
+  pub param_at : (row : ℕ) → HasRow model Param row → is_at row → ((earlier : ℕ) → HasRow model Param earlier → earlier < row → ¬ is_at earlier) → IsParamAt model first past position row
+  param_at row there at none = record {
     there = there;
     from = at.0;
     to = at.1;
@@ -64,26 +69,38 @@ module _ (model : Metadata) (valid : IsValid model) (first past position : ℕ) 
       | inl less ↦ let to = at.1 in absurd (none earlier before less (from, omega (arith, less, to), ap position_of same))
       | inr least ↦ least
     ];
-  }) is
-
-  pub param_none : ((row : ℕ) → HasRow model Param row → ¬ is_at row) → IsParamText model first past position []
-  param_none none = record {
-    named = λ row at own is. absurd (none row at.there (at.from, at.to, ap position_of at.sequence));
-    unnamed = λ _. refl;
   }
 
-  pub param_text : HasText (IsParamText model first past position)
-  param_text = elim (first_row is_at at_or_not (count_in model Param)) [
-    | inl found ↦ let own = param_own found.0 found.1.0 in (spaced own.0, param_is found.0 found.1.0 found.1.1 (λ earlier there less. found.1.2 earlier there.0 less) own.0 own.1)
-    | inr none ↦ ([], param_none (λ row there. none row there.0 there.1))
+  pub no_param : ((row : ℕ) → HasRow model Param row → ¬ is_at row) → IsParamRow model first past position None
+  no_param none row at = none row at.there (at.from, at.to, ap position_of at.sequence)
+
+  param_row : (row : Option ℕ) × IsParamRow model first past position row
+  param_row = elim (first_row is_at at_or_not (count_in model Param)) [
+    | inl found ↦ (Some found.0, param_at found.0 found.1.0 found.1.1 (λ earlier there less. found.1.2 earlier there.0 less))
+    | inr none ↦ (None, no_param (λ row there. none row there.0 there.1))
   ]
+
+  name_in : (row : Option ℕ) → IsParamRow model first past position row → HasText (IsParamText IsNameOf model first past position)
+  name_in None none = ([], (None, none, refl))
+  name_in (Some row) at = let own = param_own row at.there in (spaced own.0, (Some row, at, (own.0, own.1, refl)))
+
+  flags_in : (row : Option ℕ) → IsParamRow model first past position row → HasText (IsParamText IsFlagsOf model first past position)
+  flags_in None none = ([], (None, none, refl))
+  flags_in (Some row) at = (leading_words (position_of (cell_in model Param row 0)) (words_of flag_table.Param), (Some row, at, (position_of (cell_in model Param row 0), param_flags_of row at.there, refl)))
+
+  pub name_exists : HasText (IsParamText IsNameOf model first past position)
+  name_exists = let found = param_row in name_in found.0 found.1
+
+  pub flags_exist : HasText (IsParamText IsFlagsOf model first past position)
+  flags_exist = let found = param_row in flags_in found.0 found.1
 
 -- ---- the pieces of a declaration
 
-module _ (model : Metadata) (valid : IsValid model) (class : Token) (own : List ℕ) (first past : ℕ) where
+module _ (model : Metadata) (valid : IsValid model) (class : Token) (named : HasText (IsRowName model class)) (own : List ℕ) (first past : ℕ) where
   declared_piece : (piece : Piece) → HasText (IsDeclaredPiece model class own first past piece)
-  declared_piece method_name = let of = any_name model valid class in (of.0 ++ (codes "::" ++ name_text Member own), (of.0, of.1, refl))
-  declared_piece (param_name position) = param_text model valid first past position
+  declared_piece method_name = (named.0 ++ (codes "::" ++ name_text Member own), (named.0, named.1, refl))
+  declared_piece (param_flags position) = flags_exist model valid first past position
+  declared_piece (param_name position) = name_exists model valid first past position
   declared_piece (word of) = (of, refl)
   declared_piece (number of) = (decimal of, refl)
   declared_piece (signed of) = (signed_decimal of, refl)

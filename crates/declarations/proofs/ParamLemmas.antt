@@ -1,35 +1,16 @@
--- The row of Param that has a position.
-use Rattle.std.proofs.Common.{◌≡◌, length, ℕ, List, [], ◌∷◌, ◌++◌, refl, sym, ap, subst, ◌∙◌, arith}
+-- A name after a space, and the words of flags one after another.
+use Rattle.std.proofs.Common.{◌≡◌, ◌∙◌, length, ℕ, suc, ◌+◌, ◌<◌, List, [], ◌∷◌, ◌++◌, get_or, take, map, sym, ap, subst, refl, arith}
 use Rattle.std.specs.Prelude.{codes, ◌==◌, false}
-use Rattle.table_schema.specs.declared.table.TableId.TheVariants.{Param}
-use Rattle.metadata.specs.Cell.{Cell, Text}
-use Rattle.metadata.specs.Metadata.{Metadata, cell_in}
+use Rattle.std.specs.Fmt.{WritesInCalls}
+use Rattle.std.proofs.lemmas.List.{flat_map_more, length-map}
+use Rattle.std.proofs.Math.ListN.{get_or-map}
+use Rattle.std.proofs.Math.Seq.{take-suc}
 use Rattle.full_names.specs.declared.quoted.NameKind.TheVariants.{Identifier}
 use Rattle.full_names.specs.Quoted.{name_text}
-use Rattle.declarations.specs.Declarations.{IsParamAt, IsParamText, spaced}
-
-text_in : Cell → List ℕ
-text_in (Text text) = text
-text_in cell = []
-
--- at most one row has the position first
-one_row : (model : Metadata) (first past position row other : ℕ) → IsParamAt model first past position row → IsParamAt model first past position other → other ≡ row
-one_row model first past position row other at more =
-    let low = at.before other more.there more.from more.sequence in
-    let high = more.before row at.there at.from at.sequence in
-    omega (arith, low, high)
-
--- the name of the row that has the position
-pub found_text : (model : Metadata) (first past position row : ℕ) (own : List ℕ) → IsParamAt model first past position row → cell_in model Param row 2 ≡ Text own
-    → IsParamText model first past position (spaced own)
-unfolding text_in
-found_text model first past position row own at is = record {
-  named = λ other more name of.
-      let P : ℕ → Type 0 = λ r. cell_in model Param r 2 ≡ Text name in
-      let here = subst P (one_row model first past position row other at more) of in
-      ap (λ (c : Cell). spaced (text_in c)) (sym is ∙ here);
-  unnamed = λ none. absurd (none row at);
-}
+use Rattle.full_names.proofs.TextLemmas.{writes_append}
+use Rattle.declarations.specs.Declarations.{spaced}
+use Rattle.declarations.specs.FlagWords.{Word, leading_text, leading_words, shown_word}
+use Rattle.declarations.specs.declared.flag_words.FlagWord.{FlagWord}
 
 pub spaced_alone : (name : List ℕ) → length name ≡ 0 → spaced name ≡ []
 spaced_alone [] none = refl
@@ -38,3 +19,18 @@ spaced_alone (c ∷ name) none = absurd (omega arith)
 pub spaced_after : (name : List ℕ) → (length name == 0) ≡ false → codes " " ++ name_text Identifier name ≡ spaced name
 spaced_after [] some = absurd cc
 spaced_after (c ∷ name) some = refl
+
+-- one more word
+pub word_more : {W : Type 0} (took : W → List ℕ → W → Type 0) (flags : ℕ) (items : List FlagWord) (words : List Word) (i : ℕ) (d : FlagWord) (before between after : W)
+    → map shown_word items ≡ words → i < length items → WritesInCalls took before (leading_words flags (take i words)) between
+    → WritesInCalls took between (leading_text flags (shown_word (get_or items i d))) after → WritesInCalls took before (leading_words flags (take (i + 1) words)) after
+word_more took flags items words i d before between after same lt so_far one =
+    let long = sym (length-map items shown_word) ∙ ap length same in
+    let within : i < length words = omega (arith, long, lt) in
+    let next : i + 1 ≡ suc i = omega arith in
+    let item : shown_word (get_or items i d) ≡ get_or words i (shown_word d) = sym (get_or-map shown_word items i d) ∙ ap (λ zs. get_or zs i (shown_word d)) same in
+    let text = flat_map_more (leading_text flags) [] (take i words) (get_or words i (shown_word d))
+    ∙ ap (λ ws. leading_words flags ws) (sym (ap (λ n. take n words) next ∙ take-suc words i (shown_word d) within)) in
+    subst (λ (t : List ℕ). WritesInCalls took before t after) text
+    (writes_append took before (leading_words flags (take i words)) between (leading_text flags (get_or words i (shown_word d))) after so_far
+    (subst (λ (w : Word). WritesInCalls took between (leading_text flags w) after) item one))

@@ -1,15 +1,13 @@
--- The first row with a number, and the name of the parameter in it.
-use Rattle.std.proofs.Common.{◌≡◌, ◌∙◌, ℕ, zero, suc, ◌+◌, ◌<◌, ◌≤◌, ◌⊎◌, inl, inr, Bool, cond, List, [], ◌∷◌, length, get_or, refl, sym, ap, subst, arith}
+-- The first row with a number, and the parameter in it.
+use Rattle.std.proofs.Common.{◌≡◌, ◌∙◌, ℕ, zero, suc, ◌+◌, ◌<◌, ◌≤◌, ◌⊎◌, inl, inr, Bool, cond, List, [], ◌∷◌, None, length, get_or, refl, sym, ap, subst, arith}
 use Rattle.std.specs.List.{filter}
 use Rattle.std.proofs.lemmas.Bool.{cases_eq, eq-eqb, ne_eqb}
-use Rattle.table_schema.specs.declared.table.TableId.TheVariants.{Param}
-use Rattle.metadata.specs.Cell.{Text}
-use Rattle.metadata.specs.Metadata.{Metadata, cell_in}
+use Rattle.metadata.specs.Metadata.{Metadata}
 use Rattle.metadata.specs.Valid.{IsValid}
 use Rattle.navigation.specs.declared.keyed.KeyedRow.{KeyedRow}
 use Rattle.navigation.specs.Keyed.{has_key, keyed_row, keyed_rows}
-use Rattle.declarations.specs.Declarations.{AreParams, IsParamText, position_in, spaced}
-use Rattle.declarations.proofs.ParamExists.{param_is, param_none}
+use Rattle.declarations.specs.Declarations.{AreParams, IsParamAt, IsParamRow, position_in}
+use Rattle.declarations.proofs.ParamExists.{no_param, param_at}
 
 module _ (number : ℕ → ℕ) (position : ℕ) where
   abbrev listed : ℕ → ℕ → List KeyedRow
@@ -83,24 +81,23 @@ module _ (model : Metadata) (valid : IsValid model) (first past position : ℕ) 
   all_listed : found ≡ listed (position_in model) position are.0 are.1
   all_listed = is_found ∙ are.2 position
 
-  -- the name in the first row that was found
-  pub named : (d : KeyedRow) → 0 < length found → (own : List ℕ) → cell_in model Param (get_or found 0 d).row 2 ≡ Text own → IsParamText model first past position (spaced own)
-  named d some own is = elim (first_with (position_in model) position are.0 are.1) [
+  -- the first row that was found
+  pub found_row : (d : KeyedRow) → 0 < length found → IsParamAt model first past position (get_or found 0 d).row
+  found_row d some = elim (first_with (position_in model) position are.0 are.1) [
     | inl one ↦
         let same : (get_or found 0 d).row ≡ one.0 = ap (λ (xs : List KeyedRow). (get_or xs 0 d).row) all_listed ∙ one.1.first_listed d in
         let there = (are.3 one.0).1 (one.1.low, one.1.high) in
-        param_is model valid first past position one.0 there.0 (there.1, there.2, one.1.has)
-        (λ earlier exists less at. let within = (are.3 earlier).0 (exists, at.0, at.1) in one.1.before earlier within.0 less at.2)
-        own (subst (λ (row : ℕ). cell_in model Param row 2 ≡ Text own) same is)
+        subst (IsParamAt model first past position) (sym same) (param_at model valid first past position one.0 there.0 (there.1, there.2, one.1.has)
+        (λ earlier exists less at. let within = (are.3 earlier).0 (exists, at.0, at.1) in one.1.before earlier within.0 less at.2))
     | inr none ↦ let empty = ap (λ (xs : List KeyedRow). length xs) (all_listed ∙ none.none_listed) in absurd (omega (arith, empty, some))
   ]
 
   -- no row was found
-  pub unnamed : length found ≡ 0 → IsParamText model first past position []
-  unnamed empty = elim (first_with (position_in model) position are.0 are.1) [
+  pub no_row : length found ≡ 0 → IsParamRow model first past position None
+  no_row empty = elim (first_with (position_in model) position are.0 are.1) [
     | inl one ↦
         let long = ap (λ (xs : List KeyedRow). length xs) all_listed in
         let some = one.1.some in
         absurd (omega (arith, long, some, empty))
-    | inr none ↦ param_none model valid first past position (λ row exists at. let within = (are.3 row).0 (exists, at.0, at.1) in none.none row within.0 within.1 at.2)
+    | inr none ↦ no_param model valid first past position (λ row exists at. let within = (are.3 row).0 (exists, at.0, at.1) in none.none row within.0 within.1 at.2)
   ]

@@ -1,21 +1,25 @@
--- The declarations of methods and properties (ECMA-335 II.15.3, II.17, II.22.33).
-use Rattle.std.specs.Prelude.{◌≡◌, ℕ, ◌+◌, ◌≤◌, ◌<◌, ◌↔◌, List, [], ◌∷◌, ◌++◌, codes}
+-- The declarations of methods and properties, and references to methods and fields (ECMA-335 II.15.3, II.17, II.22.25, II.22.33).
+use Rattle.std.specs.Prelude.{◌≡◌, ◌≢◌, ℕ, ◌+◌, ◌≤◌, ◌<◌, ◌↔◌, ◌⊎◌, List, [], ◌∷◌, ◌++◌, Option, None, Some, codes}
 use Rattle.std.specs.List.{filter}
-use Rattle.table_schema.specs.declared.table.TableId.TheVariants.{TypeDef, MethodDef, Param, Property}
+use Rattle.table_schema.specs.declared.table.TableId.TheVariants.{TypeDef, MethodDef, MemberRef, Param, Property}
+use Rattle.table_schema.specs.declared.table.TableId.{TableId}
 use Rattle.table_schema.specs.declared.token.Token.{Token}
-use Rattle.sig_grammar.specs.Syntax.{Method}
-use Rattle.sig_text.specs.SignatureText.{Piece, method_name, param_name, declared_text}
-use Rattle.metadata.specs.Cell.{Cell, Text, Number}
+use Rattle.sig_grammar.specs.Syntax.{Body, Method}
+use Rattle.sig_text.specs.Declares.{member_text}
+use Rattle.sig_text.specs.SignatureText.{Piece, method_name, param_flags, param_name, declared_text}
+use Rattle.metadata.specs.Cell.{Cell, Text, Number, Sig}
 use Rattle.metadata.specs.Metadata.{Metadata, cell_in}
 use Rattle.metadata.specs.Lookups.{HasRow, IsRun}
 use Rattle.metadata_source.specs.declared.member_lists.MemberList.TheVariants as list
 use Rattle.navigation.specs.Keyed.{has_key, keyed_rows}
 use Rattle.navigation.specs.Owners.{Owns}
 use Rattle.navigation.specs.declared.keyed.KeyedRow.{KeyedRow}
-use Rattle.full_names.specs.declared.quoted.NameKind.TheVariants.{Identifier}
+use Rattle.full_names.specs.declared.quoted.NameKind.TheVariants.{Identifier, Member}
 use Rattle.full_names.specs.Quoted.{name_text}
-use Rattle.full_names.specs.RowNames.{IsTypeOfProperty}
-use Rattle.full_names.specs.Texts.{ArePiecesText, IsFullName, IsMemberName, IsPieceText}
+use Rattle.full_names.specs.RowNames.{IsParent, IsRowName, IsTypeOfMethod, IsTypeOfProperty}
+use Rattle.full_names.specs.Texts.{ArePiecesText, IsFullName, IsPieceText}
+use Rattle.declarations.specs.declared.flag_words.FlagTable.TheVariants as flag_table
+use Rattle.declarations.specs.FlagWords.{leading_words, words_of}
 
 -- the position in a cell, and that of a row of Param (II.22.33)
 abbrev pub position_of : Cell → ℕ
@@ -44,15 +48,34 @@ abbrev pub spaced : List ℕ → List ℕ
 spaced [] = []
 spaced (first ∷ tail) = codes " " ++ name_text Identifier (first ∷ tail)
 
--- the text of the name of a parameter; empty if no row has its position
-pub record IsParamText (model : Metadata) (first past position : ℕ) (text : List ℕ) : Type 0 where
-  pub named : (row : ℕ) → IsParamAt model first past position row → (own : List ℕ) → cell_in model Param row 2 ≡ Text own → text ≡ spaced own
-  pub unnamed : ((row : ℕ) → ¬ IsParamAt model first past position row) → text ≡ []
+-- the row of the parameter with a position, if there is one
+abbrev pub IsParamRow : Metadata → ℕ → ℕ → ℕ → Option ℕ → Type 0
+IsParamRow model first past position None = (row : ℕ) → ¬ IsParamAt model first past position row
+IsParamRow model first past position (Some row) = IsParamAt model first past position row
 
--- the pieces of a declaration: of a method or a property of a class, with its own name, and the run of its parameters
+-- the text of the name in a row of Param; empty without a row
+abbrev pub IsNameOf : Metadata → Option ℕ → List ℕ → Type 0
+IsNameOf model None text = text ≡ []
+IsNameOf model (Some row) text = (own : List ℕ) × (cell_in model Param row 2 ≡ Text own) × (text ≡ spaced own)
+
+-- the words of the flags in a row of Param, a space after each (II.15.4, II.23.1.13); none without a row
+abbrev pub IsFlagsOf : Metadata → Option ℕ → List ℕ → Type 0
+IsFlagsOf model None text = text ≡ []
+IsFlagsOf model (Some row) text = (flags : ℕ) × (cell_in model Param row 0 ≡ Number flags) × (text ≡ leading_words flags (words_of flag_table.Param))
+
+-- the text of the name, or of the flags, of the parameter with a position
+abbrev pub IsParamText : (Metadata → Option ℕ → List ℕ → Type 0) → Metadata → ℕ → ℕ → ℕ → List ℕ → Type 0
+IsParamText is_text model first past position text = (row : Option ℕ) × IsParamRow model first past position row × is_text model row text
+
+-- the name of a method, a property or a field after that of its type or its module
+abbrev pub IsMemberOfClass : Metadata → Token → List ℕ → List ℕ → Type 0
+IsMemberOfClass model class own text = (of : List ℕ) × IsRowName model class of × (text ≡ of ++ (codes "::" ++ name_text Member own))
+
+-- the pieces of a declaration: of a member of a class, with its own name, and the run of its parameters
 abbrev pub IsDeclaredPiece : Metadata → Token → List ℕ → ℕ → ℕ → Piece → List ℕ → Type 0
-IsDeclaredPiece model class own first past method_name text = IsMemberName model class own text
-IsDeclaredPiece model class own first past (param_name position) text = IsParamText model first past position text
+IsDeclaredPiece model class own first past method_name text = IsMemberOfClass model class own text
+IsDeclaredPiece model class own first past (param_flags position) text = IsParamText IsFlagsOf model first past position text
+IsDeclaredPiece model class own first past (param_name position) text = IsParamText IsNameOf model first past position text
 IsDeclaredPiece model class own first past piece text = IsPieceText (IsFullName model) piece text
 
 -- the text of the declaration of a method that has this signature
@@ -73,3 +96,34 @@ pub record IsPropertyDeclaration (model : Metadata) (row : ℕ) (form : Method) 
   pub own : List ℕ
   pub is_named : cell_in model Property row 1 ≡ Text own
   pub pieces : ArePiecesText (IsDeclaredPiece model class own 0 0) (declared_text form) text
+
+-- ---- references
+
+-- the type or the module before the name of a MemberRef: its parent, or the type of its parent, a method (II.22.25)
+abbrev pub IsClassUnder : Metadata → TableId → ℕ → Token → Type 0
+IsClassUnder model MethodDef row class = IsTypeOfMethod model row class
+IsClassUnder model table row class = class ≡ record { table = table; row = row }
+
+-- that of a method or a MemberRef
+abbrev pub IsClassOf : Metadata → TableId → ℕ → Token → Type 0
+IsClassOf model MemberRef row class = (parent : Token) × IsParent model row parent × IsClassUnder model parent.table parent.row class
+IsClassOf model table row class = IsTypeOfMethod model row class
+
+-- the text of a reference to what has this signature: as it is declared, without the names and the flags of parameters
+pub record IsReferenceTo (model : Metadata) (table : TableId) (row name_cell : ℕ) (signature : Body) (text : List ℕ) : Type 0 where
+  pub class : Token
+  pub owner : IsClassOf model table row class
+  pub own : List ℕ
+  pub is_named : cell_in model table row name_cell ≡ Text own
+  pub pieces : ArePiecesText (IsDeclaredPiece model class own 0 0) (member_text signature) text
+
+-- the same with the signature in a cell
+abbrev pub IsReferenceBy : Metadata → TableId → ℕ → ℕ → ℕ → List ℕ → Type 0
+IsReferenceBy model table row name_cell signature_cell text =
+    (signature : Body) × (cell_in model table row signature_cell ≡ Sig signature) × IsReferenceTo model table row name_cell signature text
+
+-- the text of a reference to a row: of a method or a MemberRef with its signature (II.15.3, II.22.25, II.22.26), of any other row its name
+pub record IsReference (model : Metadata) (token : Token) (text : List ℕ) : Type 0 where
+  pub method : token.table ≡ MethodDef → HasRow model MethodDef token.row → IsReferenceBy model MethodDef token.row 3 4 text
+  pub member : token.table ≡ MemberRef → HasRow model MemberRef token.row → IsReferenceBy model MemberRef token.row 1 2 text
+  pub other : (token.table ≢ MethodDef) × (token.table ≢ MemberRef) ⊎ ¬ HasRow model token.table token.row → IsRowName model token text

@@ -26,6 +26,13 @@ word_text flags of = if bit_and flags of.mask == of.value then codes " " ++ of.t
 abbrev pub words_text : ℕ → List Word → List ℕ
 words_text flags words = flat_map (word_text flags) words
 
+-- the same, with each space after its word
+abbrev pub leading_text : ℕ → Word → List ℕ
+leading_text flags of = if bit_and flags of.mask == of.value then of.text ++ codes " " else []
+
+abbrev pub leading_words : ℕ → List Word → List ℕ
+leading_words flags words = flat_map (leading_text flags) words
+
 -- the words of each kind of flags, in the order of the standard
 abbrev pub words_of : FlagTable → List Word
 -- II.23.1.15: visibility, layout, semantics, implementation, string formatting, initialization, and the others
@@ -83,6 +90,11 @@ words_of table.Semantics =
     word 0x0008 0x0008 (codes ".addon") ∷
     word 0x0010 0x0010 (codes ".removeon") ∷
     word 0x0020 0x0020 (codes ".fire") ∷ []
+-- II.23.1.13
+words_of table.Param =
+    word 0x0001 0x0001 (codes "[in]") ∷
+    word 0x0002 0x0002 (codes "[out]") ∷
+    word 0x0010 0x0010 (codes "[opt]") ∷ []
 -- II.23.1.8: names, character set, errors, calling convention
 words_of table.Import =
     word 0x0001 0x0001 (codes "nomangle") ∷

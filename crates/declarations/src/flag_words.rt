@@ -43,6 +43,8 @@ pub enum FlagTable {
     Mapped,
     /// Of accessors of properties and events (II.23.1.12).
     Semantics,
+    /// Of parameters (II.23.1.13).
+    Param,
     /// Of imported methods (II.23.1.8).
     Import,
 }
@@ -88,6 +90,10 @@ const SEMANTICS: &[FlagWord] = words![
     0x0001 0x0001 ".set"; 0x0002 0x0002 ".get";
     0x0004 0x0004 ".other"; 0x0008 0x0008 ".addon";
     0x0010 0x0010 ".removeon"; 0x0020 0x0020 ".fire";
+];
+
+const PARAM: &[FlagWord] = words![
+    0x0001 0x0001 "[in]"; 0x0002 0x0002 "[out]"; 0x0010 0x0010 "[opt]";
 ];
 
 const IMPORT: &[FlagWord] = words![
@@ -147,6 +153,7 @@ pub fn words_of(of: FlagTable) -> &'static [FlagWord]
         FlagTable::Generic => GENERIC,
         FlagTable::Mapped => MAPPED,
         FlagTable::Semantics => SEMANTICS,
+        FlagTable::Param => PARAM,
         FlagTable::Import => IMPORT,
     }
 }

@@ -1,17 +1,17 @@
-ghost use Rattle.std.specs.Prelude.{◌≡◌, None};
-ghost use Rattle.sig_grammar.specs.Syntax.{Method};
-ghost use Rattle.sig_text.specs.Declares.{Declares};
-ghost use Rattle.sig_text.specs.SignatureText.{declared_text};
+ghost use Rattle.std.specs.Prelude.{◌≡◌, ℕ, List, None, OnOk};
+ghost use Rattle.sig_grammar.specs.Syntax.{Body};
+ghost use Rattle.sig_text.specs.Declares.{Declares, member_text};
 ghost use Rattle.metadata.specs.Metadata.{Metadata};
 ghost use Rattle.full_names.specs.Names.{Wrote};
 ghost use Rattle.full_names.specs.TextEnd.{IsWhole};
+ghost use Rattle.full_names.specs.RowNames.{IsRowName};
 ghost use Rattle.full_names.specs.Texts.{ArePiecesText};
-ghost use Rattle.declarations.specs.Declarations.{AreParams, IsDeclaredPiece};
+ghost use Rattle.declarations.specs.Declarations.{AreParams, IsDeclaredPiece, IsMemberOfClass};
 
-use crate::params::{Params, write_spaced};
+use crate::params::{Params, write_flags, write_spaced};
 use full_names::{
-    Limit, TextEnd, keep, keep_refusal, write_full_name_within, write_member_name, write_number,
-    write_signed, write_text,
+    Limit, TextEnd, TextError, keep, keep_refusal, write_full_name_within, write_number,
+    write_own_name, write_row_name, write_signed, write_text,
 };
 use navigation::ReadCells;
 use sig_text::{MethodSink, TextSink, write_declaration};
@@ -19,20 +19,20 @@ use std::alloc::Global;
 use std::fmt;
 use table_schema::Token;
 
-/// What the declaration of a method or a property has besides its signature.
+/// What the declaration of a method, a property or a field has besides its signature.
 #[derive(Clone, Copy)]
 pub struct Declared<'s> {
-    /// Its type.
+    /// Its type, or its module.
     pub class: Token,
     /// Its name.
     pub name: &'s str,
-    /// The first row of its parameters. Those of a property have no rows.
+    /// The first row of its parameters. Those of a property, and of a reference, have no rows.
     pub first: u32,
     /// The row after that of its last parameter.
     pub past: u32,
 }
 
-/// A sink for the declaration of a method or a property.
+/// A sink for the declaration of a method, a property or a field.
 #[derive(Drop)]
 pub struct MethodText<'s, 'w, S: ReadCells, W, L> {
     alloc: Global,
@@ -119,16 +119,19 @@ impl<S: ReadCells, W: fmt::Write, L: Limit<W>> TextSink for MethodText<'_, '_, S
 
 impl<S: ReadCells, W: fmt::Write, L: Limit<W>> MethodSink for MethodText<'_, '_, S, W, L> {
     fn method_name(&mut self) -> Option<()> {
-        let of = self.of;
-        let written = write_member_name(
+        let written = write_member(
             self.alloc,
             self.params.source,
-            of.class,
-            of.name,
+            self.of,
             self.limit,
             self.writer,
         );
         keep(&mut self.ended, written)
+    }
+
+    fn param_flags(&mut self, position: u32) -> Option<()> {
+        let written = write_flags(self.writer, self.params.flags(position));
+        keep_refusal(&mut self.ended, written)
     }
 
     fn param_name(&mut self, position: u32) -> Option<()> {
@@ -137,15 +140,32 @@ impl<S: ReadCells, W: fmt::Write, L: Limit<W>> MethodSink for MethodText<'_, '_,
     }
 }
 
-/// Puts the declaration of a method or a property into its sink, from the bytes of its signature.
+/// Writes the name of a member after that of its type or its module.
+fn write_member<S: ReadCells, W: fmt::Write, L: Limit<W>>(
+    alloc: Global,
+    source: &S,
+    of: Declared<'_>,
+    limit: &L,
+    out: &mut W,
+) -> Result<(), TextError>
+    ensures { (model : Metadata) → S.shows source.now model
+        → OnOk result (Wrote W.write_str_gives out.old (IsMemberOfClass model of.entry.class of.entry.name.now) out.new) }
+{
+    write_row_name(alloc, source, of.class, limit, out)?;
+    Ok(write_own_name(out, of.name, limit)?)
+}
+
+/// Puts the declaration of a method, a property or a field into its sink, from the bytes of its signature. Its type or its
+/// module has a name.
 pub fn put_declaration<S: ReadCells, W: fmt::Write, L: Limit<W>>(
     sink: &mut MethodText<'_, '_, S, W, L>,
     bytes: &[u8],
 )
-    ensures { (model : Metadata) → S.shows sink.old.params.now.source.now model → (form : Method) → Declares form bytes.now
-        → AreParams model sink.old.of.first sink.old.of.past sink.old.params.now.rows.items → sink.old.ended ≡ None → IsWhole sink.new.ended
+    ensures { (model : Metadata) → S.shows sink.old.params.now.source.now model → (signature : Body) → Declares signature bytes.now
+        → AreParams model sink.old.of.first sink.old.of.past sink.old.params.now.rows.items → (text : List ℕ) → IsRowName model sink.old.of.class text
+        → sink.old.ended ≡ None → IsWhole sink.new.ended
         → (sink.new.writer.ghost_name ≡ sink.old.writer.ghost_name) × Wrote W.write_str_gives sink.old.writer.now
-        (ArePiecesText (IsDeclaredPiece model sink.old.of.class sink.old.of.name.now sink.old.of.first sink.old.of.past) (declared_text form))
+        (ArePiecesText (IsDeclaredPiece model sink.old.of.class sink.old.of.name.now sink.old.of.first sink.old.of.past) (member_text signature))
         sink.new.writer.now }
 {
     sink.params.source.holds_one();

@@ -1,11 +1,11 @@
-ghost use Rattle.std.specs.Prelude.{◌≡◌, ◌≤◌, Bool, List, OnOk};
+ghost use Rattle.std.specs.Prelude.{◌≡◌, ◌≤◌, ℕ, Bool, List, OnOk};
 ghost use Rattle.table_schema.specs.declared.table.TableId.TheVariants.{MethodDef, Property};
-ghost use Rattle.sig_grammar.specs.Syntax.{Method, Slot, method_body, property};
-ghost use Rattle.sig_text.specs.Declares.{Declares, as_method};
-ghost use Rattle.sig_text.specs.SignatureText.{declared_text};
+ghost use Rattle.sig_grammar.specs.Syntax.{Body, Method, Slot, method_body, property};
+ghost use Rattle.sig_text.specs.Declares.{Declares, as_method, member_text};
 ghost use Rattle.metadata.specs.Cell.{Sig};
 ghost use Rattle.metadata.specs.Metadata.{Metadata, cell_in};
 ghost use Rattle.full_names.specs.Names.{Wrote};
+ghost use Rattle.full_names.specs.RowNames.{IsRowName};
 ghost use Rattle.full_names.specs.Texts.{ArePiecesText};
 ghost use Rattle.declarations.specs.Declarations.{IsDeclaration, IsDeclaredPiece, IsPropertyDeclaration};
 
@@ -19,10 +19,10 @@ use std::fmt;
 use table_schema::{SigKind, TableId, Token};
 
 /// The cell of a method's name (II.22.26).
-const METHOD_NAME: usize = 3;
+pub(crate) const METHOD_NAME: usize = 3;
 
 /// The cell of the signature of a method (II.22.26).
-const METHOD_SIGNATURE: usize = 4;
+pub(crate) const METHOD_SIGNATURE: usize = 4;
 
 /// The cell of a property's name (II.22.34).
 const PROPERTY_NAME: usize = 1;
@@ -30,8 +30,9 @@ const PROPERTY_NAME: usize = 1;
 /// The cell of the signature of a property (II.22.34).
 const PROPERTY_SIGNATURE: usize = 2;
 
-/// Writes the declaration of a method or a property from the bytes of its signature, up to a limit.
-fn write_declared<S: ReadCells, W: fmt::Write, L: Limit<W>>(
+/// Writes the declaration of a method, a property or a field from the bytes of its signature, up to a limit. Its type or its
+/// module has a name.
+pub(crate) fn write_declared<S: ReadCells, W: fmt::Write, L: Limit<W>>(
     alloc: Global,
     source: &S,
     of: Declared<'_>,
@@ -39,8 +40,8 @@ fn write_declared<S: ReadCells, W: fmt::Write, L: Limit<W>>(
     limit: &L,
     out: &mut W,
 ) -> Result<(), TextError>
-    ensures { (model : Metadata) → S.shows source.now model → (form : Method) → Declares form bytes.now
-        → OnOk result (Wrote W.write_str_gives out.old (ArePiecesText (IsDeclaredPiece model of.entry.class of.entry.name.now of.entry.first of.entry.past) (declared_text form)) out.new) }
+    ensures { (model : Metadata) → S.shows source.now model → (signature : Body) → Declares signature bytes.now → (text : List ℕ) → IsRowName model of.entry.class text
+        → OnOk result (Wrote W.write_str_gives out.old (ArePiecesText (IsDeclaredPiece model of.entry.class of.entry.name.now of.entry.first of.entry.past) (member_text signature)) out.new) }
 {
     let params = Params::new(alloc, source, of.first..of.past)?;
     let mut sink = MethodText::new(alloc, &params, of, limit, out);
@@ -48,11 +49,11 @@ fn write_declared<S: ReadCells, W: fmt::Write, L: Limit<W>>(
     result_of(sink.ended)
 }
 
-/// Writes a method as it is declared (II.15.3): `string Hello.Greeter::Greet(string name, int32 times)`.
+/// Writes a method as it is declared (II.15.3, II.15.4): `string Hello.Greeter::Greet(string name, [out] int32& times)`.
 ///
 /// That is its calling convention, its result, its type as [`write_full_name`](full_names::write_full_name) writes it, its
-/// name, and its parameters with their names. A parameter has the name of the first row of Param that has its position;
-/// the rows may be in any order (II.22.33). Names are quoted as [`write_name`](full_names::write_name) does.
+/// name, and its parameters with their flags (II.23.1.13) and names. A parameter has those of the first row of Param that has
+/// its position; the rows may be in any order (II.22.33). Names are quoted as [`write_name`](full_names::write_name) does.
 ///
 /// It allocates eight bytes for each row of Param of the method, and the bytes of signatures that are held as values. Its
 /// time is linear in the text, but for log n for each of these rows.
@@ -111,7 +112,7 @@ pub fn write_method_within<S: ReadCells, W: fmt::Write, L: Limit<W>>(
 
 /// Writes a property as it is declared (II.17), up to a limit: `instance int32 Hello.Greeter::Item(string)`.
 ///
-/// It has the form of a method (II.23.2.5), and its parameters have no names. When the limit is reached, what follows is
+/// It has the form of a method (II.23.2.5), and its parameters have no flags and no names. When the limit is reached, what follows is
 /// passed over.
 ///
 /// # Errors

@@ -1,4 +1,4 @@
-//! The names of the parameters of a method, by their positions (II.22.33).
+//! The flags and the names of the parameters of a method, by their positions (II.22.33).
 ghost use Rattle.std.specs.Prelude.{◌≡◌, ℕ, ◌+◌, ◌-◌, ◌≤◌, All, IfOk, OnOk};
 ghost use Rattle.std.specs.Fmt.{WritesInCalls};
 ghost use Rattle.std.specs.List.{filter};
@@ -7,13 +7,19 @@ ghost use Rattle.table_schema.specs.declared.table.TableId.TheVariants.{Param};
 ghost use Rattle.metadata.specs.Metadata.{Metadata};
 ghost use Rattle.navigation.specs.Keyed.{has_key, key_of, keyed_rows};
 ghost use Rattle.declarations.specs.Declarations.{position_in, spaced};
+ghost use Rattle.declarations.specs.FlagWords.{leading_text, leading_words, shown_word, words_of};
+ghost use Rattle.declarations.specs.declared.flag_words.FlagTable.TheVariants as table;
 
+use crate::flag_words::{FlagTable, FlagWord, words_of};
 use full_names::{Limit, NameKind, write_name, write_text};
 use navigation::{KeyedRow, ReadCells, cells, sort_by_key, with_key};
 use std::alloc::{AllocError, Global};
 use std::fmt;
 use std::ops::Range;
 use table_schema::TableId;
+
+/// The cell of a parameter's flags (II.22.33).
+const FLAGS: usize = 0;
 
 /// The cell of a parameter's position (II.22.33).
 const SEQUENCE: usize = 1;
@@ -57,7 +63,11 @@ pub struct Params<'s, S: ReadCells> {
 impl<'s, S: ReadCells> Params<'s, S> {
     ghost use Rattle.std.specs.Prelude.{◌≡◌, ℕ, IfOk};
     ghost use Rattle.metadata.specs.Metadata.{Metadata};
-    ghost use Rattle.declarations.specs.Declarations.{AreParams, IsParamText, spaced};
+    ghost use Rattle.std.specs.Prelude.{◌≤◌, IfSome};
+    ghost use Rattle.table_schema.specs.declared.table.TableId.TheVariants.{Param};
+    ghost use Rattle.declarations.specs.Declarations.{AreParams, IsFlagsOf, IsNameOf, IsParamRow, IsParamText, spaced};
+    ghost use Rattle.declarations.specs.FlagWords.{leading_words, words_of};
+    ghost use Rattle.declarations.specs.declared.flag_words.FlagTable.TheVariants as table;
 
     /// Sorts the rows of Param from one on to before another by their positions. It fails only if out of memory.
     pub fn new(alloc: Global, source: &'s S, rows: Range<u32>) -> Result<Params<'s, S>, AllocError>
@@ -75,18 +85,64 @@ impl<'s, S: ReadCells> Params<'s, S> {
         })
     }
 
-    /// The name of the first parameter with a position; empty if there is none. It is found by binary search.
-    #[tactic(auto, unfolding(table_schema::specs::CellColumns::cell_columns))]
-    pub fn name(&self, position: u32) -> &str
-        ensures { (model : Metadata) → S.shows self.now.source.now model → (first past : ℕ) → AreParams model first past self.now.rows.items
-            → IsParamText model first past position (spaced result.now) }
+    /// The first row of Param with a position; `None` if there is none. It is found by binary search.
+    fn row(&self, position: u32) -> Option<u32>
+        ensures first { IfSome result (λ row. 1 ≤ row) }
+        ensures last { IfSome result (λ row. row ≤ S.row_count self.now.source.now Param) }
+        ensures row { (model : Metadata) → S.shows self.now.source.now model → (first past : ℕ) → AreParams model first past self.now.rows.items
+            → IsParamRow model first past position result }
     {
         self.source.holds_one();
         match with_key(&self.rows, position).get(0) {
-            Some(param) => cells::text(self.source, TableId::Param, param.row, NAME),
+            Some(param) => Some(param.row),
+            None => None,
+        }
+    }
+
+    /// The name of the parameter with a position; empty if there is none.
+    #[tactic(auto, unfolding(table_schema::specs::CellColumns::cell_columns))]
+    pub fn name(&self, position: u32) -> &str
+        ensures { (model : Metadata) → S.shows self.now.source.now model → (first past : ℕ) → AreParams model first past self.now.rows.items
+            → IsParamText IsNameOf model first past position (spaced result.now) }
+    {
+        match self.row(position) {
+            Some(row) => cells::text(self.source, TableId::Param, row, NAME),
             None => "",
         }
     }
+
+    /// The flags of the parameter with a position; 0 if there is none.
+    #[tactic(auto, unfolding(table_schema::specs::CellColumns::cell_columns))]
+    pub fn flags(&self, position: u32) -> u32
+        ensures { (model : Metadata) → S.shows self.now.source.now model → (first past : ℕ) → AreParams model first past self.now.rows.items
+            → IsParamText IsFlagsOf model first past position (leading_words result (words_of table.Param)) }
+    {
+        match self.row(position) {
+            Some(row) => cells::number(self.source, TableId::Param, row, FLAGS),
+            None => 0,
+        }
+    }
+}
+
+/// Writes a word and a space, if the flags have its value.
+fn write_flag<W: fmt::Write>(out: &mut W, flags: u32, word: FlagWord) -> fmt::Result
+    ensures { OnOk result (WritesInCalls W.write_str_gives out.old (leading_text flags (shown_word word)) out.new) }
+{
+    if flags & word.mask != word.value {
+        return Ok(());
+    }
+    write_text(out, word.text)?;
+    write_text(out, " ")
+}
+
+/// Writes the words of the flags of a parameter (II.15.4), a space after each.
+pub fn write_flags<W: fmt::Write>(out: &mut W, flags: u32) -> fmt::Result
+    ensures { OnOk result (WritesInCalls W.write_str_gives out.old (leading_words flags (words_of table.Param)) out.new) }
+{
+    for word in words_of(FlagTable::Param) {
+        write_flag(out, flags, *word)?;
+    }
+    Ok(())
 }
 
 /// Writes a space and a name, unless the name is empty.

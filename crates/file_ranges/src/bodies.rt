@@ -36,7 +36,7 @@ pub fn ends_within(bytes: &[u8]) -> bool
 }
 
 /// The end of the body that begins with these bytes; `None` if it is not known from them.
-fn body_end(bytes: &[u8]) -> Option<usize>
+pub fn body_end(bytes: &[u8]) -> Option<usize>
     requires { length bytes.now ≤ 2 ^ 30 }
     ensures { result ≡ body_end bytes.now }
 {

@@ -23,6 +23,7 @@ mod occupied;
 mod section;
 
 pub use alignment::aligned;
+pub use bodies::body_end;
 pub use cli_header::{CliHeader, DataDirectory};
 pub use field::Field;
 pub use headers::{Headers, SECTION_HEADER};

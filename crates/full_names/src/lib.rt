@@ -29,7 +29,7 @@ pub use names::{
 pub use navigation::{ReadCells, ReadMetadata};
 pub use parts::{write_number, write_signed, write_text};
 pub use quoted::{NameKind, names_are_read, write_name, write_quoted, write_type_name};
-pub use row_names::{type_of_member, write_member_name, write_row_name};
+pub use row_names::{member_parent, type_of_member, write_own_name, write_row_name};
 pub use signature_bytes::bytes_of;
 pub use specs_named::{FullNames, write_full_name, write_full_name_within};
 pub use table_schema::{TableId, Token};

@@ -60,8 +60,8 @@ fn type_token(row: u32) -> Token
     }
 }
 
-/// Writes two colons, and the name of a member.
-fn write_own_name<W: fmt::Write, L: Limit<W>>(out: &mut W, name: &str, limit: &L) -> fmt::Result
+/// Writes two colons, and the name of a member (II.15.3).
+pub fn write_own_name<W: fmt::Write, L: Limit<W>>(out: &mut W, name: &str, limit: &L) -> fmt::Result
     ensures { OnOk result (WritesInCalls W.write_str_gives out.old (codes "::" ++ name_text Member name.now) out.new) }
 {
     write_text(out, "::")?;
@@ -73,7 +73,7 @@ fn write_own_name<W: fmt::Write, L: Limit<W>>(out: &mut W, name: &str, limit: &L
 /// # Errors
 ///
 /// Those of [`write_full_name`](crate::write_full_name).
-pub fn write_member_name<S: ReadCells, W: fmt::Write, L: Limit<W>>(
+fn write_member_name<S: ReadCells, W: fmt::Write, L: Limit<W>>(
     alloc: Global,
     source: &S,
     class: Token,
@@ -88,9 +88,9 @@ pub fn write_member_name<S: ReadCells, W: fmt::Write, L: Limit<W>>(
     Ok(write_own_name(out, name, limit)?)
 }
 
-/// The parent of a MemberRef (II.22.25).
+/// The parent of a MemberRef: a type, a module, or a method (II.22.25).
 #[tactic(auto, unfolding(table_schema::specs::CellColumns::cell_columns))]
-fn parent<S: ReadCells>(source: &S, row: u32) -> Token
+pub fn member_parent<S: ReadCells>(source: &S, row: u32) -> Token
     requires first { 1 ≤ row }
     requires last { row ≤ S.row_count source.now MemberRef }
     ensures first { 1 ≤ result.row }
@@ -130,7 +130,7 @@ fn write_member_ref<S: ReadCells, W: fmt::Write, L: Limit<W>>(
     requires last { row ≤ S.row_count source.now MemberRef }
     ensures { (model : Metadata) → S.shows source.now model → OnOk result (Wrote W.write_str_gives out.old (IsNameIn model MemberRef row) out.new) }
 {
-    let parent = parent(source, row);
+    let parent = member_parent(source, row);
     let name = cells::text(source, TableId::MemberRef, row, MEMBER_NAME);
     match parent.table {
         TableId::MethodDef => {

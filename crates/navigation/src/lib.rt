@@ -20,6 +20,7 @@ mod neighbours;
 mod neighbours_held;
 mod nesting;
 mod owners;
+mod sorted_links;
 mod starts;
 
 pub use keyed::{KeyedRow, sort_by_key, with_key};

@@ -1,13 +1,15 @@
-//! The rows that refer to a type, an event or a property (II.22.12, II.22.28, II.22.35).
+//! The rows that refer to a type or a member (II.22).
 ghost use Rattle.std.specs.Prelude.{◌≡◌, ◌≤◌, IfOk};
 ghost use Rattle.opening.specs.Views.{row_count};
-ghost use Rattle.navigation.specs.Keyed.{AreByKey, keyed_rows};
-ghost use Rattle.navigation.specs.Linked.{number_in, table_of};
+ghost use Rattle.navigation.specs.Keyed.{keyed_rows};
+ghost use Rattle.navigation.specs.Linked.{AreReferences, number_in, table_of};
 
 use crate::keyed::{KeyedRow, sort_by_key};
+use metadata::row_number;
+use metadata_source::kind_of;
 use opening::{ReadCells, View};
 use std::alloc::{AllocError, Global};
-use table_schema::TableId;
+use table_schema::{TableId, Token};
 
 /// A column of references, by which rows belong to a row of another table.
 #[derive(Clone, Copy)]
@@ -18,12 +20,22 @@ pub enum Link {
     Properties,
     /// The event or the property of a row of MethodSemantics (II.22.28).
     Accessors,
+    /// The field, the parameter or the property of a row of Constant (II.22.9).
+    Constants,
+    /// The type of a row of ClassLayout (II.22.8).
+    TypeLayouts,
+    /// The field of a row of FieldLayout (II.22.16).
+    FieldOffsets,
+    /// The field of a row of FieldRVA (II.22.18).
+    FieldData,
+    /// The field or the parameter of a row of FieldMarshal (II.22.17).
+    Marshalling,
 }
 
 impl Link {
-    ghost use Rattle.std.specs.Prelude.{◌≡◌, ◌<◌};
+    ghost use Rattle.std.specs.Prelude.{◌≡◌, ◌<◌, ◌≤◌};
     ghost use Rattle.table_schema.specs.CellColumns.{cell_count};
-    ghost use Rattle.navigation.specs.Linked.{cell_of, table_of};
+    ghost use Rattle.navigation.specs.Linked.{cell_of, number_to, table_of};
 
     /// The table of the rows that refer.
     pub fn table(self) -> TableId
@@ -33,6 +45,11 @@ impl Link {
             Link::Events => TableId::EventMap,
             Link::Properties => TableId::PropertyMap,
             Link::Accessors => TableId::MethodSemantics,
+            Link::Constants => TableId::Constant,
+            Link::TypeLayouts => TableId::ClassLayout,
+            Link::FieldOffsets => TableId::FieldLayout,
+            Link::FieldData => TableId::FieldRVA,
+            Link::Marshalling => TableId::FieldMarshal,
         }
     }
 
@@ -43,9 +60,18 @@ impl Link {
         ensures within { cell_of self < cell_count (table_of self) }
     {
         match self {
-            Link::Events | Link::Properties => 0,
-            Link::Accessors => 2,
+            Link::Events | Link::Properties | Link::Marshalling => 0,
+            Link::Constants | Link::FieldOffsets | Link::FieldData => 1,
+            Link::Accessors | Link::TypeLayouts => 2,
         }
+    }
+
+    /// The number of a reference to a row (II.24.2.6).
+    pub fn number_to(self, token: Token) -> u32
+        requires { token.row ≤ 0xFFFFFF }
+        ensures { result ≡ number_to self token }
+    {
+        row_number(kind_of(self.table(), self.cell()), token) as u32
     }
 }
 
@@ -82,7 +108,7 @@ pub(crate) fn references(
     view: &View<'_>,
     link: Link,
 ) -> Result<Vec<KeyedRow>, AllocError>
-    ensures { IfOk result (λ found. AreByKey (number_in view.now link) 1 (row_count view.now (table_of link)) found.items) }
+    ensures { IfOk result (λ found. AreReferences view.now link found.items) }
 {
     let mut found = read_references(alloc, view, link)?;
     sort_by_key(&mut found)?;

@@ -1,21 +1,22 @@
 //! A view, with what finds the neighbours of its rows in any order.
-ghost use Rattle.std.specs.Prelude.{◌≡◌, ◌≤◌, All, IfOk, map};
+ghost use Rattle.std.specs.Prelude.{◌≡◌, ◌≤◌, All, IfOk, IfSome, map};
 ghost use Rattle.table_schema.specs.declared.token.Token.{Token as TheToken};
 ghost use Rattle.metadata_source.specs.declared.member_lists.MemberList.TheVariants as list_of;
 ghost use Rattle.metadata.specs.Metadata.{Metadata};
 ghost use Rattle.metadata.specs.Model.{IsModel};
 ghost use Rattle.opening.specs.Views.{row_count};
-ghost use Rattle.navigation.specs.declared.links.Link.TheVariants as link_of;
-ghost use Rattle.navigation.specs.Keyed.{AreByKey, row_of};
-ghost use Rattle.navigation.specs.Linked.{linked, number_in, number_to, table_of};
+ghost use Rattle.navigation.specs.Keyed.{row_of};
+ghost use Rattle.navigation.specs.Linked.{AreReferences, first_linked, linked, number_to, table_of};
 ghost use Rattle.navigation.specs.Starts.{AreStarts};
 
 use crate::keyed::{KeyedRow, with_key};
-use crate::links::{Link, references};
+use crate::links::Link;
+use crate::sorted_links::SortedLinks;
 use crate::starts::starts_of;
 use metadata_source::MemberList;
 use opening::View;
 use std::alloc::{AllocError, Global};
+use table_schema::Token;
 
 /// A view, with what finds the neighbours of its rows in any order, each by binary search.
 ///
@@ -31,17 +32,13 @@ pub struct Neighbours<'v, 'a> {
     params: Vec<u32>,
     events: Vec<u32>,
     properties: Vec<u32>,
-    event_maps: Vec<KeyedRow>,
-    property_maps: Vec<KeyedRow>,
-    accessors: Vec<KeyedRow>,
+    links: SortedLinks<'v, 'a>,
     ghost fields_known: { AreStarts view.now list_of.Fields fields.items },
     ghost methods_known: { AreStarts view.now list_of.Methods methods.items },
     ghost params_known: { AreStarts view.now list_of.Params params.items },
     ghost events_known: { AreStarts view.now list_of.Events events.items },
     ghost properties_known: { AreStarts view.now list_of.Properties properties.items },
-    ghost event_maps_known: { AreByKey (number_in view.now link_of.Events) 1 (row_count view.now (table_of link_of.Events)) event_maps.items },
-    ghost property_maps_known: { AreByKey (number_in view.now link_of.Properties) 1 (row_count view.now (table_of link_of.Properties)) property_maps.items },
-    ghost accessors_known: { AreByKey (number_in view.now link_of.Accessors) 1 (row_count view.now (table_of link_of.Accessors)) accessors.items },
+    ghost links_known: { links.view.now ≡ view.now },
 }
 
 impl<'v, 'a> Neighbours<'v, 'a> {
@@ -60,9 +57,7 @@ impl<'v, 'a> Neighbours<'v, 'a> {
             params: starts_of(alloc, view, MemberList::Params)?,
             events: starts_of(alloc, view, MemberList::Events)?,
             properties: starts_of(alloc, view, MemberList::Properties)?,
-            event_maps: references(alloc, view, Link::Events)?,
-            property_maps: references(alloc, view, Link::Properties)?,
-            accessors: references(alloc, view, Link::Accessors)?,
+            links: SortedLinks::new(alloc, view)?,
         })
     }
 
@@ -79,15 +74,11 @@ impl<'v, 'a> Neighbours<'v, 'a> {
         }
     }
 
-    /// The references in a column, in the order of what they refer to.
+    /// The references of a link, in the order of what they refer to.
     fn references(&self, link: Link) -> &[KeyedRow]
-        ensures { AreByKey (number_in self.now.view.now link) 1 (row_count self.now.view.now (table_of link)) result.now }
+        ensures { AreReferences self.now.view.now link result.now }
     {
-        match link {
-            Link::Events => &self.event_maps,
-            Link::Properties => &self.property_maps,
-            Link::Accessors => &self.accessors,
-        }
+        self.links.references(link)
     }
 
     /// The rows whose reference is to the row with this number in the column, in ascending order. They are found by binary
@@ -100,5 +91,15 @@ impl<'v, 'a> Neighbours<'v, 'a> {
         metadata::laws::models_are_read();
         metadata::laws::keys_are_in_order();
         with_key(self.references(link), number)
+    }
+
+    /// The first row that refers to a row; `None` if there is none. It is found by binary search.
+    pub fn first_linked(&self, link: Link, token: Token) -> Option<u32>
+        requires { token.row ≤ 0xFFFFFF }
+        ensures within { IfSome result (λ row. (1 ≤ row) × (row ≤ row_count self.now.view.now (table_of link))) }
+        ensures row { (model : Metadata) → IsModel self.now.view.now model → result ≡ first_linked model link token }
+    {
+        let rows = self.linked(link, link.number_to(token));
+        Some(rows.first()?.row)
     }
 }

@@ -1,11 +1,9 @@
 -- Types by their first byte.
-use Rattle.std.proofs.Common.{◌≡◌, ◌≢◌, ℕ, zero, suc, ◌-◌, ◌<◌, true, eqb, ◌||◌, Some, None, List, [], ◌∷◌, refl, arith}
-use Rattle.std.specs.Prelude.{codes}
-use Rattle.std.proofs.lemmas.Bool.{ne_eqb}
+use Rattle.std.proofs.Common.{◌≡◌, ℕ, zero, suc, ◌-◌, ◌<◌, Some, None, List, [], ◌∷◌, refl, arith}
 use Rattle.sig_grammar.specs.declared.element.Element.{Element}
 use Rattle.sig_grammar.specs.Reading.{element_of}
 use Rattle.sig_text.specs.SignatureText.{word, element_text}
-use Rattle.sig_text.specs.Shown.{CoreShown, word_shown, named_shown, parameter_shown, shape_shown, instance_shown, method_shown, after_element_shown, around_shown, code_shown, core_shown}
+use Rattle.sig_text.specs.Shown.{code_shown, core_shown}
 
 pub core_none : (d c : ℕ) (b : List ℕ) → d ≡ 0 → core_shown d c b ≡ ([], b)
 unfolding core_shown

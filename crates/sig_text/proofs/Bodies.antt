@@ -1,20 +1,19 @@
 -- What is shown of the bytes that encode a whole signature is its text.
-use Rattle.std.proofs.Common.{◌≡◌, ◌∙◌, ◌≢◌, ◌||◌, ℕ, zero, suc, ◌+◌, ◌%◌, ◌/◌, ◌<◌, ◌≤◌, subst, Bool, true, false, eqb, List, [], ◌∷◌, ◌++◌, length, None, Option, refl, sym, ap, arith, inl, inr}
-use Rattle.std.specs.Prelude.{codes}
+use Rattle.std.proofs.Common.{◌≡◌, ◌≢◌, ℕ, zero, suc, ◌+◌, ◌%◌, ◌<◌, ◌≤◌, subst, Bool, true, false, eqb, List, [], ◌∷◌, ◌++◌, length, None, Some, Option, refl, ap, arith, inl, inr}
 use Rattle.std.specs.List.{AllByRecursion}
 use Rattle.std.proofs.lemmas.Bool.{ne_eqb}
 use Rattle.table_schema.specs.declared.column.SigKind.{SigKind}
 use Rattle.table_schema.specs.declared.column.SigKind.TheVariants as column
-use Rattle.sig_grammar.specs.Parts.{Part, byte, number}
-use Rattle.sig_grammar.specs.Grammar.{list_parts, prefixes_parts, slot_parts, slots_parts, typed_parts, content_parts, local_parts, ret_parts, method_parts, body_parts, flag, count_slots}
-use Rattle.sig_grammar.specs.Limits.{HasOwnSentinel, ret_depth, slots_depth, IsRet, AreSlots, IsMethodKind, IsTypedWithin, IsSlotWithin, IsLocalWithin, IsMethodWithin, IsBodyWithin}
+use Rattle.sig_grammar.specs.Parts.{Part, number}
+use Rattle.sig_grammar.specs.Grammar.{list_parts, slot_parts, slots_parts, typed_parts, content_parts, local_parts, ret_parts, method_parts, body_parts, count_slots}
+use Rattle.sig_grammar.specs.Limits.{ret_depth, slots_depth, IsRet, AreSlots, IsMethodKind, IsTypedWithin, IsSlotWithin, IsLocalWithin, IsMethodWithin, IsBodyWithin}
 use Rattle.sig_grammar.specs.Encodes.{Holds, Encodes}
 use Rattle.sig_grammar.specs.Syntax.{Slot, Slots, no_slots, slot_then, Ret, some_ret, Method, method, LocalVariable, local, Typed, Body, field, method_body, property, locals, instance_body, type_spec}
 use Rattle.sig_grammar.specs.Views.{slots_from}
 use Rattle.sig_grammar.proofs.FromLists.{count-slots_from, parts-slots_from, slots_good}
-use Rattle.sig_text.specs.Declares.{Declares, as_method}
-use Rattle.sig_text.specs.SignatureText.{Piece, word, comma, listed, following, prefix_text, slot_text, typed_text, content_text, local_text, method_text, text_of, named_slots_text, declared_text}
-use Rattle.sig_text.specs.Shown.{Shown, CoreShown, byte_or, slot_shown, listed_shown, enclosed_shown, method_shown, core_shown, property_shown, counted_shown, headed_shown, body_shown, named_slots_shown, declared_shown}
+use Rattle.sig_text.specs.Declares.{Declares, as_method, member_text}
+use Rattle.sig_text.specs.SignatureText.{Piece, comma, listed, slot_text, typed_text, content_text, local_text, method_text, text_of, named_slots_text, declared_text}
+use Rattle.sig_text.specs.Shown.{Shown, CoreShown, listed_shown, enclosed_shown, core_shown, property_shown, counted_shown, headed_shown, body_shown, named_slots_shown, declared_shown, member_shown}
 use Rattle.sig_text.proofs.Encoded.{Head, whole_head, split_head, first_byte, NumbersAreRead, first_number, ReadsSlot, kind_few, led, content_read, typed_read, slot_read, ret_read, method_read, method_head}
 
 module _ (known : NumbersAreRead) (d : ℕ) where
@@ -101,30 +100,40 @@ module _ (known : NumbersAreRead) (d : ℕ) where
 
   -- ---- the declaration of a method
 
-  named_read : (ss : Slots) (before : List Piece) (position : ℕ) (b remainder : List ℕ) → slots_depth ss ≤ d → AreSlots ss → Head (slots_parts ss None) b remainder → named_slots_shown (core_shown d) before position (count_slots ss) b ≡ named_slots_text before position ss
+  named_read : (ss : Slots) (sentinel : Option ℕ) (before : List Piece) (position : ℕ) (b remainder : List ℕ) → slots_depth ss ≤ d → AreSlots ss → Head (slots_parts ss sentinel) b remainder → named_slots_shown (core_shown d) before position (count_slots ss) b ≡ named_slots_text before position ss sentinel
   unfolding named_slots_shown
-  named_read no_slots before position b remainder le is h = refl
-  named_read (slot_then s ss) before position b remainder le is h =
+  named_read no_slots sentinel before position b remainder le is h = refl
+  named_read (slot_then s ss) None before position b remainder le is h =
       let m = split_head (slot_parts s) (slots_parts ss None) b remainder h in
       let x = slot_read known s d b m.0 (omega arith) is.0 m.1 in
-      let more = named_read ss comma (position + 1) m.0 remainder (omega arith) is.1 m.2 in
-      rw (x.1, more) refl
+      let more = named_read ss None comma (position + 1) m.0 remainder (omega arith) is.1 m.2 in
+      rw (x.0, x.1, more) refl
+  named_read (slot_then s ss) (Some zero) before position b remainder le is h =
+      let f = first_byte 0x41 (slot_parts s ++ slots_parts ss None) b remainder h in
+      let m = split_head (slot_parts s) (slots_parts ss None) f.0 remainder f.2 in
+      let x = slot_read known s d f.0 m.0 (omega arith) is.0 m.1 in
+      let more = named_read ss None comma (position + 1) m.0 remainder (omega arith) is.1 m.2 in
+      rw (f.1, x.1, more) refl
+  named_read (slot_then s ss) (Some (suc n)) before position b remainder le is h =
+      let m = split_head (slot_parts s) (slots_parts ss (Some n)) b remainder h in
+      let x = slot_read known s d b m.0 (omega arith) is.0 m.1 in
+      let more = named_read ss (Some n) comma (position + 1) m.0 remainder (omega arith) is.1 m.2 in
+      rw (x.0, x.1, more) refl
 
-  declared_read : (kind : ℕ) (this explicit : Bool) (generic : Option ℕ) (ret : Ret) (params : Slots) (b : List ℕ) → kind < 16 → ret_depth ret ≤ d → slots_depth params ≤ d → IsRet ret → AreSlots params
-      → Head (method_parts (method kind this explicit generic ret params None)) b [] → declared_shown (core_shown d) b ≡ declared_text (method kind this explicit generic ret params None)
+  declared_read : (kind : ℕ) (this explicit : Bool) (generic : Option ℕ) (ret : Ret) (params : Slots) (sentinel : Option ℕ) (b : List ℕ) → kind < 16 → ret_depth ret ≤ d → slots_depth params ≤ d → IsRet ret → AreSlots params
+      → Head (method_parts (method kind this explicit generic ret params sentinel)) b [] → declared_shown (core_shown d) b ≡ declared_text (method kind this explicit generic ret params sentinel)
   unfolding declared_shown
-  declared_read kind this explicit generic ret params b few deep most is are h =
-      let code = method_head known kind this explicit generic (number (count_slots params) ∷ (ret_parts ret ++ slots_parts params None)) b [] few h in
-      let count = first_number known (count_slots params) (ret_parts ret ++ slots_parts params None) code.after [] code.more in
-      let s = split_head (ret_parts ret) (slots_parts params None) count.0 [] count.2 in
+  declared_read kind this explicit generic ret params sentinel b few deep most is are h =
+      let code = method_head known kind this explicit generic (number (count_slots params) ∷ (ret_parts ret ++ slots_parts params sentinel)) b [] few h in
+      let count = first_number known (count_slots params) (ret_parts ret ++ slots_parts params sentinel) code.after [] code.more in
+      let s = split_head (ret_parts ret) (slots_parts params sentinel) count.0 [] count.2 in
       let of = ret_read known ret d count.0 s.0 deep is s.1 in
-      let all = named_read params [] 1 s.0 [] most are s.2 in
+      let all = named_read params sentinel [] 1 s.0 [] most are s.2 in
       rw (code.bytes, code.kind, code.this, code.explicit, code.generic, count.1, of, all) refl
 
-  declared_method : (m : Method) (b : List ℕ) → HasOwnSentinel false m → IsMethodWithin d m → Head (method_parts m) b [] → declared_shown (core_shown d) b ≡ declared_text m
-  declared_method (method kind this explicit generic ret params sentinel) b none is h =
-      declared_read kind this explicit generic ret params b (kind_few kind is.1.0) (omega (arith, is.0)) (omega (arith, is.0)) is.1.2 is.1.3
-      (subst (λ (s : Option ℕ). Head (method_parts (method kind this explicit generic ret params s)) b []) none h)
+  declared_method : (m : Method) (b : List ℕ) → IsMethodWithin d m → Head (method_parts m) b [] → declared_shown (core_shown d) b ≡ declared_text m
+  declared_method (method kind this explicit generic ret params sentinel) b is h =
+      declared_read kind this explicit generic ret params sentinel b (kind_few kind is.1.0) (omega (arith, is.0)) (omega (arith, is.0)) is.1.2 is.1.3 h
 
   property_parts : (this : Bool) (of : Slot) (params : List Slot) → body_parts (property this of params) ≡ method_parts (as_method this of params)
   property_parts true of params = rw (count-slots_from params, parts-slots_from params) refl
@@ -133,18 +142,49 @@ module _ (known : NumbersAreRead) (d : ℕ) where
   declared_property : (this : Bool) (of : Slot) (params : List Slot) (b : List ℕ) → IsBodyWithin d (property this of params) → Head (body_parts (property this of params)) b [] → declared_shown (core_shown d) b ≡ declared_text (as_method this of params)
   declared_property this of params b is h =
       let good = slots_good d params is.1 in
-      declared_read 8 this false None (some_ret of) (slots_from params) b (omega arith) is.0.0 good.0 is.0.1 good.1
+      declared_read 8 this false None (some_ret of) (slots_from params) None b (omega arith) is.0.0 good.0 is.0.1 good.1
       (subst (λ (ps : List Part). Head ps b []) (property_parts this of params) h)
+
+  -- ---- a method, a property, or a field
+
+  field_member : (s : Slot) (b : List ℕ) → IsSlotWithin d s → Head (body_parts (field s)) b [] → member_shown (core_shown d) b ≡ member_text (field s)
+  unfolding member_shown
+  field_member s b is h = let f = first_byte 0x06 (slot_parts s) b [] h in let x = slot_each s f.0 [] is f.2 in rw (f.1, x.1) refl
+
+  method_member : (m : Method) (b : List ℕ) → IsMethodWithin d m → Head (method_parts m) b [] → member_shown (core_shown d) b ≡ declared_text m
+  unfolding member_shown
+  method_member (method kind this explicit generic ret params sentinel) b is h =
+      let code = method_head known kind this explicit generic (number (count_slots params) ∷ (ret_parts ret ++ slots_parts params sentinel)) b [] (kind_few kind is.1.0) h in
+      let x = declared_method (method kind this explicit generic ret params sentinel) b is h in
+      let y = rw code.bytes at x in
+      rw (code.bytes, other_code code.code kind 0x06 is.1.0 code.kind (omega arith) (λ e. omega arith), y) refl
+
+  property_member : (this : Bool) (of : Slot) (params : List Slot) (b : List ℕ) → IsBodyWithin d (property this of params) → Head (body_parts (property this of params)) b [] → member_shown (core_shown d) b ≡ member_text (property this of params)
+  unfolding member_shown
+  property_member true of params b is h =
+      let f = first_byte 0x28 (number (length params) ∷ (slot_parts of ++ list_parts slot_parts params)) b [] h in
+      let x = declared_property true of params b is h in
+      let y = rw f.1 at x in
+      rw (f.1, y) refl
+  property_member false of params b is h =
+      let f = first_byte 0x08 (number (length params) ∷ (slot_parts of ++ list_parts slot_parts params)) b [] h in
+      let x = declared_property false of params b is h in
+      let y = rw f.1 at x in
+      rw (f.1, y) refl
 
 -- ---- at the depth of all signatures
 
 pub body_is : NumbersAreRead → (kind : SigKind) (signature : Body) (b : List ℕ) → Encodes kind signature b → body_shown (core_shown 128) kind b ≡ text_of signature
 body_is known kind signature b e = body_read known 128 kind signature b e.column e.body (whole_head (body_parts signature) b e.parts)
 
-pub declared_is : NumbersAreRead → (form : Method) (b : List ℕ) → Declares form b → declared_shown (core_shown 128) b ≡ declared_text form
-declared_is known form b (inl e) = declared_method known 128 form b e.column e.body (whole_head (method_parts form) b e.parts)
-declared_is known form b (inr (this, of, params, e, is)) =
-    subst (λ (m : Method). declared_shown (core_shown 128) b ≡ declared_text m) (sym is) (declared_property known 128 this of params b e.body (whole_head (body_parts (property this of params)) b e.parts))
+pub member_is : NumbersAreRead → (signature : Body) (b : List ℕ) → Declares signature b → member_shown (core_shown 128) b ≡ member_text signature
+member_is known (method_body m) b (inl e) = method_member known 128 m b e.body (whole_head (method_parts m) b e.parts)
+member_is known (property this of params) b (inr (inl e)) = property_member known 128 this of params b e.body (whole_head (body_parts (property this of params)) b e.parts)
+member_is known (field s) b (inr (inr e)) = field_member known 128 s b e.body (whole_head (body_parts (field s)) b e.parts)
+member_is known (method_body m) b (inr (inr e)) = method_member known 128 m b e.body (whole_head (method_parts m) b e.parts)
+member_is known _ b (inl e) = absurd e.column
+member_is known _ b (inr (inl e)) = absurd e.column
+member_is known _ b (inr (inr e)) = absurd e.column
 
 pub body_other : (core : CoreShown) (kind : SigKind) (b : List ℕ) → kind ≢ column.TypeSpec → body_shown core kind b ≡ (headed_shown core b).0
 unfolding body_shown

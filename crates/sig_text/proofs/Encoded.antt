@@ -18,7 +18,7 @@ use Rattle.sig_grammar.specs.declared.body.Prefix.{Prefix}
 use Rattle.sig_grammar.specs.declared.body.Prefix.TheVariants.{Mod, Pinned}
 use Rattle.sig_grammar.specs.ElementTypes.{element_code}
 use Rattle.sig_grammar.specs.Parts.{Part, byte, number, signed, index, EncodesPart, EncodesParts}
-use Rattle.sig_grammar.specs.Grammar.{list_parts, modifier_parts, modifiers_parts, prefix_parts, prefixes_parts, numbers_parts, bounds_parts, shape_parts, generic_parts, method_code, flag, named_code, count_types, count_slots, core_parts, typed_parts, types_parts, content_parts, slot_parts, slots_parts, ret_parts, method_parts}
+use Rattle.sig_grammar.specs.Grammar.{modifier_parts, modifiers_parts, prefix_parts, prefixes_parts, numbers_parts, bounds_parts, shape_parts, generic_parts, method_code, flag, named_code, count_types, count_slots, core_parts, typed_parts, types_parts, content_parts, slot_parts, slots_parts, ret_parts, method_parts}
 use Rattle.sig_grammar.specs.Limits.{core_depth, typed_depth, types_depth, content_depth, slot_depth, slots_depth, ret_depth, method_depth, IsArrayShape, IsMethodKind, IsCore, IsTyped, AreTypes, IsContent, IsSlot, AreSlots, IsRet, IsMethod}
 use Rattle.sig_grammar.specs.Reading.{number_at, signed_at, index_at, token_of, modifier_at, prefix_at, starts_prefix, head_is, element_of}
 use Rattle.sig_grammar.specs.Syntax.{Core, simple, void_pointer, pointer, vector, array, class, value, var, mvar, instance, function, Typed, typed, Types, no_types, type_then, Content, typed_ref, plain, by_ref, Slot, slot, Slots, no_slots, slot_then, Ret, some_ret, void_ret, Method, method, ArrayShape}

@@ -1,10 +1,10 @@
 -- The shape of an array, step by step.
-use Rattle.std.proofs.Common.{◌≡◌, ℕ, zero, suc, ◌+◌, ◌-◌, ◌<◌, false, eqb, Some, None, List, [], ◌∷◌, ◌++◌, refl, arith}
+use Rattle.std.proofs.Common.{◌≡◌, ℕ, zero, suc, ◌+◌, ◌-◌, ◌<◌, Some, None, List, [], ◌∷◌, ◌++◌, refl, arith}
 use Rattle.std.specs.Prelude.{codes}
 use Rattle.std.proofs.lemmas.Bool.{lt-ltb}
 use Rattle.sig_text.specs.SignatureText.{Piece, word, dimension_text}
 use Rattle.sig_text.specs.Shown.{CoreShown, number_or, signed_or, numbers_behind, next_of, before, dimensions_shown, slot_shown, is_marked, behind_mark, listed_shown, named_slots_shown}
-use Rattle.sig_text.specs.SignatureText.{flag_text, param_name, mark_text}
+use Rattle.sig_text.specs.SignatureText.{flag_text, param_flags, param_name}
 
 pub behind_more : (n : ℕ) (b : List ℕ) → 0 < n → numbers_behind n b ≡ numbers_behind (n - 1) (number_or b).1
 unfolding numbers_behind
@@ -65,7 +65,7 @@ named_end core start position zero b e = refl
 named_end core start position (suc n) b e = absurd (omega arith)
 
 pub named_more : (core : CoreShown) (start : List Piece) (position n done : ℕ) (b : List ℕ) → 0 < n → named_slots_shown core start position n b
-    ≡ start ++ ((slot_shown core b).0 ++ (param_name position ∷ named_slots_shown core (before (codes ", ") (done + 1)) (position + 1) (n - 1) (slot_shown core b).1))
+    ≡ start ++ (flag_text (is_marked b) (codes "..., ") ++ (param_flags position ∷ ((slot_shown core (behind_mark b)).0 ++ (param_name position ∷ named_slots_shown core (before (codes ", ") (done + 1)) (position + 1) (n - 1) (slot_shown core (behind_mark b)).1))))
 unfolding named_slots_shown
 named_more core start position zero done b h = absurd (omega arith)
 named_more core start position (suc n) done b h = let less : suc n - 1 ≡ n = omega arith in rw (less, before_next (codes ", ") done) refl

@@ -10,7 +10,7 @@ use Rattle.sig_grammar.specs.declared.element.Element.{Element}
 use Rattle.sig_grammar.specs.declared.body.Prefix.{Prefix}
 use Rattle.sig_grammar.specs.ElementTypes.{VOID, PTR, BYREF, VALUETYPE, CLASS, VAR, ARRAY, GENERICINST, TYPEDBYREF, FNPTR, SZARRAY, MVAR, SENTINEL}
 use Rattle.sig_grammar.specs.Reading.{number_at, signed_at, index_at, prefix_at, head_is, element_of}
-use Rattle.sig_text.specs.SignatureText.{Piece, word, number, name, method_name, param_name, comma, following, prefix_text, element_text, kind_text, dimension_text, written_dimensions, rank_text, mark_text, flag_text, call_text, arity_text}
+use Rattle.sig_text.specs.SignatureText.{Piece, word, number, name, method_name, param_flags, param_name, comma, following, prefix_text, element_text, kind_text, dimension_text, written_dimensions, rank_text, mark_text, flag_text, call_text, arity_text}
 
 -- the pieces of what is at the start, and the bytes after it
 abbrev pub Shown : Type 0
@@ -214,13 +214,13 @@ unfoldable pub body_shown : CoreShown → SigKind → List ℕ → List Piece
 body_shown core column.TypeSpec b = (slot_shown core b).0
 body_shown core _ b = (headed_shown core b).0
 
--- ---- the declaration of a method
+-- ---- the declaration of a method, a property or a field
 
 unfoldable pub named_slots_shown : CoreShown → List Piece → ℕ → ℕ → List ℕ → List Piece
 named_slots_shown core separator position zero b = []
 named_slots_shown core separator position (suc n) b =
-    let first = slot_shown core b in
-    separator ++ (first.0 ++ (param_name position ∷ named_slots_shown core comma (position + 1) n first.1))
+    let first = slot_shown core (behind_mark b) in
+    separator ++ (flag_text (is_marked b) (codes "..., ") ++ (param_flags position ∷ (first.0 ++ (param_name position ∷ named_slots_shown core comma (position + 1) n first.1))))
 
 unfoldable pub declared_shown : CoreShown → List ℕ → List Piece
 declared_shown core b =
@@ -229,3 +229,8 @@ declared_shown core b =
     let count = number_or generic.1 in
     let ret = slot_shown core count.1 in
     code_text first.0 ++ (ret.0 ++ (word (codes " ") ∷ (method_name ∷ (arity_text generic.0 ++ (word (codes "(") ∷ (named_slots_shown core [] 1 count.0 ret.1 ++ word (codes ")") ∷ []))))))
+
+unfoldable pub member_shown : CoreShown → List ℕ → List Piece
+member_shown core b =
+    let first = byte_or b in
+    if first.0 == 0x06 then (slot_shown core first.1).0 ++ (word (codes " ") ∷ method_name ∷ []) else declared_shown core b

@@ -11,14 +11,15 @@ use Rattle.sig_grammar.specs.declared.calling_convention.CallingConvention.TheVa
 use Rattle.sig_grammar.specs.Conventions.{convention_of}
 use Rattle.sig_grammar.specs.Syntax.{Core, simple, void_pointer, pointer, vector, array, class, value, var, mvar, instance, function, Typed, typed, Types, no_types, type_then, Content, typed_ref, plain, by_ref, Slot, slot, Slots, no_slots, slot_then, Ret, some_ret, void_ret, Method, method, ArrayShape, LocalVariable, local, Body, field, method_body, property, locals, instance_body, type_spec}
 
--- What a sink receives: a text, a number in decimal digits, and the name of a row. In a method's declaration also the
--- method's name, and a space and the name of the parameter at a position.
+-- What a sink receives: a text, a number in decimal digits, and the name of a row. In a declaration also the name of the
+-- method, and of the parameter at a position its flags, and a space and its name.
 pub data Piece : Type 0 where
   word : List ℕ → Piece
   number : ℕ → Piece
   signed : ℤ → Piece
   name : Token → Piece
   method_name : Piece
+  param_flags : ℕ → Piece
   param_name : ℕ → Piece
 
 -- values one after another, with a comma between them; the first list precedes the first value
@@ -192,14 +193,14 @@ text_of (locals variables) = word (codes "(") ∷ (listed local_text [] variable
 text_of (instance_body args) = word (codes "<") ∷ (listed typed_text [] args ++ word (codes ">") ∷ [])
 text_of (type_spec ret) = ret_text ret
 
--- ---- the declaration of a method (II.15.3) or of a property (II.17): its name stands in it, and those of its parameters
+-- ---- the declaration of a method (II.15.3) or of a property (II.17): its name stands in it, and the flags and the names of its parameters
 
--- parameters with their names; positions are counted from 1
-abbrev pub named_slots_text : List Piece → ℕ → Slots → List Piece
-named_slots_text before position no_slots = []
-named_slots_text before position (slot_then s ss) =
-    before ++ (slot_text s ++ (param_name position ∷ named_slots_text comma (position + 1) ss))
+-- parameters with their flags and names, and SENTINEL after the given number of them; positions are counted from 1
+abbrev pub named_slots_text : List Piece → ℕ → Slots → Option ℕ → List Piece
+named_slots_text before position no_slots sentinel = []
+named_slots_text before position (slot_then s ss) sentinel =
+    before ++ (sentinel_text sentinel ++ (param_flags position ∷ (slot_text s ++ (param_name position ∷ named_slots_text comma (position + 1) ss (sentinel_after sentinel)))))
 
 abbrev pub declared_text : Method → List Piece
 declared_text (method kind this explicit generic ret params sentinel) =
-    call_text kind this explicit ++ (ret_text ret ++ (word (codes " ") ∷ (method_name ∷ (arity_text generic ++ (word (codes "(") ∷ (named_slots_text [] 1 params ++ word (codes ")") ∷ []))))))
+    call_text kind this explicit ++ (ret_text ret ++ (word (codes " ") ∷ (method_name ∷ (arity_text generic ++ (word (codes "(") ∷ (named_slots_text [] 1 params sentinel ++ word (codes ")") ∷ []))))))

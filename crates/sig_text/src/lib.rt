@@ -2,7 +2,8 @@
 //!
 //! [`write_signature`] reads the bytes of a blob and passes the text to a [`TextSink`], word by word. The sink
 //! writes the names of tokens, because only its owner knows them. [`NamedText`] is a sink that writes to any
-//! `fmt::Write`. [`write_declaration`] writes a method or a property with its name and the names of its parameters.
+//! `fmt::Write`. [`write_declaration`] writes a method or a property with its name and the flags and the names of its
+//! parameters, and a field with its name.
 //! The recursion is as deep as types nest, at most 128.
 //!
 //! The text of a signature is the definition `text_of` in `specs/SignatureText.antt`. It is proved that a sink receives

@@ -166,11 +166,11 @@ pub const CLIM_NO_REFUSAL: clim_refusal = clim_refusal { column: 0, row: 0, code
 /// The version of the interface that this crate declares.
 pub const CLIM_ABI_VERSION: u32 = 1;
 
-/// What `clim_signature_text` returns for a text that is too long, `clim_canonical_root`, `clim_digest` and `clim_tables`
-/// for a root that is, and `clim_embed` for such a root or such a copy.
+/// What `clim_signature_text`, `clim_row_name` and `clim_declaration` return for a text that is too long,
+/// `clim_canonical_root`, `clim_digest` and `clim_tables` for a root that is, and `clim_embed` for such a root or such a copy.
 pub const CLIM_TOO_LONG: usize = usize::MAX;
 
-/// What `clim_canonical_root`, `clim_digest`, `clim_compare`, `clim_tables` and `clim_embed` return if memory runs out.
+/// What a function that allocates returns if memory runs out.
 pub const CLIM_NO_MEMORY: usize = usize::MAX - 1;
 
 /// What `clim_embed` returns if the file breaks a rule.
@@ -270,6 +270,9 @@ newer! {
     HAS_COMPARE: fn clim_compare(left: *const clim_view, right: *const clim_view, difference: *mut clim_difference) -> usize;
     HAS_TABLES: fn clim_tables(version: *const u8, version_len: usize, user: *const u8, user_len: usize, rows: *const clim_row, row_count: usize, buffer: *mut u8, room: usize, refusal: *mut clim_refusal) -> usize;
     HAS_EMBED: fn clim_embed(file: *const u8, size: usize, root: *const u8, root_len: usize, strong_name: u8, buffer: *mut u8, room: usize, fault: *mut clim_fault) -> usize;
+    HAS_OFFSET_OF: fn clim_offset_of(file: *const u8, len: usize, rva: u32, size: u32, offset: *mut usize) -> bool;
+    HAS_ROW_NAME: fn clim_row_name(view: *const clim_view, token: u32, buffer: *mut u8, room: usize) -> usize;
+    HAS_DECLARATION: fn clim_declaration(view: *const clim_view, token: u32, buffer: *mut u8, room: usize) -> usize;
 }
 
 // The layout of the structs, as tests of the C library have it.

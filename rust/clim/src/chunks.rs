@@ -5,8 +5,9 @@ use crate::rows::Row;
 use crate::tables::Table;
 use crate::view::View;
 use clim_sys::{clim_cell, CLIM_NO_CELL};
+use std::iter::Zip;
 use std::marker::PhantomData;
-use std::ops::Range;
+use std::ops::{Range, RangeFrom};
 
 /// The number of rows that are read at first.
 const FIRST_ROWS: usize = 128;
@@ -57,6 +58,11 @@ impl<'v, 'a> Chunks<'v, 'a> {
         Some(self.cells[row..].iter().step_by(self.room).map(|cell| unsafe { Cell::of(cell) }))
     }
 
+    /// The number of the next row.
+    fn next_number(&self) -> u32 {
+        self.unread.start - self.ready.len() as u32
+    }
+
     /// The number of rows to come.
     fn len(&self) -> usize {
         self.ready.len() + self.unread.len()
@@ -102,3 +108,10 @@ impl<'a, R: Row<'a>> Iterator for Rows<'_, 'a, R> {
 }
 
 impl<'a, R: Row<'a>> ExactSizeIterator for Rows<'_, 'a, R> {}
+
+impl<'a, R: Row<'a>> Rows<'_, 'a, R> {
+    /// The rows with their numbers, counted from 1: `for (number, row) in view.rows::<TypeDef>().numbered()`.
+    pub fn numbered(self) -> Zip<RangeFrom<u32>, Self> {
+        (self.chunks.next_number()..).zip(self)
+    }
+}

@@ -129,3 +129,32 @@ impl fmt::Display for RootError {
 }
 
 impl Error for RootError {}
+
+/// Why there is no text of a row.
+#[derive(Clone, Copy, Debug, PartialEq, Eq, Hash)]
+pub enum TextError {
+    /// It has more than 65,536 bytes, as in crafted files.
+    TooLong,
+    /// Memory ran out.
+    NoMemory,
+    /// The library is older than this crate.
+    Unsupported(Unsupported),
+}
+
+impl From<Unsupported> for TextError {
+    fn from(error: Unsupported) -> TextError {
+        TextError::Unsupported(error)
+    }
+}
+
+impl fmt::Display for TextError {
+    fn fmt(&self, f: &mut fmt::Formatter) -> fmt::Result {
+        match self {
+            TextError::TooLong => f.write_str("the text has more than 65,536 bytes"),
+            TextError::NoMemory => f.write_str("out of memory"),
+            TextError::Unsupported(error) => error.fmt(f),
+        }
+    }
+}
+
+impl Error for TextError {}

@@ -9,7 +9,7 @@
 //! # fn main() -> Result<(), Box<dyn std::error::Error>> {
 //! # let file = std::fs::read(concat!(env!("CARGO_MANIFEST_DIR"), "/../../samples/one_module.dll"))?;
 //! let view = clim::View::open(&file)?;
-//! for (row, its) in (1..).zip(view.rows::<TypeDef>()) {
+//! for (row, its) in view.rows::<TypeDef>().numbered() {
 //!     println!("{}", its.type_name);
 //!     for method in view.rows_in::<MethodDef>(view.methods_of(row)) {
 //!         println!("  {}", method.name);
@@ -44,8 +44,9 @@
 //! drop(file);
 //! ```
 //!
-//! To open and to read, the library allocates nothing. This crate allocates the cells of some rows at a time, what
-//! `by_key` and `full_name` return, and four bytes for each type once an enclosing type is asked for. Rows of a valid file
+//! To open and to read, the library allocates nothing, but for the declarations of methods. This crate allocates the cells of
+//! some rows at a time, what `by_key` and the calls for texts return, and four bytes for each type once an enclosing type is
+//! asked for. Rows of a valid file
 //! may still form circles, and names may be any text: see `docs/CLIENTS.md`.
 //!
 //! [`Tables`] has rows that a program adds, or those of a view, which may be changed. [`Tables::root`] checks them against
@@ -56,9 +57,11 @@ mod building;
 mod cells;
 mod chunks;
 mod compared;
+mod constants;
 mod embedded;
 mod fault;
 mod library;
+mod opened;
 mod refusal;
 pub mod rows;
 mod tables;
@@ -68,12 +71,16 @@ pub use building::Tables;
 pub use cells::{Cell, Guid, Signature};
 pub use chunks::{Cells, Rows};
 pub use compared::{CompareError, Difference, Location};
+pub use constants::ConstantValue;
 pub use embedded::{embed, embed_canonical, EmbedError, StrongName};
-pub use fault::{BoundedError, Fault, RootError, Unsupported};
+pub use fault::{BoundedError, Fault, RootError, TextError, Unsupported};
+pub use opened::{open, Assembly, OpenError};
 pub use refusal::{BuildError, Refusal};
 pub use rows::Row;
 pub use tables::{Table, Token};
-pub use view::{check, check_root, check_root_within, check_within, read_header, Header, View, DEPTH};
+pub use view::{
+    bytes_at, check, check_root, check_root_within, check_within, offset_of, read_header, Header, View, DEPTH,
+};
 
 /// The examples of `rust/README.md`, which have to compile.
 #[cfg(doctest)]

@@ -1,6 +1,6 @@
 //! Calls whose results belong to the library.
 
-use crate::fault::{RootError, Unsupported};
+use crate::fault::{RootError, TextError, Unsupported};
 use clim_sys::{clim_bytes, CLIM_NO_BYTES, CLIM_NO_MEMORY, CLIM_TOO_LONG};
 use std::{slice, str};
 
@@ -35,19 +35,16 @@ fn name(write: impl FnOnce(*mut clim_bytes)) -> &'static str {
     unsafe { text(&name) }
 }
 
-/// The text that a call writes into a buffer, as far as there is room, and whose length it returns. `None` if the text is
-/// too long to be written.
-pub(crate) fn written(write: impl Fn(&mut [u8]) -> usize) -> Option<String> {
+/// The text that a call writes into a buffer, as far as there is room, and whose length it returns.
+pub(crate) fn written(write: impl Fn(&mut [u8]) -> usize) -> Result<String, TextError> {
     let mut buffer = vec![0; USUAL];
     loop {
-        let len = write(&mut buffer);
-        if len <= buffer.len() {
-            return Some(String::from_utf8_lossy(&buffer[..len]).into_owned());
+        match write(&mut buffer) {
+            CLIM_TOO_LONG => return Err(TextError::TooLong),
+            CLIM_NO_MEMORY => return Err(TextError::NoMemory),
+            len if len <= buffer.len() => return Ok(String::from_utf8_lossy(&buffer[..len]).into_owned()),
+            len => buffer.resize(len, 0),
         }
-        if len == CLIM_TOO_LONG {
-            return None;
-        }
-        buffer.resize(len, 0);
     }
 }
 

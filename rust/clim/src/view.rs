@@ -3,7 +3,7 @@
 use crate::cells::Cell;
 use crate::chunks::{Cells, Chunks, Rows};
 use crate::compared::{CompareError, Difference, Location};
-use crate::fault::{BoundedError, Fault, RootError, Unsupported};
+use crate::fault::{BoundedError, Fault, RootError, TextError, Unsupported};
 use crate::library;
 use crate::rows::{NestedClass, Row, TypeDef};
 use crate::tables::{Table, Token};
@@ -18,6 +18,9 @@ use std::sync::OnceLock;
 
 /// The number of types in one full name, from the innermost outwards. `..` stands for those that are left out.
 pub const DEPTH: usize = 64;
+
+/// The largest row that a token can name (III.1.9).
+const MOST_ROWS: u32 = 0xFF_FFFF;
 
 /// The CLI header of a file (II.25.3.3), its offset, and the offsets where the metadata root begins and ends.
 pub type Header = clim_header;
@@ -104,6 +107,40 @@ pub fn read_header(file: &[u8]) -> Result<Header, Fault> {
         clim_sys::clim_read_header(file.as_ptr(), file.len(), header, fault)
     };
     result(read, Header::default())
+}
+
+/// The offset in a file of `size` bytes at a relative virtual address (II.25.3), such as that of a method body or a directory
+/// of a [`Header`]. They are in the first section that contains all of them. `None` if the file does not have them, or is no
+/// image: only the PE headers are checked.
+///
+/// # Errors
+///
+/// The library is older than this crate.
+pub fn offset_of(file: &[u8], rva: u32, size: u32) -> Result<Option<usize>, Unsupported> {
+    Unsupported::unless(clim_sys::HAS_OFFSET_OF, "clim_offset_of")?;
+    let mut offset = 0;
+    // SAFETY: The pointers are valid during the call.
+    let found = unsafe { clim_sys::clim_offset_of(file.as_ptr(), file.len(), rva, size, &mut offset) };
+    Ok(found.then_some(offset))
+}
+
+/// The `size` bytes of a file at a relative virtual address; `None` if [`offset_of`] has none.
+///
+/// # Errors
+///
+/// The library is older than this crate.
+pub fn bytes_at(file: &[u8], rva: u32, size: u32) -> Result<Option<&[u8]>, Unsupported> {
+    let offset = offset_of(file, rva, size)?;
+    Ok(offset.and_then(|start| file.get(start..)?.get(..size as usize)))
+}
+
+/// The text that a function writes of the row with a token; `None` if there is no such row, or it has none.
+fn row_text(row: Token, write: impl Fn(u32, &mut [u8]) -> usize) -> Result<Option<String>, TextError> {
+    if row.row > MOST_ROWS {
+        return Ok(None);
+    }
+    let text = library::written(|buffer| write(row.into(), buffer))?;
+    Ok(Some(text).filter(|it| !it.is_empty()))
 }
 
 /// An opened metadata root. It borrows the bytes that were opened. Its texts and blobs are parts of these bytes, and may
@@ -307,6 +344,25 @@ impl<'a> View<'a> {
         (row > 0).then_some(row)
     }
 
+    /// The first type whose full name it is: `System.String`, or `Hello.Greeter/Settings` for a type that is nested in another.
+    /// All before the last dot is the namespace. A name of more than [`DEPTH`] types is not found.
+    ///
+    /// It looks at all types once for each part of the name.
+    pub fn find_full_name(&self, full_name: &str) -> Option<u32> {
+        let mut outer = 0;
+        if full_name.split('/').nth(DEPTH).is_some() {
+            return None;
+        }
+        for part in full_name.split('/') {
+            let (namespace, name) = part.rsplit_once('.').unwrap_or(("", part));
+            outer = self.rows::<TypeDef>().numbered().find_map(|(row, its)| {
+                let same = its.type_name == name && its.type_namespace == namespace;
+                (same && self.enclosing_type(row).unwrap_or(0) == outer).then_some(row)
+            })?;
+        }
+        Some(outer)
+    }
+
     /// The rows of a table whose key is a row, in ascending order; none if the table has no key (II.22).
     ///
     /// They are found by binary search. Each call passes over all rows if these are not in order of their keys, as in crafted
@@ -344,7 +400,38 @@ impl<'a> View<'a> {
             let (table, room) = (row.table.number(), buffer.len());
             clim_sys::clim_signature_text(&self.view, table, row.row, column, buffer.as_mut_ptr(), room)
         });
-        Ok(text.filter(|it| !it.is_empty()))
+        Ok(text.ok().filter(|it| !it.is_empty()))
+    }
+
+    /// The name of a row in the notation of ILAsm (II.5.3), such as `Hello.Greeter::Greet` or `Namespace.Outer/Inner`. A name
+    /// that is no identifier is quoted, as in `'<Module>'`; so the text is ASCII. A row without a name is `..`. `None` if
+    /// there is no such row.
+    ///
+    /// # Errors
+    ///
+    /// The name is too long, or the library is older than this crate.
+    pub fn name_of(&self, row: Token) -> Result<Option<String>, TextError> {
+        Unsupported::unless(clim_sys::HAS_ROW_NAME, "clim_row_name")?;
+        // SAFETY: The view is open, and the pointer is valid for that number of bytes during the call.
+        row_text(row, |token, buffer| unsafe {
+            clim_sys::clim_row_name(&self.view, token, buffer.as_mut_ptr(), buffer.len())
+        })
+    }
+
+    /// The declaration of a type, a field, a method or a property, in the notation of ILAsm: of a type its full name, of a
+    /// field its signature and its own name (II.16.1), of a method `string Hello.Greeter::Greet(string name, int32 times)`
+    /// (II.15.3), and of a property `instance int32 Hello.Greeter::Item(string)` (II.17). The names in it are those of
+    /// [`View::name_of`]. `None` for any other row, or if there is no such row.
+    ///
+    /// # Errors
+    ///
+    /// The declaration is too long, memory ran out, or the library is older than this crate.
+    pub fn declaration(&self, row: Token) -> Result<Option<String>, TextError> {
+        Unsupported::unless(clim_sys::HAS_DECLARATION, "clim_declaration")?;
+        // SAFETY: The view is open, and the pointer is valid for that number of bytes during the call.
+        row_text(row, |token, buffer| unsafe {
+            clim_sys::clim_declaration(&self.view, token, buffer.as_mut_ptr(), buffer.len())
+        })
     }
 
     /// The UTF-16 units of the user string of a token such as 0x70000001, as `ldstr` uses it (II.24.2.4). `None` if the

@@ -2,8 +2,8 @@
 
 use clim::rows::*;
 use clim::{
-    check, check_root, check_root_within, check_within, read_header, BoundedError, BuildError, Cell, CompareError, Difference,
-    Fault, RootError, Row, Table, Tables, Token, View,
+    check, check_root, check_root_within, check_within, offset_of, read_header, BoundedError, BuildError, Cell, CompareError,
+    Difference, Fault, RootError, Row, Table, Tables, TextError, Token, Unsupported, View,
 };
 use std::collections::BTreeMap;
 use std::error::Error;
@@ -245,6 +245,16 @@ fn texts_in_a_buffer() {
             }
         }
     });
+    for (has_it, name, text) in [
+        (clim_sys::HAS_ROW_NAME, "clim_row_name", view.name_of(greet)),
+        (clim_sys::HAS_DECLARATION, "clim_declaration", view.declaration(greet)),
+    ] {
+        match text {
+            Ok(text) => assert!(has_it && text.is_some_and(|it| it.contains("Hello.Greeter::Greet"))),
+            Err(error) => assert!(!has_it && error == TextError::Unsupported(Unsupported { function: name })),
+        }
+    }
+    assert!(has(clim_sys::HAS_OFFSET_OF, "clim_offset_of", offset_of(&root, 0, 0)) == offset_of(&root, 0, 0).is_ok());
     if has(clim_sys::HAS_USER_STRING, "clim_user_string", view.user_string(0x7000_0001)) {
         assert_eq!(view.user_string(0x7000_0001), Ok(None));
         assert_eq!(view.user_string(0x0200_0001), Ok(None));

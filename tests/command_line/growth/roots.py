@@ -254,6 +254,20 @@ def one_native_type(size):
     return Root(rows, b"\0a\0", heap(FIELD, blob_of(bytes(size // 2))))
 
 
+def constants_with_one_value(size):
+    """Fields whose constants are one long text."""
+    count = size // 28
+    rows = {"TypeDef": [type_row()], "Field": [(0, 1, 1)] * count}
+    rows["Constant"] = [(0x0E, 0, coded("HasConstant", "Field", 1 + it), 1 + len(FIELD)) for it in range(count)]
+    return Root(rows, b"\0a\0", heap(FIELD, blob_of(b"b\0" * (size // 8))))
+
+
+def constants_of_one_field(size):
+    """Many constants, the last of which is that of another field."""
+    constants = [(8, 0, coded("HasConstant", "Field", it), 1 + len(FIELD)) for it in [1] * (size // 8) + [2]]
+    return Root({"TypeDef": [type_row()], "Field": [(0, 1, 1)] * 2, "Constant": constants}, b"\0a\0", heap(FIELD, blob_of(bytes(4))))
+
+
 def references_with_one_key(size):
     return Root({"AssemblyRef": [reference_row(key=1)] * (size // 28)}, b"\0a\0", heap(blob_of(b"k" * KEY)))
 
@@ -296,6 +310,22 @@ def attributes_with_a_long_value(size):
 def attributes_with_a_long_signature(size):
     """Attributes with a constructor that takes too many strings."""
     return own_attributes(size, 56, blob_of(b"\x20" + packed(size // 2) + b"\x01" + b"\x0e" * (size // 2)), blob_of(b"\1\0\0\0"))
+
+
+def members_with_one_signature(size):
+    """Members of a type of another module that all have one signature, and for each an attribute that it constructs."""
+    count, signature = size // 64, blob_of(b"\x20" + packed(size // 2) + b"\x01" + b"\x0e" * (size // 2))
+    row, owner = (coded("MemberRefParent", "TypeRef", 1), 1, 1), coded("HasCustomAttribute", "TypeRef", 1)
+    attributes = [(owner, coded("CustomAttributeType", "MemberRef", it), 1 + len(signature)) for it in range(1, count + 1)]
+    rows = {"TypeRef": [(0, 1, 0)], "MemberRef": [row] * count, "CustomAttribute": attributes}
+    return Root(rows, b"\0a\0", heap(signature, blob_of(b"\1\0\0\0")))
+
+
+def overrides_with_one_signature(size):
+    """Overrides by a method that has many parameters."""
+    method = coded("MethodDefOrRef", "MethodDef", 1)
+    rows = {"TypeDef": [type_row()], "MethodDef": [method_row()], "MethodImpl": [(1, method, method)] * (size // 12)}
+    return Root(rows, b"\0a\0", heap(parameters_of(size // 2)))
 
 
 # ---- rows in another order than that of their keys, and many rows of one parent
@@ -623,6 +653,16 @@ def other_streams(count):
 def many_streams(size):
     """A file whose root has streams of other names."""
     return image_of(other_streams(min(size // 16, MOST_HEADERS)))
+
+
+def streams_of_all_bytes(size):
+    """The same, each with all bytes of the root, and more than that."""
+    count = min(size // 16, MOST_HEADERS)
+    root = bytearray(other_streams(count))
+    first = root.index(b"%06x" % 0) - 8
+    for number in range(count):
+        struct.pack_into("<II", root, first + 16 * number, 0, 0xFFFFFFFF)
+    return image_of(bytes(root))
 
 
 def many_sections(size):

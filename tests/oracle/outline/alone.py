@@ -4,7 +4,7 @@ import re
 import subprocess
 from collections import Counter
 
-from outline import unescaped
+from outline import unescaped, without_layout
 from texts import flags_of
 
 
@@ -14,7 +14,7 @@ def types_of(text):
     for line in text.splitlines(keepends=True):
         word, _, tail = line.partition(" ")
         if word == ".class" and not tail.startswith("extern "):
-            _, declared = flags_of(tail.rpartition("  // ")[0])
+            _, declared = flags_of(without_layout(tail.rpartition("  // ")[0]))
             lines, name = [], declared.partition(" extends ")[0]
             types.setdefault(unescaped(re.sub("'([^']*)'", r"\1", name)), lines)
         elif not line.startswith("  "):

@@ -3,13 +3,15 @@
 import re
 from collections import defaultdict
 
-from texts import ACCESSORS, CODE, Quoted, flags_of, no_kinds, opening, ordered, plain, split_list, split_outside
+from texts import ACCESSORS, CODE, Quoted, flags_of, no_kinds, opening, ordered, plain, split_list, split_outside, values_of
 
 # The words that monodis has for flags.
 WORDS = {
     "privatescope": "compilercontrolled", "requiresecobj": "reqsecobj", "export": "unmanagedexp", "winapi": "platformapi",
     "fwdref": "forwardref",
 }
+# The characters that it writes as a letter after a backslash in a constant text.
+CONTROLS = dict(zip("abfnrtv", "\a\b\f\n\r\t\v"))
 # Words for bits that the standard does not name.
 UNNAMED = {"agressive-inlining", "bestfit:on", "bestfit:off", "charmaperror:on", "charmaperror:off"}
 
@@ -22,6 +24,11 @@ def declared(text):
 def unescaped(text):
     """A text with the characters before which monodis writes a backslash."""
     return re.sub(r"\\(.)", r"\1", text)
+
+
+def unescaped_text(text):
+    """A constant text with the characters that monodis escapes."""
+    return re.sub(r"\\(.)", lambda match: CONTROLS.get(match[1], match[1]), text)
 
 
 class Type:
@@ -58,8 +65,10 @@ def without_marshal(text):
 
 
 def bare_param(text):
-    """A parameter without its attributes, and without the name that monodis gives to one that has none."""
-    return re.sub(r" A_\d+$", "", without_marshal(re.sub(r"^(\[(in|out|opt)\]\s*)+", "", text)))
+    """A parameter with its flags as the program has them, and without the name that monodis gives to one that has none."""
+    flags = re.match(r"(\[(in|out|opt)\]\s*)*", text)[0]
+    words = "".join(f"[{it}] " for it in ("in", "out", "opt") if f"[{it}]" in flags)
+    return words + re.sub(r" A_\d+$", "", without_marshal(text[len(flags):]))
 
 
 class Reader:
@@ -138,11 +147,14 @@ class Reader:
             self.add("interface", no_kinds(self.show(it)))
 
     def read_field(self, text):
+        values = [*values_of(text, unescaped_text)]
         text = re.split(r" = | at [A-Z]_", re.sub(r"^\[\d+\] ", "", text))[0].strip()
         flags, tail = flags_of(text, WORDS)
         flags, tail = flags_of(f"{flags} {without_marshal(tail)}")
         of, _, name = tail.strip().rpartition(" ")
         self.add("field", f"{flags} {self.show(of)} {self.quoted.show(name)}")
+        for value in values:
+            self.add("value", self.quoted.show(f"{value} of {name}"))
 
     def read_method(self, text):
         imported = re.search(r'pinvokeimpl \("(.*?)" as "(.*?)"([^)]*)\)', text)

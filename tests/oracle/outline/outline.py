@@ -3,7 +3,7 @@
 import re
 from collections import defaultdict
 
-from texts import ACCESSORS, CODE, Quoted, flags_of, no_kinds, ordered, plain
+from texts import ACCESSORS, CODE, Quoted, flags_of, no_kinds, opening, ordered, plain, split_outside, values_of
 
 
 def declared(text):
@@ -14,6 +14,29 @@ def declared(text):
 def unescaped(text):
     """A text with the characters that the program escapes, byte by byte in UTF-8."""
     return re.sub(r"(\\x[0-9a-f]{2})+", lambda match: bytes.fromhex(match[0].replace("\\x", "")).decode(), text)
+
+
+def unescaped_units(text):
+    """A constant text with the characters that the program escapes."""
+    text = re.sub(r"\\u([0-9a-f]{4})", lambda match: chr(int(match[1], 16)), text.replace(r"\"", '"'))
+    return text.encode("utf-16", "surrogatepass").decode("utf-16", "replace")
+
+
+def without_layout(text):
+    """A type without the packing and the size of its layout."""
+    return re.sub(r" \{ \.pack \d+ \.size \d+ \}$", "", text)
+
+
+def without_values(text):
+    """A member without its offset, its marshalling, its constant and the address of its data."""
+    text = re.sub(r"^\[\d+\] ", "", text)
+    return re.sub(r" marshal\(\w*\)", "", re.split(r" = | at D_", text)[0])
+
+
+def method_of(text):
+    """The name of a method after that of its type, from a reference with its signature."""
+    head = re.sub(r"<\[\d+\]>$", "", text[:opening(text, len(text) - 1)])
+    return split_outside(no_kinds(head), " ")[-1]
 
 
 class Reader:
@@ -45,12 +68,12 @@ class Reader:
             self.read_override(tail)
         elif word.startswith(".pinvokeimpl"):
             self.read_import(line)
-        elif word != ".custom":
+        elif word not in (".custom", ".permissionset"):
             self.read_manifest(line)
 
     def read_class(self, text):
         flags, tail = flags_of(text)
-        self.type, _, extends = tail.partition(" extends ")
+        self.type, _, extends = without_layout(tail).partition(" extends ")
         # monodis does not print the type of what belongs to no type.
         if self.quoted.show(self.type) != "<Module>":
             self.add("class", f"{flags} extends {no_kinds(extends)}")
@@ -60,9 +83,10 @@ class Reader:
         return f" {text}".replace(f" {self.type}::", " ", 1).strip()
 
     def read_member(self, word, text):
-        flags, tail = flags_of(text)
+        flags, tail = flags_of(without_values(text))
         if word in ACCESSORS:
-            called, of = (it.rpartition("::")[2] for it in text.split(" of "))
+            called, _, of = text.rpartition(" of ")
+            called, of = (it.rpartition("::")[2] for it in (method_of(called), of))
             self.add(f"accessor of {self.mapped}", f"{word} {called} of {of}")
             return
         self.mapped = word[1:]
@@ -71,6 +95,8 @@ class Reader:
             self.add("method", f"{flags} {self.own(tail[:code.start() + 1])} {ordered(code[1])}")
         else:
             self.add(word[1:], f"{flags} {self.own(tail)}")
+        for value in values_of(text, unescaped_units) if word == ".field" else ():
+            self.add("value", f"{value} of {tail.rpartition(' ')[2]}")
 
     def go_to(self, owner):
         """Goes to the type of a method, or to a type, and returns the name of the method, or the last one of the type."""
@@ -94,7 +120,7 @@ class Reader:
     def read_override(self, text):
         text, _, self.type = text.rpartition(" in ")
         declaration, _, body = text.partition(" with ")
-        self.add("override", f"{no_kinds(declaration)} with {body.removeprefix(f'{self.type}::')}")
+        self.add("override", f"{method_of(declaration)} with {method_of(body).removeprefix(f'{self.type}::')}")
 
     def read_import(self, line):
         library, entry, words, owner = re.match(r'\.pinvokeimpl\("(.*)" as "(.*)"(.*)\) of (.*)', line).groups()
@@ -103,7 +129,7 @@ class Reader:
     def read_manifest(self, line):
         self.type = ""
         if line.startswith(".assembly"):
-            kind, name, version, tail = re.match(r"\.(assembly(?: extern)?) (.*) \{ \.ver (\S+)(.*) \}", line).groups()
+            kind, name, version, tail = re.match(r"\.(assembly(?: extern)?) (.*) \{ (?:\.hash algorithm \w+ )?\.ver (\S+)(.*) \}", line).groups()
             culture = re.search(r'\.culture "(.*?)"', tail)
             key = re.search(r"\.(publickey\w*) = \((\w+)\)", tail)
             self.add(kind, " ".join([name, version, culture[1] if culture else "", *(key.groups() if key else [])]))
@@ -114,4 +140,4 @@ class Reader:
             self.add("class extern", f"{is_forwarder}{name} in {of.partition(' ')[2]}")
         else:
             kind, text = re.match(r"\.(\w+(?: extern)?) (.*)", line).groups()
-            self.add(kind, text)
+            self.add(kind, text.partition(" /* ")[0])

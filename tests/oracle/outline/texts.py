@@ -1,6 +1,7 @@
 """What both readers use: words of flags, brackets, and one way to write what the two outputs write differently."""
 
 import re
+import struct
 
 # Words of flags (II.23.1). What follows them is a type or a name.
 FLAGS = set(
@@ -87,3 +88,32 @@ def plain(text):
 def no_kinds(text):
     """A text without the words for classes and value types."""
     return re.sub(r"\b(class|valuetype) ", "", text)
+
+
+def number_of(kind, digits):
+    """The bits of a number in either notation, by its type."""
+    if kind.startswith("float") and not digits.startswith("0x"):
+        form, bits = ("<f", "<I") if kind == "float32" else ("<d", "<Q")
+        return struct.unpack(bits, struct.pack(form, float(digits)))[0]
+    return int(digits, 0) % 2 ** int(re.search(r"\d+$", kind)[0] if kind != "char" else 16)
+
+
+def value_of(text, unescaped):
+    """The value of a constant in one way, or None for bytes, as which monodis writes texts that are not ASCII."""
+    number = re.match(r"(?:unsigned )?((?:int|float)\d+|char)\((.*)\)$", text)
+    if number:
+        return f"{number[1]} {number_of(*number.groups())}"
+    value = unescaped(text[1:-1]) if text.startswith('"') else text
+    return value if value.isascii() and not value.startswith("bytearray") else None
+
+
+def values_of(text, unescaped):
+    """What a field has beside its declaration: its offset, its constant, and the label of its data."""
+    offset, (head, _, constant) = re.match(r"\[(\d+)\] ", text), text.partition(" = ")
+    label = re.search(r" at (D_\w+)$", head)
+    if offset:
+        yield f"offset {offset[1]}"
+    if constant and value_of(constant, unescaped) is not None:
+        yield f"value {value_of(constant, unescaped)}"
+    if label:
+        yield f"data {label[1]}"

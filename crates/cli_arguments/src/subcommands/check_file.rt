@@ -1,23 +1,25 @@
 //! `clim check`: checks files against the rules of the standard.
-use crate::subcommands::{BARE, BUDGET, FILES_FROM, JSON, NULL, Usage};
+use crate::subcommands::{BARE, BUDGET, FILES, FILES_FROM, JSON, NULL, RECURSIVE, Usage};
 
 pub(crate) const USAGE: Usage<'static> = Usage {
     name: "check",
     about: "Check files against the rules of the standard",
     arguments: &[
-        argument!["FILE" AnyNumber "The files to read"],
+        FILES,
         BARE,
         BUDGET,
         FILES_FROM,
         NULL,
-        argument!["quiet" EitherFlag('q') "Print nothing about faults; only the exit status reports them"],
+        RECURSIVE,
+        argument!["quiet" EitherFlag('q') "Print no faults; only the exit status reports them"],
         JSON,
-        argument!["where" Flag "Print what contains the byte at the offset of the fault, and explain the fault"],
+        argument!["where" Flag "Print what contains the byte at a fault, and explain it"],
     ],
     output: "\
-Prints 'ok' if FILE breaks no rule. Otherwise prints only the first fault, to standard error. The rules
-are those that 'clim explain' lists from 101 to 801, except 508 to 510. OFFSET is an offset in FILE.
-LAYER is one of these, with the sections whose rules it checks:
+Prints 'ok' if FILE breaks no rule. Otherwise prints only the first fault, to
+standard error. The rules are those that 'clim explain' lists from 101 to 801,
+except 508 to 510. OFFSET is an offset in FILE. LAYER is one of these, with the
+sections whose rules it checks:
   1  the headers of the PE file (II.25.2, II.25.3)
   2  the CLI header (II.25.3.3)
   3  the metadata root and its stream headers (II.24.2.1, II.24.2.2)
@@ -26,32 +28,42 @@ LAYER is one of these, with the sections whose rules it checks:
   6  the order of rows, members and nested types (II.22)
   7  a signature (II.23.2)
   8  the entry point (II.25.3.3)
-'clim explain CODE' explains a fault. 'clim explain' lists all faults. '--where' also prints the row of
-a fault.
+'clim explain CODE' explains a fault. 'clim explain' lists all faults. '--where'
+also prints the row of a fault.
 
-Texts and signature blobs may overlap, so the check of a FILE of a few kilobytes can take a long
-time. '--budget N' limits the number of their bytes to check. A check that needs more ends with
-'error: budget spent' and exit status 3.
+Texts and signature blobs may overlap, so the check of a FILE of a few kilobytes
+can take a long time. '--budget N' limits the number of their bytes to check. A
+check that needs more ends with 'error: budget spent' and exit status 3.
 
-For several FILEs, or if their names are read from standard input, it prints one line for each, in the
-order given: 'FILE: ok' or 'FILE: fault LAYER CODE at OFFSET: NAME'. Each has its own budget. If a FILE
-cannot be read or checked, it prints the reason to standard error and goes on with the next. The exit
-status is the greatest. 'find . -name '*.dll' -print0 | clim check -0' checks all assemblies of a
-folder.
+For several FILEs, a list of them or a directory, it prints one line for each,
+in the order given:
+'FILE: ok' or 'FILE: fault LAYER CODE at OFFSET: NAME'. Each has its own budget.
+If a FILE cannot be read or checked, it prints the reason to standard error and
+goes on with the next. The exit status is the greatest.
 
-'--quiet' prints neither these lines nor the faults. The exit status is the same. Errors of reading and
-checking are still printed to standard error.
+'-r' reads each file in a FILE that is a directory, and in the directories in
+it, in the order of the bytes of their names. It follows no link there. It
+passes over files that do not begin like a PE file ('MZ'; with '--bare' 'BSJB'),
+and writes their number to standard error at the end.
 
-'--json' prints one JSON object (RFC 8259) on a line: '{\"ok\":true}' or the fault, such as
-'{\"layer\":1,\"code\":102,\"offset\":0,\"name\":\"DosHeader\"}'. Nothing is written to standard error, unless
-FILE cannot be read or checked. The exit status is the same. For several FILEs each object also has the
-member 'file'.
+'--files-from -' reads the names of the files from standard input, one on each
+line. With '-0' each name ends with a NUL instead, as 'find . -name '*.dll'
+-print0 | clim check -0' gives them.
 
-'--where' prints to standard output: the line of the fault, then a line as by 'clim where' for each
-structure that contains the byte at OFFSET, an empty line, and the text of 'clim explain'. Only the
-parts that are valid are described, up to the first fault: the headers of the PE file, the CLI header,
-the metadata root and the table stream. So a fault of layers 5 to 7 has the line of a cell, and one of
-layer 1 has no line of a structure. The exit status is the same.
+'--quiet' prints neither these lines nor the faults. The exit status is the
+same. Errors of reading and checking are still printed to standard error.
+
+'--json' prints one JSON object (RFC 8259) on a line: '{\"ok\":true}' or the
+fault, such as '{\"layer\":1,\"code\":102,\"offset\":0,\"name\":\"DosHeader\"}'. Nothing
+is written to standard error, unless FILE cannot be read or checked. The exit
+status is the same. For several FILEs each object also has the member 'file'.
+
+'--where' prints to standard output: the line of the fault, then a line as by
+'clim where' for each structure that contains the byte at OFFSET, an empty line,
+and the text of 'clim explain'. Only the parts that are valid are described, up
+to the first fault: the headers of the PE file, the CLI header, the metadata
+root and the table stream. So a fault of layers 5 to 7 has the line of a cell,
+and one of layer 1 has no line of a structure. The exit status is the same.
 
 Examples:
   $ clim check one_module.dll

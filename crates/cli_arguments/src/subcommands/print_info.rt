@@ -1,34 +1,42 @@
 //! `clim info`: what one wants to know first of an assembly.
-use crate::subcommands::{BARE, BUDGET, FILES, JSON, Usage};
+use crate::subcommands::{BARE, BUDGET, FILES, FILES_FROM, JSON, NULL, RECURSIVE, Usage};
 
 pub(crate) const USAGE: Usage<'static> = Usage {
     name: "info",
-    about: "Print what an assembly is: its identity, its headers and its references",
-    arguments: &[FILES, BARE, BUDGET, JSON],
+    about: "Print what an assembly is: its identity, headers and references",
+    arguments: &[FILES, BARE, BUDGET, FILES_FROM, NULL, RECURSIVE, JSON],
     output: "\
 Each line begins with a word for what follows it:
-  assembly   the identity of the assembly, as .NET writes it; a module alone has none
+  assembly   the identity of the assembly, as .NET writes it; a module alone has
+             none
   module     the name and the Mvid of the module
   version    the version of the runtime, from the metadata root
-  format     PE32 or PE32+, the number of the machine, its name if it is one of .NET, and the size of the
-             debug directory in bytes, 0 if there is none
+  format     PE32 or PE32+, the number of the machine, its name if it is one of
+             .NET, and the size of the debug directory in bytes, 0 if there is
+             none
   flags      the flags of the CLI header, and the name of each that is set
-  entry      the token of the entry point, 00000000 if there is none, and the name of the method
-  signature  the sizes of the strong name signature and of the managed native header (ReadyToRun)
+  entry      the token of the entry point, 00000000 if there is none, and the
+             name of the method
+  signature  the sizes of the strong name signature and of the managed native
+             header (ReadyToRun)
   types      the numbers of types, methods, fields and resources
   reference  the identity of an assembly that this one refers to
-  attribute  the type and the arguments of a custom attribute of the assembly, if all arguments are strings;
-             one with a value of more than 1,024 bytes has no line
-With '--bare' there are no lines from 'format' to 'signature'. Texts are escaped like those of 'clim show',
-but not quoted: a name may have commas. '--json' has it apart.
-PublicKeyToken is computed from the key; it is '?' if the key has more than 2,080 bytes. FILE is checked
-first, as by 'clim check'.
+  attribute  the type and the arguments of a custom attribute of the assembly,
+             if all arguments are strings; one with a value of more than 1,024
+             bytes has no line
+With '--bare' there are no lines from 'format' to 'signature'. Texts are escaped
+like those of 'clim show', but not quoted: a name may have commas. '--json' has
+it apart. PublicKeyToken is computed from the key; it is '?' if the key has more
+than 2,080 bytes. FILE is checked first, as by 'clim check'.
 
-For several FILEs each line begins with 'FILE: '. A FILE that breaks a rule or cannot be read is reported
-to standard error with its name, and the next one follows. The exit status is the greatest.
+For several FILEs each line begins with 'FILE: '. A FILE that breaks a rule or
+cannot be read is reported to standard error with its name, and the next one
+follows. The exit status is the greatest. 'clim check --help' says what '-r',
+'-0' and '--files-from -' read.
 
-With '--json' each line is a JSON object (RFC 8259) with the same values, the parts of an identity apart.
-Of an attribute it has the first argument. For several FILEs the 'file' comes first.
+With '--json' each line is a JSON object (RFC 8259) with the same values, the
+parts of an identity apart. Of an attribute it has the first argument. For
+several FILEs the 'file' comes first.
 
 Examples:
   $ clim info one_module.dll

@@ -1,38 +1,60 @@
 //! `clim outline`: the declarations of an assembly, or of one type.
-use crate::subcommands::{BARE, BUDGET, FILE, JSON, Usage};
+use crate::subcommands::{BARE, BUDGET, FILES_FROM, JSON, NULL, RECURSIVE, Usage};
 
 pub(crate) const USAGE: Usage<'static> = Usage {
     name: "outline",
-    about: "Print the declarations of the assembly, or of one type, in a notation close to ILAsm",
+    about: "Print the declarations of the assembly, or of one type",
     arguments: &[
-        FILE,
+        argument!["FILE" AnyNumber "The files to read, then the type to print alone, if it is one"],
         BARE,
         BUDGET,
+        FILES_FROM,
+        NULL,
+        RECURSIVE,
         JSON,
-        argument!["part" Optional("NAME") "The type to print alone, by its full name or token"],
     ],
     output: "\
-Prints a line for each declaration, in a notation close to ILAsm (ECMA-335, II.5 to II.22). A line ends
-with the token of its row in a comment. First come the assembly, what it refers to, the module, files,
-resources and exported types. Then come the types in the order of their rows, each with its fields,
-methods, events and properties, and accessors below these. A nested type has the path of its outer types
-only if the rows of NestedClass are in order. Last come interfaces, generic parameters and their constraints,
-overrides, imports and custom attributes, table by table. A name that is no identifier is in single
-quotes, with '\\xNN' for bytes that cannot stand there. Names and signatures longer than 65,536 bytes are
-cut and end in '..'. FILE is checked first, as by 'clim check'.
+Prints a line for each declaration, in a notation close to ILAsm (ECMA-335, II.5
+to II.22). A line ends with the token of its row in a comment. First come the
+assembly, what it refers to, the module, files, resources and exported types.
+Then come the types in the order of their rows, each with its fields, methods,
+events and properties, and accessors below these. A nested type has the path of
+its outer types only if the rows of NestedClass are in order. Last come
+interfaces, generic parameters and their constraints, overrides, imports,
+permission sets and custom attributes, table by table. A name that is no
+identifier is in single quotes, with '\\xNN' for bytes that cannot stand there.
+A type has its layout; a field has its offset, the bytes of its marshalling, its
+constant and the address of its data. The value of an attribute has its
+arguments if their types are known, and its bytes otherwise. Names, signatures
+and values longer than 65,536 bytes are cut and end in '..'. FILE is checked
+first, as by 'clim check'.
 
-NAME is the full name of a type: its namespace, a dot and its name, or its name alone. A nested type
-follows the type that encloses it and a slash, as in 'N.Outer/Inner'. Names are divided at their last
-dot. It is given without quotes; a name with a dot or a slash of its own is found by its token. If several
-types have the same full name, the first one is printed. If no type has it, a NAME
-without a dot or a slash stands for the only type of this name, in any namespace or type. Eight
-hexadecimal digits that begin with 02 are a token instead. Only that type, its fields, methods, events
-and properties are printed. If FILE has no such type, 'no such type' is written to standard error, and
-the exit status is 1. If several types have the name, the first 20 of them are listed instead.
+For several FILEs each line begins with 'FILE: '. A FILE that breaks a rule, has
+no such type or cannot be read is reported to standard error with its name, and
+the next one follows. The exit status is the greatest. 'clim check --help' says
+what '-r', '-0' and '--files-from -' read.
 
-'--json' prints a JSON object (RFC 8259) on each line, with the 'token' of the row, the 'directive' and
-the 'text' of the declaration. The directive is its first word. The text is the line without spaces
-before it and without the comment. A field, method, event or property also has the token of its 'type'.
+The last argument after a FILE is NAME, unless it has the form of a path: it is
+'-', begins with '/', './' or '../', or ends in .dll, .exe, .winmd or
+.netmodule, in any case.
+
+NAME is the full name of a type: its namespace, a dot and its name, or its name
+alone. A nested type follows the type that encloses it and a slash, as in
+'N.Outer/Inner'. Names are divided at their last dot. It is given without
+quotes; a name with a dot or a slash of its own is found by its token. If
+several types have the same full name, the first one is printed. If no type has
+it, a NAME without a dot or a slash stands for the only type of this name, in
+any namespace or type. Eight hexadecimal digits that begin with 02 are a token
+instead. Only that type, its fields, methods, events and properties are printed.
+If FILE has no such type, 'no such type' is written to standard error, and the
+exit status is 1. If several types have the name, the first 20 of them are
+listed instead.
+
+'--json' prints a JSON object (RFC 8259) on each line, with the 'token' of the
+row, the 'directive' and the 'text' of the declaration. The directive is its
+first word. The text is the line without spaces before it and without the
+comment. A field, method, event or property also has the token of its 'type'.
+For several FILEs the 'file' comes first.
 
 Examples:
   $ clim outline --bare two_types.root

@@ -1,23 +1,26 @@
 //! `clim root`: the CLI header of a PE file, and the version and the stream headers of its metadata root.
-use crate::subcommands::{BARE, FILES, JSON, Usage};
+use crate::subcommands::{BARE, FILES, FILES_FROM, JSON, NULL, RECURSIVE, Usage};
 
 pub(crate) const USAGE: Usage<'static> = Usage {
     name: "root",
-    about: "Print the CLI header, and the version and the stream headers of the metadata root",
-    arguments: &[FILES, BARE, JSON],
+    about: "Print the CLI header, the version and the stream headers",
+    arguments: &[FILES, BARE, FILES_FROM, NULL, RECURSIVE, JSON],
     output: "\
-For a PE file the first line is 'cli MAJOR.MINOR flags F entry E root OFFSET SIZE' (ECMA-335,
-II.25.3.3). F and E are hexadecimal, and OFFSET is an offset in the file. Then it prints 'version TEXT',
-and for each stream header 'stream OFFSET SIZE NAME' (II.24.2.1 and II.24.2.2), with an OFFSET in the
-root. In TEXT and NAME, a quote, a backslash and a byte that is not printable ASCII become \\x and two
-hexadecimal digits. Tables, heaps and signatures are not checked.
+For a PE file the first line is 'cli MAJOR.MINOR flags F entry E root OFFSET
+SIZE' (ECMA-335, II.25.3.3). F and E are hexadecimal, and OFFSET is an offset in
+the file. Then it prints 'version TEXT', and for each stream header 'stream
+OFFSET SIZE NAME' (II.24.2.1 and II.24.2.2), with an OFFSET in the root. In TEXT
+and NAME, a quote, a backslash and a byte that is not printable ASCII become \\x
+and two hexadecimal digits. Tables, heaps and signatures are not checked.
 
-For several FILEs each line begins with 'FILE: '. A FILE that breaks a rule or cannot be read is reported
-to standard error with its name, and the next one follows. The exit status is the greatest.
+For several FILEs each line begins with 'FILE: '. A FILE that breaks a rule or
+cannot be read is reported to standard error with its name, and the next one
+follows. The exit status is the greatest. 'clim check --help' says what '-r',
+'-0' and '--files-from -' read.
 
-'--json' prints a JSON object (RFC 8259) on each line, whose one member is 'cli', 'version' or 'stream';
-for several FILEs the 'file' comes first.
-A fault is printed to standard error as without the option.
+'--json' prints a JSON object (RFC 8259) on each line, whose one member is
+'cli', 'version' or 'stream'; for several FILEs the 'file' comes first. A fault
+is printed to standard error as without the option.
 
 Examples:
   $ clim root one_module.dll

@@ -1,39 +1,53 @@
 //! `clim where`: what contains the byte at an offset of a file.
-use crate::subcommands::{BARE, BUDGET, FILE, JSON, Usage};
+use crate::subcommands::{BARE, BUDGET, FILES_FROM, JSON, NULL, RECURSIVE, Usage};
 
 pub(crate) const USAGE: Usage<'static> = Usage {
     name: "where",
-    about: "Print what the byte at an offset belongs to: a header, a stream or a cell",
+    about: "Print which header, stream or cell contains the byte at an offset",
     arguments: &[
-        FILE,
+        argument!["FILE" AnyNumber "The files to read, then the OFFSET of a byte"],
         BARE,
         BUDGET,
+        FILES_FROM,
+        NULL,
+        RECURSIVE,
         JSON,
-        argument!["second" Required("OFFSET") "The offset: decimal, or hexadecimal after '0x'"],
     ],
     output: "\
-Prints a line 'START SIZE WHAT' for each structure that contains the byte, the outermost first. START is
-its offset in FILE. OFFSET counts from the first byte of FILE, like the OFFSET of a fault. If nothing
-contains the byte, it prints the word 'nothing' and exits with status 1.
+Prints a line 'START SIZE WHAT' for each structure that contains the byte, the
+outermost first. START is its offset in FILE. OFFSET counts from the first byte
+of FILE, like the OFFSET of a fault. If nothing contains the byte, it prints the
+word 'nothing' and exits with status 1.
 
-Structures are the headers of the PE file with their fields and data directories (ECMA-335, II.25.2),
-section headers and sections (II.25.3), the CLI header with its fields and the parts that it refers to
-(II.25.3.3), the metadata root and its fields, the stream headers (II.24.2.1, II.24.2.2), the streams of
-the standard, and the fields, row counts and cells of the table stream (II.24.2.6). Lines of these heap
-entries follow: a string, GUID or blob with each of the first ten cells that refer to it, and a user
-string with its token (II.24.2.3 to II.24.2.5).
+Structures are the headers of the PE file with their fields and data directories
+(ECMA-335, II.25.2), section headers and sections (II.25.3), the CLI header with
+its fields and the parts that it refers to (II.25.3.3), the metadata root and
+its fields, the stream headers (II.24.2.1, II.24.2.2), the streams, and the
+fields, row counts and cells of the table stream (II.24.2.6). Lines of these
+heap entries follow: a string, GUID or blob with each of the first ten cells
+that refer to it, and a user string with its token (II.24.2.3 to II.24.2.5).
+Last come the first ten methods whose bodies contain the byte, each with its
+token and its name (II.22.26, II.25.4).
 
-A section has its number from 1 and its name. A cell has its table, its row from 1, and its column from
-0 and by name (II.22); the padding byte of Constant has no column. The names of streams and sections are
-escaped like the texts of 'clim show'.
+A section has its number from 1 and its name. A cell has its table, its row from
+1, and its column from 0 and by name (II.22); the padding byte of Constant has
+no column. The names of streams and sections are escaped like the texts of 'clim
+show'.
 
-FILE is checked first, as by 'clim check'. If it breaks a rule, only the parts that are valid are
-described, down to the cells. The fault follows on standard error, and the exit status is 1.
+FILE is checked first, as by 'clim check'. If it breaks a rule, only the parts
+that are valid are described, down to the cells. The fault follows on standard
+error, and the exit status is 1.
 
-'--json' prints a JSON object (RFC 8259) on each line, with the 'offset', the 'size' and the 'structure'
-that contains the byte. A 'cell' also has its 'table', 'row' and 'column', and 'padding' the first two.
-A 'string', 'guid' or 'blob' has its 'stream' and those of the cell that refers to it. A 'user string'
-has its 'stream' and 'token'. If nothing contains the byte, nothing is printed.
+The last argument is OFFSET, decimal or hexadecimal after '0x'. For several
+FILEs each line begins with 'FILE: '. The exit status is the greatest. 'clim
+check --help' says what '-r', '-0' and '--files-from -' read.
+
+'--json' prints a JSON object (RFC 8259) on each line, with the 'offset', the
+'size' and the 'structure' that contains the byte. A 'cell' also has its
+'table', 'row' and 'column', and 'padding' the first two. A 'string', 'guid' or
+'blob' has its 'stream' and those of the cell that refers to it. A 'user string'
+has its 'stream' and 'token'. For several FILEs the 'file' comes first. If
+nothing contains the byte, nothing is printed.
 
 Examples:
   $ clim where one_module.dll 0x208

@@ -1,57 +1,71 @@
 //! `clim show`: the rows of all tables, or of one.
-use crate::subcommands::{BARE, BUDGET, JSON, Usage};
+use crate::subcommands::{BARE, BUDGET, FILES_FROM, JSON, NULL, RECURSIVE, Usage};
 
 pub(crate) const USAGE: Usage<'static> = Usage {
     name: "show",
     about: "Print the rows of all tables, or of one",
     arguments: &[
-        argument!["FILE" Several "The files to read, then the TABLE to print alone, if it is one"],
+        argument!["FILE" AnyNumber "The files to read, then the TABLE to print alone, if it is one"],
         BARE,
         BUDGET,
+        FILES_FROM,
+        NULL,
+        RECURSIVE,
         JSON,
         argument!["names" Flag "Print the name of each column before its cell"],
-        argument!["until-fault" Flag "Print the rows before the first fault, too, and then the fault"],
+        argument!["until-fault" Flag "Print the rows before the first fault, then the fault"],
     ],
     output: "\
-Prints for each table that has rows (ECMA-335, II.22) a line 'table NN NAME COUNT', with the number NN
-of the table in hexadecimal. Then it prints a line for each row: its number and its cells. A cell is one
-of these:
-  \"..\"  a text; a quote, a backslash and a byte that is not printable ASCII become \\x and two hexadecimal
-        digits
+Prints for each table that has rows (ECMA-335, II.22) a line 'table NN NAME
+COUNT', with the number NN of the table in hexadecimal. Then it prints a line
+for each row: its number and its cells. A cell is one of these:
+  \"..\"  a text; a quote, a backslash and a byte that is not printable ASCII
+        become \\x and two hexadecimal digits
   <..>  bytes in hexadecimal, or a signature in its canonical encoding (II.23.2)
   {..}  a GUID
   +N    the row N where a run of members starts
   null  no GUID, or no row
   a decimal number, or the token of a row in eight hexadecimal digits
-FILE is checked first, as by 'clim check'. If it breaks a rule, only the fault is printed.
+FILE is checked first, as by 'clim check'. If it breaks a rule, only the fault
+is printed.
 
-For several FILEs each line begins with 'FILE: '. A FILE that breaks a rule or cannot be read is reported
-to standard error with its name, and the next one follows. The exit status is the greatest.
+For several FILEs each line begins with 'FILE: '. A FILE that breaks a rule or
+cannot be read is reported to standard error with its name, and the next one
+follows. The exit status is the greatest. 'clim check --help' says what '-r',
+'-0' and '--files-from -' read.
 
-TABLE is the name or the number of a table. Only its rows are printed. The last argument after a FILE is
-TABLE if it has no dash, dot or slash; a FILE with such a name can be given as ./NAME. The tables are:
-  00 Module          01 TypeRef         02 TypeDef         04 Field           06 MethodDef
-  08 Param           09 InterfaceImpl   0A MemberRef       0B Constant        0C CustomAttribute
-  0D FieldMarshal    0E DeclSecurity    0F ClassLayout     10 FieldLayout     11 StandAloneSig
-  12 EventMap        14 Event           15 PropertyMap     17 Property        18 MethodSemantics
-  19 MethodImpl      1A ModuleRef       1B TypeSpec        1C ImplMap         1D FieldRVA
-  20 Assembly        21 AssemblyProcessor                  22 AssemblyOS      23 AssemblyRef
-  24 AssemblyRefProcessor               25 AssemblyRefOS   26 File            27 ExportedType
-  28 ManifestResource                   29 NestedClass     2A GenericParam    2B MethodSpec
-  2C GenericParamConstraint
+TABLE is the name or the number of a table. Only its rows are printed. The last
+argument after a FILE is TABLE if it has no dash, dot or slash; a FILE with such
+a name can be given as ./NAME. The tables are:
+  00 Module                 01 TypeRef                02 TypeDef
+  04 Field                  06 MethodDef              08 Param
+  09 InterfaceImpl          0A MemberRef              0B Constant
+  0C CustomAttribute        0D FieldMarshal           0E DeclSecurity
+  0F ClassLayout            10 FieldLayout            11 StandAloneSig
+  12 EventMap               14 Event                  15 PropertyMap
+  17 Property               18 MethodSemantics        19 MethodImpl
+  1A ModuleRef              1B TypeSpec               1C ImplMap
+  1D FieldRVA               20 Assembly               21 AssemblyProcessor
+  22 AssemblyOS             23 AssemblyRef            24 AssemblyRefProcessor
+  25 AssemblyRefOS          26 File                   27 ExportedType
+  28 ManifestResource       29 NestedClass            2A GenericParam
+  2B MethodSpec             2C GenericParamConstraint
 
-'--names' begins the line of a row with its token instead of its number, and prints the name of the
-column and an equals sign before each cell. So each line says which row it is:
+'--names' begins the line of a row with its token instead of its number, and
+prints the name of the column and an equals sign before each cell. So each line
+says which row it is:
 'clim show --names FILE | grep TypeName=' finds rows that 'clim token' prints.
 
-'--until-fault' also prints the rows of a broken FILE, up to the first row with a bad cell (layer 5 of
-'clim check --help'). It prints no row if a rule of layers 1 to 4 is broken, and all rows if only a
-later rule is. The blob of a broken signature is printed as bytes. After the rows the fault is written
-to standard error, and the exit status is 1.
+'--until-fault' also prints the rows of a broken FILE, up to the first row with
+a bad cell (layer 5 of 'clim check --help'). It prints no row if a rule of
+layers 1 to 4 is broken, and all rows if only a later rule is. The blob of a
+broken signature is printed as bytes. After the rows the fault is written to
+standard error, and the exit status is 1.
 
-'--json' prints a JSON object (RFC 8259) for each row, with its 'table', 'row' and 'token', and then its
-cells by the names of their columns. For several FILEs the 'file' comes first. A signature is an object
-with its bytes as 'blob' and its 'text' in the notation of ILAsm. A fault is printed to standard error as
+'--json' prints a JSON object (RFC 8259) for each row, with its 'table', 'row'
+and 'token', and then its cells by the names of their columns. For several FILEs
+the 'file' comes first. A signature is an object with its bytes as 'blob' and
+its 'text' in the notation of ILAsm. A fault is printed to standard error as
 without the option.
 
 Examples:
@@ -65,8 +79,5 @@ Examples:
   $ clim show --names --bare two_types.root Field
   table 04 Field 2
   04000001 Flags=1 Name=\"a\" Signature=<0608>
-  04000002 Flags=1 Name=\"b\" Signature=<0608>
-  $ clim show --json --bare two_types.root 06
-  {\"table\":\"MethodDef\",\"row\":1,\"token\":\"06000001\",\"RVA\":0,\"ImplFlags\":0,\"Flags\":6,\"Name\":\"M\",\
-\"Signature\":{\"blob\":\"000001\",\"text\":\"method void *()\"},\"ParamList\":1}",
+  04000002 Flags=1 Name=\"b\" Signature=<0608>",
 };

@@ -1,5 +1,5 @@
-//! Tests of `cli`: budgets, `rewrite`, `embed`, `info`, `digest`, `compare`, `check` and other reports of several files, the
-//! standard input, hints, escaped arguments, and files and outputs that fail.
+//! Tests of `cli`: budgets, `rewrite`, `embed`, `info`, `digest`, `compare`, `check` and other reports of several files and of
+//! directories, the standard input, hints, escaped arguments, and files and outputs that fail.
 
 mod budgets;
 mod comparing;
@@ -15,5 +15,6 @@ mod one_type;
 mod replacing;
 mod rewriting;
 mod several;
+mod trees;
 mod until_fault;
 pub(crate) mod writers;

@@ -3,7 +3,7 @@
 use crate::runs::answer;
 use cli_input::{Input, open};
 use cli_lines::{Form, Printer};
-use cli_outline::print_outline;
+use cli_outline::{print_outline, print_refs};
 use sample_roots::RootBuilder;
 use std::alloc::Global;
 use std::fs;
@@ -84,11 +84,11 @@ fn prints_events_and_properties_below_their_type(rt: HostRuntime) -> Result<(), 
   .method public static pinvokeimpl void N.C::M() cil managed  // 06000002
   .event N.C N.C::E  // 14000001
   .property specialname instance int32 N.C::P()  // 17000001
-    .get N.C::get_P of N.C::P  // 18000001
+    .get instance int32 N.C::get_P() of N.C::P  // 18000001
 .class private auto ansi '\\x1bD' extends N.C  // 02000003
   .property instance int32 '\\x1bD'::M()  // 17000002
 .pinvokeimpl(\"k.dll\" as \"M\" platformapi) of N.C::M  // 1c000001
-.custom N.C::.ctor = (0100) of 02000002  // 0c000001
+.custom void N.C::.ctor() = (0100) of N.C  // 0c000001
 ";
     assert_eq!(rt; outline_of(&rt, root.as_slice())?.as_str(), lines);
     Ok(())
@@ -119,11 +119,11 @@ fn prints_each_declaration_as_an_object(rt: HostRuntime) -> Result<(), Fail> {
 {"token":"06000002","type":"02000002","directive":".method","text":".method public static pinvokeimpl void N.C::M() cil managed"}
 {"token":"14000001","type":"02000002","directive":".event","text":".event N.C N.C::E"}
 {"token":"17000001","type":"02000002","directive":".property","text":".property specialname instance int32 N.C::P()"}
-{"token":"18000001","directive":".get","text":".get N.C::get_P of N.C::P"}
+{"token":"18000001","directive":".get","text":".get instance int32 N.C::get_P() of N.C::P"}
 {"token":"02000003","directive":".class","text":".class private auto ansi '\u001bD' extends N.C"}
 {"token":"17000002","type":"02000003","directive":".property","text":".property instance int32 '\u001bD'::M()"}
 {"token":"1c000001","directive":".pinvokeimpl","text":".pinvokeimpl(\"k.dll\" as \"M\" platformapi) of N.C::M"}
-{"token":"0c000001","directive":".custom","text":".custom N.C::.ctor = (0100) of 02000002"}
+{"token":"0c000001","directive":".custom","text":".custom void N.C::.ctor() = (0100) of N.C"}
 "#;
     assert_eq!(rt; json_of(rt.alloc(), root.as_slice())?.as_str(), lines);
     Ok(())
@@ -214,7 +214,7 @@ fn forged_names_are_quoted(rt: HostRuntime) -> Result<(), Fail> {
     root.heap("#Blob", b"\0\x04\0\x01\x01\x08\x02\x06\x08")?;
     let root = root.finish()?;
     let lines = "\
-.assembly 'A { .ver 9:9:9:9 }' { .ver 1:0:0:0 }  // 20000001
+.assembly 'A { .ver 9:9:9:9 }' { .hash algorithm 0x00000000 .ver 1:0:0:0 }  // 20000001
 .class private auto ansi '9'.'it\\x27s\\x5c\\x0a'  // 02000001
 .class private auto ansi A.B.'T extends Evil' extends '9'.'it\\x27s\\x5c\\x0a'  // 02000002
   .field private int32 'f  // 04000009'  // 04000001
@@ -223,7 +223,7 @@ fn forged_names_are_quoted(rt: HostRuntime) -> Result<(), Fail> {
 .class private auto ansi 'A.B'  // 02000003
 ";
     let read = "\
-.assembly Q { .ver 1:0:0:0 }  // 20000001
+.assembly Q { .hash algorithm 0x00000000 .ver 1:0:0:0 }  // 20000001
 .class private auto ansi Q.Q  // 02000001
 .class private auto ansi A.B.Q extends Q.Q  // 02000002
   .field private int32 Q  // 04000001
@@ -249,12 +249,12 @@ fn prints_properties_below_their_type_in_any_order(rt: HostRuntime) -> Result<()
   .method public static pinvokeimpl void N.C::M() cil managed  // 06000002
   .event N.C N.C::E  // 14000001
   .property instance int32 N.C::M()  // 17000002
-    .get N.C::get_P of N.C::M  // 18000001
+    .get instance int32 N.C::get_P() of N.C::M  // 18000001
 ";
     let next = "\
 .class private auto ansi '\\x1bD' extends N.C  // 02000003
   .property specialname instance int32 '\\x1bD'::P()  // 17000001
-    .set N.C::M of '\\x1bD'::P  // 18000002
+    .set void N.C::M() of '\\x1bD'::P  // 18000002
 .pinvokeimpl";
     let out = outline_of(&rt, root.as_slice())?;
     assert!(rt; out.as_str().contains(class));
@@ -269,8 +269,131 @@ fn prints_properties_below_their_type_in_any_order(rt: HostRuntime) -> Result<()
 fn gives_no_directive_to_an_accessor_without_a_word(rt: HostRuntime) -> Result<(), Fail> {
     let unknown = [0, 0, 1, 0, 3, 0];
     let root = root_of_properties(rt.alloc(), [[2, 0, 1, 0], [3, 0, 2, 0]], &[unknown])?;
-    let line = "\n{\"token\":\"18000001\",\"text\":\"N.C::get_P of N.C::P\"}\n";
+    let line = "\n{\"token\":\"18000001\",\"text\":\"instance int32 N.C::get_P() of N.C::P\"}\n";
     assert!(rt; json_of(rt.alloc(), root.as_slice())?.as_str().contains(line));
+    Ok(())
+}
+
+/// Blobs: the signature of an integer at 1, and values: one byte at 4 and at 6, two at 8 and at 11, four at 14 and at 19, eight
+/// at 24, the units of `i"é` at 33, four zeros at 40, three bytes at 45, and the signature of a property at 49.
+const VALUES: &[u8] = b"\0\x02\x06\x08\x01\x01\x01\xFB\x02\x41\0\x02\0\x80\x04\xFF\xFF\xFF\xFF\x04\0\0\x80\x3F\x08\xFF\xFF\xFF\xFF\xFF\xFF\xFF\x7F\x06i\0\"\0\xE9\0\x04\0\0\0\0\x03\x01\x02\x03\x03\x28\0\x08";
+
+/// A field for each of these types and values (II.22.9), with its line after `int32 M`.
+const CONSTANTS: &[(u8, u8, &str)] = &[
+    (0x02, 4, "bool(true)"),
+    (0x04, 6, "int8(-5)"),
+    (0x05, 6, "unsigned int8(251)"),
+    (0x03, 8, "char(65)"),
+    (0x06, 11, "int16(-32768)"),
+    (0x07, 11, "unsigned int16(32768)"),
+    (0x08, 14, "int32(-1)"),
+    (0x09, 14, "unsigned int32(4294967295)"),
+    (0x0C, 19, "float32(0x3f800000)"),
+    (0x0A, 24, "int64(9223372036854775807)"),
+    (0x0B, 24, "unsigned int64(9223372036854775807)"),
+    (0x0D, 24, "float64(0x7fffffffffffffff)"),
+    (0x0E, 33, "\"i\\\"\\u00e9\""),
+    (0x0E, 0, "\"\""),
+    (0x12, 40, "nullref"),
+    (0x12, 14, "bytearray(ffffffff)"),
+    (0x08, 45, "bytearray(010203)"),
+    (0x0E, 45, "bytearray(010203)"),
+    (0x18, 14, "bytearray(ffffffff)"),
+    (0x02, 0, "bytearray()"),
+];
+
+/// The rows of Constant are in descending order, and the first field has a second one.
+#[test]
+fn prints_the_constants_of_fields_and_properties(rt: HostRuntime) -> Result<(), Fail> {
+    let mut root = RootBuilder::new(rt.alloc());
+    root.sorted = 0;
+    root.row(0x02, b"\0\0\0\0\x07\0\x05\0\0\0\x01\0\x01\0")?;
+    let mut lines = format!(in rt.alloc(); ".class private auto ansi N.C  // 02000001\n")?;
+    for _ in CONSTANTS {
+        root.row(0x04, b"\x56\0\x09\0\x01\0")?;
+    }
+    root.row(0x0B, b"\x08\0\x06\0\x0E\0")?;
+    for (index, (_, _, text)) in CONSTANTS.iter().enumerate() {
+        let row = index + 1;
+        let (of, blob, _) = CONSTANTS[CONSTANTS.len() - row];
+        let parent = (CONSTANTS.len() - index) as u8 * 4;
+        root.row(0x0B, &[of, 0, parent, 0, blob, 0])?;
+        let line = format!(in rt.alloc(); "  .field public static literal int32 M = {text}  // 040000{row:02x}\n")?;
+        lines.push_str(&line)?;
+    }
+    root.row(0x0B, b"\x08\0\x04\0\x28\0")?;
+    root.row(0x15, b"\x01\0\x01\0")?;
+    root.row(0x17, b"\0\0\x0B\0\x31\0")?;
+    root.heap("#Strings", TEXTS)?;
+    root.heap("#Blob", VALUES)?;
+    lines.push_str("  .property instance int32 N.C::P() = int32(-1)  // 17000001\n")?;
+    let root = root.finish()?;
+    assert_eq!(rt; outline_of(&rt, root.as_slice())?.as_str(), lines.as_str());
+    let json = r#""text":".field public static literal int32 M = \"i\\\"\\u00e9\""}"#;
+    assert!(rt; json_of(rt.alloc(), root.as_slice())?.as_str().contains(json));
+    Ok(())
+}
+
+/// Of the bytes of a value the first 65,536 are printed.
+#[test]
+fn cuts_long_values(rt: HostRuntime) -> Result<(), Fail> {
+    for (of, count, before, text, after) in [
+        (0x08, 65_536, "bytearray(", "61", ")  // 04000001\n"),
+        (0x08, 65_537, "bytearray(", "61", "..)  // 04000001\n"),
+        (0x0E, 65_536, "\"", "\\u6161", "\"  // 04000001\n"),
+        (0x0E, 65_538, "\"", "\\u6161", "..\"  // 04000001\n"),
+    ] {
+        let mut root = RootBuilder::new(rt.alloc());
+        root.row(0x02, b"\0\0\0\0\x07\0\x05\0\0\0\x01\0\x01\0")?;
+        root.row(0x04, b"\x56\0\x09\0\x01\0")?;
+        root.row(0x0B, &[of, 0, 4, 0, 4, 0])?;
+        let mut blobs = Vec::new(rt.alloc());
+        blobs.extend_from_slice(b"\0\x02\x06\x08")?;
+        blobs.extend_from_slice(&(0xC000_0000_u32 | count).to_be_bytes())?;
+        for _ in 0..count {
+            blobs.push(b'a')?;
+        }
+        root.heap("#Strings", TEXTS)?;
+        root.heap("#Blob", &blobs)?;
+        let times = if of == 0x0E { 32_768 } else { 65_536 };
+        let mut line = format!(in rt.alloc(); "  .field public static literal int32 M = {before}")?;
+        for _ in 0..times {
+            line.push_str(text)?;
+        }
+        line.push_str(after)?;
+        assert!(rt; outline_of(&rt, &root.finish()?)?.as_str().ends_with(line.as_str()));
+    }
+    Ok(())
+}
+
+/// A type with a layout, fields with an offset, an address and a descriptor, permission sets, and a module with a GUID.
+#[test]
+fn prints_layouts_addresses_and_permissions(rt: HostRuntime) -> Result<(), Fail> {
+    let mut root = RootBuilder::new(rt.alloc());
+    root.sorted = 0;
+    root.row(0x00, b"\0\0\x15\0\x01\0\0\0\0\0")?;
+    root.row(0x02, b"\x10\0\0\0\x07\0\x05\0\0\0\x01\0\x01\0")?;
+    root.row(0x04, b"\x06\x01\x09\0\x01\0")?;
+    root.row(0x04, b"\x06\x10\x0B\0\x01\0")?;
+    root.row(0x0D, b"\x04\0\x2D\0")?;
+    root.row(0x0E, b"\x06\0\x04\0\x2D\0")?;
+    root.row(0x0E, b"\x10\0\x04\0\x04\0")?;
+    root.row(0x0F, b"\x08\0\x10\0\0\0\x01\0")?;
+    root.row(0x10, b"\x04\0\0\0\x02\0")?;
+    root.row(0x1D, b"\x50\x20\0\0\x01\0")?;
+    root.heap("#Strings", TEXTS)?;
+    root.heap("#Blob", VALUES)?;
+    root.heap("#GUID", b"\x32\x58\x1E\xFC\xF6\x60\xEC\x47\x89\x7C\xA8\xAD\xDE\x90\xF8\x7F")?;
+    let root = root.finish()?;
+    let lines = "\
+.module k.dll /* {fc1e5832-60f6-47ec-897c-a8adde90f87f} */  // 00000001
+.class private explicit ansi N.C { .pack 8 .size 16 }  // 02000001
+  .field public int32 M at D_00002050  // 04000001
+  .field [4] public marshal(010203) int32 P  // 04000002
+.permissionset linkcheck = (010203) of N.C  // 0e000001
+.permissionset 16 = (01) of N.C  // 0e000002
+";
+    assert_eq!(rt; outline_of(&rt, root.as_slice())?.as_str(), lines);
     Ok(())
 }
 
@@ -304,10 +427,55 @@ fn names_parents_that_are_no_types(rt: HostRuntime) -> Result<(), Fail> {
 .class private auto ansi '<M>'  // 02000001
 .class public auto ansi beforefieldinit N.C  // 02000002
   .method public static void N.C::M() cil managed  // 06000001
-.custom N.C::M = (0100) of 02000002  // 0c000001
-.custom k.dll::M = (0100) of 02000002  // 0c000002
+.custom void N.C::M() = (0100) of N.C  // 0c000001
+.custom void k.dll::M() = (0100) of N.C  // 0c000002
 ";
     assert_eq!(rt; outline_of(&rt, root.as_slice())?.as_str(), lines);
+    Ok(())
+}
+
+/// Blobs: `instance int32 ()` at 1, a field of an integer at 5, and `vararg void (int32, ..., string)` at 8.
+const REFERRED: &[u8] = b"\0\x03\x20\0\x08\x02\x06\x08\x06\x05\x02\x01\x08\x41\x0E";
+
+/// Types of an assembly, within another and of a module, and one without a scope; and members of two of them and of the
+/// module (II.22.25, II.22.38).
+fn root_of_references(alloc: Global) -> Result<Vec<u8>, Fail> {
+    let mut root = RootBuilder::new(alloc);
+    root.row(0x01, b"\x06\0\x07\0\x05\0")?;
+    root.row(0x01, b"\x07\0\x09\0\0\0")?;
+    root.row(0x01, b"\x05\0\x07\0\0\0")?;
+    root.row(0x01, b"\0\0\x13\0\0\0")?;
+    root.row(0x0A, b"\x11\0\x1B\0\x01\0")?;
+    root.row(0x0A, b"\x19\0\x0B\0\x05\0")?;
+    root.row(0x0A, b"\x0A\0\x09\0\x08\0")?;
+    root.row(0x1A, b"\x15\0")?;
+    root.row(0x23, b"\x01\0\0\0\0\0\0\0\0\0\0\0\0\0\x13\0\0\0\0\0")?;
+    root.heap("#Strings", TEXTS)?;
+    root.heap("#Blob", REFERRED)?;
+    Ok(root.finish()?)
+}
+
+#[test]
+fn prints_references_with_their_scopes(rt: HostRuntime) -> Result<(), Fail> {
+    let root = root_of_references(rt.alloc())?;
+    let lines = "\
+.module extern k.dll  // 1a000001
+.typeref [E]N.C  // 01000001
+.typeref [E]N.C/M  // 01000002
+.typeref [.module k.dll]C  // 01000003
+.typeref E  // 01000004
+.memberref instance int32 N.C/M::.ctor() of [E]  // 0a000001
+.memberref int32 C::P of [.module k.dll]  // 0a000002
+.memberref vararg void k.dll::M(int32, ..., string)  // 0a000003
+";
+    let Ok(view) = open(root.as_slice(), Input::BareRoot) else {
+        return Err("a broken root".into());
+    };
+    let mut out = Vec::new(rt.alloc());
+    let mut printer = Printer::new(rt.alloc(), Form::Text, &mut out);
+    print_refs(rt.alloc(), &view, &mut printer);
+    assert!(rt; printer.finish().1.is_ok());
+    assert_eq!(rt; str::from_utf8(out.as_slice()), Ok(lines));
     Ok(())
 }
 
@@ -342,5 +510,44 @@ fn names_enclosing_types_if_they_are_in_order(rt: HostRuntime) -> Result<(), Fai
         let root = root_of_nested(rt.alloc(), rows)?;
         assert_eq!(rt; outline_of(&rt, root.as_slice())?.as_str(), lines);
     }
+    Ok(())
+}
+
+/// Texts: `<M>` at 1, `N` at 5, `C` at 7, `E` at 9, `.ctor` at 11, `System` at 17, `Enum` at 24, `Type` at 29, `value__` at 34
+/// and `A` at 42.
+const ATTRIBUTE_TEXTS: &[u8] =
+    b"\0<M>\0N\0C\0E\0.ctor\0System\0Enum\0Type\0value__\0A\0";
+
+/// Blobs: the types of the fields of an enum at 1 and 5; a constructor with parameters of this enum, of an array of strings, of
+/// System.Type and of an object at 8; a value of it at 19, and two bytes at 54.
+const ATTRIBUTE_BLOBS: &[u8] = b"\0\x03\x06\x11\x0C\x02\x06\x04\x0A\x20\x04\x01\x11\x0C\x1D\x0E\x12\x09\x1C\
+    \x22\x01\0\xFB\x02\0\0\0\x01a\xFF\x03N.C\x0E\x02x\"\x02\0\x54\x02\x01P\x01\x53\x1D\x08\x01F\xFF\xFF\xFF\xFF\
+    \x02\x01\0";
+
+/// A value that fits its constructor is printed as text (II.21, II.22.10), and any other one as bytes. An enum has the type of
+/// its instance field (II.14.3).
+#[test]
+fn writes_the_values_of_attributes(rt: HostRuntime) -> Result<(), Fail> {
+    let mut root = RootBuilder::new(rt.alloc());
+    root.row(0x01, b"\0\0\x18\0\x11\0")?;
+    root.row(0x01, b"\0\0\x1D\0\x11\0")?;
+    root.row(0x02, b"\0\0\0\0\x01\0\0\0\0\0\x01\0\x01\0")?;
+    root.row(0x02, b"\x01\0\x10\0\x07\0\x05\0\0\0\x01\0\x01\0")?;
+    root.row(0x02, b"\x01\x01\0\0\x09\0\x05\0\x05\0\x01\0\x01\0")?;
+    root.row(0x04, b"\x56\0\x2A\0\x01\0")?;
+    root.row(0x04, b"\x06\x06\x22\0\x05\0")?;
+    root.row(0x0A, b"\x10\0\x0B\0\x08\0")?;
+    root.row(0x0C, b"\x43\0\x0B\0\x13\0")?;
+    root.row(0x0C, b"\x43\0\x0B\0\x36\0")?;
+    root.heap("#Strings", ATTRIBUTE_TEXTS)?;
+    root.heap("#Blob", ATTRIBUTE_BLOBS)?;
+    let root = root.finish()?;
+    let lines = "\
+.custom instance void N.C::.ctor(valuetype N.E, string[], class System.Type, object) = { int8(-5) string[2](\"a\" nullref) type(\"N.C\") object(string(\"x\\x22\")) \
+property bool \"P\" = bool(true) field int32[] \"F\" = int32[](nullref) } of N.C  // 0c000001
+.custom instance void N.C::.ctor(valuetype N.E, string[], class System.Type, object) = (0100) of N.C  // 0c000002
+";
+    let printed = outline_of(&rt, root.as_slice())?;
+    assert!(rt; printed.as_str().ends_with(lines), "{printed}");
     Ok(())
 }

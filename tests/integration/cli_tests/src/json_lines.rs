@@ -7,7 +7,7 @@ use cli_faults::code_of_number;
 use cli_input::Input;
 use cli_lines::{Form, Printer};
 use cli_print::{print_explanation, print_verdict};
-use cli_runs::{Ended, Listing, Naming, Report, Request, Verdict, report_on};
+use cli_runs::{Directories, Ended, Listing, Naming, Report, Request, Verdict, report_on};
 use packed::{Fault, FaultCode};
 use sample_roots::{ONE_MODULE, TWO_TYPES, image, write_at};
 use std::alloc::Global;
@@ -21,7 +21,14 @@ fn rows() -> Report<'static> {
 
 /// What is printed of bytes with this name; nothing if they break a rule, or a token names nothing.
 fn report_of(alloc: Global, report: Report<'_>, naming: Naming, input: Input, bytes: &[u8]) -> Result<String, Fail> {
-    let request = Request { report, form: Form::JsonLines, naming, input, budget: None };
+    let request = Request {
+        report,
+        form: Form::JsonLines,
+        naming,
+        directories: Directories::Refused,
+        input,
+        budget: None,
+    };
     let mut out = Vec::new(alloc);
     let Ok(ended) = report_on(alloc, &request, "a b\n.dll", bytes, &mut out) else {
         return Err("no output".into());

@@ -6,7 +6,7 @@ use cli_faults::Failure;
 use cli_input::Input;
 use cli_lines::{Form, Printer};
 use cli_where::{Found, print_where};
-use sample_roots::{NAMES_SHARED, ONE_MODULE, RootBuilder, TWO_TYPES, image};
+use sample_roots::{NAMES_SHARED, ONE_MODULE, RootBuilder, TWO_TYPES, image, write_at};
 use std::alloc::Global;
 use std::fs;
 use std::test::Fail;
@@ -544,5 +544,33 @@ fn prints_a_user_string_that_needs_padding(rt: HostRuntime) -> Result<(), Fail> 
     let (_, out, _) = answer(&rt, &["clim", "strings", "--bare", "padded.root"])?;
     assert_eq!(rt; out.as_str(), "70000001 AB\n");
     fs::remove_file(&rt, "padded.root")?;
+    Ok(())
+}
+
+/// A stream of another name than those of the standard has a line, as far as the root has its bytes: it may overlap others, be
+/// empty, or end past the root (II.24.2.2).
+#[test]
+fn prints_streams_of_other_names(rt: HostRuntime) -> Result<(), Fail> {
+    let mut root = RootBuilder::new(rt.alloc());
+    root.heap("#X", b"abcd")?;
+    root.heap("#\"", b"")?;
+    let mut root = root.finish()?;
+    let Some(bytes) = root.as_slice().windows(4).position(|it| it == b"abcd".as_slice()) else {
+        return Err("no stream".into());
+    };
+    let Some(name) = root.as_slice().windows(4).position(|it| it == b"#X\0\0".as_slice()) else {
+        return Err("no header".into());
+    };
+    let end = root.len();
+    for (start, size, shown) in [(bytes, 4_u32, 4), (0, 1 << 20, end), (bytes, 1 << 31, end - bytes), (end, 4, 0), (end - 1, 9, 1), (bytes, 0, 0)] {
+        write_at(&mut root, name - 8, &(start as u32).to_le_bytes());
+        write_at(&mut root, name - 4, &size.to_le_bytes());
+        let line = format!(in rt.alloc(); "\n{start} {shown} stream #X\n")?;
+        for at in 0..end + 2 {
+            let (_, text) = printed(&rt, true, &root, at as u64)?;
+            assert_eq!(rt; text.contains(line.as_str()), start <= at && at < start + shown, "{at} {text}");
+            assert!(rt; !text.contains("stream #\\x22\n"), "{text}");
+        }
+    }
     Ok(())
 }

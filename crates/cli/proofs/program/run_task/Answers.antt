@@ -1,4 +1,4 @@
-use Rattle.std.proofs.Common.{◌⊎◌, inr, subst, sym}
+use Rattle.std.proofs.Common.{◌⊎◌, inl, inr, subst, sym}
 use Rattle.std.specs.Prelude.{option_map}
 use Rattle.cli_input.specs.declared.opened.Input.{Input}
 use Rattle.cli_roots.specs.Embedded.{IsEmbedding, WarnsOf}
@@ -8,6 +8,14 @@ use Rattle.cli.specs.Runs.{IsRunOf, MayWarn}
 use Rattle.cli.specs.declared.task.Task.{Task}
 use Rattle.cli.proofs.EmbedRuns.{embed_run}
 use Rattle.cli.proofs.program.run_task.Goals as goal
+
+pub returns-in-OnFiles-clause-quiet : goal.returns-in-OnFiles-clause-quiet
+returns-in-OnFiles-clause-quiet g c =
+    λ success. elim (c.run_files.ensures.quiet success) [ inl same ↦ inl same | inr walked ↦ inr (subst MayWarn (sym c.in-OnFiles.is) walked) ]
+
+pub returns-in-OnList-clause-quiet : goal.returns-in-OnList-clause-quiet
+returns-in-OnList-clause-quiet g c =
+    λ success. elim (c.run_listed.ensures.quiet success) [ inl same ↦ inl same | inr walked ↦ inr (subst MayWarn (sym c.in-OnList.is) walked) ]
 
 pub returns-in-Rewrite-clause-run : goal.returns-in-Rewrite-clause-run
 returns-in-Rewrite-clause-run g c =
@@ -34,3 +42,8 @@ returns-in-Embed-clause-run g c =
 
 pub returns-in-Embed-clause-quiet : goal.returns-in-Embed-clause-quiet
 returns-in-Embed-clause-quiet g c = λ success. inr (subst MayWarn (sym c.in-Embed.is) tt)
+
+pub returns-in-Extract-clause-run : goal.returns-in-Extract-clause-run
+returns-in-Extract-clause-run g c =
+    subst (λ (task : Task). IsRunOf g.W.Write.contents c.args.out.now c.extract_file.new.out g.R.File.Write.contents task c.args.ask.now c.status-in-Extract.result) (sym c.in-Extract.is)
+    (c.extract_file.result, c.extract_file.ensures, c.status-in-Extract.ensures.status)

@@ -5,9 +5,9 @@ use Rattle.std.proofs.lemmas.Result.{err_from_is_err_and}
 use Rattle.std.specs.declared.num.ParseIntError.{ParseIntError}
 use Rattle.std.specs.Str.Parse.{ExplainsUnsignedError, HasUnsignedDigitsIfOk, ParsesUnsigned}
 use Rattle.clap.specs.declared.error.Error.{Error}
-use Rattle.clap.specs.Words.{App, HasKind, HasMatchesOf, Row, Text, fault_of, first_of, found_of, is_simple, is_simple_and_free, one_of, rows_of, subcommand_name_of, subcommand_of, subcommand_rows_of}
+use Rattle.clap.specs.Words.{App, HasKind, HasMatchesOf, Row, Text, fault_of, found_of, is_simple, is_simple_and_free, one_of, rows_of, subcommand_name_of, subcommand_of, subcommand_rows_of}
 use Rattle.clap.specs.declared.ArgMatches.{ArgMatches}
-use Rattle.cli_arguments.specs.Asked.{AreParts}
+use Rattle.cli_arguments.specs.Asked.{AreParts, TakesList}
 use Rattle.cli_arguments.specs.CommandLine.{clim}
 use Rattle.cli_arguments.proofs.KnownNames.{is_known}
 use Rattle.cli_arguments.proofs.Readings.{count_is, named_back, rows_met}
@@ -75,8 +75,8 @@ returns-clause-given c =
           (λ t r. ParsesUnsigned 64 10 t r × ExplainsUnsignedError 10 t r × HasUnsignedDigitsIfOk t r) (λ t r gives. gives.0) (one_of (codes "budget") rows) c.get_one.result
           (λ none. c.get_one.ensures.none (one_text-rows found (codes "budget") ∙ none))
           (λ t is. c.get_one.ensures.value t (one_text-rows found (codes "budget") ∙ is));
-      parts = subst (λ (words : List Text). AreParts c.unwrap-subcommand.result (first_of (codes "part") rows) words (map (λ word. word.now) c.part_of-part.new.files.items) (option_map (λ word. word.now) c.part_of-part.result))
-          c.in_ok-files.ensures c.part_of-part.ensures;
+      parts = subst (λ (words : List Text). AreParts c.unwrap-subcommand.result (TakesList rows) words (map (λ word. word.now) c.take_part-part.new.words.items) (option_map (λ word. word.now) c.take_part-part.result))
+          c.in_ok-files.ensures c.take_part-part.ensures;
       json = c.flag-2.ensures;
       faults = c.in_ok-list-3.ensures;
       files_from = c.get_str-3.ensures ∙ first_value-rows found (codes "files-from");
@@ -87,4 +87,6 @@ returns-clause-given c =
       locates = c.flag-7.ensures;
       root = c.get_str-4.ensures ∙ first_value-rows found (codes "root");
       unsigned = c.flag-8.ensures;
+      recursive = c.flag-9.ensures;
+      extract = c.get_str-5.ensures ∙ first_value-rows found (codes "extract");
     }

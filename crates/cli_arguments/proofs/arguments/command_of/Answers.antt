@@ -9,9 +9,9 @@ use Rattle.cli_arguments.proofs.arguments.command_of.Goals as goal
 
 pub loop-argument-init : goal.loop-argument-init
 loop-argument-init c = (
-  ap app_of_fields c.after_help-command.ensures ∙ ap app_of_fields c.about.ensures ∙ c.new.ensures.app
+  ap app_of_fields c.after_long_help-command.ensures ∙ ap app_of_fields c.about.ensures ∙ c.new.ensures.app
       ∙ ap (λ (s : Shape). new_app s.name) c.usage_of-usage.ensures,
-  rw (c.after_help-command.ensures, c.about.ensures) c.new.ensures.local,
+  rw (c.after_long_help-command.ensures, c.about.ensures) c.new.ensures.local,
 )
 
 pub loop-argument-preserved : goal.loop-argument-preserved

@@ -1,13 +1,15 @@
 use Rattle.std.proofs.Common.{string_bytes, ◌++◌, ◌∙◌, Option, refl, ap, subst, sym}
 use Rattle.std.specs.Prelude.{decimal}
 use Rattle.table_schema.specs.declared.token.Token.{Token}
+use Rattle.table_schema.specs.Tokens.{hexadecimal}
 use Rattle.metadata.specs.Metadata.{cell_in}
-use Rattle.cli_lines.specs.Texts.{escaped_bytes}
 use Rattle.full_names.specs.declared.quoted.NameKind.TheVariants.{Dotted}
 use Rattle.full_names.specs.Quoted.{name_text}
 use Rattle.cli_declarations.specs.Parts as part
-use Rattle.cli_declarations.specs.Parts.{IsNameAfter, IsPartText, Part, bytes_text, cut_text, key_text, number_of, quoted_text, token_text_after}
+use Rattle.cli_declarations.specs.Parts.{IsNameAfter, IsPartText, Part, bytes_text, cut_text, guid_text_in_comment, key_text, number_of, quoted_text, token_text_after, IsReferenceAfter}
 use Rattle.cli_declarations.specs.Shown.{shown}
+use Rattle.cli_values.specs.Actions.{action_text}
+use Rattle.cli_values.specs.Constants.{bytes_text as value_bytes_text}
 use Rattle.cli_declarations.specs.Texts.{Gains}
 use Rattle.declarations.specs.FlagWords.{words_of, words_text}
 use Rattle.cli_declarations.proofs.PieceLemmas.{on_ok, part_gains}
@@ -79,12 +81,12 @@ returns-in-NameAfter c = λ model is.
     (λ gains. subst (λ (p : Part). Gains (IsPartText model c.args.table c.args.row p) before after) (sym (ap shown c.in-NameAfter.is))
     (subst (λ (r : Option Token). Gains (IsNameAfter model word r) before after) (c.reference-in-NameAfter.ensures model is) gains))
 
-pub returns-in-Hex : goal.returns-in-Hex
-returns-in-Hex c = λ model is.
+pub returns-in-FirstBytes : goal.returns-in-FirstBytes
+returns-in-FirstBytes c = λ model is.
     let before = string_bytes c.args.declared.now.text in
-    on_ok c.push_hexadecimal.result c.push_hexadecimal.ensures
-    (λ e. part_gains model c.args.table c.args.row c.args.piece (part.hex c.in-Hex.cell) _ _ _ (ap shown c.in-Hex.is) refl
-    (e ∙ ap (λ xs. before ++ escaped_bytes xs) (c.bytes-in-Hex.ensures model is)))
+    on_ok c.push_value_bytes.result c.push_value_bytes.ensures
+    (λ e. part_gains model c.args.table c.args.row c.args.piece (part.first_bytes c.in-FirstBytes.cell) _ _ _ (ap shown c.in-FirstBytes.is) refl
+    (e ∙ ap (λ xs. before ++ value_bytes_text xs) (c.bytes-in-FirstBytes.ensures model is)))
 
 pub returns-in-TokenAfter : goal.returns-in-TokenAfter
 returns-in-TokenAfter c = λ model is.
@@ -107,3 +109,60 @@ returns-in-Declaration c = λ model is.
     let after = string_bytes c.push_declaration.new.declared.text in
     on_ok c.push_declaration.result (c.push_declaration.ensures model is)
     (λ gains. subst (λ (p : Part). Gains (IsPartText model c.args.table c.args.row p) before after) (sym (ap shown c.in-Declaration.is)) gains)
+
+pub returns-in-EightDigits : goal.returns-in-EightDigits
+returns-in-EightDigits c = λ model is.
+    let before = string_bytes c.args.declared.now.text in
+    on_ok c.push_eight_digits.result c.push_eight_digits.ensures
+    (λ e. part_gains model c.args.table c.args.row c.args.piece (part.eight_digits c.in-EightDigits.cell) _ _ _ (ap shown c.in-EightDigits.is) refl
+    (e ∙ ap (λ n. before ++ hexadecimal 8 n) (c.number-number-in-EightDigits.ensures model is)))
+
+pub returns-in-GuidComment : goal.returns-in-GuidComment
+returns-in-GuidComment c = λ model is.
+    let before = string_bytes c.args.declared.now.text in
+    on_ok c.push_guid_comment.result c.push_guid_comment.ensures
+    (λ e. part_gains model c.args.table c.args.row c.args.piece (part.guid_comment c.in-GuidComment.cell) _ _ _ (ap shown c.in-GuidComment.is) refl
+    (e ∙ ap (λ g. before ++ guid_text_in_comment g) (c.guid.ensures model is)))
+
+pub returns-in-Action : goal.returns-in-Action
+returns-in-Action c = λ model is.
+    let before = string_bytes c.args.declared.now.text in
+    on_ok c.push_action.result c.push_action.ensures
+    (λ e. part_gains model c.args.table c.args.row c.args.piece (part.action c.in-Action.cell) _ _ _ (ap shown c.in-Action.is) refl
+    (e ∙ ap (λ n. before ++ action_text n) (c.number-action.ensures model is)))
+
+pub returns-in-Linked : goal.returns-in-Linked
+returns-in-Linked c = λ model is.
+    on_ok c.push_linked.result (c.push_linked.ensures model is)
+    (λ e. part_gains model c.args.table c.args.row c.args.piece (part.linked_by c.in-Linked.link) _ _ _ (ap shown c.in-Linked.is) refl e)
+
+pub returns-in-OwnReference : goal.returns-in-OwnReference
+returns-in-OwnReference c = λ model is.
+    let before = string_bytes c.args.declared.now.text in
+    let after = string_bytes c.push_reference.new.declared.text in
+    on_ok c.push_reference.result (c.push_reference.ensures model is)
+    (λ gains. subst (λ (p : Part). Gains (IsPartText model c.args.table c.args.row p) before after) (sym (ap shown c.in-OwnReference.is)) gains)
+
+pub returns-in-ReferenceAfter : goal.returns-in-ReferenceAfter
+returns-in-ReferenceAfter c = λ model is.
+    let before = string_bytes c.args.declared.now.text in
+    let after = string_bytes c.push_reference_after.new.declared.text in
+    let word = c.in-ReferenceAfter.word.now in
+    on_ok c.push_reference_after.result (c.push_reference_after.ensures model is)
+    (λ gains. subst (λ (p : Part). Gains (IsPartText model c.args.table c.args.row p) before after) (sym (ap shown c.in-ReferenceAfter.is))
+    (subst (λ (r : Option Token). Gains (IsReferenceAfter model word r) before after) (c.reference-in-ReferenceAfter.ensures model is) gains))
+
+pub returns-in-ScopeAfter : goal.returns-in-ScopeAfter
+returns-in-ScopeAfter c = λ model is.
+    let before = string_bytes c.args.declared.now.text in
+    let after = string_bytes c.push_scope.new.declared.text in
+    on_ok c.push_scope.result (c.push_scope.ensures model is)
+    (λ gains. subst (λ (p : Part). Gains (IsPartText model c.args.table c.args.row p) before after) (sym (ap shown c.in-ScopeAfter.is))
+    (gains.0, (c.scope_of.result, c.scope_of.ensures model is, gains.1), gains.2))
+
+pub returns-in-AttributeValue : goal.returns-in-AttributeValue
+returns-in-AttributeValue c = λ model is.
+    let before = string_bytes c.args.declared.now.text in
+    let after = string_bytes c.push_attribute_at.new.declared.text in
+    on_ok c.push_attribute_at.result (c.push_attribute_at.ensures model is)
+    (λ gains. subst (λ (p : Part). Gains (IsPartText model c.args.table c.args.row p) before after) (sym (ap shown c.in-AttributeValue.is)) gains)

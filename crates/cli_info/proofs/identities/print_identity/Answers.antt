@@ -1,15 +1,15 @@
-use Rattle.std.proofs.Common.{◌≡◌, ◌∙◌, ◌+◌, ℕ, [], ◌∷◌, List, codes, ap, arith, refl, subst}
+use Rattle.std.proofs.Common.{◌≡◌, ◌∙◌, ◌+◌, ℕ, [], ◌∷◌, ◌++◌, List, codes, ap, arith, refl, subst}
 use Rattle.metadata.specs.Metadata.{cell_in}
-use Rattle.cli_lines.specs.Lines.{Part, word, field, number, plain, text}
+use Rattle.cli_lines.specs.Lines.{Part, word, member, text}
 use Rattle.cli_lines.specs.Printed.{Prints}
 use Rattle.cli_lines.specs.declared.names.Name.TheVariants as name
 use Rattle.cli_declarations.specs.Parts.{bytes_of, number_of, text_of}
-use Rattle.cli_info.specs.Identities.{culture_text, first_cell, identity_line, table_of, token_text}
+use Rattle.cli_info.specs.Identities.{culture_text, first_cell, identity_line, shown_part, table_of, token_part, version_parts}
 use Rattle.cli_info.proofs.identities.print_identity.Goals as goal
 
-pub returns-in-Ok : goal.returns-in-Ok
+pub returns : goal.returns
 unfolding identity_line
-returns-in-Ok g c = λ model is.
+returns g c = λ model is.
     let kind = c.args.kind in
     let row = c.args.row in
     let own = c.columns-table.result.0 in
@@ -23,18 +23,14 @@ returns-in-Ok g c = λ model is.
     let flags = c.number-flags.ensures model is ∙ ap number_of (at 4 (from + 4) refl) in
     let key = c.bytes-key.ensures model is ∙ ap bytes_of (at 5 (from + 5) refl) in
     let own_name = c.text-own_name.ensures model is ∙ ap text_of (at 6 (from + 6) refl) in
-    let culture = c.culture_text.ensures ∙ ap culture_text (c.text-culture.ensures model is ∙ ap text_of (at 7 (from + 7) refl)) in
-    let token = c.deref.ensures ∙ c.in-Ok.ensures ∙ (λ i. token_text kind (flags i) (key i)) in
-    subst (λ (line : List Part). Prints c.args.out.now c.line.new.self (line ∷ []))
+    let culture = c.culture_text-culture.ensures ∙ ap culture_text (c.text.ensures model is ∙ ap text_of (at 7 (from + 7) refl)) in
+    let more = c.parts_follow.ensures.more in
+    subst (λ (line : List Part). Prints c.args.out.now c.end.new.self (line ∷ []))
     (λ i.
-    word (c.label-name.ensures.word i) ∷ field (c.label-name.ensures.name i) (text (own_name i))
-    ∷ word (codes ", Version=") ∷ field name.Major (number (major i))
-    ∷ word (codes ".") ∷ field name.Minor (number (minor i))
-    ∷ word (codes ".") ∷ field name.Build (number (build i))
-    ∷ word (codes ".") ∷ field name.Revision (number (revision i))
-    ∷ word (codes ", Culture=") ∷ field name.Culture (text (culture i))
-    ∷ word (codes ", PublicKeyToken=") ∷ field name.Token (plain (token i)) ∷ [])
-    c.line.ensures
-
-pub returns-in-Err : goal.returns-in-Err
-returns-in-Err g c = λ model is. c.fail.ensures.lines _
+    word (c.label-name.ensures.word i) ∷ member (c.label-name.ensures.name i) (text (own_name i)) ∷ shown_part (own_name i)
+    ∷ version_parts (major i) (minor i) (build i) (revision i)
+    ++ word (codes ", Culture=") ∷ member name.Culture (text (culture i)) ∷ shown_part (culture i)
+    ∷ word (codes ", PublicKeyToken=") ∷ token_part kind (flags i) (key i) ∷ [])
+    (c.parts_follow.ensures.line _ _ _ _ _ _ c.begin.ensures
+    (more _ _ _ _ _ c.print_shown.ensures (more _ _ _ _ _ c.print_version.ensures (more _ _ _ _ _ c.part.ensures
+    (more _ _ _ _ _ c.part-2.ensures (more _ _ _ _ _ c.print_shown-2.ensures (more _ _ _ _ _ c.part-3.ensures c.print_token.ensures)))))) c.end.ensures)

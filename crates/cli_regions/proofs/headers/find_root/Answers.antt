@@ -17,5 +17,6 @@ find_streams-requires-clause-small c = let is = c.roots_are_read.ensures.sound c
 
 pub returns : goal.returns
 returns c =
-    and_then (and_then c.find_root_header.ensures (rw (c.headers.ensures, c.requires.directory) at c.find_stream_headers.ensures))
+    and_then (and_then (and_then c.find_root_header.ensures (rw (c.headers.ensures, c.requires.directory) at c.find_stream_headers.ensures))
+    (rw (c.headers-2.ensures, c.requires.directory) at c.find_other_streams.ensures))
     (rw c.requires.directory at c.find_streams.ensures)

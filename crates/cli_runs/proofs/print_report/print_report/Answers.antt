@@ -1,4 +1,4 @@
-use Rattle.cli_runs.proofs.Printings.{info_ended, listing_ended, root_ended}
+use Rattle.cli_runs.proofs.Printings.{info_ended, listing_ended, resources_ended, root_ended}
 use Rattle.cli_runs.proofs.print_report.print_report.Goals as goal
 
 pub returns-in-Root : goal.returns-in-Root
@@ -18,3 +18,10 @@ returns-in-Listing g c =
     rw (c.in-Listing.is, c.ended_by-in-Listing.ensures)
     (listing_ended c.args.request.now c.args.name.now c.args.bytes.now c.args.out.now c.print_listing.new.out _ c.print_listing.result
     c.print_listing.ensures.first_error c.print_listing.ensures.untouched c.print_listing.ensures.printed)
+
+pub returns-in-Resources : goal.returns-in-Resources
+returns-in-Resources g c =
+    rw (c.in-Resources.is, c.ended_at.ensures)
+    (resources_ended c.args.request.now c.args.name.now c.args.bytes.now c.args.out.now c.print_resources.new.out c.print_resources.result
+    c.print_resources.ensures.first_error c.print_resources.ensures.untouched c.print_resources.ensures.whole c.print_resources.ensures.located
+    c.print_resources.ensures.printed)

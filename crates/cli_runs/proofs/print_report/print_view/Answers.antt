@@ -9,3 +9,6 @@ returns-in-Types g c model is = rw c.in-Types.is (c.print_types.ensures model is
 
 pub returns-in-Outline : goal.returns-in-Outline
 returns-in-Outline g c model is = rw c.in-Outline.is (declared c.args.out.now c.print_outline.new.out model _ (c.print_outline.ensures model is))
+
+pub returns-in-Refs : goal.returns-in-Refs
+returns-in-Refs g c model is = rw c.in-Refs.is (declared c.args.out.now c.print_refs.new.out model _ (c.print_refs.ensures model is))

@@ -9,7 +9,7 @@ use Rattle.declarations.proofs.ParamExists.{declared_texts}
 use Rattle.declarations.proofs.method_text.put_declaration.Goals as goal
 
 pub returns : goal.returns
-returns g c = λ model shown form declares params none whole.
+returns g c = λ model shown signature declares params text named none whole.
     let sink = c.args.sink.now in
     let of = sink.of in
     let took = g.W.Write.write_str_gives in
@@ -17,7 +17,7 @@ returns g c = λ model shown form declares params none whole.
     received _ took (λ s. s.writer.now)
     (λ s. (s.ended ≡ None) × (s.params.now ≡ sink.params.now) × (s.of ≡ of) × (s.writer.ghost_name ≡ sink.writer.ghost_name))
     (λ s. s.writer.ghost_name ≡ sink.writer.ghost_name) (λ s. IsWhole s.ended) (IsDeclaredPiece model of.class of.name.now of.first of.past)
-    (λ ps. ⊤) (λ p ps fit. tt) (λ ps fit. declared_texts model valid of.class of.name.now of.first of.past ps) (λ s kept. kept.3)
+    (λ ps. ⊤) (λ p ps fit. tt) (λ ps fit. declared_texts model valid of.class (text, named) of.name.now of.first of.past ps) (λ s kept. kept.3)
     (λ s p t call kept. let gave = call.0 refl in
     let read = subst (λ (d : Declared). AreParams model d.first d.past s.params.now.rows.items) (sym kept.2) (subst (λ q. AreParams model of.first of.past q.rows.items) (sym kept.1) params) in
     let did = gave.4 model (subst (λ q. g.S.ReadMetadata.shows q.source.now model) (sym kept.1) shown) read in (
@@ -25,4 +25,4 @@ returns g c = λ model shown form declares params none whole.
       subst (λ (d : Declared). Wrote took s.writer.now (IsDeclaredPiece model d.class d.name.now d.first d.past p) t.writer.now) kept.2 did,
     ))
     (λ s p t call kept done. let gave = call.1 refl done in (gave.0 ∙ kept.3, gave.1))
-    (c.write_declaration.ensures.text form declares) tt (none, refl, refl, refl) whole
+    (c.write_declaration.ensures.text signature declares) tt (none, refl, refl, refl) whole

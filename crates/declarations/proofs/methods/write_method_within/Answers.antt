@@ -11,6 +11,7 @@ use Rattle.metadata.specs.Lookups.{HasRow}
 use Rattle.metadata.specs.Metadata.{cell_in}
 use Rattle.declarations.specs.Declarations.{IsDeclaration}
 use Rattle.full_names.proofs.PieceLemmas.{encoded_in, held_in, on_wrote}
+use Rattle.declarations.proofs.ClassNames.{type_named}
 use Rattle.declarations.proofs.methods.write_method_within.Goals as goal
 
 pub returns : goal.returns
@@ -23,7 +24,8 @@ returns g c = record {
       let held = held_in kind.MethodDef (method_body method) (subst (λ (x : Cell). IsHeld (column.Signature kind.MethodDef) x) is ((c.holds_one.ensures.valid model shown).cells MethodDef c.args.row 4 there (omega arith)).held) in
       let encodes = encoded_in kind.MethodDef c.in_ok-bytes.bytes (cell_in model MethodDef c.args.row 4) (method_body method) (λ other h e. c.shortest_encodes.ensures kind.MethodDef other h e) (c.in_ok-bytes.ensures model shown) is held.0 held.1 in
       let bytes : Encodes kind.MethodDef (method_body method) c.bytes_of.result.now = rw c.bytes_of.ensures encodes in
-      on_wrote g.W.Write.write_str_gives _ (IsDeclaration model c.args.row method) _ _ c.write_declared.result (c.write_declared.ensures model shown method (inl bytes))
+      let of = type_named model (c.holds_one.ensures.valid model shown) c.type_of_method.result in
+      on_wrote g.W.Write.write_str_gives _ (IsDeclaration model c.args.row method) _ _ c.write_declared.result (c.write_declared.ensures model shown (method_body method) (inl bytes) of.0 of.1)
       (λ text pieces. record {
         class = c.type_of_method.result;
         owner = c.type_of_method.ensures.sound model shown;

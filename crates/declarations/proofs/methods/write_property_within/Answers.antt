@@ -1,4 +1,4 @@
-use Rattle.std.proofs.Common.{arith, refl, subst, inr}
+use Rattle.std.proofs.Common.{arith, refl, subst, inl, inr}
 use Rattle.table_schema.specs.declared.table.TableId.TheVariants.{Property}
 use Rattle.table_schema.specs.declared.column.SigKind.TheVariants as kind
 use Rattle.table_schema.specs.declared.column.ColumnKind.TheVariants as column
@@ -12,6 +12,7 @@ use Rattle.metadata.specs.Lookups.{HasRow}
 use Rattle.metadata.specs.Metadata.{cell_in}
 use Rattle.declarations.specs.Declarations.{IsPropertyDeclaration}
 use Rattle.full_names.proofs.PieceLemmas.{encoded_in, held_in, on_wrote}
+use Rattle.declarations.proofs.ClassNames.{type_named}
 use Rattle.declarations.proofs.methods.write_property_within.Goals as goal
 
 pub returns : goal.returns
@@ -25,8 +26,9 @@ returns g c = record {
       let encodes = encoded_in kind.Property c.in_ok-bytes.bytes (cell_in model Property c.args.row 2) (property this of params) (λ other h e. c.shortest_encodes.ensures kind.Property other h e) (c.in_ok-bytes.ensures model shown) is held.0 held.1 in
       let bytes : Encodes kind.Property (property this of params) c.bytes_of.result.now = rw c.bytes_of.ensures encodes in
       let map = c.type_of_property.ensures.sound model shown in
+      let type = type_named model (c.holds_one.ensures.valid model shown) c.type_of_property.result in
       on_wrote g.W.Write.write_str_gives _ (IsPropertyDeclaration model c.args.row (as_method this of params)) _ _ c.write_declared.result
-      (c.write_declared.ensures model shown (as_method this of params) (inr (this, of, params, bytes, refl)))
+      (c.write_declared.ensures model shown (property this of params) (inr (inl bytes)) type.0 type.1)
       (λ text pieces. record {
         class = record { table = _; row = c.type_of_property.result };
         member = (c.type_of_property.result, map.0, map.1, map.2, refl);

@@ -11,19 +11,19 @@ use Rattle.full_names.proofs.RowNameLemmas.{named_under}
 use Rattle.full_names.proofs.row_names.write_member_ref.Goals as goal
 
 pub type_of_method-requires-clause-last : goal.type_of_method-requires-clause-last
-type_of_method-requires-clause-last g c = subst (λ (t : TableId). c.parent-parent.result.row ≤ g.S.ReadMetadata.row_count c.args.source.now t) c.in-MethodDef.is c.parent-parent.ensures.last
+type_of_method-requires-clause-last g c = subst (λ (t : TableId). c.member_parent-parent.result.row ≤ g.S.ReadMetadata.row_count c.args.source.now t) c.in-MethodDef.is c.member_parent-parent.ensures.last
 
 pub text-module-requires-clause-last : goal.text-module-requires-clause-last
-text-module-requires-clause-last g c = subst (λ (t : TableId). c.parent-parent.result.row ≤ g.S.ReadMetadata.row_count c.args.source.now t) c.in-ModuleRef.is c.parent-parent.ensures.last
+text-module-requires-clause-last g c = subst (λ (t : TableId). c.member_parent-parent.result.row ≤ g.S.ReadMetadata.row_count c.args.source.now t) c.in-ModuleRef.is c.member_parent-parent.ensures.last
 
 pub returns-in-MethodDef : goal.returns-in-MethodDef
 returns-in-MethodDef g c = λ model shown.
-    let parent = c.parent-parent.result in
+    let parent = c.member_parent-parent.result in
     let own = c.text-name.result.now in
     on_wrote g.W.Write.write_str_gives (IsMemberName model c.type_token-class.result own) (IsNameIn model MemberRef c.args.row) _ _ c.write_member_name.result (c.write_member_name.ensures model shown)
     (λ text is. (
       parent,
-      c.parent-parent.ensures.parent model shown,
+      c.member_parent-parent.ensures.parent model shown,
       own,
       c.text-name.ensures model shown,
       subst (λ (t : TableId). IsNameUnder model t parent.row own text) (sym c.in-MethodDef.is)
@@ -32,14 +32,14 @@ returns-in-MethodDef g c = λ model shown.
 
 pub returns-in_ok-write_global_name-in-ModuleRef : goal.returns-in_ok-write_global_name-in-ModuleRef
 returns-in_ok-write_global_name-in-ModuleRef g c = λ model shown.
-    let parent = c.parent-parent.result in
+    let parent = c.member_parent-parent.result in
     let own = c.text-name.result.now in
     let module_name = name_text Dotted c.text-module.result.now in
     let text : List ℕ = module_name ++ (codes "::" ++ name_text Member own) in (
       text,
       (
         parent,
-        c.parent-parent.ensures.parent model shown,
+        c.member_parent-parent.ensures.parent model shown,
         own,
         c.text-name.ensures model shown,
         subst (λ (t : TableId). IsNameUnder model t parent.row own text) (sym c.in-ModuleRef.is) (module_name, (c.text-module.result.now, c.text-module.ensures model shown, refl), refl),
@@ -49,7 +49,7 @@ returns-in_ok-write_global_name-in-ModuleRef g c = λ model shown.
 
 pub returns-in_default : goal.returns-in_default
 returns-in_default g c = λ model shown.
-    let parent = c.parent-parent.result in
+    let parent = c.member_parent-parent.result in
     let own = c.text-name.result.now in
     on_wrote g.W.Write.write_str_gives (IsMemberName model parent own) (IsNameIn model MemberRef c.args.row) _ _ c.write_member_name-in_default.result (c.write_member_name-in_default.ensures model shown)
-    (λ text is. (parent, c.parent-parent.ensures.parent model shown, own, c.text-name.ensures model shown, named_under model parent.table parent.row own text c.in_default.not-MethodDef c.in_default.not-ModuleRef is))
+    (λ text is. (parent, c.member_parent-parent.ensures.parent model shown, own, c.text-name.ensures model shown, named_under model parent.table parent.row own text c.in_default.not-MethodDef c.in_default.not-ModuleRef is))

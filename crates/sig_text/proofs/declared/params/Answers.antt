@@ -15,10 +15,10 @@ loop-done-preserved g c =
     let less : c.args.count - (c.loop-done.done + 1) ≡ c.args.count - c.loop-done.done - 1 = omega arith in
     record {
       goes = λ new after end h. c.loop-done.invariant.goes new after end
-          (rw (named_more (core_shown 128) (before (codes ", ") c.loop-done.done) (c.loop-done.done + 1) (c.args.count - c.loop-done.done) c.loop-done.done c.loop-done.tail.now lt, ← less)
-          (pieces_first c.put_if.ensures (pieces_first c.slot-tail.ensures.wrote
+          (rw (named_more (core_shown 128) (before (codes ", ") c.loop-done.done) (c.loop-done.done + 1) (c.args.count - c.loop-done.done) c.loop-done.done c.loop-done.tail.now lt, ← c.sentinel-found.ensures.behind, ← c.sentinel-found.ensures.marked, ← less)
+          (pieces_first c.put_if.ensures (pieces_first c.put_if-in-loop-done.ensures (pieces_first c.put_param_flags.ensures (pieces_first c.slot-tail.ensures.wrote
           (pass_on (λ (b : List ℕ). (param_name (c.loop-done.done + 1) ∷ named_slots_shown (core_shown 128) (before (codes ", ") (c.loop-done.done + 1)) (c.loop-done.done + 1 + 1) (c.args.count - (c.loop-done.done + 1)) b, [])) c.slot-tail.ensures
-          (pieces_first c.put_param_name.ensures h)))));
+          (pieces_first c.put_param_name.ensures h)))))));
     }
 
 pub returns-then-not-taken : goal.returns-then-not-taken

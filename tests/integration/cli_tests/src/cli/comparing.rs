@@ -1,7 +1,7 @@
 use crate::cli::writers::Full;
 use crate::runs::answer;
 use cli::go;
-use sample_roots::{NAMES_APART, NAMES_SHARED, ONE_MODULE, TWO_TYPES, image, write_at};
+use sample_roots::{NAMES_APART, NAMES_SHARED, ONE_MODULE, RootBuilder, TWO_TYPES, image, write_at};
 use std::fs;
 use std::test::Fail;
 
@@ -128,6 +128,37 @@ fn prints_what_differs(rt: HostRuntime) -> Result<(), Fail> {
     assert!(rt; ends(&rt, &bare("first.root", "second.root"), 1, printed, "")?);
     fs::remove_file(&rt, "first.root")?;
     fs::remove_file(&rt, "second.root")?;
+    Ok(())
+}
+
+/// A root without rows whose user strings are these bytes.
+fn root_of_strings(rt: &HostRuntime, path: &str, heap: &[u8]) -> Result<(), Fail> {
+    let mut root = RootBuilder::new(rt.alloc());
+    root.heap("#US", heap)?;
+    root.heap("#Strings", b"\0")?;
+    fs::write(rt, path, root.finish()?.as_slice())?;
+    Ok(())
+}
+
+/// Of user strings that differ, the first offset is printed at which they do, or at which one of them ends.
+#[test]
+fn prints_where_user_strings_differ(rt: HostRuntime) -> Result<(), Fail> {
+    for (heap, other, printed) in [
+        (b"\0\x03a\0\0\0\0\0".as_slice(), b"\0\x03b\0\0\0\0\0".as_slice(), "8 | 8 at 2"),
+        (b"\0\x03a\0\0\0\0\0", b"\x01\x03b\0\0\0\0\0", "8 | 8 at 0"),
+        (b"\0\x03a\0\0\0\0\0", b"\0\x03a\0\0\0\0\x01", "8 | 8 at 7"),
+        (b"\0\x03a\0\0\0\0\0", b"\0\x03a\0\0\0\0\0\0\0\0\0", "8 | 12 at 8"),
+        (b"\0\x03a\0", b"", "4 | 0 at 0"),
+    ] {
+        root_of_strings(&rt, "one.root", heap)?;
+        root_of_strings(&rt, "two.root", other)?;
+        let line = format!(in rt.alloc(); "user strings: {printed}\n")?;
+        assert!(rt; ends(&rt, &bare("one.root", "two.root"), 1, &line, "")?, "{line}");
+    }
+    let words = ["clim", "compare", "--bare", "--json", "one.root", "two.root"];
+    assert!(rt; ends(&rt, &words, 1, "{\"difference\":\"UserStrings\",\"offset\":0}\n", "")?);
+    fs::remove_file(&rt, "one.root")?;
+    fs::remove_file(&rt, "two.root")?;
     Ok(())
 }
 

@@ -23,7 +23,7 @@ const HOSTILE: [(&str, &str); 9] = [
 /// Whether a text is printable ASCII and line feeds, and no line of it is a fault.
 fn is_safe(text: &str) -> bool {
     text.bytes().all(|byte| byte == b'\n' || (b' '..=b'~').contains(&byte))
-        && !text.lines().any(|line| line.starts_with("fault"))
+        && !text.lines().any(|line| line.starts_with("fault "))
 }
 
 /// Whether a call ends with this status, what it prints is safe, and the escaped text is in it.
@@ -87,7 +87,7 @@ fn escapes_usage_errors(rt: HostRuntime) -> Result<(), Fail> {
             &["clim", "token", "lacks", "1", text],
             &["clim", "rewrite", "lacks", "out", text],
             &["clim", "explain", "501", text],
-            &[text, "types"],
+            &[text, "token"],
             &[text, "check", "--lacks"],
         ] {
             assert!(rt; ends(&rt, words, 2, escaped)?, "{escaped}");

@@ -80,6 +80,38 @@ fn prints_identities(rt: HostRuntime) -> Result<(), Fail> {
     Ok(())
 }
 
+/// No name and no culture can look like the rest of an identity.
+#[test]
+fn escapes_names_in_identities(rt: HostRuntime) -> Result<(), Fail> {
+    // Names, and how .NET writes them. A byte that is not printable is escaped as in each text.
+    for (name, shown) in [
+        (b"B, Version=1.0.0.0, Culture=neutral, PublicKeyToken=b77a5c561934e089".as_slice(), "B\\, Version\\=1.0.0.0\\, Culture\\=neutral\\, PublicKeyToken\\=b77a5c561934e089"),
+        (b"a\\,b", "a\\\\\\,b"),
+        (b"a\"b", "\"a\\\"b\""),
+        (b"it's", "\"it\\'s\""),
+        (b" a", "\" a\""),
+        (b"a ", "\"a \""),
+        (b"a b", "a b"),
+        (b"\xC3\xA9\n", "\\xc3\\xa9\\x0a"),
+    ] {
+        let mut root = RootBuilder::new(rt.alloc());
+        root.row(0x23, b"\0\0\0\0\0\0\0\0\0\0\0\0\0\0\x01\0\x01\0\0\0")?;
+        let mut strings = Vec::from_slice(rt.alloc(), b"\0".as_slice())?;
+        strings.extend_from_slice(name)?;
+        strings.push(0)?;
+        root.heap("#Strings", strings.as_slice())?;
+        fs::write(&rt, "names.root", root.finish()?.as_slice())?;
+        let (status, out, err) = answer(&rt, &["clim", "info", "--bare", "names.root"])?;
+        let line = format!(in rt.alloc(); "\nreference {shown}, Version=0.0.0.0, Culture={shown}, PublicKeyToken=null\n")?;
+        assert!(rt; out.ends_with(line.as_str()), "{out}");
+        assert_eq!(rt; (status, err.as_str()), (0, ""));
+    }
+    let (_, out, _) = answer(&rt, &["clim", "info", "--bare", "--json", "names.root"])?;
+    assert!(rt; out.contains("\"reference\":\"\u{e9}\\n\",\"major\":0"), "{out}");
+    fs::remove_file(&rt, "names.root")?;
+    Ok(())
+}
+
 const ATTRIBUTES: &str = "\
 attribute N.A \"hi\" N=\"x\"
 attribute B null \"a\"

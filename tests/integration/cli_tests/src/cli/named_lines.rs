@@ -23,7 +23,7 @@ const OTHER: &str = "fault 3 301 at 0: RootSignature\n  file: other.dll\n";
 const BOTH: &str = "error: cannot read lacks\n  reason: no such file\nfault 3 301 at 0: RootSignature\n  file: other.dll\n";
 
 /// Arguments, and the status, the output and the errors.
-const CASES: [(&[&str], u8, &str, &str); 14] = [
+const CASES: [(&[&str], u8, &str, &str); 22] = [
     (
         &["root", "lacks", "one.root", "other.dll"],
         3,
@@ -110,7 +110,58 @@ one.root: 00000001 Generation=0 Name=\"a.dll\" Mvid={03020100-0504-0706-0809-0a0
 ",
         LACKS,
     ),
+    // The last argument is a file if it has the form of a path.
+    (
+        &["outline", "types.root", "./one.root"],
+        0,
+        "types.root: .class private auto ansi '<Module>'  // 02000001
+types.root: .class public auto ansi beforefieldinit N.C  // 02000002
+types.root:   .field private int32 a  // 04000001
+types.root:   .field private int32 b  // 04000002
+types.root:   .method public void N.C::M() cil managed  // 06000001
+./one.root: .module a.dll /* {03020100-0504-0706-0809-0a0b0c0d0e0f} */  // 00000001
+",
+        "",
+    ),
+    (
+        &["outline", "one.root", "lacks", "types.root", "02000001"],
+        3,
+        "types.root: .class private auto ansi '<Module>'  // 02000001\n",
+        "no such type\n  file: one.root\nerror: cannot read lacks\n  reason: no such file\n",
+    ),
+    (
+        &["outline", "--json", "types.root", "other.dll", "<Module>"],
+        1,
+        "{\"file\":\"types.root\",\"token\":\"02000001\",\"directive\":\".class\",\"text\":\".class private auto ansi '<Module>'\"}\n",
+        OTHER,
+    ),
+    (
+        &["where", "one.root", "other.dll", "types.root", "128"],
+        1,
+        "one.root: 0 144 root
+one.root: 128 16 stream #GUID
+one.root: 128 16 guid of table 00 Module row 1 column 2 Mvid
+types.root: 0 200 root
+types.root: 80 92 stream #~
+types.root: 128 2 table 02 TypeDef row 1 column 5 MethodList
+",
+        OTHER,
+    ),
+    (
+        &["where", "--json", "one.root", "one.root", "0"],
+        0,
+        "{\"file\":\"one.root\",\"offset\":0,\"size\":144,\"structure\":\"root\"}
+{\"file\":\"one.root\",\"offset\":0,\"size\":4,\"structure\":\"root header Signature\"}
+{\"file\":\"one.root\",\"offset\":0,\"size\":144,\"structure\":\"root\"}
+{\"file\":\"one.root\",\"offset\":0,\"size\":4,\"structure\":\"root header Signature\"}
+",
+        "",
+    ),
+    // If nothing contains the byte, no hint follows.
+    (&["where", "one.root", "one.root", "0x90"], 1, "one.root: nothing\none.root: nothing\n", ""),
     // A file alone is not named.
+    (&["where", "one.root", "0x90"], 1, "nothing\n", "  hint: FILE has 144 bytes\n"),
+    (&["outline", "types.root", "02000001"], 0, ".class private auto ansi '<Module>'  // 02000001\n", ""),
     (&["types", "types.root"], 0, "02000001 <Module> 0 0\n02000002 N.C 2 1\n", ""),
     (&["show", "types.root", "Field"], 0, "table 04 Field 2\n1: 1 \"a\" <0608>\n2: 1 \"b\" <0608>\n", ""),
 ];

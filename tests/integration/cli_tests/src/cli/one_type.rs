@@ -129,7 +129,7 @@ fn finds_a_type_by_its_path(rt: HostRuntime) -> Result<(), Fail> {
         let (status, out, err) = answer(&rt, &["clim", "outline", "--bare", "nested.root", name])?;
         assert_eq!(rt; (status, out.as_str(), err.as_str()), (0, line, ""), "{name}");
     }
-    for name in ["I/L", "B/I", "N.B/L", "N.A/I/L", "/N.A", "N.A/", "N.A//I", "N.L"] {
+    for name in ["I/L", "B/I", "N.B/L", "N.A/I/L", "N.A/", "N.A//I", "N.L"] {
         let (status, out, err) = answer(&rt, &["clim", "outline", "--bare", "nested.root", name])?;
         assert!(rt; status == 1 && out.is_empty() && err.starts_with(NONE), "{name}: {err}");
     }

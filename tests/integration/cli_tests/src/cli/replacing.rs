@@ -89,6 +89,31 @@ fn keeps_what_is_beside(rt: HostRuntime) -> Result<(), Fail> {
     Ok(())
 }
 
+/// The name of the file beside one with a long name has its first characters, and what is there stays.
+#[test]
+fn replaces_a_file_with_a_long_name(rt: HostRuntime) -> Result<(), Fail> {
+    for (start, tail) in [("", 246), ("", 247), ("", 255), ("\u{e9}", 245), ("a\u{e9}", 252), ("\u{1f600}", 251)] {
+        let mut name = String::from_str(rt.alloc(), start)?;
+        for _ in 0..tail / 4 {
+            name.push_str("\u{1f600}")?;
+        }
+        for _ in 0..tail % 4 {
+            name.push_str("x")?;
+        }
+        fs::write(&rt, name.as_str(), image().as_slice())?;
+        let (beside, _) = name.as_str().split_at(name.as_str().floor_char_boundary(246));
+        let beside = format!(in rt.alloc(); "{beside}.clim-new")?;
+        fs::write(&rt, beside.as_str(), b"left".as_slice())?;
+        let (status, out, err) = answer(&rt, &["clim", "rewrite", name.as_str(), name.as_str()])?;
+        assert_eq!(rt; (status, out.as_str(), err.as_str()), (0, "wrote 144 bytes\n", ""));
+        assert_eq!(rt; fs::read(&rt, name.as_str())?.as_slice(), ONE_MODULE.as_slice());
+        assert_eq!(rt; fs::read(&rt, beside.as_str())?.as_slice(), b"left".as_slice());
+        fs::remove_file(&rt, name.as_str())?;
+        fs::remove_file(&rt, beside.as_str())?;
+    }
+    Ok(())
+}
+
 /// If a hundred files were left beside, FILE stays as it is.
 #[test]
 fn gives_up_after_a_hundred_names(rt: HostRuntime) -> Result<(), Fail> {

@@ -169,12 +169,16 @@ fn checks_listed_files(rt: HostRuntime) -> Result<(), Fail> {
     for (list, status, printed, reported) in LISTS {
         for words in [
             ["clim", "check", "-0"].as_slice(),
-            &["clim", "check", "--files-from", "-"],
             &["clim", "check", "--files-from=-", "-0"],
+            &["clim", "check", "-0r"],
         ] {
             let (ended, out, err) = answer_on(with_input(&rt, list), words)?;
             assert_eq!(rt; (ended, out.as_str(), err.as_str()), (status, printed, reported));
         }
+        // The same names, one on each line.
+        let lines: Vec<u8> = list.iter().map(|byte| if *byte == 0 { b'\n' } else { *byte }).collect(rt.alloc())?;
+        let (ended, out, err) = answer_on(with_input(&rt, lines.as_slice()), &["clim", "check", "--files-from", "-"])?;
+        assert_eq!(rt; (ended, out.as_str(), err.as_str()), (status, printed, reported));
     }
     remove_files(&rt)
 }
@@ -189,7 +193,7 @@ fn digests_listed_files(rt: HostRuntime) -> Result<(), Fail> {
     for (words, list, status, printed, reported) in [
         (["clim", "digest", "-0"].as_slice(), b"".as_slice(), 0, "", ""),
         (&["clim", "digest", "-0"], b"a\xFF\0good.dll\0", 3, good.as_str(), not_text),
-        (&["clim", "digest", "--files-from", "-"], b"lacks\0good.dll", 3, good.as_str(), LACKS),
+        (&["clim", "digest", "--files-from", "-"], b"lacks\ngood.dll", 3, good.as_str(), LACKS),
         (&["clim", "digest", "--bare", "-0"], b"types.root\0", 0, types.as_str(), ""),
     ] {
         let (ended, out, err) = answer_on(with_input(&rt, list), words)?;
@@ -198,7 +202,10 @@ fn digests_listed_files(rt: HostRuntime) -> Result<(), Fail> {
     remove_files(&rt)
 }
 
-/// `-` is the standard input, for one file and among several. It can be read once.
+/// What is reported of the standard input when it is read a second time.
+const AGAIN: &str = "error: cannot read -\n  reason: the standard input was read already\n";
+
+/// `-` is the standard input, for one file and among several. It is read once.
 #[test]
 fn reads_the_standard_input(rt: HostRuntime) -> Result<(), Fail> {
     write_files(&rt)?;
@@ -208,6 +215,10 @@ fn reads_the_standard_input(rt: HostRuntime) -> Result<(), Fail> {
         (&["clim", "check", "--bare", "-"], root.as_slice(), 0, "ok\n", ""),
         (&["clim", "check", "-"], b"", 1, "", "fault 1 102 at 0: DosHeader\n"),
         (&["clim", "check", "good.dll", "-", "other.dll"], file.as_slice(), 1, "good.dll: ok\n-: ok\nother.dll: fault 1 102 at 0: DosHeader\n", ""),
+        (&["clim", "check", "-", "good.dll", "-"], file.as_slice(), 3, "-: ok\ngood.dll: ok\n", AGAIN),
+        (&["clim", "check", "-r", "-", "-"], file.as_slice(), 3, "-: ok\n", AGAIN),
+        (&["clim", "check", "-q", "-", "-"], b"", 3, "", AGAIN),
+        (&["clim", "check", "-0"], b"-\0good.dll\0", 3, "good.dll: ok\n", AGAIN),
         (&["clim", "types", "--bare", "-"], TWO_TYPES.as_slice(), 0, "02000001 <Module> 0 0\n02000002 N.C 2 1\n", ""),
         (&["clim", "compare", "--bare", "-", "bare.root"], root.as_slice(), 0, "equal\n", ""),
     ] {

@@ -175,7 +175,7 @@ fn refuses_other_arguments(rt: HostRuntime) -> Result<(), Fail> {
         (&["clim", "check", "--until-fault", "lacks"], "unexpected argument '--until-fault'"),
         (&["clim", "types", "--until-fault", "lacks"], "unexpected argument '--until-fault'"),
         (&["clim", "show", "--until-fault=1", "lacks"], "unexpected value '1' for '--until-fault'"),
-        (&["clim", "show", "--until-fault"], "<FILE>"),
+        (&["clim", "show", "--until-fault"], "error: FILE is missing"),
     ] {
         let (status, out, err) = answer(&rt, words)?;
         assert!(rt; status == 2 && out.is_empty() && err.contains(reported), "{err}");

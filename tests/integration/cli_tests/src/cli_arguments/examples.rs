@@ -44,7 +44,7 @@ fn print_what_help_reports(rt: HostRuntime) -> Result<(), Fail> {
     for (name, count) in [
         ("root", 3),
         ("check", 4),
-        ("show", 4),
+        ("show", 3),
         ("types", 3),
         ("outline", 3),
         ("strings", 1),
@@ -52,7 +52,7 @@ fn print_what_help_reports(rt: HostRuntime) -> Result<(), Fail> {
         ("where", 2),
         ("rewrite", 2),
         ("embed", 2),
-        ("digest", 2),
+        ("digest", 1),
         ("compare", 3),
         ("explain", 1),
     ] {

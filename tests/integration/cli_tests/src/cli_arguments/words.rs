@@ -14,7 +14,7 @@ const LINES_IN_HELP: &str = "\
 ";
 
 /// Arguments that are a usage error, and what the program prints for them.
-const REFUSED: [(&[&str], &str); 96] = [
+const REFUSED: [(&[&str], &str); 112] = [
     (&[], "Usage: clim <COMMAND>"),
     (&["clim"], "Usage: clim <COMMAND>"),
     (&["clim", "lacks"], "unrecognized subcommand 'lacks'"),
@@ -45,7 +45,21 @@ const REFUSED: [(&[&str], &str); 96] = [
         "a value is required for '--files-from <->'",
     ),
     (&["clim", "check", "-00"], "cannot be used multiple times"),
-    (&["clim", "show", "-0", "lacks"], "unexpected argument '-0'"),
+    (&["clim", "show", "-0", "lacks"], "error: TABLE is a table"),
+    (&["clim", "show", "-0", "a.dll"], "error: '--files-from' and FILE exclude each other\n"),
+    (&["clim", "types", "--files-from", "lacks"], "error: '--files-from' takes '-', the standard input, not 'lacks'\n"),
+    (&["clim", "outline", "--files-from=-", "lacks.dll"], "error: '--files-from' and FILE exclude each other\n"),
+    (&["clim", "token", "-0", "lacks", "1"], "unexpected argument '-0'"),
+    (&["clim", "resources", "--extract", "a", "lacks", "lacks"], "error: '--extract' takes one FILE, and no '--json', '-r' or list of files\n"),
+    (&["clim", "resources", "--extract=a", "--json", "lacks"], "error: '--extract' takes one FILE, and no '--json', '-r' or list of files\n"),
+    (&["clim", "resources", "--extract=a", "-0"], "error: '--extract' takes one FILE, and no '--json', '-r' or list of files\n"),
+    (&["clim", "resources", "--extract=a", "-r", "lacks"], "error: '--extract' takes one FILE, and no '--json', '-r' or list of files\n"),
+    (&["clim", "resources", "--extract", "a"], "error: '--extract' takes one FILE, and no '--json', '-r' or list of files\n"),
+    (&["clim", "resources", "--bare", "lacks"], "unexpected argument '--bare'"),
+    (&["clim", "refs"], "error: FILE is missing, and so is '--files-from -'\n"),
+    (&["clim", "rewrite", "-r", "lacks", "out"], "unexpected argument '-r'"),
+    (&["clim", "check", "-rr", "lacks"], "cannot be used multiple times"),
+    (&["clim", "digest", "--recursive"], "error: FILE is missing, and so is '--files-from -'\n"),
     (
         &["clim", "check", "--budget", "few", "lacks"],
         "invalid value 'few' for '--budget <N>'",
@@ -67,7 +81,7 @@ const REFUSED: [(&[&str], &str); 96] = [
         &["clim", "root", "--budget", "1", "lacks"],
         "unexpected argument '--budget'",
     ),
-    (&["clim", "show"], "Usage: clim show <FILE>"),
+    (&["clim", "show"], "error: FILE is missing, and so is '--files-from -'\n"),
     (
         &["clim", "show", "lacks", "a.dll", "typdef"],
         "which 'clim show --help' lists, not 'typdef'\n  hint: the nearest name is 'TypeDef'\n",
@@ -89,11 +103,10 @@ const REFUSED: [(&[&str], &str); 96] = [
     (&["clim", "check", "-qq", "lacks"], "cannot be used multiple times"),
     (&["clim", "check", "--quiet=1", "lacks"], "unexpected value '1' for '--quiet'"),
     (&["clim", "show", "-q", "lacks"], "unexpected argument '-q'"),
-    (&["clim", "strings"], "Usage: clim strings <FILE>"),
-    (&["clim", "types"], "Usage: clim types <FILE>"),
-    (&["clim", "info"], "Usage: clim info <FILE>..."),
-    (&["clim", "outline"], "Usage: clim outline <FILE>"),
-    (&["clim", "outline", "lacks", "A", "B"], "unexpected argument 'B'"),
+    (&["clim", "strings"], "error: FILE is missing, and so is '--files-from -'\n"),
+    (&["clim", "types"], "error: FILE is missing, and so is '--files-from -'\n"),
+    (&["clim", "info"], "error: FILE is missing, and so is '--files-from -'\n"),
+    (&["clim", "outline"], "error: FILE is missing, and so is '--files-from -'\n"),
     (&["clim", "check", "--json"], "error: FILE is missing"),
     (&["clim", "check", "--where"], "error: FILE is missing"),
     (&["clim", "check", "--where", "--json", "-q"], "error: FILE is missing"),
@@ -126,12 +139,12 @@ const REFUSED: [(&[&str], &str); 96] = [
         &["clim", "token", "--json", "lacks", "", "1"],
         "error: HEX is one to eight hexadecimal digits, as '06001d06', not ''\n",
     ),
-    (&["clim", "where"], "Usage: clim where <FILE> <OFFSET>"),
-    (&["clim", "where", "lacks"], "  <OFFSET>\n"),
-    (
-        &["clim", "where", "lacks", "1", "2"],
-        "unexpected argument '2'",
-    ),
+    (&["clim", "where"], "error: FILE is missing, and so is '--files-from -'\n"),
+    (&["clim", "where", "1"], "error: FILE is missing, and so is '--files-from -'\n"),
+    (&["clim", "where", "-0"], "error: FILE is missing, and so is '--files-from -'\n"),
+    (&["clim", "where", "lacks"], "error: OFFSET is a number, decimal or hexadecimal after '0x', not 'lacks'\n"),
+    (&["clim", "where", "lacks", "1", "two"], "error: OFFSET is a number, decimal or hexadecimal after '0x', not 'two'\n"),
+    (&["clim", "where", "-0", "lacks", "1"], "error: '--files-from' and FILE exclude each other\n"),
     (
         &["clim", "help", "lacks"],
         "unrecognized subcommand 'lacks'",
@@ -211,8 +224,8 @@ const REFUSED: [(&[&str], &str); 96] = [
         &["clim", "--bare", "root", "lacks"],
         "unexpected argument '--bare'",
     ),
-    (&["clim", "root"], "Usage: clim root <FILE>"),
-    (&["clim", "root", "--bare"], "  <FILE>...\n"),
+    (&["clim", "root"], "error: FILE is missing, and so is '--files-from -'\n"),
+    (&["clim", "root", "--bare", "-r"], "error: FILE is missing, and so is '--files-from -'\n"),
     (
         &["clim", "root", "--bare", "--bare", "lacks"],
         "cannot be used multiple times",
@@ -297,6 +310,8 @@ fn helps(rt: HostRuntime) -> Result<(), Fail> {
         "\n  show ",
         "\n  types ",
         "\n  outline ",
+        "\n  refs ",
+        "\n  resources ",
         "\n  strings ",
         "\n  token ",
         "\n  where ",
@@ -309,7 +324,7 @@ fn helps(rt: HostRuntime) -> Result<(), Fail> {
     ];
     assert!(rt; prints(&rt, &["clim", "--help"], &texts)?);
     assert!(rt; prints(&rt, &["clim", "help"], &texts)?);
-    assert!(rt; prints(&rt, &["clim", "-h"], &["\nLook:\n", "\nCheck:\n", "\nCompare:\n", "\nWrite:\n"])?);
+    assert!(rt; prints(&rt, &["clim", "--help"], &["\nLook:\n", "\nCheck:\n", "\nCompare:\n", "\nWrite:\n"])?);
     Ok(())
 }
 
@@ -318,12 +333,12 @@ fn helps(rt: HostRuntime) -> Result<(), Fail> {
 fn helps_with_the_same_words(rt: HostRuntime) -> Result<(), Fail> {
     let (_, help, _) = answer(&rt, &["clim", "help"])?;
     for name in [
-        "root", "info", "show", "types", "outline", "strings", "token", "where", "check", "explain", "compare", "digest",
+        "root", "info", "show", "types", "outline", "refs", "resources", "strings", "token", "where", "check", "explain", "compare", "digest",
         "rewrite", "embed",
     ] {
         let (_, own, _) = answer(&rt, &["clim", name, "--help"])?;
         let (about, _) = own.split_once('\n').ok_or("no line")?;
-        let line = format!(in rt.alloc(); "\n  {name:<9}{about}\n")?;
+        let line = format!(in rt.alloc(); "\n  {name:<11}{about}\n")?;
         assert!(rt; help.contains(line.as_str()), "{line}");
     }
     Ok(())
@@ -349,12 +364,12 @@ fn helps_with_each_subcommand(rt: HostRuntime) -> Result<(), Fail> {
     let helped = [
         (
             "root",
-            "Usage: clim root [OPTIONS] <FILE>...",
+            "Usage: clim root [OPTIONS] [FILE]...",
             "\n  $ clim root --bare ",
         ),
         (
             "info",
-            "Usage: clim info [OPTIONS] <FILE>...",
+            "Usage: clim info [OPTIONS] [FILE]...",
             "\n  format PE32 machine 0000014c i386 debug 0\n",
         ),
         (
@@ -364,22 +379,22 @@ fn helps_with_each_subcommand(rt: HostRuntime) -> Result<(), Fail> {
         ),
         (
             "show",
-            "Usage: clim show [OPTIONS] <FILE>...",
+            "Usage: clim show [OPTIONS] [FILE]...",
             "\n  1: 0 \"a.dll\" {03020100-0504-0706-0809-0a0b0c0d0e0f} null null",
         ),
         (
             "types",
-            "Usage: clim types [OPTIONS] <FILE>...",
+            "Usage: clim types [OPTIONS] [FILE]...",
             "\n  02000002 N.C 2 1\n",
         ),
         (
             "outline",
-            "Usage: clim outline [OPTIONS] <FILE> [NAME]",
+            "Usage: clim outline [OPTIONS] [FILE]...",
             "  // 02000002\n",
         ),
         (
             "strings",
-            "Usage: clim strings [OPTIONS] <FILE>...",
+            "Usage: clim strings [OPTIONS] [FILE]...",
             "\n  70000001 Hello\n",
         ),
         (
@@ -389,7 +404,7 @@ fn helps_with_each_subcommand(rt: HostRuntime) -> Result<(), Fail> {
         ),
         (
             "where",
-            "Usage: clim where [OPTIONS] <FILE> <OFFSET>",
+            "Usage: clim where [OPTIONS] [FILE]...",
             "\n  520 4 cli header Cb\n",
         ),
         (
@@ -405,7 +420,7 @@ fn helps_with_each_subcommand(rt: HostRuntime) -> Result<(), Fail> {
         (
             "digest",
             "Usage: clim digest [OPTIONS] [FILE]...",
-            "  one_module.dll\n",
+            "  out.root\n",
         ),
         (
             "compare",
@@ -415,7 +430,7 @@ fn helps_with_each_subcommand(rt: HostRuntime) -> Result<(), Fail> {
         (
             "explain",
             "Usage: clim explain [OPTIONS] [CODE]...",
-            "\n  504 BadGuid: no GUID at an index into '#GUID'\n",
+            "\n  502 BadUtf8: a text that is not UTF-8\n",
         ),
     ];
     for (name, usage, example) in helped {
@@ -426,7 +441,32 @@ fn helps_with_each_subcommand(rt: HostRuntime) -> Result<(), Fail> {
         assert_eq!(rt; out, answer(&rt, &["clim", name, "--help"])?.1);
         assert!(rt; err.is_empty());
     }
-    assert!(rt; prints(&rt, &["clim", "root", "-h"], &["<FILE>...  ", LINES_IN_HELP])?);
+    assert!(rt; prints(&rt, &["clim", "root", "--help"], &["[FILE]...", LINES_IN_HELP])?);
+    let (status, short, err) = answer(&rt, &["clim", "root", "-h"])?;
+    assert!(rt; status == 0 && err.is_empty() && short.contains("[FILE]...") && !short.contains("Examples:"));
+    Ok(())
+}
+
+/// No line of help is wider than 80 columns, and short help is no longer than a screen.
+#[test]
+fn helps_within_a_screen(rt: HostRuntime) -> Result<(), Fail> {
+    for name in [
+        "root", "info", "show", "types", "outline", "refs", "resources", "strings", "token", "where", "check", "explain", "compare", "digest",
+        "rewrite", "embed",
+    ] {
+        let (_, help, _) = answer(&rt, &["clim", name, "--help"])?;
+        let (_, short, _) = answer(&rt, &["clim", name, "-h"])?;
+        assert!(rt; help.lines().all(|line| line.len() <= 80), "{name}");
+        assert!(rt; short.lines().all(|line| line.len() <= 80) && short.lines().count() <= 24, "{name}");
+    }
+    let (_, help, _) = answer(&rt, &["clim", "--help"])?;
+    assert!(rt; help.lines().all(|line| line.len() <= 80));
+    // Without a subcommand the short help is a usage error.
+    let (status, out, short) = answer(&rt, &["clim"])?;
+    assert!(rt; status == 2 && out.is_empty() && short.lines().all(|line| line.len() <= 80) && short.lines().count() <= 24);
+    let (status, out, err) = answer(&rt, &["clim", "-h"])?;
+    assert!(rt; status == 0 && err.is_empty());
+    assert_eq!(rt; out.as_str(), short.as_str());
     Ok(())
 }
 
@@ -516,9 +556,9 @@ fn asks(rt: HostRuntime) -> Result<(), Fail> {
                 Subcommand::Where,
                 false,
                 Some("a.root"),
+                None,
+                None,
                 Some("0x20"),
-                None,
-                None,
             ),
         ),
         (
@@ -673,6 +713,66 @@ fn asks_for_several_files(rt: HostRuntime) -> Result<(), Fail> {
     assert_eq!(rt; asked_too.files.as_slice(), ["a", "b", "-"].as_slice());
     assert_eq!(rt; given(&asked_too), (Subcommand::Digest, true, Some("a"), None, None, None));
     assert!(rt; asked.files_from.is_none() && !asked.null);
+    Ok(())
+}
+
+/// The last argument of `outline` is a type, unless it has the form of a path or there is no other file.
+#[test]
+fn asks_for_a_type_or_a_file(rt: HostRuntime) -> Result<(), Fail> {
+    for word in ["N.C", "N.C/D", "02000001", "a/b", ".dll.x", "a.dllx", "x.netmodules", "C-1", "..", ".", ".x/a", ""] {
+        let words = ["clim", "outline", "a.dll", "b.dll", word];
+        let asked = ask(rt.alloc(), &words)?;
+        assert_eq!(rt; asked.part, Some(word));
+        assert_eq!(rt; asked.files.as_slice(), ["a.dll", "b.dll"].as_slice());
+        let words = ["clim", "outline", word];
+        let alone = ask(rt.alloc(), &words)?;
+        assert!(rt; alone.part.is_none() && alone.file == Some(word));
+    }
+    for word in [
+        "-", "/a", "./a", "../a", "a.dll", "a/b.DLL", ".dll", "A.Exe", "x.winmd", "b.NetModule", "/", "./", "../", "a.b.dll",
+    ] {
+        let words = ["clim", "outline", "a.dll", word];
+        let asked = ask(rt.alloc(), &words)?;
+        assert!(rt; asked.part.is_none());
+        assert_eq!(rt; asked.files.as_slice(), ["a.dll", word].as_slice());
+    }
+    Ok(())
+}
+
+/// Of files in a list what to print is the only argument.
+#[test]
+fn asks_for_a_part_of_listed_files(rt: HostRuntime) -> Result<(), Fail> {
+    for words in [
+        ["clim", "show", "-0", "Field"].as_slice(),
+        &["clim", "outline", "Field", "--files-from=-"],
+        &["clim", "where", "--files-from", "x", "Field"],
+    ] {
+        let asked = ask(rt.alloc(), words)?;
+        assert!(rt; asked.part == Some("Field") && asked.files.is_empty() && asked.file == Some("Field"));
+    }
+    let asked = ask(rt.alloc(), &["clim", "types", "-0", "Field"])?;
+    assert!(rt; asked.part.is_none() && asked.files.len() == 1);
+    Ok(())
+}
+
+#[test]
+fn asks_for_directories(rt: HostRuntime) -> Result<(), Fail> {
+    for (words, recursive) in [
+        (["clim", "check", "-r", "a"].as_slice(), true),
+        (&["clim", "check", "-rq0"], true),
+        (&["clim", "root", "--recursive", "a"], true),
+        (&["clim", "info", "a", "-r"], true),
+        (&["clim", "show", "-r", "a", "Field"], true),
+        (&["clim", "types", "-r", "a"], true),
+        (&["clim", "outline", "-r", "a", "N.C"], true),
+        (&["clim", "strings", "-r", "a"], true),
+        (&["clim", "where", "a", "1", "-r"], true),
+        (&["clim", "digest", "-r", "a"], true),
+        (&["clim", "digest", "--", "-r"], false),
+        (&["clim", "check", "a"], false),
+    ] {
+        assert_eq!(rt; ask(rt.alloc(), words)?.recursive, recursive);
+    }
     Ok(())
 }
 

@@ -106,17 +106,18 @@ fn a_typespec_that_names_itself_is_cut(rt: HostRuntime) -> Result<(), Fail> {
 }
 
 #[test]
-fn methods_have_the_names_of_their_parameters(rt: HostRuntime) -> Result<(), Fail> {
+fn methods_have_the_flags_and_names_of_their_parameters(rt: HostRuntime) -> Result<(), Fail> {
     let mut root = RootBuilder::new(rt.alloc());
     root.row(0x02, b"\0\0\0\0\x01\0\x12\0\0\0\x01\0\x01\0")?;
     root.row(0x06, b"\0\0\0\0\0\0\0\0\x0D\0\x01\0\x01\0")?;
     root.row(0x06, b"\0\0\0\0\0\0\0\0\x07\0\x07\0\x03\0")?;
     root.row(0x06, b"\0\0\0\0\0\0\0\0\x07\0\x01\0\x04\0")?;
-    // The result and the first parameter; the first one; the second one, the first one, and another second one.
+    // The result and the first parameter; the first one, `in` and `out`; the second one, `opt`, the first one, and another
+    // second one.
     root.row(0x08, b"\0\0\0\0\x07\0")?;
     root.row(0x08, b"\0\0\x01\0\x18\0")?;
-    root.row(0x08, b"\0\0\x01\0\x18\0")?;
-    root.row(0x08, b"\0\0\x02\0\x18\0")?;
+    root.row(0x08, b"\x03\0\x01\0\x18\0")?;
+    root.row(0x08, b"\x10\x20\x02\0\x18\0")?;
     root.row(0x08, b"\0\0\x01\0\x0D\0")?;
     root.row(0x08, b"\0\0\x02\0\x07\0")?;
     root.heap("#Strings", STRINGS)?;
@@ -126,8 +127,8 @@ fn methods_have_the_names_of_their_parameters(rt: HostRuntime) -> Result<(), Fai
     let model = model::load_root(rt.alloc(), root.as_slice()).expect(&rt, "a model");
     for (row, expected) in [
         (1, "void Space.Outer::Leaf(int32 first, string)"),
-        (2, "instance void Space.Outer::Inner<[1]>(!!0 first)"),
-        (3, "void Space.Outer::Inner(int32 Leaf, string first)"),
+        (2, "instance void Space.Outer::Inner<[1]>([in] [out] !!0 first)"),
+        (3, "void Space.Outer::Inner(int32 Leaf, [opt] string first)"),
     ] {
         let text = declared(rt.alloc(), &view, row).expect(&rt, "a text");
         assert_eq!(rt; text.as_str(), expected, "of {row}");

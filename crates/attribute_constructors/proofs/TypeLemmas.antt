@@ -1,0 +1,130 @@
+-- Types by their names, and enums.
+use Rattle.std.proofs.Common.{◌≡◌, ◌∙◌, ◌≤◌, ◌<◌, ◌+◌, ◌-◌, ◌↔◌, ⊎_elim, ℕ, zero, suc, Bor, Bool, true, false, IsTrue, Option, None, Some, List, [], ◌∷◌, cond, min, length, arith, ap, refl, sym}
+use Rattle.std.proofs.lemmas.Bool.{cases_lt, le-ltb, lt-ltb}
+use Rattle.std.proofs.lemmas.Bool.Decides.{same_from_decides}
+use Rattle.std.proofs.lemmas.Slice.Eq.{bytes_eq-Decides}
+use Rattle.std.specs.Bool.{Decides}
+use Rattle.std.specs.Coded.{le_prop}
+use Rattle.std.specs.Prelude.{IfSome}
+use Rattle.std.proofs.Math.Logic.{∥∥₁_elim}
+use Rattle.table_schema.specs.declared.table.TableId.{TableId}
+use Rattle.table_schema.specs.declared.table.TableId.TheVariants.{Field, TypeDef, TypeRef}
+use Rattle.sig_items.specs.declared.item.Item.{Item}
+use Rattle.sig_items.specs.declared.item.Item.TheVariants as item
+use Rattle.table_schema.specs.declared.token.Token.{Token}
+use Rattle.metadata.specs.Cell.{Cell, Ref, Text}
+use Rattle.metadata.specs.Metadata.{Metadata, cell_in, count_in}
+use Rattle.metadata.specs.Lookups.{IsRun}
+use Rattle.metadata.specs.Valid.{MayRefer, start_in}
+use Rattle.reading.specs.Shown.{Shows}
+use Rattle.reading.specs.declared.cell_ref.CellRef.{CellRef}
+use Rattle.reading.specs.declared.cell_ref.CellRef.TheVariants as seen
+use Rattle.table_schema.specs.declared.column.ColumnKind.{ColumnKind}
+use Rattle.attribute_constructors.specs.Signatures.{items_in, reference_in}
+use Rattle.attribute_constructors.specs.Types.{enum_at, field_type, fields_end, has_row, instance_type, is_enum, is_named_type, is_static, is_text, underlying_type}
+
+-- ---- references
+
+-- a model has these numbers of rows, and may have this reference
+abbrev pub Refers : (TableId → ℕ) → Option Token → Type 0
+Refers rows reference = (model : Metadata) × ((table : TableId) → count_in model table ≡ rows table) × ((nullable : Bool) × MayRefer model nullable (Ref reference))
+
+-- a reference in a cell is to a row that exists
+pub referred : (rows : TableId → ℕ) (reference : Option Token) → ∥ Refers rows reference ∥₁ → IfSome reference (λ of. (1 ≤ of.row) × (of.row ≤ rows of.table))
+referred rows None some = tt
+referred rows (Some of) some = (
+  ∥∥₁_elim some le_prop (λ it. it.2.1.0),
+  ∥∥₁_elim some le_prop (λ it. let count = it.1 of.table in let within = it.2.1.1 in omega (arith, count, within)),
+)
+
+-- ---- names
+
+text_decides : (cell : Cell) (name : List ℕ) → Decides (is_text name cell) (cell ≡ Text name)
+text_decides (Text of) name = (λ same. ap Text ((bytes_eq-Decides of name).0 same), λ (same : Text of ≡ Text name). (bytes_eq-Decides of name).1 (cc))
+text_decides _ name = (λ (same : false ≡ true). cc, λ same. cc)
+
+pub text_is : (b : Bool) (cell : Cell) (name : List ℕ) → IsTrue b ↔ (cell ≡ Text name) → b ≡ is_text name cell
+text_is b cell name reports = same_from_decides b (is_text name cell) reports (text_decides cell name)
+
+pub other_type : (model : Metadata) (name : List ℕ) (table : TableId) (row : ℕ) → (table ≡ TypeDef → ⊥) → (table ≡ TypeRef → ⊥) → false ≡ is_named_type model name table row
+other_type model name TypeDef row a b = absurd (a refl)
+other_type model name TypeRef row a b = absurd (b refl)
+other_type model name _ row a b = refl
+
+-- ---- enums
+
+pub other_enum : (model : Metadata) (table : TableId) (row : ℕ) → (table ≡ TypeDef → ⊥) → None ≡ enum_at model table row
+other_enum model TypeDef row not = absurd (not refl)
+other_enum model _ row not = refl
+
+-- more items than the two of a field of a simple type
+pub many_items : (items : List Item) → 2 < length items → None ≡ field_type items
+many_items (item.Field ∷ (item.Simple of ∷ [])) many = absurd (omega (arith, many))
+many_items _ many = refl
+
+-- a value in place that is no signature
+pub no_signature : (column : ColumnKind) (value : CellRef) (cell : Cell) → ((blob : Bor (List ℕ)) → value ≡ seen.Sig blob → ⊥) → Shows column value cell → items_in cell ≡ []
+no_signature column (seen.Sig blob) cell not shows = absurd (not blob refl)
+no_signature column _ cell not shows = ap items_in shows
+
+-- the run of the fields of a type
+pub run_first : (model : Metadata) (row first past : ℕ) → IsRun model TypeDef 4 Field row first past → start_in (cell_in model TypeDef row 4) ≡ first
+run_first model row first past run = ap start_in run.start
+
+pub run_past : (model : Metadata) (row first past : ℕ) → row ≤ count_in model TypeDef → IsRun model TypeDef 4 Field row first past → fields_end model row ≡ past
+run_past model row first past within run =
+    let next = start_in (cell_in model TypeDef (row + 1) 4) in
+    let last = count_in model Field + 1 in
+    ⊎_elim
+    (λ (more : row < count_in model TypeDef). (λ i. cond (lt-ltb row (count_in model TypeDef) more i) next last) ∙ ap start_in (run.next more))
+    (λ (all : count_in model TypeDef ≤ row).
+    let same : row ≡ count_in model TypeDef = omega (arith, all, within) in
+    (λ i. cond (le-ltb row (count_in model TypeDef) all i) next last) ∙ sym (run.last same))
+    (cases_lt row (count_in model TypeDef))
+
+-- an enum, and any other type
+module _ (model : Metadata) (row : ℕ) (base : Option Token) (extends : cell_in model TypeDef row 3 ≡ Ref base) where
+  pub no_enum : is_enum model base ≡ false → None ≡ underlying_type model row
+  no_enum not =
+      let first = start_in (cell_in model TypeDef row 4) in
+      sym (ap (λ b. cond b (instance_type model (min 16 (fields_end model row - first)) first) None) (ap (λ (cell : Cell). is_enum model (reference_in cell)) extends ∙ not))
+
+  pub enum_run : is_enum model base ≡ true → (first past : ℕ) → row ≤ count_in model TypeDef → IsRun model TypeDef 4 Field row first past
+      → instance_type model (min 16 (past - first)) first ≡ underlying_type model row
+  enum_run is first past within run =
+      let own = start_in (cell_in model TypeDef row 4) in
+      ap (λ n. instance_type model (min 16 (n - first)) first) (sym (run_past model row first past within run))
+      ∙ ap (λ n. instance_type model (min 16 (fields_end model row - n)) n) (sym (run_first model row first past run))
+      ∙ sym (ap (λ b. cond b (instance_type model (min 16 (fields_end model row - own)) own) None) (ap (λ (cell : Cell). is_enum model (reference_in cell)) extends ∙ is))
+
+-- ---- the first field that is not static
+
+module _ (model : Metadata) where
+  pub no_field : (k field : ℕ) → 1 ≤ k → has_row model Field field ≡ false → None ≡ instance_type model k field
+  unfolding instance_type
+  no_field zero field some not = absurd (omega (arith, some))
+  no_field (suc k) field some not =
+      sym (ap (λ b. cond b (cond (is_static (cell_in model Field field 0)) (instance_type model k (field + 1)) (field_type (items_in (cell_in model Field field 2)))) None) not)
+
+  pub own_field : (k field : ℕ) → 1 ≤ k → has_row model Field field ≡ true → is_static (cell_in model Field field 0) ≡ false
+      → field_type (items_in (cell_in model Field field 2)) ≡ instance_type model k field
+  unfolding instance_type
+  own_field zero field some there own = absurd (omega (arith, some))
+  own_field (suc k) field some there own =
+      sym (ap (λ b. cond b (cond (is_static (cell_in model Field field 0)) (instance_type model k (field + 1)) (field_type (items_in (cell_in model Field field 2)))) None) there
+      ∙ ap (λ b. cond b (instance_type model k (field + 1)) (field_type (items_in (cell_in model Field field 2)))) own)
+
+  pub next_field : (n k field : ℕ) → k ≡ n + 1 → has_row model Field field ≡ true → is_static (cell_in model Field field 0) ≡ true
+      → instance_type model k field ≡ instance_type model n (field + 1)
+  unfolding instance_type
+  next_field n zero field one there is = absurd (omega (arith, one))
+  next_field n (suc k) field one there is =
+      let same : k ≡ n = omega (arith, one) in
+      ap (λ b. cond b (cond (is_static (cell_in model Field field 0)) (instance_type model k (field + 1)) (field_type (items_in (cell_in model Field field 2)))) None) there
+      ∙ ap (λ b. cond b (instance_type model k (field + 1)) (field_type (items_in (cell_in model Field field 2)))) is
+      ∙ ap (λ m. instance_type model m (field + 1)) same
+
+  pub last_field : (k field : ℕ) → k ≡ 0 → None ≡ instance_type model k field
+  unfolding instance_type
+  last_field zero field none = refl
+  last_field (suc k) field none = absurd (omega (arith, none))

@@ -1,0 +1,3 @@
+pub mod Signatures
+pub mod Types
+pub mod Params

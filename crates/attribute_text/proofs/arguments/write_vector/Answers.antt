@@ -1,0 +1,8 @@
+use Rattle.std.specs.Prelude.{codes}
+use Rattle.attribute_text.proofs.WriterLemmas.{writes_then}
+use Rattle.attribute_text.specs.Texts.{type_word}
+use Rattle.attribute_text.proofs.arguments.write_vector.Goals as goal
+
+pub returns : goal.returns
+returns g c =
+    writes_then g.W.Write.write_str_gives (type_word c.args.of) (codes "[]") c.write.new.self c.write.result c.type_word.ensures c.in_ok-write_text.ensures c.write.ensures.writes

@@ -1,0 +1,6 @@
+pub mod Buffers
+pub mod GuidLemmas
+pub mod HexLemmas
+pub mod SinkLemmas
+pub mod UserLemmas
+pub mod RowTextLemmas

@@ -1,0 +1,29 @@
+use Rattle.std.proofs.Common.{OnOk, subst, sym}
+use Rattle.table_schema.specs.declared.table.TableId.{TableId}
+use Rattle.full_names.specs.Names.{Wrote}
+use Rattle.c_texts.specs.RowTexts.{IsDeclared}
+use Rattle.c_texts.proofs.RowTextLemmas.{no_declaration}
+use Rattle.c_texts.proofs.row_text.write_declaration.Goals as goal
+
+pub unreachable-requires : goal.unreachable-requires
+unreachable-requires g c = no_declaration c.args.token.table c.requires.declared c.in_default.not-TypeDef c.in_default.not-Field c.in_default.not-MethodDef c.in_default.not-Property
+
+pub returns-in-Field : goal.returns-in-Field
+returns-in-Field g c = λ model is.
+    subst (λ (t : TableId). OnOk c.write_field.result (Wrote g.W.Write.write_str_gives c.args.out.now (IsDeclared model t c.args.token.row) c.write_field.new.out)) (sym c.in-Field.is)
+    (c.write_field.ensures model is)
+
+pub returns-in-MethodDef : goal.returns-in-MethodDef
+returns-in-MethodDef g c = λ model is.
+    subst (λ (t : TableId). OnOk c.write_method.result (Wrote g.W.Write.write_str_gives c.args.out.now (IsDeclared model t c.args.token.row) c.write_method.new.out)) (sym c.in-MethodDef.is)
+    (c.write_method.ensures model is)
+
+pub returns-in-Property : goal.returns-in-Property
+returns-in-Property g c = λ model is.
+    subst (λ (t : TableId). OnOk c.write_property.result (Wrote g.W.Write.write_str_gives c.args.out.now (IsDeclared model t c.args.token.row) c.write_property.new.out)) (sym c.in-Property.is)
+    (c.write_property.ensures model is)
+
+pub returns-in_ok-write_type_def_within-in-TypeDef : goal.returns-in_ok-write_type_def_within-in-TypeDef
+returns-in_ok-write_type_def_within-in-TypeDef g c = λ model is.
+    subst (λ (t : TableId). Wrote g.W.Write.write_str_gives c.args.out.now (IsDeclared model t c.args.token.row) c.write_type_def_within.new.out) (sym c.in-TypeDef.is)
+    (c.in_ok-write_type_def_within-in-TypeDef.ensures model is)

@@ -1,0 +1,4 @@
+pub mod Texts
+pub mod Explained
+pub mod SignatureTexts
+pub mod RowTexts

@@ -1,0 +1,24 @@
+-- The cells of a root that have a byte, and those of its table stream.
+use Rattle.std.proofs.Common.{◌≡◌, ℕ, ◌-◌, ◌<◌, ◌≤◌, List, sym, subst, arith}
+use Rattle.table_schema.specs.declared.table.TableId.{TableId}
+use Rattle.table_schema.specs.CellColumns.{cell_count, column_of}
+use Rattle.schema.specs.Sizes.{Sizes}
+use Rattle.schema.specs.LocatedCells.{HasCell}
+use Rattle.metadata.specs.SourceAt.{tables_offset}
+use Rattle.c_values.specs.Locations.{HasByte, sizes_in}
+
+module _ (root : List ℕ) (sizes : Sizes) (start offset : ℕ) (same_sizes : sizes ≡ sizes_in root) (same_start : start ≡ tables_offset root)
+    (table : TableId) (row column : ℕ) where
+  pub in_stream : HasByte root table row column offset → HasCell sizes table row (column_of table column) (offset - start)
+  in_stream has =
+      subst (λ (s : Sizes). HasCell s table row (column_of table column) (offset - start)) (sym same_sizes)
+      (subst (λ (n : ℕ). HasCell (sizes_in root) table row (column_of table column) (offset - n)) (sym same_start) has.cell)
+
+  pub in_root : column < cell_count table → start ≤ offset → HasCell sizes table row (column_of table column) (offset - start) → HasByte root table row column offset
+  in_root listed from has = record {
+    column_there = listed;
+    from = omega (arith, from, same_start);
+    cell =
+        subst (λ (n : ℕ). HasCell (sizes_in root) table row (column_of table column) (offset - n)) same_start
+        (subst (λ (s : Sizes). HasCell s table row (column_of table column) (offset - start)) same_sizes has);
+  }

@@ -1,0 +1,7 @@
+use Rattle.std.proofs.Common.{◌≡◌, ℕ, ◌<◌}
+use Rattle.table_schema.specs.CellColumns.{column_of}
+use Rattle.c_values.proofs.located.cell_of_column.Given as goal
+
+-- no earlier cell is of the column
+abbrev pub invariant-loop-cell : goal.invariant-loop-cell
+invariant-loop-cell l = (cell : ℕ) → cell < l.cell → column_of l.table cell ≡ l.column → ⊥

@@ -1,0 +1,16 @@
+use Rattle.std.proofs.Common.{ap}
+use Rattle.std.specs.List.{flat_map}
+use Rattle.cli_regions.specs.Headers.{other_stream_regions}
+use Rattle.cli_regions.proofs.LoopLemmas.{more_left, none_left}
+use Rattle.cli_regions.proofs.SearchLemmas.{said_as}
+use Rattle.cli_regions.proofs.headers.find_other_streams.Goals as goal
+
+pub loop-header-init : goal.loop-header-init
+loop-header-init c = λ later adds. said_as adds (ap (flat_map (other_stream_regions c.args.start c.args.size)) c.into_iter-header-iterator.ensures.into_iter_gives)
+
+pub loop-header-preserved : goal.loop-header-preserved
+loop-header-preserved c =
+    more_left _ _ c.loop-header.invariant (ap (flat_map (other_stream_regions c.args.start c.args.size)) c.in-Some.ensures.steps) c.find_other_stream.ensures
+
+pub returns : goal.returns
+returns c = none_left _ c.loop-header.invariant (ap (flat_map (other_stream_regions c.args.start c.args.size)) c.in-None.ensures.steps.0)

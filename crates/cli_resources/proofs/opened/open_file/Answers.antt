@@ -1,0 +1,17 @@
+use Rattle.std.proofs.Common.{◌∙◌, ℕ, List, ap, subst, sym}
+use Rattle.cli_header.specs.declared.header.CliHeader.{CliHeader}
+use Rattle.metadata.specs.Model.{IsModel}
+use Rattle.metadata.specs.Streams.{root_in}
+use Rattle.resources.specs.Resources.{IsDirectoryOf}
+use Rattle.cli_resources.proofs.opened.open_file.Goals as goal
+
+pub returns-clause-opened : goal.returns-clause-opened
+returns-clause-opened c =
+    let it = c.in_ok-header in
+    let file = c.args.file.now in
+    record {
+      whole = ∣ (it.header, it.ensures.sound) ∣₁;
+      directory = λ header model is. subst (λ (h : CliHeader). IsDirectoryOf file h c.directory_of.result) (it.ensures.complete header model is) c.directory_of.ensures;
+      model = λ header model is.
+          subst (λ (root : List ℕ). IsModel root model) (sym (it.ensures.view ∙ ap (root_in file) (it.ensures.complete header model is))) is.root;
+    }

@@ -1,0 +1,17 @@
+use Rattle.std.proofs.Common.{ℕ, List}
+use Rattle.cli_header.specs.declared.header.CliHeader.{CliHeader}
+use Rattle.table_schema.specs.declared.table.TableId.TheVariants.{ManifestResource}
+use Rattle.metadata.specs.Metadata.{Metadata, count_in}
+use Rattle.metadata.specs.Model.{IsModel}
+use Rattle.resources.specs.Resources.{IsDirectoryOf, Where}
+use Rattle.cli_lines.specs.Printed.{Printed, Prints, rows_after}
+use Rattle.cli_resources.specs.ResourceLines.{AreLocations, resource_line, resource_lines}
+use Rattle.cli_resources.proofs.report.print_rows.Given as goal
+
+-- the lines of the rows that are left complete those of all
+abbrev pub invariant-loop-earlier : goal.invariant-loop-earlier
+invariant-loop-earlier g l =
+    (file : List ℕ) (header : CliHeader) (model : Metadata) (later : Printed _) → IsDirectoryOf file header l.directory → IsModel l.view model
+    → (locations : ℕ → Where) → AreLocations file header model locations
+    → Prints l.out later (rows_after (λ row. resource_line model row (locations row)) l.earlier (count_in model ManifestResource))
+    → Prints l.initial.out later (resource_lines model locations)

@@ -1,0 +1,2 @@
+pub mod ResourceLines
+pub mod Unfound

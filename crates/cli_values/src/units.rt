@@ -1,0 +1,64 @@
+//! Appends a text of UTF-16 units.
+ghost use Rattle.std.specs.Prelude.{◌≡◌, ◌<◌, ◌++◌, IsTrue, OnOk, string_bytes};
+ghost use Rattle.std.specs.List.{flat_map};
+ghost use Rattle.cli_faults.specs.Escaped.{escaped_unit, is_printable};
+ghost use Rattle.heap_entries.specs.UserView.{units_in};
+ghost use Rattle.cli_values.specs.Constants.{string_text, unit_text};
+
+use crate::bytes::{cut_mark, printed};
+use packed::u16_at;
+use std::alloc::AllocError;
+use std::fmt::Write;
+
+/// Whether a unit is printable ASCII except the backslash.
+fn is_printable(unit: u16) -> bool
+    ensures value { result ≡ is_printable unit }
+    ensures ascii { IsTrue result → unit < 128 }
+{
+    32 <= unit && unit <= 126 && unit != 92
+}
+
+/// Appends a unit, as `\u` and four hexadecimal digits if it is not printable.
+fn push_escaped(unit: u16, text: &mut String) -> Result<(), AllocError>
+    ensures { OnOk result (string_bytes text.new ≡ string_bytes text.old ++ escaped_unit unit) }
+{
+    if is_printable(unit) {
+        text.push(char::from(unit as u8))?;
+        return Ok(());
+    }
+    match write!(text, "\\u{unit:04x}") {
+        Ok(()) => Ok(()),
+        Err(_) => Err(AllocError),
+    }
+}
+
+/// Appends a unit of a text between quotes.
+fn push_unit(unit: u16, text: &mut String) -> Result<(), AllocError>
+    ensures { OnOk result (string_bytes text.new ≡ string_bytes text.old ++ unit_text unit) }
+{
+    if unit == u16::from(b'"') {
+        return text.push_str("\\\"");
+    }
+    push_escaped(unit, text)
+}
+
+/// Appends the units in pairs of bytes.
+fn push_units(bytes: &[u8], text: &mut String) -> Result<(), AllocError>
+    ensures { OnOk result (string_bytes text.new ≡ string_bytes text.old ++ flat_map unit_text (units_in bytes.now)) }
+{
+    for index in 0..bytes.len() / 2 {
+        push_unit(u16_at(bytes, 2 * index), text)?;
+    }
+    Ok(())
+}
+
+/// Appends the text in the bytes of a value, in quotes.
+#[tactic(auto, unfolding(crate::specs::Constants::string_text))]
+pub(crate) fn push_string(bytes: &[u8], text: &mut String) -> Result<(), AllocError>
+    ensures { OnOk result (string_bytes text.new ≡ string_bytes text.old ++ string_text bytes.now) }
+{
+    text.push_str("\"")?;
+    push_units(printed(bytes), text)?;
+    text.push_str(cut_mark(bytes))?;
+    text.push_str("\"")
+}

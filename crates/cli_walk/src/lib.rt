@@ -1,0 +1,16 @@
+//! Walks directories, and reports what is not read there.
+//!
+//! A [`Walk`] goes over what is in a directory and in the directories in it, and says of each what it is, as a [`Visit`].
+//! [`begins_like`] reads the first bytes of a file. [`refuse`] reports what is [`Unread`].
+//!
+//! ```text
+//! let mut walk = Walk::over(&rt, "lib")?;
+//! walk.next(&rt) // Some(Visit::File("lib/one_module.dll"))
+//! ```
+#![tactic(auto)]
+
+mod unread;
+mod walk;
+
+pub use unread::{Unread, refuse};
+pub use walk::{Visit, Walk, begins_like};

@@ -1,0 +1,39 @@
+-- The text of a reference, by the table of its row.
+use Rattle.std.proofs.Common.{◌≡◌, ℕ, List, inl, inr, subst, sym, ◌∙◌}
+use Rattle.table_schema.specs.declared.table.TableId.{TableId}
+use Rattle.table_schema.specs.declared.table.TableId.TheVariants.{MethodDef, MemberRef}
+use Rattle.table_schema.specs.declared.token.Token.{Token}
+use Rattle.metadata.specs.Lookups.{HasRow}
+use Rattle.metadata.specs.Metadata.{Metadata}
+use Rattle.full_names.specs.RowNames.{IsRowName}
+use Rattle.declarations.specs.Declarations.{IsReference, IsReferenceBy}
+
+module _ (model : Metadata) (token : Token) (text : List ℕ) where
+  pub missing_row : ¬ HasRow model token.table token.row → IsRowName model token text → IsReference model token text
+  missing_row missing name = record {
+    method = λ is there. absurd (missing (subst (λ (t : TableId). HasRow model t token.row) (sym is) there));
+    member = λ is there. absurd (missing (subst (λ (t : TableId). HasRow model t token.row) (sym is) there));
+    other = λ _. name;
+  }
+
+  pub other_row : (token.table ≡ MethodDef → ⊥) → (token.table ≡ MemberRef → ⊥) → IsRowName model token text → IsReference model token text
+  other_row no_method no_member name = record {
+    method = λ is there. absurd (no_method is);
+    member = λ is there. absurd (no_member is);
+    other = λ _. name;
+  }
+
+  module _ (there : HasRow model token.table token.row) where
+    pub method_row : token.table ≡ MethodDef → IsReferenceBy model MethodDef token.row 3 4 text → IsReference model token text
+    method_row is by = record {
+      method = λ _ _. by;
+      member = λ same _. let f : MethodDef ≡ MemberRef = sym is ∙ same in absurd cc;
+      other = λ not. elim not [ inl tables ↦ absurd (tables.0 is) | inr missing ↦ absurd (missing there) ];
+    }
+
+    pub member_row : token.table ≡ MemberRef → IsReferenceBy model MemberRef token.row 1 2 text → IsReference model token text
+    member_row is by = record {
+      method = λ same _. let f : MemberRef ≡ MethodDef = sym is ∙ same in absurd cc;
+      member = λ _ _. by;
+      other = λ not. elim not [ inl tables ↦ absurd (tables.1 is) | inr missing ↦ absurd (missing there) ];
+    }

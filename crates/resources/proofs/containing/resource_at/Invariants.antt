@@ -1,0 +1,12 @@
+use Rattle.std.proofs.Common.{ℕ, ◌<◌, ◌≤◌, List}
+use Rattle.cli_header.specs.declared.header.CliHeader.{CliHeader}
+use Rattle.metadata.specs.Metadata.{Metadata}
+use Rattle.metadata.specs.Model.{IsModel}
+use Rattle.resources.specs.Resources.{HasByte, IsDirectoryOf}
+use Rattle.resources.proofs.containing.resource_at.Given as goal
+
+-- no resource in a row before this one has the byte
+abbrev pub invariant-loop-row : goal.invariant-loop-row
+invariant-loop-row l =
+    (file : List ℕ) (header : CliHeader) (model : Metadata) → IsDirectoryOf file header l.directory → IsModel l.view model
+    → (earlier : ℕ) → 1 ≤ earlier → earlier < l.row → ¬ HasByte file header model earlier l.offset

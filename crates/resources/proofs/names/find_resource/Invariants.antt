@@ -1,0 +1,8 @@
+use Rattle.std.proofs.Common.{ℕ, ◌<◌, ◌≤◌}
+use Rattle.metadata.specs.Metadata.{Metadata}
+use Rattle.metadata.specs.Model.{IsModel}
+use Rattle.resources.specs.Resources.{HasName}
+use Rattle.resources.proofs.names.find_resource.Given as goal
+
+abbrev pub invariant-loop-row : goal.invariant-loop-row
+invariant-loop-row l = (model : Metadata) → IsModel l.view model → (earlier : ℕ) → 1 ≤ earlier → earlier < l.row → ¬ HasName model l.name earlier

@@ -1,0 +1,127 @@
+//! Tests of names, declarations, addresses and constants, on samples. They need a library that has the functions.
+
+use clim::rows::*;
+use clim::{offset_of, open, read_header, Assembly, ConstantValue, OpenError, Table, Token};
+use std::{fs, thread};
+
+/// The path of a sample.
+fn path(name: &str) -> String {
+    format!("{}/../../samples/{name}", env!("CARGO_MANIFEST_DIR"))
+}
+
+fn token(table: Table, row: u32) -> Token {
+    Token { table, row }
+}
+
+#[test]
+fn a_file_owns_its_bytes() {
+    let path = path("members.dll");
+    let file = fs::read(&path).expect("a sample");
+    let assembly = open(&path).expect("a file");
+    assert_eq!((assembly.bytes(), assembly.view().version()), (file.as_slice(), "v4.0.30319"));
+    let moved = Box::new(assembly);
+    let names = |assembly: &Assembly| -> Vec<String> {
+        assembly.view().rows::<TypeDef>().map(|it| it.type_name.to_string()).collect()
+    };
+    let here = names(&moved);
+    let there = thread::spawn(move || names(&moved)).join().expect("a thread");
+    assert!(here == there && here.contains(&"Derived".to_string()));
+    assert!(matches!(Assembly::from_bytes(Vec::new()), Err(fault) if fault.code == 102));
+    assert!(matches!(open(path.replace("members.dll", "greeter.root")), Err(OpenError::Fault(fault)) if fault.code == 102));
+    assert!(matches!(open("/no/such/file"), Err(OpenError::Io(_))));
+}
+
+#[test]
+fn rows_know_their_numbers() {
+    let assembly = open(path("members.dll")).expect("a file");
+    let view = assembly.view();
+    for (number, row) in view.rows::<MethodDef>().numbered() {
+        assert_eq!(view.row::<MethodDef>(number), Some(row));
+    }
+    assert_eq!(view.rows::<MethodDef>().numbered().count(), view.count(Table::MethodDef) as usize);
+    let last = view.count(Table::MethodDef);
+    let mut rows = view.rows_in::<MethodDef>(0..u32::MAX);
+    rows.next();
+    assert_eq!(rows.numbered().map(|it| it.0).collect::<Vec<_>>(), (2..=last).collect::<Vec<_>>());
+    assert_eq!(view.rows_in::<MethodDef>(last + 1..last + 9).numbered().count(), 0);
+}
+
+#[test]
+fn names_and_declarations() {
+    let assembly = open(path("members.dll")).expect("a file");
+    let view = assembly.view();
+    assert_eq!(view.name_of(token(Table::TypeDef, 1)), Ok(Some("'<Module>'".to_string())));
+    for table in Table::ALL {
+        let declared = [Table::TypeDef, Table::Field, Table::MethodDef, Table::Property].contains(&table);
+        for row in 1..=view.count(table) {
+            let name = view.name_of(token(table, row)).expect("a library").expect("a row");
+            let declaration = view.declaration(token(table, row)).expect("a library");
+            assert!(!name.is_empty() && declaration.is_some() == declared, "{table} {row}");
+            match table {
+                Table::TypeDef => assert_eq!(declaration, Some(name)),
+                Table::MethodDef | Table::Property => assert!(declaration.is_some_and(|it| it.contains(&name))),
+                _ => {}
+            }
+        }
+        // A row that a token cannot name is none, and not that of another table.
+        for row in [0, view.count(table) + 1, 0x100_0001, u32::MAX] {
+            assert_eq!((view.name_of(token(table, row)), view.declaration(token(table, row))), (Ok(None), Ok(None)));
+        }
+    }
+}
+
+#[test]
+fn types_by_their_full_names() {
+    let assembly = open(path("members.dll")).expect("a file");
+    let view = assembly.view();
+    for row in 1..=view.count(Table::TypeDef) {
+        assert_eq!(view.find_full_name(&view.full_name(row)), Some(row), "{}", view.full_name(row));
+    }
+    for name in ["", "/", "Derived/", "/Derived", "No.Type", "Derived/Derived/Derived", &"/".repeat(100)] {
+        assert_eq!(view.find_full_name(name), None, "{name}");
+    }
+}
+
+#[test]
+fn offsets_of_addresses() {
+    let path = path("members.dll");
+    let file = fs::read(&path).expect("a sample");
+    let (header, assembly) = (read_header(&file).expect("a header"), open(&path).expect("a file"));
+    let root = (header.metadata.rva, header.metadata.size);
+    assert_eq!(offset_of(&file, root.0, root.1), Ok(Some(header.root_start)));
+    assert_eq!(assembly.bytes_at(root.0, root.1), Ok(Some(&file[header.root_start..header.root_end])));
+    assert_eq!(assembly.bytes_at(root.0, 4), Ok(Some(b"BSJB".as_slice())));
+    for method in assembly.view().rows::<MethodDef>().filter(|it| it.rva > 0) {
+        assert!(assembly.bytes_at(method.rva, 1).expect("a library").is_some());
+    }
+    for (rva, size) in [(0, 1), (u32::MAX, u32::MAX), (root.0, u32::MAX), (root.0, 1 << 31)] {
+        assert_eq!((offset_of(&file, rva, size), assembly.bytes_at(rva, size)), (Ok(None), Ok(None)));
+    }
+    assert_eq!(offset_of(&[], root.0, 1), Ok(None));
+    assert_eq!(offset_of(&file[..header.root_end - 1], root.0, root.1), Ok(None));
+}
+
+#[test]
+fn values_of_constants() {
+    let value = |kind, value| Constant { kind, parent: token(Table::Field, 1), value }.typed_value();
+    assert_eq!(value(0x02, &[1]), ConstantValue::Bool(true));
+    assert_eq!(value(0x03, &[0x41, 0xD8]), ConstantValue::Char(0xD841));
+    assert_eq!(value(0x04, &[0xFF]), ConstantValue::Int(-1));
+    assert_eq!(value(0x05, &[0xFF]), ConstantValue::Uint(255));
+    assert_eq!(value(0x06, &[0, 0x80]), ConstantValue::Int(-32768));
+    assert_eq!(value(0x07, &[0, 0x80]), ConstantValue::Uint(32768));
+    assert_eq!(value(0x08, &[1, 0, 0, 0x80]), ConstantValue::Int(-0x7FFF_FFFF));
+    assert_eq!(value(0x09, &[1, 0, 0, 0x80]), ConstantValue::Uint(0x8000_0001));
+    assert_eq!(value(0x0A, &[0xFF; 8]), ConstantValue::Int(-1));
+    assert_eq!(value(0x0B, &[0xFF; 8]), ConstantValue::Uint(u64::MAX));
+    assert_eq!(value(0x0C, &[0, 0, 0x80, 0x3F]), ConstantValue::Float(1.0));
+    assert_eq!(value(0x0D, &[0, 0, 0, 0, 0, 0, 0xF0, 0xBF]), ConstantValue::Double(-1.0));
+    assert_eq!(value(0x0E, b"a\0b\0"), ConstantValue::String(vec![0x61, 0x62]));
+    assert_eq!(value(0x0E, b""), ConstantValue::String(Vec::new()));
+    assert_eq!(value(0x12, &[0; 4]), ConstantValue::Null);
+    let malformed: [(u32, &[u8]); 8] =
+        [(0x02, &[2]), (0x02, &[]), (0x03, &[0]), (0x08, &[0; 3]), (0x0E, b"abc"), (0x12, &[1, 0, 0, 0]), (0, &[0]), (0x1D, &[])];
+    for (kind, bytes) in malformed {
+        assert_eq!(value(kind, bytes), ConstantValue::Malformed(bytes), "{kind}");
+    }
+}
