@@ -5,6 +5,8 @@ import json
 
 # The number of cells of a heap entry, and of methods, that have a line.
 MOST_CELLS = MOST_METHODS = 10
+# The largest number of sections of a file whose methods have lines.
+MOST_SECTIONS = 96
 # The number of data sections of a method body that are looked at.
 MOST_DATA = 64
 # The streams of the standard, in the order of their lines (II.24.2.2).
@@ -155,8 +157,8 @@ def structure_line(line):
     what = value["structure"]
     if keys[3:] == ["stream", "token"]:
         what = f"{what} {value['token']}" if value["stream"] == "#US" else None
-    elif what == "method" and keys[3:] == ["token", "name"]:
-        what = f"method {value['token']} {escaped(value['name'].encode())}"
+    elif what in ("method", "resource") and keys[3:] == ["token", "name"]:
+        what = f"{what} {value['token']} {escaped(value['name'].encode())}"
     elif what == "padding" and keys[3:] == ["table", "row"]:
         what = f"table {NUMBERS[value['table']]:02X} {value['table']} row {value['row']} padding"
     elif keys[3:] in (["table", "row", "column"], ["stream", "table", "row", "column"]):
@@ -180,7 +182,7 @@ class Walk:
     def __init__(self, data, bare, offsets, layer=None):
         self.data, self.offsets = data, sorted(set(offsets))
         self.lines = {offset: [] for offset in self.offsets}
-        self.layout, self.counts, self.streams = {}, {}, {}
+        self.layout, self.counts, self.streams, self.resources = {}, {}, {}, None
         known = LAST_LAYER + 1 if layer is None else layer
         root, size = 0, len(data)
         if not bare and known > PE_LAYER:
@@ -195,6 +197,7 @@ class Walk:
             self.user_strings()
             if not bare:
                 self.methods()
+                self.resource()
 
     def within(self, start, size):
         first = bisect.bisect_left(self.offsets, start)
@@ -263,6 +266,8 @@ class Walk:
                     offset = raw + address - start
                     if offset + size <= len(self.data):
                         self.put(offset, size, what)
+                        if what == "resources":
+                            self.resources = offset, size
                     break
 
     def cli_header(self, directories):
@@ -383,19 +388,41 @@ class Walk:
     def methods(self):
         """The methods with code of CIL whose bodies contain a byte (II.22.26, II.23.1.10)."""
         counts = dict.fromkeys(self.offsets, 0)
+        if len(self.sections) > MOST_SECTIONS:
+            return
         for row in range(1, self.counts[0x06] + 1):
             cells = {column: cell for _, column, _, cell in self.cells(0x06, row)}
             at = [raw + cells["RVA"] - start for start, size, raw in self.sections if start <= cells["RVA"] < start + size]
             if not cells["RVA"] or cells["ImplFlags"] % 4 or not at or at[0] >= len(self.data):
                 continue
             size = self.body_size(at[0])
-            start, _ = self.streams.get(b"#Strings", (0, 0))
-            start += cells["Name"]
-            name = self.data[start:self.data.index(0, start)] if cells["Name"] else b""
+            name = self.text(cells["Name"])
             for offset in self.within(at[0], size or 0):
                 if self.lines[offset] and counts[offset] < MOST_METHODS:
                     counts[offset] += 1
                     self.lines[offset].append(f"{at[0]} {size} method {0x06000000 + row:08x} {escaped(name)}")
+
+    def text(self, cell):
+        """The bytes of a text of #Strings (II.24.2.3)."""
+        start = self.streams.get(b"#Strings", (0, 0))[0] + cell
+        return self.data[start:self.data.index(0, start)] if cell else b""
+
+    def resource(self):
+        """The first resource in the file whose content contains a byte (II.22.24). The length before it is no part of it."""
+        found = set()
+        for row in range(1, self.counts[0x28] + 1) if self.resources else ():
+            cells = {column: cell for _, column, _, cell in self.cells(0x28, row)}
+            start, size = self.resources
+            if cells["Implementation"] >> 2 or cells["Offset"] + 4 > size:
+                continue
+            length = number(self.data, start + cells["Offset"], 4)
+            first = start + cells["Offset"] + 4
+            if first + length > start + size:
+                continue
+            for offset in set(self.within(first, length)) - found:
+                found.add(offset)
+                if self.lines[offset]:
+                    self.lines[offset].append(f"{first} {length} resource {0x28000000 + row:08x} {escaped(self.text(cells['Name']))}")
 
     def body_size(self, start):
         """The number of bytes of the body that begins at an offset (II.25.4), if the file has its header and its data."""

@@ -1,10 +1,10 @@
 //! What an argument that names nothing may have meant: the name that the fewest edits lead to.
-use cli_cells::column_name;
 use cli_faults::all_codes;
 use packed::{Fault, FaultCode};
+use schema::column_names;
 use std::alloc::Global;
 use strsim::levenshtein;
-use table_schema::{TableId, cell_count};
+use table_schema::{TableId, cell_count, column_of_cell};
 
 /// The largest length of an argument for which a name is looked for, in bytes. It bounds the time.
 const LONGEST: usize = 64;
@@ -69,7 +69,9 @@ fn nearest_in(alloc: Global, table: TableId, word: &str) -> Option<&'static str>
     let mut limit = limit_of(word, 0);
     let mut nearest = None;
     for cell_index in 0..cell_count(table) {
-        let name = column_name(table, cell_index);
+        let Some(&name) = column_names(table).get(column_of_cell(table, cell_index)) else {
+            continue;
+        };
         if let Some(edits) = edits_below(alloc, word, name, limit) {
             limit = edits;
             nearest = Some(name);

@@ -6,16 +6,20 @@ ghost use Rattle.opening.specs.Views.{HasModel, row_count};
 
 use crate::nearest::{LONGEST_NAME, edits_below, is_far, limit_of};
 use crate::several_types::several_types;
+use cli_declarations::text;
 use cli_faults::{Escaped, Stop};
 use cli_input::{Input, open};
 use cli_names::names_of_type;
-use cli_outline::Subject;
-use cli_print::{NAME, NAMESPACE, text_of};
 use cli_sending::send_message;
 use opening::{ReadCells, TableId, View};
 use std::alloc::Global;
 use std::fmt;
 use std::io::Write;
+
+/// The indexes of the cells with the name and the namespace of a type (II.22.37).
+pub(crate) const NAME: usize = 1;
+
+const NAMESPACE: usize = 2;
 
 /// The names of a type (II.22.37). `Display` gives its full name, escaped.
 #[derive(Clone, Copy, Debug, PartialEq, Eq)]
@@ -71,6 +75,7 @@ fn is_short(view: &View<'_>, row: u32, cell: usize) -> bool
 }
 
 /// The names of the type in a row of TypeDef; `None` if they are too long to be near.
+#[tactic(auto, unfolding(table_schema::specs::CellColumns::cell_columns))]
 fn names_at<'a>(view: &View<'a>, row: u32) -> Option<TypeName<'a>>
     requires model { HasModel view.now }
     requires first { 1 ≤ row }
@@ -80,8 +85,8 @@ fn names_at<'a>(view: &View<'a>, row: u32) -> Option<TypeName<'a>>
         return None;
     }
     Some(TypeName {
-        namespace: text_of(view, row, NAMESPACE),
-        name: text_of(view, row, NAME),
+        namespace: text(view, TableId::TypeDef, row, NAMESPACE),
+        name: text(view, TableId::TypeDef, row, NAME),
     })
 }
 
@@ -149,18 +154,18 @@ fn wanted_names<'a>(path: &'a str) -> TypeName<'a> {
     TypeName { namespace, name }
 }
 
-/// Reports that no type is the subject. If several types have this name, their full names follow. Otherwise a hint follows with
-/// that of the nearest type, unless all are far or the subject is a row. It looks at each type twice. If the report cannot be
-/// written, nothing else changes.
+/// Reports that no type has this path, or that there is no such row if none was given. If several types have this name, their
+/// full names follow. Otherwise a hint follows with that of the nearest type, unless all are far. It looks at each type twice.
+/// If the report cannot be written, nothing else changes.
 pub fn report_missing_type<E: Write>(
     alloc: Global,
     bytes: &[u8],
     input: Input,
-    subject: Subject<'_>,
+    path: Option<&str>,
     err: &mut E,
 ) {
-    let nearest = match (subject, open(bytes, input)) {
-        (Subject::Path(path), Ok(view)) => {
+    let nearest = match (path, open(bytes, input)) {
+        (Some(path), Ok(view)) => {
             if let Some(several) = several_types(alloc, &view, path) {
                 let _ = send_message(alloc, &several, err);
                 return;

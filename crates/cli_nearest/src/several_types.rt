@@ -1,7 +1,7 @@
 //! The types that share a name.
+use crate::nearest_type::NAME;
 use cli_declarations::{Declared, name_row};
 use cli_faults::Escaped;
-use cli_print::NAME;
 use navigation::Neighbours;
 use opening::{ReadMetadata, TableId, Token, View};
 use std::alloc::{AllocError, Global};

@@ -3,3 +3,4 @@ pub mod PrintedLemmas
 pub mod RunLemmas
 pub mod SubjectLemmas
 pub mod PathLemmas
+mod DescribingLemmas

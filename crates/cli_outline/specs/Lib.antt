@@ -1,4 +1,5 @@
 pub mod Declarations
+pub mod Describing
 pub mod Outline
 pub mod Printed
 pub mod Paths

@@ -8,9 +8,8 @@ use Rattle.cli_outline.specs.declared.subject.Subject.{Subject}
 use Rattle.cli_outline.specs.declared.subject.Subject.TheVariants.{Path, Row}
 use Rattle.cli_outline.specs.declared.subject.Outcome.{Outcome}
 use Rattle.cli_outline.specs.declared.subject.Outcome.TheVariants.{Printed, NoSuchType, OutOfMemory}
-use Rattle.cli_outline.specs.Outline.{class_rows}
+use Rattle.cli_outline.specs.Describing.{PrintsType}
 use Rattle.cli_outline.specs.Paths.{IsMeant}
-use Rattle.cli_outline.specs.Printed.{PrintsRows}
 
 -- a row of TypeDef is the subject: the type that the path means, or the type in this row
 abbrev pub IsSubject : Metadata → Subject → ℕ → Type 0
@@ -19,7 +18,7 @@ IsSubject model (Row of) row = (row ≡ of) × HasRow model TypeDef row
 
 -- the lines of the subject were printed if there is one
 abbrev pub PrintsSubject : {W : Type 0} → Metadata → Subject → Printer W → Printer W → Outcome → Type 0
-PrintsSubject model subject old new Printed = (row : ℕ) × IsSubject model subject row × PrintsRows model old new (class_rows model row)
+PrintsSubject model subject old new Printed = (row : ℕ) × IsSubject model subject row × PrintsType model row old new
 PrintsSubject model subject old new NoSuchType = (row : ℕ) → ¬ IsSubject model subject row
 PrintsSubject model subject old new OutOfMemory = ⊤
 

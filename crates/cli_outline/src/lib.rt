@@ -15,6 +15,7 @@
 //! ```
 #![tactic(auto)]
 
+mod describing;
 mod laws;
 mod line;
 mod mapped;

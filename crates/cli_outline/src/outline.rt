@@ -9,10 +9,12 @@ ghost use Rattle.metadata.specs.Model.{IsModel};
 ghost use Rattle.metadata_source.specs.MemberLists.{cell_of, member_of, owner_of};
 ghost use Rattle.full_names.specs.RowNames.{IsMemberOf};
 ghost use Rattle.opening.specs.Views.{row_count};
+ghost use Rattle.cli_outline.specs.Describing.{PrintsType};
 ghost use Rattle.cli_outline.specs.Outline.{all_rows, class_rows, each_from, first_tables, last_tables, members, outline_rows, ref_tables, refs_rows, row_of, run_start};
 ghost use Rattle.cli_outline.specs.Printed.{PrintsRows};
 ghost use Rattle.cli_outline.specs.Subjects.{PrintsNone, PrintsSubject};
 
+use crate::describing::print_describing;
 use crate::laws::{ranges_follow, rows_follow};
 use crate::line::print_line;
 use crate::mapped::{Mapped, print_mapped};
@@ -275,23 +277,32 @@ pub fn print_refs<W: Write>(alloc: Global, view: &View<'_>, out: &mut Printer<'_
     }
 }
 
-/// Prints the outline of a type of a view: its line, and those of its fields, methods, events and properties.
+/// Prints the outline of a type of a view: its line, those of its fields, methods, events and properties, and those of the rows
+/// that describe them.
 fn print_type<W: Write>(alloc: Global, view: &View<'_>, row: u32, out: &mut Printer<'_, W>)
     requires first { 1 ≤ row }
     requires last { row ≤ row_count view.now TypeDef }
-    ensures { (model : Metadata) → IsModel view.now model → PrintsRows model out.old out.new (class_rows model row) }
+    ensures { (model : Metadata) → IsModel view.now model → PrintsType model row out.old out.new }
 {
+    rows_follow::<W>();
     match Neighbours::new(alloc, view) {
         Ok(source) => {
             let mut cells = CellCursor::new(source.view);
-            print_class(&source, &mut cells, row, &mut Declared::new(alloc), out);
+            let mut declared = Declared::new(alloc);
+            let class = Token {
+                table: TableId::TypeDef,
+                row,
+            };
+            print_class(&source, &mut cells, row, &mut declared, out);
+            print_describing(&source, last_tables(), class, &mut declared, out);
         }
         Err(_) => out.fail(),
     }
 }
 
 /// Prints the outline of one type of a view: the line of the type, and below it those of its fields, methods, events and
-/// properties, as [`print_outline`] does.
+/// properties, as [`print_outline`] does. Last come the interfaces, generic parameters, constraints, overrides, imports,
+/// permission sets and attributes of the type, its members and their parameters: for this it takes one pass over these tables.
 pub fn print_outline_of<W: Write>(
     alloc: Global,
     view: &View<'_>,

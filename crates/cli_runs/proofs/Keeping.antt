@@ -1,5 +1,5 @@
 -- The printer of a report keeps its writer.
-use Rattle.std.proofs.Common.{◌≡◌, ◌⊎◌, ℕ, List, [], Option, None, Some, ap, arith, inl, inr, refl}
+use Rattle.std.proofs.Common.{◌≡◌, ◌⊎◌, ℕ, List, [], ◌++◌, Option, None, Some, ap, arith, inl, inr, refl}
 use Rattle.std.proofs.lemmas.Bool.{cases_lt}
 use Rattle.std.proofs.Math.Logic.{∥∥₁_elim}
 use Rattle.std.proofs.Math.Nat.{ℕ_set}
@@ -20,10 +20,10 @@ use Rattle.cli_input.specs.declared.opened.Input.{Input}
 use Rattle.cli_input.specs.declared.opened.Input.TheVariants.{BareRoot, File}
 use Rattle.cli_lines.specs.Lines.{Part}
 use Rattle.cli_lines.specs.Printed.{Printed}
-use Rattle.cli_where.specs.Located.{AreOfCode}
-use Rattle.cli_where.specs.declared.report.Found.TheVariants.{Something}
+use Rattle.cli_where.specs.Located.{HasContents, where_lines}
+use Rattle.cli_where.specs.declared.report.Found.TheVariants.{Nothing, Something}
 use Rattle.cli_runs.specs.Printing.{Hands, HasPrinted}
-use Rattle.cli_runs.specs.Reports.{AreDeclared, IsFaultOut, IsListed, IsPrinted, IsStopped}
+use Rattle.cli_runs.specs.Reports.{AreDeclared, AreOut, IsFaultOut, IsListed, IsPrinted, IsStopped, IsTypeOut}
 use Rattle.cli_runs.specs.declared.report.Ended.{Ended}
 use Rattle.cli_runs.specs.declared.report.Ended.TheVariants as ended
 use Rattle.cli_runs.specs.declared.report.Listing.{Listing}
@@ -46,12 +46,17 @@ of_facts m n BareRoot bytes whole is = ∥∥₁_elim whole (ℕ_set _ _) (λ so
 of_facts m n File bytes whole is =
     ∥∥₁_elim whole (ℕ_set _ _) (λ of. ∥∥₁_elim of.1 (ℕ_set _ _) (λ some. is (Some of.0) some.0 (of.0, refl, some.1)))
 
--- the same of the lines of methods
-of_code : (m n : ℕ) (input : Input) (bytes : List ℕ) (offset : ℕ) → IsWhole input bytes → ((methods : List (List Part)) → AreOfCode Something input bytes offset methods → m ≡ n) → m ≡ n
-of_code m n BareRoot bytes offset whole is = is [] refl
-of_code m n File bytes offset whole is =
-    ∥∥₁_elim whole (ℕ_set _ _) (λ of. ∥∥₁_elim of.1 (ℕ_set _ _) (λ some.
-    is _ (some.1.image, some.1.is_image, some.0, (of.0, some.1), refl)))
+-- the same of the lines of contents
+of_contents : (m n : ℕ) (input : Input) (bytes : List ℕ) (offset : ℕ) (P : List (List Part) → Type 0) → IsWhole input bytes → ((lines : List (List Part)) → P lines → m ≡ n)
+    → HasContents Something input bytes offset P → m ≡ n
+of_contents m n BareRoot bytes offset P whole is has = is _ has
+of_contents m n File bytes offset P whole is has =
+    ∥∥₁_elim whole (ℕ_set _ _) (λ of. ∥∥₁_elim of.1 (ℕ_set _ _) (λ some. is _ (has of.0 some.0 some.1).2))
+
+-- the lines of contents of bytes in which nothing was found
+of_nothing : (input : Input) (bytes : List ℕ) (offset : ℕ) (P : List (List Part) → Type 0) → HasContents Nothing input bytes offset P → P []
+of_nothing BareRoot bytes offset P has = has
+of_nothing File bytes offset P has = has
 
 has_row : (model : Metadata) (table : TableId) (row : ℕ) → HasRow model table row ⊎ ¬ HasRow model table row
 has_row model table row = elim (cases_lt row 1) [
@@ -86,6 +91,10 @@ module _ {W : Type 0} (old new : Printed W) where
   declared_keeps : (model : Metadata) (rows : List Token) → AreDeclared (Hands old new) model rows → Keeps
   declared_keeps model rows out = out.5.0.same.borrow
 
+  type_keeps : (model : Metadata) (class : ℕ) → IsTypeOut (Hands old new) model class → Keeps
+  type_keeps model class (inl out) = declared_keeps model _ out.2
+  type_keeps model class (inr out) = out.0.same.borrow
+
   listed_keeps : (of : Listing) (model : Metadata) → IsListed (Hands old new) of model → Keeps
   listed_keeps (listing.Show table names) model out = out.0.same.borrow
   listed_keeps listing.Types model out = out.0.same.borrow
@@ -109,9 +118,9 @@ module _ {W : Type 0} (old new : Printed W) where
     printed_keeps (report.Check of) out = out.1.0.same.borrow
     printed_keeps (report.ShowUntilFault table names) out = of_model _ _ request.input bytes out.0 (λ model is. (out.1 model is).0.same.borrow)
     printed_keeps (report.OutlineOf subject) out =
-        of_model _ _ request.input bytes out.0 (λ model is. let at = out.1 model is in declared_keeps model _ at.2)
+        of_model _ _ request.input bytes out.0 (λ model is. let at = out.1 model is in type_keeps model at.0 at.2)
     printed_keeps (report.Tokens numbers) out = of_model _ _ request.input bytes out.3.0 (λ model is. (out.3.1 model is).2.0.same.borrow)
-    printed_keeps (report.Where offset) out = of_code _ _ request.input bytes offset out.0 (λ methods are. (out.1.3 methods are).0.same.borrow)
+    printed_keeps (report.Where offset) out = of_contents _ _ request.input bytes offset (λ contents. AreOut (Hands old new) (where_lines out.1.0 ++ contents)) out.0 (λ lines are. are.0.same.borrow) out.1.3
     printed_keeps report.Digest out = out.2.0.same.borrow
 
     stopped_keeps : (of : Report) (why : Stop) → IsStopped (Hands old new) request name bytes of why → Keeps
@@ -124,7 +133,7 @@ module _ {W : Type 0} (old new : Printed W) where
     stopped_keeps (report.ShowUntilFault table names) why out = out.3.2.0.same.borrow
     stopped_keeps (report.OutlineOf subject) why out = absurd out
     stopped_keeps (report.Tokens numbers) why out = of_model _ _ request.input bytes out.9.0 (λ model is. (out.9.1 model is).2.0.same.borrow)
-    stopped_keeps (report.Where offset) why (inl out) = (out.2.3 [] refl).0.same.borrow
+    stopped_keeps (report.Where offset) why (inl out) = (of_nothing request.input bytes offset (λ contents. AreOut (Hands old new) (where_lines out.2.0 ++ contents)) out.2.3).0.same.borrow
     stopped_keeps (report.Where offset) why (inr out) = out.3.2.0.same.borrow
     stopped_keeps report.Digest why out = absurd out
 

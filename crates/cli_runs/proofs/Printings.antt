@@ -1,6 +1,6 @@
 -- What each report handed to a printer.
-use Rattle.std.proofs.Common.{◌≡◌, ℕ, List, Option, Result, Ok, Err, inl, inr}
-use Rattle.std.specs.Prelude.{IfErr, OnErr, OnOk}
+use Rattle.std.proofs.Common.{◌≡◌, ℕ, List, Option, None, Some, Result, Ok, Err, inl, inr}
+use Rattle.std.specs.Prelude.{IfErr, IsSome, OnErr, OnOk}
 use Rattle.cli_header.specs.declared.header.CliHeader.{CliHeader}
 use Rattle.packed.specs.declared.fault.Fault.{Fault}
 use Rattle.packed.specs.Rule.{FirstBroken}
@@ -13,11 +13,12 @@ use Rattle.cli_info.specs.InfoLines.{AreFacts, info_lines}
 use Rattle.cli_input.specs.Checked.{IsWhole, rules_of}
 use Rattle.cli_input.specs.Heads.{AreHeads, HasHeads, rules_of_heads}
 use Rattle.cli_lines.specs.Printed.{Printed, Prints}
+use Rattle.cli_outline.specs.Describing.{PrintsType}
 use Rattle.cli_outline.specs.Printed.{PrintsRows}
 use Rattle.cli_where.specs.Located.{AreListed}
 use Rattle.cli_print.specs.RootLines.{heads_lines}
 use Rattle.cli_runs.specs.Printing.{Hands, HasPrinted}
-use Rattle.cli_runs.specs.Reports.{AreDeclared, IsListed, OfModel, ended_at, ended_by}
+use Rattle.cli_runs.specs.Reports.{AreDeclared, IsListed, IsTypeOut, OfModel, ended_at, ended_by}
 use Rattle.cli_input.specs.declared.opened.Input.TheVariants.{File}
 use Rattle.metadata.specs.Model.{IsModelOfFile}
 use Rattle.resources.specs.Resources.{Where}
@@ -63,6 +64,15 @@ module _ {W : Type 0} (request : Request) (name bytes : List ℕ) (old new : Pri
 -- the rows of an outline were handed to a printer
 pub declared : {W : Type 0} (old new : Printed W) (model : Metadata) (rows : List Token) → PrintsRows model old new rows → AreDeclared (Hands old new) model rows
 declared old new model rows out = (out.first, out.later, out.whole, out.lines, out.are, (out.printed, out.all))
+
+nothing_waits : (waiting : Option (List ℕ)) → waiting ≡ None → IsSome waiting → ⊥
+nothing_waits None none some = cc
+nothing_waits (Some bytes) none some = cc
+
+-- those of a type were, or printing failed
+pub type_out : {W : Type 0} (old new : Printed W) (model : Metadata) (class : ℕ) → PrintsType model class old new → IsTypeOut (Hands old new) model class
+type_out old new model class (inl out) = inl (out.0, out.1, declared old new model _ out.2)
+type_out old new model class (inr out) = inr (out.1, (λ live. nothing_waits new.waiting out.0 live))
 
 module _ {W : Type 0} (request : Request) (name bytes : List ℕ) (old new : Printed W) where
   pub strings_refused : (failure : Failure) → AreListed request.input bytes old new (Err failure)

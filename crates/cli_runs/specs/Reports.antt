@@ -35,6 +35,7 @@ use Rattle.cli_cells.specs.Before.{AreLinesBefore}
 use Rattle.cli_cells.specs.RowLines.{show_lines}
 use Rattle.cli_cells.specs.TokenLines.{AreTokenLines, IsNamed}
 use Rattle.cli_info.specs.InfoLines.{AreFacts, info_lines}
+use Rattle.cli_outline.specs.Describing.{AreDescribingType}
 use Rattle.cli_outline.specs.Outline.{class_rows, outline_rows, refs_rows}
 use Rattle.cli_outline.specs.Printed.{AreLines}
 use Rattle.cli_outline.specs.Subjects.{IsSubject}
@@ -45,7 +46,7 @@ use Rattle.cli_print.specs.TypeLines.{types_lines}
 use Rattle.cli_print.specs.Verdicts.{verdict_line}
 use Rattle.cli_regions.specs.Regions.{Region}
 use Rattle.cli_where.specs.Lines.{entry_lines, structure_line}
-use Rattle.cli_where.specs.Located.{AreOfCode, found_of, where_lines}
+use Rattle.cli_where.specs.Located.{HasContents, found_of, where_lines}
 use Rattle.cli_where.specs.UserStrings.{AreEntries, Entry}
 use Rattle.cli_where.specs.Where.{AreStructuresAt}
 use Rattle.cli_where.specs.declared.report.Found.{Found as FoundAt}
@@ -151,6 +152,12 @@ module _ (Out : Type 0 → List (List Part) → Type 0) where
   AreDeclared model rows =
       (first later : List Token) × (rows ≡ first ++ later) × (lines : List (List Part)) × AreLines model first lines × Out (later ≡ []) lines
 
+  -- the declarations of a type and its members went out, and those of the rows that describe them; or none, and more are missing
+  abbrev pub IsTypeOut : Metadata → ℕ → Type 0
+  IsTypeOut model class =
+      ((found : List Token) × AreDescribingType model class found × AreDeclared model (class_rows model class ++ found))
+      ⊎ Out ⊥ []
+
   -- what numbers name in a model went out
   abbrev pub AreNamed : List ℕ → Metadata → Type 0
   AreNamed numbers model = (lines : List (List Part)) × AreTokenLines model numbers lines × AreOut lines
@@ -171,11 +178,11 @@ module _ (Out : Type 0 → List (List Part) → Type 0) where
   IsFaultOut verdict input bytes file found = AreOut (verdict_lines verdict file (Some found))
 
   module _ (request : Request) (name bytes : List ℕ) where
-    -- the lines of the structures that contain the byte at an offset went out, and those of methods; there are some structures or none
+    -- the lines of the structures that contain the byte at an offset went out, and those of contents; there are some structures or none
     abbrev pub IsLocated : ℕ → FoundAt → Type 0
     IsLocated offset found =
         (structures : List Region) × AreStructuresAt request.input Entries bytes offset structures × (found ≡ found_of structures)
-        × ((methods : List (List Part)) → AreOfCode found request.input bytes offset methods → AreOut (where_lines structures ++ methods))
+        × HasContents found request.input bytes offset (λ contents. AreOut (where_lines structures ++ contents))
 
     -- all lines of a report went out
     abbrev pub IsPrinted : Report → Type 0
@@ -195,7 +202,7 @@ module _ (Out : Type 0 → List (List Part) → Type 0) where
     IsPrinted (report.Check verdict) = IsWhole request.input bytes × AreOut (verdict_lines verdict (label request.naming name) None)
     IsPrinted (report.ShowUntilFault table names) = OfModel request.input bytes (IsListed (listing.Show table names))
     IsPrinted (report.OutlineOf subject) =
-        OfModel request.input bytes (λ model. (row : ℕ) × IsSubject model subject row × AreDeclared model (class_rows model row))
+        OfModel request.input bytes (λ model. (row : ℕ) × IsSubject model subject row × IsTypeOut model row)
     IsPrinted (report.Tokens numbers) =
         (root : List ℕ) × IsOpened request.input bytes root × All (IsNamed root) numbers.items × OfModel request.input bytes (AreNamed numbers.items)
     IsPrinted (report.Where offset) = IsWhole request.input bytes × IsLocated offset Something

@@ -12,6 +12,7 @@ use crate::tree::{report_others, run_tree};
 use cli_faults::{Failure, Stop};
 use cli_files::{STANDARD_INPUT, Stopped, out_of_memory, read_into, status};
 use cli_nearest::report_missing_type;
+use cli_outline::Subject;
 use cli_walk::{Unread, refuse};
 use std::alloc::{AllocError, Global};
 use std::fs;
@@ -248,6 +249,14 @@ fn report_end<E: Write>(
     }
 }
 
+/// The path of a type, if it is asked for by that.
+fn path_of(subject: Subject<'_>) -> Option<&str> {
+    match subject {
+        Subject::Path(path) => Some(path),
+        Subject::Row(_) => None,
+    }
+}
+
 /// Reports to `err` why a report on a file stopped, and returns the exit code. If no type of the only file has the name that was
 /// asked for, the nearest one follows.
 fn report_stop<E: Write>(
@@ -264,7 +273,7 @@ fn report_stop<E: Write>(
 {
     match (&stop, &request.report, request.naming) {
         (Stop::NoSuchType, Report::OutlineOf(subject), Naming::Alone) => {
-            report_missing_type(alloc, bytes, request.input, *subject, err);
+            report_missing_type(alloc, bytes, request.input, path_of(*subject), err);
             stop.status()
         }
         // Its line says so.

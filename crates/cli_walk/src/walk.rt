@@ -1,7 +1,7 @@
 //! Walks a directory, and the directories in it.
-ghost use Rattle.std.specs.Prelude.{IfErr, IfSome};
+ghost use Rattle.std.specs.Prelude.{◌≡◌, IfErr, IfOk, IfSome};
 ghost use Rattle.cli_files.specs.Read.{IsRefused};
-ghost use Rattle.cli_walk.specs.Walks.{IsVisit};
+ghost use Rattle.cli_walk.specs.Walks.{BeginsLike, IsVisit, signature_of};
 
 use cli_faults::Failure;
 use cli_input::Input;
@@ -151,20 +151,32 @@ fn names_in<R: Files + AllocGlobal>(rt: &R, directory: &str) -> io::Result<Vec<V
     Ok(names)
 }
 
-/// Whether a file begins like one of this kind (II.25.2.1, II.24.2.1). The buffer is used to read it.
+/// The first bytes of a file of this kind (II.25.2.1, II.24.2.1).
+fn signature_of(input: Input) -> &'static [u8]
+    ensures { result.now ≡ signature_of input }
+{
+    match input {
+        Input::File => b"MZ".as_slice(),
+        Input::BareRoot => b"BSJB".as_slice(),
+    }
+}
+
+/// Whether a file begins like one of this kind. The buffer is used to read it.
+///
+/// # Errors
+///
+/// The file could not be read, or memory ran out.
 pub fn begins_like<R: Files>(
     rt: &R,
     path: &str,
     input: Input,
     buffer: &mut Vec<u8>,
-) -> io::Result<bool> {
-    let signature = match input {
-        Input::File => b"MZ".as_slice(),
-        Input::BareRoot => b"BSJB",
-    };
+) -> io::Result<bool>
+    ensures { IfOk result (λ begins. (file : R.File) × BeginsLike (R.File.remaining file) input begins) }
+{
+    let signature = signature_of(input);
+    let file = fs::open(rt, path)?;
     buffer.clear();
-    fs::open(rt, path)?
-        .take(signature.len() as u64)
-        .read_to_end(buffer)?;
-    Ok(buffer.as_slice() == signature)
+    file.take(signature.len() as u64).read_to_end(buffer)?;
+    Ok(signature == buffer.as_slice())
 }

@@ -6,11 +6,12 @@ use Rattle.packed.specs.Rule.{FirstBroken}
 use Rattle.cli_faults.specs.declared.failure.Failure.{Failure}
 use Rattle.cli_faults.specs.declared.failure.Failure.TheVariants.{Fault, OutOfMemory}
 use Rattle.metadata.specs.Metadata.{Metadata}
+use Rattle.metadata.specs.Model.{IsModelOfFile}
 use Rattle.cli_input.specs.Checked.{IsModelOf, IsWhole, rules_of}
 use Rattle.cli_input.specs.declared.opened.Input.{Input}
 use Rattle.cli_input.specs.declared.opened.Input.TheVariants.{File}
-use Rattle.cli_code.specs.Lines.{method_lines}
-use Rattle.pe.specs.Image.{Image, IsImage}
+use Rattle.cli_header.specs.declared.header.CliHeader.{CliHeader}
+use Rattle.cli_contents.specs.Lines.{AreOfResources, method_lines}
 use Rattle.cli_lines.specs.Lines.{Part, word}
 use Rattle.cli_lines.specs.Printed.{Printed, Prints}
 use Rattle.cli_regions.specs.Regions.{Region}
@@ -31,17 +32,19 @@ abbrev pub where_lines : List Region → List (List Part)
 where_lines [] = (word (codes "nothing") ∷ []) ∷ []
 where_lines (first ∷ later) = map structure_line (first ∷ later)
 
--- the lines of the methods of a file whose bodies contain the byte at an offset (II.25.4); a bare root has no code
-abbrev pub AreOfCode : Found → Input → List ℕ → ℕ → List (List Part) → Type 0
-AreOfCode Something File bytes offset lines =
-    (image : Image) × IsImage bytes image × (model : Metadata) × IsModelOf File bytes model × (lines ≡ method_lines image model offset)
-AreOfCode found input bytes offset lines = lines ≡ []
+-- This is true of the lines of the methods of a file whose bodies contain the byte at an offset (II.25.4), and of the resource
+-- whose content contains it (II.22.24), if a structure contains it. A bare root has no contents.
+abbrev pub HasContents : Found → Input → List ℕ → ℕ → (List (List Part) → Type 0) → Type 0
+HasContents Something File bytes offset P =
+    (header : CliHeader) (model : Metadata) → (file : IsModelOfFile bytes header model)
+    → (resources : List (List Part)) × AreOfResources bytes header model offset resources × P (method_lines file.image model offset ++ resources)
+HasContents found input bytes offset P = P []
 
--- the lines of the structures that contain the byte at an offset were printed, and those of methods; or memory ran out before
+-- the lines of the structures that contain the byte at an offset were printed, and those of contents; or memory ran out before
 abbrev pub HasFound : {W : Type 0} → Input → List ℕ → ℕ → Printed W → Printed W → Result Found Failure → Type 0
 HasFound input bytes offset old new (Ok found) =
     (structures : List Region) × AreStructuresAt input Entries bytes offset structures × (found ≡ found_of structures)
-    × ((methods : List (List Part)) → AreOfCode found input bytes offset methods → Prints old new (where_lines structures ++ methods))
+    × HasContents found input bytes offset (λ contents. Prints old new (where_lines structures ++ contents))
 HasFound input bytes offset old new (Err failure) = (failure ≡ OutOfMemory) × (new ≡ old)
 
 -- The bytes have a model, and the lines were printed; or memory ran out before; or a rule is broken, and the lines of the

@@ -1,17 +1,16 @@
 //! Prints what a byte of a file belongs to.
-ghost use Rattle.std.specs.Prelude.{◌≡◌, List, map};
-ghost use Rattle.cli_lines.specs.Lines.{Part as ThePart};
+ghost use Rattle.std.specs.Prelude.{◌≡◌, map};
 ghost use Rattle.cli_lines.specs.Printed.{Prints};
 ghost use Rattle.cli_regions.specs.Kept.{seen};
 ghost use Rattle.cli_input.specs.Checked.{IsModelOf, rules_of};
 ghost use Rattle.metadata.specs.Metadata.{Metadata};
 ghost use Rattle.metadata.specs.Model.{IsModel};
 ghost use Rattle.packed.specs.Rule.{FirstBroken};
-ghost use Rattle.cli_where.specs.Located.{AreOfCode, HasFound, IsLocated, found_of, where_lines};
+ghost use Rattle.cli_where.specs.Located.{HasContents, HasFound, IsLocated, found_of, where_lines};
 
 use crate::structure_lines::print_structures;
 use crate::walk::{Reach, structures_at};
-use cli_code::print_methods;
+use cli_contents::{print_methods, print_resource};
 use cli_faults::Failure;
 use cli_input::{Input, open};
 use cli_lines::Part::Word;
@@ -65,12 +64,13 @@ fn print_found<W: Write>(
 ///   first ten cells that refer to one. The NUL of a string and the packed length of a blob count (II.24.2.3 to II.24.2.5);
 /// - the user string that contains the byte, with its token, if `clim strings` walks over it (II.24.2.4, III.1.9). A string
 ///   that ends in the zeros with which `#US` is padded has only the bytes before them;
-/// - the first ten methods of a file whose bodies contain the byte (II.25.4).
+/// - the first ten methods of a file whose bodies contain the byte (II.25.4), of a file with at most 96 sections;
+/// - the first resource of a file whose content contains the byte (II.22.24).
 ///
 /// If no structure contains the byte, or the offset is not before the end, it prints `nothing`, or no line of JSON. Of bytes
 /// that break a rule it prints the lines of the layers that break none, down to the cells. After opening it takes one pass
-/// over the sections, one over `#US`, one over the cells and one over the methods, so its time is that of opening. It copies `#US` if its size is no
-/// multiple of four.
+/// over the sections, one over `#US`, one over the cells, one over the methods and one over the resources. It copies `#US` if its
+/// size is no multiple of four.
 ///
 /// # Errors
 ///
@@ -90,8 +90,9 @@ pub fn print_where<W: Write>(
     }
 }
 
-/// Prints the methods of a file whose bodies contain the byte at an offset, if a structure contains it. A bare root has no code.
-fn print_code<W: Write>(
+/// Prints the methods and the resource of a file that contain the byte at an offset, if a structure contains it. A bare root has
+/// no contents.
+fn print_contents<W: Write>(
     alloc: Global,
     bytes: &[u8],
     input: Input,
@@ -101,14 +102,17 @@ fn print_code<W: Write>(
     out: &mut Printer<'_, W>,
 )
     requires { (model : Metadata) → IsModelOf input bytes.now model → IsModel view.now model }
-    ensures { (methods : List (List ThePart)) → AreOfCode found input bytes.now offset methods → Prints out.old out.new methods }
+    ensures { HasContents found input bytes.now offset (λ lines. Prints out.old out.new lines) }
 {
     cli_lines::laws::lines_follow::<W>();
     match found {
         Found::Nothing => {}
         Found::Something => match input {
             Input::BareRoot => {}
-            Input::File => print_methods(alloc, bytes, view, offset, out),
+            Input::File => {
+                print_methods(alloc, bytes, view, offset, out);
+                print_resource(bytes, view, offset, out);
+            }
         },
     }
 }
@@ -129,7 +133,7 @@ fn print_entire<W: Write>(
     match structures_at(alloc, bytes, input, Reach::Entries, offset) {
         Ok(structures) => {
             let found = print_found(alloc, &structures, out);
-            print_code(alloc, bytes, input, found, view, offset, out);
+            print_contents(alloc, bytes, input, found, view, offset, out);
             Ok(found)
         }
         Err(_) => Err(Failure::OutOfMemory),

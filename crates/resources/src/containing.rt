@@ -41,6 +41,8 @@ pub fn resource_at(directory: Option<Directory<'_>>, view: &View<'_>, offset: u6
         → IfSome result (IsFirstWithByte file header model offset) }
     ensures none { (file : List ℕ) (header : Header) (model : Metadata) → IsDirectoryOf file header directory.entry → IsModel view.now model
         → IfNone result ((row : ℕ) → HasRow model ManifestResource row → ¬ HasByte file header model row offset) }
+    ensures first { IfSome result (λ row. 1 ≤ row) }
+    ensures last { IfSome result (λ row. row ≤ row_count view.now ManifestResource) }
 {
     for row in 1..view.count(TableId::ManifestResource) + 1 {
         if contains(directory, view, row, offset) {

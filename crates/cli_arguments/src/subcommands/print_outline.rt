@@ -45,10 +45,12 @@ quotes; a name with a dot or a slash of its own is found by its token. If
 several types have the same full name, the first one is printed. If no type has
 it, a NAME without a dot or a slash stands for the only type of this name, in
 any namespace or type. Eight hexadecimal digits that begin with 02 are a token
-instead. Only that type, its fields, methods, events and properties are printed.
-If FILE has no such type, 'no such type' is written to standard error, and the
-exit status is 1. If several types have the name, the first 20 of them are
-listed instead.
+instead. Only that type, its fields, methods, events and properties are printed,
+and then the interfaces, generic parameters, constraints, overrides, imports,
+permission sets and attributes of these and of the methods' parameters. If FILE
+has no such type, 'no such type' is written to standard error, and the exit
+status is 1. If several types have the name, the first 20 of them are listed
+instead.
 
 '--json' prints a JSON object (RFC 8259) on each line, with the 'token' of the
 row, the 'directive' and the 'text' of the declaration. The directive is its

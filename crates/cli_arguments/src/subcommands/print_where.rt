@@ -26,8 +26,9 @@ its fields, the stream headers (II.24.2.1, II.24.2.2), the streams, and the
 fields, row counts and cells of the table stream (II.24.2.6). Lines of these
 heap entries follow: a string, GUID or blob with each of the first ten cells
 that refer to it, and a user string with its token (II.24.2.3 to II.24.2.5).
-Last come the first ten methods whose bodies contain the byte, each with its
-token and its name (II.22.26, II.25.4).
+Last come the first ten methods whose bodies contain the byte, and the first
+resource whose content contains it, each with its token and its name (II.22.24,
+II.22.26, II.25.4). Of a file with more than 96 sections no methods are printed.
 
 A section has its number from 1 and its name. A cell has its table, its row from
 1, and its column from 0 and by name (II.22); the padding byte of Constant has

@@ -259,8 +259,13 @@ fn prints_properties_below_their_type_in_any_order(rt: HostRuntime) -> Result<()
     let out = outline_of(&rt, root.as_slice())?;
     assert!(rt; out.as_str().contains(class));
     assert!(rt; out.as_str().contains(next));
+    let described = "\
+.pinvokeimpl(\"k.dll\" as \"M\" platformapi) of N.C::M  // 1c000001
+.custom void N.C::.ctor() = (0100) of N.C  // 0c000001
+";
     let words = ["clim", "outline", "--bare", "o.root", "N.C"];
-    assert_eq!(rt; printed(&rt, root.as_slice(), &words)?.as_str(), class);
+    let printed = printed(&rt, root.as_slice(), &words)?;
+    assert_eq!(rt; printed.as_str().strip_prefix(class), Some(described));
     Ok(())
 }
 
@@ -517,6 +522,78 @@ fn names_enclosing_types_if_they_are_in_order(rt: HostRuntime) -> Result<(), Fai
 /// and `A` at 42.
 const ATTRIBUTE_TEXTS: &[u8] =
     b"\0<M>\0N\0C\0E\0.ctor\0System\0Enum\0Type\0value__\0A\0";
+
+/// Blobs: the type of a field at 1, `void ()` at 4, `instance void ()` at 8, and a value without arguments at 12.
+const DESCRIBED_BLOBS: &[u8] = b"\0\x02\x06\x08\x03\0\0\x01\x03\x20\0\x01\x04\x01\0\0\0";
+
+/// Two types, `N.C` and `N.E`. Each has a field and a method with a parameter, and everything that describes one of these.
+fn root_of_described(alloc: Global) -> Result<Vec<u8>, Fail> {
+    let mut root = RootBuilder::new(alloc);
+    root.sorted = 0;
+    root.row(0x02, b"\0\0\0\0\x01\0\0\0\0\0\x01\0\x01\0")?;
+    root.row(0x02, b"\x01\0\x10\0\x07\0\x05\0\0\0\x01\0\x01\0")?;
+    root.row(0x02, b"\x01\0\x10\0\x13\0\x05\0\0\0\x02\0\x02\0")?;
+    let rows = [1_u8, 2];
+    rows.iter().try_for_each(|_| root.row(0x04, b"\x06\0\x0B\0\x01\0"))?;
+    for row in rows {
+        root.row(0x06, &[0, 0, 0, 0, 0, 0, 0x16, 0x20, 9, 0, 4, 0, row, 0])?;
+    }
+    rows.iter().try_for_each(|_| root.row(0x08, b"\0\0\0\0\x05\0"))?;
+    // The interface of each type (II.22.23).
+    root.row(0x09, b"\x02\0\x0C\0")?;
+    root.row(0x09, b"\x03\0\x08\0")?;
+    root.row(0x0A, b"\x10\0\x1B\0\x08\0")?;
+    // The attributes of a method, a field, a parameter, an interface, a permission set, a generic parameter and a constraint; and
+    // of each type (II.22.10, II.24.2.6).
+    for row in rows {
+        for tag in [0, 1, 4, 5, 8, 19, 20] {
+            root.row(0x0C, &[row << 5 | tag, 0, 0x0B, 0, 12, 0])?;
+        }
+    }
+    root.row(0x0C, b"\x43\0\x0B\0\x0C\0")?;
+    root.row(0x0C, b"\x63\0\x0B\0\x0C\0")?;
+    // The permission set of each method, and the override of each type (II.22.11, II.22.27).
+    for row in rows {
+        root.row(0x0E, &[2, 0, row << 2 | 1, 0, 12, 0])?;
+    }
+    root.row(0x19, b"\x02\0\x02\0\x04\0")?;
+    root.row(0x19, b"\x03\0\x04\0\x02\0")?;
+    // The import and the generic parameter of each method, and its constraint (II.22.20 to II.22.22).
+    root.row(0x1A, b"\x15\0")?;
+    for row in rows {
+        root.row(0x1C, &[0, 1, row << 1 | 1, 0, 9, 0, 1, 0])?;
+    }
+    for row in rows {
+        root.row(0x2A, &[0, 0, 0, 0, row << 1 | 1, 0, 11, 0])?;
+    }
+    for row in rows {
+        root.row(0x2C, &[row, 0, 12, 0])?;
+    }
+    root.heap("#Strings", TEXTS)?;
+    root.heap("#Blob", DESCRIBED_BLOBS)?;
+    Ok(root.finish()?)
+}
+
+/// A type is printed with its members, and then with what describes it, them, and their parameters, and nothing of other types.
+#[test]
+fn prints_what_describes_a_type(rt: HostRuntime) -> Result<(), Fail> {
+    let root = root_of_described(rt.alloc())?;
+    let first = "02000002 04000001 06000001 09000001 2a000001 2c000001 19000001 1c000001 0e000001 \
+                 0c000001 0c000002 0c000003 0c000004 0c000005 0c000006 0c000007 0c00000f";
+    let second = "02000003 04000002 06000002 09000002 2a000002 2c000002 19000002 1c000002 0e000002 \
+                  0c000008 0c000009 0c00000a 0c00000b 0c00000c 0c00000d 0c00000e 0c000010";
+    for (name, rows) in [("N.C", first), ("N.E", second), ("<M>", "02000001")] {
+        let lines = printed(&rt, root.as_slice(), &["clim", "outline", "--bare", "o.root", name])?;
+        let mut tokens = String::new(rt.alloc());
+        for line in lines.as_str().lines() {
+            let (_, token) = line.split_once("  // ").ok_or("no token")?;
+            tokens.push_str(if tokens.is_empty() { "" } else { " " })?;
+            tokens.push_str(token)?;
+        }
+        assert_eq!(rt; tokens.as_str(), rows, "{lines}");
+    }
+    Ok(())
+}
 
 /// Blobs: the types of the fields of an enum at 1 and 5; a constructor with parameters of this enum, of an array of strings, of
 /// System.Type and of an object at 8; a value of it at 19, and two bytes at 54.

@@ -1,11 +1,21 @@
-use Rattle.std.proofs.Common.{List, [], ℕ, sym, subst}
+use Rattle.std.proofs.Common.{List, [], ℕ, inl, inr, sym, subst}
+use Rattle.std.specs.List.{flat_map}
+use Rattle.table_schema.specs.declared.table.TableId.{TableId}
 use Rattle.metadata.specs.Model.{IsModel}
-use Rattle.cli_outline.specs.Outline.{class_rows}
-use Rattle.cli_outline.proofs.PrintedLemmas.{rows_failed}
+use Rattle.navigation.specs.Nesting.{type_token}
+use Rattle.cli_outline.specs.Describing.{AreDescribing}
+use Rattle.cli_outline.specs.Outline.{all_rows}
 use Rattle.cli_outline.proofs.outline.print_type.Goals as goal
 
 pub returns-in-Ok : goal.returns-in-Ok
-returns-in-Ok g c = λ model is. c.print_class.ensures.lines model (subst (λ (root : List ℕ). IsModel root model) (sym c.in-Ok.ensures) is)
+returns-in-Ok g c = λ model is.
+    let of = subst (λ (root : List ℕ). IsModel root model) (sym c.in-Ok.ensures) is in
+    let found = c.print_describing.ensures model of in
+    inl (
+      found.0,
+      subst (λ (tables : List TableId). AreDescribing model (type_token c.args.row) (flat_map (all_rows model) tables) found.0) c.last_tables.ensures found.1,
+      c.rows_follow.ensures.more model _ _ _ _ _ (c.print_class.ensures.lines model of) found.2,
+    )
 
 pub returns-in-Err : goal.returns-in-Err
-returns-in-Err g c = λ model is. rows_failed model c.args.out.now c.fail.new.self (class_rows model c.args.row) (c.fail.ensures.lines []) c.fail.ensures.stopped
+returns-in-Err g c = λ model is. inr (c.fail.ensures.stopped, c.fail.ensures.lines [])

@@ -1,0 +1,43 @@
+-- The bodies of methods in a file (ECMA-335 II.22.26, II.25.4).
+use Rattle.std.specs.Prelude.{ℕ, ◌+◌, ◌-◌, ◌%◌, ◌==◌, ◌&&◌, Bool, nat_le, nat_lt, if◌then◌else◌, List, [], ◌∷◌, Option, None, Some, option_and_then, option_map, drop}
+use Rattle.std.specs.List.{flat_map, range_with_len}
+use Rattle.table_schema.specs.declared.table.TableId.TheVariants.{MethodDef}
+use Rattle.pe.specs.Image.{Image}
+use Rattle.pe.specs.Offset.{offset_at}
+use Rattle.metadata.specs.Metadata.{Metadata, cell_in, count_in}
+use Rattle.file_ranges.specs.Bodies.{body_end}
+use Rattle.cli_declarations.specs.Parts.{number_of}
+use Rattle.cli_contents.specs.declared.bodies.Body.{Body}
+
+-- the body of a method that begins at an offset of a file (II.25.4)
+abbrev pub body_from : List ℕ → ℕ → ℕ → Option Body
+body_from file row start = option_map (λ size. record { row = row; start = start; size = size }) (body_end (drop start file))
+
+-- The body of a method by its address and its ImplFlags: it has one if the address is not 0 and is in the file, and if the
+-- low two bits of the flags say that it is code of CIL (II.23.1.10).
+unfoldable pub body_at : Image → ℕ → ℕ → ℕ → Option Body
+body_at image row rva flags =
+    if rva == 0 then None else (if flags % 4 == 0 then option_and_then (body_from image.bytes row) (offset_at image rva 1) else None)
+
+abbrev pub body_of : Image → Metadata → ℕ → Option Body
+body_of image model row = body_at image row (number_of (cell_in model MethodDef row 0)) (number_of (cell_in model MethodDef row 1))
+
+abbrev pub listed : Option Body → List Body
+listed None = []
+listed (Some body) = body ∷ []
+
+-- the byte at an offset is in the body
+abbrev pub contains : ℕ → Body → Bool
+contains offset body = nat_le body.start offset && nat_lt (offset - body.start) body.size
+
+abbrev pub if_contains : ℕ → Option Body → List Body
+if_contains offset None = []
+if_contains offset (Some body) = if contains offset body then body ∷ [] else []
+
+-- those of the rows from one on and before another
+unfoldable pub bodies_from : Image → Metadata → ℕ → ℕ → ℕ → List Body
+bodies_from image model offset first past = flat_map (λ row. if_contains offset (body_of image model row)) (range_with_len first (past - first))
+
+-- the bodies that contain the byte at an offset of the file, in the order of their methods
+abbrev pub bodies_at : Image → Metadata → ℕ → List Body
+bodies_at image model offset = bodies_from image model offset 1 (count_in model MethodDef + 1)

@@ -1,0 +1,57 @@
+-- The lines of what the metadata of a file names in the file: bodies of methods, and resources.
+use Rattle.std.specs.Prelude.{◌≡◌, ℕ, nat_le, if◌then◌else◌, List, [], ◌∷◌, codes, length, map, take}
+use Rattle.cli_header.specs.declared.header.CliHeader.{CliHeader}
+use Rattle.table_schema.specs.declared.table.TableId.TheVariants.{ManifestResource, MethodDef}
+use Rattle.table_schema.specs.declared.token.Token.{Token}
+use Rattle.pe.specs.Headers.{section_count}
+use Rattle.pe.specs.Image.{Image}
+use Rattle.metadata.specs.Lookups.{HasRow}
+use Rattle.metadata.specs.Metadata.{Metadata, cell_in}
+use Rattle.resources.specs.Resources.{HasByte, IsFirstWithByte}
+use Rattle.cli_lines.specs.Lines.{Part, field, number, plain, text, token, word}
+use Rattle.cli_lines.specs.declared.names.Name.TheVariants as name
+use Rattle.cli_declarations.specs.Parts.{text_of, token_at}
+use Rattle.cli_contents.specs.Bodies.{bodies_at}
+use Rattle.cli_contents.specs.declared.bodies.Body.{Body}
+
+-- something with this name: where it is in the file, its size, what it is, and its token
+unfoldable pub content_line : ℕ → ℕ → List ℕ → Token → List ℕ → List Part
+content_line start size structure of named =
+    field name.Offset (number start) ∷ word (codes " ") ∷ field name.Size (number size) ∷ word (codes " ")
+    ∷ field name.Structure (plain structure) ∷ word (codes " ") ∷ field name.Token (token of)
+    ∷ word (codes " ") ∷ field name.Name (text named) ∷ []
+
+-- ---- methods (II.22.26, II.25.4)
+
+abbrev pub method_line : Metadata → Body → List Part
+method_line model body =
+    content_line body.start body.size (codes "method") (token_at MethodDef body.row) (text_of (cell_in model MethodDef body.row 3))
+
+-- the number of methods that are printed
+abbrev pub method_limit : ℕ
+method_limit = 10
+
+-- the lines of the first methods whose bodies contain the byte at an offset of a file
+abbrev pub first_methods : Image → Metadata → ℕ → List (List Part)
+first_methods image model offset = map (method_line model) (take method_limit (bodies_at image model offset))
+
+-- the largest number of sections that Windows loads (II.25.2.2)
+abbrev pub section_limit : ℕ
+section_limit = 96
+
+-- These lines, and none of a file with more sections.
+abbrev pub method_lines : Image → Metadata → ℕ → List (List Part)
+method_lines image model offset = if nat_le (section_count image.bytes) section_limit then first_methods image model offset else []
+
+-- ---- resources (II.22.24)
+
+abbrev pub resource_line : Metadata → ℕ → ℕ → List ℕ → List Part
+resource_line model row offset content =
+    content_line offset (length content) (codes "resource") (token_at ManifestResource row) (text_of (cell_in model ManifestResource row 2))
+
+-- the line of the first resource whose content is in the file and has the byte at an offset of it; no line if there is none
+abbrev pub AreOfResources : List ℕ → CliHeader → Metadata → ℕ → List (List Part) → Type 0
+AreOfResources file header model at [] = (row : ℕ) → HasRow model ManifestResource row → ¬ HasByte file header model row at
+AreOfResources file header model at (line ∷ []) =
+    (row : ℕ) × (first : IsFirstWithByte file header model at row) × (line ≡ resource_line model row first.has.offset first.has.content)
+AreOfResources file header model at _ = ⊥

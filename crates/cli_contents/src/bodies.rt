@@ -1,0 +1,130 @@
+//! The bodies of methods in a file.
+ghost use Rattle.std.specs.Prelude.{◌≡◌, ◌≤◌, ◌++◌, ◌^◌, All, IfOk, IfSome, OnOk, length};
+ghost use Rattle.metadata.specs.Metadata.{Metadata};
+ghost use Rattle.metadata.specs.Model.{IsModel};
+ghost use Rattle.opening.specs.Views.{row_count};
+ghost use Rattle.table_schema.specs.declared.table.TableId.TheVariants.{MethodDef};
+ghost use Rattle.cli_contents.specs.Bodies.{bodies_at, body_at, body_from, body_of, contains, if_contains, listed};
+
+use cli_declarations::number;
+use file_ranges::body_end;
+use opening::{TableId, View};
+use pe::Pe;
+use std::alloc::{AllocError, Global};
+
+/// The cells of a method: its address, an RVA, and its ImplFlags (II.22.26).
+const RVA: usize = 0;
+
+const IMPL_FLAGS: usize = 1;
+
+/// The number of the types of code, of which the first is CIL (II.23.1.10).
+const CODE_TYPES: u32 = 4;
+
+/// The body of a method in a file (II.25.4).
+#[derive(Clone, Copy, Debug, PartialEq, Eq)]
+pub struct Body {
+    /// The row of the method, from 1.
+    pub row: u32,
+    /// The file offset of its header.
+    pub start: usize,
+    /// Its number of bytes, with its header and its data sections.
+    pub size: usize,
+}
+
+/// Whether a body contains the byte at an offset.
+fn contains(body: Body, offset: u64) -> bool
+    ensures { result ≡ contains offset body }
+{
+    let start = body.start as u64;
+    start <= offset && offset - start < body.size as u64
+}
+
+/// The body of a method that begins at an offset of a file.
+fn body_from(file: &[u8], row: u32, start: usize) -> Option<Body>
+    requires small { length file.now ≤ 2 ^ 30 }
+    requires within { start ≤ length file.now }
+    ensures body { result ≡ body_from file.now row start }
+    ensures row { IfSome result (λ body. body.row ≡ row) }
+{
+    let (_, body) = file.split_at(start);
+    let size = body_end(body)?;
+    Some(Body { row, start, size })
+}
+
+/// The body of a method with this address and these ImplFlags, if it has code of CIL in the file.
+#[tactic(auto, unfolding(crate::specs::Bodies::body_at))]
+fn body_at(pe: &Pe<'_>, row: u32, rva: u32, flags: u32) -> Option<Body>
+    requires { length pe.now.bytes ≤ 2 ^ 30 }
+    ensures body { result ≡ body_at pe.now row rva flags }
+    ensures row { IfSome result (λ body. body.row ≡ row) }
+{
+    if rva == 0 || flags % CODE_TYPES != 0 {
+        return None;
+    }
+    let range = pe.range(rva, 1)?;
+    body_from(pe.bytes(), row, range.start)
+}
+
+/// The body of a method, if it has code of CIL in the file.
+#[tactic(auto, unfolding(table_schema::specs::CellColumns::cell_columns))]
+pub fn body_of(pe: &Pe<'_>, view: &View<'_>, row: u32) -> Option<Body>
+    requires small { length pe.now.bytes ≤ 2 ^ 30 }
+    requires first { 1 ≤ row }
+    requires last { row ≤ row_count view.now MethodDef }
+    ensures body { (model : Metadata) → IsModel view.now model → result ≡ body_of pe.now model row }
+    ensures row { IfSome result (λ body. body.row ≡ row) }
+{
+    let rva = number(view, TableId::MethodDef, row, RVA);
+    let flags = number(view, TableId::MethodDef, row, IMPL_FLAGS);
+    body_at(pe, row, rva, flags)
+}
+
+/// The body of a method, if it contains the byte at an offset.
+fn body_with(pe: &Pe<'_>, view: &View<'_>, row: u32, offset: u64) -> Option<Body>
+    requires small { length pe.now.bytes ≤ 2 ^ 30 }
+    requires first { 1 ≤ row }
+    requires last { row ≤ row_count view.now MethodDef }
+    ensures body { (model : Metadata) → IsModel view.now model → listed result ≡ if_contains offset (body_of pe.now model row) }
+    ensures row { IfSome result (λ body. body.row ≡ row) }
+{
+    let body = body_of(pe, view, row)?;
+    if contains(body, offset) {
+        Some(body)
+    } else {
+        None
+    }
+}
+
+/// Appends a body, if there is one.
+fn keep(body: Option<Body>, found: &mut Vec<Body>) -> Result<(), AllocError>
+    ensures { OnOk result (found.new.items ≡ found.old.items ++ listed body) }
+{
+    match body {
+        Some(body) => Ok(found.push(body)?),
+        None => Ok(()),
+    }
+}
+
+/// The bodies that contain the byte at an offset of a file, in the order of their methods. The time is linear in the number
+/// of methods for each section, and the memory in that of the bodies.
+///
+/// # Errors
+///
+/// Only if out of memory.
+pub fn bodies_at(
+    alloc: Global,
+    pe: &Pe<'_>,
+    view: &View<'_>,
+    offset: u64,
+) -> Result<Vec<Body>, AllocError>
+    requires { length pe.now.bytes ≤ 2 ^ 30 }
+    ensures bodies { IfOk result (λ found. (model : Metadata) → IsModel view.now model → found.items ≡ bodies_at pe.now model offset) }
+    ensures rows { IfOk result (λ found. All (λ body. (1 ≤ body.row) × (body.row ≤ row_count view.now MethodDef)) found.items) }
+{
+    let mut found = Vec::new(alloc);
+    let count = view.count(TableId::MethodDef);
+    for row in 1..count + 1 {
+        keep(body_with(pe, view, row, offset), &mut found)?;
+    }
+    Ok(found)
+}

@@ -1,0 +1,82 @@
+//! Prints the line of a resource.
+ghost use Rattle.std.specs.Prelude.{◌≡◌, ◌≤◌, ◌∷◌, ℕ, List, []};
+ghost use Rattle.cli_header.specs.declared.header.CliHeader.{CliHeader as Header};
+ghost use Rattle.cli_lines.specs.Lines.{Part as ThePart};
+ghost use Rattle.cli_lines.specs.Printed.{Prints};
+ghost use Rattle.cli_contents.specs.Lines.{AreOfResources, resource_line};
+ghost use Rattle.metadata.specs.Metadata.{Metadata};
+ghost use Rattle.metadata.specs.Model.{IsModel, IsModelOfFile};
+ghost use Rattle.opening.specs.Views.{row_count};
+ghost use Rattle.resources.specs.Resources.{IsDirectoryOf, IsLocation, here};
+ghost use Rattle.table_schema.specs.declared.table.TableId.TheVariants.{ManifestResource};
+
+use crate::lines::print_content;
+use cli_declarations::text;
+use cli_header::read_cli;
+use cli_lines::Printer;
+use opening::{TableId, Token, View};
+use pe::read_pe;
+use resources::{Content, Directory, Location, NotWithin, directory_of, location_of, resource_at};
+use std::io::Write;
+
+/// The index of the cell with the name of a resource (II.22.24).
+const NAME: usize = 2;
+
+/// Prints the line of the resource in a row, which has this content in the file.
+#[tactic(auto, unfolding(table_schema::specs::CellColumns::cell_columns))]
+fn print_stored<W: Write>(view: &View<'_>, row: u32, content: Content<'_>, out: &mut Printer<'_, W>)
+    requires first { 1 ≤ row }
+    requires last { row ≤ row_count view.now ManifestResource }
+    ensures { (model : Metadata) → IsModel view.now model
+        → Prints out.old out.new (resource_line model row content.entry.offset content.entry.bytes.now ∷ []) }
+{
+    let resource = Token {
+        table: TableId::ManifestResource,
+        row,
+    };
+    let name = text(view, resource.table, resource.row, NAME);
+    let size = content.bytes.len() as u64;
+    print_content(content.offset, size, "resource", resource, name, out);
+}
+
+/// Prints the line of the resource in a row, which is in the file.
+fn print_located<W: Write>(
+    directory: Option<Directory<'_>>,
+    view: &View<'_>,
+    row: u32,
+    out: &mut Printer<'_, W>,
+)
+    requires first { 1 ≤ row }
+    requires last { row ≤ row_count view.now ManifestResource }
+    ensures { (file : List ℕ) (header : Header) (model : Metadata) → IsDirectoryOf file header directory.entry → IsModel view.now model
+        → (offset : ℕ) (content : List ℕ) → IsLocation file header model row (here offset content)
+        → Prints out.old out.new (resource_line model row offset content ∷ []) }
+{
+    match location_of(directory, view, row) {
+        Ok(Location::Here(content)) => print_stored(view, row, content, out),
+        Ok(Location::Elsewhere(_)) => {}
+        Err(NotWithin) => {}
+    }
+}
+
+/// Prints a line for the first resource in a file whose content contains the byte at an offset of it: the file offset and the
+/// size of the content, and the token and the name of the resource.
+///
+/// In JSON it is `{"offset":2364,"size":7,"structure":"resource","token":"28000001","name":"notes.txt"}`.
+pub fn print_resource<W: Write>(file: &[u8], view: &View<'_>, offset: u64, out: &mut Printer<'_, W>)
+    ensures { (header : Header) (model : Metadata) → IsModelOfFile file.now header model → IsModel view.now model
+        → (lines : List (List ThePart)) × AreOfResources file.now header model offset lines × Prints out.old out.new lines }
+{
+    cli_lines::laws::lines_follow::<W>();
+    let Ok(pe) = read_pe(file) else {
+        return;
+    };
+    let Ok(header) = read_cli(&pe) else {
+        return;
+    };
+    let directory = directory_of(file, &header);
+    match resource_at(directory, view, offset) {
+        Some(row) => print_located(directory, view, row, out),
+        None => {}
+    }
+}

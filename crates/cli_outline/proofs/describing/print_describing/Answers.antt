@@ -1,0 +1,23 @@
+use Rattle.std.proofs.Common.{◌+◌, List, drop, subst, sym}
+use Rattle.std.specs.List.{flat_map}
+use Rattle.std.proofs.lemmas.List.{drop_all}
+use Rattle.table_schema.specs.declared.table.TableId.{TableId}
+use Rattle.table_schema.specs.declared.table.TableId.TheVariants.{Module}
+use Rattle.cli_outline.specs.Describing.{PrintsDescribing}
+use Rattle.cli_outline.specs.Outline.{all_rows}
+use Rattle.cli_outline.proofs.PrintedLemmas.{items_left}
+use Rattle.cli_outline.proofs.describing.print_describing.Goals as goal
+
+pub loop-table-preserved : goal.loop-table-preserved
+loop-table-preserved g c = λ model later is printed.
+    let tables = c.args.tables.now in
+    let index = c.loop-table.table-index in
+    c.loop-table.invariant model later is
+    (subst (λ (left : List TableId). PrintsDescribing model c.args.class c.loop-table.out later (flat_map (all_rows model) left)) (sym (items_left tables index Module c.loop-table-test.true))
+    (c.descriptions_follow.ensures.more model c.args.class _ _ _ _ (flat_map (all_rows model) (drop (index + 1) tables)) (c.print_describing_in.ensures model is) printed))
+
+pub returns : goal.returns
+returns g c = λ model is.
+    c.loop-table.invariant model c.loop-table.out is
+    (subst (λ (left : List TableId). PrintsDescribing model c.args.class c.loop-table.out c.loop-table.out (flat_map (all_rows model) left))
+    (sym (drop_all c.loop-table.table-index c.args.tables.now c.loop-table-test.false)) (c.descriptions_follow.ensures.nothing model c.args.class c.loop-table.out))

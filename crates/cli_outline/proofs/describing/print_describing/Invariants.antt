@@ -1,0 +1,14 @@
+use Rattle.std.proofs.Common.{drop}
+use Rattle.std.specs.List.{flat_map}
+use Rattle.metadata.specs.Metadata.{Metadata}
+use Rattle.metadata.specs.Model.{IsModel}
+use Rattle.cli_lines.specs.Printed.{Printed}
+use Rattle.cli_outline.specs.Describing.{PrintsDescribing}
+use Rattle.cli_outline.specs.Outline.{all_rows}
+use Rattle.cli_outline.proofs.describing.print_describing.Given as goal
+
+-- the tables that are left complete the tables
+abbrev pub invariant-loop-table : goal.invariant-loop-table
+invariant-loop-table g l = (model : Metadata) (later : Printed _) → IsModel l.source.view.now model
+    → PrintsDescribing model l.class l.out later (flat_map (all_rows model) (drop l.table-index l.tables))
+    → PrintsDescribing model l.class l.initial.out later (flat_map (all_rows model) l.tables)

@@ -1,0 +1,32 @@
+-- The rows that describe a type or what it declares: interfaces, generic parameters and their constraints, overrides, imports,
+-- permission sets and attributes (ECMA-335 II.22).
+use Rattle.std.specs.Prelude.{◌≡◌, ◌≢◌, ◌⊎◌, ℕ, List, [], ◌∷◌, ◌++◌, Option, None, Some}
+use Rattle.std.specs.List.{flat_map}
+use Rattle.table_schema.specs.declared.token.Token.{Token}
+use Rattle.metadata.specs.Metadata.{Metadata}
+use Rattle.navigation.specs.Nesting.{type_token}
+use Rattle.declaring_types.specs.Declaring.{IsDeclaring}
+use Rattle.cli_lines.specs.Printed.{Printed, Prints}
+use Rattle.cli_outline.specs.Outline.{all_rows, class_rows, last_tables}
+use Rattle.cli_outline.specs.Printed.{PrintsRows}
+
+-- those of some rows that describe a type or what it declares, in the same order
+abbrev pub AreDescribing : Metadata → Token → List Token → List Token → Type 0
+AreDescribing model class [] found = found ≡ []
+AreDescribing model class (row ∷ rows) found =
+    (declaring : Option Token) × IsDeclaring model row declaring × (later : List Token) × AreDescribing model class rows later
+    × (((declaring ≡ Some class) × (found ≡ row ∷ later)) ⊎ ((declaring ≢ Some class) × (found ≡ later)))
+
+-- the rows that describe a type or what it declares, table by table
+abbrev pub AreDescribingType : Metadata → ℕ → List Token → Type 0
+AreDescribingType model class found = AreDescribing model (type_token class) (flat_map (all_rows model) last_tables) found
+
+-- the lines of those of some rows were printed
+abbrev pub PrintsDescribing : {W : Type 0} → Metadata → Token → Printed W → Printed W → List Token → Type 0
+PrintsDescribing model class old new rows = (found : List Token) × AreDescribing model class rows found × PrintsRows model old new found
+
+-- the lines of a type and its members were printed, and those of the rows that describe them; or memory ran out before
+abbrev pub PrintsType : {W : Type 0} → Metadata → ℕ → Printed W → Printed W → Type 0
+PrintsType model class old new =
+    ((found : List Token) × AreDescribingType model class found × PrintsRows model old new (class_rows model class ++ found))
+    ⊎ ((new.waiting ≡ None) × Prints old new [])
