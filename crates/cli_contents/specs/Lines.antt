@@ -35,7 +35,7 @@ method_limit = 10
 abbrev pub first_methods : Image → Metadata → ℕ → List (List Part)
 first_methods image model offset = map (method_line model) (take method_limit (bodies_at image model offset))
 
--- the largest number of sections that Windows loads (II.25.2.2)
+-- the largest number of sections that Windows' loader takes, by Microsoft's PE format
 abbrev pub section_limit : ℕ
 section_limit = 96
 

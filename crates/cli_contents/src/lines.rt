@@ -25,7 +25,7 @@ use std::io::Write;
 /// The number of methods that are printed.
 const LIMIT: usize = 10;
 
-/// The largest number of sections of a file whose methods are printed: Windows loads no file with more (II.25.2.2).
+/// The largest number of sections of a file whose methods are printed: that of Windows' loader, by Microsoft's PE format.
 const SECTION_LIMIT: usize = 96;
 
 /// The cell of a method's name (II.22.26).
@@ -109,7 +109,7 @@ fn print_found<W: Write>(
     }
 }
 
-/// Whether a file has no more sections than Windows loads.
+/// Whether a file has no more than 96 sections.
 fn has_few_sections(file: &[u8]) -> bool
     requires { AllHold (rules_of_image file.now) }
     ensures { result ≡ nat_le (section_count file.now) section_limit }
