@@ -14,7 +14,7 @@ use clap::{ArgMatches, Command, Error};
 use std::alloc::{AllocError, Global};
 
 /// What `--version` prints after the name of the program: its version, and what it is proved and built with (`rt version`).
-const LONG_VERSION: &str = "0.1.0\nproved and built with rattle-kit-13b logic dac8208d650f15bf";
+const LONG_VERSION: &str = "0.1.0\nproved and built with rattle-kit-13f logic dac8208d650f15bf";
 
 /// Parses the arguments of a command line, the program name first.
 ///
