@@ -1,4 +1,5 @@
 pub mod Checked
+pub mod Readable
 pub mod Rules
 pub mod Fields
 pub mod Tail

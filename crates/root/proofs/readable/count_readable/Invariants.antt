@@ -1,0 +1,10 @@
+use Rattle.std.proofs.Common.{◌≡◌, ◌<◌, ℕ}
+use Rattle.root.specs.Fields.{header_offset}
+use Rattle.root.specs.Rules.{HasHeader}
+use Rattle.root.proofs.readable.count_readable.Given as goal
+
+abbrev pub invariant-loop-number : goal.invariant-loop-number
+invariant-loop-number l = record {
+  place : l.place ≡ header_offset l.bytes l.number;
+  each : (i : ℕ) → i < l.number → HasHeader l.bytes (header_offset l.bytes i);
+}
