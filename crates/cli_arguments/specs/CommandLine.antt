@@ -88,6 +88,14 @@ null = record (new_rule (codes "null")) { short = Some 48; action = Some SetTrue
 abbrev pub recursive : Rule
 recursive = record (flag (codes "recursive")) { short = Some 114 }
 
+-- `-q` or `--quiet`; the ASCII code of `q` is 113
+abbrev pub quiet : Rule
+quiet = record (flag (codes "quiet")) { short = Some 113 }
+
+-- `--until-fault`, for broken files
+abbrev pub until_fault : Rule
+until_fault = flag (codes "until-fault")
+
 -- the value after the file
 abbrev pub second : Rule
 second = required (value (codes "second"))
@@ -117,20 +125,20 @@ name_of Explain = codes "explain"
 
 -- the arguments of a subcommand
 abbrev pub rules_of : Subcommand → List Rule
--- `root [--bare] [--files-from LIST] [-0] [-r] [--json] [FILE]..`
-rules_of Root = files ∷ bare ∷ files_from ∷ null ∷ recursive ∷ json ∷ []
+-- `root [--bare] [--files-from LIST] [-0] [-r] [--json] [--until-fault] [FILE]..`
+rules_of Root = files ∷ bare ∷ files_from ∷ null ∷ recursive ∷ json ∷ until_fault ∷ []
 -- `info [--bare] [--budget N] [--files-from LIST] [-0] [-r] [--json] [FILE]..`
 rules_of Info = files ∷ bare ∷ budget ∷ files_from ∷ null ∷ recursive ∷ json ∷ []
--- `check [--bare] [--budget N] [--files-from LIST] [-0] [-r] [-q] [--json] [--where] [FILE]..`; the ASCII code of `q` is 113
-rules_of Check =
-    files ∷ bare ∷ budget ∷ files_from ∷ null ∷ recursive ∷ record (flag (codes "quiet")) { short = Some 113 } ∷ json ∷ flag (codes "where") ∷ []
+-- `check [--bare] [--budget N] [--files-from LIST] [-0] [-r] [-q] [--json] [--where] [FILE]..`
+rules_of Check = files ∷ bare ∷ budget ∷ files_from ∷ null ∷ recursive ∷ quiet ∷ json ∷ flag (codes "where") ∷ []
 -- `show [--bare] [--budget N] [--files-from LIST] [-0] [-r] [--json] [--names] [--until-fault] [FILE].. [TABLE]`; here, of
 -- `outline` and of `where` the last argument is among the values of FILE
-rules_of Show = files ∷ bare ∷ budget ∷ files_from ∷ null ∷ recursive ∷ json ∷ flag (codes "names") ∷ flag (codes "until-fault") ∷ []
+rules_of Show = files ∷ bare ∷ budget ∷ files_from ∷ null ∷ recursive ∷ json ∷ flag (codes "names") ∷ until_fault ∷ []
 -- `types [--bare] [--budget N] [--files-from LIST] [-0] [-r] [--json] [FILE]..`
 rules_of Types = files ∷ bare ∷ budget ∷ files_from ∷ null ∷ recursive ∷ json ∷ []
--- `outline [--bare] [--budget N] [--files-from LIST] [-0] [-r] [--json] [FILE].. [NAME]`
-rules_of Outline = files ∷ bare ∷ budget ∷ files_from ∷ null ∷ recursive ∷ json ∷ []
+-- `outline [--bare] [--budget N] [--files-from LIST] [-0] [-r] [--json] [--no-tokens] [--public] [--sorted] [FILE].. [NAME]`
+rules_of Outline =
+    files ∷ bare ∷ budget ∷ files_from ∷ null ∷ recursive ∷ json ∷ flag (codes "no-tokens") ∷ flag (codes "public") ∷ flag (codes "sorted") ∷ []
 -- `refs [--bare] [--budget N] [--files-from LIST] [-0] [-r] [--json] [FILE]..`
 rules_of Refs = files ∷ bare ∷ budget ∷ files_from ∷ null ∷ recursive ∷ json ∷ []
 -- `resources [--budget N] [--files-from LIST] [-0] [-r] [--json] [--extract NAME] [FILE]..`
@@ -147,8 +155,8 @@ rules_of Rewrite = file ∷ bare ∷ budget ∷ second ∷ []
 rules_of Embed = file ∷ json ∷ second ∷ option (codes "root") ∷ flag (codes "unsigned") ∷ []
 -- `digest [--bare] [--budget N] [--files-from LIST] [-0] [-r] [--json] [FILE]..`
 rules_of Digest = files ∷ bare ∷ budget ∷ files_from ∷ null ∷ recursive ∷ json ∷ []
--- `compare [--bare] [--budget N] [--json] [--ignore TABLE.COLUMN].. FILE OTHER`
-rules_of Compare = file ∷ bare ∷ budget ∷ json ∷ second ∷ record (option (codes "ignore")) { action = Some Append } ∷ []
+-- `compare [--bare] [--budget N] [-q] [--json] [--ignore TABLE.COLUMN].. FILE OTHER`
+rules_of Compare = file ∷ bare ∷ budget ∷ quiet ∷ json ∷ second ∷ record (option (codes "ignore")) { action = Some Append } ∷ []
 -- `explain [--json] [CODE]..`
 rules_of Explain = values (codes "CODE") ∷ json ∷ []
 

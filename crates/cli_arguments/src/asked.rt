@@ -25,7 +25,7 @@ pub struct Ask<'a> {
     pub json: bool,
     /// Whether `show` prints the names of columns.
     pub names: bool,
-    /// Whether `show` prints the rows of a broken file that come before its first broken rule.
+    /// Whether `show` and `root` print what can be read of a broken file before its first broken rule.
     pub until_fault: bool,
     /// Whether `check` prints what has the byte at the offset of a fault, and explains the fault.
     pub locates: bool,
@@ -37,7 +37,7 @@ pub struct Ask<'a> {
     pub files_from: Option<&'a str>,
     /// Whether `-0` was given: the standard input is a list of files, whose names end with NULs.
     pub null: bool,
-    /// Whether `check` was given `-q`: only the exit code says whether files break a rule.
+    /// Whether `check` or `compare` was given `-q`: only the exit code says whether files break a rule, or differ.
     pub quiet: bool,
     /// The path of the root that `embed` takes instead of the canonical one.
     pub root: Option<&'a str>,
@@ -47,6 +47,12 @@ pub struct Ask<'a> {
     pub recursive: bool,
     /// The name of the resource whose content is written.
     pub extract: Option<&'a str>,
+    /// Whether `outline` leaves tokens away.
+    pub no_tokens: bool,
+    /// Whether `outline` prints only what is visible outside of the assembly.
+    pub public: bool,
+    /// Whether `outline` prints types and members in the order of their names.
+    pub sorted: bool,
 }
 
 /// The subcommands of the program.

@@ -8,6 +8,7 @@ pub(crate) const USAGE: Usage<'static> = Usage {
         FILE,
         BARE,
         BUDGET,
+        argument!["quiet" EitherFlag('q') "Print nothing; only the exit status says whether they differ"],
         JSON,
         argument!["second" Required("OTHER") "The file to compare it with"],
         argument!["ignore" Repeated("TABLE.COLUMN") "Do not compare the cells of this column"],
@@ -34,6 +35,8 @@ the same source, whose module versions differ.
 with its 'token' and 'column'. 'left' is the value of FILE, and 'right' that of
 OTHER, as 'clim show --json' prints cells. UserStrings have no values. A fault
 is printed to standard error as without the option.
+
+'--quiet' prints nothing. A fault is still written to standard error.
 
 FILE and OTHER are checked first, as by 'clim check'. If one is refused, its
 name follows the fault. '--bare' is for both.

@@ -12,6 +12,9 @@ pub(crate) const USAGE: Usage<'static> = Usage {
         NULL,
         RECURSIVE,
         JSON,
+        argument!["no-tokens" Flag "Leave the comment with the token away"],
+        argument!["public" Flag "Print only what other assemblies can see"],
+        argument!["sorted" Flag "Print types and members in the order of their names"],
     ],
     output: "\
 Prints a line for each declaration, in a notation close to ILAsm (ECMA-335, II.5

@@ -4,7 +4,15 @@ use crate::subcommands::{BARE, FILES, FILES_FROM, JSON, NULL, RECURSIVE, Usage};
 pub(crate) const USAGE: Usage<'static> = Usage {
     name: "root",
     about: "Print the CLI header, the version and the stream headers",
-    arguments: &[FILES, BARE, FILES_FROM, NULL, RECURSIVE, JSON],
+    arguments: &[
+        FILES,
+        BARE,
+        FILES_FROM,
+        NULL,
+        RECURSIVE,
+        JSON,
+        argument!["until-fault" Flag "Print what can be read before a fault, then the fault"],
+    ],
     output: "\
 For a PE file the first line is 'cli MAJOR.MINOR flags F entry E root OFFSET
 SIZE' (ECMA-335, II.25.3.3). F and E are hexadecimal, and OFFSET is an offset in
@@ -17,6 +25,11 @@ For several FILEs each line begins with 'FILE: '. A FILE that breaks a rule or
 cannot be read is reported to standard error with its name, and the next one
 follows. The exit status is the greatest. 'clim check --help' says what '-r',
 '-0' and '--files-from -' read.
+
+'--until-fault' also prints the lines of a broken FILE, as far as its headers can
+be read: that of the CLI header if layers 1 and 2 of 'clim check --help' break
+no rule, then the version, and the stream headers before the first that cannot
+be read. Then the fault is written to standard error, and the exit status is 1.
 
 '--json' prints a JSON object (RFC 8259) on each line, whose one member is
 'cli', 'version' or 'stream'; for several FILEs the 'file' comes first. A fault

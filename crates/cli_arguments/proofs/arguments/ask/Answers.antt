@@ -89,4 +89,7 @@ returns-clause-given c =
       unsigned = c.flag-8.ensures;
       recursive = c.flag-9.ensures;
       extract = c.get_str-5.ensures ∙ first_value-rows found (codes "extract");
+      no_tokens = c.flag-10.ensures;
+      public = c.flag-11.ensures;
+      sorted = c.flag-12.ensures;
     }
