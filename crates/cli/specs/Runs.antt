@@ -65,7 +65,7 @@ module _ {W : Type 0} (contents : W → Option (List ℕ)) (before after : W) wh
   IsRunOf file_contents (task.Compare file other options) ask status =
       EndsWith (IsFileRun before after file.now (λ left. IsFileRun before after other.now
       (λ right. IsWithin before after options.budget options.input left (IsWithin before after options.budget options.input right
-      (IsComparing contents before after options.form options.ignored options.input left right file.now other.now))))) status
+      (IsComparing contents before after options.output options.ignored options.input left right file.now other.now))))) status
   IsRunOf file_contents (task.Explain rules) ask status = IsExplaining (form_of ask.json) rules.items (contents before) (contents after) status
 
   -- the run of what the arguments ask for: that of their task; or one of them is wrong, and nothing is read or printed

@@ -25,6 +25,8 @@ use Rattle.cli_lines.specs.declared.parts.Form.{Form}
 use Rattle.cli_lines.specs.declared.parts.Form.TheVariants.{JsonLines, Text}
 use Rattle.cli_outline.specs.declared.subject.Subject.{Subject}
 use Rattle.cli_outline.specs.declared.subject.Subject.TheVariants as subject
+use Rattle.cli_roots.specs.declared.compare.Output.{Output}
+use Rattle.cli_roots.specs.declared.compare.Output.TheVariants.{Lines, Quiet as Silent}
 use Rattle.cli_runs.specs.declared.listed.Separator.{Separator}
 use Rattle.cli_runs.specs.declared.listed.Separator.TheVariants.{LineFeed, Nul}
 use Rattle.cli_runs.specs.declared.report.Directories.{Directories}
@@ -109,6 +111,11 @@ abbrev pub IsReportTask : Ask → (Result Report Failure → Type 0) → Result 
 IsReportTask ask is_report result = (of : Result Report Failure) × is_report of × (result ≡ report_task ask of)
 
 -- ---- the reports
+
+-- the report of `root`, by whether the arguments have `--until-fault`
+abbrev pub root_of : Bool → Report
+root_of true = report.RootUntilFault
+root_of false = report.Root
 
 -- what `check` prints, by whether the arguments have `-q` and `--where`
 abbrev pub verdict_of : Bool → Bool → Verdict
@@ -255,13 +262,18 @@ embed_task ask =
     task_on (λ file path. task.Embed file (record { path = path; root = ask.root; strong_name = strong_name_of ask.unsigned; form = form_of ask.json }))
     (paths_of ask.file ask.second)
 
+-- what `compare` prints, by whether the arguments have `-q` and `--json`
+abbrev pub output_of : Bool → Bool → Output
+output_of true json = Silent
+output_of false json = Lines (form_of json)
+
 -- the task is to compare these files, besides the columns that the arguments name; else the failure reports the first
 -- argument that names none
 abbrev pub IsComparison : Ask → Bor (List ℕ) → Bor (List ℕ) → Result Task Failure → Type 0
 IsComparison ask file other result =
     MatchResult result
     (λ made. (ignored : IgnoredColumns) × AreNamed ask.ignored.items ignored
-    × (made ≡ task.Compare file other (record { input = input_of ask.bare; form = form_of ask.json; ignored = ignored; budget = ask.budget })))
+    × (made ≡ task.Compare file other (record { input = input_of ask.bare; output = output_of ask.quiet ask.json; ignored = ignored; budget = ask.budget })))
     (λ failure. (word : Bor (List ℕ)) × IsFirstUnknown NamesSome ask.ignored.items word × IsNoColumn word.now failure)
 
 -- the task of `compare`; a usage error if a file is missing
@@ -295,7 +307,7 @@ IsExplainTask words result = MatchResult result (IsExplanation words) (IsFirstNo
 
 -- the task of a subcommand
 abbrev pub IsTask : Subcommand → Ask → Result Task Failure → Type 0
-IsTask word.Root ask result = result ≡ report_task ask (Ok report.Root)
+IsTask word.Root ask result = result ≡ report_task ask (Ok (root_of ask.until_fault))
 IsTask word.Info ask result = result ≡ report_task ask (Ok report.Info)
 IsTask word.Check ask result = result ≡ report_task ask (Ok (report.Check (verdict_of ask.quiet ask.locates)))
 IsTask word.Show ask result = IsReportTask ask (IsShow ask) result

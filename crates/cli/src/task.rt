@@ -1,6 +1,6 @@
 //! What the arguments ask the program to do.
 ghost use Rattle.std.specs.Prelude.{◌≡◌, IfErr, IfOk};
-ghost use Rattle.cli.specs.Tasks.{AreTokens, IsCompareTask, IsExplainTask, IsFirstNoToken, IsOutline, IsShow, IsTableNamed, IsTask, IsTokens, IsWhere, NamesNoTable, NamesType, directories_of, embed_task, extract_task, form_of, input_of, is_plural, list_task, named_task, names_of, naming_of, paths_of, report_task, request_of, resources_task, rewrite_task, separator_of, strong_name_of, verdict_of};
+ghost use Rattle.cli.specs.Tasks.{AreTokens, IsCompareTask, IsExplainTask, IsFirstNoToken, IsOutline, IsShow, IsTableNamed, IsTask, IsTokens, IsWhere, NamesNoTable, NamesType, directories_of, embed_task, extract_task, form_of, input_of, is_plural, list_task, named_task, names_of, naming_of, output_of, paths_of, report_task, request_of, resources_task, rewrite_task, root_of, separator_of, strong_name_of, verdict_of};
 
 use crate::columns::columns_of;
 use cli_arguments::{Ask, Subcommand};
@@ -12,7 +12,7 @@ use cli_lines::Form;
 use cli_names::{code_of, offset_of, table_of, token_of, type_row_of};
 use cli_nearest::{nearest_code, nearest_column, nearest_table};
 use cli_outline::Subject;
-use cli_roots::{CompareOptions, EmbedOptions};
+use cli_roots::{CompareOptions, EmbedOptions, Output};
 use cli_runs::{Directories, Listing, Naming, Report, Request, Separator, Verdict};
 use embedding::StrongName;
 use packed::FaultCode;
@@ -46,7 +46,7 @@ pub(crate) fn task_of<'a>(alloc: Global, ask: &'a Ask<'a>) -> Result<Task<'a>, F
     ensures { IsTask ask.now.subcommand ask.now result }
 {
     match ask.subcommand {
-        Subcommand::Root => on_files(ask, Ok(Report::Root)),
+        Subcommand::Root => on_files(ask, Ok(root_of(ask.until_fault))),
         Subcommand::Info => on_files(ask, Ok(Report::Info)),
         Subcommand::Check => on_files(ask, Ok(Report::Check(verdict_of(ask.quiet, ask.locates)))),
         Subcommand::Show => on_files(ask, show_of(alloc, ask)),
@@ -215,6 +215,17 @@ fn names_of(shown: bool) -> Names
     if shown { Names::Shown } else { Names::Hidden }
 }
 
+/// The report of `root`, by whether the arguments have `--until-fault`.
+fn root_of<'a>(until_fault: bool) -> Report<'a>
+    ensures { result ≡ root_of until_fault }
+{
+    if until_fault {
+        Report::RootUntilFault
+    } else {
+        Report::Root
+    }
+}
+
 /// The report of `show`: the table that the argument names, or all if there is no argument.
 fn show_of<'a>(alloc: Global, ask: &'a Ask<'a>) -> Result<Report<'a>, Failure<'a>>
     ensures { IsShow ask.now result }
@@ -358,6 +369,17 @@ fn strong_name_of(unsigned: bool) -> StrongName
     }
 }
 
+/// What `compare` prints.
+fn output_of(quiet: bool, json: bool) -> Output
+    ensures { result ≡ output_of quiet json }
+{
+    if quiet {
+        Output::Quiet
+    } else {
+        Output::Lines(form_of(json))
+    }
+}
+
 /// The task of `compare`, which leaves out the columns that arguments name.
 fn compare_of<'a>(alloc: Global, ask: &'a Ask<'a>) -> Result<Task<'a>, Failure<'a>>
     ensures { IsCompareTask ask.now result }
@@ -369,7 +391,7 @@ fn compare_of<'a>(alloc: Global, ask: &'a Ask<'a>) -> Result<Task<'a>, Failure<'
         Ok(ignored) => {
             let options = CompareOptions {
                 input: input_of(ask.bare),
-                form: form_of(ask.json),
+                output: output_of(ask.quiet, ask.json),
                 ignored,
                 budget: ask.budget,
             };

@@ -1,5 +1,6 @@
 pub mod DigestLines
 pub mod Explanations
+pub mod ReadableLines
 pub mod RootLines
 pub mod TypeLines
 pub mod Verdicts

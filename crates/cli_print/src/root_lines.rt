@@ -62,7 +62,7 @@ fn print_header<W: Write>(header: &Option<CliHeader>, out: &mut Printer<'_, W>)
 
 /// Prints the line of a CLI header.
 #[tactic(auto, unfolding(crate::specs::RootLines::cli_line))]
-fn print_cli_header<W: Write>(header: &CliHeader, out: &mut Printer<'_, W>)
+pub(crate) fn print_cli_header<W: Write>(header: &CliHeader, out: &mut Printer<'_, W>)
     ensures { Prints out.old out.new (cli_line header.now ∷ []) }
 {
     out.line(&[
@@ -94,7 +94,7 @@ pub fn print_version<W: Write>(version: &str, out: &mut Printer<'_, W>)
 }
 
 /// Prints the lines of stream headers.
-fn print_streams<W: Write>(headers: Headers<'_>, out: &mut Printer<'_, W>)
+pub(crate) fn print_streams<W: Write>(headers: Headers<'_>, out: &mut Printer<'_, W>)
     ensures { Prints out.old out.new (map stream_line headers.entry) }
 {
     cli_lines::laws::lines_follow::<W>();

@@ -1,11 +1,12 @@
 -- What `clim compare` does with the bytes of two files.
-use Rattle.std.specs.Prelude.{◌≡◌, ◌<◌, ℕ, false, List, ◌⊎◌, IfErr, MatchOption, OnOk, Option}
+use Rattle.std.specs.Prelude.{◌≡◌, ◌<◌, ℕ, false, List, [], ◌⊎◌, IfErr, MatchOption, OnOk, Option}
 use Rattle.std.specs.Io.KnownBytes.{Appends}
 use Rattle.packed.specs.declared.fault.Fault.{Fault}
 use Rattle.packed.specs.Rule.{FirstBroken}
 use Rattle.table_schema.specs.declared.table.TableId.{TableId}
 use Rattle.table_schema.specs.CellColumns.{cell_count}
 use Rattle.metadata.specs.Metadata.{Metadata}
+use Rattle.comparison.specs.declared.difference.Difference.{Difference}
 use Rattle.comparison.specs.Differences.{first_differences_but}
 use Rattle.comparison.specs.EqualBut.{AreEqualBut}
 use Rattle.comparison.specs.Ignored.{is_ignored}
@@ -20,8 +21,9 @@ use Rattle.cli_files.specs.Stopped.{Outcome}
 use Rattle.cli_files.specs.declared.stopped.Stopped.{Stopped}
 use Rattle.cli_input.specs.Checked.{IsModelOf, IsWhole, rules_of}
 use Rattle.cli_input.specs.declared.opened.Input.{Input}
-use Rattle.cli_lines.specs.declared.parts.Form.{Form}
 use Rattle.cli_lines.specs.Lines.{report_text}
+use Rattle.cli_roots.specs.declared.compare.Output.{Output}
+use Rattle.cli_roots.specs.declared.compare.Output.TheVariants.{Lines, Quiet}
 use Rattle.cli_sending.specs.Sent.{SendsPrefix}
 
 -- no column is ignored
@@ -32,10 +34,15 @@ IgnoresNone ignored = (table : TableId) (cell_index : ℕ) → cell_index < cell
 abbrev pub AreSameBut : IgnoredColumns → Metadata → Metadata → Type 0
 AreSameBut ignored model other = AreEqualBut ignored model other × (IgnoresNone ignored → model ≡ other)
 
--- what `clim compare` prints in this form: that nothing differs; or the first of the version, the user strings and the row
--- counts that differs, and the first 20 cells that differ and whose columns are not ignored
-unfoldable pub compare_text : Form → IgnoredColumns → Metadata → Metadata → List ℕ
-compare_text form ignored left right = report_text form (compared_lines left right (first_differences_but ignored left right 20))
+-- what is printed of these differences: their lines, or nothing
+abbrev pub output_text : Output → Metadata → Metadata → List Difference → List ℕ
+output_text (Lines form) left right found = report_text form (compared_lines left right found)
+output_text Quiet left right found = []
+
+-- what `clim compare` prints unless it is quiet: that nothing differs; or the first of the version, the user strings and the
+-- row counts that differs, and the first 20 cells that differ and whose columns are not ignored
+unfoldable pub compare_text : Output → IgnoredColumns → Metadata → Metadata → List ℕ
+compare_text output ignored left right = output_text output left right (first_differences_but ignored left right 20)
 
 -- the first broken rule of the bytes is reported, with the path of their file and a hint if there is one
 pub record IsRefusal (path : List ℕ) (input : Input) (bytes : List ℕ) (stopped : Stopped) : Type 0 where
@@ -45,7 +52,7 @@ pub record IsRefusal (path : List ℕ) (input : Input) (bytes : List ℕ) (stopp
   pub about : MatchOption stopped.file ⊥ (λ file. file.now ≡ path)
   pub hint : stopped.hint ≡ hint_for input bytes stopped.stop
 
-module _ {W : Type 0} (contents : W → Option (List ℕ)) (before after : W) (form : Form) (ignored : IgnoredColumns) where
+module _ {W : Type 0} (contents : W → Option (List ℕ)) (before after : W) (output : Output) (ignored : IgnoredColumns) where
   -- two models, given by what is true of each, are compared
   module _ (IsLeft IsRight : Metadata → Type 0) where
     -- a property of both models
@@ -54,19 +61,19 @@ module _ {W : Type 0} (contents : W → Option (List ℕ)) (before after : W) (f
 
     -- the models are equal but for the cells of ignored columns, and that was printed
     abbrev pub IsSame : Type 0
-    IsSame = OfModels (λ model other. AreSameBut ignored model other × Appends (contents before) (contents after) (compare_text form ignored model other))
+    IsSame = OfModels (λ model other. AreSameBut ignored model other × Appends (contents before) (contents after) (compare_text output ignored model other))
 
     -- something else differs too, and that was printed
     abbrev pub IsDifferent : Stopped → Type 0
     IsDifferent stopped =
         (stopped.stop ≡ Different)
-        × OfModels (λ model other. (¬ AreEqualBut ignored model other) × Appends (contents before) (contents after) (compare_text form ignored model other))
+        × OfModels (λ model other. (¬ AreEqualBut ignored model other) × Appends (contents before) (contents after) (compare_text output ignored model other))
 
     -- the output could not be written or memory ran out, after a prefix of the text
     abbrev pub IsCut : Stopped → Type 0
     IsCut stopped =
         (failure : Failure) × (stopped.stop ≡ Failed failure) × IsOutput failure
-        × OfModels (λ model other. SendsPrefix (contents before) (contents after) (compare_text form ignored model other))
+        × OfModels (λ model other. SendsPrefix (contents before) (contents after) (compare_text output ignored model other))
 
     -- the comparison of the models was printed, or a prefix of it
     pub record IsShown (outcome : Outcome) : Type 0 where

@@ -8,7 +8,7 @@ ghost use Rattle.cli_compare.specs.ComparedLines.{compared_lines};
 ghost use Rattle.cli_input.specs.Checked.{IsModelOf, IsWhole};
 ghost use Rattle.cli_lines.specs.Lines.{report_text};
 ghost use Rattle.cli_sending.specs.Sent.{Sent};
-ghost use Rattle.cli_roots.specs.Compared.{IsComparing, IsRefusal, IsShown};
+ghost use Rattle.cli_roots.specs.Compared.{IsComparing, IsRefusal, IsShown, output_text};
 ghost use Rattle.cli_roots.specs.Runs.{IsFileRun, IsWithin};
 
 use crate::budget::is_spent;
@@ -26,13 +26,22 @@ use std::rt::Files;
 /// The largest number of cells that are printed.
 const CELLS: usize = 20;
 
+/// What is printed of a comparison.
+#[derive(Clone, Copy, Debug, PartialEq, Eq)]
+pub enum Output {
+    /// Lines in this form: what differs, or that nothing does.
+    Lines(Form),
+    /// Nothing: only the exit code says whether something differs.
+    Quiet,
+}
+
 /// How two files are compared.
 #[derive(Clone, Copy, Debug)]
 pub struct CompareOptions {
     /// What the bytes of the files are.
     pub input: Given,
-    /// The form in which what differs is printed.
-    pub form: Form,
+    /// What is printed.
+    pub output: Output,
     /// The columns whose cells are not compared.
     pub ignored: IgnoredColumns,
     /// The largest number of bytes of texts and signature blobs that are checked of each file, if there is a limit.
@@ -62,7 +71,7 @@ pub fn compare_files<'a, R: Files + Input + AllocGlobal, W: Write>(
 ) -> Result<(), Stopped<'a>>
     ensures { IsFileRun out.old out.new file.now (λ left. IsFileRun out.old out.new other.now
         (λ right. IsWithin out.old out.new options.now.budget options.now.input left (IsWithin out.old out.new options.now.budget options.now.input right
-        (IsComparing W.contents out.old out.new options.now.form options.now.ignored options.now.input left right file.now other.now)))) result }
+        (IsComparing W.contents out.old out.new options.now.output options.now.ignored options.now.input left right file.now other.now)))) result }
 {
     let left = read_file(rt, file)?;
     let right = read_file(rt, other)?;
@@ -94,7 +103,7 @@ pub(crate) fn compare<'a, W: Write>(
     options: &CompareOptions,
     out: &mut W,
 ) -> Result<(), Stopped<'a>>
-    ensures { IsComparing W.contents out.old out.new options.now.form options.now.ignored options.now.input left.entry.bytes.now right.entry.bytes.now left.entry.path.now right.entry.path.now result }
+    ensures { IsComparing W.contents out.old out.new options.now.output options.now.ignored options.now.input left.entry.bytes.now right.entry.bytes.now left.entry.path.now right.entry.path.now result }
 {
     let left_view = open_of(left, options.input)?;
     if left.bytes == right.bytes {
@@ -113,7 +122,7 @@ fn compare_views<'a, W: Write>(
     options: &CompareOptions,
     out: &mut W,
 ) -> Result<(), Stopped<'a>>
-    ensures { IsShown W.contents out.old out.new options.now.form options.now.ignored (IsModel left.now) (IsModel right.now) result }
+    ensures { IsShown W.contents out.old out.new options.now.output options.now.ignored (IsModel left.now) (IsModel right.now) result }
 {
     comparison::laws::models_without_other_differences_are_equal_but();
     comparison::laws::models_equal_but_for_no_columns_are_equal();
@@ -121,15 +130,35 @@ fn compare_views<'a, W: Write>(
     let Ok(found) = differences_but(alloc, left, right, &options.ignored, CELLS) else {
         return Err(Stopped::from(Failure::OutOfMemory));
     };
-    match print_found(alloc, options.form, left, right, &found, out) {
+    match print_found(alloc, options.output, left, right, &found, out) {
         Err(failure) => Err(Stopped::from(failure)),
         Ok(()) if found.is_empty() => Ok(()),
         Ok(()) => Err(Stopped::from(Stop::Different)),
     }
 }
 
-/// Prints what differs between two views in a form, or that nothing does.
+/// Prints what differs between two views, or that nothing does, unless nothing is printed.
 fn print_found<'a, W: Write>(
+    alloc: Global,
+    output: Output,
+    left: &View<'_>,
+    right: &View<'_>,
+    found: &[Difference],
+    out: &mut W,
+) -> Result<(), Failure<'a>>
+    requires { All (IsThere left.now right.now) found.now }
+    ensures printed { (model other : Metadata) → IsModel left.now model → IsModel right.now other
+        → Sent (W.contents out.old) (W.contents out.new) result (output_text output model other found.now) }
+    ensures failed { IfErr result IsOutput }
+{
+    match output {
+        Output::Quiet => Ok(()),
+        Output::Lines(form) => print_lines(alloc, form, left, right, found, out),
+    }
+}
+
+/// Prints what differs between two views in a form, or that nothing does.
+fn print_lines<'a, W: Write>(
     alloc: Global,
     form: Form,
     left: &View<'_>,

@@ -18,6 +18,6 @@ mod rewrite;
 
 pub use budget::{check_within, is_spent};
 pub use canonical::canonical_root;
-pub use compare::{CompareOptions, compare_files};
+pub use compare::{CompareOptions, Output, compare_files};
 pub use embed::{EmbedOptions, embed_file};
 pub use rewrite::rewrite_file;

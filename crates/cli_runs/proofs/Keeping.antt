@@ -109,6 +109,7 @@ module _ {W : Type 0} (old new : Printed W) where
   module _ (request : Request) (name bytes : List ℕ) where
     printed_keeps : (of : Report) → IsPrinted (Hands old new) request name bytes of → Keeps
     printed_keeps report.Root out = (out.1 out.0.0 out.0.1 out.0.2).0.same.borrow
+    printed_keeps report.RootUntilFault out = (out.1 out.0.0 out.0.1 out.0.2).0.same.borrow
     printed_keeps report.Info out = of_facts _ _ request.input bytes out.0 (λ header model are. (out.1 header model are).0.same.borrow)
     printed_keeps report.Strings out = of_model _ _ request.input bytes out.0 (λ model is. (out.1 model is).2.0.same.borrow)
     printed_keeps report.Resources out =
@@ -125,6 +126,7 @@ module _ {W : Type 0} (old new : Printed W) where
 
     stopped_keeps : (of : Report) (why : Stop) → IsStopped (Hands old new) request name bytes of why → Keeps
     stopped_keeps report.Root why out = absurd out
+    stopped_keeps report.RootUntilFault why out = out.3.2.0.same.borrow
     stopped_keeps report.Info why out = absurd out
     stopped_keeps report.Strings why out = absurd out
     stopped_keeps report.Resources why out = absurd out

@@ -73,6 +73,7 @@ module _ (P Q : Type 0 → List (List Part) → Type 0) (weaker : (all : Type 0)
 
     printed_weaker : (of : Report) → IsPrinted P request name bytes of → IsPrinted Q request name bytes of
     printed_weaker report.Root out = (out.0, (λ header root are. weaker _ _ (out.1 header root are)))
+    printed_weaker report.RootUntilFault out = (out.0, (λ header root are. weaker _ _ (out.1 header root are)))
     printed_weaker report.Info out = (out.0, (λ header model are. weaker _ _ (out.1 header model are)))
     printed_weaker report.Strings out = (out.0, (λ model is. let at = out.1 model is in (at.0, at.1, weaker _ _ at.2)))
     printed_weaker report.Resources out =
@@ -88,6 +89,7 @@ module _ (P Q : Type 0 → List (List Part) → Type 0) (weaker : (all : Type 0)
 
     stopped_weaker : (of : Report) (why : Stop) → IsStopped P request name bytes of why → IsStopped Q request name bytes of why
     stopped_weaker report.Root why out = absurd out
+    stopped_weaker report.RootUntilFault why out = (out.0, out.1, out.2, (out.3.0, out.3.1, weaker _ _ out.3.2))
     stopped_weaker report.Info why out = absurd out
     stopped_weaker report.Strings why out = absurd out
     stopped_weaker report.Resources why out = absurd out
@@ -183,6 +185,7 @@ module _ (request : Request) {W : Type 0} (contents : W → Option (List ℕ)) (
 -- the name that a line begins with, of a report whose lines do not have it already
 pub other_lead : (of : Report) (file : Option (List ℕ)) → ((v : Verdict) → of ≢ report.Check v) → of ≢ report.Digest → file ≡ lead_of of file
 other_lead report.Root file check digest = refl
+other_lead report.RootUntilFault file check digest = refl
 other_lead report.Info file check digest = refl
 other_lead report.Strings file check digest = refl
 other_lead report.Resources file check digest = refl

@@ -41,6 +41,7 @@ use Rattle.cli_outline.specs.Printed.{AreLines}
 use Rattle.cli_outline.specs.Subjects.{IsSubject}
 use Rattle.cli_print.specs.DigestLines.{digest_line}
 use Rattle.cli_print.specs.Explanations.{IsExplanation}
+use Rattle.cli_print.specs.ReadableLines.{AreReadable}
 use Rattle.cli_print.specs.RootLines.{heads_lines}
 use Rattle.cli_print.specs.TypeLines.{types_lines}
 use Rattle.cli_print.specs.Verdicts.{verdict_line}
@@ -137,6 +138,7 @@ IsRefused request bytes report.Resources (stopped.ResourceOutside of) = IsUnlist
 IsRefused request bytes (report.Where offset) (Failed failure) = failure ≡ OutOfMemory
 IsRefused request bytes (report.Tokens numbers) (Failed OutOfMemory) = IsWhole request.input bytes
 IsRefused request bytes report.Digest (Failed failure) = ReportsUnwritten request.input bytes failure
+IsRefused request bytes report.RootUntilFault stop = ⊥
 IsRefused request bytes (report.ShowUntilFault table names) stop = ⊥
 IsRefused request bytes of (Failed (Fault found)) = FirstBroken (rules_of request.input bytes) found
 IsRefused request bytes of stop = ⊥
@@ -184,11 +186,16 @@ module _ (Out : Type 0 → List (List Part) → Type 0) where
         (structures : List Region) × AreStructuresAt request.input Entries bytes offset structures × (found ≡ found_of structures)
         × HasContents found request.input bytes offset (λ contents. AreOut (where_lines structures ++ contents))
 
-    -- all lines of a report went out
-    abbrev pub IsPrinted : Report → Type 0
-    IsPrinted report.Root =
+    -- the lines of the headers went out
+    abbrev pub AreHeadsOut : Type 0
+    AreHeadsOut =
         HasHeads request.input bytes
         × ((header : Option CliHeader) (root : RootRead) → AreHeads request.input bytes header root → AreOut (heads_lines header root))
+
+    -- all lines of a report went out
+    abbrev pub IsPrinted : Report → Type 0
+    IsPrinted report.Root = AreHeadsOut
+    IsPrinted report.RootUntilFault = AreHeadsOut
     IsPrinted report.Info =
         IsWhole request.input bytes
         × ((header : Option CliHeader) (model : Metadata) → AreFacts request.input bytes header model → AreOut (info_lines bytes header model))
@@ -214,6 +221,9 @@ module _ (Out : Type 0 → List (List Part) → Type 0) where
     IsStopped (report.Check verdict) why =
         (why ≡ Broken) × (is_reported verdict request.form request.naming ≡ false)
         × ((found : Found) × FirstBroken (rules_of request.input bytes) found × IsFaultOut verdict request.input bytes (label request.naming name) found)
+    IsStopped report.RootUntilFault why =
+        (found : Found) × (why ≡ Failed (Fault found)) × FirstBroken (rules_of_heads request.input bytes) found
+        × ((lines : List (List Part)) × AreReadable request.input bytes lines × AreOut lines)
     IsStopped (report.ShowUntilFault table names) why =
         (found : Found) × (why ≡ Failed (Fault found)) × FirstBroken (rules_of request.input bytes) found
         × ((lines : List (List Part)) × AreLinesBefore names request.input bytes (tables_of table) lines × AreOut lines)

@@ -17,7 +17,7 @@ use cli_info::print_info;
 use cli_input::{Input, open};
 use cli_lines::Printer;
 use cli_outline::{Outcome, Subject, print_outline, print_outline_of, print_refs};
-use cli_print::{print_digest, print_root, print_types};
+use cli_print::{print_digest, print_root, print_root_until_fault, print_types};
 use cli_resources::print_resources;
 use cli_roots::{canonical_root, is_spent};
 use cli_where::{Found, print_strings, print_where};
@@ -45,6 +45,7 @@ pub(crate) fn print_report<'a, W: Write>(
     }
     match &request.report {
         Report::Root => ended_by(print_root(bytes, input, out)),
+        Report::RootUntilFault => print_first_headers(request, name, bytes, out),
         Report::Info => ended_by(print_info(alloc, bytes, input, out)),
         Report::Strings => print_user_strings(alloc, request, name, bytes, out),
         Report::Resources => ended_at(print_resources(bytes, out)),
@@ -121,6 +122,21 @@ fn print_user_strings<'a, W: Write>(
     match print_strings(alloc, bytes, request.input, out) {
         Ok(()) => Ended::Printed,
         Err(failure) => Ended::Refused(Stop::Failed(failure)),
+    }
+}
+
+/// Prints the headers, as far as they can be read.
+fn print_first_headers<'a, W: Write>(
+    request: &Request<'_>,
+    name: &str,
+    bytes: &[u8],
+    out: &mut Printer<'_, W>,
+) -> Ended<'a>
+    ensures { HasPrinted request.now name.now bytes.now out.old out.new report.RootUntilFault result }
+{
+    match print_root_until_fault(bytes, request.input, out) {
+        Ok(()) => Ended::Printed,
+        Err(fault) => Ended::Stopped(Stop::Failed(Failure::Fault(fault))),
     }
 }
 

@@ -40,6 +40,8 @@ pub enum Verdict {
 pub enum Report<'a> {
     /// The CLI header, the version and the stream headers (II.25.3.3, II.24.2.1).
     Root,
+    /// The same; of bytes that break a rule for them what can be read before it.
+    RootUntilFault,
     /// What one wants to know first of an assembly: its identity, its headers and its references.
     Info,
     /// The user strings (II.24.2.4).

@@ -3,7 +3,7 @@ use Rattle.cli_compare.specs.ComparedLines.{compared_lines}
 use Rattle.cli_lines.specs.Lines.{Style, report_text, styled_text}
 use Rattle.cli_lines.specs.Printed.{Asked}
 use Rattle.cli_sending.specs.Sent.{Sent}
-use Rattle.cli_roots.proofs.compare.print_found.Goals as goal
+use Rattle.cli_roots.proofs.compare.print_lines.Goals as goal
 
 pub returns-clause-printed : goal.returns-clause-printed
 returns-clause-printed g c =
