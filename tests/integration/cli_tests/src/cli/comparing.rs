@@ -218,3 +218,34 @@ fn names_the_file_with_a_fault(rt: HostRuntime) -> Result<(), Fail> {
     fs::remove_file(&rt, "cut.root")?;
     Ok(())
 }
+
+/// A quiet comparison prints nothing: its exit code is that of the same one with lines. Faults are reported.
+#[test]
+fn compares_quietly(rt: HostRuntime) -> Result<(), Fail> {
+    fs::write(&rt, "whole.root", ONE_MODULE.as_slice())?;
+    write_changed(&rt, "other.root", &ONE_MODULE, 17, b"5")?;
+    fs::write(&rt, "cut.root", &ONE_MODULE[..143])?;
+    let refused = "fault 3 305 at 64: StreamRange\n  file: cut.root\n";
+    for (file, other, status, reported) in [
+        ("whole.root", "whole.root", 0, ""),
+        ("whole.root", "other.root", 1, ""),
+        ("whole.root", "cut.root", 1, refused),
+        ("whole.root", "lacks", 3, "error: cannot read lacks\n  reason: no such file\n"),
+    ] {
+        for quiet in ["-q", "--quiet"] {
+            assert!(rt; ends(&rt, &["clim", "compare", quiet, "--bare", file, other], status, "", reported)?, "{other}");
+        }
+        let words = ["clim", "compare", "--json", "--bare", file, "-q", other];
+        assert!(rt; ends(&rt, &words, status, "", reported)?, "{other}");
+    }
+    let ignored = ["clim", "compare", "--bare", "-q", "--ignore", "Module.Name", "whole.root", "other.root"];
+    assert!(rt; ends(&rt, &ignored, 1, "", "")?);
+    let mut err = Vec::new(rt.alloc());
+    let words = ["clim", "compare", "--bare", "-q", "whole.root", "other.root"];
+    assert_eq!(rt; go(&rt, &words, &mut Full { late: false }, &mut err), 1);
+    assert!(rt; err.is_empty());
+    for file in ["whole.root", "other.root", "cut.root"] {
+        fs::remove_file(&rt, file)?;
+    }
+    Ok(())
+}

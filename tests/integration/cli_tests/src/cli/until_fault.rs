@@ -1,4 +1,4 @@
-//! Tests of `clim show --until-fault`.
+//! Tests of `clim show --until-fault` and `clim root --until-fault`.
 
 use crate::cli::writers::Full;
 use crate::runs::answer;
@@ -173,6 +173,7 @@ fn refuses_other_arguments(rt: HostRuntime) -> Result<(), Fail> {
         (["clim", "show", "--until-fault", "lacks", "typedefs"].as_slice(), "error: TABLE is a table"),
         (&["clim", "show", "--until-fault", "--until-fault", "lacks"], "cannot be used multiple times"),
         (&["clim", "check", "--until-fault", "lacks"], "unexpected argument '--until-fault'"),
+        (&["clim", "root", "--until-fault"], "error: FILE is missing"),
         (&["clim", "types", "--until-fault", "lacks"], "unexpected argument '--until-fault'"),
         (&["clim", "show", "--until-fault=1", "lacks"], "unexpected value '1' for '--until-fault'"),
         (&["clim", "show", "--until-fault"], "error: FILE is missing"),
@@ -180,5 +181,55 @@ fn refuses_other_arguments(rt: HostRuntime) -> Result<(), Fail> {
         let (status, out, err) = answer(&rt, words)?;
         assert!(rt; status == 2 && out.is_empty() && err.contains(reported), "{err}");
     }
+    Ok(())
+}
+
+const ROOT: [&str; 5] = ["clim", "root", "--until-fault", "--bare", "until.root"];
+
+/// The version, and the stream headers before the first that cannot be read, whatever else they break.
+#[test]
+fn prints_some_headers(rt: HostRuntime) -> Result<(), Fail> {
+    let streams = "version v4.0.30319\nstream 80 92 #~\nstream 172 20 #Strings\nstream 192 8 #Blob\n";
+    let renamed = "version v4.0.30319\nstream 80 92 #-\nstream 172 20 #Strings\nstream 192 8 #Blob\n";
+    let apart = "version v4.0.30319\nstream 80 92 #~\nstream 172 20 #Strings\nstream 192 255 #Blob\n";
+    for (changes, printed, fault) in [
+        // `#-`, a stream past the end, and a name that is not ASCII.
+        ([(41, 0x2D)].as_slice(), renamed, "fault 3 307 at 32: Uncompressed\n"),
+        (&[(68, 255)], apart, "fault 3 305 at 64: StreamRange\n"),
+        (&[(72, 0x80)], "version v4.0.30319\nstream 80 92 #~\nstream 172 20 #Strings\n", "fault 3 304 at 64: StreamHeader\n"),
+        (&[(40, 0x80)], "version v4.0.30319\n", "fault 3 304 at 32: StreamHeader\n"),
+        (&[(12, 255)], "", "fault 3 302 at 12: Version\n"),
+        (&[(0, 0)], "", "fault 3 301 at 0: RootSignature\n"),
+    ] {
+        assert!(rt; ends(&rt, &ROOT, changes, printed, fault)?, "{fault}");
+    }
+    fs::write(&rt, "until.root", TWO_TYPES.as_slice())?;
+    let (status, out, err) = answer(&rt, &ROOT)?;
+    assert_eq!(rt; (status, out.as_str(), err.as_str()), (0, streams, ""));
+    let mut err = Vec::new(rt.alloc());
+    assert_eq!(rt; go(&rt, &ROOT, &mut Full { late: false }, &mut err), 3);
+    fs::remove_file(&rt, "until.root")?;
+    Ok(())
+}
+
+/// Of a file the line of the CLI header comes first, unless the PE headers or it break a rule. So it is with several files.
+#[test]
+fn prints_some_headers_of_a_file(rt: HostRuntime) -> Result<(), Fail> {
+    let header = "cli 2.5 flags 00000001 entry 00000000 root 592 144\n";
+    let words = ["clim", "root", "--until-fault", "until.dll"];
+    for (offset, byte, printed, fault) in [
+        (0, 0, "", "fault 1 102 at 0: DosHeader\n"),
+        (520, 71, "", "fault 2 203 at 520: CliSize\n"),
+        (592, 0, header, "fault 3 301 at 592: RootSignature\n"),
+    ] {
+        fs::write(&rt, "until.dll", changed(rt.alloc(), &image(), &[(offset, byte)])?.as_slice())?;
+        let (status, out, err) = answer(&rt, &words)?;
+        assert_eq!(rt; (status, out.as_str(), err.as_str()), (1, printed, fault));
+    }
+    let (status, out, err) = answer(&rt, &["clim", "root", "--until-fault", "--json", "until.dll", "lacks"])?;
+    let line = "{\"file\":\"until.dll\",\"cli\":{\"major\":2,\"minor\":5,\"flags\":\"00000001\",\"entry\":\"00000000\",\"root\":{\"offset\":592,\"size\":144}}}\n";
+    let reported = "fault 3 301 at 592: RootSignature\n  file: until.dll\nerror: cannot read lacks\n  reason: no such file\n";
+    assert_eq!(rt; (status, out.as_str(), err.as_str()), (3, line, reported));
+    fs::remove_file(&rt, "until.dll")?;
     Ok(())
 }

@@ -695,6 +695,9 @@ fn asks_for_a_quiet_check(rt: HostRuntime) -> Result<(), Fail> {
         (&["clim", "check", "-q0"], true),
         (&["clim", "check", "a"], false),
         (&["clim", "check", "--", "-q"], false),
+        (&["clim", "compare", "-q", "a", "b"], true),
+        (&["clim", "compare", "a", "--quiet", "b"], true),
+        (&["clim", "compare", "a", "b"], false),
     ] {
         assert_eq!(rt; ask(rt.alloc(), words)?.quiet, quiet);
     }
@@ -802,5 +805,32 @@ fn names_the_file(rt: HostRuntime) -> Result<(), Fail> {
     }
     assert_eq!(rt; file_named(rt.alloc(), &["clim", "explain", "501"])?, None);
     assert!(rt; file_named(rt.alloc(), &["clim", "token", "a.root"]).is_err());
+    Ok(())
+}
+
+#[test]
+fn asks_for_headers_until_a_fault(rt: HostRuntime) -> Result<(), Fail> {
+    for (words, until_fault) in [
+        (["clim", "root", "--until-fault", "a"].as_slice(), true),
+        (&["clim", "root", "a", "--until-fault"], true),
+        (&["clim", "root", "a"], false),
+        (&["clim", "root", "--", "--until-fault"], false),
+    ] {
+        assert_eq!(rt; ask(rt.alloc(), words)?.until_fault, until_fault);
+    }
+    Ok(())
+}
+
+#[test]
+fn asks_for_an_interface(rt: HostRuntime) -> Result<(), Fail> {
+    for (words, no_tokens, public, sorted) in [
+        (["clim", "outline", "a.dll"].as_slice(), false, false, false),
+        (&["clim", "outline", "--no-tokens", "a.dll"], true, false, false),
+        (&["clim", "outline", "a.dll", "--public", "N.C"], false, true, false),
+        (&["clim", "outline", "--sorted", "--no-tokens", "--public", "a.dll"], true, true, true),
+    ] {
+        let asked = ask(rt.alloc(), words)?;
+        assert_eq!(rt; (asked.no_tokens, asked.public, asked.sorted), (no_tokens, public, sorted));
+    }
     Ok(())
 }
