@@ -11,7 +11,7 @@ use crate::report::{Directories, Ended, Naming, Report, Request};
 use crate::tree::{report_others, run_tree};
 use cli_faults::{Failure, Stop};
 use cli_files::{STANDARD_INPUT, Stopped, out_of_memory, read_into, status};
-use cli_nearest::report_missing_type;
+use cli_nearest::{report_missing_row, report_missing_type};
 use cli_outline::Subject;
 use cli_walk::{Unread, refuse};
 use std::alloc::{AllocError, Global};
@@ -258,7 +258,7 @@ fn path_of(subject: Subject<'_>) -> Option<&str> {
 }
 
 /// Reports to `err` why a report on a file stopped, and returns the exit code. If no type of the only file has the name that was
-/// asked for, the nearest one follows.
+/// asked for, the nearest one follows; if a token names no row, the number of rows.
 fn report_stop<E: Write>(
     alloc: Global,
     request: &Request<'_>,
@@ -274,6 +274,10 @@ fn report_stop<E: Write>(
     match (&stop, &request.report, request.naming) {
         (Stop::NoSuchType, Report::OutlineOf(subject), Naming::Alone) => {
             report_missing_type(alloc, bytes, request.input, path_of(*subject), err);
+            stop.status()
+        }
+        (Stop::Failed(Failure::NoSuchRow), Report::Tokens(numbers), _) => {
+            report_missing_row(alloc, bytes, request.input, numbers.as_slice(), err);
             stop.status()
         }
         // Its line says so.

@@ -49,7 +49,7 @@ fn prints_json_of_a_root(rt: HostRuntime) -> Result<(), Fail> {
     assert_eq!(rt; out.as_str(), format!(in rt.alloc(); "{user}{MODULE}")?.as_str());
     let words = ["clim", "token", "--json", "--bare", "json.root", "02000001"];
     let (status, out, err) = answer(&rt, &words)?;
-    assert_eq!(rt; (status, out.as_str(), err.as_str()), (1, "", "no such row\n"));
+    assert_eq!(rt; (status, out.as_str(), err.as_str()), (1, "", "no such row\n  hint: TypeDef has 0 rows\n"));
     fs::remove_file(&rt, "json.root")?;
     Ok(())
 }

@@ -137,10 +137,10 @@ fn prints_what_a_token_names(rt: HostRuntime) -> Result<(), Fail> {
     for named in [
         Named::new("1", 0, module),
         Named::new("00000001", 0, module),
-        Named::new("00000000", 1, "no such row\n"),
-        Named::new("00000002", 1, "no such row\n"),
+        Named::new("00000000", 1, "no such row\n  hint: Module has 1 row\n"),
+        Named::new("00000002", 1, "no such row\n  hint: Module has 1 row\n"),
         Named::new("05000001", 1, "no such row\n"),
-        Named::new("06000001", 1, "no such row\n"),
+        Named::new("06000001", 1, "no such row\n  hint: MethodDef has 0 rows\n"),
         Named::new("70000000", 0, "user\n"),
         Named::new("70000001", 1, "no such row\n"),
     ] {
@@ -160,7 +160,7 @@ fn prints_what_a_token_names(rt: HostRuntime) -> Result<(), Fail> {
         Named::new("7000000D", 0, "user \\u005c\\u00e9\" 0\n"),
         Named::new("70000018", 0, "user  0\n"),
         Named::new("7000001C", 1, "no such row\n"),
-        Named::new("01000001", 1, "no such row\n"),
+        Named::new("01000001", 1, "no such row\n  hint: TypeRef has 0 rows\n"),
     ] {
         assert_eq!(rt;
             other_name(&rt, &USER_STRINGS, &named)?,
@@ -185,8 +185,8 @@ fn prints_what_several_tokens_name(rt: HostRuntime) -> Result<(), Fail> {
     for (tokens, status, printed, reported) in [
         (["2000001", "04000002"].as_slice(), 0, both.as_str(), ""),
         (&["04000002", "02000001", "4000002"], 0, &turned, ""),
-        (&["2000001", "06000009", "04000002"], 1, module, "no such row\n"),
-        (&["06000009", "2000001"], 1, "", "no such row\n"),
+        (&["2000001", "06000009", "04000002"], 1, module, "no such row\n  hint: MethodDef has 1 row\n"),
+        (&["06000009", "2000001"], 1, "", "no such row\n  hint: MethodDef has 1 row\n"),
         (&["2000001", "04000002", "70000001"], 1, &both, "no such row\n"),
     ] {
         let mut words: Vec<&str> = ["clim", "token", "--bare", "tokens.root"].to_vec(rt.alloc())?;

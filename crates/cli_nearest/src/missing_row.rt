@@ -1,0 +1,65 @@
+//! How many rows a table has that does not have the row of a token.
+use cli_faults::{Failure, Stop};
+use cli_input::{Input, open};
+use cli_sending::send_message;
+use opening::{TableId, Token, View};
+use std::alloc::Global;
+use std::fmt;
+use std::io::Write;
+
+/// The number of a table (II.22) and its row count.
+#[derive(Clone, Copy, Debug, PartialEq, Eq)]
+struct RowCount {
+    table: TableId,
+    rows: u32,
+}
+
+/// Why a row was not printed. `Display` gives the lines for standard error.
+#[derive(Clone, Copy, Debug, PartialEq, Eq)]
+struct MissingRow {
+    /// The table that does not have the row, if the token names a table.
+    table: Option<RowCount>,
+}
+
+impl fmt::Display for MissingRow {
+    fn fmt<W: fmt::Write>(&self, f: &mut fmt::Formatter<W>) -> fmt::Result {
+        write!(f, "{}\n", Stop::Failed(Failure::NoSuchRow))?;
+        match &self.table {
+            Some(RowCount { table, rows: 1 }) => write!(f, "  hint: {} has 1 row\n", table.name()),
+            Some(RowCount { table, rows }) => write!(
+                f,
+                "  hint: {} has {rows} rows\n",
+                table.name()
+            ),
+            None => Ok(()),
+        }
+    }
+}
+
+/// The table of the first token without a row. `None` if no table has its number, as of a user string (III.1.9).
+fn table_without_row(view: &View<'_>, numbers: &[u32]) -> Option<RowCount> {
+    for number in numbers {
+        let Token { table, row } = Token::from_u32(*number)?;
+        let rows = view.count(table);
+        if row == 0 || row > rows {
+            return Some(RowCount { table, rows });
+        }
+    }
+    None
+}
+
+/// Reports that a token names no row, with the number of rows of its table. If the report cannot be written, nothing else
+/// changes.
+pub fn report_missing_row<E: Write>(
+    alloc: Global,
+    bytes: &[u8],
+    input: Input,
+    numbers: &[u32],
+    err: &mut E,
+) {
+    let table = match open(bytes, input) {
+        Ok(view) => table_without_row(&view, numbers),
+        Err(_) => None,
+    };
+    let _ = send_message(alloc, &MissingRow { table }, err);
+}
