@@ -9,7 +9,7 @@ use Rattle.table_schema.specs.declared.token.Token.{Token}
 use Rattle.table_schema.specs.declared.column.ColumnKind.{ColumnKind}
 use Rattle.table_schema.specs.declared.column.ColumnKind.TheVariants as kind
 use Rattle.table_schema.specs.CellColumns.{cell_count}
-use Rattle.metadata.specs.Cell.{Cell, Number, Text, Bytes, Guid, Ref, Start, Sig}
+use Rattle.metadata.specs.Cell.{Cell, Number, Text, Ref, Sig}
 use Rattle.metadata.specs.Kinds.{IsOfKind}
 use Rattle.metadata.specs.Metadata.{Metadata, cell_in}
 use Rattle.metadata.specs.Lookups.{HasRow}
@@ -75,123 +75,48 @@ IsText (Text text) = ⊤
 IsText _ = ⊥
 
 references : (kind : ColumnKind) (cell : Cell) → IsOfKind kind cell → IsOfKind kind (Ref None) → IsReference cell
-references kind.U8 cell is null = absurd null
-references kind.U16 cell is null = absurd null
-references kind.U32 cell is null = absurd null
-references kind.Padding cell is null = absurd null
-references kind.Text cell is null = absurd null
-references kind.Guid cell is null = absurd null
-references kind.Blob cell is null = absurd null
-references (kind.Signature column) cell is null = absurd null
-references (kind.List member) cell is null = absurd null
-references (kind.Row table) (Ref reference) is null = tt
-references (kind.Row table) (Number number) is null = absurd is
-references (kind.Row table) (Text text) is null = absurd is
-references (kind.Row table) (Bytes bytes) is null = absurd is
-references (kind.Row table) (Guid guid) is null = absurd is
-references (kind.Row table) (Start start) is null = absurd is
-references (kind.Row table) (Sig signature) is null = absurd is
-references (kind.Coded coded) (Ref reference) is null = tt
-references (kind.Coded coded) (Number number) is null = absurd is
-references (kind.Coded coded) (Text text) is null = absurd is
-references (kind.Coded coded) (Bytes bytes) is null = absurd is
-references (kind.Coded coded) (Guid guid) is null = absurd is
-references (kind.Coded coded) (Start start) is null = absurd is
-references (kind.Coded coded) (Sig signature) is null = absurd is
+references kind (Ref reference) is null = tt
+references (kind.Row table) _ is null = absurd is
+references (kind.Coded coded) _ is null = absurd is
+references _ _ is null = absurd null
 
 texts : (cell : Cell) → IsOfKind kind.Text cell → IsText cell
 texts (Text text) is = tt
-texts (Ref reference) is = absurd is
-texts (Number number) is = absurd is
-texts (Bytes bytes) is = absurd is
-texts (Guid guid) is = absurd is
-texts (Start start) is = absurd is
-texts (Sig signature) is = absurd is
+texts _ is = absurd is
 
 -- a value that stands for a reference is one
 pub shows_reference : (kind : ColumnKind) (value : CellRef) (cell : Cell) → Shows kind value cell → IsOfKind kind cell → IsOfKind kind (Ref None)
     → ((reference : Option Token) → value ≡ seen.Ref reference → ⊥) → ⊥
 shows_reference kind (seen.Ref reference) cell shows is null not = not reference refl
-shows_reference kind (seen.Number number) cell shows is null not = subst IsReference shows (references kind cell is null)
-shows_reference kind (seen.Text text) cell shows is null not = subst IsReference shows (references kind cell is null)
-shows_reference kind (seen.Bytes bytes) cell shows is null not = subst IsReference shows (references kind cell is null)
-shows_reference kind (seen.Guid guid) cell shows is null not = subst IsReference shows (references kind cell is null)
-shows_reference kind (seen.Start start) cell shows is null not = subst IsReference shows (references kind cell is null)
-shows_reference (kind.Signature column) (seen.Sig blob) cell shows is null not = absurd null
-shows_reference kind.U8 (seen.Sig blob) cell shows is null not = absurd null
-shows_reference kind.U16 (seen.Sig blob) cell shows is null not = absurd null
-shows_reference kind.U32 (seen.Sig blob) cell shows is null not = absurd null
-shows_reference kind.Padding (seen.Sig blob) cell shows is null not = absurd null
-shows_reference kind.Text (seen.Sig blob) cell shows is null not = absurd null
-shows_reference kind.Guid (seen.Sig blob) cell shows is null not = absurd null
-shows_reference kind.Blob (seen.Sig blob) cell shows is null not = absurd null
-shows_reference (kind.List member) (seen.Sig blob) cell shows is null not = absurd null
 shows_reference (kind.Row table) (seen.Sig blob) cell shows is null not = absurd shows
 shows_reference (kind.Coded coded) (seen.Sig blob) cell shows is null not = absurd shows
+shows_reference _ (seen.Sig blob) cell shows is null not = absurd null
+shows_reference kind _ cell shows is null not = subst IsReference shows (references kind cell is null)
 
 abbrev IsNumber : Cell → Type 0
 IsNumber (Number number) = ⊤
 IsNumber _ = ⊥
 
 numbers : (kind : ColumnKind) (cell : Cell) → IsOfKind kind cell → IsOfKind kind (Number 0) → IsNumber cell
-numbers kind.Padding cell is fits = absurd fits
-numbers kind.Text cell is fits = absurd fits
-numbers kind.Guid cell is fits = absurd fits
-numbers kind.Blob cell is fits = absurd fits
-numbers (kind.Signature column) cell is fits = absurd fits
-numbers (kind.List member) cell is fits = absurd fits
-numbers (kind.Row table) cell is fits = absurd fits
-numbers (kind.Coded coded) cell is fits = absurd fits
-numbers kind.U8 (Number number) is fits = tt
-numbers kind.U8 (Ref reference) is fits = absurd is
-numbers kind.U8 (Text text) is fits = absurd is
-numbers kind.U8 (Bytes bytes) is fits = absurd is
-numbers kind.U8 (Guid guid) is fits = absurd is
-numbers kind.U8 (Start start) is fits = absurd is
-numbers kind.U8 (Sig signature) is fits = absurd is
-numbers kind.U16 (Number number) is fits = tt
-numbers kind.U16 (Ref reference) is fits = absurd is
-numbers kind.U16 (Text text) is fits = absurd is
-numbers kind.U16 (Bytes bytes) is fits = absurd is
-numbers kind.U16 (Guid guid) is fits = absurd is
-numbers kind.U16 (Start start) is fits = absurd is
-numbers kind.U16 (Sig signature) is fits = absurd is
-numbers kind.U32 (Number number) is fits = tt
-numbers kind.U32 (Ref reference) is fits = absurd is
-numbers kind.U32 (Text text) is fits = absurd is
-numbers kind.U32 (Bytes bytes) is fits = absurd is
-numbers kind.U32 (Guid guid) is fits = absurd is
-numbers kind.U32 (Start start) is fits = absurd is
-numbers kind.U32 (Sig signature) is fits = absurd is
+numbers kind (Number number) is fits = tt
+numbers kind.U8 _ is fits = absurd is
+numbers kind.U16 _ is fits = absurd is
+numbers kind.U32 _ is fits = absurd is
+numbers _ _ is fits = absurd fits
 
 -- a value that stands for a number is one
 pub shows_number : (kind : ColumnKind) (value : CellRef) (cell : Cell) → Shows kind value cell → IsOfKind kind cell → IsOfKind kind (Number 0)
     → ((number : ℕ) → value ≡ seen.Number number → ⊥) → ⊥
 shows_number kind (seen.Number number) cell shows is fits not = not number refl
-shows_number kind (seen.Ref reference) cell shows is fits not = subst IsNumber shows (numbers kind cell is fits)
-shows_number kind (seen.Text text) cell shows is fits not = subst IsNumber shows (numbers kind cell is fits)
-shows_number kind (seen.Bytes bytes) cell shows is fits not = subst IsNumber shows (numbers kind cell is fits)
-shows_number kind (seen.Guid guid) cell shows is fits not = subst IsNumber shows (numbers kind cell is fits)
-shows_number kind (seen.Start start) cell shows is fits not = subst IsNumber shows (numbers kind cell is fits)
-shows_number kind.Padding (seen.Sig blob) cell shows is fits not = absurd fits
-shows_number kind.Text (seen.Sig blob) cell shows is fits not = absurd fits
-shows_number kind.Guid (seen.Sig blob) cell shows is fits not = absurd fits
-shows_number kind.Blob (seen.Sig blob) cell shows is fits not = absurd fits
-shows_number (kind.Signature column) (seen.Sig blob) cell shows is fits not = absurd fits
-shows_number (kind.List member) (seen.Sig blob) cell shows is fits not = absurd fits
-shows_number (kind.Row table) (seen.Sig blob) cell shows is fits not = absurd fits
-shows_number (kind.Coded coded) (seen.Sig blob) cell shows is fits not = absurd fits
 shows_number kind.U8 (seen.Sig blob) cell shows is fits not = absurd shows
 shows_number kind.U16 (seen.Sig blob) cell shows is fits not = absurd shows
 shows_number kind.U32 (seen.Sig blob) cell shows is fits not = absurd shows
+shows_number _ (seen.Sig blob) cell shows is fits not = absurd fits
+shows_number kind _ cell shows is fits not = subst IsNumber shows (numbers kind cell is fits)
 
 -- a value that stands for a text is one
 pub shows_text : (value : CellRef) (cell : Cell) → Shows kind.Text value cell → IsOfKind kind.Text cell
     → ((text : Bor (List ℕ)) → value ≡ seen.Text text → ⊥) → ⊥
 shows_text (seen.Text text) cell shows is not = not text refl
-shows_text (seen.Ref reference) cell shows is not = subst IsText shows (texts cell is)
-shows_text (seen.Number number) cell shows is not = subst IsText shows (texts cell is)
-shows_text (seen.Bytes bytes) cell shows is not = subst IsText shows (texts cell is)
-shows_text (seen.Guid guid) cell shows is not = subst IsText shows (texts cell is)
-shows_text (seen.Start start) cell shows is not = subst IsText shows (texts cell is)
 shows_text (seen.Sig blob) cell shows is not = absurd shows
+shows_text _ cell shows is not = subst IsText shows (texts cell is)

@@ -24,49 +24,6 @@ of_type : (source : Source) (number : ℕ) (cell : Cell) → Refers source false
 of_type source number cell (inl (zero, null, is)) = absurd cc
 of_type source number cell (inr (there, is)) = rw is refl
 
--- the columns of the other references are keys
-accessor_key : IsKeyCell MethodSemantics 2
-unfolding cell_columns
-accessor_key = record {
-  within = omega arith;
-  key = refl;
-}
-
-constant_key : IsKeyCell Constant 1
-unfolding cell_columns
-constant_key = record {
-  within = omega arith;
-  key = refl;
-}
-
-layout_key : IsKeyCell ClassLayout 2
-unfolding cell_columns
-layout_key = record {
-  within = omega arith;
-  key = refl;
-}
-
-offset_key : IsKeyCell FieldLayout 1
-unfolding cell_columns
-offset_key = record {
-  within = omega arith;
-  key = refl;
-}
-
-data_key : IsKeyCell FieldRVA 1
-unfolding cell_columns
-data_key = record {
-  within = omega arith;
-  key = refl;
-}
-
-marshal_key : IsKeyCell FieldMarshal 0
-unfolding cell_columns
-marshal_key = record {
-  within = omega arith;
-  key = refl;
-}
-
 module _ (root : List ℕ) (model : Metadata)
     (cells : (table : TableId) (row cell_index : ℕ) → 1 ≤ row → row ≤ rows_in (source_of root) table → cell_index < cell_count table
     → IsCell (source_of root) table row cell_index (cell_in model table row cell_index))
@@ -78,12 +35,12 @@ module _ (root : List ℕ) (model : Metadata)
   numbers_are_one link_of.Events row first last = of_type (source_of root) (number_in root link_of.Events row) (cell_in model EventMap row 0) (cells EventMap row 0 first last (omega arith))
   numbers_are_one link_of.Properties row first last =
       of_type (source_of root) (number_in root link_of.Properties row) (cell_in model PropertyMap row 0) (cells PropertyMap row 0 first last (omega arith))
-  numbers_are_one link_of.Accessors row first last = keys MethodSemantics 2 row accessor_key first last
-  numbers_are_one link_of.Constants row first last = keys Constant 1 row constant_key first last
-  numbers_are_one link_of.TypeLayouts row first last = keys ClassLayout 2 row layout_key first last
-  numbers_are_one link_of.FieldOffsets row first last = keys FieldLayout 1 row offset_key first last
-  numbers_are_one link_of.FieldData row first last = keys FieldRVA 1 row data_key first last
-  numbers_are_one link_of.Marshalling row first last = keys FieldMarshal 0 row marshal_key first last
+  numbers_are_one link_of.Accessors row first last = keys MethodSemantics 2 row (record { within = omega arith; key = refl }) first last
+  numbers_are_one link_of.Constants row first last = keys Constant 1 row (record { within = omega arith; key = refl }) first last
+  numbers_are_one link_of.TypeLayouts row first last = keys ClassLayout 2 row (record { within = omega arith; key = refl }) first last
+  numbers_are_one link_of.FieldOffsets row first last = keys FieldLayout 1 row (record { within = omega arith; key = refl }) first last
+  numbers_are_one link_of.FieldData row first last = keys FieldRVA 1 row (record { within = omega arith; key = refl }) first last
+  numbers_are_one link_of.Marshalling row first last = keys FieldMarshal 0 row (record { within = omega arith; key = refl }) first last
 
   -- so the same rows refer to a row
   pub rows_linked : (of : Link) (number : ℕ) (token : Token) → number ≡ number_to of token

@@ -5,7 +5,7 @@ use Rattle.table_schema.specs.declared.table.TableId.{TableId}
 use Rattle.table_schema.specs.declared.column.ColumnKind.{ColumnKind}
 use Rattle.table_schema.specs.declared.column.ColumnKind.TheVariants as kind
 use Rattle.table_schema.specs.CellColumns.{cell_columns, cell_count}
-use Rattle.metadata.specs.Cell.{Cell, Number, Text, Bytes, Guid, Ref, Start, Sig}
+use Rattle.metadata.specs.Cell.{Cell, Start}
 use Rattle.metadata.specs.Kinds.{IsOfKind}
 use Rattle.metadata.specs.Metadata.{Metadata, count_in, cell_in}
 use Rattle.metadata.specs.Lookups.{HasRow}
@@ -18,28 +18,17 @@ use Rattle.navigation.specs.Owners.{Owns}
 kind_of_list : (list : MemberList) → kind_at (owner_of list) (cell_of list) ≡ kind.List (member_of list)
 unfolding cell_columns
 kind_of_list list_of.Fields = refl
-kind_of_list list_of.Methods = refl
-kind_of_list list_of.Params = refl
-kind_of_list list_of.Events = refl
-kind_of_list list_of.Properties = refl
+kind_of_list _ = refl
 
 cell_of_list : (list : MemberList) → cell_of list < cell_count (owner_of list)
 unfolding cell_columns
 cell_of_list list_of.Fields = omega arith
-cell_of_list list_of.Methods = omega arith
-cell_of_list list_of.Params = omega arith
-cell_of_list list_of.Events = omega arith
-cell_of_list list_of.Properties = omega arith
+cell_of_list _ = omega arith
 
 -- a cell of a list column is a start
 starts : (member : TableId) (cell : Cell) → IsOfKind (kind.List member) cell → cell ≡ Start (start_in cell)
 starts member (Start start) is = refl
-starts member (Ref reference) is = absurd is
-starts member (Text text) is = absurd is
-starts member (Number number) is = absurd is
-starts member (Bytes bytes) is = absurd is
-starts member (Guid guid) is = absurd is
-starts member (Sig signature) is = absurd is
+starts member _ is = absurd is
 
 -- where the run of an owner begins
 abbrev pub start_of : Metadata → MemberList → ℕ → ℕ
