@@ -18,6 +18,9 @@ DEPTH = 64
 KEY, VALUE, NEAR = 2080, 1024, 86
 # The largest number of sections or streams, and that of parameters that rows of Param can have.
 MOST_HEADERS, MOST_PARAMETERS = 65_000, 60_000
+# The name of a type or a resource that is looked up, and the path of a type that is nested deep and has it.
+SOUGHT = "c" * 64
+INNERMOST = "a/" * (DEPTH - 1) + SOUGHT
 
 
 def bytes_of(made):
@@ -516,6 +519,49 @@ def references_in_a_circle_without_names(size):
     return in_a_circle(size, 0)
 
 
+def members_in_a_circle(size, name):
+    """Members of a type of another module, whose scopes go in a circle."""
+    ring = [(coded("ResolutionScope", "TypeRef", it % DEPTH + 1), name, 0) for it in range(1, DEPTH + 1)]
+    return {"TypeRef": ring, "MemberRef": [(coded("MemberRefParent", "TypeRef", 1), name, 1)] * (size // 10)}
+
+
+def members_in_a_circle_without_names(size):
+    return Root(members_in_a_circle(size, 0), blobs=heap(FIELD))
+
+
+def members_in_a_circle_with_long_names(size):
+    return Root(members_in_a_circle(size // 2, 1), heap(b"a" * (size // 2), b"\0"), heap(FIELD))
+
+
+def one_chain_of_references(size):
+    """Types of other modules each of which encloses the next one."""
+    rows = [(coded("ResolutionScope", "TypeRef", it - 1), 1, 0) for it in range(2, size // 10)]
+    return Root({"AssemblyRef": [reference_row()], "TypeRef": [(coded("ResolutionScope", "AssemblyRef", 1), 1, 0), *rows]}, b"\0a\0")
+
+
+def references_in_one_long_assembly(size):
+    """Types of an assembly that has a long name, and members of these types."""
+    types = size // 64
+    rows = {"AssemblyRef": [reference_row()], "TypeRef": [(coded("ResolutionScope", "AssemblyRef", 1), 0, 0)] * types}
+    rows["MemberRef"] = [(coded("MemberRefParent", "TypeRef", it), 0, 1) for it in range(1, types + 1)]
+    return Root(rows, heap(b"a" * (size // 2), b"\0"), heap(FIELD))
+
+
+def members_of_a_method(size):
+    """Members whose parent is a method of a type that is nested deep. Types before it have no methods, and their lists are null."""
+    made = nested_deep(max(DEPTH, size // 64), MethodDef=[method_row()])
+    made.rows["TypeDef"][1 : DEPTH - 1] = [type_row(methods=0)] * (DEPTH - 2)
+    made.rows["MemberRef"] = [(coded("MemberRefParent", "MethodDef", 1), 1, 1)] * (size // 16)
+    return made
+
+
+def many_members_of_a_long_type(size):
+    """Members of a TypeSpec, a generic type with many arguments."""
+    rows = {"TypeDef": [type_row(0)] * 2, "TypeSpec": [(1 + len(METHOD),)]}
+    rows["MemberRef"] = [(coded("MemberRefParent", "TypeSpec", 1), 0, 1)] * (size // 64)
+    return Root(rows, blobs=heap(METHOD, blob_of(generic_of(size // 8))))
+
+
 def nested_types_of_one_name(size):
     """Types that one type of another name encloses, and that all have one name."""
     count = size // 28
@@ -606,6 +652,51 @@ def types_with_near_names_at_the_end(size):
     return Root({"TypeDef": [type_row(size // 2 + 2)] * (size // 40)}, heap(b"b" * (size // 2), b"\0", b"a" * NEAR, b"\0"))
 
 
+# ---- types that are found, the last of many
+
+
+def last_type_is_named(size):
+    """Types whose names begin as that of the last one does."""
+    rows = [type_row(1)] * (size // 20) + [type_row(2 + len(SOUGHT))]
+    return Root({"TypeDef": rows}, heap(SOUGHT.encode()[1:], b"d\0", SOUGHT.encode(), b"\0"))
+
+
+def last_type_is_nested(size):
+    """Types that are nested deep, of which only the innermost one of the last chain has another name."""
+    count = max(2, size // 30 // DEPTH) * DEPTH
+    made = nested_deep(count, b"a\0" + SOUGHT.encode())
+    made.rows["TypeDef"][-1] = type_row(3)
+    return made
+
+
+def several_types_in_one_long_namespace(size):
+    """Types that share a name, in a long namespace."""
+    texts = heap(SOUGHT.encode(), b"\0", b"a" * (size // 2), b"\0")
+    return Root({"TypeDef": [type_row(1, 2 + len(SOUGHT))] * (size // 40)}, texts)
+
+
+def several_nested_types(size):
+    """Types that share a name, each the innermost one of those that are nested deep, and whose names are long."""
+    count = max(2, size // 60 // DEPTH) * DEPTH
+    made = nested_deep(count, SOUGHT.encode() + b"\0" + b"a" * (size // 2))
+    last = 2 + len(SOUGHT)
+    made.rows["TypeDef"] = [type_row(1 if row % DEPTH == 0 else last) for row in range(1, count + 1)]
+    return made
+
+
+def rows_of_the_last_type(size):
+    """Rows that describe the last of many types, and its field: in each table that describes types or their members."""
+    types = size // 56
+    owner, field = coded("TypeDefOrRef", "TypeDef", types), coded("HasCustomAttribute", "Field", 1)
+    rows = {"TypeDef": [type_row()] * types, "Field": [(0, 1, 1 + len(METHOD))], "MethodDef": [method_row()]}
+    rows["InterfaceImpl"] = [(types, owner)] * types
+    rows["GenericParam"] = [(0, 0, coded("TypeOrMethodDef", "TypeDef", types), 1)] * types
+    rows["GenericParamConstraint"] = [(types, owner)] * types
+    rows["DeclSecurity"] = [(1, coded("HasDeclSecurity", "TypeDef", types), 0)] * types
+    rows["CustomAttribute"] = [(field, coded("CustomAttributeType", "MethodDef", 1), 0)] * types
+    return Root(rows, b"\0a\0", heap(METHOD, FIELD))
+
+
 # ---- user strings
 
 
@@ -684,6 +775,41 @@ def bodies_with_data(size):
     """The body has the largest number of data sections that is looked at (II.25.4.5)."""
     section = struct.pack("<BBH", 0x81, 4, 0)
     return bodies_of(size, struct.pack("<HHII", 0x300B, 0, 4, 0) + bytes(4) + section * 63 + b"\x01" + section[1:])
+
+
+def resources_of(content, names, texts, rows=None):
+    """A file with resources of these names, which all have this content, before the root. Rows of another file may be given."""
+    made = Root({"ManifestResource": [(0, 1, name, 0) for name in names], **(rows or {})}, texts)
+    directory = struct.pack("<I", len(content)) + content
+    image = bytearray(image_of(made.encoded(), directory))
+    # The field of the resources in the CLI header (II.25.3.3).
+    struct.pack_into("<II", image, image.index(struct.pack("<IHH", CLI_HEADER, 2, 5)) + 24, ADDRESS + CLI_HEADER, len(directory))
+    return bytes(image)
+
+
+def resources_with_one_content(size):
+    return resources_of(b"r" * (size // 2), [1] * (size // 24), b"\0a\0")
+
+
+def resources_of_one_long_name(size):
+    return resources_of(b"", [1] * (size // 24), heap(b"a" * (size // 2), b"\0"))
+
+
+def resources_with_endings_as_names(size):
+    return resources_of(b"", range(1, size // 24), heap(b"\1" * (size // 2), b"\0"))
+
+
+def last_resource_is_named(size):
+    """Resources whose names begin as that of the last one does, which has a long content."""
+    texts = heap(SOUGHT.encode()[1:], b"d\0", SOUGHT.encode(), b"\0")
+    return resources_of(b"r" * (size // 4), [1] * (size // 16) + [2 + len(SOUGHT)], texts)
+
+
+def resources_elsewhere(size):
+    """Resources of another file, which has a long name."""
+    file = coded("Implementation", "File", 1)
+    rows = {"File": [(0, 1, 0)], "ManifestResource": [(0, 1, 0, file)] * (size // 24)}
+    return resources_of(b"", [], heap(b"a" * (size // 2), b"\0"), rows)
 
 
 def field_data(size, parents):
