@@ -6,7 +6,7 @@ ghost use Rattle.row_order.specs.Orders.{ReportsOrder};
 use reading::Source;
 use table_schema::{TableId, key};
 
-/// Whether the keys of each table never decrease, by table number.
+/// Whether the keys of each table never decrease, by table number; `false` for tables without a key.
 ///
 /// Each key is read at most twice: with its own row and with the next row.
 pub fn find_order(source: &Source) -> [bool; 45]
