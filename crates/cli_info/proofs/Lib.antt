@@ -2,3 +2,5 @@ pub mod AttributeLemmas
 pub mod HeaderLemmas
 pub mod TokenLemmas
 pub mod QuoteLemmas
+pub mod OwnerLemmas
+pub mod TextLemmas

@@ -1,18 +1,20 @@
 -- The custom attributes of the assembly whose arguments are all strings (ECMA-335 II.22.10 and II.23.3).
-use Rattle.std.specs.Prelude.{ℕ, ◌+◌, ◌-◌, List, [], ◌∷◌, ◌++◌, codes, flat_map, Option, None, Some}
+use Rattle.std.specs.Prelude.{ℕ, ◌+◌, ◌-◌, ◌==◌, ◌&&◌, Bool, true, false, if◌then◌else◌, List, [], ◌∷◌, ◌++◌, codes, flat_map, Option, None, Some, option_and_then}
 use Rattle.std.specs.List.{range_with_len}
 use Rattle.table_schema.specs.declared.table.TableId.{TableId}
-use Rattle.table_schema.specs.declared.table.TableId.TheVariants.{CustomAttribute, TypeDef, TypeRef}
+use Rattle.table_schema.specs.declared.table.TableId.TheVariants.{Assembly, CustomAttribute, TypeDef, TypeRef}
 use Rattle.table_schema.specs.declared.token.Token.{Token}
 use Rattle.attribute_values.specs.Items.{Item, fixed, entry, named_count, named}
-use Rattle.assembly_attributes.specs.Constructors.{constructor_of, strings_taken, type_of}
-use Rattle.assembly_attributes.specs.Values.{string_in, strings, texts_in}
+use Rattle.attribute_constructors.specs.Params.{params_of_constructor}
 use Rattle.metadata.specs.Metadata.{Metadata, cell_in, count_in}
+use Rattle.attribute_constructors.specs.Signatures.{reference_in}
 use Rattle.cli_declarations.specs.Parts.{bytes_of, text_of}
 use Rattle.cli_lines.specs.declared.names.Name.TheVariants as name
 use Rattle.cli_lines.specs.Lines as line
 use Rattle.cli_lines.specs.Lines.{Part, Value, word, field, note, member, plain, quoted, null}
 use Rattle.cli_print.specs.TypeLines.{dot_after}
+use Rattle.cli_info.specs.Constructors.{type_of}
+use Rattle.cli_info.specs.Texts.{string_in, texts_in}
 
 abbrev pub quoted_or_null : Option (List ℕ) → Value
 quoted_or_null None = null
@@ -64,13 +66,24 @@ lines_of_items model _ _ = []
 
 abbrev pub lines_of_value : Metadata → Option Token → List ℕ → List (List Part)
 lines_of_value model None value = []
-lines_of_value model (Some of) value = lines_of_items model (type_of model of.table of.row) (texts_in (strings (strings_taken model of.table of.row)) value)
+lines_of_value model (Some of) value = lines_of_items model (type_of model of.table of.row) (option_and_then (λ params. texts_in params value) (params_of_constructor model of.table of.row))
 
--- The line of an attribute. Left out are attributes of anything but the assembly, those whose constructor takes anything but
--- strings, or none, or too many, those whose type is no row of TypeDef or TypeRef, and those whose value is too long, does not
--- fit the constructor, or has an argument that is no string.
+abbrev pub is_assembly_table : TableId → Bool
+is_assembly_table Assembly = true
+is_assembly_table _ = false
+
+-- the first row of Assembly, the only one that the standard allows
+abbrev pub is_assembly : Option Token → Bool
+is_assembly None = false
+is_assembly (Some of) = is_assembly_table of.table && of.row == 1
+
+-- The line of an attribute. Left out are attributes of anything but the assembly, those whose constructor takes no arguments or
+-- has no types here, those whose type is no row of TypeDef or TypeRef, and those whose value is too long, does not fit the
+-- constructor, or has an argument that is no string.
 unfoldable pub attribute_lines : Metadata → ℕ → List (List Part)
-attribute_lines model row = lines_of_value model (constructor_of model row) (bytes_of (cell_in model CustomAttribute row 2))
+attribute_lines model row =
+    if is_assembly (reference_in (cell_in model CustomAttribute row 0))
+    then lines_of_value model (reference_in (cell_in model CustomAttribute row 1)) (bytes_of (cell_in model CustomAttribute row 2)) else []
 
 -- those of the rows after the first ones
 unfoldable pub attributes_after : Metadata → ℕ → ℕ → List (List Part)

@@ -1,3 +1,5 @@
+pub mod Constructors
+pub mod Texts
 pub mod HeaderLines
 pub mod DisplayNames
 pub mod Identities

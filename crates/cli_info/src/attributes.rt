@@ -10,28 +10,28 @@ ghost use Rattle.cli_declarations.specs.Parts.{text_of};
 ghost use Rattle.cli_print.specs.TypeLines.{dot_after};
 ghost use Rattle.cli_lines.specs.Printed.{Adds, Prints};
 ghost use Rattle.cli_lines.specs.Shown.{shown_value};
-ghost use Rattle.assembly_attributes.specs.Constructors.{type_of};
-ghost use Rattle.assembly_attributes.specs.Values.{string_in};
-ghost use Rattle.cli_info.specs.Attributes.{argument_parts, attribute_line, attribute_lines, attributes_lines, first_parts, item_parts, items_parts, lines_of_items, lines_of_type, lines_of_value, quoted_or_null, string_parts};
+ghost use Rattle.cli_info.specs.Attributes.{argument_parts, attribute_line, attribute_lines, attributes_lines, first_parts, is_assembly, is_assembly_table, item_parts, items_parts, lines_of_items, lines_of_type, lines_of_value, quoted_or_null, string_parts};
+ghost use Rattle.cli_info.specs.Constructors.{type_of};
+ghost use Rattle.cli_info.specs.Texts.{string_in, texts_in};
 
-use assembly_attributes::{constructor_of, params_of, string_in, texts_in, type_of};
-use attribute_values::{Argument, Item, Items};
+use crate::constructors::type_of;
+use crate::texts::{string_in, texts_in};
+use attribute_constructors::{constructor, params_of, reference};
+use attribute_values::{Argument, ArgumentType, Item, Items};
 use cli_declarations::{bytes, text};
 use cli_lines::Part::{Field, Member, Note, Word};
 use cli_lines::Value::{Null, Plain, Quoted, Text};
 use cli_lines::{Name, Printer, Value};
+use cli_print::{NAME, NAMESPACE};
 use navigation::Neighbours;
 use opening::{TableId, Token, View};
 use std::alloc::Global;
 use std::io::Write;
 
-/// The index of the cell with the value of an attribute (II.22.10).
+/// The indexes of the cells with the parent and the value of an attribute (II.22.10).
+const PARENT: usize = 0;
+
 const VALUE: usize = 2;
-
-/// The indexes of the cells with the name and the namespace of a type (II.22.37, II.22.38).
-const NAME: usize = 1;
-
-const NAMESPACE: usize = 2;
 
 /// A text in quotes, or `null`.
 fn quoted_or_null(text: Option<&str>) -> Value<'_>
@@ -207,6 +207,26 @@ fn print_constructed<W: Write>(
     }
 }
 
+/// Prints the line of an attribute with this constructor, parameters and value, if all arguments are strings.
+fn print_texts<W: Write>(
+    source: &Neighbours<'_, '_>,
+    of: Token,
+    params: &[ArgumentType],
+    value: &[u8],
+    out: &mut Printer<'_, W>,
+)
+    requires first { 1 ≤ of.row }
+    requires last { of.row ≤ row_count source.now.view.now of.table }
+    ensures { (model : Metadata) → IsModel source.now.view.now model
+        → Prints out.old out.new (lines_of_items model (type_of model of.table of.row) (texts_in params.now value.now)) }
+{
+    cli_lines::laws::lines_follow::<W>();
+    match texts_in(value, params) {
+        Some(items) => print_constructed(source, of, items, out),
+        None => {}
+    }
+}
+
 /// Prints the line of an attribute with this constructor and this value, if all arguments are strings.
 fn print_value<W: Write>(
     source: &Neighbours<'_, '_>,
@@ -219,9 +239,26 @@ fn print_value<W: Write>(
     ensures { (model : Metadata) → IsModel source.now.view.now model → Prints out.old out.new (lines_of_value model (Some of) value.now) }
 {
     cli_lines::laws::lines_follow::<W>();
-    match texts_in(value, params_of(source.view, of)) {
-        Some(items) => print_constructed(source, of, items, out),
+    match params_of(source, of) {
+        Some(params) => print_texts(source, of, params.as_slice(), value, out),
         None => {}
+    }
+}
+
+/// Whether a table is Assembly.
+fn is_assembly_table(table: TableId) -> bool
+    ensures { result ≡ is_assembly_table table }
+{
+    matches!(table, TableId::Assembly)
+}
+
+/// Whether this is the first row of Assembly.
+fn is_assembly(of: Option<Token>) -> bool
+    ensures { result ≡ is_assembly of }
+{
+    match of {
+        Some(of) => is_assembly_table(of.table) && of.row == 1,
+        None => false,
     }
 }
 
@@ -233,7 +270,10 @@ fn print_attribute<W: Write>(source: &Neighbours<'_, '_>, row: u32, out: &mut Pr
     ensures { (model : Metadata) → IsModel source.now.view.now model → Prints out.old out.new (attribute_lines model row) }
 {
     cli_lines::laws::lines_follow::<W>();
-    match constructor_of(source.view, row) {
+    if !is_assembly(reference(source.view, TableId::CustomAttribute, row, PARENT)) {
+        return;
+    }
+    match constructor(source.view, row) {
         Some(of) => {
             let value = bytes(source.view, TableId::CustomAttribute, row, VALUE);
             print_value(source, of, value, out);

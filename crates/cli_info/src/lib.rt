@@ -13,9 +13,11 @@
 #![tactic(auto)]
 
 mod attributes;
+mod constructors;
 mod display_names;
 mod headers;
 mod identities;
 mod info;
+mod texts;
 
 pub use info::print_info;

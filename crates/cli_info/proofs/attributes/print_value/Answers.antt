@@ -1,23 +1,23 @@
-use Rattle.std.proofs.Common.{◌∙◌, List, Option, ap, subst, sym}
-use Rattle.attribute_values.specs.Items.{Item}
-use Rattle.assembly_attributes.specs.Constructors.{type_of}
-use Rattle.assembly_attributes.specs.Values.{texts_in}
+use Rattle.std.proofs.Common.{◌∙◌, List, Option, Some, ap, subst}
+use Rattle.cli_info.specs.Constructors.{type_of}
+use Rattle.std.specs.Prelude.{option_and_then}
+use Rattle.attribute_values.specs.declared.types.ArgumentType.{ArgumentType}
 use Rattle.cli_lines.specs.Lines.{Part}
 use Rattle.cli_lines.specs.Printed.{Prints}
 use Rattle.cli_info.specs.Attributes.{lines_of_items}
+use Rattle.cli_info.specs.Texts.{texts_in}
 use Rattle.cli_info.proofs.AttributeLemmas.{no_items}
 use Rattle.cli_info.proofs.attributes.print_value.Goals as goal
 
 pub returns-in-Some : goal.returns-in-Some
 returns-in-Some g c = λ model is.
     let class = type_of model c.args.of.table c.args.of.row in
-    let read = sym c.in-Some.is ∙ c.texts_in.ensures ∙ ap (λ params. texts_in params c.args.value.now) (c.params_of.ensures model is) in
-    subst (λ (items : Option (List Item)). Prints c.args.out.now c.print_constructed.new.out (lines_of_items model class items)) read
-    (c.print_constructed.ensures model is)
+    subst (λ (params : Option (List ArgumentType)). Prints c.args.out.now c.print_texts.new.out (lines_of_items model class (option_and_then (λ types. texts_in types c.args.value.now) params)))
+    (ap Some c.as_slice.ensures ∙ c.in-Some.ensures model is) (c.print_texts.ensures model is)
 
 pub returns-in-None : goal.returns-in-None
 returns-in-None g c = λ model is.
     let class = type_of model c.args.of.table c.args.of.row in
-    let read = sym c.in-None.is ∙ c.texts_in.ensures ∙ ap (λ params. texts_in params c.args.value.now) (c.params_of.ensures model is) in
-    subst (λ (items : Option (List Item)). Prints c.args.out.now c.args.out.now (lines_of_items model class items)) read
-    (subst (λ (lines : List (List Part)). Prints c.args.out.now c.args.out.now lines) (no_items model class) (c.lines_follow.ensures.nothing c.args.out.now))
+    subst (λ (lines : List (List Part)). Prints c.args.out.now c.args.out.now lines)
+    (no_items model class ∙ ap (λ (params : Option (List ArgumentType)). lines_of_items model class (option_and_then (λ types. texts_in types c.args.value.now) params)) (c.in-None.ensures model is))
+    (c.lines_follow.ensures.nothing c.args.out.now)

@@ -1,3 +1,0 @@
-pub mod LengthLemmas
-pub mod ConstructorLemmas
-pub mod ValueLemmas

@@ -1,2 +1,0 @@
-pub mod Constructors
-pub mod Values
