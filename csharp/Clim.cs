@@ -829,6 +829,11 @@ namespace Clim
         const int Padding = 1 << 16;
         // The largest row that a token can name.
         const int LargestRow = 0xFFFFFF;
+        // The columns of the name and the namespace of a type.
+        const int NameColumn = 1;
+        const int NamespaceColumn = 2;
+        // The number of bytes of a UTF-16 unit in UTF-8, at most.
+        const int MostBytes = 3;
         // The number of bytes that a file has at most; a longer one is fault 101. And how many are read at a time.
         const long Longest = 1 << 30;
         const int Part = 1 << 16;
@@ -1163,41 +1168,58 @@ namespace Clim
 
         /// <summary>
         /// The first type whose full name it is, or null: <c>System.String</c>, or <c>Hello.Greeter/Settings</c> for a type that
-        /// is nested in another. All before the last dot is the namespace. A name of more than 64 types is not found.
+        /// is nested in another. All before the last dot of a part is the namespace. It finds what <c>clim outline</c> finds.
         /// </summary>
-        /// <remarks>It looks at all types once for each part of the name.</remarks>
+        /// <remarks>It looks at each type once.</remarks>
         public TypeDefRow? FindType(string fullName)
         {
             if (fullName == null)
                 throw new ArgumentNullException("fullName");
-            var parts = fullName.Split('/');
-            var outer = new Token(TableId.TypeDef, 0);
-            TypeDefRow? found = null;
             CheckOpen();
-            if (parts.Length > Depth)
-                return null;
-            foreach (string part in parts)
+            var parts = fullName.Split('/');
+            var spaces = Array.ConvertAll(parts, it => it.Substring(0, Math.Max(it.LastIndexOf('.'), 0)));
+            var names = Array.ConvertAll(parts, it => it.Substring(it.LastIndexOf('.') + 1));
+            if (parts.Length == 1)
             {
-                found = FindIn(outer.Row, part);
-                if (found == null)
-                    return null;
-                outer = found.Value.Token;
+                var first = FindType(spaces[0], names[0]);
+                if (first == null || EnclosingType(first.Value.Token) == 0)
+                    return first;
             }
-            return found;
+            int row = FindPath(spaces, names);
+            return row == 0 ? (TypeDefRow?)null : Row<TypeDefRow>(row);
         }
 
-        // The first type with a namespace and a name that another directly encloses, or none if that is row 0.
-        TypeDefRow? FindIn(int outer, string part)
+        // The row of the first type with these namespaces and names of its own and of the types that enclose it, or 0.
+        int FindPath(string[] spaces, string[] names)
         {
-            int dot = part.LastIndexOf('.');
-            string space = dot < 0 ? "" : part.Substring(0, dot), name = part.Substring(dot + 1);
-            var first = FindType(space, name);
-            if (first == null || EnclosingType(first.Value.Token) == outer)
-                return first;
-            foreach (var type in Rows<TypeDefRow>(new RowRange(first.Value.Token.Row + 1, int.MaxValue)))
-                if (type.TypeName == name && type.TypeNamespace == space && EnclosingType(type.Token) == outer)
-                    return type;
-            return null;
+            // By rows: how many of the names end with that of the type, if those before it are of the types that enclose it. The
+            // row of an enclosing type is lower (rule 604).
+            var depths = new int[Count(TableId.TypeDef) + 1];
+            foreach (var piece in Pieces(TableId.TypeDef, new RowRange(1, depths.Length)))
+            {
+                var name = ReadColumn(TableId.TypeDef, piece.First, NameColumn, piece.Count);
+                var space = ReadColumn(TableId.TypeDef, piece.First, NamespaceColumn, piece.Count);
+                for (int index = 0; index < piece.Count; index++)
+                {
+                    int row = piece.First + index, outer = EnclosingType(new Token(TableId.TypeDef, row)), depth = depths[outer];
+                    bool isOnPath = outer == 0 || depth > 0;
+                    if (!isOnPath || depth == names.Length)
+                        continue;
+                    if (!IsText(name[index].Bytes, names[depth]) || !IsText(space[index].Bytes, spaces[depth]))
+                        continue;
+                    depths[row] = depth + 1;
+                    if (depth + 1 == names.Length)
+                        return row;
+                }
+            }
+            return 0;
+        }
+
+        // Whether bytes of the root are a text. They are not read if they are too few or too many for it.
+        bool IsText(NativeBytes bytes, string text)
+        {
+            long length = (long)bytes.Length;
+            return length >= text.Length && length <= (long)MostBytes * text.Length && TextOf(bytes) == text;
         }
 
         /// <summary>

@@ -188,6 +188,28 @@ static class Tests
             Throws<InvalidOperationException>(() => bare.Embed());
     }
 
+    // A full name is that of any type with it: the first type N.A has no nested type.
+    static void FullNames()
+    {
+        var tables = new Tables();
+        var outer = new[] { tables.Add(TableId.TypeDef, 0, "A", "N", null, 1, 1), tables.Add(TableId.TypeDef, 0, "A", "N", null, 1, 1) };
+        var chain = Enumerable.Range(0, 100).Select(_ => tables.Add(TableId.TypeDef, 0, "C", "", null, 1, 1)).ToArray();
+        for (int index = 1; index < chain.Length; index++)
+            tables.Add(TableId.NestedClass, chain[index], chain[index - 1]);
+        var inner = tables.Add(TableId.TypeDef, 0, "Inner", "", null, 1, 1);
+        tables.Add(TableId.NestedClass, inner, outer[1]);
+        Func<int, string> name = count => string.Join("/", Enumerable.Repeat("C", count));
+        using (var assembly = Assembly.OpenRoot(tables.Root()))
+        {
+            Check(assembly.FindType("N.A").Value.Token.Equals(outer[0]), "the first type with a name");
+            Check(assembly.FindType("N.A/Inner").Value.Token.Equals(inner), "a type in the second with a name");
+            Check(assembly.FindType("C").Value.Token.Equals(chain[0]), "a type that is not nested");
+            Check(assembly.FindType(name(100)).Value.Token.Equals(chain[99]), "a long name");
+            foreach (string none in new[] { "N.A/N.Inner", "A/Inner", "Inner", name(101), "\ud800", "N.A/\ud800" })
+                Check(assembly.FindType(none) == null, "no type with the name");
+        }
+    }
+
     // Names, declarations and addresses of a file that is opened by its path.
     static void Names(string path)
     {
@@ -552,6 +574,7 @@ static class Tests
         NewerFunctions(File.ReadAllBytes(Path.Combine(samples, "greeter.root")));
         Constants();
         Newer("clim_", () => Names(Path.Combine(samples, "members.dll")));
+        Newer("clim_tables", FullNames);
         Newer("clim_embed", () =>
         {
             StrongNames(File.ReadAllBytes(Path.Combine(samples, "members.dll")));

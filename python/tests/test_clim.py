@@ -21,6 +21,7 @@ import time
 import unittest
 import unittest.mock
 import uuid
+from collections.abc import Sequence
 
 import clim
 from clim import _library, rows
@@ -828,6 +829,36 @@ class Names(unittest.TestCase):
             self.assertEqual({name: assembly.find_type(name).token for name in wanted}, wanted)
             self.assertEqual([assembly.row(it).full_name for it in wanted.values()], list(wanted))
             self.assertIsNone(assembly.find_type("N.A/Inner/N.M.Deep"))
+
+    def test_a_full_name_is_that_of_any_type_with_it(self):
+        if not clim.supports("clim_tables"):
+            return
+        tables = clim.Tables()
+        outer = [tables.add("TypeDef", TypeName="A", TypeNamespace="N") for _ in range(3)]
+        inner = [tables.add("TypeDef", TypeName="Inner", TypeNamespace="") for _ in range(2)]
+        chain = [tables.add("TypeDef", TypeName="C") for _ in range(100)]
+        for pair in (*zip(inner, outer[1:]), *zip(chain[1:], chain)):
+            tables.add("NestedClass", *pair)
+        with clim.open(tables.root(), bare=True) as assembly:
+            # The first type with the name has no nested type, and a name of any length is found.
+            wanted = {"N.A": outer[0], "N.A/Inner": inner[0], "/".join("C" * 100): chain[-1], "C": chain[0]}
+            self.assertEqual({name: assembly.find_type(name).token for name in wanted}, wanted)
+            for name in ("N.A/N.Inner", "N.A/.Inner/", "A/Inner", "/".join("C" * 101), "Inner"):
+                self.assertIsNone(assembly.find_type(name), name)
+
+    def test_long_names_are_read_if_their_lengths_fit(self):
+        if not clim.supports("clim_tables"):
+            return
+        tables = clim.Tables()
+        # Endings of one text, which together are longer than the root.
+        names = ["a" * length + "\u00e4" for length in range(2000, 0, -1)]
+        rows = [tables.add("TypeDef", TypeName=name) for name in names]
+        tables.add("NestedClass", rows[-1], rows[0])
+        with clim.open(tables.root(), bare=True) as assembly:
+            self.assertIsInstance(assembly.types.column("TypeName"), Sequence)
+            self.assertNotIsInstance(assembly.types.column("TypeName"), tuple)
+            self.assertEqual(assembly.find_type(f"{names[0]}/{names[-1]}").token, rows[-1])
+            self.assertIsNone(assembly.find_type(f"{names[1]}/{names[-1]}"))
 
     def test_addresses(self):
         if self.lacks("clim_offset_of"):

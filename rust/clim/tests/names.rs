@@ -1,7 +1,7 @@
 //! Tests of names, declarations, addresses and constants, on samples. They need a library that has the functions.
 
 use clim::rows::*;
-use clim::{offset_of, open, read_header, Assembly, ConstantValue, OpenError, Table, Token};
+use clim::{offset_of, open, read_header, Assembly, ConstantValue, OpenError, Table, Tables, Token, View};
 use std::{fs, thread};
 
 /// The path of a sample.
@@ -78,6 +78,34 @@ fn types_by_their_full_names() {
         assert_eq!(view.find_full_name(&view.full_name(row)), Some(row), "{}", view.full_name(row));
     }
     for name in ["", "/", "Derived/", "/Derived", "No.Type", "Derived/Derived/Derived", &"/".repeat(100)] {
+        assert_eq!(view.find_full_name(name), None, "{name}");
+    }
+}
+
+#[test]
+fn a_full_name_is_that_of_any_type_with_it() {
+    let mut tables = Tables::new("v4.0.30319");
+    let mut add = |name, namespace| {
+        let its = TypeDef { flags: 0, type_name: name, type_namespace: namespace, extends: None, field_list: 1, method_list: 1 };
+        tables.add(&its)
+    };
+    let outer = ["A", "A"].map(|it| add(it, "N"));
+    let chain: Vec<_> = (0..100).map(|_| add("C", "")).collect();
+    // The first type with the name has no nested type.
+    let mut nested = vec![(add("Inner", ""), outer[1])];
+    let inner = nested[0].0;
+    nested.extend(chain.windows(2).map(|pair| (pair[1], pair[0])));
+    nested.sort();
+    for (nested_class, enclosing_class) in nested {
+        tables.add(&NestedClass { nested_class, enclosing_class });
+    }
+    let root = tables.root().expect("a root");
+    let view = View::open_root(&root).expect("a view");
+    let long = |count| vec!["C"; count].join("/");
+    assert_eq!(view.find_full_name("N.A"), Some(outer[0].row));
+    assert_eq!(view.find_full_name("N.A/Inner"), Some(inner.row));
+    assert_eq!((view.find_full_name("C"), view.find_full_name(&long(100))), (Some(chain[0].row), Some(chain[99].row)));
+    for name in ["N.A/N.Inner", "A/Inner", "Inner", &long(101)] {
         assert_eq!(view.find_full_name(name), None, "{name}");
     }
 }
