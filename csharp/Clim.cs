@@ -262,6 +262,13 @@ namespace Clim
             Row = row;
         }
 
+        /// <summary>The token that is a number: 0x02000005 is row 5 of TypeDef.</summary>
+        public Token(uint value)
+        {
+            Table = (TableId)(value >> 24);
+            Row = (int)(value & 0xFFFFFF);
+        }
+
         /// <summary>The token as a number, as reflection has it.</summary>
         public int Value { get { return (int)Table << 24 | Row; } }
 
@@ -269,6 +276,60 @@ namespace Clim
         public override bool Equals(object other) { return other is Token && Equals((Token)other); }
         public override int GetHashCode() { return Value; }
         public override string ToString() { return Value.ToString("x8"); }
+    }
+
+    // Flags that System.Reflection has no enums for.
+
+    /// <summary>What a method is to an event or a property (II.23.1.12).</summary>
+    [Flags]
+    public enum MethodSemanticsAttributes : uint
+    {
+        Setter = 0x1,
+        Getter = 0x2,
+        Other = 0x4,
+        AddOn = 0x8,
+        RemoveOn = 0x10,
+        Fire = 0x20
+    }
+
+    /// <summary>Flags of a method of unmanaged code (II.23.1.8).</summary>
+    [Flags]
+    public enum PInvokeAttributes : uint
+    {
+        NoMangle = 0x1,
+        CharSetMask = 0x6,
+        CharSetNotSpec = 0,
+        CharSetAnsi = 0x2,
+        CharSetUnicode = 0x4,
+        CharSetAuto = 0x6,
+        SupportsLastError = 0x40,
+        CallConvMask = 0x700,
+        CallConvPlatformapi = 0x100,
+        CallConvCdecl = 0x200,
+        CallConvStdcall = 0x300,
+        CallConvThiscall = 0x400,
+        CallConvFastcall = 0x500
+    }
+
+    /// <summary>Flags of an assembly (II.23.1.2).</summary>
+    [Flags]
+    public enum AssemblyFlags : uint
+    {
+        PublicKey = 0x1,
+        Retargetable = 0x100,
+        DisableJITcompileOptimizer = 0x4000,
+        EnableJITcompileTracking = 0x8000
+    }
+
+    /// <summary>Flags of the CLI header (II.25.3.3.1).</summary>
+    [Flags]
+    public enum CliHeaderFlags : uint
+    {
+        IlOnly = 0x1,
+        Requires32Bit = 0x2,
+        StrongNameSigned = 0x8,
+        NativeEntryPoint = 0x10,
+        TrackDebugData = 0x10000
     }
 
     /// <summary>The cell of a table that contains a byte (II.24.2.6).</summary>
@@ -379,6 +440,21 @@ namespace Clim
         public DataDirectory VTableFixups;
         public DataDirectory ExportAddressTableJumps;
         public DataDirectory ManagedNativeHeader;
+
+        /// <summary>The flags (II.25.3.3.1).</summary>
+        public CliHeaderFlags Attributes { get { return (CliHeaderFlags)Flags; } }
+
+        /// <summary>
+        /// The entry point, a row of MethodDef or File; null if there is none, or it is native code.
+        /// </summary>
+        public Token? EntryPoint
+        {
+            get
+            {
+                bool isToken = EntryPointToken != 0 && (Attributes & CliHeaderFlags.NativeEntryPoint) == 0;
+                return isToken ? new Token(EntryPointToken) : (Token?)null;
+            }
+        }
 
         public long Offset { get { return (long)offset; } }
         public long RootStart { get { return (long)rootStart; } }
@@ -889,14 +965,49 @@ namespace Clim
             return Open(ReadFile(path));
         }
 
-        /// <summary>The bytes of a file; of a longer one, enough for its fault.</summary>
+        /// <summary>The same within a budget, as that of <see cref="Open(byte[], ulong)"/>.</summary>
+        /// <exception cref="ClimFault">The file breaks a rule. It is that of the first one.</exception>
+        /// <exception cref="BudgetSpentException">The budget is spent.</exception>
+        /// <exception cref="IOException">The file cannot be read.</exception>
+        /// <exception cref="NotSupportedException">The library is older than this file.</exception>
+        public static Assembly Open(string path, ulong budget)
+        {
+            return Open(ReadFile(path), budget);
+        }
+
+        /// <summary>Opens a file that is what a stream has from its position on. The stream is not closed.</summary>
+        /// <exception cref="ClimFault">The file breaks a rule. It is that of the first one.</exception>
+        /// <exception cref="IOException">The stream cannot be read.</exception>
+        public static Assembly Open(Stream stream)
+        {
+            return Open(ReadStream(stream));
+        }
+
+        /// <summary>The same within a budget, as that of <see cref="Open(byte[], ulong)"/>.</summary>
+        /// <exception cref="ClimFault">The file breaks a rule. It is that of the first one.</exception>
+        /// <exception cref="BudgetSpentException">The budget is spent.</exception>
+        /// <exception cref="IOException">The stream cannot be read.</exception>
+        /// <exception cref="NotSupportedException">The library is older than this file.</exception>
+        public static Assembly Open(Stream stream, ulong budget)
+        {
+            return Open(ReadStream(stream), budget);
+        }
+
         static byte[] ReadFile(string path)
         {
             using (var file = new FileStream(path, FileMode.Open, FileAccess.Read, FileShare.Read))
+                return ReadStream(file);
+        }
+
+        /// <summary>The bytes of a stream; of a longer one than a file may be, enough for its fault.</summary>
+        static byte[] ReadStream(Stream stream)
+        {
+            if (stream == null)
+                throw new ArgumentNullException("stream");
             using (var content = new MemoryStream())
             {
                 var part = new byte[Part];
-                for (int count; content.Length <= Longest && (count = file.Read(part, 0, part.Length)) > 0;)
+                for (int count; content.Length <= Longest && (count = stream.Read(part, 0, part.Length)) > 0;)
                     content.Write(part, 0, count);
                 return content.ToArray();
             }
@@ -2003,6 +2114,9 @@ namespace Clim
 
         public TableId Table { get { return TableId.TypeDef; } }
 
+        /// <summary>The flags (II.23.1.15).</summary>
+        public System.Reflection.TypeAttributes Attributes { get { return (System.Reflection.TypeAttributes)Flags; } }
+
         public void Read(CellReader cells)
         {
             Token = cells.Token;
@@ -2024,6 +2138,9 @@ namespace Clim
         public byte[] Signature;
 
         public TableId Table { get { return TableId.Field; } }
+
+        /// <summary>The flags (II.23.1.5).</summary>
+        public System.Reflection.FieldAttributes Attributes { get { return (System.Reflection.FieldAttributes)Flags; } }
 
         public void Read(CellReader cells)
         {
@@ -2047,6 +2164,12 @@ namespace Clim
 
         public TableId Table { get { return TableId.MethodDef; } }
 
+        /// <summary>The flags (II.23.1.10).</summary>
+        public System.Reflection.MethodAttributes Attributes { get { return (System.Reflection.MethodAttributes)Flags; } }
+
+        /// <summary>The flags of the implementation (II.23.1.11).</summary>
+        public System.Reflection.MethodImplAttributes ImplAttributes { get { return (System.Reflection.MethodImplAttributes)ImplFlags; } }
+
         public void Read(CellReader cells)
         {
             Token = cells.Token;
@@ -2068,6 +2191,9 @@ namespace Clim
         public string Name;
 
         public TableId Table { get { return TableId.Param; } }
+
+        /// <summary>The flags (II.23.1.13).</summary>
+        public System.Reflection.ParameterAttributes Attributes { get { return (System.Reflection.ParameterAttributes)Flags; } }
 
         public void Read(CellReader cells)
         {
@@ -2309,6 +2435,9 @@ namespace Clim
 
         public TableId Table { get { return TableId.Event; } }
 
+        /// <summary>The flags (II.23.1.4).</summary>
+        public System.Reflection.EventAttributes Attributes { get { return (System.Reflection.EventAttributes)EventFlags; } }
+
         public void Read(CellReader cells)
         {
             Token = cells.Token;
@@ -2345,6 +2474,9 @@ namespace Clim
 
         public TableId Table { get { return TableId.Property; } }
 
+        /// <summary>The flags (II.23.1.14).</summary>
+        public System.Reflection.PropertyAttributes Attributes { get { return (System.Reflection.PropertyAttributes)Flags; } }
+
         public void Read(CellReader cells)
         {
             Token = cells.Token;
@@ -2363,6 +2495,9 @@ namespace Clim
         public Token Association;
 
         public TableId Table { get { return TableId.MethodSemantics; } }
+
+        /// <summary>What the method is to the event or property (II.23.1.12).</summary>
+        public MethodSemanticsAttributes Attributes { get { return (MethodSemanticsAttributes)Semantics; } }
 
         public void Read(CellReader cells)
         {
@@ -2433,6 +2568,9 @@ namespace Clim
 
         public TableId Table { get { return TableId.ImplMap; } }
 
+        /// <summary>The flags (II.23.1.8).</summary>
+        public PInvokeAttributes Attributes { get { return (PInvokeAttributes)MappingFlags; } }
+
         public void Read(CellReader cells)
         {
             Token = cells.Token;
@@ -2475,6 +2613,9 @@ namespace Clim
         public string Culture;
 
         public TableId Table { get { return TableId.Assembly; } }
+
+        /// <summary>The flags (II.23.1.2).</summary>
+        public AssemblyFlags Attributes { get { return (AssemblyFlags)Flags; } }
 
         public void Read(CellReader cells)
         {
@@ -2540,6 +2681,9 @@ namespace Clim
         public byte[] HashValue;
 
         public TableId Table { get { return TableId.AssemblyRef; } }
+
+        /// <summary>The flags (II.23.1.2).</summary>
+        public AssemblyFlags Attributes { get { return (AssemblyFlags)Flags; } }
 
         public void Read(CellReader cells)
         {
@@ -2684,6 +2828,9 @@ namespace Clim
         public string Name;
 
         public TableId Table { get { return TableId.GenericParam; } }
+
+        /// <summary>The flags (II.23.1.7).</summary>
+        public System.Reflection.GenericParameterAttributes Attributes { get { return (System.Reflection.GenericParameterAttributes)Flags; } }
 
         public void Read(CellReader cells)
         {

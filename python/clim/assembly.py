@@ -17,6 +17,7 @@ from typing import AbstractSet, Any, Dict, Generic, Iterator, List, Optional, Se
 
 from . import _library as _c
 from ._library import library
+from .flags import HeaderFlags
 from .rows import (
     AssemblyDef,
     AssemblyRef,
@@ -128,7 +129,8 @@ def header_of(data: bytes) -> Header:
     if not library.clim_read_header(address_of(data), len(data), ctypes.byref(header), ctypes.byref(fault)):
         raise fault_of(fault)
     fields = [getattr(header, name) for name in Header._fields]
-    return Header(*(Directory(it.rva, it.size) if isinstance(it, _c.DirectoryStruct) else it for it in fields))
+    found = Header(*(Directory(it.rva, it.size) if isinstance(it, _c.DirectoryStruct) else it for it in fields))
+    return found._replace(flags=HeaderFlags(found.flags), entry_point_token=Token(found.entry_point_token))
 
 
 def offset_in(data: bytes, rva: int, size: int) -> Optional[int]:
