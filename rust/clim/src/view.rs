@@ -6,7 +6,7 @@ use crate::compared::{CompareError, Difference, Location};
 use crate::fault::{BoundedError, Fault, RootError, TextError, Unsupported};
 use crate::library;
 use crate::rows::{NestedClass, Row, TypeDef};
-use crate::tables::{Table, Token};
+use crate::tables::{Table, Token, MOST_ROWS};
 use clim_sys::{
     clim_cell, clim_fault, clim_header, clim_view, CLIM_CLOSED, CLIM_EQUAL, CLIM_NO_BYTES, CLIM_NO_CELL,
     CLIM_NO_DIFFERENCE, CLIM_NO_FAULT, CLIM_NO_LOCATION, CLIM_NO_MEMORY,
@@ -22,9 +22,6 @@ pub const DEPTH: usize = 64;
 /// The columns of the name and the namespace of a type (II.22.37).
 const NAME: usize = 1;
 const NAMESPACE: usize = 2;
-
-/// The largest row that a token can name (III.1.9).
-const MOST_ROWS: u32 = 0xFF_FFFF;
 
 /// The CLI header of a file (II.25.3.3), its offset, and the offsets where the metadata root begins and ends.
 pub type Header = clim_header;
