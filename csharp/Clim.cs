@@ -1279,7 +1279,7 @@ namespace Clim
 
         /// <summary>
         /// The first type whose full name it is, or null: <c>System.String</c>, or <c>Hello.Greeter/Settings</c> for a type that
-        /// is nested in another. All before the last dot of a part is the namespace. It finds what <c>clim outline</c> finds.
+        /// is nested in another. All before the last dot of a part is the namespace, as in a path of <c>clim outline</c>.
         /// </summary>
         /// <remarks>It looks at each type once.</remarks>
         public TypeDefRow? FindType(string fullName)

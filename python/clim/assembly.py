@@ -376,7 +376,8 @@ class Assembly:
         """The first type with a namespace and a name, or `None`. A nested type has its own name and namespace.
 
         With one argument, the first type whose full name it is: `"System.String"`, or `"Hello.Greeter/Settings"` for a type
-        that is nested in another. All before the last dot of a part is the namespace. It finds what `clim outline` finds.
+        that is nested in another. All before the last dot of a part is the namespace, as in a path of
+        `clim outline`.
         """
         if name is None:
             return self._find_full_name(namespace)

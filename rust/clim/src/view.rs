@@ -346,7 +346,7 @@ impl<'a> View<'a> {
     }
 
     /// The first type whose full name it is: `System.String`, or `Hello.Greeter/Settings` for a type that is nested in another.
-    /// All before the last dot of a part is the namespace. It finds what `clim outline` finds.
+    /// All before the last dot of a part is the namespace, as in a path of `clim outline`.
     ///
     /// It looks at each type once, and allocates in proportion to the number of types.
     pub fn find_full_name(&self, full_name: &str) -> Option<u32> {
