@@ -13,7 +13,22 @@ import uuid
 from bisect import bisect_right
 from itertools import repeat
 from types import TracebackType
-from typing import AbstractSet, Any, Dict, Generic, Iterator, List, Optional, Sequence, Tuple, Type, TypeVar, Union, cast, overload
+from typing import (
+    AbstractSet,
+    Any,
+    Dict,
+    Generic,
+    Iterator,
+    List,
+    Optional,
+    Sequence,
+    Tuple,
+    Type,
+    TypeVar,
+    Union,
+    cast,
+    overload,
+)
 
 from . import _library as _c
 from ._library import library

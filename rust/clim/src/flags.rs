@@ -183,7 +183,10 @@ flags! {
 }
 
 macro_rules! choices {
-    ($(#[doc = $about:literal] $name:ident in $mask:literal of $($of:ident . $call:ident)+ { $($choice:ident = $bits:literal,)* })*) => {$(
+    ($(
+        #[doc = $about:literal]
+        $name:ident in $mask:literal of $($of:ident . $call:ident)+ { $($choice:ident = $bits:literal,)* }
+    )*) => {$(
         #[doc = $about]
         #[derive(Clone, Copy, Debug, PartialEq, Eq, PartialOrd, Ord, Hash)]
         #[repr(u32)]
