@@ -262,6 +262,13 @@ namespace Clim
             Row = row;
         }
 
+        /// <summary>The token that is a number: 0x02000005 is row 5 of TypeDef.</summary>
+        public Token(uint value)
+        {
+            Table = (TableId)(value >> 24);
+            Row = (int)(value & 0xFFFFFF);
+        }
+
         /// <summary>The token as a number, as reflection has it.</summary>
         public int Value { get { return (int)Table << 24 | Row; } }
 
@@ -269,6 +276,60 @@ namespace Clim
         public override bool Equals(object other) { return other is Token && Equals((Token)other); }
         public override int GetHashCode() { return Value; }
         public override string ToString() { return Value.ToString("x8"); }
+    }
+
+    // Flags that System.Reflection has no enums for.
+
+    /// <summary>What a method is to an event or a property (II.23.1.12).</summary>
+    [Flags]
+    public enum MethodSemanticsAttributes : uint
+    {
+        Setter = 0x1,
+        Getter = 0x2,
+        Other = 0x4,
+        AddOn = 0x8,
+        RemoveOn = 0x10,
+        Fire = 0x20
+    }
+
+    /// <summary>Flags of a method of unmanaged code (II.23.1.8).</summary>
+    [Flags]
+    public enum PInvokeAttributes : uint
+    {
+        NoMangle = 0x1,
+        CharSetMask = 0x6,
+        CharSetNotSpec = 0,
+        CharSetAnsi = 0x2,
+        CharSetUnicode = 0x4,
+        CharSetAuto = 0x6,
+        SupportsLastError = 0x40,
+        CallConvMask = 0x700,
+        CallConvPlatformapi = 0x100,
+        CallConvCdecl = 0x200,
+        CallConvStdcall = 0x300,
+        CallConvThiscall = 0x400,
+        CallConvFastcall = 0x500
+    }
+
+    /// <summary>Flags of an assembly (II.23.1.2).</summary>
+    [Flags]
+    public enum AssemblyFlags : uint
+    {
+        PublicKey = 0x1,
+        Retargetable = 0x100,
+        DisableJITcompileOptimizer = 0x4000,
+        EnableJITcompileTracking = 0x8000
+    }
+
+    /// <summary>Flags of the CLI header (II.25.3.3.1).</summary>
+    [Flags]
+    public enum CliHeaderFlags : uint
+    {
+        IlOnly = 0x1,
+        Requires32Bit = 0x2,
+        StrongNameSigned = 0x8,
+        NativeEntryPoint = 0x10,
+        TrackDebugData = 0x10000
     }
 
     /// <summary>The cell of a table that contains a byte (II.24.2.6).</summary>
@@ -379,6 +440,21 @@ namespace Clim
         public DataDirectory VTableFixups;
         public DataDirectory ExportAddressTableJumps;
         public DataDirectory ManagedNativeHeader;
+
+        /// <summary>The flags (II.25.3.3.1).</summary>
+        public CliHeaderFlags Attributes { get { return (CliHeaderFlags)Flags; } }
+
+        /// <summary>
+        /// The entry point, a row of MethodDef or File; null if there is none, or it is native code.
+        /// </summary>
+        public Token? EntryPoint
+        {
+            get
+            {
+                bool isToken = EntryPointToken != 0 && (Attributes & CliHeaderFlags.NativeEntryPoint) == 0;
+                return isToken ? new Token(EntryPointToken) : (Token?)null;
+            }
+        }
 
         public long Offset { get { return (long)offset; } }
         public long RootStart { get { return (long)rootStart; } }
@@ -829,6 +905,11 @@ namespace Clim
         const int Padding = 1 << 16;
         // The largest row that a token can name.
         const int LargestRow = 0xFFFFFF;
+        // The columns of the name and the namespace of a type.
+        const int NameColumn = 1;
+        const int NamespaceColumn = 2;
+        // The number of bytes of a UTF-16 unit in UTF-8, at most.
+        const int MostBytes = 3;
         // The number of bytes that a file has at most; a longer one is fault 101. And how many are read at a time.
         const long Longest = 1 << 30;
         const int Part = 1 << 16;
@@ -884,14 +965,49 @@ namespace Clim
             return Open(ReadFile(path));
         }
 
-        /// <summary>The bytes of a file; of a longer one, enough for its fault.</summary>
+        /// <summary>The same within a budget, as that of <see cref="Open(byte[], ulong)"/>.</summary>
+        /// <exception cref="ClimFault">The file breaks a rule. It is that of the first one.</exception>
+        /// <exception cref="BudgetSpentException">The budget is spent.</exception>
+        /// <exception cref="IOException">The file cannot be read.</exception>
+        /// <exception cref="NotSupportedException">The library is older than this file.</exception>
+        public static Assembly Open(string path, ulong budget)
+        {
+            return Open(ReadFile(path), budget);
+        }
+
+        /// <summary>Opens a file that is what a stream has from its position on. The stream is not closed.</summary>
+        /// <exception cref="ClimFault">The file breaks a rule. It is that of the first one.</exception>
+        /// <exception cref="IOException">The stream cannot be read.</exception>
+        public static Assembly Open(Stream stream)
+        {
+            return Open(ReadStream(stream));
+        }
+
+        /// <summary>The same within a budget, as that of <see cref="Open(byte[], ulong)"/>.</summary>
+        /// <exception cref="ClimFault">The file breaks a rule. It is that of the first one.</exception>
+        /// <exception cref="BudgetSpentException">The budget is spent.</exception>
+        /// <exception cref="IOException">The stream cannot be read.</exception>
+        /// <exception cref="NotSupportedException">The library is older than this file.</exception>
+        public static Assembly Open(Stream stream, ulong budget)
+        {
+            return Open(ReadStream(stream), budget);
+        }
+
         static byte[] ReadFile(string path)
         {
             using (var file = new FileStream(path, FileMode.Open, FileAccess.Read, FileShare.Read))
+                return ReadStream(file);
+        }
+
+        /// <summary>The bytes of a stream; of a longer one than a file may be, enough for its fault.</summary>
+        static byte[] ReadStream(Stream stream)
+        {
+            if (stream == null)
+                throw new ArgumentNullException("stream");
             using (var content = new MemoryStream())
             {
                 var part = new byte[Part];
-                for (int count; content.Length <= Longest && (count = file.Read(part, 0, part.Length)) > 0;)
+                for (int count; content.Length <= Longest && (count = stream.Read(part, 0, part.Length)) > 0;)
                     content.Write(part, 0, count);
                 return content.ToArray();
             }
@@ -1163,41 +1279,58 @@ namespace Clim
 
         /// <summary>
         /// The first type whose full name it is, or null: <c>System.String</c>, or <c>Hello.Greeter/Settings</c> for a type that
-        /// is nested in another. All before the last dot is the namespace. A name of more than 64 types is not found.
+        /// is nested in another. All before the last dot of a part is the namespace, as in a path of <c>clim outline</c>.
         /// </summary>
-        /// <remarks>It looks at all types once for each part of the name.</remarks>
+        /// <remarks>It looks at each type once.</remarks>
         public TypeDefRow? FindType(string fullName)
         {
             if (fullName == null)
                 throw new ArgumentNullException("fullName");
-            var parts = fullName.Split('/');
-            var outer = new Token(TableId.TypeDef, 0);
-            TypeDefRow? found = null;
             CheckOpen();
-            if (parts.Length > Depth)
-                return null;
-            foreach (string part in parts)
+            var parts = fullName.Split('/');
+            var spaces = Array.ConvertAll(parts, it => it.Substring(0, Math.Max(it.LastIndexOf('.'), 0)));
+            var names = Array.ConvertAll(parts, it => it.Substring(it.LastIndexOf('.') + 1));
+            if (parts.Length == 1)
             {
-                found = FindIn(outer.Row, part);
-                if (found == null)
-                    return null;
-                outer = found.Value.Token;
+                var first = FindType(spaces[0], names[0]);
+                if (first == null || EnclosingType(first.Value.Token) == 0)
+                    return first;
             }
-            return found;
+            int row = FindPath(spaces, names);
+            return row == 0 ? (TypeDefRow?)null : Row<TypeDefRow>(row);
         }
 
-        // The first type with a namespace and a name that another directly encloses, or none if that is row 0.
-        TypeDefRow? FindIn(int outer, string part)
+        // The row of the first type with these namespaces and names of its own and of the types that enclose it, or 0.
+        int FindPath(string[] spaces, string[] names)
         {
-            int dot = part.LastIndexOf('.');
-            string space = dot < 0 ? "" : part.Substring(0, dot), name = part.Substring(dot + 1);
-            var first = FindType(space, name);
-            if (first == null || EnclosingType(first.Value.Token) == outer)
-                return first;
-            foreach (var type in Rows<TypeDefRow>(new RowRange(first.Value.Token.Row + 1, int.MaxValue)))
-                if (type.TypeName == name && type.TypeNamespace == space && EnclosingType(type.Token) == outer)
-                    return type;
-            return null;
+            // By rows: how many of the names end with that of the type, if those before it are of the types that enclose it. The
+            // row of an enclosing type is lower (rule 604).
+            var depths = new int[Count(TableId.TypeDef) + 1];
+            foreach (var piece in Pieces(TableId.TypeDef, new RowRange(1, depths.Length)))
+            {
+                var name = ReadColumn(TableId.TypeDef, piece.First, NameColumn, piece.Count);
+                var space = ReadColumn(TableId.TypeDef, piece.First, NamespaceColumn, piece.Count);
+                for (int index = 0; index < piece.Count; index++)
+                {
+                    int row = piece.First + index, outer = EnclosingType(new Token(TableId.TypeDef, row)), depth = depths[outer];
+                    bool isOnPath = outer == 0 || depth > 0;
+                    if (!isOnPath || depth == names.Length)
+                        continue;
+                    if (!IsText(name[index].Bytes, names[depth]) || !IsText(space[index].Bytes, spaces[depth]))
+                        continue;
+                    depths[row] = depth + 1;
+                    if (depth + 1 == names.Length)
+                        return row;
+                }
+            }
+            return 0;
+        }
+
+        // Whether bytes of the root are a text. They are not read if they are too few or too many for it.
+        bool IsText(NativeBytes bytes, string text)
+        {
+            long length = (long)bytes.Length;
+            return length >= text.Length && length <= (long)MostBytes * text.Length && TextOf(bytes) == text;
         }
 
         /// <summary>
@@ -1981,6 +2114,9 @@ namespace Clim
 
         public TableId Table { get { return TableId.TypeDef; } }
 
+        /// <summary>The flags (II.23.1.15).</summary>
+        public System.Reflection.TypeAttributes Attributes { get { return (System.Reflection.TypeAttributes)Flags; } }
+
         public void Read(CellReader cells)
         {
             Token = cells.Token;
@@ -2002,6 +2138,9 @@ namespace Clim
         public byte[] Signature;
 
         public TableId Table { get { return TableId.Field; } }
+
+        /// <summary>The flags (II.23.1.5).</summary>
+        public System.Reflection.FieldAttributes Attributes { get { return (System.Reflection.FieldAttributes)Flags; } }
 
         public void Read(CellReader cells)
         {
@@ -2025,6 +2164,12 @@ namespace Clim
 
         public TableId Table { get { return TableId.MethodDef; } }
 
+        /// <summary>The flags (II.23.1.10).</summary>
+        public System.Reflection.MethodAttributes Attributes { get { return (System.Reflection.MethodAttributes)Flags; } }
+
+        /// <summary>The flags of the implementation (II.23.1.11).</summary>
+        public System.Reflection.MethodImplAttributes ImplAttributes { get { return (System.Reflection.MethodImplAttributes)ImplFlags; } }
+
         public void Read(CellReader cells)
         {
             Token = cells.Token;
@@ -2046,6 +2191,9 @@ namespace Clim
         public string Name;
 
         public TableId Table { get { return TableId.Param; } }
+
+        /// <summary>The flags (II.23.1.13).</summary>
+        public System.Reflection.ParameterAttributes Attributes { get { return (System.Reflection.ParameterAttributes)Flags; } }
 
         public void Read(CellReader cells)
         {
@@ -2287,6 +2435,9 @@ namespace Clim
 
         public TableId Table { get { return TableId.Event; } }
 
+        /// <summary>The flags (II.23.1.4).</summary>
+        public System.Reflection.EventAttributes Attributes { get { return (System.Reflection.EventAttributes)EventFlags; } }
+
         public void Read(CellReader cells)
         {
             Token = cells.Token;
@@ -2323,6 +2474,9 @@ namespace Clim
 
         public TableId Table { get { return TableId.Property; } }
 
+        /// <summary>The flags (II.23.1.14).</summary>
+        public System.Reflection.PropertyAttributes Attributes { get { return (System.Reflection.PropertyAttributes)Flags; } }
+
         public void Read(CellReader cells)
         {
             Token = cells.Token;
@@ -2341,6 +2495,9 @@ namespace Clim
         public Token Association;
 
         public TableId Table { get { return TableId.MethodSemantics; } }
+
+        /// <summary>What the method is to the event or property (II.23.1.12).</summary>
+        public MethodSemanticsAttributes Attributes { get { return (MethodSemanticsAttributes)Semantics; } }
 
         public void Read(CellReader cells)
         {
@@ -2411,6 +2568,9 @@ namespace Clim
 
         public TableId Table { get { return TableId.ImplMap; } }
 
+        /// <summary>The flags (II.23.1.8).</summary>
+        public PInvokeAttributes Attributes { get { return (PInvokeAttributes)MappingFlags; } }
+
         public void Read(CellReader cells)
         {
             Token = cells.Token;
@@ -2453,6 +2613,9 @@ namespace Clim
         public string Culture;
 
         public TableId Table { get { return TableId.Assembly; } }
+
+        /// <summary>The flags (II.23.1.2).</summary>
+        public AssemblyFlags Attributes { get { return (AssemblyFlags)Flags; } }
 
         public void Read(CellReader cells)
         {
@@ -2518,6 +2681,9 @@ namespace Clim
         public byte[] HashValue;
 
         public TableId Table { get { return TableId.AssemblyRef; } }
+
+        /// <summary>The flags (II.23.1.2).</summary>
+        public AssemblyFlags Attributes { get { return (AssemblyFlags)Flags; } }
 
         public void Read(CellReader cells)
         {
@@ -2662,6 +2828,9 @@ namespace Clim
         public string Name;
 
         public TableId Table { get { return TableId.GenericParam; } }
+
+        /// <summary>The flags (II.23.1.7).</summary>
+        public System.Reflection.GenericParameterAttributes Attributes { get { return (System.Reflection.GenericParameterAttributes)Flags; } }
 
         public void Read(CellReader cells)
         {

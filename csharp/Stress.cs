@@ -253,11 +253,19 @@ static class Stress
     static void Growth(string folder)
     {
         foreach (var name in new[] { "nested_in_one", "nested_out_of_order" })
+        {
             Measure(folder, "FullName", name, Now, assembly =>
             {
                 foreach (var row in assembly.Rows<TypeDefRow>())
                     assembly.FullName(row);
             });
+            Measure(folder, "FindType", name, Now, assembly =>
+            {
+                string fullName = assembly.FullName(assembly.Row<TypeDefRow>(assembly.Count(TableId.TypeDef)));
+                if (assembly.FindType(fullName) == null || assembly.FindType(fullName + "/none") != null)
+                    Report(false, "a type by its full name");
+            });
+        }
         if (allocated == null)
             Console.WriteLine("this runtime does not count what it allocates: memory is not measured");
         else

@@ -57,6 +57,7 @@ static class Tests
         Throws<ClimFault>(() => Assembly.ReadHeader(new byte[0]));
         Throws<ArgumentNullException>(() => Assembly.Open((byte[])null));
         Throws<ArgumentNullException>(() => Assembly.Open((string)null));
+        Throws<ArgumentNullException>(() => Assembly.Open((Stream)null));
         Throws<FileNotFoundException>(() => Assembly.Open("no such file"));
         Throws<ArgumentNullException>(() => Assembly.Check(null));
         Throws<ArgumentNullException>(() => Assembly.ReadHeader(null));
@@ -186,6 +187,62 @@ static class Tests
         Throws<ArgumentOutOfRangeException>(() => assembly.Embed(null, (StrongName)0));
         using (var bare = Assembly.OpenRoot(assembly.CanonicalRoot()))
             Throws<InvalidOperationException>(() => bare.Embed());
+    }
+
+    // A file by its path and as a stream, and what its flags mean.
+    static void Files(string path)
+    {
+        using (var stream = new FileStream(path, FileMode.Open, FileAccess.Read))
+        {
+            using (var assembly = Assembly.Open(stream))
+                Check(stream.Position == stream.Length && assembly.FindType("Derived") != null, "a stream");
+            Check(Throws<ClimFault>(() => Assembly.Open(stream)).Code == 102, "nothing is left of it");
+            stream.Position = 0;
+            Newer("clim_open_within", () =>
+            {
+                Throws<BudgetSpentException>(() => Assembly.Open(stream, 0));
+                Throws<BudgetSpentException>(() => Assembly.Open(path, 0));
+                Assembly.Open(path, ulong.MaxValue).Dispose();
+            });
+        }
+        var header = Assembly.ReadHeader(File.ReadAllBytes(path));
+        Check(header.Attributes == CliHeaderFlags.IlOnly && header.EntryPoint == null, "the flags of a header");
+        header.EntryPointToken = 0x06000002;
+        Check(header.EntryPoint.Value.Equals(new Token(TableId.MethodDef, 2)), "an entry point");
+        header.Flags = (uint)CliHeaderFlags.NativeEntryPoint;
+        Check(header.EntryPoint == null && new Token(uint.MaxValue).Value == -1, "an address of native code");
+        using (var assembly = Assembly.Open(path))
+        {
+            foreach (var row in assembly.Rows<FieldRow>())
+                Expect((uint)row.Attributes == row.Flags, "the flags of a field");
+            var imports = assembly.Rows<ImplMapRow>().Select(it => it.Attributes & PInvokeAttributes.CallConvMask).ToArray();
+            Check(imports.Contains(PInvokeAttributes.CallConvPlatformapi), "how a method is called");
+            var accessors = assembly.Rows<MethodSemanticsRow>().Select(it => it.Attributes).ToArray();
+            Check(accessors.Contains(MethodSemanticsAttributes.Getter), "a method that reads a property");
+            Check(assembly.Rows<AssemblyRefRow>().All(it => (uint)it.Attributes == it.Flags), "the flags of assemblies");
+        }
+    }
+
+    // A full name is that of any type with it: the first type N.A has no nested type.
+    static void FullNames()
+    {
+        var tables = new Tables();
+        var outer = new[] { tables.Add(TableId.TypeDef, 0, "A", "N", null, 1, 1), tables.Add(TableId.TypeDef, 0, "A", "N", null, 1, 1) };
+        var chain = Enumerable.Range(0, 100).Select(_ => tables.Add(TableId.TypeDef, 0, "C", "", null, 1, 1)).ToArray();
+        for (int index = 1; index < chain.Length; index++)
+            tables.Add(TableId.NestedClass, chain[index], chain[index - 1]);
+        var inner = tables.Add(TableId.TypeDef, 0, "Inner", "", null, 1, 1);
+        tables.Add(TableId.NestedClass, inner, outer[1]);
+        Func<int, string> name = count => string.Join("/", Enumerable.Repeat("C", count));
+        using (var assembly = Assembly.OpenRoot(tables.Root()))
+        {
+            Check(assembly.FindType("N.A").Value.Token.Equals(outer[0]), "the first type with a name");
+            Check(assembly.FindType("N.A/Inner").Value.Token.Equals(inner), "a type in the second with a name");
+            Check(assembly.FindType("C").Value.Token.Equals(chain[0]), "a type that is not nested");
+            Check(assembly.FindType(name(100)).Value.Token.Equals(chain[99]), "a long name");
+            foreach (string none in new[] { "N.A/N.Inner", "A/Inner", "Inner", name(101), "\ud800", "N.A/\ud800" })
+                Check(assembly.FindType(none) == null, "no type with the name");
+        }
     }
 
     // Names, declarations and addresses of a file that is opened by its path.
@@ -450,7 +507,7 @@ static class Tests
         var its = module.ResolveType(type.Token.Value);
         Expect(its.Name == type.TypeName, type.Token + " " + its.Name + " is not " + type.TypeName);
         Expect(its.IsNested || (its.Namespace ?? "") == type.TypeNamespace, "the namespace of " + type.Token);
-        Expect((int)its.Attributes == (int)type.Flags, "the flags of " + type.Token);
+        Expect(its.Attributes == type.Attributes, "the flags of " + type.Token);
     }
 
     static void CompareMethod(Module module, TypeDefRow type, MethodDefRow method)
@@ -458,6 +515,10 @@ static class Tests
         var its = module.ResolveMethod(method.Token.Value);
         Expect(its.Name == method.Name, method.Token + " " + its.Name + " is not " + method.Name);
         Expect(type.Token.Row == 1 || its.DeclaringType.MetadataToken == type.Token.Value, "the type of " + method.Token);
+        Expect(its.Attributes == method.Attributes, "the flags of " + method.Token);
+        // Mono leaves this flag out for methods of COM.
+        var called = MethodImplAttributes.InternalCall;
+        Expect((its.GetMethodImplementationFlags() | called) == (method.ImplAttributes | called), "how " + method.Token + " is implemented");
     }
 
     // Each name of a type and of a method is that of System.Reflection, unless Mono cannot load it: it needs an assembly
@@ -552,6 +613,8 @@ static class Tests
         NewerFunctions(File.ReadAllBytes(Path.Combine(samples, "greeter.root")));
         Constants();
         Newer("clim_", () => Names(Path.Combine(samples, "members.dll")));
+        Newer("clim_tables", FullNames);
+        Files(Path.Combine(samples, "members.dll"));
         Newer("clim_embed", () =>
         {
             StrongNames(File.ReadAllBytes(Path.Combine(samples, "members.dll")));

@@ -25,7 +25,27 @@ from typing import Optional
 from . import rows
 from ._library import Unsupported, supports
 from .assembly import Assembly, Source, Table, fault_in, fault_of, header_of, offset_in, read_source
-from .flags import FieldFlags, MethodFlags, ParamFlags, TypeFlags
+from .flags import (
+    Access,
+    AssemblyFlags,
+    CallConv,
+    CharSet,
+    CodeType,
+    EventFlags,
+    FieldFlags,
+    GenericParamFlags,
+    HeaderFlags,
+    ImportFlags,
+    Layout,
+    MethodFlags,
+    MethodImplFlags,
+    ParamFlags,
+    PropertyFlags,
+    SemanticsFlags,
+    TypeFlags,
+    Variance,
+    Visibility,
+)
 from .rows import Row
 from .tables import Tables
 from .values import (
@@ -46,19 +66,32 @@ from .values import (
 __version__ = "0.1.0"
 
 __all__ = [
+    "Access",
     "Assembly",
+    "AssemblyFlags",
     "BudgetSpent",
+    "CallConv",
+    "CharSet",
+    "CodeType",
     "Difference",
     "Directory",
     "EmbedError",
+    "EventFlags",
     "Fault",
     "FieldFlags",
+    "GenericParamFlags",
     "Header",
+    "HeaderFlags",
+    "ImportFlags",
+    "Layout",
     "Location",
     "MethodFlags",
+    "MethodImplFlags",
     "ParamFlags",
+    "PropertyFlags",
     "Refusal",
     "Row",
+    "SemanticsFlags",
     "Signature",
     "Start",
     "StrongName",
@@ -67,6 +100,8 @@ __all__ = [
     "Token",
     "TypeFlags",
     "Unsupported",
+    "Variance",
+    "Visibility",
     "check",
     "compare",
     "offset_of",

@@ -13,10 +13,26 @@ import uuid
 from bisect import bisect_right
 from itertools import repeat
 from types import TracebackType
-from typing import Any, Dict, Generic, Iterator, List, Optional, Sequence, Tuple, Type, TypeVar, Union, cast, overload
+from typing import (
+    AbstractSet,
+    Any,
+    Dict,
+    Generic,
+    Iterator,
+    List,
+    Optional,
+    Sequence,
+    Tuple,
+    Type,
+    TypeVar,
+    Union,
+    cast,
+    overload,
+)
 
 from . import _library as _c
 from ._library import library
+from .flags import HeaderFlags
 from .rows import (
     AssemblyDef,
     AssemblyRef,
@@ -128,7 +144,8 @@ def header_of(data: bytes) -> Header:
     if not library.clim_read_header(address_of(data), len(data), ctypes.byref(header), ctypes.byref(fault)):
         raise fault_of(fault)
     fields = [getattr(header, name) for name in Header._fields]
-    return Header(*(Directory(it.rva, it.size) if isinstance(it, _c.DirectoryStruct) else it for it in fields))
+    found = Header(*(Directory(it.rva, it.size) if isinstance(it, _c.DirectoryStruct) else it for it in fields))
+    return found._replace(flags=HeaderFlags(found.flags), entry_point_token=Token(found.entry_point_token))
 
 
 def offset_in(data: bytes, rva: int, size: int) -> Optional[int]:
@@ -374,7 +391,8 @@ class Assembly:
         """The first type with a namespace and a name, or `None`. A nested type has its own name and namespace.
 
         With one argument, the first type whose full name it is: `"System.String"`, or `"Hello.Greeter/Settings"` for a type
-        that is nested in another. All before the last dot is the namespace.
+        that is nested in another. All before the last dot of a part is the namespace, as in a path of
+        `clim outline`.
         """
         if name is None:
             return self._find_full_name(namespace)
@@ -383,18 +401,26 @@ class Assembly:
         return self.types.row(row) if row else None
 
     def _find_full_name(self, full_name: str) -> Optional[TypeDef]:
-        """The first type with a full name. Its outermost type is nested in no other."""
-        outermost, *inner = full_name.split("/")
-        namespace, _, name = outermost.rpartition(".")
-        found = self.find_type(namespace, name)
-        if found is not None and found.enclosing_type is not None:
-            its = namespace, name
-            found = next((it for it in self.types if (it.namespace, it.name) == its and it.enclosing_type is None), None)
-        for part in inner:
-            if found is None:
-                break
-            found = next((it for it in found.nested_types if it._own_name == part), None)
-        return found
+        """The first type with a full name. It looks at each type once."""
+        parts = [it.rpartition(".")[::2] for it in str.split(full_name, "/")]
+        if len(parts) == 1:
+            found = self.find_type(*parts[0])
+            if found is None or found.enclosing_type is None:
+                return found
+        types, nested = self.types, self._grouped("NestedClass", "NestedClass")
+        lengths = {len(it.encode()) for part in parts for it in part}
+        names = (_texts_of(types.column(it), lengths) for it in ("TypeNamespace", "TypeName"))
+        # By rows: the part that is the name of a type, if those before it are the names of the types that enclose it. The row
+        # of an enclosing type is lower (rule 604).
+        part_of: Dict[int, int] = {}
+        for row, its in enumerate(zip(*names), 1):
+            rows = nested.get(Token.of(types.number, row))
+            part = part_of.get(rows[0].EnclosingClass.row, len(parts)) + 1 if rows else 0
+            if part < len(parts) and its == parts[part]:
+                if part == len(parts) - 1:
+                    return types.row(row)
+                part_of[row] = part
+        return None
 
     def name_of(self, token: int) -> str:
         """The name of the row of a token in the notation of ILAsm (II.5.3): `"Hello.Greeter::Greet"`, `"N.Outer/Inner"`.
@@ -702,6 +728,13 @@ class Texts(Blobs):
             if at not in texts:
                 texts[at] = data[at - base : at - base + length].decode()
         return tuple(map(texts.__getitem__, self._addresses))
+
+
+def _texts_of(column: Sequence[Any], lengths: AbstractSet[int]) -> Iterator[Optional[str]]:
+    """The texts of a column, with `None` for those that have another length than is looked for: they are not read again."""
+    if not isinstance(column, Texts):
+        return iter(column)
+    return (column[index] if column.span(index)[1] in lengths else None for index in range(len(column)))
 
 
 class Table(Generic[R]):

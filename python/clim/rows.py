@@ -23,7 +23,19 @@ import uuid
 from typing import TYPE_CHECKING, Any, Dict, Generic, List, Optional, Type, TypeVar, Union, overload
 
 from . import values
-from .flags import FieldFlags, MethodFlags, ParamFlags, TypeFlags
+from .flags import (
+    AssemblyFlags,
+    FieldFlags,
+    GenericParamFlags,
+    ImportFlags,
+    MethodFlags,
+    MethodImplFlags,
+    ParamFlags,
+    PropertyFlags,
+    SemanticsFlags,
+    TypeFlags,
+)
+from .flags import EventFlags as _EventFlags
 from .values import Start, Token
 
 if TYPE_CHECKING:
@@ -363,6 +375,11 @@ class MethodDef(_Named, _Declared, table=0x06):
         return MethodFlags(self.Flags)
 
     @property
+    def impl_flags(self) -> MethodImplFlags:
+        """The cell `ImplFlags`, with names for its bits (II.23.1.11)."""
+        return MethodImplFlags(self.ImplFlags)
+
+    @property
     def params(self) -> List[Param]:
         """The rows of Param of the method. Their order and their `Sequence` are not checked."""
         return self.table.assembly._run(self, "ParamList", 0x08)
@@ -557,6 +574,11 @@ class Event(_Named, table=0x14):
     EventType: Cell[Optional[Token]] = Cell()
 
     @property
+    def flags(self) -> _EventFlags:
+        """The cell `EventFlags`, with names for its bits (II.23.1.4)."""
+        return _EventFlags(self.EventFlags)
+
+    @property
     def type(self) -> Any:
         """The type of the event: a row of TypeDef, TypeRef or TypeSpec, or `None`."""
         return self._row(self.EventType)
@@ -590,6 +612,11 @@ class Property(_Named, _Declared, table=0x17):
     signature: Cell[values.Signature] = _SignatureCell("Type")
 
     @property
+    def flags(self) -> PropertyFlags:
+        """The cell `Flags`, with names for its bits (II.23.1.14)."""
+        return PropertyFlags(self.Flags)
+
+    @property
     def semantics(self) -> List[MethodSemantics]:
         """The rows of MethodSemantics of the property (II.22.28)."""
         return self.assembly["MethodSemantics"].by_key(self.token)
@@ -603,6 +630,11 @@ class MethodSemantics(Row, table=0x18):
     Semantics: Cell[int] = Cell()
     Method: Cell[Token] = Cell()
     Association: Cell[Token] = Cell()
+
+    @property
+    def flags(self) -> SemanticsFlags:
+        """The cell `Semantics`, with names for its bits (II.23.1.12)."""
+        return SemanticsFlags(self.Semantics)
 
     @property
     def method(self) -> MethodDef:
@@ -649,6 +681,11 @@ class ImplMap(Row, table=0x1C):
     ImportScope: Cell[Token] = Cell()
 
     @property
+    def flags(self) -> ImportFlags:
+        """The cell `MappingFlags`, with names for its bits (II.23.1.8)."""
+        return ImportFlags(self.MappingFlags)
+
+    @property
     def module(self) -> ModuleRef:
         """The row of the cell `ImportScope`."""
         module: ModuleRef = self._row(self.ImportScope)
@@ -675,6 +712,11 @@ class _Versioned(_Named):
     RevisionNumber: Cell[int] = Cell()
     Flags: Cell[int] = Cell()
     Culture: Cell[str] = Cell()
+
+    @property
+    def flags(self) -> AssemblyFlags:
+        """The cell `Flags`, with names for its bits (II.23.1.2)."""
+        return AssemblyFlags(self.Flags)
 
     @property
     def version(self) -> str:
@@ -800,6 +842,11 @@ class GenericParam(_Named, table=0x2A):
     Number: Cell[int] = Cell()
     Flags: Cell[int] = Cell()
     Owner: Cell[Token] = Cell()
+
+    @property
+    def flags(self) -> GenericParamFlags:
+        """The cell `Flags`, with names for its bits (II.23.1.7)."""
+        return GenericParamFlags(self.Flags)
 
     @property
     def constraints(self) -> List[Any]:

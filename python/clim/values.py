@@ -7,6 +7,7 @@ import struct
 from typing import TYPE_CHECKING, NamedTuple, Optional, Tuple, Union
 
 from ._library import explanation
+from .flags import HeaderFlags
 
 if TYPE_CHECKING:
     from .rows import Row
@@ -245,8 +246,9 @@ class Header(NamedTuple):
     major_runtime_version: int
     minor_runtime_version: int
     metadata: Directory
-    flags: int
-    entry_point_token: int
+    flags: HeaderFlags
+    #: A row of MethodDef or File; 0 if there is none. With `HeaderFlags.NATIVE_ENTRY_POINT` it is an address, and no token.
+    entry_point_token: Token
     resources: Directory
     strong_name_signature: Directory
     code_manager_table: Directory

@@ -44,8 +44,9 @@ def read_row_names(assembly):
 
 
 def find_nested(assembly):
-    """A type by its full name, which several types have as theirs but for those that enclose them."""
-    return assembly.find_type(assembly.types[len(assembly.types) - 1].full_name)
+    """A type by its full name, which several types have as theirs but for those that enclose them; and none."""
+    full_name = assembly.types[len(assembly.types) - 1].full_name
+    return assembly.find_type(full_name), assembly.find_type(f"{full_name}/none")
 
 
 def read_attributes(assembly):
@@ -95,6 +96,7 @@ CASES = [
     (seconds, read_row_names, "nested_in_one"),
     (seconds, read_row_names, "nested_out_of_order"),
     (seconds, find_nested, "nested_in_one"),
+    (seconds, find_nested, "nested_out_of_order"),
     (seconds, read_attributes, "attributes_out_of_order"),
     (seconds, read_texts, "one_signature"),
 ]

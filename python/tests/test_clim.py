@@ -21,6 +21,7 @@ import time
 import unittest
 import unittest.mock
 import uuid
+from collections.abc import Sequence
 
 import clim
 from clim import _library, rows
@@ -829,6 +830,36 @@ class Names(unittest.TestCase):
             self.assertEqual([assembly.row(it).full_name for it in wanted.values()], list(wanted))
             self.assertIsNone(assembly.find_type("N.A/Inner/N.M.Deep"))
 
+    def test_a_full_name_is_that_of_any_type_with_it(self):
+        if not clim.supports("clim_tables"):
+            return
+        tables = clim.Tables()
+        outer = [tables.add("TypeDef", TypeName="A", TypeNamespace="N") for _ in range(3)]
+        inner = [tables.add("TypeDef", TypeName="Inner", TypeNamespace="") for _ in range(2)]
+        chain = [tables.add("TypeDef", TypeName="C") for _ in range(100)]
+        for pair in (*zip(inner, outer[1:]), *zip(chain[1:], chain)):
+            tables.add("NestedClass", *pair)
+        with clim.open(tables.root(), bare=True) as assembly:
+            # The first type with the name has no nested type, and a name of any length is found.
+            wanted = {"N.A": outer[0], "N.A/Inner": inner[0], "/".join("C" * 100): chain[-1], "C": chain[0]}
+            self.assertEqual({name: assembly.find_type(name).token for name in wanted}, wanted)
+            for name in ("N.A/N.Inner", "N.A/.Inner/", "A/Inner", "/".join("C" * 101), "Inner"):
+                self.assertIsNone(assembly.find_type(name), name)
+
+    def test_long_names_are_read_if_their_lengths_fit(self):
+        if not clim.supports("clim_tables"):
+            return
+        tables = clim.Tables()
+        # Endings of one text, which together are longer than the root.
+        names = ["a" * length + "\u00e4" for length in range(2000, 0, -1)]
+        rows = [tables.add("TypeDef", TypeName=name) for name in names]
+        tables.add("NestedClass", rows[-1], rows[0])
+        with clim.open(tables.root(), bare=True) as assembly:
+            self.assertIsInstance(assembly.types.column("TypeName"), Sequence)
+            self.assertNotIsInstance(assembly.types.column("TypeName"), tuple)
+            self.assertEqual(assembly.find_type(f"{names[0]}/{names[-1]}").token, rows[-1])
+            self.assertIsNone(assembly.find_type(f"{names[1]}/{names[-1]}"))
+
     def test_addresses(self):
         if self.lacks("clim_offset_of"):
             return
@@ -859,9 +890,38 @@ class Names(unittest.TestCase):
             self.assertEqual(greet.flags & ~7, clim.MethodFlags.STATIC | clim.MethodFlags.HIDE_BY_SIG)
             self.assertIn(clim.MethodFlags.RT_SPECIAL_NAME, constructor.flags)
             self.assertTrue(all(int(it.flags) == it.Flags for table in ("TypeDef", "Field", "MethodDef", "Param") for it in assembly[table]))
-        for flags in (clim.TypeFlags, clim.FieldFlags, clim.MethodFlags, clim.ParamFlags):
+            self.assertEqual((greet.flags.access, greet.impl_flags.code_type), (clim.Access.PUBLIC, clim.CodeType.IL))
+        kinds = [it for it in vars(clim).values() if isinstance(it, type) and it.__name__.endswith("Flags")]
+        self.assertEqual(len(kinds), 12)
+        for flags in kinds:
             self.assertTrue(all(bin(it).count("1") == 1 for it in flags))
             self.assertEqual(int(flags((1 << 32) - 1)), (1 << 32) - 1)
+
+    def test_flags_of_each_table(self):
+        with clim.open(self.PATH) as assembly:
+            for table, name, cell in (
+                ("Event", "flags", "EventFlags"), ("Property", "flags", "Flags"), ("MethodSemantics", "flags", "Semantics"),
+                ("ImplMap", "flags", "MappingFlags"), ("GenericParam", "flags", "Flags"), ("Assembly", "flags", "Flags"),
+                ("AssemblyRef", "flags", "Flags"), ("MethodDef", "impl_flags", "ImplFlags"),
+            ):  # fmt: skip
+                self.assertEqual([int(getattr(it, name)) for it in assembly[table]], list(assembly[table].column(cell)))
+            header = assembly.header
+            self.assertEqual((header.flags, repr(header.entry_point_token)), (clim.HeaderFlags.IL_ONLY, "Token(0x00000000)"))
+
+    def test_choices_in_flags(self):
+        for flags, wanted in (
+            (clim.TypeFlags(0x10).layout, clim.Layout.EXPLICIT), (clim.TypeFlags(0x18).layout, None),
+            (clim.TypeFlags(0x105).visibility, clim.Visibility.NESTED_ASSEMBLY), (clim.FieldFlags(0x11).access, clim.Access.PRIVATE),
+            (clim.MethodFlags(7).access, None), (clim.ImportFlags(0x346).call_conv, clim.CallConv.STD_CALL),
+            (clim.ImportFlags(0x346).char_set, clim.CharSet.AUTO), (clim.ImportFlags(0).call_conv, None),
+            (clim.GenericParamFlags(2).variance, clim.Variance.CONTRAVARIANT), (clim.GenericParamFlags(3).variance, None),
+        ):  # fmt: skip
+            self.assertIs(flags, wanted)
+
+    def test_flags_remember_few_values(self):
+        for bits in range(0, 1 << 20, 0x333):
+            self.assertEqual(int(clim.TypeFlags(bits)), bits)
+        self.assertLess(len(clim.TypeFlags._value2member_map_), 1000)
 
     def test_constants(self):
         value = clim.values.constant_of

@@ -60,6 +60,7 @@ mod compared;
 mod constants;
 mod embedded;
 mod fault;
+pub mod flags;
 mod library;
 mod opened;
 mod refusal;

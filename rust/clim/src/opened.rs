@@ -1,6 +1,6 @@
 //! Files that own their bytes.
 
-use crate::fault::{Fault, Unsupported};
+use crate::fault::{BoundedError, Fault, Unsupported};
 use crate::view::{bytes_at, View};
 use std::error::Error;
 use std::fmt;
@@ -71,15 +71,29 @@ impl Assembly {
     ///
     /// They break a rule. The fault is that of the first one.
     pub fn from_bytes(bytes: Vec<u8>) -> Result<Assembly, Fault> {
+        Assembly::opened(bytes, View::open)
+    }
+
+    /// Opens the bytes of a file within a budget, as [`View::open_within`] does.
+    ///
+    /// # Errors
+    ///
+    /// They break a rule, the budget is spent, or the library lacks the function.
+    pub fn from_bytes_within(bytes: Vec<u8>, budget: u64) -> Result<Assembly, BoundedError> {
+        Assembly::opened(bytes, |bytes| View::open_within(bytes, budget))
+    }
+
+    /// Opens bytes, and owns them then.
+    fn opened<E>(bytes: Vec<u8>, open: impl FnOnce(&'static [u8]) -> Result<View<'static>, E>) -> Result<Assembly, E> {
         let bytes = NonNull::from(Box::leak(bytes.into_boxed_slice()));
         // SAFETY: The bytes are there until `free`, and nothing writes them.
-        let opened = View::open(unsafe { bytes.as_ref() });
+        let opened = open(unsafe { bytes.as_ref() });
         match opened {
             Ok(view) => Ok(Assembly { view, bytes }),
-            Err(fault) => {
+            Err(error) => {
                 // SAFETY: They were leaked above, and no view of them is left.
                 unsafe { free(bytes) };
-                Err(fault)
+                Err(error)
             }
         }
     }

@@ -142,6 +142,9 @@ impl fmt::Display for Table {
     }
 }
 
+/// The largest row that a token can name (III.1.9).
+pub(crate) const MOST_ROWS: u32 = 0xFF_FFFF;
+
 /// A row of a table. As a number, 0x02000005 is row 5 of TypeDef.
 #[derive(Clone, Copy, Debug, PartialEq, Eq, PartialOrd, Ord, Hash)]
 pub struct Token {
@@ -149,6 +152,15 @@ pub struct Token {
     pub table: Table,
     /// The row, counted from 1.
     pub row: u32,
+}
+
+impl Token {
+    /// The token that is a number, such as 0x02000005 or the entry point of a [`Header`](crate::Header); `None` if no table has
+    /// the number in its high byte.
+    pub fn from_u32(number: u32) -> Option<Token> {
+        let [table, ..] = number.to_be_bytes();
+        Table::from_number(table).map(|table| Token { table, row: number & MOST_ROWS })
+    }
 }
 
 impl From<Token> for u32 {

@@ -6,7 +6,7 @@ use crate::compared::{CompareError, Difference, Location};
 use crate::fault::{BoundedError, Fault, RootError, TextError, Unsupported};
 use crate::library;
 use crate::rows::{NestedClass, Row, TypeDef};
-use crate::tables::{Table, Token};
+use crate::tables::{Table, Token, MOST_ROWS};
 use clim_sys::{
     clim_cell, clim_fault, clim_header, clim_view, CLIM_CLOSED, CLIM_EQUAL, CLIM_NO_BYTES, CLIM_NO_CELL,
     CLIM_NO_DIFFERENCE, CLIM_NO_FAULT, CLIM_NO_LOCATION, CLIM_NO_MEMORY,
@@ -19,8 +19,9 @@ use std::sync::OnceLock;
 /// The number of types in one full name, from the innermost outwards. `..` stands for those that are left out.
 pub const DEPTH: usize = 64;
 
-/// The largest row that a token can name (III.1.9).
-const MOST_ROWS: u32 = 0xFF_FFFF;
+/// The columns of the name and the namespace of a type (II.22.37).
+const NAME: usize = 1;
+const NAMESPACE: usize = 2;
 
 /// The CLI header of a file (II.25.3.3), its offset, and the offsets where the metadata root begins and ends.
 pub type Header = clim_header;
@@ -345,22 +346,34 @@ impl<'a> View<'a> {
     }
 
     /// The first type whose full name it is: `System.String`, or `Hello.Greeter/Settings` for a type that is nested in another.
-    /// All before the last dot is the namespace. A name of more than [`DEPTH`] types is not found.
+    /// All before the last dot of a part is the namespace, as in a path of `clim outline`.
     ///
-    /// It looks at all types once for each part of the name.
+    /// It looks at each type once, and allocates in proportion to the number of types.
     pub fn find_full_name(&self, full_name: &str) -> Option<u32> {
-        let mut outer = 0;
-        if full_name.split('/').nth(DEPTH).is_some() {
-            return None;
+        let parts: Vec<_> = full_name.split('/').map(|part| part.rsplit_once('.').unwrap_or(("", part))).collect();
+        if let [(namespace, name)] = parts[..] {
+            let first = self.find_type(namespace, name)?;
+            if self.enclosing_type(first).is_none() {
+                return Some(first);
+            }
         }
-        for part in full_name.split('/') {
-            let (namespace, name) = part.rsplit_once('.').unwrap_or(("", part));
-            outer = self.rows::<TypeDef>().numbered().find_map(|(row, its)| {
-                let same = its.type_name == name && its.type_namespace == namespace;
-                (same && self.enclosing_type(row).unwrap_or(0) == outer).then_some(row)
-            })?;
+        let names = self.column(Table::TypeDef, NAMESPACE).zip(self.column(Table::TypeDef, NAME));
+        // By rows: the part that is the name of a type, if those before it are the names of the types that enclose it. The row
+        // of an enclosing type is lower (rule 604).
+        let mut part_of: Vec<Option<usize>> = vec![None];
+        for (row, its) in (1..).zip(names) {
+            let part = match self.enclosing_type(row) {
+                Some(outer) => part_of.get(outer as usize).copied().flatten().map(|part| part + 1),
+                None => Some(0),
+            };
+            let is_name = |&(namespace, name): &(&str, &str)| its == (Cell::Text(namespace), Cell::Text(name));
+            let part = part.filter(|&part| parts.get(part).is_some_and(is_name));
+            if part == Some(parts.len() - 1) {
+                return Some(row);
+            }
+            part_of.push(part);
         }
-        Some(outer)
+        None
     }
 
     /// The rows of a table whose key is a row, in ascending order; none if the table has no key (II.22).

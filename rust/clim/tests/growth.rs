@@ -101,6 +101,19 @@ fn full_names_of_all_types() {
 }
 
 #[test]
+fn types_by_their_full_names() {
+    for name in ["nested_in_one", "nested_out_of_order"] {
+        for measured in [(nanoseconds as fn(&View, fn(&View)) -> f64, MOST_TIME), (peak, MOST_MEMORY)] {
+            is_linear(name, measured, |view| {
+                let full_name = view.full_name(view.count(Table::TypeDef));
+                assert!(view.find_full_name(&full_name).is_some());
+                assert!(view.find_full_name(&format!("{full_name}/none")).is_none());
+            });
+        }
+    }
+}
+
+#[test]
 fn tables_of_a_view() {
     for name in ["one_text", "endings", "one_plain_blob", "overlapping_blobs"] {
         is_linear(name, (peak, MOST_MEMORY), |view| drop(Tables::of(view)));

@@ -1,7 +1,8 @@
 //! Tests of names, declarations, addresses and constants, on samples. They need a library that has the functions.
 
+use clim::flags::{Access, CallConv, CodeType, ImportFlags, MethodFlags, TypeFlags};
 use clim::rows::*;
-use clim::{offset_of, open, read_header, Assembly, ConstantValue, OpenError, Table, Token};
+use clim::{offset_of, open, read_header, Assembly, BoundedError, ConstantValue, OpenError, Table, Tables, Token, View};
 use std::{fs, thread};
 
 /// The path of a sample.
@@ -29,6 +30,42 @@ fn a_file_owns_its_bytes() {
     assert!(matches!(Assembly::from_bytes(Vec::new()), Err(fault) if fault.code == 102));
     assert!(matches!(open(path.replace("members.dll", "greeter.root")), Err(OpenError::Fault(fault)) if fault.code == 102));
     assert!(matches!(open("/no/such/file"), Err(OpenError::Io(_))));
+}
+
+#[test]
+fn a_file_within_a_budget() {
+    let file = fs::read(path("members.dll")).expect("a sample");
+    assert!(matches!(Assembly::from_bytes_within(file.clone(), 0), Err(BoundedError::BudgetSpent)));
+    assert!(matches!(Assembly::from_bytes_within(Vec::new(), 0), Err(BoundedError::Fault(fault)) if fault.code == 102));
+    assert_eq!(Assembly::from_bytes_within(file.clone(), u64::MAX).expect("a file").bytes(), file);
+}
+
+#[test]
+fn flags_have_names() {
+    let assembly = open(path("members.dll")).expect("a file");
+    let view = assembly.view();
+    let (row, derived) = view.rows::<TypeDef>().numbered().find(|(_, it)| it.type_name == "Derived").expect("a type");
+    assert_eq!(derived.typed_flags().0, derived.flags);
+    assert_eq!(derived.typed_flags().visibility().map(|it| it as u32), Some(derived.flags & 7));
+    for method in view.rows_in::<MethodDef>(view.methods_of(row)).filter(|it| it.name == ".ctor") {
+        let wanted = MethodFlags::SPECIAL_NAME | MethodFlags::RT_SPECIAL_NAME;
+        assert!(method.typed_flags().contains(wanted) && !method.typed_flags().contains(wanted | MethodFlags::STATIC));
+        assert_eq!(method.typed_impl_flags().code_type(), Some(CodeType::Il));
+    }
+    assert_eq!((MethodFlags(6).access(), MethodFlags(7).access()), (Some(Access::Public), None));
+    assert_eq!(TypeFlags(0x18).layout(), None);
+    assert_eq!(ImportFlags(0x346).call_conv(), Some(CallConv::StdCall));
+    let shown = [TypeFlags(0), TypeFlags(0x100), TypeFlags(0x101), TypeFlags(u32::MAX) & TypeFlags(0x8000_0080)];
+    let wanted = "[TypeFlags(0x0), TypeFlags(SEALED), TypeFlags(SEALED | 0x1), TypeFlags(ABSTRACT | 0x80000000)]";
+    assert_eq!(format!("{shown:?}"), wanted);
+}
+
+#[test]
+fn tokens_of_numbers() {
+    for token in [token(Table::TypeDef, 5), token(Table::Module, 0), token(Table::GenericParamConstraint, 0xFF_FFFF)] {
+        assert_eq!(Token::from_u32(token.into()), Some(token));
+    }
+    assert_eq!((Token::from_u32(0x7000_0001), Token::from_u32(u32::MAX)), (None, None));
 }
 
 #[test]
@@ -78,6 +115,34 @@ fn types_by_their_full_names() {
         assert_eq!(view.find_full_name(&view.full_name(row)), Some(row), "{}", view.full_name(row));
     }
     for name in ["", "/", "Derived/", "/Derived", "No.Type", "Derived/Derived/Derived", &"/".repeat(100)] {
+        assert_eq!(view.find_full_name(name), None, "{name}");
+    }
+}
+
+#[test]
+fn a_full_name_is_that_of_any_type_with_it() {
+    let mut tables = Tables::new("v4.0.30319");
+    let mut add = |name, namespace| {
+        let its = TypeDef { flags: 0, type_name: name, type_namespace: namespace, extends: None, field_list: 1, method_list: 1 };
+        tables.add(&its)
+    };
+    let outer = ["A", "A"].map(|it| add(it, "N"));
+    let chain: Vec<_> = (0..100).map(|_| add("C", "")).collect();
+    // The first type with the name has no nested type.
+    let mut nested = vec![(add("Inner", ""), outer[1])];
+    let inner = nested[0].0;
+    nested.extend(chain.windows(2).map(|pair| (pair[1], pair[0])));
+    nested.sort();
+    for (nested_class, enclosing_class) in nested {
+        tables.add(&NestedClass { nested_class, enclosing_class });
+    }
+    let root = tables.root().expect("a root");
+    let view = View::open_root(&root).expect("a view");
+    let long = |count| vec!["C"; count].join("/");
+    assert_eq!(view.find_full_name("N.A"), Some(outer[0].row));
+    assert_eq!(view.find_full_name("N.A/Inner"), Some(inner.row));
+    assert_eq!((view.find_full_name("C"), view.find_full_name(&long(100))), (Some(chain[0].row), Some(chain[99].row)));
+    for name in ["N.A/N.Inner", "A/Inner", "Inner", &long(101)] {
         assert_eq!(view.find_full_name(name), None, "{name}");
     }
 }
