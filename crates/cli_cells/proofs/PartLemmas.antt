@@ -1,12 +1,12 @@
 -- Parts of lines.
-use Rattle.std.proofs.Common.{◌≡◌, ◌∙◌, ℕ, zero, suc, ◌+◌, List, [], ◌∷◌, ◌++◌, Option, Some, None, ap, sym, refl, arith}
+use Rattle.std.proofs.Common.{◌≡◌, ◌∙◌, ℕ, zero, suc, ◌+◌, List, [], ◌∷◌, ◌++◌, Option, Some, None, ◌⊎◌, inl, inr, ap, subst, sym, refl, arith}
 use Rattle.std.specs.List.{flat_map, range_with_len}
 use Rattle.std.proofs.lemmas.List.{flat_map_more}
 use Rattle.cli_lines.specs.declared.line.Before.{Before}
 use Rattle.cli_lines.specs.declared.parts.Form.{Form}
-use Rattle.cli_lines.specs.declared.parts.Form.TheVariants.{Text}
+use Rattle.cli_lines.specs.declared.parts.Form.TheVariants.{Text, Letters, JsonLines}
 use Rattle.cli_lines.specs.Lines as line
-use Rattle.cli_lines.specs.Lines.{Part, Style, form_from, line_feed, line_from, part_text}
+use Rattle.cli_lines.specs.Lines.{Part, Style, form_from, line_feed, line_from, part_letters, part_text}
 use Rattle.cli_lines.specs.declared.names.Name.{Name}
 use Rattle.cli_lines.specs.Printed.{Adds, AwaitsOrFails, Printed}
 use Rattle.cli_cells.specs.RowLines.{cell_part}
@@ -14,12 +14,16 @@ use Rattle.cli_cells.specs.declared.row_lines.Names.{Names}
 use Rattle.cli_cells.specs.declared.row_lines.Names.TheVariants.{Hidden, Shown}
 
 -- in a line of text a part is its text
-same_line : (style : Style) (at : Before) (first second : Part) (more : List Part) → style.form ≡ Text → part_text first ≡ part_text second
+same_in : (form : Form) (file : Option (List ℕ)) (at : Before) (first second : Part) (more : List Part) → (form ≡ Text) ⊎ (form ≡ Letters) → part_text first ≡ part_text second
+    → form_from form file at (first ∷ more) ≡ form_from form file at (second ∷ more)
+same_in Text file at first second more is same = ap (λ xs. (xs ++ flat_map part_text more) ++ line_feed) same
+same_in Letters file at first second more is same = ap (λ xs. (part_letters (line.word xs) ++ flat_map part_letters more) ++ line_feed) same
+same_in JsonLines file at first second more is same = elim is [ inl text ↦ cc | inr letters ↦ cc ]
+
+same_line : (style : Style) (at : Before) (first second : Part) (more : List Part) → (style.form ≡ Text) ⊎ (style.form ≡ Letters) → part_text first ≡ part_text second
     → line_from style at (first ∷ more) ≡ line_from style at (second ∷ more)
 unfolding line_from
-same_line style at first second more is same =
-    ap (λ f. form_from f style.file at (first ∷ more)) is ∙ ap (λ xs. (xs ++ flat_map part_text more) ++ line_feed) same
-    ∙ ap (λ f. form_from f style.file at (second ∷ more)) (sym is)
+same_line style at first second more is same = same_in style.form style.file at first second more is same
 
 same_awaits : (start contents waiting : Option (List ℕ)) (end : List Part → List ℕ) (whole : List ℕ) (first second : List Part) → end first ≡ end second
     → AwaitsOrFails start contents waiting end whole first → AwaitsOrFails start contents waiting end whole second
@@ -31,13 +35,13 @@ pub signature_text_is : (names : Names) (key : Name) (encoding of : List ℕ) �
 signature_text_is Hidden key encoding of = refl
 signature_text_is Shown key encoding of = refl
 
-pub adds_text : {W : Type 0} (old new : Printed W) (first second : Part) → {form : Form} → form ≡ old.style.form → form ≡ Text → part_text first ≡ part_text second
+pub adds_text : {W : Type 0} (old new : Printed W) (first second : Part) → {form : Form} → form ≡ old.style.form → (form ≡ Text) ⊎ (form ≡ Letters) → part_text first ≡ part_text second
     → Adds old new (first ∷ []) → Adds old new (second ∷ [])
 adds_text old new first second known is same adds = record {
   same = adds.same;
   awaits = λ start whole more awaits. adds.awaits start whole more
       (same_awaits start old.contents old.waiting (line_from old.style old.at) whole (second ∷ more) (first ∷ more)
-      (sym (same_line old.style old.at first second more (sym known ∙ is) same)) awaits);
+      (sym (same_line old.style old.at first second more (subst (λ (f : Form). (f ≡ Text) ⊎ (f ≡ Letters)) known is) same)) awaits);
 }
 
 -- the parts of one more cell

@@ -154,7 +154,7 @@ fn print_encoding<W: Write>(
         → Adds out.old out.new (cell_part names name (line.signature encoding.now (signature_text signature)) ∷ []) }
 {
     match out.form() {
-        Form::Text => print_part(names, name, Bytes(encoding), out),
+        Form::Text | Form::Letters => print_part(names, name, Bytes(encoding), out),
         Form::JsonLines => match signature_text(alloc, kind, blob) {
             Ok(text) => print_part(names, name, Signature(encoding, &text), out),
             Err(_) => out.fail(),

@@ -1,5 +1,4 @@
 pub mod AttributeLemmas
-pub mod AsIsLemmas
 pub mod TextLemmas
 pub mod LayoutLemmas
 pub mod PieceLemmas

@@ -1,4 +1,3 @@
-pub mod AsIs
 pub mod Texts
 pub mod Parts
 pub mod Layouts

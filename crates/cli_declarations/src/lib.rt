@@ -1,8 +1,8 @@
 //! The declaration of a row of an assembly, in the notation of ILAsm (ECMA-335 II.5 to II.22).
 //!
 //! [`declare`] makes a text the declaration of a row, and [`name_row`] its name. `specs/Layouts.antt` says what the
-//! declaration of a row is, as a list of parts, and `specs/Parts.antt` what the text of a part is. [`unescape`] reads back
-//! the escapes of names for JSON, which has its own. [`number`], [`text`] and [`bytes`] are the values of cells.
+//! declaration of a row is, as a list of parts, and `specs/Parts.antt` what the text of a part is. [`number`], [`text`] and
+//! [`bytes`] are the values of cells.
 //!
 //! ```text
 //! .assembly Hello { .hash algorithm 0x00008004 .ver 1:0:0:0 }
@@ -11,7 +11,6 @@
 //! ```
 #![tactic(auto)]
 
-mod as_is;
 mod attribute_sink;
 mod cell_values;
 mod declaration;
@@ -21,7 +20,6 @@ mod linked;
 mod pieces;
 mod signature_sink;
 
-pub use as_is::{text_or, unescape};
 pub use cell_values::{bytes, number, text};
 pub use declaration::{declare, name_row};
 pub use declared::Declared;

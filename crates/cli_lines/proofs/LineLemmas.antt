@@ -3,11 +3,11 @@ use Rattle.std.proofs.Common.{◌≡◌, ◌≢◌, ◌∙◌, ℕ, zero, suc, �
 use Rattle.std.specs.Prelude.{IfOk}
 use Rattle.std.specs.List.{flat_map}
 use Rattle.cli_lines.specs.declared.parts.Form.{Form}
-use Rattle.cli_lines.specs.declared.parts.Form.TheVariants.{Text, JsonLines}
+use Rattle.cli_lines.specs.declared.parts.Form.TheVariants.{Text, Letters, JsonLines}
 use Rattle.json.specs.Token.{Token}
 use Rattle.cli_lines.specs.declared.line.Before.{Before}
 use Rattle.cli_lines.specs.declared.line.Before.TheVariants as before
-use Rattle.cli_lines.specs.Lines.{Part, json_from, line_feed, line_from, named_from, part_text, part_tokens, style}
+use Rattle.cli_lines.specs.Lines.{Part, json_from, line_feed, line_from, named_from, part_letters, part_text, part_tokens, style}
 
 pub both_ok : {T E : Type 0} (P Q : T → Type 0) (result : Result T E) → IfOk result P → IfOk result Q → IfOk result (λ done. P done × Q done)
 both_ok P Q (Ok done) first second = (first, second)
@@ -36,6 +36,14 @@ in_text file at line new part more is =
     let left = flat_map part_text more in
     ap (λ xs. xs ++ (left ++ line_feed)) is ∙ append_assoc line (part_text part) (left ++ line_feed)
     ∙ ap (λ xs. line ++ xs) (sym (append_assoc (part_text part) left line_feed))
+
+in_letters : (file : Option (List ℕ)) (at : Before) (line new : List ℕ) (part : Part) (more : List Part) → new ≡ line ++ part_letters part
+    → new ++ line_from (style Letters file) at more ≡ line ++ line_from (style Letters file) at (part ∷ more)
+unfolding line_from
+in_letters file at line new part more is =
+    let left = flat_map part_letters more in
+    ap (λ xs. xs ++ (left ++ line_feed)) is ∙ append_assoc line (part_letters part) (left ++ line_feed)
+    ∙ ap (λ xs. line ++ xs) (sym (append_assoc (part_letters part) left line_feed))
 
 in_json : (file : Option (List ℕ)) (at now : Before) (line new : List ℕ) (part : Part) (more : List Part)
     → ((tokens : List Token) → new ++ named_from file now tokens ≡ line ++ named_from file at (part_tokens part ++ tokens))
@@ -66,6 +74,11 @@ module _ (form : Form) (file : Option (List ℕ)) (at : Before) where
       → new ++ line_from (style form file) at more ≡ line ++ line_from (style form file) at (part ∷ more)
   text_part line new part more form_is is =
       subst (λ (f : Form). new ++ line_from (style f file) at more ≡ line ++ line_from (style f file) at (part ∷ more)) (sym form_is) (in_text file at line new part more is)
+
+  pub letters_part : (line new : List ℕ) (part : Part) (more : List Part) → form ≡ Letters → new ≡ line ++ part_letters part
+      → new ++ line_from (style form file) at more ≡ line ++ line_from (style form file) at (part ∷ more)
+  letters_part line new part more form_is is =
+      subst (λ (f : Form). new ++ line_from (style f file) at more ≡ line ++ line_from (style f file) at (part ∷ more)) (sym form_is) (in_letters file at line new part more is)
 
   pub json_part : (now : Before) (line new : List ℕ) (part : Part) → form ≡ JsonLines
       → ((tokens : List Token) → new ++ named_from file now tokens ≡ line ++ named_from file at (part_tokens part ++ tokens))

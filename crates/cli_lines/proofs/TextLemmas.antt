@@ -1,15 +1,16 @@
 -- What is appended to a line, one byte after another.
-use Rattle.std.proofs.Common.{◌≡◌, ◌∙◌, ℕ, zero, suc, ◌+◌, ◌-◌, ◌*◌, ◌/◌, ◌%◌, ◌<◌, Bool, true, false, ◌&&◌, T, eqb, eqb→eq, eq-zero-or-pos, IsTrue, List, [], ◌∷◌, ◌++◌, length, get_or, take, refl, ap, sym, inl, inr, append_assoc, arith, if◌then◌else◌}
+use Rattle.std.proofs.Common.{◌≡◌, ◌∙◌, ℕ, zero, suc, ◌+◌, ◌-◌, ◌*◌, ◌/◌, ◌%◌, ◌<◌, Bool, true, false, ◌&&◌, T, eqb, eqb→eq, eq-zero-or-pos, IsTrue, List, [], ◌∷◌, ◌++◌, length, get_or, take, drop, refl, ap, sym, inl, inr, append_assoc, arith, if◌then◌else◌}
 use lib.Ieee.Fits.{and_l, and_r}
 use Rattle.std.specs.Prelude.{Result, Ok, Err, OnOk, is_ok}
 use Rattle.std.specs.List.{flat_map}
 use Rattle.std.specs.Fmt.{digit_glyph}
 use Rattle.std.proofs.lemmas.Fmt.{hex_byte}
 use Rattle.std.proofs.lemmas.List.{flat_map_more}
-use Rattle.std.proofs.Math.Seq.{take-suc}
+use Rattle.std.proofs.Math.Seq.{drop-append_seam, take-append_seam, take-suc}
 use Rattle.table_schema.specs.Tokens.{hexadecimal}
 use Rattle.cli_faults.specs.Escaped.{escaped_text, is_plain}
 use Rattle.cli_faults.specs.Hexadecimal.{upper_hexadecimal}
+use Rattle.cli_escapes.specs.Letters.{readable}
 use Rattle.cli_lines.specs.declared.texts.TheConstants.{PAIRS}
 
 pub take_more : {X : Type 0} (xs : List X) (i : ℕ) (d : X) → i < length xs → take (i + 1) xs ≡ take i xs ++ get_or xs i d ∷ []
@@ -81,3 +82,9 @@ on_ok (Err error) is f = tt
 -- the parts of a line, one after another
 pub three_joined : (line a b c : List ℕ) → ((line ++ a) ++ b) ++ c ≡ line ++ (a ++ b ++ c)
 three_joined line a b c = ap (λ xs. xs ++ c) (append_assoc line a b) ∙ append_assoc line (a ++ b) c
+
+-- what was appended to a line, with its letters as they are
+pub letters_shown : {T E : Type 0} (result : Result T E) (line text now new : List ℕ) (start : ℕ) → now ≡ line ++ text → start ≡ length line
+    → OnOk result (new ≡ take start now ++ readable (drop start now)) → OnOk result (new ≡ line ++ readable text)
+letters_shown result line text now new start is at shown =
+    on_ok result shown (λ same. same ∙ rw (is, at, take-append_seam line text, drop-append_seam line text) refl)

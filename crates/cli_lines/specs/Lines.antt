@@ -11,6 +11,7 @@ use Rattle.table_schema.specs.declared.token.Token.{Token}
 use Rattle.table_schema.specs.Tables.{table_name}
 use Rattle.table_schema.specs.Tokens.{hexadecimal, token_text}
 use Rattle.cli_faults.specs.Escaped.{escaped_text, escaped_unit}
+use Rattle.cli_escapes.specs.Letters.{readable}
 use Rattle.cli_lines.specs.Names.{name_text}
 use Rattle.cli_faults.specs.Hexadecimal.{upper_hexadecimal}
 use Rattle.cli_lines.specs.Texts.{escaped_bytes}
@@ -19,7 +20,7 @@ use Rattle.cli_lines.specs.declared.line.Before.TheVariants as before
 use Rattle.cli_lines.specs.declared.names.Name.{Name}
 use Rattle.cli_lines.specs.declared.names.Name.TheVariants as name
 use Rattle.cli_lines.specs.declared.parts.Form.{Form}
-use Rattle.cli_lines.specs.declared.parts.Form.TheVariants.{Text, JsonLines}
+use Rattle.cli_lines.specs.declared.parts.Form.TheVariants.{Text, Letters, JsonLines}
 
 pub data Value : Type 0 where
   number : ℕ → Value
@@ -103,6 +104,10 @@ part_text (units of) = flat_map escaped_unit of
 part_text (opens _) = []
 part_text closes = []
 
+-- the same with letters beyond ASCII as they are
+abbrev pub part_letters : Part → List ℕ
+part_letters part = readable (part_text part)
+
 -- ---- a line of JSON: the tokens of an object
 
 abbrev pub named_token : Name → json.Token
@@ -176,10 +181,12 @@ style form file = record { form = form; file = file }
 -- in a line of text the name of the file comes first, then a colon and a space
 abbrev pub lead : Form → Option (List ℕ) → List ℕ
 lead Text (Some file) = escaped_text file ++ codes ": "
+lead Letters (Some file) = readable (escaped_text file) ++ codes ": "
 lead form file = []
 
 abbrev pub form_from : Form → Option (List ℕ) → Before → List Part → List ℕ
 form_from Text file at parts = flat_map part_text parts ++ line_feed
+form_from Letters file at parts = flat_map part_letters parts ++ line_feed
 form_from JsonLines file at parts = named_from file at (flat_map part_tokens parts)
 
 -- these parts, and the end of the line, from where the printer is

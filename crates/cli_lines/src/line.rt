@@ -1,7 +1,7 @@
 //! Appends the parts of a line to the bytes that wait to be sent.
 ghost use Rattle.std.specs.Prelude.{◌≡◌, ◌++◌, ◌∷◌, [], ℕ, List, OnOk, Option, IfOk, map};
 ghost use Rattle.cli_lines.specs.declared.line.Before.TheVariants as here;
-ghost use Rattle.cli_lines.specs.Lines.{Part as ThePart, line_from, line_text, part_text, style, value_text};
+ghost use Rattle.cli_lines.specs.Lines.{Part as ThePart, line_from, line_text, part_letters, part_text, style, value_text};
 ghost use Rattle.cli_lines.specs.Shown.{shown, shown_file, shown_value};
 
 use crate::json_line::push_json_end;
@@ -12,6 +12,7 @@ use crate::texts::{
     push_quoted, push_reference, push_start, push_token, push_word,
 };
 use crate::units::push_units;
+use cli_escapes::show_letters;
 use std::alloc::{AllocError, Global};
 
 /// Where a printer is in its line of JSON.
@@ -69,6 +70,20 @@ fn push_text_part(alloc: Global, part: &Part<'_>, line: &mut Vec<u8>) -> Result<
     }
 }
 
+/// Appends a part of a line of text, with letters beyond ASCII as they are.
+#[inline(never)]
+pub(crate) fn push_letters_part(
+    alloc: Global,
+    part: &Part<'_>,
+    line: &mut Vec<u8>,
+) -> Result<(), AllocError>
+    ensures { OnOk result (line.new.items ≡ line.old.items ++ part_letters (shown part.now)) }
+{
+    let start = line.len();
+    push_text_part(alloc, part, line)?;
+    show_letters(start, line)
+}
+
 /// Appends a part of a line. Returns where the printer is then.
 #[inline(always)]
 pub(crate) fn push_part(
@@ -87,6 +102,10 @@ pub(crate) fn push_part(
             push_text_part(alloc, part, line)?;
             Ok(at)
         }
+        Form::Letters => {
+            push_letters_part(alloc, part, line)?;
+            Ok(at)
+        }
         Form::JsonLines => push_named_part(alloc, file, at, part, line),
     }
 }
@@ -102,7 +121,7 @@ pub(crate) fn begin_line(
     ensures { IfOk result (λ now. (more : List ThePart) → line.new.items ++ line_from (style form (shown_file file.entry)) now more
         ≡ line.old.items ++ line_text (style form (shown_file file.entry)) (map shown parts.now ++ more)) }
 {
-    push_lead(form, file, line)?;
+    push_lead(alloc, form, file, line)?;
     push_parts(alloc, form, file, parts, line)
 }
 
@@ -130,7 +149,7 @@ pub(crate) fn push_end(form: Form, at: Before, line: &mut Vec<u8>) -> Result<(),
     ensures { OnOk result ((file : Option (List ℕ)) → line.new.items ≡ line.old.items ++ line_from (style form file) at []) }
 {
     match form {
-        Form::Text => Ok(line.push(b'\n')?),
+        Form::Text | Form::Letters => Ok(line.push(b'\n')?),
         Form::JsonLines => push_json_end(at, line),
     }
 }

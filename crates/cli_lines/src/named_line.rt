@@ -6,7 +6,7 @@ ghost use Rattle.cli_lines.specs.Lines.{lead, named_from, part_tokens};
 ghost use Rattle.cli_lines.specs.Shown.{shown, shown_file};
 
 use crate::json_line::{push_json_part, push_member};
-use crate::line::Before;
+use crate::line::{Before, push_letters_part};
 use crate::names::Name;
 use crate::parts::{Form, Part, Value};
 use crate::texts::push_escaped;
@@ -14,6 +14,7 @@ use std::alloc::{AllocError, Global};
 
 /// Appends what a line of text begins with: the name of the file, if there is one.
 pub(crate) fn push_lead(
+    alloc: Global,
     form: Form,
     file: Option<&str>,
     line: &mut Vec<u8>,
@@ -23,6 +24,10 @@ pub(crate) fn push_lead(
     match (form, file) {
         (Form::Text, Some(file)) => {
             push_escaped(file.as_bytes(), line)?;
+            line.extend_from_slice(b": ")
+        }
+        (Form::Letters, Some(file)) => {
+            push_letters_part(alloc, &Part::Note(Value::Text(file)), line)?;
             line.extend_from_slice(b": ")
         }
         _ => Ok(()),

@@ -7,8 +7,10 @@ use table_schema::Token;
 /// The form in which a report is printed.
 #[derive(Clone, Copy, Debug, PartialEq, Eq)]
 pub enum Form {
-    /// Lines of text.
+    /// Lines of text: printable ASCII, with all else escaped.
     Text,
+    /// Lines of text with letters beyond ASCII as they are, for a terminal that reads UTF-8.
+    Letters,
     /// A JSON object on each line.
     JsonLines,
 }

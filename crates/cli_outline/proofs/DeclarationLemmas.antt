@@ -8,11 +8,11 @@ use Rattle.std.proofs.lemmas.List.Quantifiers.{position-Some}
 use Rattle.std.proofs.lemmas.List.Sums.{position_or_len_is}
 use Rattle.table_schema.specs.declared.token.Token.{Token}
 use Rattle.cli_lines.specs.declared.parts.Form.{Form}
-use Rattle.cli_lines.specs.declared.parts.Form.TheVariants.{Text, JsonLines}
+use Rattle.cli_lines.specs.declared.parts.Form.TheVariants.{Text, Letters, JsonLines}
 use Rattle.cli_lines.specs.declared.names.Name.TheVariants as name
 use Rattle.cli_lines.specs.Lines.{Part, line_from, member, note, plain, style, styled_text, token, word}
 use Rattle.cli_lines.specs.Printed.{Asked, Printed, Prints}
-use Rattle.cli_declarations.specs.AsIs.{as_is}
+use Rattle.cli_escapes.specs.AsIs.{as_is}
 use Rattle.cli_outline.specs.Declarations.{declaration_line, directive_part, ends_word, type_part, unindented}
 
 -- the length of the first word that a search returns
@@ -57,6 +57,7 @@ same_text : (form : Form) (file : Option (List ℕ)) (of : Token) (class : Optio
     → styled_text (style form file) (line_with of class directive declared named ∷ []) ≡ styled_text (style form file) (declaration_line of class directive declared ∷ [])
 unfolding declaration_line styled_text line_from
 same_text Text file of class directive declared named read = refl
+same_text Letters file of class directive declared named read = refl
 same_text JsonLines file of class directive declared named read = ap (λ (text : List ℕ). styled_text (style JsonLines file) (line_with of class directive declared text ∷ [])) (read refl)
 
 pub line_printed : {W : Type 0} (a b : Printed W) (of : Token) (class : Option Token) (directive : Bool) (declared named : List ℕ)

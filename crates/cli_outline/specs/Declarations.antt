@@ -8,7 +8,7 @@ use Rattle.table_schema.specs.declared.token.Token.{Token}
 use Rattle.metadata.specs.Metadata.{Metadata, cell_in}
 use Rattle.cli_lines.specs.Lines.{Part, member, note, plain, text, token, word}
 use Rattle.cli_lines.specs.declared.names.Name.TheVariants as name
-use Rattle.cli_declarations.specs.AsIs.{as_is}
+use Rattle.cli_escapes.specs.AsIs.{as_is}
 use Rattle.cli_declarations.specs.Parts.{number_of}
 
 -- a space or a parenthesis: the first word ends before it

@@ -8,11 +8,12 @@ ghost use Rattle.cli_lines.specs.declared.parts.Form.TheVariants.{JsonLines};
 ghost use Rattle.cli_lines.specs.Printed.{Prints};
 ghost use Rattle.cli_lines.specs.Shown.{shown};
 ghost use Rattle.full_names.specs.RowNames.{IsMemberOf};
-ghost use Rattle.cli_declarations.specs.AsIs.{unescaped};
+ghost use Rattle.cli_escapes.specs.AsIs.{unescaped};
 ghost use Rattle.cli_outline.specs.Declarations.{declaration_line, directive_part, ends_word, has_directive, type_part, unindented};
 ghost use Rattle.cli_outline.specs.Printed.{PrintsRows};
 
-use cli_declarations::{Declared, declare, number, text_or, unescape};
+use cli_declarations::{Declared, declare, number};
+use cli_escapes::{text_or, unescape};
 use cli_lines::Part::{Member, Note, Word};
 use cli_lines::Value::{self, Plain, Text};
 use cli_lines::{Form, Name, Part, Printer};
@@ -84,7 +85,7 @@ fn read_names(form: Form, text: &str, named: &mut Vec<u8>) -> Result<(), AllocEr
     ensures { form ≡ JsonLines → OnOk result (named.new.items ≡ named.old.items ++ unescaped (unindented text.now)) }
 {
     match form {
-        Form::Text => Ok(()),
+        Form::Text | Form::Letters => Ok(()),
         Form::JsonLines => unescape(text.trim_ascii_start().as_bytes(), named),
     }
 }

@@ -69,6 +69,64 @@ fn prints_each_value(rt: HostRuntime) -> Result<(), Fail> {
     Ok(())
 }
 
+/// Texts, and what a line of text with letters has of them: a control or format character, a separator, a character for private
+/// use or without a meaning, and one without a picture stay escaped.
+const LETTERS: [(&str, &str); 19] = [
+    ("Caf\u{e9}", "Caf\u{e9}"),
+    ("\u{65e5}\u{672c}\u{8a9e}", "\u{65e5}\u{672c}\u{8a9e}"),
+    ("e\u{301}", "e\u{301}"),
+    ("\u{1f600}\u{20ac}\u{b2}", "\u{1f600}\u{20ac}\u{b2}"),
+    ("\u{e9}\"\\\u{1b}\u{e9}", "\u{e9}\\x22\\x5c\\x1b\u{e9}"),
+    ("a\u{7f}\u{85}", "a\\x7f\\xc2\\x85"),
+    ("\u{a0}", "\\xc2\\xa0"),
+    ("\u{ad}", "\\xc2\\xad"),
+    ("\u{378}", "\\xcd\\xb8"),
+    ("\u{200b}\u{e9}", "\\xe2\\x80\\x8b\u{e9}"),
+    ("\u{2028}", "\\xe2\\x80\\xa8"),
+    ("\u{202e}\u{e9}", "\\xe2\\x80\\xae\u{e9}"),
+    ("\u{2066}", "\\xe2\\x81\\xa6"),
+    ("\u{3164}", "\\xe3\\x85\\xa4"),
+    ("\u{e000}", "\\xee\\x80\\x80"),
+    ("a\u{fe0f}", "a\\xef\\xb8\\x8f"),
+    ("\u{feff}", "\\xef\\xbb\\xbf"),
+    ("\u{e0041}", "\\xf3\\xa0\\x81\\x81"),
+    ("\u{10ffff}", "\\xf4\\x8f\\xbf\\xbf"),
+];
+
+/// Texts with escapes, whose bytes may be no UTF-8 (Unicode, table 3-7): cut, too long, a surrogate, too great.
+const ESCAPED: [(&str, &str); 9] = [
+    ("\\xc3\\xa9", "\u{e9}"),
+    ("\\xc3\\xc3\\xa9\\xa9", "\\xc3\u{e9}\\xa9"),
+    ("\\xc3", "\\xc3"),
+    ("\\xe2\\x82", "\\xe2\\x82"),
+    ("\\xe2\\x82!\\xac", "\\xe2\\x82!\\xac"),
+    ("\\xc1\\xa9\\xe0\\x83\\xa9", "\\xc1\\xa9\\xe0\\x83\\xa9"),
+    ("\\xed\\xa0\\x80", "\\xed\\xa0\\x80"),
+    ("\\xf4\\x90\\x80\\x80\\xf5\\x80\\x80\\x80", "\\xf4\\x90\\x80\\x80\\xf5\\x80\\x80\\x80"),
+    ("\\x41\\u00e9\\", "\\x41\\u00e9\\"),
+];
+
+#[test]
+fn prints_letters(rt: HostRuntime) -> Result<(), Fail> {
+    for (text, wanted) in LETTERS {
+        let line = [Word("- "), Field(Name::Text, Text(text)), Word(".")];
+        let wanted = format!(in rt.alloc(); "- {wanted}.\n")?;
+        assert_eq!(rt; printed(rt.alloc(), Form::Letters, &[line.as_slice()])?, wanted);
+    }
+    for (text, wanted) in ESCAPED {
+        let line = [Note(Plain(text))];
+        let wanted = format!(in rt.alloc(); "{wanted}\n")?;
+        assert_eq!(rt; printed(rt.alloc(), Form::Letters, &[line.as_slice()])?, wanted);
+    }
+    let mut out = Vec::new(rt.alloc());
+    let mut printer = Printer::named(rt.alloc(), Form::Letters, Some("\u{e9}\u{202e}.dll"), &mut out);
+    printer.line(&[Note(Quoted("\u{e9}"))]);
+    let (_, sent) = printer.finish();
+    assert!(rt; sent.is_ok());
+    assert_eq!(rt; out.as_slice(), "\u{e9}\\xe2\\x80\\xae.dll: \"\u{e9}\"\n".as_bytes());
+    Ok(())
+}
+
 /// What stands in which form. In JSON a line without a member is none.
 #[test]
 fn prints_each_part(rt: HostRuntime) -> Result<(), Fail> {
@@ -82,6 +140,7 @@ fn prints_each_part(rt: HostRuntime) -> Result<(), Fail> {
     ];
     let text = "a 1 3true\n\nonly words\n4\nb5 6\n\n";
     assert_eq!(rt; printed(rt.alloc(), Form::Text, &lines)?.as_str(), text);
+    assert_eq!(rt; printed(rt.alloc(), Form::Letters, &lines)?.as_str(), text);
     let json = "{\"row\":2,\"size\":3,\"ok\":true}\n{\"cli\":{\"major\":5,\"root\":{\"offset\":6}},\"file\":\"f\"}\n{\"stream\":{}}\n";
     assert_eq!(rt; printed(rt.alloc(), Form::JsonLines, &lines)?.as_str(), json);
     Ok(())
@@ -90,7 +149,7 @@ fn prints_each_part(rt: HostRuntime) -> Result<(), Fail> {
 /// A line in parts is the line of these parts.
 #[test]
 fn prints_a_line_in_parts(rt: HostRuntime) -> Result<(), Fail> {
-    for (form, wanted) in [(Form::Text, "1 2\n3\n\n"), (Form::JsonLines, "{\"left\":1,\"right\":2}\n{\"left\":3}\n")] {
+    for (form, wanted) in [(Form::Text, "1 2\n3\n\n"), (Form::Letters, "1 2\n3\n\n"), (Form::JsonLines, "{\"left\":1,\"right\":2}\n{\"left\":3}\n")] {
         let mut out = Vec::new(rt.alloc());
         let mut printer = Printer::new(rt.alloc(), form, &mut out);
         let kept = printer.form();

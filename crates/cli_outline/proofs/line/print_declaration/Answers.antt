@@ -5,7 +5,7 @@ use Rattle.cli_lines.specs.declared.parts.Form.TheVariants.{JsonLines}
 use Rattle.cli_lines.specs.Lines.{Part, member, note, plain, token, word}
 use Rattle.cli_lines.specs.declared.names.Name.TheVariants as name
 use Rattle.cli_lines.specs.Printed.{Prints}
-use Rattle.cli_declarations.specs.AsIs.{as_is, unescaped}
+use Rattle.cli_escapes.specs.AsIs.{as_is, unescaped}
 use Rattle.cli_outline.specs.Declarations.{directive_part, unindented}
 use Rattle.cli_outline.proofs.DeclarationLemmas.{line_printed}
 use Rattle.cli_outline.proofs.line.print_declaration.Goals as goal

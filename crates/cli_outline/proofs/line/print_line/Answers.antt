@@ -3,7 +3,7 @@ use Rattle.std.specs.Prelude.{string_bytes}
 use Rattle.cli_lines.specs.declared.parts.Form.TheVariants.{JsonLines}
 use Rattle.cli_lines.specs.Lines.{Part}
 use Rattle.cli_lines.specs.Printed.{Prints}
-use Rattle.cli_declarations.specs.AsIs.{unescaped}
+use Rattle.cli_escapes.specs.AsIs.{unescaped}
 use Rattle.cli_outline.specs.Declarations.{declaration_line, unindented}
 use Rattle.cli_outline.proofs.PrintedLemmas.{row_printed, rows_failed}
 use Rattle.cli_outline.proofs.line.print_line.Goals as goal

@@ -1,11 +1,14 @@
-use Rattle.std.proofs.Common.{◌≡◌, ◌∙◌, ◌++◌, List, ℕ, OnOk, subst, sym}
+use Rattle.std.proofs.Common.{◌≡◌, ◌∙◌, ◌++◌, List, ℕ, OnOk, inl, inr, subst, sym}
 use Rattle.std.proofs.lemmas.Str.Ascii.{trim_ascii_start_is}
-use Rattle.cli_lines.specs.declared.parts.Form.TheVariants.{Text, JsonLines}
-use Rattle.cli_declarations.specs.AsIs.{unescaped}
+use Rattle.cli_lines.specs.declared.parts.Form.TheVariants.{Text, Letters, JsonLines}
+use Rattle.cli_escapes.specs.AsIs.{unescaped}
 use Rattle.cli_outline.proofs.line.read_names.Goals as goal
 
 pub returns-in-Text : goal.returns-in-Text
-returns-in-Text c = λ json. let f : Text ≡ JsonLines = sym c.in-Text.is ∙ json in absurd cc
+returns-in-Text c = λ json. elim c.in-Text.is [
+  | inl text ↦ let f : Text ≡ JsonLines = sym text ∙ json in absurd cc
+  | inr letters ↦ let f : Letters ≡ JsonLines = sym letters ∙ json in absurd cc
+]
 
 pub returns-in-JsonLines : goal.returns-in-JsonLines
 returns-in-JsonLines c = λ json.

@@ -1,6 +1,6 @@
 use Rattle.std.proofs.Common.{◌≡◌, ◌++◌, drop}
-use Rattle.cli_declarations.specs.AsIs.{unescaped, unescaped_after}
-use Rattle.cli_declarations.proofs.as_is.read_escapes.Given as goal
+use Rattle.cli_escapes.specs.AsIs.{unescaped, unescaped_after}
+use Rattle.cli_escapes.proofs.as_is.read_escapes.Given as goal
 
 abbrev pub invariant-loop-index : goal.invariant-loop-index
 invariant-loop-index l = l.out.items ++ unescaped_after l.skipped (drop l.index l.text) ≡ l.initial.out.items ++ unescaped l.text

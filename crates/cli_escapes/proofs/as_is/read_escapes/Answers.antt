@@ -1,8 +1,8 @@
 use Rattle.std.proofs.Common.{◌≡◌, ◌∙◌, ◌++◌, ◌+◌, drop, ap, sym, refl}
 use Rattle.std.proofs.lemmas.List.{drop-drop}
-use Rattle.cli_declarations.specs.AsIs.{unescaped_after}
-use Rattle.cli_declarations.proofs.AsIsLemmas.{all_read}
-use Rattle.cli_declarations.proofs.as_is.read_escapes.Goals as goal
+use Rattle.cli_escapes.specs.AsIs.{unescaped_after}
+use Rattle.cli_escapes.proofs.AsIsLemmas.{all_read}
+use Rattle.cli_escapes.proofs.as_is.read_escapes.Goals as goal
 
 pub loop-index-init : goal.loop-index-init
 loop-index-init c = refl

@@ -1,6 +1,6 @@
 use Rattle.std.proofs.Common.{◌≡◌, ◌++◌, ap, arith}
-use Rattle.cli_declarations.proofs.AsIsLemmas.{passed, escape_read, byte_read}
-use Rattle.cli_declarations.proofs.as_is.read_first.Goals as goal
+use Rattle.cli_escapes.proofs.AsIsLemmas.{passed, escape_read, byte_read}
+use Rattle.cli_escapes.proofs.as_is.read_first.Goals as goal
 
 pub returns-then-skipped-gt0 : goal.returns-then-skipped-gt0
 returns-then-skipped-gt0 c = ap (λ t. c.args.out.now.items ++ t) (passed c.args.skipped c.args.text.now c.if-skipped-gt0.true)

@@ -1,5 +1,5 @@
 -- A text whose escapes are read back, byte by byte.
-use Rattle.std.proofs.Common.{OnOk, is_ok, ◌==◌, ◌+◌, false, true, ◌≡◌, ℕ, zero, suc, ◌-◌, ◌<◌, ◌≤◌, Bool, if◌then◌else◌, Option, Some, None, Result, Ok, Err, MatchResult, IsUtf8, Bor, List, [], ◌∷◌, ◌++◌, drop, length, ap, append_assoc, append-nil, arith, refl, sym, ◌∙◌}
+use Rattle.std.proofs.Common.{OnOk, is_ok, ◌==◌, false, true, ◌≡◌, ℕ, zero, suc, ◌-◌, ◌<◌, ◌≤◌, Bool, if◌then◌else◌, Option, Some, None, Result, Ok, Err, MatchResult, IsUtf8, Bor, List, [], ◌∷◌, ◌++◌, drop, length, ap, append_assoc, append-nil, arith, refl, sym, ◌∙◌}
 use Rattle.std.specs.Prelude.{slice_get, slice_index}
 use Rattle.std.specs.Option.{unwrap_or}
 use Rattle.std.specs.Result.{result_unwrap_or}
@@ -7,7 +7,8 @@ use Rattle.std.specs.Str.{is_utf8}
 use Rattle.std.proofs.lemmas.Bool.{false_from_ne_true}
 use Rattle.std.proofs.lemmas.Str.{IsUtf8-from_is_utf8, is_utf8-from_IsUtf8}
 use Rattle.std.proofs.lemmas.List.{drop_all}
-use Rattle.cli_declarations.specs.AsIs.{escaped_at, unescaped, unescaped_after}
+use Rattle.cli_escapes.specs.Escapes.{escaped_at}
+use Rattle.cli_escapes.specs.AsIs.{unescaped, unescaped_after}
 
 -- a byte is passed over
 pub passed : (skipped : ℕ) (text : List ℕ) → 0 < skipped → unescaped_after (skipped - 1) (drop 1 text) ≡ unescaped_after skipped text
@@ -45,7 +46,7 @@ text_is (Err error) other out bytes IsFault is found =
     ap (λ (t : Bor (List ℕ)). t.now) is ∙ ap (λ (t : Bool). if t then bytes else other.now) (sym (false_from_ne_true (is_utf8 bytes) (λ yes. found.0 (IsUtf8-from_is_utf8 bytes yes))))
 
 -- a byte that is no backslash begins no escape
-not_escaped : (byte : ℕ) (tail : List ℕ) → (byte == 92) ≡ false → None ≡ escaped_at (byte ∷ tail)
+pub not_escaped : (byte : ℕ) (tail : List ℕ) → (byte == 92) ≡ false → None ≡ escaped_at (byte ∷ tail)
 unfolding escaped_at
 not_escaped byte [] other = refl
 not_escaped byte (second ∷ []) other = refl

@@ -1,5 +1,5 @@
-use Rattle.cli_declarations.proofs.AsIsLemmas.{appended, plain_read}
-use Rattle.cli_declarations.proofs.as_is.unescape.Goals as goal
+use Rattle.cli_escapes.proofs.AsIsLemmas.{appended, plain_read}
+use Rattle.cli_escapes.proofs.as_is.unescape.Goals as goal
 
 pub returns-in-None : goal.returns-in-None
 returns-in-None c =

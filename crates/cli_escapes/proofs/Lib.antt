@@ -1,0 +1,2 @@
+pub mod AsIsLemmas
+pub mod LetterLemmas

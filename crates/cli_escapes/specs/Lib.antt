@@ -1,0 +1,4 @@
+pub mod Escapes
+pub mod AsIs
+pub mod Letters
+pub mod Locale

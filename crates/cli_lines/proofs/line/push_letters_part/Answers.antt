@@ -1,0 +1,10 @@
+use Rattle.std.proofs.Common.{rules}
+use Rattle.cli_lines.specs.Lines.{part_text}
+use Rattle.cli_lines.specs.Shown.{shown}
+use Rattle.cli_lines.proofs.TextLemmas.{letters_shown}
+use Rattle.cli_lines.proofs.line.push_letters_part.Goals as goal
+
+pub returns : goal.returns
+returns c =
+    letters_shown c.show_letters.result c.args.line.now.items (part_text (shown c.args.part.now)) c.push_text_part.new.line.items c.show_letters.new.line.items _
+    c.in_ok-push_text_part.ensures (search rules) c.show_letters.ensures
