@@ -32,6 +32,7 @@ pub enum Name {
     Layer,
     Left,
     Length,
+    Limit,
     Machine,
     Major,
     Methods,
@@ -63,6 +64,7 @@ pub enum Name {
     Type,
     Types,
     Units,
+    Value,
     Version,
     Visibility,
 }
@@ -114,13 +116,14 @@ impl Name {
             Assembly assembly, Blob blob, Build build, Cause cause, Cli cli, Code code,
             Column column, Culture culture, Debug debug, Difference difference, Digest digest,
             Directive directive, Entry entry, Equal equal, Fields fields, File file, Flag flag,
-            Flags flags, Format format, Layer layer, Left left, Length length, Machine machine,
-            Major major, Methods methods, Minor minor, Module module, Mvid mvid, Name name,
-            Namespace namespace, Native native, Offset offset, Ok ok, Reference reference,
-            Resource resource, Resources resources, Revision revision, Right right, Root root,
-            Row row, Rule rule, Section section, Signature signature, Size size, Stream stream,
-            Structure structure, Summary summary, Table table, Text text, Token token, Type type,
-            Types types, Units units, Version version, Visibility visibility,
+            Flags flags, Format format, Layer layer, Left left, Length length, Limit limit,
+            Machine machine, Major major, Methods methods, Minor minor, Module module, Mvid mvid,
+            Name name, Namespace namespace, Native native, Offset offset, Ok ok,
+            Reference reference, Resource resource, Resources resources, Revision revision,
+            Right right, Root root, Row row, Rule rule, Section section, Signature signature,
+            Size size, Stream stream, Structure structure, Summary summary, Table table, Text text,
+            Token token, Type type, Types types, Units units, Value value, Version version,
+            Visibility visibility,
         }
     }
 }

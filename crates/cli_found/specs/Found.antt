@@ -1,0 +1,171 @@
+-- The line of the number at a fault: what it is, and what its rule compares it with (ECMA-335 II.22 to II.25).
+use Rattle.std.specs.Prelude.{◌≡◌, ◌⊎◌, ◌&&◌, ◌-◌, ◌+◌, ◌/◌, ◌%◌, ◌^◌, ℕ, Bool, true, false, nat_le, nat_lt, if◌then◌else◌, List, [], ◌∷◌, ◌++◌, codes, decimal, length, Option, None, Some, slice_get}
+use Rattle.packed.specs.declared.code.FaultCode.{FaultCode}
+use Rattle.packed.specs.declared.code.FaultCode.TheVariants.{DosHeader, PeSignature, OptionalHeader, Pe32PlusSize, Magic, Directories, Sections, NoCliHeader, CliAddress, CliSize, MetadataAddress, RootSignature, Version, NoTables, TablesVersion, HeapSizes, UnknownTable, RowCount, NotSorted, BadRun, NoOwner, NestedOrder, EntryPoint}
+use Rattle.packed.specs.Number.{little_endian}
+use Rattle.packed.specs.Offsets.{part}
+use Rattle.packed.specs.Rule.{AllHold}
+use Rattle.root.specs.declared.kind.Kind.{Kind}
+use Rattle.root.specs.declared.kind.Kind.TheVariants.{Strings, Guids, Blobs}
+use Rattle.root.specs.Streams.{stream_name}
+use Rattle.table_schema.specs.declared.table.TableId.{TableId}
+use Rattle.table_schema.specs.declared.coded.Coded.{Coded}
+use Rattle.table_schema.specs.declared.column.ColumnKind.{ColumnKind}
+use Rattle.table_schema.specs.declared.column.ColumnKind.TheVariants as kind
+use Rattle.table_schema.specs.CodedIndexes.{tables_of, tag_bits}
+use Rattle.table_schema.specs.Columns.{column_at, columns_of}
+use Rattle.table_schema.specs.Tables.{table_name}
+use Rattle.table_schema.specs.Tokens.{hexadecimal}
+use Rattle.schema.specs.declared.located_cells.TableCell.{TableCell}
+use Rattle.metadata.specs.Source.{Source, number_of, rows_in}
+use Rattle.cli_input.specs.Checked.{rules_before, source_in}
+use Rattle.cli_input.specs.declared.opened.Input.{Input}
+use Rattle.cli_lines.specs.declared.names.Name.{Name}
+use Rattle.cli_lines.specs.declared.names.Name.TheVariants as name
+use Rattle.cli_lines.specs.Lines.{Part, Value, field, member, number, plain, word}
+use Rattle.cli_regions.specs.Regions.{Region, What, cell}
+
+-- ---- what a line says
+
+-- a number after its offset: with its tag and row if it is a coded index (II.24.2.6)
+abbrev pub value_text : ℕ → ℕ → Option Coded → List ℕ
+value_text offset of None = codes "0x" ++ hexadecimal 1 offset ++ codes ": value " ++ decimal of ++ codes " (0x" ++ hexadecimal 1 of ++ codes ")"
+value_text offset of (Some coded) =
+    codes "0x" ++ hexadecimal 1 offset ++ codes ": value " ++ decimal of
+    ++ codes " (tag " ++ decimal (of % 2 ^ tag_bits coded) ++ codes ", row " ++ decimal (of / 2 ^ tag_bits coded) ++ codes ")"
+
+-- the line of a number, with what it is compared with
+unfoldable pub value_line : ℕ → ℕ → Option Coded → List Part → List Part
+value_line offset of coded limit = member name.Offset (number offset) ∷ word (value_text offset of coded) ∷ member name.Value (number of) ∷ limit
+
+-- something that has a limit, in items of a unit
+abbrev pub limit_parts : List ℕ → Name → Value → ℕ → List ℕ → List Part
+limit_parts before named of limit unit =
+    word (codes "; ") ∷ word before ∷ field named of ∷ word (codes " has ") ∷ field name.Limit (number limit) ∷ word unit ∷ []
+
+-- ---- what a rule compares the number in a cell with
+
+abbrev pub heap_limit : Kind → ℕ → List ℕ → List Part
+heap_limit heap size unit = limit_parts [] name.Stream (plain (stream_name heap)) size unit
+
+abbrev pub rows_limit : Source → TableId → List Part
+rows_limit source table = limit_parts [] name.Table (plain (table_name table)) (rows_in source table) (codes " rows")
+
+-- the table of a coded index, by its tag
+abbrev pub tagged_limit : Source → Option (Option TableId) → List Part
+tagged_limit source (Some (Some table)) = rows_limit source table
+tagged_limit source _ = []
+
+-- the size of what a number in a column of a kind refers to
+abbrev pub kind_limit : Source → ColumnKind → ℕ → List Part
+kind_limit source kind.Text of = heap_limit Strings (length source.texts) (codes " bytes")
+kind_limit source kind.Guid of = heap_limit Guids (length source.guids / 16) (codes " GUIDs")
+kind_limit source kind.Blob of = heap_limit Blobs (length source.blobs) (codes " bytes")
+kind_limit source (kind.Signature _) of = heap_limit Blobs (length source.blobs) (codes " bytes")
+kind_limit source (kind.Row table) of = rows_limit source table
+kind_limit source (kind.List table) of = rows_limit source table
+kind_limit source (kind.Coded coded) of = tagged_limit source (slice_get (tables_of coded) (of % 2 ^ tag_bits coded))
+kind_limit source _ of = []
+
+abbrev pub kind_of : TableCell → ColumnKind
+kind_of at = (column_at at.table at.column).kind
+
+abbrev pub coded_of : ColumnKind → Option Coded
+coded_of (kind.Coded coded) = Some coded
+coded_of _ = None
+
+-- the number in a cell, if the tables have it
+abbrev pub is_cell : Source → TableCell → Bool
+is_cell source at = nat_le 1 at.row && nat_le at.row (rows_in source at.table) && nat_lt at.column (length (columns_of at.table))
+
+abbrev pub number_in : Source → TableCell → Option ℕ
+number_in source at = if is_cell source at then Some (number_of source at.table at.row at.column) else None
+
+-- the number in the same column of the row before
+abbrev pub earlier_parts : ℕ → Option ℕ → List Part
+earlier_parts row None = []
+earlier_parts row (Some of) = limit_parts (codes "row ") name.Row (number row) of []
+
+abbrev pub earlier_limit : Source → TableCell → List Part
+earlier_limit source at = earlier_parts (at.row - 1) (number_in source (record at { row = at.row - 1 }))
+
+-- the number in column NestedClass of the same row (II.22.32)
+abbrev pub nested_parts : Option ℕ → List Part
+nested_parts None = []
+nested_parts (Some of) = limit_parts [] name.Column (plain (codes "NestedClass")) of []
+
+abbrev pub nested_limit : Source → TableCell → List Part
+nested_limit source at = nested_parts (number_in source (record at { column = 0 }))
+
+-- by the rule: for the order of rows a number in another cell, or the number of rows without an owner (II.22)
+abbrev pub limit_of : FaultCode → Source → TableCell → ℕ → List Part
+limit_of NotSorted source at of = earlier_limit source at
+limit_of BadRun source at of = earlier_limit source at
+limit_of NestedOrder source at of = nested_limit source at
+limit_of NoOwner source at of = rows_limit source at.table
+limit_of rule source at of = kind_limit source (kind_of at) of
+
+-- the line of a cell at an offset
+abbrev pub lines_of : FaultCode → Source → TableCell → ℕ → Option ℕ → List (List Part)
+lines_of rule source at offset None = []
+lines_of rule source at offset (Some of) = value_line offset of (coded_of (kind_of at)) (limit_of rule source at of) ∷ []
+
+abbrev pub cell_lines : FaultCode → Source → TableCell → ℕ → List (List Part)
+cell_lines rule source at offset = lines_of rule source at offset (number_in source at)
+
+-- ---- the number in a header
+
+-- the number of bytes at the offset of a fault that its rule is about; 0 if it is about a cell, or about more than one number
+abbrev pub field_size : FaultCode → ℕ
+field_size HeapSizes = 1
+field_size DosHeader = 2
+field_size OptionalHeader = 2
+field_size Pe32PlusSize = 2
+field_size Magic = 2
+field_size Sections = 2
+field_size NoTables = 2
+field_size TablesVersion = 2
+field_size PeSignature = 4
+field_size Directories = 4
+field_size NoCliHeader = 4
+field_size CliAddress = 4
+field_size CliSize = 4
+field_size MetadataAddress = 4
+field_size RootSignature = 4
+field_size Version = 4
+field_size RowCount = 4
+field_size EntryPoint = 4
+field_size UnknownTable = 8
+field_size _ = 0
+
+-- the line of a number in a header, if the bytes have it
+abbrev pub field_lines : FaultCode → List ℕ → ℕ → List (List Part)
+field_lines rule bytes offset =
+    if nat_le (offset + field_size rule) (length bytes) then value_line offset (little_endian (part bytes offset (field_size rule))) None [] ∷ [] else []
+
+-- ---- the line at a fault
+
+abbrev pub cell_of : What → Option TableCell
+cell_of (cell of) = Some of
+cell_of _ = None
+
+-- the cell that is the last of these structures
+abbrev pub innermost : List Region → Option TableCell
+innermost [] = None
+innermost (of ∷ []) = cell_of of.what
+innermost (of ∷ next ∷ later) = innermost (next ∷ later)
+
+-- the line of a cell; none if a rule before those for cells is broken
+abbrev pub AreOfCell : FaultCode → Input → List ℕ → ℕ → Option TableCell → List (List Part) → Type 0
+AreOfCell rule input bytes offset None lines = lines ≡ []
+AreOfCell rule input bytes offset (Some at) lines =
+    (AllHold (rules_before input bytes) × (lines ≡ cell_lines rule (source_in input bytes).source at offset)) ⊎ ((¬ AllHold (rules_before input bytes)) × (lines ≡ []))
+
+abbrev pub AreOf : Bool → FaultCode → Input → List ℕ → ℕ → List Region → List (List Part) → Type 0
+AreOf true rule input bytes offset structures lines = lines ≡ field_lines rule bytes offset
+AreOf false rule input bytes offset structures lines = AreOfCell rule input bytes offset (innermost structures) lines
+
+-- The lines of the number at the offset of a fault of a rule: one, or none if the rule is about no number there. The structures
+-- are those that contain the byte at the offset, outermost first.
+abbrev pub AreFound : FaultCode → Input → List ℕ → ℕ → List Region → List (List Part) → Type 0
+AreFound rule input bytes offset structures lines = AreOf (nat_lt 0 (field_size rule)) rule input bytes offset structures lines

@@ -1,0 +1,271 @@
+//! Prints the line of a number at a fault.
+ghost use Rattle.std.specs.Prelude.{◌≡◌, ◌∷◌, ◌+◌, ◌≤◌, [], length, List, map, nat_le, Some};
+ghost use Rattle.packed.specs.Number.{little_endian};
+ghost use Rattle.packed.specs.Offsets.{part};
+ghost use Rattle.cli_lines.specs.Lines.{Part as ThePart};
+ghost use Rattle.cli_lines.specs.Printed.{Prints};
+ghost use Rattle.cli_regions.specs.Kept.{seen, seen_what};
+ghost use Rattle.cli_found.specs.Found.{AreFound, AreOfCell, cell_lines, cell_of, field_lines, field_size, innermost, value_line};
+ghost use Rattle.cli_found.specs.Kept.{IsFieldSize, lead_text, shown_limit};
+
+use crate::limits::{Limit, coded_of, kind_of, limit_of, number_in, row_of, tag_of};
+use cli_faults::FaultCode;
+use cli_input::{Input, rows_of};
+use cli_lines::Part::{Field, Member, Word};
+use cli_lines::Value::Number;
+use cli_lines::{Name, Printer};
+use cli_regions::{Structure, What};
+use packed::{u16_at, u32_at, u64_at};
+use reading::Source;
+use schema::TableCell;
+use std::alloc::Global;
+use std::fmt;
+use std::io::Write;
+use table_schema::Coded;
+
+/// What a line begins with: an offset, the number there, and its tag and row if it is a coded index.
+#[derive(Clone, Copy)]
+struct Lead {
+    offset: u64,
+    number: u64,
+    coded: Option<Coded>,
+}
+
+impl fmt::Display for Lead {
+    ghost output = { λ lead. Some (lead_text lead) };
+
+    fn fmt<W: fmt::Write>(&self, f: &mut fmt::Formatter<W>) -> fmt::Result {
+        let (offset, number) = (self.offset, self.number);
+        match self.coded {
+            Some(coded) => {
+                let (tag, row) = (tag_of(coded, number), row_of(coded, number));
+                write!(f, "0x{offset:01x}: value {number} (tag {tag}, row {row})")
+            }
+            None => write!(f, "0x{offset:01x}: value {number} (0x{number:01x})"),
+        }
+    }
+}
+
+/// Prints the line of a number, which begins with this text.
+#[tactic(auto, unfolding(crate::specs::Found::value_line))]
+fn print_parts<'a, W: Write>(
+    text: &'a str,
+    lead: Lead,
+    limit: Option<Limit<'a>>,
+    out: &mut Printer<'_, W>,
+)
+    requires { text.now ≡ lead_text lead }
+    ensures { Prints out.old out.new (value_line lead.offset lead.number lead.coded (shown_limit limit.entry) ∷ []) }
+{
+    match limit {
+        Some(limit) => out.line(&[
+            Member(Name::Offset, Number(lead.offset)),
+            Word(text),
+            Member(Name::Value, Number(lead.number)),
+            Word("; "),
+            Word(limit.before),
+            Field(limit.name, limit.of),
+            Word(" has "),
+            Field(Name::Limit, Number(limit.limit)),
+            Word(limit.unit),
+        ]),
+        None => out.line(&[
+            Member(Name::Offset, Number(lead.offset)),
+            Word(text),
+            Member(Name::Value, Number(lead.number)),
+        ]),
+    }
+}
+
+/// Prints the line of a number, with what its rule compares it with.
+fn print_line<W: Write>(
+    alloc: Global,
+    lead: Lead,
+    limit: Option<Limit<'static>>,
+    out: &mut Printer<'_, W>,
+)
+    ensures { Prints out.old out.new (value_line lead.offset lead.number lead.coded (shown_limit limit.entry) ∷ []) }
+{
+    match lead.to_string(alloc) {
+        Ok(text) => print_parts(&text, lead, limit, out),
+        Err(_) => out.fail(),
+    }
+}
+
+/// How many bytes at the offset of a fault are the number that its rule is about; 0 if the rule is about a cell, or about more
+/// than one number.
+fn field_size(rule: FaultCode) -> usize
+    ensures size { result ≡ field_size rule }
+    ensures known { IsFieldSize result }
+{
+    match rule {
+        FaultCode::HeapSizes => 1,
+        FaultCode::DosHeader
+        | FaultCode::OptionalHeader
+        | FaultCode::Pe32PlusSize
+        | FaultCode::Magic
+        | FaultCode::Sections
+        | FaultCode::NoTables
+        | FaultCode::TablesVersion => 2,
+        FaultCode::PeSignature
+        | FaultCode::Directories
+        | FaultCode::NoCliHeader
+        | FaultCode::CliAddress
+        | FaultCode::CliSize
+        | FaultCode::MetadataAddress
+        | FaultCode::RootSignature
+        | FaultCode::Version
+        | FaultCode::RowCount
+        | FaultCode::EntryPoint => 4,
+        FaultCode::UnknownTable => 8,
+        _ => 0,
+    }
+}
+
+/// Whether the bytes have this many at an offset.
+fn has_bytes(bytes: &[u8], offset: u64, size: usize) -> bool
+    requires { IsFieldSize size }
+    ensures { result ≡ nat_le (offset + size) (length bytes.now) }
+{
+    let len = bytes.len() as u64;
+    offset <= len && offset + size as u64 <= len
+}
+
+/// The number in the bytes at an offset.
+fn number_at(bytes: &[u8], offset: usize, size: usize) -> u64
+    requires known { IsFieldSize size }
+    requires within { offset + size ≤ length bytes.now }
+    ensures { result ≡ little_endian (part bytes.now offset size) }
+{
+    match size {
+        8 => u64_at(bytes, offset),
+        4 => u64::from(u32_at(bytes, offset)),
+        2 => u64::from(u16_at(bytes, offset)),
+        1 => u64::from(bytes[offset]),
+        _ => 0,
+    }
+}
+
+/// Prints the line of a number in a header, if the bytes have it.
+fn print_field<W: Write>(
+    alloc: Global,
+    rule: FaultCode,
+    bytes: &[u8],
+    offset: u64,
+    out: &mut Printer<'_, W>,
+)
+    ensures { Prints out.old out.new (field_lines rule bytes.now offset) }
+{
+    cli_lines::laws::lines_follow::<W>();
+    let size = field_size(rule);
+    if has_bytes(bytes, offset, size) {
+        let number = number_at(bytes, offset as usize, size);
+        let lead = Lead {
+            offset,
+            number,
+            coded: None,
+        };
+        print_line(alloc, lead, None, out);
+    }
+}
+
+/// Prints the line of the number in a cell, if the tables have the cell.
+fn print_cell<W: Write>(
+    alloc: Global,
+    rule: FaultCode,
+    source: &Source<'_>,
+    cell: TableCell,
+    offset: u64,
+    out: &mut Printer<'_, W>,
+)
+    ensures { Prints out.old out.new (cell_lines rule source.now.source cell offset) }
+{
+    cli_lines::laws::lines_follow::<W>();
+    match number_in(source, cell) {
+        Some(number) => {
+            let lead = Lead {
+                offset,
+                number: u64::from(number),
+                coded: coded_of(kind_of(cell)),
+            };
+            let limit = limit_of(rule, source, cell, number);
+            print_line(alloc, lead, limit, out);
+        }
+        None => {}
+    }
+}
+
+/// The cell that a structure is, if it is one.
+fn cell_of(what: What<'_>) -> Option<TableCell>
+    ensures { result ≡ cell_of (seen_what what.entry) }
+{
+    match what {
+        What::Cell(cell) => Some(cell),
+        What::Words(_) | What::Entry(_, _) | What::UserString(_) => None,
+    }
+}
+
+/// The cell that is the innermost of these structures; `None` if that is no cell.
+fn innermost(structures: &[Structure<'_>]) -> Option<TableCell>
+    ensures { result ≡ innermost (map seen structures.now) }
+{
+    match structures.split_last() {
+        Some((last, _)) => cell_of(last.what),
+        None => None,
+    }
+}
+
+/// Prints the line of the number in the cell of a fault, if there is one.
+fn print_at_cell<W: Write>(
+    alloc: Global,
+    rule: FaultCode,
+    bytes: &[u8],
+    input: Input,
+    offset: u64,
+    found: Option<TableCell>,
+    out: &mut Printer<'_, W>,
+)
+    ensures { (lines : List (List ThePart)) × AreOfCell rule input bytes.now offset found lines × Prints out.old out.new lines }
+{
+    cli_lines::laws::lines_follow::<W>();
+    match found {
+        Some(cell) => match rows_of(bytes, input) {
+            Ok(source) => print_cell(alloc, rule, &source, cell, offset, out),
+            Err(_) => {}
+        },
+        None => {}
+    }
+}
+
+/// Prints the number at the offset of a fault of this rule, and what the rule compares it with. `structures` are those that
+/// contain the byte at the offset, the outermost first.
+///
+/// The line has the offset in hexadecimal, and the number in decimal and in hexadecimal, or with its tag and row if it is a
+/// coded index. Then comes the size of what a cell refers to: the bytes of a heap, the GUIDs of `#GUID`, or the rows of a
+/// table. For a rule about the order of rows (II.22) it is the number in the same column of the row before, or in column
+/// NestedClass of the same row, or the number of rows without an owner. There is no line if the rule is about no number
+/// at the offset, as those for stream headers, or if the bytes end before the number.
+///
+/// In JSON it is `{"offset":1100,"value":4095,"stream":"#Blob","limit":208}`, with the member `table`, `row` or `column` in place
+/// of `stream`.
+///
+/// It reads the headers and `#Strings` once more, and allocates the text of one line.
+pub fn print_found<W: Write>(
+    alloc: Global,
+    rule: FaultCode,
+    bytes: &[u8],
+    input: Input,
+    offset: u64,
+    structures: &[Structure<'_>],
+    out: &mut Printer<'_, W>,
+)
+    ensures { (lines : List (List ThePart)) × AreFound rule input bytes.now offset (map seen structures.now) lines × Prints out.old out.new lines }
+{
+    let size = field_size(rule);
+    if size == 0 {
+        let cell = innermost(structures);
+        print_at_cell(alloc, rule, bytes, input, offset, cell, out);
+    } else {
+        print_field(alloc, rule, bytes, offset, out);
+    }
+}
