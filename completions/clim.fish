@@ -34,8 +34,6 @@ complete -c clim -n "__fish_seen_subcommand_from $lists" -s r -l recursive -d 'R
 complete -c clim -n "__fish_seen_subcommand_from check" -s q -l quiet -d 'Print no faults; only the exit status reports them'
 complete -c clim -n "__fish_seen_subcommand_from compare" -s q -l quiet -d 'Print nothing; only the exit status says whether they differ'
 complete -c clim -n "__fish_seen_subcommand_from outline" -l no-tokens -d 'Leave the comment with the token away'
-complete -c clim -n "__fish_seen_subcommand_from outline" -l public -d 'Print only what other assemblies can see'
-complete -c clim -n "__fish_seen_subcommand_from outline" -l sorted -d 'Print types and members in the order of their names'
 complete -c clim -n "__fish_seen_subcommand_from root" -l until-fault -d 'Print what can be read before a fault, then the fault'
 complete -c clim -n "__fish_seen_subcommand_from check" -l where -d 'Print what contains the byte at a fault, and explain it'
 complete -c clim -n "__fish_seen_subcommand_from show" -a "(clim show --help | string match -arg '\b[0-9A-F]{2} ([A-Z][A-Za-z]+)')" -d 'Table'

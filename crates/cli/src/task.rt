@@ -1,6 +1,6 @@
 //! What the arguments ask the program to do.
 ghost use Rattle.std.specs.Prelude.{◌≡◌, IfErr, IfOk};
-ghost use Rattle.cli.specs.Tasks.{AreTokens, IsCompareTask, IsExplainTask, IsFirstNoToken, IsOutline, IsShow, IsTableNamed, IsTask, IsTokens, IsWhere, NamesNoTable, NamesType, directories_of, embed_task, extract_task, form_of, input_of, is_plural, list_task, named_task, names_of, naming_of, output_of, paths_of, report_task, request_of, resources_task, rewrite_task, root_of, separator_of, strong_name_of, verdict_of};
+ghost use Rattle.cli.specs.Tasks.{AreTokens, IsCompareTask, IsExplainTask, IsFirstNoToken, IsOutline, IsShow, IsTableNamed, IsTask, IsTokens, IsWhere, NamesNoTable, NamesType, directories_of, embed_task, extract_task, form_of, input_of, is_plural, list_task, named_task, names_of, naming_of, options_of, output_of, paths_of, report_task, request_of, resources_task, rewrite_task, root_of, separator_of, strong_name_of, verdict_of};
 
 use crate::columns::columns_of;
 use cli_arguments::{Ask, Subcommand};
@@ -11,7 +11,7 @@ use cli_input::Input;
 use cli_lines::Form;
 use cli_names::{code_of, offset_of, table_of, token_of, type_row_of};
 use cli_nearest::{nearest_code, nearest_column, nearest_table};
-use cli_outline::Subject;
+use cli_outline::{OutlineOptions, Subject, Tokens};
 use cli_roots::{CompareOptions, EmbedOptions, Output};
 use cli_runs::{Directories, Listing, Naming, Report, Request, Separator, Verdict};
 use embedding::StrongName;
@@ -51,7 +51,7 @@ pub(crate) fn task_of<'a>(alloc: Global, ask: &'a Ask<'a>) -> Result<Task<'a>, F
         Subcommand::Check => on_files(ask, Ok(Report::Check(verdict_of(ask.quiet, ask.locates)))),
         Subcommand::Show => on_files(ask, show_of(alloc, ask)),
         Subcommand::Types => on_files(ask, Ok(Report::Listing(Listing::Types))),
-        Subcommand::Outline => on_files(ask, Ok(outline_of(ask.part))),
+        Subcommand::Outline => on_files(ask, Ok(outline_of(ask.part, options_of(ask.no_tokens)))),
         Subcommand::Refs => on_files(ask, Ok(Report::Listing(Listing::Refs))),
         Subcommand::Resources => resources_of(ask),
         Subcommand::Strings => on_files(ask, Ok(Report::Strings)),
@@ -252,13 +252,25 @@ fn table_named<'a>(alloc: Global, part: Option<&'a str>) -> Result<Option<TableI
     }
 }
 
+/// What an outline shows.
+fn options_of(no_tokens: bool) -> OutlineOptions
+    ensures { result ≡ options_of no_tokens }
+{
+    let tokens = if no_tokens {
+        Tokens::Hidden
+    } else {
+        Tokens::Shown
+    };
+    OutlineOptions { tokens }
+}
+
 /// The report of `outline`: the type that the argument names, or all if there is no argument.
-fn outline_of<'a>(part: Option<&'a str>) -> Report<'a>
-    ensures { IsOutline part.entry result }
+fn outline_of<'a>(part: Option<&'a str>, options: OutlineOptions) -> Report<'a>
+    ensures { IsOutline options part.entry result }
 {
     match part {
-        Some(word) => Report::OutlineOf(type_named(word)),
-        None => Report::Listing(Listing::Outline),
+        Some(word) => Report::OutlineOf(type_named(word), options),
+        None => Report::Listing(Listing::Outline(options)),
     }
 }
 

@@ -55,8 +55,6 @@ pub fn ask<'a>(alloc: Global, words: &'a [&'a str]) -> Result<Ask<'a>, Error>
         recursive: flag(given, "recursive"),
         extract: given.get_str("extract"),
         no_tokens: flag(given, "no-tokens"),
-        public: flag(given, "public"),
-        sorted: flag(given, "sorted"),
     })
 }
 

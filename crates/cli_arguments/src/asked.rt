@@ -49,10 +49,6 @@ pub struct Ask<'a> {
     pub extract: Option<&'a str>,
     /// Whether `outline` leaves tokens away.
     pub no_tokens: bool,
-    /// Whether `outline` prints only what is visible outside of the assembly.
-    pub public: bool,
-    /// Whether `outline` prints types and members in the order of their names.
-    pub sorted: bool,
 }
 
 /// The subcommands of the program.

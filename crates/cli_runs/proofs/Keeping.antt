@@ -22,8 +22,9 @@ use Rattle.cli_lines.specs.Lines.{Part}
 use Rattle.cli_lines.specs.Printed.{Printed}
 use Rattle.cli_where.specs.Located.{HasContents, where_lines}
 use Rattle.cli_where.specs.declared.report.Found.TheVariants.{Nothing, Something}
+use Rattle.cli_outline.specs.declared.source.OutlineOptions.{OutlineOptions}
 use Rattle.cli_runs.specs.Printing.{Hands, HasPrinted}
-use Rattle.cli_runs.specs.Reports.{AreDeclared, AreOut, IsFaultOut, IsListed, IsPrinted, IsStopped, IsTypeOut}
+use Rattle.cli_runs.specs.Reports.{AreDeclared, AreOut, IsFaultOut, IsListed, IsPrinted, IsStopped, IsTypeOut, everything}
 use Rattle.cli_runs.specs.declared.report.Ended.{Ended}
 use Rattle.cli_runs.specs.declared.report.Ended.TheVariants as ended
 use Rattle.cli_runs.specs.declared.report.Listing.{Listing}
@@ -88,18 +89,18 @@ module _ {W : Type 0} (old new : Printed W) where
   abbrev Keeps : Type 0
   Keeps = new.borrow ≡ old.borrow
 
-  declared_keeps : (model : Metadata) (rows : List Token) → AreDeclared (Hands old new) model rows → Keeps
-  declared_keeps model rows out = out.5.0.same.borrow
+  declared_keeps : (options : OutlineOptions) (model : Metadata) (rows : List Token) → AreDeclared (Hands old new) options model rows → Keeps
+  declared_keeps options model rows out = out.5.0.same.borrow
 
-  type_keeps : (model : Metadata) (class : ℕ) → IsTypeOut (Hands old new) model class → Keeps
-  type_keeps model class (inl out) = declared_keeps model _ out.2
-  type_keeps model class (inr out) = out.0.same.borrow
+  type_keeps : (options : OutlineOptions) (model : Metadata) (class : ℕ) → IsTypeOut (Hands old new) options model class → Keeps
+  type_keeps options model class (inl out) = declared_keeps options model _ out.2
+  type_keeps options model class (inr out) = out.0.same.borrow
 
   listed_keeps : (of : Listing) (model : Metadata) → IsListed (Hands old new) of model → Keeps
   listed_keeps (listing.Show table names) model out = out.0.same.borrow
   listed_keeps listing.Types model out = out.0.same.borrow
-  listed_keeps listing.Outline model out = declared_keeps model _ out
-  listed_keeps listing.Refs model out = declared_keeps model _ out
+  listed_keeps (listing.Outline options) model out = declared_keeps options model _ out
+  listed_keeps listing.Refs model out = declared_keeps everything model _ out
 
   fault_keeps : (of : Verdict) (input : Input) (bytes : List ℕ) (file : Option (List ℕ)) (found : Fault) → IsFaultOut (Hands old new) of input bytes file found → Keeps
   fault_keeps verdict.Quiet input bytes file found out = out.0.same.borrow
@@ -118,8 +119,8 @@ module _ {W : Type 0} (old new : Printed W) where
     printed_keeps (report.Listing of) out = of_model _ _ request.input bytes out.0 (λ model is. listed_keeps of model (out.1 model is))
     printed_keeps (report.Check of) out = out.1.0.same.borrow
     printed_keeps (report.ShowUntilFault table names) out = of_model _ _ request.input bytes out.0 (λ model is. (out.1 model is).0.same.borrow)
-    printed_keeps (report.OutlineOf subject) out =
-        of_model _ _ request.input bytes out.0 (λ model is. let at = out.1 model is in type_keeps model at.0 at.2)
+    printed_keeps (report.OutlineOf subject options) out =
+        of_model _ _ request.input bytes out.0 (λ model is. let at = out.1 model is in type_keeps options model at.0 at.2)
     printed_keeps (report.Tokens numbers) out = of_model _ _ request.input bytes out.3.0 (λ model is. (out.3.1 model is).2.0.same.borrow)
     printed_keeps (report.Where offset) out = of_contents _ _ request.input bytes offset (λ contents. AreOut (Hands old new) (where_lines out.1.0 ++ contents)) out.0 (λ lines are. are.0.same.borrow) out.1.3
     printed_keeps report.Digest out = out.2.0.same.borrow
@@ -133,7 +134,7 @@ module _ {W : Type 0} (old new : Printed W) where
     stopped_keeps (report.Listing of) why out = absurd out
     stopped_keeps (report.Check of) why out = fault_keeps of request.input bytes _ out.2.0 out.2.2
     stopped_keeps (report.ShowUntilFault table names) why out = out.3.2.0.same.borrow
-    stopped_keeps (report.OutlineOf subject) why out = absurd out
+    stopped_keeps (report.OutlineOf subject options) why out = absurd out
     stopped_keeps (report.Tokens numbers) why out = of_model _ _ request.input bytes out.9.0 (λ model is. (out.9.1 model is).2.0.same.borrow)
     stopped_keeps (report.Where offset) why (inl out) = (of_nothing request.input bytes offset (λ contents. AreOut (Hands old new) (where_lines out.2.0 ++ contents)) out.2.3).0.same.borrow
     stopped_keeps (report.Where offset) why (inr out) = out.3.2.0.same.borrow

@@ -13,6 +13,7 @@ use Rattle.cli_info.specs.InfoLines.{AreFacts, info_lines}
 use Rattle.cli_input.specs.Checked.{IsWhole, rules_of}
 use Rattle.cli_input.specs.Heads.{AreHeads, HasHeads, rules_of_heads}
 use Rattle.cli_lines.specs.Printed.{Printed, Prints}
+use Rattle.cli_outline.specs.declared.source.OutlineOptions.{OutlineOptions}
 use Rattle.cli_outline.specs.Describing.{PrintsType}
 use Rattle.cli_outline.specs.Printed.{PrintsRows}
 use Rattle.cli_where.specs.Located.{AreListed}
@@ -62,17 +63,17 @@ module _ {W : Type 0} (request : Request) (name bytes : List ℕ) (old new : Pri
   listing_ended of (Err found) first same printed = (first, same)
 
 -- the rows of an outline were handed to a printer
-pub declared : {W : Type 0} (old new : Printed W) (model : Metadata) (rows : List Token) → PrintsRows model old new rows → AreDeclared (Hands old new) model rows
-declared old new model rows out = (out.first, out.later, out.whole, out.lines, out.are, (out.printed, out.all))
+pub declared : {W : Type 0} (options : OutlineOptions) (old new : Printed W) (model : Metadata) (rows : List Token) → PrintsRows options model old new rows → AreDeclared (Hands old new) options model rows
+declared options old new model rows out = (out.first, out.later, out.whole, out.lines, out.are, (out.printed, out.all))
 
 nothing_waits : (waiting : Option (List ℕ)) → waiting ≡ None → IsSome waiting → ⊥
 nothing_waits None none some = cc
 nothing_waits (Some bytes) none some = cc
 
 -- those of a type were, or printing failed
-pub type_out : {W : Type 0} (old new : Printed W) (model : Metadata) (class : ℕ) → PrintsType model class old new → IsTypeOut (Hands old new) model class
-type_out old new model class (inl out) = inl (out.0, out.1, declared old new model _ out.2)
-type_out old new model class (inr out) = inr (out.1, (λ live. nothing_waits new.waiting out.0 live))
+pub type_out : {W : Type 0} (options : OutlineOptions) (old new : Printed W) (model : Metadata) (class : ℕ) → PrintsType options model class old new → IsTypeOut (Hands old new) options model class
+type_out options old new model class (inl out) = inl (out.0, out.1, declared options old new model _ out.2)
+type_out options old new model class (inr out) = inr (out.1, (λ live. nothing_waits new.waiting out.0 live))
 
 module _ {W : Type 0} (request : Request) (name bytes : List ℕ) (old new : Printed W) where
   pub strings_refused : (failure : Failure) → AreListed request.input bytes old new (Err failure)

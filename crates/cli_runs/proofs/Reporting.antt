@@ -16,8 +16,9 @@ use Rattle.cli_regions.specs.Regions.{Region}
 use Rattle.cli_where.specs.Located.{HasContents, where_lines}
 use Rattle.cli_where.specs.declared.report.Found.{Found as FoundAt}
 use Rattle.cli_where.specs.declared.report.Found.TheVariants.{Nothing, Something}
+use Rattle.cli_outline.specs.declared.source.OutlineOptions.{OutlineOptions}
 use Rattle.cli_runs.specs.Printing.{AreNone, Hands, HasPrinted}
-use Rattle.cli_runs.specs.Reports.{AreDeclared, AreNamed, AreOut, HasEnded, IsFaultOut, IsListed, IsPrinted, IsStopped, IsTypeOut, OfModel, lead_of, style_of, verdict_lines}
+use Rattle.cli_runs.specs.Reports.{AreDeclared, AreNamed, AreOut, HasEnded, IsFaultOut, IsListed, IsPrinted, IsStopped, IsTypeOut, OfModel, everything, lead_of, style_of, verdict_lines}
 use Rattle.cli_runs.specs.Runs.{AreCut, AreSent, IsReported}
 use Rattle.cli_runs.specs.declared.report.Ended.{Ended}
 use Rattle.cli_runs.specs.declared.report.Ended.TheVariants as ended
@@ -42,12 +43,12 @@ contents_weaker Nothing BareRoot bytes offset P Q follows has = follows _ has
 -- ---- what went out of a report, if each of its lines does
 
 module _ (P Q : Type 0 → List (List Part) → Type 0) (weaker : (all : Type 0) (lines : List (List Part)) → P all lines → Q all lines) where
-  declared_weaker : (model : Metadata) (rows : List Token) → AreDeclared P model rows → AreDeclared Q model rows
-  declared_weaker model rows out = (out.0, out.1, out.2, out.3, out.4, weaker (out.1 ≡ []) out.3 out.5)
+  declared_weaker : (options : OutlineOptions) (model : Metadata) (rows : List Token) → AreDeclared P options model rows → AreDeclared Q options model rows
+  declared_weaker options model rows out = (out.0, out.1, out.2, out.3, out.4, weaker (out.1 ≡ []) out.3 out.5)
 
-  type_weaker : (model : Metadata) (class : ℕ) → IsTypeOut P model class → IsTypeOut Q model class
-  type_weaker model class (inl out) = inl (out.0, out.1, declared_weaker model _ out.2)
-  type_weaker model class (inr out) = inr (weaker _ _ out)
+  type_weaker : (options : OutlineOptions) (model : Metadata) (class : ℕ) → IsTypeOut P options model class → IsTypeOut Q options model class
+  type_weaker options model class (inl out) = inl (out.0, out.1, declared_weaker options model _ out.2)
+  type_weaker options model class (inr out) = inr (weaker _ _ out)
 
   where_weaker : (found : FoundAt) (input : Input) (bytes : List ℕ) (offset : ℕ) (structures : List Region)
       → HasContents found input bytes offset (λ contents. AreOut P (where_lines structures ++ contents))
@@ -59,8 +60,8 @@ module _ (P Q : Type 0 → List (List Part) → Type 0) (weaker : (all : Type 0)
   listed_weaker : (of : Listing) (model : Metadata) → IsListed P of model → IsListed Q of model
   listed_weaker (listing.Show table names) model out = weaker _ _ out
   listed_weaker listing.Types model out = weaker _ _ out
-  listed_weaker listing.Outline model out = declared_weaker model _ out
-  listed_weaker listing.Refs model out = declared_weaker model _ out
+  listed_weaker (listing.Outline options) model out = declared_weaker options model _ out
+  listed_weaker listing.Refs model out = declared_weaker everything model _ out
 
   fault_weaker : (of : Verdict) (input : Input) (bytes : List ℕ) (file : Option (List ℕ)) (found : Fault) → IsFaultOut P of input bytes file found → IsFaultOut Q of input bytes file found
   fault_weaker verdict.Quiet input bytes file found out = weaker _ _ out
@@ -81,8 +82,8 @@ module _ (P Q : Type 0 → List (List Part) → Type 0) (weaker : (all : Type 0)
     printed_weaker (report.Listing of) out = (out.0, (λ model is. listed_weaker of model (out.1 model is)))
     printed_weaker (report.Check of) out = (out.0, weaker _ _ out.1)
     printed_weaker (report.ShowUntilFault table names) out = (out.0, (λ model is. weaker _ _ (out.1 model is)))
-    printed_weaker (report.OutlineOf subject) out =
-        (out.0, (λ model is. let at = out.1 model is in (at.0, at.1, type_weaker model at.0 at.2)))
+    printed_weaker (report.OutlineOf subject options) out =
+        (out.0, (λ model is. let at = out.1 model is in (at.0, at.1, type_weaker options model at.0 at.2)))
     printed_weaker (report.Tokens numbers) out = (out.0, out.1, out.2, named_weaker numbers.items out.3)
     printed_weaker (report.Where offset) out = (out.0, (out.1.0, out.1.1, out.1.2, where_weaker Something request.input bytes offset out.1.0 out.1.3))
     printed_weaker report.Digest out = (out.0, out.1, weaker _ _ out.2)
@@ -96,7 +97,7 @@ module _ (P Q : Type 0 → List (List Part) → Type 0) (weaker : (all : Type 0)
     stopped_weaker (report.Listing of) why out = absurd out
     stopped_weaker (report.Check of) why out = (out.0, out.1, (out.2.0, out.2.1, fault_weaker of request.input bytes _ out.2.0 out.2.2))
     stopped_weaker (report.ShowUntilFault table names) why out = (out.0, out.1, out.2, (out.3.0, out.3.1, weaker _ _ out.3.2))
-    stopped_weaker (report.OutlineOf subject) why out = absurd out
+    stopped_weaker (report.OutlineOf subject options) why out = absurd out
     stopped_weaker (report.Tokens numbers) why out =
         (out.0, out.1, out.2, out.3, out.4, out.5, out.6, out.7, out.8, named_weaker out.3 out.9)
     stopped_weaker (report.Where offset) why (inl out) = inl (out.0, out.1, (out.2.0, out.2.1, out.2.2, where_weaker Nothing request.input bytes offset out.2.0 out.2.3))
@@ -192,7 +193,7 @@ other_lead report.Resources file check digest = refl
 other_lead (report.Listing listing) file check digest = refl
 other_lead (report.Check verdict) file check digest = absurd (check verdict refl)
 other_lead (report.ShowUntilFault table names) file check digest = refl
-other_lead (report.OutlineOf subject) file check digest = refl
+other_lead (report.OutlineOf subject options) file check digest = refl
 other_lead (report.Tokens numbers) file check digest = refl
 other_lead (report.Where offset) file check digest = refl
 other_lead report.Digest file check digest = absurd (digest refl)

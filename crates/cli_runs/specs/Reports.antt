@@ -39,6 +39,8 @@ use Rattle.cli_outline.specs.Describing.{AreDescribingType}
 use Rattle.cli_outline.specs.Outline.{class_rows, outline_rows, refs_rows}
 use Rattle.cli_outline.specs.Printed.{AreLines}
 use Rattle.cli_outline.specs.Subjects.{IsSubject}
+use Rattle.cli_outline.specs.declared.source.OutlineOptions.{OutlineOptions}
+use Rattle.cli_outline.specs.declared.source.Tokens.TheVariants.{Shown}
 use Rattle.cli_print.specs.DigestLines.{digest_line}
 use Rattle.cli_print.specs.Explanations.{IsExplanation}
 use Rattle.cli_print.specs.ReadableLines.{AreReadable}
@@ -129,8 +131,8 @@ IsRefused request bytes of BudgetSpent = IsSpent request.budget request.input by
 IsRefused request bytes report.Root (Failed (Fault found)) = FirstBroken (rules_of_heads request.input bytes) found
 IsRefused request bytes (report.Check verdict) (Failed (Fault found)) =
     (is_reported verdict request.form request.naming ≡ true) × FirstBroken (rules_of request.input bytes) found
-IsRefused request bytes (report.OutlineOf subject) NoSuchType = OfModel request.input bytes (λ model. (row : ℕ) → ¬ IsSubject model subject row)
-IsRefused request bytes (report.OutlineOf subject) (Failed OutOfMemory) = IsWhole request.input bytes
+IsRefused request bytes (report.OutlineOf subject options) NoSuchType = OfModel request.input bytes (λ model. (row : ℕ) → ¬ IsSubject model subject row)
+IsRefused request bytes (report.OutlineOf subject options) (Failed OutOfMemory) = IsWhole request.input bytes
 IsRefused request bytes (report.Check Explained) (Failed OutOfMemory) = Unit {0}
 IsRefused request bytes report.Strings (Failed OutOfMemory) = Unit {0}
 IsRefused request bytes report.Resources (Failed (Fault found)) = FirstBroken (rules_of_file bytes) found
@@ -143,6 +145,10 @@ IsRefused request bytes (report.ShowUntilFault table names) stop = ⊥
 IsRefused request bytes of (Failed (Fault found)) = FirstBroken (rules_of request.input bytes) found
 IsRefused request bytes of stop = ⊥
 
+-- an outline that shows everything
+abbrev pub everything : OutlineOptions
+everything = record { tokens = Shown }
+
 -- `Out All lines`: these lines went out, and they are all lines of the report if `All` holds
 module _ (Out : Type 0 → List (List Part) → Type 0) where
   -- these lines went out, and they are all
@@ -150,14 +156,14 @@ module _ (Out : Type 0 → List (List Part) → Type 0) where
   AreOut lines = Out (Unit {0}) lines
 
   -- the declarations of the first of these rows went out, and they are all if no row follows
-  abbrev pub AreDeclared : Metadata → List Token → Type 0
-  AreDeclared model rows =
-      (first later : List Token) × (rows ≡ first ++ later) × (lines : List (List Part)) × AreLines model first lines × Out (later ≡ []) lines
+  abbrev pub AreDeclared : OutlineOptions → Metadata → List Token → Type 0
+  AreDeclared options model rows =
+      (first later : List Token) × (rows ≡ first ++ later) × (lines : List (List Part)) × AreLines options model first lines × Out (later ≡ []) lines
 
   -- the declarations of a type and its members went out, and those of the rows that describe them; or none, and more are missing
-  abbrev pub IsTypeOut : Metadata → ℕ → Type 0
-  IsTypeOut model class =
-      ((found : List Token) × AreDescribingType model class found × AreDeclared model (class_rows model class ++ found))
+  abbrev pub IsTypeOut : OutlineOptions → Metadata → ℕ → Type 0
+  IsTypeOut options model class =
+      ((found : List Token) × AreDescribingType model class found × AreDeclared options model (class_rows model class ++ found))
       ⊎ Out ⊥ []
 
   -- what numbers name in a model went out
@@ -168,8 +174,8 @@ module _ (Out : Type 0 → List (List Part) → Type 0) where
   abbrev pub IsListed : Listing → Metadata → Type 0
   IsListed (listing.Show table names) model = AreOut (show_lines names model (tables_of table))
   IsListed listing.Types model = AreOut (types_lines model)
-  IsListed listing.Outline model = AreDeclared model (outline_rows model)
-  IsListed listing.Refs model = AreDeclared model (refs_rows model)
+  IsListed (listing.Outline options) model = AreDeclared options model (outline_rows model)
+  IsListed listing.Refs model = AreDeclared everything model (refs_rows model)
 
   -- this fault went out, with what is asked about it
   abbrev pub IsFaultOut : Verdict → Input → List ℕ → Option (List ℕ) → Found → Type 0
@@ -208,8 +214,8 @@ module _ (Out : Type 0 → List (List Part) → Type 0) where
     IsPrinted (report.Listing listing) = OfModel request.input bytes (IsListed listing)
     IsPrinted (report.Check verdict) = IsWhole request.input bytes × AreOut (verdict_lines verdict (label request.naming name) None)
     IsPrinted (report.ShowUntilFault table names) = OfModel request.input bytes (IsListed (listing.Show table names))
-    IsPrinted (report.OutlineOf subject) =
-        OfModel request.input bytes (λ model. (row : ℕ) × IsSubject model subject row × IsTypeOut model row)
+    IsPrinted (report.OutlineOf subject options) =
+        OfModel request.input bytes (λ model. (row : ℕ) × IsSubject model subject row × IsTypeOut options model row)
     IsPrinted (report.Tokens numbers) =
         (root : List ℕ) × IsOpened request.input bytes root × All (IsNamed root) numbers.items × OfModel request.input bytes (AreNamed numbers.items)
     IsPrinted (report.Where offset) = IsWhole request.input bytes × IsLocated offset Something

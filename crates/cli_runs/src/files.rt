@@ -272,7 +272,7 @@ fn report_stop<E: Write>(
     ensures quiet { result ≡ 0 → err.new ≡ err.old }
 {
     match (&stop, &request.report, request.naming) {
-        (Stop::NoSuchType, Report::OutlineOf(subject), Naming::Alone) => {
+        (Stop::NoSuchType, Report::OutlineOf(subject, _), Naming::Alone) => {
             report_missing_type(alloc, bytes, request.input, path_of(*subject), err);
             stop.status()
         }

@@ -3,7 +3,7 @@ ghost use Rattle.std.specs.Prelude.{◌≡◌, All, IfErr, OnErr, OnOk, Option};
 ghost use Rattle.cli_header.specs.declared.header.CliHeader.{CliHeader as Header};
 ghost use Rattle.cli_input.specs.Checked.{IsModelOf, rules_of};
 ghost use Rattle.cli_runs.specs.Printing.{HasPrinted, Hands};
-ghost use Rattle.cli_runs.specs.Reports.{IsListed, OfModel, tables_of};
+ghost use Rattle.cli_runs.specs.Reports.{IsListed, OfModel, everything, tables_of};
 ghost use Rattle.cli_runs.specs.declared.report.Report.TheVariants as report;
 ghost use Rattle.metadata.specs.Metadata.{Metadata};
 ghost use Rattle.metadata.specs.Model.{IsModel};
@@ -16,7 +16,9 @@ use cli_faults::{Failure, Stop};
 use cli_info::print_info;
 use cli_input::{Input, open};
 use cli_lines::Printer;
-use cli_outline::{Outcome, Subject, print_outline, print_outline_of, print_refs};
+use cli_outline::{
+    Outcome, OutlineOptions, Subject, Tokens, print_outline, print_outline_of, print_refs,
+};
 use cli_print::{print_digest, print_root, print_root_until_fault, print_types};
 use cli_resources::print_resources;
 use cli_roots::{canonical_root, is_spent};
@@ -54,7 +56,9 @@ pub(crate) fn print_report<'a, W: Write>(
         Report::ShowUntilFault(table, names) => {
             print_first_rows(alloc, request, table, *names, name, bytes, out)
         }
-        Report::OutlineOf(subject) => print_type(alloc, request, *subject, name, bytes, out),
+        Report::OutlineOf(subject, options) => {
+            print_type(alloc, request, *subject, *options, name, bytes, out)
+        }
         Report::Tokens(numbers) => print_named(alloc, request, numbers, name, bytes, out),
         Report::Where(offset) => print_at(alloc, request, *offset, name, bytes, out),
         Report::Digest => print_digest_of(alloc, request, name, bytes, out),
@@ -94,8 +98,17 @@ fn print_view<W: Write>(alloc: Global, listing: Listing, view: &View<'_>, out: &
     match listing {
         Listing::Show(table, names) => print_show(alloc, view, tables_of(&table), names, out),
         Listing::Types => print_types(view, out),
-        Listing::Outline => print_outline(alloc, view, out),
-        Listing::Refs => print_refs(alloc, view, out),
+        Listing::Outline(options) => print_outline(alloc, view, options, out),
+        Listing::Refs => print_refs(alloc, view, everything(), out),
+    }
+}
+
+/// The options of an outline that shows everything.
+fn everything() -> OutlineOptions
+    ensures { result ≡ everything }
+{
+    OutlineOptions {
+        tokens: Tokens::Shown,
     }
 }
 
@@ -163,14 +176,15 @@ fn print_type<'a, W: Write>(
     alloc: Global,
     request: &Request<'_>,
     subject: Subject<'_>,
+    options: OutlineOptions,
     name: &str,
     bytes: &[u8],
     out: &mut Printer<'_, W>,
 ) -> Ended<'a>
-    ensures { HasPrinted request.now name.now bytes.now out.old out.new (report.OutlineOf subject.entry) result }
+    ensures { HasPrinted request.now name.now bytes.now out.old out.new (report.OutlineOf subject.entry options) result }
 {
     match open(bytes, request.input) {
-        Ok(view) => match print_outline_of(alloc, &view, subject, out) {
+        Ok(view) => match print_outline_of(alloc, &view, subject, options, out) {
             Outcome::Printed => Ended::Printed,
             Outcome::NoSuchType => Ended::Refused(Stop::NoSuchType),
             Outcome::OutOfMemory => Ended::Refused(Stop::Failed(Failure::OutOfMemory)),

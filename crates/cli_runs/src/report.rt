@@ -6,7 +6,7 @@ use cli_cells::Names;
 use cli_faults::{Failure, Stop};
 use cli_input::Input;
 use cli_lines::Form;
-use cli_outline::Subject;
+use cli_outline::{OutlineOptions, Subject};
 use cli_resources::Unfound;
 use packed::Fault;
 use table_schema::TableId;
@@ -19,7 +19,7 @@ pub enum Listing {
     /// The types, one per line (II.22.37).
     Types,
     /// The declarations.
-    Outline,
+    Outline(OutlineOptions),
     /// What is referred to in other modules.
     Refs,
 }
@@ -55,7 +55,7 @@ pub enum Report<'a> {
     /// The rows of all tables, or of one, that come before its first broken rule.
     ShowUntilFault(Option<TableId>, Names),
     /// The declarations of one type.
-    OutlineOf(Subject<'a>),
+    OutlineOf(Subject<'a>, OutlineOptions),
     /// The row or the user string that each of these tokens names.
     Tokens(Vec<u32>),
     /// What has the byte at this offset.

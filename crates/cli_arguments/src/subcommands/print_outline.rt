@@ -13,8 +13,6 @@ pub(crate) const USAGE: Usage<'static> = Usage {
         RECURSIVE,
         JSON,
         argument!["no-tokens" Flag "Leave the comment with the token away"],
-        argument!["public" Flag "Print only what other assemblies can see"],
-        argument!["sorted" Flag "Print types and members in the order of their names"],
     ],
     output: "\
 Prints a line for each declaration, in a notation close to ILAsm (ECMA-335, II.5
@@ -54,6 +52,9 @@ permission sets and attributes of these and of the methods' parameters. If FILE
 has no such type, 'no such type' is written to standard error, and the exit
 status is 1. If several types have the name, the first 20 of them are listed
 instead.
+
+'--no-tokens' leaves the comment with the token away, so that 'diff' compares
+the outlines of two versions.
 
 '--json' prints a JSON object (RFC 8259) on each line, with the 'token' of the
 row, the 'directive' and the 'text' of the declaration. The directive is its

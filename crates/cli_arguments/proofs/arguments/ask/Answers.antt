@@ -90,6 +90,4 @@ returns-clause-given c =
       recursive = c.flag-9.ensures;
       extract = c.get_str-5.ensures ∙ first_value-rows found (codes "extract");
       no_tokens = c.flag-10.ensures;
-      public = c.flag-11.ensures;
-      sorted = c.flag-12.ensures;
     }

@@ -6,5 +6,5 @@ returns-in-Printed g c = (
   c.in-Ok.ensures.sound,
   (λ model is.
       let out = c.in-Printed.ensures.printed model (c.in-Ok.ensures.models model is) in
-      (out.0, out.1, type_out c.args.out.now c.print_outline_of.new.out model out.0 out.2)),
+      (out.0, out.1, type_out c.args.options c.args.out.now c.print_outline_of.new.out model out.0 out.2)),
 )
