@@ -47,6 +47,7 @@ use Rattle.cli_print.specs.ReadableLines.{AreReadable}
 use Rattle.cli_print.specs.RootLines.{heads_lines}
 use Rattle.cli_print.specs.TypeLines.{types_lines}
 use Rattle.cli_print.specs.Verdicts.{verdict_line}
+use Rattle.cli_found.specs.Found.{AreFound}
 use Rattle.cli_regions.specs.Regions.{Region}
 use Rattle.cli_where.specs.Lines.{entry_lines, structure_line}
 use Rattle.cli_where.specs.Located.{HasContents, found_of, where_lines}
@@ -116,10 +117,13 @@ abbrev pub verdict_lines : Verdict → Option (List ℕ) → Option Found → Li
 verdict_lines Quiet file fault = []
 verdict_lines verdict file fault = verdict_line file fault ∷ []
 
--- what the rule with this number says; nothing if there is none
-abbrev pub AreSaid : ℕ → List (List Part) → Type 0
-AreSaid number lines =
-    ((rule : FaultCode) × (number_of_code rule ≡ number) × IsExplanation rule lines) ⊎ (((rule : FaultCode) → number_of_code rule ≢ number) × (lines ≡ []))
+-- The number at a fault, an empty line, and what the rule says; of a fault whose number no rule has, the empty line. The
+-- structures are those that contain the byte at its offset.
+abbrev pub AreSaid : Input → List ℕ → List Region → Found → List (List Part) → Type 0
+AreSaid input bytes structures found lines =
+    ((rule : FaultCode) × (number_of_code rule ≡ found.code) × (at : List (List Part)) × AreFound rule input bytes found.offset structures at
+    × (said : List (List Part)) × IsExplanation rule said × (lines ≡ at ++ [] ∷ said))
+    ⊎ (((rule : FaultCode) → number_of_code rule ≢ found.code) × (lines ≡ [] ∷ []))
 
 -- the bytes have a model, and this is true of it
 abbrev pub OfModel : Input → List ℕ → (Metadata → Type 0) → Type 0
@@ -181,8 +185,8 @@ module _ (Out : Type 0 → List (List Part) → Type 0) where
   abbrev pub IsFaultOut : Verdict → Input → List ℕ → Option (List ℕ) → Found → Type 0
   IsFaultOut Explained input bytes file found =
       (structures : List Region) × AreStructuresAt input Cells bytes found.offset structures
-      × ((more : List (List Part)) × AreSaid found.code more
-      × AreOut (verdict_line file (Some found) ∷ (map structure_line structures ++ ([] ∷ more))))
+      × ((more : List (List Part)) × AreSaid input bytes structures found more
+      × AreOut (verdict_line file (Some found) ∷ (map structure_line structures ++ more)))
   IsFaultOut verdict input bytes file found = AreOut (verdict_lines verdict file (Some found))
 
   module _ (request : Request) (name bytes : List ℕ) where

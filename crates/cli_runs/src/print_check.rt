@@ -15,6 +15,8 @@ ghost use Rattle.packed.specs.Rule.{FirstBroken};
 
 use crate::report::{Ended, Naming, Request, Verdict};
 use cli_faults::{Failure, Stop, code_of_number};
+use cli_found::print_found;
+use cli_input::Input;
 use cli_lines::{Form, Printer};
 use cli_print::{print_explanation, print_verdict};
 use cli_roots::check_within;
@@ -119,7 +121,7 @@ fn end_at_fault<'a, W: Write>(
     }
 }
 
-/// Prints a fault, what has the byte at its offset, and what its rule says.
+/// Prints a fault, what has the byte at its offset, the number there, and what its rule says.
 fn explain_fault<'a, W: Write>(
     alloc: Global,
     request: &Request<'_>,
@@ -133,38 +135,50 @@ fn explain_fault<'a, W: Write>(
 {
     match structures_at(alloc, bytes, request.input, Reach::Cells, fault.offset) {
         Ok(found) => {
-            print_fault(alloc, label_of(request.naming, name), fault, &found, out);
+            print_fault(alloc, request, fault, name, bytes, &found, out);
             Ended::Stopped(Stop::Broken)
         }
         Err(_) => Ended::Refused(Stop::Failed(Failure::OutOfMemory)),
     }
 }
 
-/// Prints a fault, the structures that have the byte at its offset, an empty line, and what its rule says.
+/// Prints a fault, the structures that have the byte at its offset, and what is said of it.
 fn print_fault<W: Write>(
     alloc: Global,
-    label: Option<&str>,
+    request: &Request<'_>,
     fault: Fault,
+    name: &str,
+    bytes: &[u8],
     structures: &[Structure<'_>],
     out: &mut Printer<'_, W>,
 )
-    ensures { (more : List (List Part)) × AreSaid fault.code more
-        × Prints out.old out.new (verdict_line (option_map (λ file. file.now) label.entry) (Some fault) ∷ (map structure_line (map seen structures.now) ++ ([] ∷ more))) }
+    ensures { (more : List (List Part)) × AreSaid request.now.input bytes.now (map seen structures.now) fault more
+        × Prints out.old out.new (verdict_line (label request.now.naming name.now) (Some fault) ∷ (map structure_line (map seen structures.now) ++ more)) }
 {
     cli_lines::laws::lines_follow::<W>();
-    print_verdict(label, Some(fault), out);
+    print_verdict(label_of(request.naming, name), Some(fault), out);
     print_structures(alloc, structures, out);
-    out.line(&[]);
-    explain(fault, out);
+    explain(alloc, request.input, fault, bytes, structures, out);
 }
 
-/// Prints what the rule of a fault says.
-fn explain<W: Write>(fault: Fault, out: &mut Printer<'_, W>)
-    ensures { (more : List (List Part)) × AreSaid fault.code more × Prints out.old out.new more }
+/// Prints the number at a fault, an empty line, and what its rule says.
+fn explain<W: Write>(
+    alloc: Global,
+    input: Input,
+    fault: Fault,
+    bytes: &[u8],
+    structures: &[Structure<'_>],
+    out: &mut Printer<'_, W>,
+)
+    ensures { (more : List (List Part)) × AreSaid input bytes.now (map seen structures.now) fault more × Prints out.old out.new more }
 {
     cli_lines::laws::lines_follow::<W>();
     match code_of_number(fault.code) {
-        Some(rule) => print_explanation(rule, out),
-        None => {}
+        Some(rule) => {
+            print_found(alloc, rule, bytes, input, fault.offset, structures, out);
+            out.line(&[]);
+            print_explanation(rule, out);
+        }
+        None => out.line(&[]),
     }
 }

@@ -1,10 +1,15 @@
-use Rattle.std.proofs.Common.{[], inl, inr, refl}
+use Rattle.std.proofs.Common.{[], ◌∷◌, inl, inr, refl}
 use Rattle.cli_runs.proofs.print_check.explain.Goals as goal
 
 pub returns-in-Some : goal.returns-in-Some
 returns-in-Some g c =
-    let said = c.print_explanation.ensures in (said.0, inl (c.in-Some.rule, c.in-Some.ensures.sound, said.1), said.2)
+    let more = c.lines_follow.ensures.more in
+    let found = c.print_found.ensures in
+    let said = c.print_explanation.ensures in (
+      _,
+      inl (c.in-Some.rule, c.in-Some.ensures.sound, found.0, found.1, said.0, said.1, refl),
+      more _ _ _ found.0 _ found.2 (more _ _ _ ([] ∷ []) _ c.line.ensures said.2),
+    )
 
 pub returns-in-None : goal.returns-in-None
-returns-in-None g c =
-    ([], inr ((λ rule is. let none = c.in-None.ensures.complete rule is in cc), refl), c.lines_follow.ensures.nothing c.args.out.now)
+returns-in-None g c = ([] ∷ [], inr ((λ rule is. let none = c.in-None.ensures.complete rule is in cc), refl), c.line.ensures)

@@ -1,8 +1,5 @@
-use Rattle.std.proofs.Common.{List, Option, ℕ, Some, ◌∷◌, ◌++◌, [], map, refl, subst, sym}
-use Rattle.cli_lines.specs.Printed.{Prints}
-use Rattle.cli_print.specs.Verdicts.{verdict_line}
+use Rattle.std.proofs.Common.{◌≡◌, List, map, refl, subst, sym}
 use Rattle.cli_regions.specs.Kept.{seen}
-use Rattle.cli_where.specs.Lines.{structure_line}
 use Rattle.cli_where.specs.Where.{AreStructuresAt}
 use Rattle.cli_where.specs.declared.walk.Reach.TheVariants.{Cells}
 use Rattle.cli_runs.proofs.print_check.explain_fault.Goals as goal
@@ -10,7 +7,5 @@ use Rattle.cli_runs.proofs.print_check.explain_fault.Goals as goal
 pub returns-in-Ok : goal.returns-in-Ok
 returns-in-Ok g c =
     let said = c.print_fault.ensures in
-    let lines = map structure_line (map seen c.deref.result.now) ++ ([] ∷ said.0) in
-    let printed = subst (λ (file : Option (List ℕ)). Prints c.args.out.now c.print_fault.new.out (verdict_line file (Some c.args.fault) ∷ lines)) c.label_of.ensures said.2 in
     let are = subst (λ items. AreStructuresAt c.args.request.now.input Cells c.args.bytes.now c.args.fault.offset (map seen items)) (sym c.deref.ensures.value) c.in-Ok.ensures in
-    (refl, refl, (c.args.fault, c.requires, (map seen c.deref.result.now, are, (said.0, said.1, (printed, (λ live. tt))))))
+    (refl, refl, (c.args.fault, c.requires, (map seen c.deref.result.now, are, (said.0, said.1, (said.2, (λ live. tt))))))
