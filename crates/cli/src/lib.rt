@@ -16,4 +16,4 @@ mod task;
 mod usage_text;
 
 pub use cli_arguments::{Ask, Subcommand, ask};
-pub use program::go;
+pub use program::{Terminal, go, go_on};

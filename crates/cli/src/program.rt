@@ -3,21 +3,52 @@ ghost use Rattle.std.specs.Prelude.{◌≡◌, ◌≤◌, ◌⊎◌, map};
 ghost use Rattle.clap.specs.Words.{kind_of};
 ghost use Rattle.cli_arguments.specs.Asked.{Gives};
 ghost use Rattle.cli_arguments.specs.declared.asked.Ask.{Ask as Asked};
-ghost use Rattle.cli.specs.Runs.{AsksToWarn, Does, IsExplaining, IsRunOf, IsUsage, MayWarn, Ran};
+ghost use Rattle.cli.specs.Runs.{AsksToWarn, Does, IsExplaining, IsRunOf, IsUsage, MayWarn, Ran, form_on, request_on};
 
 use crate::task::{Task, form_of, input_of, task_of};
 use crate::usage_text::usage_text;
 use clap::error::ErrorKind;
-use cli_arguments::{Ask, ask};
+use cli_arguments::{Ask, Subcommand, ask};
 use cli_faults::printed;
 use cli_files::{Stopped, out_of_memory, status};
 use cli_lines::Form;
 use cli_roots::{compare_files, embed_file, rewrite_file};
-use cli_runs::{explain_rules, extract_file, run_files, run_listed};
+use cli_runs::{Request, explain_rules, extract_file, run_files, run_listed};
 use packed::FaultCode;
 use std::alloc::Global;
 use std::io::{self, Write};
 use std::rt::Files;
+
+/// What a terminal reads.
+#[derive(Clone, Copy, Debug, PartialEq, Eq)]
+pub enum Terminal {
+    /// Printable ASCII.
+    Ascii,
+    /// UTF-8: `info`, `outline`, `refs` and `resources` print letters beyond ASCII as they are.
+    Utf8,
+}
+
+/// The form of a report on a terminal.
+fn form_on(terminal: Terminal, subcommand: Subcommand, form: Form) -> Form
+    ensures { result ≡ form_on terminal subcommand form }
+{
+    match (terminal, subcommand, form) {
+        (Terminal::Utf8, Subcommand::Info, Form::Text)
+        | (Terminal::Utf8, Subcommand::Outline, Form::Text)
+        | (Terminal::Utf8, Subcommand::Refs, Form::Text)
+        | (Terminal::Utf8, Subcommand::Resources, Form::Text) => Form::Letters,
+        _ => form,
+    }
+}
+
+/// What is asked of each file, on a terminal.
+fn request_on<'a>(terminal: Terminal, subcommand: Subcommand, request: Request<'a>) -> Request<'a>
+    ensures { result ≡ request_on terminal subcommand request.entry }
+{
+    let mut request = request;
+    request.form = form_on(terminal, subcommand, request.form);
+    request
+}
 
 /// Runs the program on its arguments, the program name first, and returns the exit code:
 ///
@@ -31,7 +62,7 @@ use std::rt::Files;
 /// For several files it is the greatest of theirs.
 ///
 /// Results go to `out`, but only after the whole file was read. Errors go to `err`. If `err` cannot be written, nothing
-/// else changes.
+/// else changes. All that is printed is printable ASCII.
 pub fn go<R: Files + Input + AllocGlobal, W: Write, E: Write>(
     rt: &R,
     words: &[&str],
@@ -41,12 +72,30 @@ pub fn go<R: Files + Input + AllocGlobal, W: Write, E: Write>(
     ensures limit { result ≤ 3 }
     // It does what the arguments ask for, with what reading the files gave. The exit code and the output are those of
     // that run.
-    ensures run { Ran W.contents out.old out.new R.File.contents (map (λ word. word.now) words.now) result }
+    ensures run { Ran W.contents out.old out.new Terminal.Ascii R.File.contents (map (λ word. word.now) words.now) result }
+    // If it succeeds, nothing goes to `err`, unless it is `embed` or directories are walked.
+    ensures quiet { result ≡ 0 → (err.new ≡ err.old) ⊎ ((given : Asked) × Gives (map (λ word. word.now) words.now) given × AsksToWarn given) }
+{
+    go_on(rt, Terminal::Ascii, words, out, err)
+}
+
+/// Runs the program on its arguments, as [`go`] does, for a terminal.
+pub fn go_on<R: Files + Input + AllocGlobal, W: Write, E: Write>(
+    rt: &R,
+    terminal: Terminal,
+    words: &[&str],
+    out: &mut W,
+    err: &mut E,
+) -> u8
+    ensures limit { result ≤ 3 }
+    // It does what the arguments ask for, with what reading the files gave. The exit code and the output are those of
+    // that run.
+    ensures run { Ran W.contents out.old out.new terminal R.File.contents (map (λ word. word.now) words.now) result }
     // If it succeeds, nothing goes to `err`, unless it is `embed` or directories are walked.
     ensures quiet { result ≡ 0 → (err.new ≡ err.old) ⊎ ((given : Asked) × Gives (map (λ word. word.now) words.now) given × AsksToWarn given) }
 {
     match ask(rt.alloc(), &*words) {
-        Ok(ask) => run(rt, &ask, out, err),
+        Ok(ask) => run(rt, terminal, &ask, out, err),
         Err(usage_error) => report_usage_error(rt.alloc(), &usage_error, &*words, out, err),
     }
 }
@@ -83,16 +132,17 @@ fn report_usage_error<W: Write, E: Write>(
 /// before a file is read.
 fn run<R: Files + Input + AllocGlobal, W: Write, E: Write>(
     rt: &R,
+    terminal: Terminal,
     ask: &Ask<'_>,
     out: &mut W,
     err: &mut E,
 ) -> u8
     ensures limit { result ≤ 3 }
-    ensures does { Does W.contents out.old out.new R.File.contents ask.now result }
+    ensures does { Does W.contents out.old out.new terminal R.File.contents ask.now result }
     ensures quiet { result ≡ 0 → (err.new ≡ err.old) ⊎ AsksToWarn ask.now }
 {
     match task_of(rt.alloc(), ask) {
-        Ok(task) => run_task(rt, task, ask, out, err),
+        Ok(task) => run_task(rt, terminal, task, ask, out, err),
         Err(failure) => status(rt.alloc(), Err(Stopped::from(failure)), err),
     }
 }
@@ -100,19 +150,26 @@ fn run<R: Files + Input + AllocGlobal, W: Write, E: Write>(
 /// Runs a task of these arguments, reports why it stopped early, and returns the exit code.
 fn run_task<R: Files + Input + AllocGlobal, W: Write, E: Write>(
     rt: &R,
+    terminal: Terminal,
     task: Task<'_>,
     ask: &Ask<'_>,
     out: &mut W,
     err: &mut E,
 ) -> u8
     ensures limit { result ≤ 3 }
-    ensures run { IsRunOf W.contents out.old out.new R.File.contents task.entry ask.now result }
+    ensures run { IsRunOf W.contents out.old out.new terminal R.File.contents task.entry ask.now result }
     ensures quiet { result ≡ 0 → (err.new ≡ err.old) ⊎ MayWarn task.entry }
 {
     let alloc = rt.alloc();
     match task {
-        Task::OnFiles(request) => run_files(rt, &request, ask.files.as_slice(), out, err),
-        Task::OnList(request, separator) => run_listed(rt, &request, separator, out, err),
+        Task::OnFiles(request) => {
+            let request = request_on(terminal, ask.subcommand, request);
+            run_files(rt, &request, ask.files.as_slice(), out, err)
+        }
+        Task::OnList(request, separator) => {
+            let request = request_on(terminal, ask.subcommand, request);
+            run_listed(rt, &request, separator, out, err)
+        }
         Task::Rewrite(file, path) => {
             let outcome = rewrite_file(rt, path, file, input_of(ask.bare), ask.budget, out);
             status(alloc, outcome, err)

@@ -26,7 +26,7 @@ returns-in-Rewrite-clause-run g c =
     let run = subst (λ (input : Input). IsFileRun before after c.in-Rewrite.file.now
     (λ bytes. IsWithin before after ask.budget input bytes (IsRewriting g.W.Write.contents g.R.File.Write.contents before after input bytes path)) c.rewrite_file-outcome.result
     ⊎ IsMixed before after path c.rewrite_file-outcome.result) c.input_of.ensures c.rewrite_file-outcome.ensures in
-    subst (λ (task : Task). IsRunOf g.W.Write.contents before after g.R.File.Write.contents task ask c.status.result) (sym c.in-Rewrite.is)
+    subst (λ (task : Task). IsRunOf g.W.Write.contents before after c.args.terminal g.R.File.Write.contents task ask c.status.result) (sym c.in-Rewrite.is)
     (c.rewrite_file-outcome.result, run, c.status.ensures.status)
 
 pub returns-in-Embed-clause-run : goal.returns-in-Embed-clause-run
@@ -37,7 +37,7 @@ returns-in-Embed-clause-run g c =
     let run = embed_run before after c.embed_file-outcome.result c.in-Embed.file.now options.path.now (option_map (λ path. path.now) options.root)
     (λ bytes. IsEmbedding g.W.Write.contents g.R.File.Write.contents before after options.form options.strong_name bytes options.path.now)
     (λ bytes given outcome. WarnsOf options.strong_name bytes c.args.err.now c.embed_file-outcome.new.err) c.embed_file-outcome.ensures in
-    subst (λ (task : Task). IsRunOf g.W.Write.contents before after g.R.File.Write.contents task c.args.ask.now c.status-in-Embed.result) (sym c.in-Embed.is)
+    subst (λ (task : Task). IsRunOf g.W.Write.contents before after c.args.terminal g.R.File.Write.contents task c.args.ask.now c.status-in-Embed.result) (sym c.in-Embed.is)
     (c.embed_file-outcome.result, run, c.status-in-Embed.ensures.status)
 
 pub returns-in-Embed-clause-quiet : goal.returns-in-Embed-clause-quiet
@@ -45,5 +45,5 @@ returns-in-Embed-clause-quiet g c = λ success. inr (subst MayWarn (sym c.in-Emb
 
 pub returns-in-Extract-clause-run : goal.returns-in-Extract-clause-run
 returns-in-Extract-clause-run g c =
-    subst (λ (task : Task). IsRunOf g.W.Write.contents c.args.out.now c.extract_file.new.out g.R.File.Write.contents task c.args.ask.now c.status-in-Extract.result) (sym c.in-Extract.is)
+    subst (λ (task : Task). IsRunOf g.W.Write.contents c.args.out.now c.extract_file.new.out c.args.terminal g.R.File.Write.contents task c.args.ask.now c.status-in-Extract.result) (sym c.in-Extract.is)
     (c.extract_file.result, c.extract_file.ensures, c.status-in-Extract.ensures.status)

@@ -1,6 +1,6 @@
 use Rattle.std.proofs.Common.{inl, inr}
 use Rattle.clap.specs.Words.{kind_of}
-use Rattle.cli.proofs.program.go.Goals as goal
+use Rattle.cli.proofs.program.go_on.Goals as goal
 
 pub returns-in-Ok-clause-run : goal.returns-in-Ok-clause-run
 returns-in-Ok-clause-run g c = inl (c.in-Ok.ask, c.in-Ok.ensures.given, c.run.ensures.does)
