@@ -59,11 +59,13 @@ is written to standard error, unless FILE cannot be read or checked. The exit
 status is the same. For several FILEs each object also has the member 'file'.
 
 '--where' prints to standard output: the line of the fault, then a line as by
-'clim where' for each structure that contains the byte at OFFSET, an empty line,
-and the text of 'clim explain'. Only the parts that are valid are described, up
-to the first fault: the headers of the PE file, the CLI header, the metadata
-root and the table stream. So a fault of layers 5 to 7 has the line of a cell,
-and one of layer 1 has no line of a structure. The exit status is the same.
+'clim where' for each structure that contains the byte at OFFSET, a line with
+the number there and what the rule compares it with, if there is one, an empty
+line, and the text of 'clim explain'. Only the parts that are valid are
+described, up to the first fault: the headers of the PE file, the CLI header,
+the metadata root and the table stream. So a fault of layers 5 to 7 has the line
+of a cell, and one of layer 1 has no line of a structure. The exit status is the
+same.
 
 Examples:
   $ clim check one_module.dll
