@@ -20,8 +20,8 @@ escape_is_there (first ∷ (second ∷ (high ∷ []))) byte is = absurd cc
 escape_is_there (first ∷ (second ∷ (high ∷ (low ∷ tail)))) byte is = omega arith
 
 -- the first character of bytes that are UTF-8, and of those that are not
-pub first_is : (bytes text rest : List ℕ) (found : Option ℕ) → IsUtf8 bytes → text ≡ bytes → rest ≡ text → found ≡ slice_get (chars rest) 0 → found ≡ first_char bytes
-first_is bytes text rest found utf8 same left is =
+pub first_is : (bytes text remainder : List ℕ) (found : Option ℕ) → IsUtf8 bytes → text ≡ bytes → remainder ≡ text → found ≡ slice_get (chars remainder) 0 → found ≡ first_char bytes
+first_is bytes text remainder found utf8 same left is =
     is ∙ ap (λ t. slice_get (chars t) 0) (left ∙ same) ∙ ap (λ (t : Bool). if t then slice_get (chars bytes) 0 else None) (sym (is_utf8-from_IsUtf8 bytes utf8))
 
 pub first_is_none : (bytes : List ℕ) → ¬ IsUtf8 bytes → None ≡ first_char bytes
@@ -38,9 +38,9 @@ passed (suc n) (byte ∷ tail) some = let less : suc n - 1 ≡ n = omega arith i
 pub letter_shown : (before text bytes : List ℕ) (skipped letter len : ℕ) → skipped ≡ 0 → 0 < length text → Some letter ≡ letter_at text → bytes ≡ encode_utf8 letter → len ≡ len_utf8 letter
     → (before ++ bytes) ++ readable_after (4 * len - 1) (drop 1 text) ≡ before ++ readable_after skipped text
 unfolding readable_after
-letter_shown before [] bytes skipped letter len none some is spells has = absurd (omega arith)
-letter_shown before (first ∷ tail) bytes skipped letter len none some is spells has =
-    rw (none, spells, has, ← is) (append_assoc before (encode_utf8 letter) (readable_after (4 * len_utf8 letter - 1) tail))
+letter_shown before [] bytes skipped letter len none some is encodes has = absurd (omega arith)
+letter_shown before (first ∷ tail) bytes skipped letter len none some is encodes has =
+    rw (none, encodes, has, ← is) (append_assoc before (encode_utf8 letter) (readable_after (4 * len_utf8 letter - 1) tail))
 
 pub byte_shown : (before text : List ℕ) (skipped first : ℕ) → skipped ≡ 0 → 0 < length text → None ≡ letter_at text → first ≡ get_or text 0 0
     → (before ++ first ∷ []) ++ readable_after 0 (drop 1 text) ≡ before ++ readable_after skipped text

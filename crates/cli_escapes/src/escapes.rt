@@ -45,7 +45,7 @@ pub(crate) fn escaped_at(text: &[u8]) -> Option<u8>
     }
 }
 
-/// Reads the bytes whose escapes are at the start of a text, as many as there is room for. Returns their number.
+/// Reads the bytes whose escapes are at the start of a text, until there is no more room. Returns their number.
 #[tactic(auto, using(crate::proofs::LetterLemmas::escape_is_there), unfolding(crate::specs::Escapes::escaped_start))]
 pub(crate) fn read_start(text: &[u8], bytes: &mut [u8]) -> usize
     ensures count { result ≤ length bytes.new }
