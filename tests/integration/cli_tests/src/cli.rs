@@ -15,6 +15,7 @@ mod one_type;
 mod replacing;
 mod rewriting;
 mod several;
+mod terminals;
 mod trees;
 mod until_fault;
 pub(crate) mod writers;
