@@ -1,4 +1,4 @@
-//! The program `clim`: reads, checks and writes .NET metadata. It collects the arguments; [`cli::go`] does everything
+//! The program `clim`: reads, checks and writes .NET metadata. It collects the arguments; [`cli::go_on`] does everything
 //! else.
 #![tactic(auto)]
 
