@@ -13,7 +13,8 @@ use Rattle.cli_lines.specs.declared.names.Name.TheVariants as name
 use Rattle.cli_lines.specs.Lines.{Part, line_from, member, note, plain, style, styled_text, token, word}
 use Rattle.cli_lines.specs.Printed.{Asked, Printed, Prints}
 use Rattle.cli_declarations.specs.AsIs.{as_is}
-use Rattle.cli_outline.specs.Declarations.{declaration_line, directive_part, ends_word, type_part, unindented}
+use Rattle.cli_outline.specs.declared.source.Tokens.{Tokens}
+use Rattle.cli_outline.specs.Declarations.{comment_mark, comment_token, declaration_line, directive_part, ends_word, type_part, unindented}
 
 -- the length of the first word that a search returns
 module _ (p : ℕ → Bool) (text : List ℕ) where
@@ -47,21 +48,21 @@ word_boundary text i e =
 -- ---- the line in each form
 
 -- the line with another text in its member
-abbrev pub line_with : Token → Option Token → Bool → List ℕ → List ℕ → List Part
-line_with of class directive declared named =
+abbrev pub line_with : Tokens → Token → Option Token → Bool → List ℕ → List ℕ → List Part
+line_with tokens of class directive declared named =
     member name.Token (token of) ∷ type_part class ∷ directive_part directive (unindented declared)
-    ∷ note (plain declared) ∷ member name.Text (plain named) ∷ word (codes "  // ") ∷ note (token of) ∷ []
+    ∷ note (plain declared) ∷ member name.Text (plain named) ∷ comment_mark tokens ∷ comment_token tokens of ∷ []
 
 -- a line of text has no members
-same_text : (form : Form) (file : Option (List ℕ)) (of : Token) (class : Option Token) (directive : Bool) (declared named : List ℕ) → (form ≡ JsonLines → named ≡ as_is (unindented declared))
-    → styled_text (style form file) (line_with of class directive declared named ∷ []) ≡ styled_text (style form file) (declaration_line of class directive declared ∷ [])
+same_text : (form : Form) (file : Option (List ℕ)) (tokens : Tokens) (of : Token) (class : Option Token) (directive : Bool) (declared named : List ℕ) → (form ≡ JsonLines → named ≡ as_is (unindented declared))
+    → styled_text (style form file) (line_with tokens of class directive declared named ∷ []) ≡ styled_text (style form file) (declaration_line tokens of class directive declared ∷ [])
 unfolding declaration_line styled_text line_from
-same_text Text file of class directive declared named read = refl
-same_text JsonLines file of class directive declared named read = ap (λ (text : List ℕ). styled_text (style JsonLines file) (line_with of class directive declared text ∷ [])) (read refl)
+same_text Text file tokens of class directive declared named read = refl
+same_text JsonLines file tokens of class directive declared named read = ap (λ (text : List ℕ). styled_text (style JsonLines file) (line_with tokens of class directive declared text ∷ [])) (read refl)
 
-pub line_printed : {W : Type 0} (a b : Printed W) (of : Token) (class : Option Token) (directive : Bool) (declared named : List ℕ)
-    → (a.style.form ≡ JsonLines → named ≡ as_is (unindented declared)) → Prints a b (line_with of class directive declared named ∷ []) → Prints a b (declaration_line of class directive declared ∷ [])
-line_printed a b of class directive declared named read printed = record {
+pub line_printed : {W : Type 0} (a b : Printed W) (tokens : Tokens) (of : Token) (class : Option Token) (directive : Bool) (declared named : List ℕ)
+    → (a.style.form ≡ JsonLines → named ≡ as_is (unindented declared)) → Prints a b (line_with tokens of class directive declared named ∷ []) → Prints a b (declaration_line tokens of class directive declared ∷ [])
+line_printed a b tokens of class directive declared named read printed = record {
   same = printed.same;
-  asked = λ start text asked. subst (λ (t : List ℕ). Asked start b (text ++ t)) (same_text a.style.form a.style.file of class directive declared named read) (printed.asked start text asked);
+  asked = λ start text asked. subst (λ (t : List ℕ). Asked start b (text ++ t)) (same_text a.style.form a.style.file tokens of class directive declared named read) (printed.asked start text asked);
 }

@@ -9,12 +9,13 @@ use Rattle.navigation.specs.declared.keyed.KeyedRow.{KeyedRow}
 use Rattle.navigation.specs.Keyed.{row_of}
 use Rattle.cli_lines.specs.Lines.{Part}
 use Rattle.cli_lines.specs.Printed.{Printed, Prints}
+use Rattle.cli_outline.specs.declared.source.OutlineOptions.{OutlineOptions}
 use Rattle.cli_outline.specs.Outline.{each_from}
 use Rattle.cli_outline.specs.Printed.{AreLines, IsLine, PrintsRows}
 
-lines_append : (model : Metadata) (xs ys : List Token) (a b : List (List Part)) → AreLines model xs a → AreLines model ys b → AreLines model (xs ++ ys) (a ++ b)
-lines_append model [] ys a b are more = subst (λ (lines : List (List Part)). AreLines model ys (lines ++ b)) (sym are) more
-lines_append model (x ∷ xs) ys a b are more = (are.0, are.1, are.2 ++ b, lines_append model xs ys are.2 b are.3 more, ap (λ lines. lines ++ b) are.4)
+lines_append : (options : OutlineOptions) (model : Metadata) (xs ys : List Token) (a b : List (List Part)) → AreLines options model xs a → AreLines options model ys b → AreLines options model (xs ++ ys) (a ++ b)
+lines_append options model [] ys a b are more = subst (λ (lines : List (List Part)). AreLines options model ys (lines ++ b)) (sym are) more
+lines_append options model (x ∷ xs) ys a b are more = (are.0, are.1, are.2 ++ b, lines_append options model xs ys are.2 b are.3 more, ap (λ lines. lines ++ b) are.4)
 
 none_not_some : (waiting : Option (List ℕ)) → waiting ≡ None → IsSome waiting → ⊥
 none_not_some None none some = cc
@@ -25,15 +26,20 @@ is_some_of (Some other) bytes is = refl
 is_some_of None bytes is = cc
 
 -- the same rows
-pub rows_are : {W : Type 0} {model : Metadata} {a b : Printed W} {xs ys : List Token} → xs ≡ ys → PrintsRows model a b xs → PrintsRows model a b ys
-rows_are {W} {model} {a} {b} same printed = subst (λ (rows : List Token). PrintsRows model a b rows) same printed
+pub rows_are : {W : Type 0} {options : OutlineOptions} {model : Metadata} {a b : Printed W} {xs ys : List Token} → xs ≡ ys → PrintsRows options model a b xs → PrintsRows options model a b ys
+rows_are {W} {options} {model} {a} {b} same printed = subst (λ (rows : List Token). PrintsRows options model a b rows) same printed
+
+-- the same options
+pub options_are : {W : Type 0} {from to : OutlineOptions} {model : Metadata} {a b : Printed W} {rows : List Token} → from ≡ to → PrintsRows from model a b rows
+    → PrintsRows to model a b rows
+options_are {W} {from} {to} {model} {a} {b} {rows} same printed = subst (λ (options : OutlineOptions). PrintsRows options model a b rows) same printed
 
 -- the items of a list from one on
 pub items_left : {X : Type 0} (xs : List X) (i : ℕ) (d : X) → i < length xs → drop i xs ≡ get_or xs i d ∷ drop (i + 1) xs
 items_left xs i d lt = rw (add-one, drop-cons xs i d)
 
-module _ {W : Type 0} (model : Metadata) where
-  pub rows_nothing : (a : Printed W) → Prints a a [] → PrintsRows model a a []
+module _ {W : Type 0} (options : OutlineOptions) (model : Metadata) where
+  pub rows_nothing : (a : Printed W) → Prints a a [] → PrintsRows options model a a []
   rows_nothing a printed = record {
     first = [];
     later = [];
@@ -45,7 +51,7 @@ module _ {W : Type 0} (model : Metadata) where
   }
 
   -- the line of a row, or none since printing failed
-  pub row_printed : (a b : Printed W) (row : Token) (line : List Part) → IsLine model row line → Prints a b (line ∷ []) → PrintsRows model a b (row ∷ [])
+  pub row_printed : (a b : Printed W) (row : Token) (line : List Part) → IsLine options model row line → Prints a b (line ∷ []) → PrintsRows options model a b (row ∷ [])
   row_printed a b row line is printed = record {
     first = row ∷ [];
     later = [];
@@ -56,7 +62,7 @@ module _ {W : Type 0} (model : Metadata) where
     all = λ some. refl;
   }
 
-  pub rows_failed : (a b : Printed W) (rows : List Token) → Prints a b [] → b.waiting ≡ None → PrintsRows model a b rows
+  pub rows_failed : (a b : Printed W) (rows : List Token) → Prints a b [] → b.waiting ≡ None → PrintsRows options model a b rows
   rows_failed a b rows printed failed = record {
     first = [];
     later = rows;
@@ -68,8 +74,8 @@ module _ {W : Type 0} (model : Metadata) where
   }
 
   module _ (joined : (a b c : Printed W) (xs ys : List (List Part)) → Prints a b xs → Prints b c ys → Prints a c (xs ++ ys)) (a b c : Printed W) (xs ys : List Token)
-      (prefix : PrintsRows model a b xs) (back : PrintsRows model b c ys) where
-    after_failure : b.waiting ≡ None → PrintsRows model a c (xs ++ ys)
+      (prefix : PrintsRows options model a b xs) (back : PrintsRows options model b c ys) where
+    after_failure : b.waiting ≡ None → PrintsRows options model a c (xs ++ ys)
     after_failure failed =
         let same = back.printed.same.stays failed in
         record {
@@ -82,7 +88,7 @@ module _ {W : Type 0} (model : Metadata) where
           all = λ some. absurd (none_not_some c.waiting (ap (λ (p : Printed W). p.waiting) same ∙ failed) some);
         }
 
-    after_all : (bytes : List ℕ) → b.waiting ≡ Some bytes → PrintsRows model a c (xs ++ ys)
+    after_all : (bytes : List ℕ) → b.waiting ≡ Some bytes → PrintsRows options model a c (xs ++ ys)
     after_all bytes live =
         let none_left = prefix.all (is_some_of b.waiting bytes live) in
         let all_first : xs ≡ prefix.first = prefix.whole ∙ ap (λ zs. prefix.first ++ zs) none_left ∙ append-nil prefix.first in
@@ -91,16 +97,16 @@ module _ {W : Type 0} (model : Metadata) where
           later = back.later;
           whole = ap (λ zs. zs ++ ys) all_first ∙ ap (λ zs. prefix.first ++ zs) back.whole ∙ sym (append_assoc prefix.first back.first back.later);
           lines = prefix.lines ++ back.lines;
-          are = lines_append model prefix.first back.first prefix.lines back.lines prefix.are back.are;
+          are = lines_append options model prefix.first back.first prefix.lines back.lines prefix.are back.are;
           printed = joined a b c prefix.lines back.lines prefix.printed back.printed;
           all = back.all;
         }
 
-    after_either : (waiting : Option (List ℕ)) → b.waiting ≡ waiting → PrintsRows model a c (xs ++ ys)
+    after_either : (waiting : Option (List ℕ)) → b.waiting ≡ waiting → PrintsRows options model a c (xs ++ ys)
     after_either None is = after_failure is
     after_either (Some bytes) is = after_all bytes is
 
-    pub rows_more : PrintsRows model a c (xs ++ ys)
+    pub rows_more : PrintsRows options model a c (xs ++ ys)
     rows_more = after_either b.waiting refl
 
 -- what there is for the first number, and for the others

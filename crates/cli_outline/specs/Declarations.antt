@@ -10,6 +10,8 @@ use Rattle.cli_lines.specs.Lines.{Part, member, note, plain, text, token, word}
 use Rattle.cli_lines.specs.declared.names.Name.TheVariants as name
 use Rattle.cli_declarations.specs.AsIs.{as_is}
 use Rattle.cli_declarations.specs.Parts.{number_of}
+use Rattle.cli_outline.specs.declared.source.Tokens.{Tokens}
+use Rattle.cli_outline.specs.declared.source.Tokens.TheVariants.{Shown, Hidden}
 
 -- a space or a parenthesis: the first word ends before it
 abbrev pub ends_word : ℕ → Bool
@@ -41,8 +43,17 @@ abbrev pub directive_part : Bool → List ℕ → Part
 directive_part true declared = member name.Directive (text (before_first ends_word declared))
 directive_part false declared = no_part
 
--- the line; the text of the member has no spaces at its start, and names as they are in the file
-unfoldable pub declaration_line : Token → Option Token → Bool → List ℕ → List Part
-declaration_line of class directive declared =
+-- the comment with the token, if it is shown; it is a part of text alone
+abbrev pub comment_mark : Tokens → Part
+comment_mark Shown = word (codes "  // ")
+comment_mark Hidden = no_part
+
+abbrev pub comment_token : Tokens → Token → Part
+comment_token Shown of = note (token of)
+comment_token Hidden of = no_part
+
+-- the line: in JSON it has its token even if text has none; the text of the member has no spaces at its start, and names as they are in the file
+unfoldable pub declaration_line : Tokens → Token → Option Token → Bool → List ℕ → List Part
+declaration_line tokens of class directive declared =
     member name.Token (token of) ∷ type_part class ∷ directive_part directive (unindented declared)
-    ∷ note (plain declared) ∷ member name.Text (plain (as_is (unindented declared))) ∷ word (codes "  // ") ∷ note (token of) ∷ []
+    ∷ note (plain declared) ∷ member name.Text (plain (as_is (unindented declared))) ∷ comment_mark tokens ∷ comment_token tokens of ∷ []

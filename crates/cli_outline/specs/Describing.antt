@@ -7,6 +7,7 @@ use Rattle.metadata.specs.Metadata.{Metadata}
 use Rattle.navigation.specs.Nesting.{type_token}
 use Rattle.declaring_types.specs.Declaring.{IsDeclaring}
 use Rattle.cli_lines.specs.Printed.{Printed, Prints}
+use Rattle.cli_outline.specs.declared.source.OutlineOptions.{OutlineOptions}
 use Rattle.cli_outline.specs.Outline.{all_rows, class_rows, last_tables}
 use Rattle.cli_outline.specs.Printed.{PrintsRows}
 
@@ -22,11 +23,11 @@ abbrev pub AreDescribingType : Metadata → ℕ → List Token → Type 0
 AreDescribingType model class found = AreDescribing model (type_token class) (flat_map (all_rows model) last_tables) found
 
 -- the lines of those of some rows were printed
-abbrev pub PrintsDescribing : {W : Type 0} → Metadata → Token → Printed W → Printed W → List Token → Type 0
-PrintsDescribing model class old new rows = (found : List Token) × AreDescribing model class rows found × PrintsRows model old new found
+abbrev pub PrintsDescribing : {W : Type 0} → OutlineOptions → Metadata → Token → Printed W → Printed W → List Token → Type 0
+PrintsDescribing options model class old new rows = (found : List Token) × AreDescribing model class rows found × PrintsRows options model old new found
 
 -- the lines of a type and its members were printed, and those of the rows that describe them; or memory ran out before
-abbrev pub PrintsType : {W : Type 0} → Metadata → ℕ → Printed W → Printed W → Type 0
-PrintsType model class old new =
-    ((found : List Token) × AreDescribingType model class found × PrintsRows model old new (class_rows model class ++ found))
+abbrev pub PrintsType : {W : Type 0} → OutlineOptions → Metadata → ℕ → Printed W → Printed W → Type 0
+PrintsType options model class old new =
+    ((found : List Token) × AreDescribingType model class found × PrintsRows options model old new (class_rows model class ++ found))
     ⊎ ((new.waiting ≡ None) × Prints old new [])

@@ -8,6 +8,7 @@ use Rattle.cli_outline.specs.declared.subject.Subject.{Subject}
 use Rattle.cli_outline.specs.declared.subject.Subject.TheVariants.{Path, Row}
 use Rattle.cli_outline.specs.declared.subject.Outcome.{Outcome}
 use Rattle.cli_outline.specs.declared.subject.Outcome.TheVariants.{Printed, NoSuchType, OutOfMemory}
+use Rattle.cli_outline.specs.declared.source.OutlineOptions.{OutlineOptions}
 use Rattle.cli_outline.specs.Describing.{PrintsType}
 use Rattle.cli_outline.specs.Paths.{IsMeant}
 
@@ -17,10 +18,10 @@ IsSubject model (Path path) row = IsMeant model path.now row
 IsSubject model (Row of) row = (row ≡ of) × HasRow model TypeDef row
 
 -- the lines of the subject were printed if there is one
-abbrev pub PrintsSubject : {W : Type 0} → Metadata → Subject → Printer W → Printer W → Outcome → Type 0
-PrintsSubject model subject old new Printed = (row : ℕ) × IsSubject model subject row × PrintsType model row old new
-PrintsSubject model subject old new NoSuchType = (row : ℕ) → ¬ IsSubject model subject row
-PrintsSubject model subject old new OutOfMemory = ⊤
+abbrev pub PrintsSubject : {W : Type 0} → OutlineOptions → Metadata → Subject → Printer W → Printer W → Outcome → Type 0
+PrintsSubject options model subject old new Printed = (row : ℕ) × IsSubject model subject row × PrintsType options model row old new
+PrintsSubject options model subject old new NoSuchType = (row : ℕ) → ¬ IsSubject model subject row
+PrintsSubject options model subject old new OutOfMemory = ⊤
 
 -- nothing was printed if there is no subject, or none was found
 abbrev pub PrintsNone : {W : Type 0} → Printer W → Printer W → Outcome → Type 0

@@ -9,56 +9,56 @@ ghost use Rattle.cli_outline.specs.Outline.{all_rows};
 
 use crate::laws::{descriptions_follow, rows_follow};
 use crate::outline::print_row;
+use crate::source::Source;
 use cli_declarations::Declared;
 use cli_lines::Printer;
 use declaring_types::declaring_type;
-use navigation::Neighbours;
 use opening::{TableId, Token};
 use std::io::Write;
 
 /// Prints the line of a row if it describes a type or what the type declares.
 fn print_if_describing<W: Write>(
-    source: &Neighbours<'_, '_>,
+    source: &Source<'_, '_>,
     class: Token,
     token: Token,
     declared: &mut Declared,
     out: &mut Printer<'_, W>,
 )
     requires first { 1 ≤ token.row }
-    requires last { token.row ≤ row_count source.now.view.now token.table }
-    ensures { (model : Metadata) → IsModel source.now.view.now model → PrintsDescribing model class out.old out.new (token ∷ []) }
+    requires last { token.row ≤ row_count source.now.neighbours.view.now token.table }
+    ensures { (model : Metadata) → IsModel source.now.neighbours.view.now model → PrintsDescribing source.now.options model class out.old out.new (token ∷ []) }
 {
     rows_follow::<W>();
-    if declaring_type(source, token) == Some(class) {
+    if declaring_type(&source.neighbours, token) == Some(class) {
         print_row(source, None, token, declared, out);
     }
 }
 
 /// Prints the lines of the rows of a table that describe a type or what it declares.
 fn print_describing_in<W: Write>(
-    source: &Neighbours<'_, '_>,
+    source: &Source<'_, '_>,
     table: TableId,
     class: Token,
     declared: &mut Declared,
     out: &mut Printer<'_, W>,
 )
-    ensures { (model : Metadata) → IsModel source.now.view.now model → PrintsDescribing model class out.old out.new (all_rows model table) }
+    ensures { (model : Metadata) → IsModel source.now.neighbours.view.now model → PrintsDescribing source.now.options model class out.old out.new (all_rows model table) }
 {
     descriptions_follow::<W>();
-    for row in 1..source.view.count(table) + 1 {
+    for row in 1..source.neighbours.view.count(table) + 1 {
         print_if_describing(source, class, Token { table, row }, declared, out);
     }
 }
 
 /// Prints the lines of all rows of some tables that describe a type or what it declares.
 pub(crate) fn print_describing<W: Write>(
-    source: &Neighbours<'_, '_>,
+    source: &Source<'_, '_>,
     tables: &[TableId],
     class: Token,
     declared: &mut Declared,
     out: &mut Printer<'_, W>,
 )
-    ensures { (model : Metadata) → IsModel source.now.view.now model → PrintsDescribing model class out.old out.new (flat_map (all_rows model) tables.now) }
+    ensures { (model : Metadata) → IsModel source.now.neighbours.view.now model → PrintsDescribing source.now.options model class out.old out.new (flat_map (all_rows model) tables.now) }
 {
     descriptions_follow::<W>();
     for table in tables {

@@ -1,7 +1,7 @@
 //! The outline of an assembly: its declarations in the notation of ILAsm (ECMA-335 II.5 to II.22), one per line.
 //!
 //! [`print_outline`] prints the outline of a view, [`print_outline_of`] that of one type, and [`print_refs`] what a view
-//! refers to in other modules. `specs/Outline.antt` says which
+//! refers to in other modules. [`OutlineOptions`] says what is shown. `specs/Outline.antt` says which
 //! rows have a line, and in which order. `specs/Layouts.antt` says what the declaration of a row is, as a list of parts,
 //! `specs/Parts.antt` what the text of a part is, and `specs/Declarations.antt` what the line of a declaration is. It is
 //! proved that these lines are printed and nothing else.
@@ -21,7 +21,9 @@ mod line;
 mod mapped;
 mod outline;
 mod path;
+mod source;
 mod subject;
 
 pub use outline::{print_outline, print_outline_of, print_refs};
+pub use source::{OutlineOptions, Tokens};
 pub use subject::{Outcome, Subject};

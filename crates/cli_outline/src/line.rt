@@ -9,14 +9,14 @@ ghost use Rattle.cli_lines.specs.Printed.{Prints};
 ghost use Rattle.cli_lines.specs.Shown.{shown};
 ghost use Rattle.full_names.specs.RowNames.{IsMemberOf};
 ghost use Rattle.cli_declarations.specs.AsIs.{unescaped};
-ghost use Rattle.cli_outline.specs.Declarations.{declaration_line, directive_part, ends_word, has_directive, type_part, unindented};
+ghost use Rattle.cli_outline.specs.Declarations.{comment_mark, comment_token, declaration_line, directive_part, ends_word, has_directive, type_part, unindented};
 ghost use Rattle.cli_outline.specs.Printed.{PrintsRows};
 
+use crate::source::{Source, Tokens};
 use cli_declarations::{Declared, declare, number, text_or, unescape};
 use cli_lines::Part::{Member, Note, Word};
 use cli_lines::Value::{self, Plain, Text};
 use cli_lines::{Form, Name, Part, Printer};
-use navigation::Neighbours;
 use opening::{TableId, Token, View};
 use std::alloc::AllocError;
 use std::io::Write;
@@ -79,6 +79,26 @@ fn directive_part(has_directive: bool, text: &str) -> Part<'_>
     Word("")
 }
 
+/// What separates the token of the row from a declaration.
+fn comment_mark(tokens: Tokens) -> Part<'static>
+    ensures { shown result ≡ comment_mark tokens }
+{
+    match tokens {
+        Tokens::Shown => Word("  // "),
+        Tokens::Hidden => Word(""),
+    }
+}
+
+/// The token of the row at the end of a line of text.
+fn comment_token(tokens: Tokens, of: Token) -> Part<'static>
+    ensures { shown result ≡ comment_token tokens of }
+{
+    match tokens {
+        Tokens::Shown => Note(Value::Token(of)),
+        Tokens::Hidden => Word(""),
+    }
+}
+
 /// In JSON, appends the bytes of a declaration without the spaces at its start, with the names as they are in the file.
 fn read_names(form: Form, text: &str, named: &mut Vec<u8>) -> Result<(), AllocError>
     ensures { form ≡ JsonLines → OnOk result (named.new.items ≡ named.old.items ++ unescaped (unindented text.now)) }
@@ -91,6 +111,7 @@ fn read_names(form: Form, text: &str, named: &mut Vec<u8>) -> Result<(), AllocEr
 
 /// Prints the line of a declaration. In JSON `named` has the bytes of [`read_names`].
 fn print_declaration<'t, W: Write>(
+    tokens: Tokens,
     of: Token,
     class: Option<Token>,
     has_directive: bool,
@@ -98,7 +119,7 @@ fn print_declaration<'t, W: Write>(
     named: &'t [u8],
     out: &mut Printer<'_, W>,
 )
-    ensures { (out.old.style.form ≡ JsonLines → named.now ≡ unescaped (unindented text.now)) → Prints out.old out.new (declaration_line of class has_directive text.now ∷ []) }
+    ensures { (out.old.style.form ≡ JsonLines → named.now ≡ unescaped (unindented text.now)) → Prints out.old out.new (declaration_line tokens of class has_directive text.now ∷ []) }
 {
     let unindented = text.trim_ascii_start();
     out.line(&[
@@ -107,31 +128,39 @@ fn print_declaration<'t, W: Write>(
         directive_part(has_directive, unindented),
         Note(Plain(text)),
         Member(Name::Text, Plain(text_or(named, unindented))),
-        Word("  // "),
-        Note(Value::Token(of)),
+        comment_mark(tokens),
+        comment_token(tokens, of),
     ]);
 }
 
 /// Prints the line of a row: of a member of a type, if that is given.
 pub(crate) fn print_line<W: Write>(
-    source: &Neighbours<'_, '_>,
+    source: &Source<'_, '_>,
     class: Option<Token>,
     token: Token,
     declared: &mut Declared,
     out: &mut Printer<'_, W>,
 )
     requires first { 1 ≤ token.row }
-    requires last { token.row ≤ row_count source.now.view.now token.table }
-    requires member { (model : Metadata) → IsModel source.now.view.now model → IsMemberOf model token.table token.row class }
-    ensures { (model : Metadata) → IsModel source.now.view.now model → PrintsRows model out.old out.new (token ∷ []) }
+    requires last { token.row ≤ row_count source.now.neighbours.view.now token.table }
+    requires member { (model : Metadata) → IsModel source.now.neighbours.view.now model → IsMemberOf model token.table token.row class }
+    ensures { (model : Metadata) → IsModel source.now.neighbours.view.now model → PrintsRows source.now.options model out.old out.new (token ∷ []) }
 {
-    match declare(source, token, declared) {
+    match declare(&source.neighbours, token, declared) {
         Ok(()) => {
-            let has_directive = has_directive(source.view, token);
+            let has_directive = has_directive(source.neighbours.view, token);
             let mut named = Vec::new(declared.alloc);
             match read_names(out.form(), &declared.text, &mut named) {
                 Ok(()) => {
-                    print_declaration(token, class, has_directive, &declared.text, &named, out);
+                    print_declaration(
+                        source.options.tokens,
+                        token,
+                        class,
+                        has_directive,
+                        &declared.text,
+                        &named,
+                        out,
+                    );
                 }
                 Err(_) => out.fail(),
             }

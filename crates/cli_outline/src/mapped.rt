@@ -9,9 +9,10 @@ ghost use Rattle.cli_outline.specs.Printed.{PrintsRows};
 
 use crate::laws::{ranges_follow, rows_follow};
 use crate::outline::{print_row, run_of};
+use crate::source::Source;
 use cli_declarations::Declared;
 use cli_lines::Printer;
-use navigation::{Link, Neighbours};
+use navigation::Link;
 use opening::{CellCursor, MemberList, TableId, Token};
 use std::io::Write;
 use std::ops::Range;
@@ -67,21 +68,21 @@ impl Mapped {
 
 /// Prints the line of an event or a property, and those of its accessors.
 fn print_accessed<W: Write>(
-    source: &Neighbours<'_, '_>,
+    source: &Source<'_, '_>,
     of: Mapped,
     row: u32,
     declared: &mut Declared,
     out: &mut Printer<'_, W>,
 )
     requires first { 1 ≤ row }
-    requires last { row ≤ row_count source.now.view.now (table_of of) }
+    requires last { row ≤ row_count source.now.neighbours.view.now (table_of of) }
     requires limit { row ≤ 0xFFFFFF }
-    ensures { (model : Metadata) → IsModel source.now.view.now model → PrintsRows model out.old out.new (accessed_rows model of row) }
+    ensures { (model : Metadata) → IsModel source.now.neighbours.view.now model → PrintsRows source.now.options model out.old out.new (accessed_rows model of row) }
 {
     rows_follow::<W>();
     let table = of.list().member();
     print_row(source, None, Token { table, row }, declared, out);
-    let accessors = source.linked(Link::Accessors, of.accessed(row));
+    let accessors = source.neighbours.linked(Link::Accessors, of.accessed(row));
     for accessor in accessors {
         let token = Token {
             table: TableId::MethodSemantics,
@@ -93,18 +94,18 @@ fn print_accessed<W: Write>(
 
 /// Prints the lines of some events or properties, in ascending order, each with its accessors.
 fn print_all_accessed<W: Write>(
-    source: &Neighbours<'_, '_>,
+    source: &Source<'_, '_>,
     of: Mapped,
     rows: Range<u32>,
     declared: &mut Declared,
     out: &mut Printer<'_, W>,
 )
     requires first { 1 ≤ rows.start }
-    requires last { rows.«end» ≤ row_count source.now.view.now (table_of of) + 1 }
-    ensures { (model : Metadata) → IsModel source.now.view.now model → PrintsRows model out.old out.new (each_from (accessed_rows model of) rows.start rows.«end») }
+    requires last { rows.«end» ≤ row_count source.now.neighbours.view.now (table_of of) + 1 }
+    ensures { (model : Metadata) → IsModel source.now.neighbours.view.now model → PrintsRows source.now.options model out.old out.new (each_from (accessed_rows model of) rows.start rows.«end») }
 {
     // The table has at most 0xFFFFFF rows.
-    let _count = source.view.count(of.list().member());
+    let _count = source.neighbours.view.count(of.list().member());
     ranges_follow::<W>();
     let (first, past) = (rows.start, rows.end);
     for row in first..past {
@@ -114,7 +115,7 @@ fn print_all_accessed<W: Write>(
 
 /// Prints the lines of the events or the properties of a row of their map.
 fn print_map<W: Write>(
-    source: &Neighbours<'_, '_>,
+    source: &Source<'_, '_>,
     cells: &mut CellCursor<'_, '_>,
     of: Mapped,
     map: u32,
@@ -123,9 +124,9 @@ fn print_map<W: Write>(
 )
     requires first { 1 ≤ map }
     requires last { map ≤ row_count cells.old (owner_of (list_of of)) }
-    requires at { cells.old ≡ source.now.view.now }
+    requires at { cells.old ≡ source.now.neighbours.view.now }
     ensures same { cells.new ≡ cells.old }
-    ensures lines { (model : Metadata) → IsModel source.now.view.now model → PrintsRows model out.old out.new (mapped_rows model of map) }
+    ensures lines { (model : Metadata) → IsModel source.now.neighbours.view.now model → PrintsRows source.now.options model out.old out.new (mapped_rows model of map) }
 {
     let rows = run_of(cells, of.list(), map);
     print_all_accessed(source, of, rows, declared, out);
@@ -133,19 +134,19 @@ fn print_map<W: Write>(
 
 /// Prints the lines of the events or the properties of a type.
 pub(crate) fn print_mapped<W: Write>(
-    source: &Neighbours<'_, '_>,
+    source: &Source<'_, '_>,
     cells: &mut CellCursor<'_, '_>,
     of: Mapped,
     class: u32,
     declared: &mut Declared,
     out: &mut Printer<'_, W>,
 )
-    requires at { cells.old ≡ source.now.view.now }
+    requires at { cells.old ≡ source.now.neighbours.view.now }
     ensures same { cells.new ≡ cells.old }
-    ensures lines { (model : Metadata) → IsModel source.now.view.now model → PrintsRows model out.old out.new (type_rows model of class) }
+    ensures lines { (model : Metadata) → IsModel source.now.neighbours.view.now model → PrintsRows source.now.options model out.old out.new (type_rows model of class) }
 {
     rows_follow::<W>();
-    let maps = source.linked(of.link(), class);
+    let maps = source.neighbours.linked(of.link(), class);
     for map in maps {
         print_map(source, cells, of, map.row, declared, out);
     }

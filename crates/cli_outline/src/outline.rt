@@ -18,11 +18,11 @@ use crate::describing::print_describing;
 use crate::laws::{ranges_follow, rows_follow};
 use crate::line::print_line;
 use crate::mapped::{Mapped, print_mapped};
+use crate::source::{OutlineOptions, Source};
 use crate::subject::{Outcome, Subject, found_row};
 use cli_declarations::Declared;
 use cli_lines::Printer;
 use full_names::type_of_member;
-use navigation::Neighbours;
 use opening::{CellCursor, MemberList, TableId, Token, View};
 use std::alloc::Global;
 use std::io::Write;
@@ -30,26 +30,32 @@ use std::ops::Range;
 
 /// Prints the line of a row. The type of a member is given, or found by binary search.
 pub(crate) fn print_row<W: Write>(
-    source: &Neighbours<'_, '_>,
+    source: &Source<'_, '_>,
     owner: Option<Token>,
     token: Token,
     declared: &mut Declared,
     out: &mut Printer<'_, W>,
 )
     requires first { 1 ≤ token.row }
-    requires last { token.row ≤ row_count source.now.view.now token.table }
-    requires member { (class : TheToken) → owner ≡ Some class → (model : Metadata) → IsModel source.now.view.now model → IsMemberOf model token.table token.row owner }
-    ensures { (model : Metadata) → IsModel source.now.view.now model → PrintsRows model out.old out.new (row_of token.table token.row) }
+    requires last { token.row ≤ row_count source.now.neighbours.view.now token.table }
+    requires member { (class : TheToken) → owner ≡ Some class → (model : Metadata) → IsModel source.now.neighbours.view.now model → IsMemberOf model token.table token.row owner }
+    ensures { (model : Metadata) → IsModel source.now.neighbours.view.now model → PrintsRows source.now.options model out.old out.new (row_of token.table token.row) }
 {
     match owner {
         Some(class) => print_line(source, Some(class), token, declared, out),
-        None => print_line(source, type_of_member(source, token), token, declared, out),
+        None => print_line(
+            source,
+            type_of_member(&source.neighbours, token),
+            token,
+            declared,
+            out,
+        ),
     }
 }
 
 /// Prints the lines of some rows of a table, in ascending order. The type of members is given, or found for each.
 fn print_rows<W: Write>(
-    source: &Neighbours<'_, '_>,
+    source: &Source<'_, '_>,
     owner: Option<Token>,
     table: TableId,
     rows: Range<u32>,
@@ -57,10 +63,10 @@ fn print_rows<W: Write>(
     out: &mut Printer<'_, W>,
 )
     requires first { 1 ≤ rows.start }
-    requires last { rows.«end» ≤ row_count source.now.view.now table + 1 }
-    requires members { (class : TheToken) → owner ≡ Some class → (model : Metadata) → IsModel source.now.view.now model
+    requires last { rows.«end» ≤ row_count source.now.neighbours.view.now table + 1 }
+    requires members { (class : TheToken) → owner ≡ Some class → (model : Metadata) → IsModel source.now.neighbours.view.now model
         → (row : ℕ) → rows.start ≤ row → row < rows.«end» → IsMemberOf model table row owner }
-    ensures { (model : Metadata) → IsModel source.now.view.now model → PrintsRows model out.old out.new (each_from (row_of table) rows.start rows.«end») }
+    ensures { (model : Metadata) → IsModel source.now.neighbours.view.now model → PrintsRows source.now.options model out.old out.new (each_from (row_of table) rows.start rows.«end») }
 {
     ranges_follow::<W>();
     let (first, past) = (rows.start, rows.end);
@@ -71,25 +77,25 @@ fn print_rows<W: Write>(
 
 /// Prints the lines of all rows of a table.
 fn print_table<W: Write>(
-    source: &Neighbours<'_, '_>,
+    source: &Source<'_, '_>,
     table: TableId,
     declared: &mut Declared,
     out: &mut Printer<'_, W>,
 )
-    ensures { (model : Metadata) → IsModel source.now.view.now model → PrintsRows model out.old out.new (all_rows model table) }
+    ensures { (model : Metadata) → IsModel source.now.neighbours.view.now model → PrintsRows source.now.options model out.old out.new (all_rows model table) }
 {
-    let count = source.view.count(table);
+    let count = source.neighbours.view.count(table);
     print_rows(source, None, table, 1..count + 1, declared, out);
 }
 
 /// Prints the lines of all rows of some tables.
 fn print_tables<W: Write>(
-    source: &Neighbours<'_, '_>,
+    source: &Source<'_, '_>,
     tables: &[TableId],
     declared: &mut Declared,
     out: &mut Printer<'_, W>,
 )
-    ensures { (model : Metadata) → IsModel source.now.view.now model → PrintsRows model out.old out.new (flat_map (all_rows model) tables.now) }
+    ensures { (model : Metadata) → IsModel source.now.neighbours.view.now model → PrintsRows source.now.options model out.old out.new (flat_map (all_rows model) tables.now) }
 {
     rows_follow::<W>();
     for table in tables {
@@ -117,7 +123,7 @@ pub(crate) fn run_of(cells: &mut CellCursor<'_, '_>, list: MemberList, row: u32)
 
 /// Prints the lines of a type's members of one kind.
 fn print_members<W: Write>(
-    source: &Neighbours<'_, '_>,
+    source: &Source<'_, '_>,
     cells: &mut CellCursor<'_, '_>,
     list: MemberList,
     row: u32,
@@ -127,9 +133,9 @@ fn print_members<W: Write>(
     requires first { 1 ≤ row }
     requires last { row ≤ row_count cells.old (owner_of list) }
     requires types { owner_of list ≡ TypeDef }
-    requires at { cells.old ≡ source.now.view.now }
+    requires at { cells.old ≡ source.now.neighbours.view.now }
     ensures same { cells.new ≡ cells.old }
-    ensures lines { (model : Metadata) → IsModel source.now.view.now model → PrintsRows model out.old out.new (members model list row) }
+    ensures lines { (model : Metadata) → IsModel source.now.neighbours.view.now model → PrintsRows source.now.options model out.old out.new (members model list row) }
 {
     metadata::laws::models_are_read();
     let rows = run_of(cells, list, row);
@@ -142,7 +148,7 @@ fn print_members<W: Write>(
 
 /// Prints the lines of a type, of its fields, its methods, its events and its properties.
 fn print_class<W: Write>(
-    source: &Neighbours<'_, '_>,
+    source: &Source<'_, '_>,
     cells: &mut CellCursor<'_, '_>,
     row: u32,
     declared: &mut Declared,
@@ -150,9 +156,9 @@ fn print_class<W: Write>(
 )
     requires first { 1 ≤ row }
     requires last { row ≤ row_count cells.old TypeDef }
-    requires at { cells.old ≡ source.now.view.now }
+    requires at { cells.old ≡ source.now.neighbours.view.now }
     ensures same { cells.new ≡ cells.old }
-    ensures lines { (model : Metadata) → IsModel source.now.view.now model → PrintsRows model out.old out.new (class_rows model row) }
+    ensures lines { (model : Metadata) → IsModel source.now.neighbours.view.now model → PrintsRows source.now.options model out.old out.new (class_rows model row) }
 {
     rows_follow::<W>();
     let class = Token {
@@ -168,15 +174,15 @@ fn print_class<W: Write>(
 
 /// Prints the lines of all types and their members.
 fn print_classes<W: Write>(
-    source: &Neighbours<'_, '_>,
+    source: &Source<'_, '_>,
     declared: &mut Declared,
     out: &mut Printer<'_, W>,
 )
-    ensures { (model : Metadata) → IsModel source.now.view.now model → PrintsRows model out.old out.new (each_from (class_rows model) 1 (count_in model TypeDef + 1)) }
+    ensures { (model : Metadata) → IsModel source.now.neighbours.view.now model → PrintsRows source.now.options model out.old out.new (each_from (class_rows model) 1 (count_in model TypeDef + 1)) }
 {
     ranges_follow::<W>();
-    let mut cells = CellCursor::new(source.view);
-    let count = source.view.count(TableId::TypeDef);
+    let mut cells = CellCursor::new(source.neighbours.view);
+    let count = source.neighbours.view.count(TableId::TypeDef);
     for row in 1..count + 1 {
         print_class(source, &mut cells, row, declared, out);
     }
@@ -215,12 +221,8 @@ fn last_tables() -> &'static [TableId]
 }
 
 /// Prints all lines of the outline.
-fn print_all<W: Write>(
-    source: &Neighbours<'_, '_>,
-    declared: &mut Declared,
-    out: &mut Printer<'_, W>,
-)
-    ensures { (model : Metadata) → IsModel source.now.view.now model → PrintsRows model out.old out.new (outline_rows model) }
+fn print_all<W: Write>(source: &Source<'_, '_>, declared: &mut Declared, out: &mut Printer<'_, W>)
+    ensures { (model : Metadata) → IsModel source.now.neighbours.view.now model → PrintsRows source.now.options model out.old out.new (outline_rows model) }
 {
     rows_follow::<W>();
     print_tables(source, first_tables(), declared, out);
@@ -229,7 +231,7 @@ fn print_all<W: Write>(
 }
 
 /// Prints the outline of a view: its declarations in the notation of ILAsm (II.5 to II.22), one per line. Each line ends
-/// with the token of its row in a comment, as eight hexadecimal digits. Texts of the file are escaped: printable ASCII
+/// with the token of its row in a comment, as eight hexadecimal digits, unless the options hide it. Texts of the file are escaped: printable ASCII
 /// except `"` and `\` is as it is, any other byte is `\x` and two hexadecimal digits. Of a name, a signature or another
 /// text that is longer than 65,536 bytes the first ones are printed, and `..`. As JSON Lines a line is an object: `token`,
 /// of a member `type` (the token of its type), `directive` (the first word), and `text` (the declaration). There the names
@@ -246,10 +248,15 @@ fn print_all<W: Write>(
 ///
 /// Its memory is that of the longest line, of the lines that wait to be sent, and eight bytes for each row of the three
 /// tables. If a list of members has a null start, its starts take four bytes for each owner.
-pub fn print_outline<W: Write>(alloc: Global, view: &View<'_>, out: &mut Printer<'_, W>)
-    ensures { (model : Metadata) → IsModel view.now model → PrintsRows model out.old out.new (outline_rows model) }
+pub fn print_outline<W: Write>(
+    alloc: Global,
+    view: &View<'_>,
+    options: OutlineOptions,
+    out: &mut Printer<'_, W>,
+)
+    ensures { (model : Metadata) → IsModel view.now model → PrintsRows options model out.old out.new (outline_rows model) }
 {
-    match Neighbours::new(alloc, view) {
+    match Source::new(alloc, view, options) {
         Ok(source) => print_all(&source, &mut Declared::new(alloc), out),
         Err(_) => out.fail(),
     }
@@ -268,10 +275,15 @@ fn ref_tables() -> &'static [TableId]
 /// brackets before its name, a member after it (II.7.3).
 ///
 /// Its time is that of the lines, and of the blobs in them. Its memory is that of [`print_outline`].
-pub fn print_refs<W: Write>(alloc: Global, view: &View<'_>, out: &mut Printer<'_, W>)
-    ensures { (model : Metadata) → IsModel view.now model → PrintsRows model out.old out.new (refs_rows model) }
+pub fn print_refs<W: Write>(
+    alloc: Global,
+    view: &View<'_>,
+    options: OutlineOptions,
+    out: &mut Printer<'_, W>,
+)
+    ensures { (model : Metadata) → IsModel view.now model → PrintsRows options model out.old out.new (refs_rows model) }
 {
-    match Neighbours::new(alloc, view) {
+    match Source::new(alloc, view, options) {
         Ok(source) => print_tables(&source, ref_tables(), &mut Declared::new(alloc), out),
         Err(_) => out.fail(),
     }
@@ -279,15 +291,21 @@ pub fn print_refs<W: Write>(alloc: Global, view: &View<'_>, out: &mut Printer<'_
 
 /// Prints the outline of a type of a view: its line, those of its fields, methods, events and properties, and those of the rows
 /// that describe them.
-fn print_type<W: Write>(alloc: Global, view: &View<'_>, row: u32, out: &mut Printer<'_, W>)
+fn print_type<W: Write>(
+    alloc: Global,
+    view: &View<'_>,
+    row: u32,
+    options: OutlineOptions,
+    out: &mut Printer<'_, W>,
+)
     requires first { 1 ≤ row }
     requires last { row ≤ row_count view.now TypeDef }
-    ensures { (model : Metadata) → IsModel view.now model → PrintsType model row out.old out.new }
+    ensures { (model : Metadata) → IsModel view.now model → PrintsType options model row out.old out.new }
 {
     rows_follow::<W>();
-    match Neighbours::new(alloc, view) {
+    match Source::new(alloc, view, options) {
         Ok(source) => {
-            let mut cells = CellCursor::new(source.view);
+            let mut cells = CellCursor::new(source.neighbours.view);
             let mut declared = Declared::new(alloc);
             let class = Token {
                 table: TableId::TypeDef,
@@ -307,14 +325,15 @@ pub fn print_outline_of<W: Write>(
     alloc: Global,
     view: &View<'_>,
     subject: Subject<'_>,
+    options: OutlineOptions,
     out: &mut Printer<'_, W>,
 ) -> Outcome
-    ensures printed { (model : Metadata) → IsModel view.now model → PrintsSubject model subject.entry out.old out.new result }
+    ensures printed { (model : Metadata) → IsModel view.now model → PrintsSubject options model subject.entry out.old out.new result }
     ensures untouched { PrintsNone out.old out.new result }
 {
     match found_row(alloc, view, subject) {
         Ok(Some(row)) => {
-            print_type(alloc, view, row, out);
+            print_type(alloc, view, row, options, out);
             Outcome::Printed
         }
         Ok(None) => Outcome::NoSuchType,

@@ -3,7 +3,7 @@
 use crate::runs::answer;
 use cli_input::{Input, open};
 use cli_lines::{Form, Printer};
-use cli_outline::{print_outline, print_refs};
+use cli_outline::{OutlineOptions, Tokens, print_outline, print_refs};
 use sample_roots::RootBuilder;
 use std::alloc::Global;
 use std::fs;
@@ -96,17 +96,49 @@ fn prints_events_and_properties_below_their_type(rt: HostRuntime) -> Result<(), 
 
 /// The outline of a root as JSON Lines.
 fn json_of(alloc: Global, root: &[u8]) -> Result<String, Fail> {
+    outline_with(alloc, root, OutlineOptions::default(), Form::JsonLines)
+}
+
+/// The outline of a root with these options.
+fn outline_with(
+    alloc: Global,
+    root: &[u8],
+    options: OutlineOptions,
+    form: Form,
+) -> Result<String, Fail> {
     let Ok(view) = open(root, Input::BareRoot) else {
         return Err("a broken root".into());
     };
     let mut out = Vec::new(alloc);
-    let mut printer = Printer::new(alloc, Form::JsonLines, &mut out);
-    print_outline(alloc, &view, &mut printer);
+    let mut printer = Printer::new(alloc, form, &mut out);
+    print_outline(alloc, &view, options, &mut printer);
     let (_, sent) = printer.finish();
     if sent.is_err() {
         return Err("no outline".into());
     }
     Ok(String::from_utf8(out).ok().ok_or("no text")?)
+}
+
+/// Without tokens no line of text has a comment. A line of JSON has its token all the same.
+#[test]
+fn leaves_tokens_out_of_text(rt: HostRuntime) -> Result<(), Fail> {
+    let alloc = rt.alloc();
+    let root = root_of_properties(alloc, [[2, 0, 1, 0], [3, 0, 2, 0]], &[GETTER])?;
+    let options = OutlineOptions {
+        tokens: Tokens::Hidden,
+    };
+    let whole = outline_of(&rt, root.as_slice())?;
+    let mut lines = String::new(alloc);
+    for line in whole.as_str().lines() {
+        let (declaration, _) = line.rsplit_once("  // ").ok_or("no token")?;
+        lines.push_str(declaration)?;
+        lines.push('\n')?;
+    }
+    let text = outline_with(alloc, root.as_slice(), options, Form::Text)?;
+    assert_eq!(rt; text.as_str(), lines.as_str());
+    let json = outline_with(alloc, root.as_slice(), options, Form::JsonLines)?;
+    assert_eq!(rt; json.as_str(), json_of(alloc, root.as_slice())?.as_str());
+    Ok(())
 }
 
 #[test]
@@ -478,7 +510,7 @@ fn prints_references_with_their_scopes(rt: HostRuntime) -> Result<(), Fail> {
     };
     let mut out = Vec::new(rt.alloc());
     let mut printer = Printer::new(rt.alloc(), Form::Text, &mut out);
-    print_refs(rt.alloc(), &view, &mut printer);
+    print_refs(rt.alloc(), &view, OutlineOptions::default(), &mut printer);
     assert!(rt; printer.finish().1.is_ok());
     assert_eq!(rt; str::from_utf8(out.as_slice()), Ok(lines));
     Ok(())

@@ -9,6 +9,6 @@ use Rattle.cli_outline.proofs.describing.print_describing.Given as goal
 
 -- the tables that are left complete the tables
 abbrev pub invariant-loop-table : goal.invariant-loop-table
-invariant-loop-table g l = (model : Metadata) (later : Printed _) → IsModel l.source.view.now model
-    → PrintsDescribing model l.class l.out later (flat_map (all_rows model) (drop l.table-index l.tables))
-    → PrintsDescribing model l.class l.initial.out later (flat_map (all_rows model) l.tables)
+invariant-loop-table g l = (model : Metadata) (later : Printed _) → IsModel l.source.neighbours.view.now model
+    → PrintsDescribing l.source.options model l.class l.out later (flat_map (all_rows model) (drop l.table-index l.tables))
+    → PrintsDescribing l.source.options model l.class l.initial.out later (flat_map (all_rows model) l.tables)

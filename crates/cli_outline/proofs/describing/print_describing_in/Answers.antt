@@ -15,8 +15,8 @@ loop-row-preserved g c = λ model later is printed.
     let below = c.loop-row-test.true in
     let lt : row < past = omega arith in
     c.loop-row.invariant model later is
-    (subst (λ (left : List Token). PrintsDescribing model c.args.class c.loop-row.out later left) (sym (each_more rows row past lt))
-    (c.descriptions_follow.ensures.more model c.args.class _ _ _ (rows row) (each_from rows (row + 1) past) (c.print_if_describing.ensures model is) printed))
+    (subst (λ (left : List Token). PrintsDescribing c.args.source.now.options model c.args.class c.loop-row.out later left) (sym (each_more rows row past lt))
+    (c.descriptions_follow.ensures.more c.args.source.now.options model c.args.class _ _ _ (rows row) (each_from rows (row + 1) past) (c.print_if_describing.ensures model is) printed))
 
 pub returns : goal.returns
 returns g c = λ model is.
@@ -27,5 +27,5 @@ returns g c = λ model is.
     let below = c.loop-row-test.false in
     let le : past ≤ row = omega arith in
     c.loop-row.invariant model c.loop-row.out is
-    (subst (λ (left : List Token). PrintsDescribing model c.args.class c.loop-row.out c.loop-row.out left) (sym (each_none rows row past le))
-    (c.descriptions_follow.ensures.nothing model c.args.class c.loop-row.out))
+    (subst (λ (left : List Token). PrintsDescribing c.args.source.now.options model c.args.class c.loop-row.out c.loop-row.out left) (sym (each_none rows row past le))
+    (c.descriptions_follow.ensures.nothing c.args.source.now.options model c.args.class c.loop-row.out))

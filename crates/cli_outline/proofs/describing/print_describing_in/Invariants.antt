@@ -8,6 +8,6 @@ use Rattle.cli_outline.proofs.describing.print_describing_in.Given as goal
 
 -- the rows that are left complete those of the table
 abbrev pub invariant-loop-row : goal.invariant-loop-row
-invariant-loop-row g l = (model : Metadata) (later : Printed _) → IsModel l.source.view.now model
-    → PrintsDescribing model l.class l.out later (each_from (row_of l.table) l.row (count_in model l.table + 1))
-    → PrintsDescribing model l.class l.initial.out later (all_rows model l.table)
+invariant-loop-row g l = (model : Metadata) (later : Printed _) → IsModel l.source.neighbours.view.now model
+    → PrintsDescribing l.source.options model l.class l.out later (each_from (row_of l.table) l.row (count_in model l.table + 1))
+    → PrintsDescribing l.source.options model l.class l.initial.out later (all_rows model l.table)

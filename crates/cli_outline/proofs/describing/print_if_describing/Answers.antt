@@ -13,4 +13,4 @@ pub returns-else-eq : goal.returns-else-eq
 returns-else-eq g c = λ model is.
     let of = c.declaring_type.result in
     let decides = Decides-at _ _ c.eq.ensures (some_decides of c.args.class) in
-    ([], (of, c.declaring_type.ensures model is, [], refl, inr ((λ same. let yes = decides.1 same in let no = c.if-eq.false in absurd cc), refl)), c.rows_follow.ensures.nothing model _)
+    ([], (of, c.declaring_type.ensures model is, [], refl, inr ((λ same. let yes = decides.1 same in let no = c.if-eq.false in absurd cc), refl)), c.rows_follow.ensures.nothing c.args.source.now.options model _)

@@ -3,11 +3,11 @@ use Rattle.cli_outline.proofs.DescribingLemmas.{describing_append}
 use Rattle.cli_outline.proofs.laws.descriptions_follow.Goals as goal
 
 pub returns-clause-nothing : goal.returns-clause-nothing
-returns-clause-nothing g c = λ model class printer. ([], refl, c.rows_follow.ensures.nothing model printer)
+returns-clause-nothing g c = λ options model class printer. ([], refl, c.rows_follow.ensures.nothing options model printer)
 
 pub returns-clause-more : goal.returns-clause-more
-returns-clause-more g c = λ model class old between new first second prefix back. (
+returns-clause-more g c = λ options model class old between new first second prefix back. (
   prefix.0 ++ back.0,
   describing_append model class first second prefix.0 back.0 prefix.1 back.1,
-  c.rows_follow.ensures.more model old between new prefix.0 back.0 prefix.2 back.2,
+  c.rows_follow.ensures.more options model old between new prefix.0 back.0 prefix.2 back.2,
 )

@@ -20,7 +20,7 @@ returns g c = λ read.
     let bytes = unescaped (unindented whole) in
     let named : c.args.out.now.style.form ≡ JsonLines → c.text_or.result.now ≡ as_is (unindented whole) =
     λ json. c.text_or.ensures ∙ ap (λ (b : List ℕ). if is_utf8 b then b else start) (read json) ∙ ap (λ (b : List ℕ). if is_utf8 bytes then bytes else b) cut in
-    line_printed c.args.out.now c.line.new.self of c.args.class c.args.has_directive whole c.text_or.result.now named
+    line_printed c.args.out.now c.line.new.self c.args.tokens of c.args.class c.args.has_directive whole c.text_or.result.now named
     (subst (λ (line : List Part). Prints c.args.out.now c.line.new.self (line ∷ []))
-    (λ i. member name.Token (token of) ∷ c.type_part.ensures i ∷ directive i ∷ note (plain whole) ∷ member name.Text (plain c.text_or.result.now) ∷ word (codes "  // ") ∷ note (token of) ∷ [])
+    (λ i. member name.Token (token of) ∷ c.type_part.ensures i ∷ directive i ∷ note (plain whole) ∷ member name.Text (plain c.text_or.result.now) ∷ c.comment_mark.ensures i ∷ c.comment_token.ensures i ∷ [])
     c.line.ensures)

@@ -16,11 +16,11 @@ returns-in-Ok-read_names g c = λ model is.
     λ json. c.deref-in-Ok-read_names-2.ensures.value ∙ c.in-Ok-read_names.ensures (c.form.ensures ∙ json)
     ∙ ap (λ (b : List ℕ). b ++ unescaped (unindented c.deref.result.now)) c.new-named.ensures.items ∙ ap (λ (b : List ℕ). unescaped (unindented b)) (c.deref.ensures ∙ sym c.deref-in-Ok-read_names.ensures) in
     let printed = subst (λ (parts : List Part). Prints c.args.out.now c.print_declaration.new.out (parts ∷ []))
-    (λ i. declaration_line of c.args.class (c.has_directive-has_directive.ensures model is i) (c.deref-in-Ok-read_names.ensures i)) (c.print_declaration.ensures read) in
-    row_printed model c.args.out.now c.print_declaration.new.out of _ (text, c.in-Ok.ensures model is, c.args.class, c.requires.member model is, refl) printed
+    (λ i. declaration_line c.args.source.now.options.tokens of c.args.class (c.has_directive-has_directive.ensures model is i) (c.deref-in-Ok-read_names.ensures i)) (c.print_declaration.ensures read) in
+    row_printed c.args.source.now.options model c.args.out.now c.print_declaration.new.out of _ (text, c.in-Ok.ensures model is, c.args.class, c.requires.member model is, refl) printed
 
 pub returns-in-Ok : goal.returns-in-Ok
-returns-in-Ok g c = λ model is. rows_failed model c.args.out.now c.fail.new.self (c.args.token ∷ []) (c.fail.ensures.lines []) c.fail.ensures.stopped
+returns-in-Ok g c = λ model is. rows_failed c.args.source.now.options model c.args.out.now c.fail.new.self (c.args.token ∷ []) (c.fail.ensures.lines []) c.fail.ensures.stopped
 
 pub returns : goal.returns
-returns g c = λ model is. rows_failed model c.args.out.now c.fail-in-Err.new.self (c.args.token ∷ []) (c.fail-in-Err.ensures.lines []) c.fail-in-Err.ensures.stopped
+returns g c = λ model is. rows_failed c.args.source.now.options model c.args.out.now c.fail-in-Err.new.self (c.args.token ∷ []) (c.fail-in-Err.ensures.lines []) c.fail-in-Err.ensures.stopped

@@ -24,7 +24,7 @@ loop-accessor-preserved g c = λ model later is printed.
     let index = c.loop-accessor.accessor-index in
     c.loop-accessor.invariant model later is
     (rows_are (found_left rows accessors index (record { key = 0; row = 0 }) c.loop-accessor-test.true)
-    (c.rows_follow.ensures.more model _ _ _ _ (flat_map rows (map row_in (drop (index + 1) accessors))) (c.print_row-in-loop-accessor.ensures model is) printed))
+    (c.rows_follow.ensures.more c.args.source.now.options model _ _ _ _ (flat_map rows (map row_in (drop (index + 1) accessors))) (c.print_row-in-loop-accessor.ensures model is) printed))
 
 pub returns : goal.returns
 unfolding accessed_rows
@@ -33,6 +33,6 @@ returns g c = λ model is.
     let accessors = c.linked-accessors.result.now in
     let own = rows_are (ap (λ t. row_of t c.args.row) (c.member-table.ensures ∙ ap (λ l. member_of l) c.list.ensures)) (c.print_row.ensures model is) in
     let linked = c.linked-accessors.ensures.rows model is (token_at (table_of c.args.of) c.args.row) c.accessed.ensures in
-    let left = rows_are (none_left rows accessors c.loop-accessor.accessor-index c.loop-accessor-test.false) (c.rows_follow.ensures.nothing model c.loop-accessor.out) in
+    let left = rows_are (none_left rows accessors c.loop-accessor.accessor-index c.loop-accessor-test.false) (c.rows_follow.ensures.nothing c.args.source.now.options model c.loop-accessor.out) in
     let all = c.loop-accessor.invariant model c.loop-accessor.out is left in
-    c.rows_follow.ensures.more model _ _ _ _ _ own (rows_are (ap (λ found. flat_map rows found) linked) all)
+    c.rows_follow.ensures.more c.args.source.now.options model _ _ _ _ _ own (rows_are (ap (λ found. flat_map rows found) linked) all)

@@ -31,7 +31,7 @@ print_map-requires g c =
     let first = found.0 in
     let last = found.1 in
     let table = ap (λ l. linked_table l) c.link.ensures ∙ owners c.args.of in
-    let rows = ap (λ t. row_count c.args.source.now.view.now t) table ∙ ap (λ root. row_count root (owner_of (list_of c.args.of))) (sym c.loop-map.invariant.same) in
+    let rows = ap (λ t. row_count c.args.source.now.neighbours.view.now t) table ∙ ap (λ root. row_count root (owner_of (list_of c.args.of))) (sym c.loop-map.invariant.same) in
     record {
       first = first;
       last = omega (arith, last, rows);
@@ -47,7 +47,7 @@ loop-map-preserved g c = record {
       let index = c.loop-map.map-index in
       c.loop-map.invariant.lines model later is
       (rows_are (found_left rows maps index (record { key = 0; row = 0 }) c.loop-map-test.true)
-      (c.rows_follow.ensures.more model _ _ _ _ (flat_map rows (map row_of (drop (index + 1) maps))) (c.print_map.ensures.lines model is) printed));
+      (c.rows_follow.ensures.more c.args.source.now.options model _ _ _ _ (flat_map rows (map row_of (drop (index + 1) maps))) (c.print_map.ensures.lines model is) printed));
 }
 
 pub returns-clause-lines : goal.returns-clause-lines
@@ -57,4 +57,4 @@ returns-clause-lines g c = λ model is.
     let maps = c.linked-maps.result.now in
     let linked_rows = c.linked-maps.ensures.rows model is (token_at TypeDef c.args.class) (number_of_class c.args.of c.link.ensures c.args.class) in
     rows_are (ap (λ xs. flat_map rows xs) (linked_rows ∙ ap (λ l. linked model l (token_at TypeDef c.args.class)) c.link.ensures))
-    (c.loop-map.invariant.lines model c.loop-map.out is (rows_are (none_left rows maps c.loop-map.map-index c.loop-map-test.false) (c.rows_follow.ensures.nothing model c.loop-map.out)))
+    (c.loop-map.invariant.lines model c.loop-map.out is (rows_are (none_left rows maps c.loop-map.map-index c.loop-map-test.false) (c.rows_follow.ensures.nothing c.args.source.now.options model c.loop-map.out)))

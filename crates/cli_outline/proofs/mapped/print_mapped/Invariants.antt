@@ -11,8 +11,8 @@ use Rattle.cli_outline.proofs.mapped.print_mapped.Given as goal
 -- the rows of the map that are left complete them
 abbrev pub invariant-loop-map : goal.invariant-loop-map
 invariant-loop-map g l = record {
-  same : l.cells ≡ l.source.view.now;
-  lines : (model : Metadata) (later : Printed _) → IsModel l.source.view.now model
-      → PrintsRows model l.out later (flat_map (mapped_rows model l.of) (map row_of (drop l.map-index l.maps)))
-      → PrintsRows model l.initial.out later (flat_map (mapped_rows model l.of) (map row_of l.maps));
+  same : l.cells ≡ l.source.neighbours.view.now;
+  lines : (model : Metadata) (later : Printed _) → IsModel l.source.neighbours.view.now model
+      → PrintsRows l.source.options model l.out later (flat_map (mapped_rows model l.of) (map row_of (drop l.map-index l.maps)))
+      → PrintsRows l.source.options model l.initial.out later (flat_map (mapped_rows model l.of) (map row_of l.maps));
 }

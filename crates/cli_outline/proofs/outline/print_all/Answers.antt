@@ -7,7 +7,7 @@ use Rattle.cli_outline.proofs.outline.print_all.Goals as goal
 pub returns : goal.returns
 unfolding outline_rows
 returns g c = λ model is.
-    let more = c.rows_follow.ensures.more model in
+    let more = c.rows_follow.ensures.more c.args.source.now.options model in
     let first = rows_are (ap (λ tables. flat_map (all_rows model) tables) c.first_tables.ensures) (c.print_tables.ensures model is) in
     let last = rows_are (ap (λ tables. flat_map (all_rows model) tables) c.last_tables.ensures) (c.print_tables-2.ensures model is) in
     more _ _ _ _ _ first (more _ _ _ _ _ (c.print_classes.ensures model is) last)

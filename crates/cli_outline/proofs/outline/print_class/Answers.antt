@@ -17,7 +17,7 @@ print_members-requires-2-clause-last g c = subst (λ (root : List ℕ). c.args.r
 pub returns-clause-lines : goal.returns-clause-lines
 unfolding class_rows
 returns-clause-lines g c = λ model is.
-    let more = c.rows_follow.ensures.more model in
+    let more = c.rows_follow.ensures.more c.args.source.now.options model in
     more _ _ _ _ _ (c.print_row.ensures model is)
     (more _ _ _ _ _ (c.print_members.ensures.lines model is)
     (more _ _ _ _ _ (c.print_members-2.ensures.lines model is)

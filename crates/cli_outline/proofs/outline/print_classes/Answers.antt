@@ -19,11 +19,11 @@ loop-row-preserved g c = record {
       let counted = c.count-count.ensures.model model is in
       let within : c.loop-row.row < count_in model TypeDef + 1 = omega (arith, counted, c.loop-row-test.true) in
       c.loop-row.invariant.lines model later is
-      (c.ranges_follow.ensures.more model (class_rows model) _ _ _ c.loop-row.row (count_in model TypeDef + 1) within (c.print_class.ensures.lines model is) printed);
+      (c.ranges_follow.ensures.more c.args.source.now.options model (class_rows model) _ _ _ c.loop-row.row (count_in model TypeDef + 1) within (c.print_class.ensures.lines model is) printed);
 }
 
 pub returns : goal.returns
 returns g c = λ model is.
     let counted = c.count-count.ensures.model model is in
     let past : count_in model TypeDef + 1 ≤ c.loop-row.row = omega (arith, counted, c.loop-row-test.false) in
-    c.loop-row.invariant.lines model c.loop-row.out is (c.ranges_follow.ensures.none model (class_rows model) c.loop-row.out c.loop-row.row (count_in model TypeDef + 1) past)
+    c.loop-row.invariant.lines model c.loop-row.out is (c.ranges_follow.ensures.none c.args.source.now.options model (class_rows model) c.loop-row.out c.loop-row.row (count_in model TypeDef + 1) past)

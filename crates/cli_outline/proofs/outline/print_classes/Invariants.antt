@@ -10,7 +10,7 @@ use Rattle.cli_outline.proofs.outline.print_classes.Given as goal
 -- the types that are left complete the types
 abbrev pub invariant-loop-row : goal.invariant-loop-row
 invariant-loop-row g l = record {
-  same : l.cells ≡ l.source.view.now;
-  lines : (model : Metadata) (later : Printed _) → IsModel l.source.view.now model → PrintsRows model l.out later (each_from (class_rows model) l.row (count_in model TypeDef + 1))
-      → PrintsRows model l.initial.out later (each_from (class_rows model) 1 (count_in model TypeDef + 1));
+  same : l.cells ≡ l.source.neighbours.view.now;
+  lines : (model : Metadata) (later : Printed _) → IsModel l.source.neighbours.view.now model → PrintsRows l.source.options model l.out later (each_from (class_rows model) l.row (count_in model TypeDef + 1))
+      → PrintsRows l.source.options model l.initial.out later (each_from (class_rows model) 1 (count_in model TypeDef + 1));
 }

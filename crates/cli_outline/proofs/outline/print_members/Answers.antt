@@ -18,7 +18,7 @@ run_of-rows-requires-clause-last g c = c.requires.last
 pub print_rows-requires-clause-last : goal.print_rows-requires-clause-last
 print_rows-requires-clause-last g c =
     let P : List ℕ → Type 0 = λ root. c.run_of-rows.result.«end» ≤ row_count root (member_of c.args.list) + 1 in
-    let Q : TableId → Type 0 = λ t. c.run_of-rows.result.«end» ≤ row_count c.args.source.now.view.now t + 1 in
+    let Q : TableId → Type 0 = λ t. c.run_of-rows.result.«end» ≤ row_count c.args.source.now.neighbours.view.now t + 1 in
     subst Q (sym c.member.ensures) (subst P c.requires.at c.run_of-rows.ensures.last)
 
 pub print_rows-requires-clause-members : goal.print_rows-requires-clause-members

@@ -2,12 +2,13 @@ use Rattle.std.proofs.Common.{List, [], ℕ, ap, sym, subst}
 use Rattle.std.specs.List.{flat_map}
 use Rattle.metadata.specs.Model.{IsModel}
 use Rattle.cli_outline.specs.Outline.{all_rows, refs_rows}
-use Rattle.cli_outline.proofs.PrintedLemmas.{rows_are, rows_failed}
+use Rattle.cli_outline.proofs.PrintedLemmas.{options_are, rows_are, rows_failed}
 use Rattle.cli_outline.proofs.outline.print_refs.Goals as goal
 
 pub returns-in-Ok : goal.returns-in-Ok
 returns-in-Ok g c = λ model is.
-    rows_are (ap (λ tables. flat_map (all_rows model) tables) c.ref_tables.ensures) (c.print_tables.ensures model (subst (λ (root : List ℕ). IsModel root model) (sym c.in-Ok.ensures) is))
+    let printed = c.print_tables.ensures model (subst (λ (root : List ℕ). IsModel root model) (sym c.in-Ok.ensures.view) is) in
+    options_are c.in-Ok.ensures.options (rows_are (ap (λ tables. flat_map (all_rows model) tables) c.ref_tables.ensures) printed)
 
 pub returns-in-Err : goal.returns-in-Err
-returns-in-Err g c = λ model is. rows_failed model c.args.out.now c.fail.new.self (refs_rows model) (c.fail.ensures.lines []) c.fail.ensures.stopped
+returns-in-Err g c = λ model is. rows_failed c.args.options model c.args.out.now c.fail.new.self (refs_rows model) (c.fail.ensures.lines []) c.fail.ensures.stopped

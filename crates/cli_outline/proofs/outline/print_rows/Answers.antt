@@ -12,8 +12,8 @@ print_row-requires g c = record {
 pub loop-row-preserved : goal.loop-row-preserved
 loop-row-preserved g c = λ model later is printed.
     c.loop-row.invariant model later is
-    (c.ranges_follow.ensures.more model (row_of c.args.table) _ _ _ c.loop-row.row c.args.rows.«end» c.loop-row-test.true (c.print_row.ensures model is) printed)
+    (c.ranges_follow.ensures.more c.args.source.now.options model (row_of c.args.table) _ _ _ c.loop-row.row c.args.rows.«end» c.loop-row-test.true (c.print_row.ensures model is) printed)
 
 pub returns : goal.returns
 returns g c = λ model is.
-    c.loop-row.invariant model c.loop-row.out is (c.ranges_follow.ensures.none model (row_of c.args.table) c.loop-row.out c.loop-row.row c.args.rows.«end» c.loop-row-test.false)
+    c.loop-row.invariant model c.loop-row.out is (c.ranges_follow.ensures.none c.args.source.now.options model (row_of c.args.table) c.loop-row.out c.loop-row.row c.args.rows.«end» c.loop-row-test.false)

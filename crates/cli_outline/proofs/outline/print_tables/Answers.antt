@@ -12,9 +12,9 @@ loop-table-preserved g c = λ model later is printed.
     let index = c.loop-table.table-index in
     c.loop-table.invariant model later is
     (rows_are (sym (ap (λ left. flat_map (all_rows model) left) (items_left tables index Module c.loop-table-test.true)))
-    (c.rows_follow.ensures.more model _ _ _ _ (flat_map (all_rows model) (drop (index + 1) tables)) (c.print_table.ensures model is) printed))
+    (c.rows_follow.ensures.more c.args.source.now.options model _ _ _ _ (flat_map (all_rows model) (drop (index + 1) tables)) (c.print_table.ensures model is) printed))
 
 pub returns : goal.returns
 returns g c = λ model is.
     c.loop-table.invariant model c.loop-table.out is
-    (rows_are (sym (ap (λ left. flat_map (all_rows model) left) (drop_all c.loop-table.table-index c.args.tables.now c.loop-table-test.false))) (c.rows_follow.ensures.nothing model c.loop-table.out))
+    (rows_are (sym (ap (λ left. flat_map (all_rows model) left) (drop_all c.loop-table.table-index c.args.tables.now c.loop-table-test.false))) (c.rows_follow.ensures.nothing c.args.source.now.options model c.loop-table.out))

@@ -9,5 +9,5 @@ use Rattle.cli_outline.proofs.outline.print_tables.Given as goal
 
 -- the tables that are left complete the tables
 abbrev pub invariant-loop-table : goal.invariant-loop-table
-invariant-loop-table g l = (model : Metadata) (later : Printed _) → IsModel l.source.view.now model → PrintsRows model l.out later (flat_map (all_rows model) (drop l.table-index l.tables))
-    → PrintsRows model l.initial.out later (flat_map (all_rows model) l.tables)
+invariant-loop-table g l = (model : Metadata) (later : Printed _) → IsModel l.source.neighbours.view.now model → PrintsRows l.source.options model l.out later (flat_map (all_rows model) (drop l.table-index l.tables))
+    → PrintsRows l.source.options model l.initial.out later (flat_map (all_rows model) l.tables)

@@ -5,16 +5,17 @@ use Rattle.metadata.specs.Model.{IsModel}
 use Rattle.navigation.specs.Nesting.{type_token}
 use Rattle.cli_outline.specs.Describing.{AreDescribing}
 use Rattle.cli_outline.specs.Outline.{all_rows}
+use Rattle.cli_outline.proofs.PrintedLemmas.{options_are}
 use Rattle.cli_outline.proofs.outline.print_type.Goals as goal
 
 pub returns-in-Ok : goal.returns-in-Ok
 returns-in-Ok g c = λ model is.
-    let of = subst (λ (root : List ℕ). IsModel root model) (sym c.in-Ok.ensures) is in
+    let of = subst (λ (root : List ℕ). IsModel root model) (sym c.in-Ok.ensures.view) is in
     let found = c.print_describing.ensures model of in
     inl (
       found.0,
       subst (λ (tables : List TableId). AreDescribing model (type_token c.args.row) (flat_map (all_rows model) tables) found.0) c.last_tables.ensures found.1,
-      c.rows_follow.ensures.more model _ _ _ _ _ (c.print_class.ensures.lines model of) found.2,
+      options_are c.in-Ok.ensures.options (c.rows_follow.ensures.more _ model _ _ _ _ _ (c.print_class.ensures.lines model of) found.2),
     )
 
 pub returns-in-Err : goal.returns-in-Err
