@@ -2,7 +2,7 @@
 //!
 //! An attribute describes a type, a member of one, a parameter of a method, or what in turn describes one of these; an
 //! interface, a generic parameter, a constraint, an override, an import and a permission set do, too. [`declaring_type`] finds
-//! the type. Nothing here allocates.
+//! the type, and [`described_last`] the row that a row describes in the end. Nothing here allocates.
 //!
 //! ```text
 //! let attribute = Token { table: TableId::CustomAttribute, row: 1 };
@@ -13,4 +13,5 @@
 mod described;
 mod part;
 
-pub use part::declaring_type;
+pub use described::described_last;
+pub use part::{declaring_type, method_of};

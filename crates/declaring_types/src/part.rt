@@ -1,5 +1,5 @@
 //! The type that a row is part of.
-ghost use Rattle.std.specs.Prelude.{◌≡◌, ◌≤◌};
+ghost use Rattle.std.specs.Prelude.{◌≡◌, ◌≤◌, ℕ};
 ghost use Rattle.table_schema.specs.declared.table.TableId.TheVariants.{MethodDef, Param};
 ghost use Rattle.metadata.specs.Metadata.{Metadata};
 ghost use Rattle.metadata.specs.Model.{IsModel};
@@ -8,17 +8,18 @@ ghost use Rattle.navigation.specs.Owners.{Owns};
 ghost use Rattle.opening.specs.Views.{row_count};
 ghost use Rattle.declaring_types.specs.Declaring.{IsDeclaring, IsPartOf};
 
-use crate::described::described;
+use crate::described::described_last;
 use full_names::type_of_member;
 use metadata_source::ReadMetadata;
 use navigation::{Neighbours, method_of_param};
 use opening::{TableId, Token};
 
-/// The method of a parameter.
-fn method_of(source: &Neighbours<'_, '_>, row: u32) -> Token
+/// The method of a parameter (II.22.26), by binary search.
+pub fn method_of(source: &Neighbours<'_, '_>, row: u32) -> Token
     requires first { 1 ≤ row }
     requires last { row ≤ row_count source.now.view.now Param }
     ensures method { (model : Metadata) → IsModel source.now.view.now model → Owns model list_of.Params result.row row }
+    ensures one { (model : Metadata) → IsModel source.now.view.now model → (method : ℕ) → Owns model list_of.Params method row → method ≡ result.row }
     ensures table { result.table ≡ MethodDef }
     ensures first { 1 ≤ result.row }
     ensures last { result.row ≤ row_count source.now.view.now MethodDef }
@@ -52,8 +53,5 @@ pub fn declaring_type(source: &Neighbours<'_, '_>, of: Token) -> Option<Token>
     requires last { of.row ≤ row_count source.now.view.now of.table }
     ensures { (model : Metadata) → IsModel source.now.view.now model → IsDeclaring model of result }
 {
-    let view = source.view;
-    let subject = described(view, of);
-    let outer = described(view, subject);
-    part_of(source, described(view, outer))
+    part_of(source, described_last(source.view, of))
 }
