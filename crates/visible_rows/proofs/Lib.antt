@@ -1,0 +1,2 @@
+mod VisibleLemmas
+mod MarkLemmas
