@@ -1,5 +1,5 @@
 -- The lines of rows, one after another.
-use Rattle.std.proofs.Common.{◌≡◌, ◌∙◌, ℕ, suc, ◌+◌, ◌-◌, ◌<◌, ◌≤◌, List, [], ◌∷◌, ◌++◌, Option, None, Some, refl, ap, sym, subst, append_assoc, append-nil, add-one, drop, drop-cons, get_or, length, map, arith}
+use Rattle.std.proofs.Common.{◌≡◌, ◌∙◌, ℕ, suc, ◌+◌, ◌-◌, ◌<◌, ◌≤◌, List, [], ◌∷◌, ◌++◌, Option, None, Some, ⊎_elim, inl, inr, refl, ap, sym, subst, append_assoc, append-nil, add-one, drop, drop-cons, get_or, length, map, arith}
 use Rattle.std.specs.Prelude.{IsSome}
 use Rattle.std.proofs.lemmas.List.{drop_all}
 use Rattle.std.specs.List.{flat_map, range_with_len}
@@ -11,11 +11,15 @@ use Rattle.cli_lines.specs.Lines.{Part}
 use Rattle.cli_lines.specs.Printed.{Printed, Prints}
 use Rattle.cli_outline.specs.declared.source.OutlineOptions.{OutlineOptions}
 use Rattle.cli_outline.specs.Outline.{each_from}
-use Rattle.cli_outline.specs.Printed.{AreLines, IsLine, PrintsRows}
+use Rattle.cli_outline.specs.Printed.{AreLines, IsShown, PrintsLine, PrintsRows}
 
 lines_append : (options : OutlineOptions) (model : Metadata) (xs ys : List Token) (a b : List (List Part)) → AreLines options model xs a → AreLines options model ys b → AreLines options model (xs ++ ys) (a ++ b)
 lines_append options model [] ys a b are more = subst (λ (lines : List (List Part)). AreLines options model ys (lines ++ b)) (sym are) more
-lines_append options model (x ∷ xs) ys a b are more = (are.0, are.1, are.2 ++ b, lines_append options model xs ys are.2 b are.3 more, ap (λ lines. lines ++ b) are.4)
+lines_append options model (x ∷ xs) ys a b are more = (
+  are.0 ++ b,
+  lines_append options model xs ys are.0 b are.1 more,
+  ⊎_elim (λ it. inl (it.0, it.1, it.2, ap (λ lines. lines ++ b) it.3)) (λ it. inr (it.0, ap (λ lines. lines ++ b) it.1)) are.2,
+)
 
 none_not_some : (waiting : Option (List ℕ)) → waiting ≡ None → IsSome waiting → ⊥
 none_not_some None none some = cc
@@ -50,14 +54,14 @@ module _ {W : Type 0} (options : OutlineOptions) (model : Metadata) where
     all = λ some. refl;
   }
 
-  -- the line of a row, or none since printing failed
-  pub row_printed : (a b : Printed W) (row : Token) (line : List Part) → IsLine options model row line → Prints a b (line ∷ []) → PrintsRows options model a b (row ∷ [])
-  row_printed a b row line is printed = record {
+  -- a row that is not shown has no line
+  pub row_hidden : (a : Printed W) (row : Token) → (¬ IsShown options.visibility model row) → Prints a a [] → PrintsRows options model a a (row ∷ [])
+  row_hidden a row hidden printed = record {
     first = row ∷ [];
     later = [];
     whole = refl;
-    lines = line ∷ [];
-    are = (line, is, [], refl, refl);
+    lines = [];
+    are = ([], refl, inr (hidden, refl));
     printed = printed;
     all = λ some. refl;
   }
@@ -72,6 +76,19 @@ module _ {W : Type 0} (options : OutlineOptions) (model : Metadata) where
     printed = printed;
     all = λ some. absurd (none_not_some b.waiting failed some);
   }
+
+  -- one that is shown has one, unless printing failed
+  pub row_shown : (a b : Printed W) (row : Token) → IsShown options.visibility model row → PrintsLine options model a b row → PrintsRows options model a b (row ∷ [])
+  row_shown a b row shown (inl line) = record {
+    first = row ∷ [];
+    later = [];
+    whole = refl;
+    lines = line.0 ∷ [];
+    are = ([], refl, inl (shown, line.0, line.1, refl));
+    printed = line.2;
+    all = λ some. refl;
+  }
+  row_shown a b row shown (inr failed) = rows_failed a b (row ∷ []) failed.1 failed.0
 
   module _ (joined : (a b c : Printed W) (xs ys : List (List Part)) → Prints a b xs → Prints b c ys → Prints a c (xs ++ ys)) (a b c : Printed W) (xs ys : List Token)
       (prefix : PrintsRows options model a b xs) (back : PrintsRows options model b c ys) where

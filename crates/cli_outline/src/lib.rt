@@ -25,5 +25,5 @@ mod source;
 mod subject;
 
 pub use outline::{print_outline, print_outline_of, print_refs};
-pub use source::{OutlineOptions, Tokens};
+pub use source::{OutlineOptions, Tokens, Visibility};
 pub use subject::{Outcome, Subject};

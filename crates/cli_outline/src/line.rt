@@ -10,12 +10,13 @@ ghost use Rattle.cli_lines.specs.Shown.{shown};
 ghost use Rattle.full_names.specs.RowNames.{IsMemberOf};
 ghost use Rattle.cli_declarations.specs.AsIs.{unescaped};
 ghost use Rattle.cli_outline.specs.Declarations.{comment_mark, comment_token, declaration_line, directive_part, ends_word, has_directive, type_part, unindented};
-ghost use Rattle.cli_outline.specs.Printed.{PrintsRows};
+ghost use Rattle.cli_outline.specs.Printed.{PrintsLine, PrintsRows};
 
 use crate::source::{Source, Tokens};
 use cli_declarations::{Declared, declare, number, text_or, unescape};
 use cli_lines::Part::{Member, Note, Word};
 use cli_lines::Value::{self, Plain, Text};
+use cli_lines::laws::lines_follow;
 use cli_lines::{Form, Name, Part, Printer};
 use opening::{TableId, Token, View};
 use std::alloc::AllocError;
@@ -134,7 +135,7 @@ fn print_declaration<'t, W: Write>(
 }
 
 /// Prints the line of a row: of a member of a type, if that is given.
-pub(crate) fn print_line<W: Write>(
+fn print_line<W: Write>(
     source: &Source<'_, '_>,
     class: Option<Token>,
     token: Token,
@@ -144,7 +145,7 @@ pub(crate) fn print_line<W: Write>(
     requires first { 1 ≤ token.row }
     requires last { token.row ≤ row_count source.now.neighbours.view.now token.table }
     requires member { (model : Metadata) → IsModel source.now.neighbours.view.now model → IsMemberOf model token.table token.row class }
-    ensures { (model : Metadata) → IsModel source.now.neighbours.view.now model → PrintsRows source.now.options model out.old out.new (token ∷ []) }
+    ensures { (model : Metadata) → IsModel source.now.neighbours.view.now model → PrintsLine source.now.options model out.old out.new token }
 {
     match declare(&source.neighbours, token, declared) {
         Ok(()) => {
@@ -166,5 +167,24 @@ pub(crate) fn print_line<W: Write>(
             }
         }
         Err(_) => out.fail(),
+    }
+}
+
+/// Prints the line of a row if the row is shown: of a member of a type, if that is given.
+pub(crate) fn print_if_shown<W: Write>(
+    source: &Source<'_, '_>,
+    class: Option<Token>,
+    token: Token,
+    declared: &mut Declared,
+    out: &mut Printer<'_, W>,
+)
+    requires first { 1 ≤ token.row }
+    requires last { token.row ≤ row_count source.now.neighbours.view.now token.table }
+    requires member { (model : Metadata) → IsModel source.now.neighbours.view.now model → IsMemberOf model token.table token.row class }
+    ensures { (model : Metadata) → IsModel source.now.neighbours.view.now model → PrintsRows source.now.options model out.old out.new (token ∷ []) }
+{
+    lines_follow::<W>();
+    if source.shows(token) {
+        print_line(source, class, token, declared, out);
     }
 }

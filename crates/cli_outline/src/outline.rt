@@ -16,7 +16,7 @@ ghost use Rattle.cli_outline.specs.Subjects.{PrintsNone, PrintsSubject};
 
 use crate::describing::print_describing;
 use crate::laws::{ranges_follow, rows_follow};
-use crate::line::print_line;
+use crate::line::print_if_shown;
 use crate::mapped::{Mapped, print_mapped};
 use crate::source::{OutlineOptions, Source};
 use crate::subject::{Outcome, Subject, found_row};
@@ -28,7 +28,7 @@ use std::alloc::Global;
 use std::io::Write;
 use std::ops::Range;
 
-/// Prints the line of a row. The type of a member is given, or found by binary search.
+/// Prints the line of a row if the row is shown. The type of a member is given, or found by binary search.
 pub(crate) fn print_row<W: Write>(
     source: &Source<'_, '_>,
     owner: Option<Token>,
@@ -42,8 +42,8 @@ pub(crate) fn print_row<W: Write>(
     ensures { (model : Metadata) → IsModel source.now.neighbours.view.now model → PrintsRows source.now.options model out.old out.new (row_of token.table token.row) }
 {
     match owner {
-        Some(class) => print_line(source, Some(class), token, declared, out),
-        None => print_line(
+        Some(class) => print_if_shown(source, Some(class), token, declared, out),
+        None => print_if_shown(
             source,
             type_of_member(&source.neighbours, token),
             token,

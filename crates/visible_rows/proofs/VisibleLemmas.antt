@@ -23,10 +23,12 @@ row_in _ = 0
 pub tested : (model : Metadata) (table : TableId) (row cell n : ℕ) (test : ℕ → Bool) (result : Bool) → cell_in model table row cell ≡ Number n → result ≡ test n
     → Decides result (HasFlags model table row cell test)
 unfolding number_in
-tested model table row cell n test result is same =
-    (λ h. (n, is, sym same ∙ h), λ has.
-        let flags : n ≡ has.0 = ap number_in (sym is ∙ has.1) in
-        same ∙ ap test flags ∙ has.2)
+tested model table row cell n test result is same = (
+  λ h. (n, is, sym same ∙ h),
+  λ has.
+      let flags : n ≡ has.0 = ap number_in (sym is ∙ has.1) in
+      same ∙ ap test flags ∙ has.2,
+)
 
 pub both : {P Q : Type 0} (a b : Bool) → a ≡ true → Decides a P → Decides b Q → Decides b (P × Q)
 both a b yes p q = (λ h. (p.0 yes, q.0 h), λ pq. q.1 pq.1)
