@@ -1,5 +1,5 @@
 -- What each report handed to a printer.
-use Rattle.std.proofs.Common.{◌≡◌, ℕ, List, Option, None, Some, Result, Ok, Err, inl, inr}
+use Rattle.std.proofs.Common.{◌≡◌, ℕ, List, Option, None, Some, Result, Ok, Err, inl, inr, subst}
 use Rattle.std.specs.Prelude.{IfErr, IsSome, OnErr, OnOk}
 use Rattle.cli_header.specs.declared.header.CliHeader.{CliHeader}
 use Rattle.packed.specs.declared.fault.Fault.{Fault}
@@ -13,12 +13,13 @@ use Rattle.cli_info.specs.InfoLines.{AreFacts, info_lines}
 use Rattle.cli_input.specs.Checked.{IsWhole, rules_of}
 use Rattle.cli_input.specs.Heads.{AreHeads, HasHeads, rules_of_heads}
 use Rattle.cli_lines.specs.Printed.{Printed, Prints}
+use Rattle.cli_outline.specs.declared.source.OutlineOptions.{OutlineOptions}
 use Rattle.cli_outline.specs.Describing.{PrintsType}
 use Rattle.cli_outline.specs.Printed.{PrintsRows}
 use Rattle.cli_where.specs.Located.{AreListed}
 use Rattle.cli_print.specs.RootLines.{heads_lines}
 use Rattle.cli_runs.specs.Printing.{Hands, HasPrinted}
-use Rattle.cli_runs.specs.Reports.{AreDeclared, IsListed, IsTypeOut, OfModel, ended_at, ended_by}
+use Rattle.cli_runs.specs.Reports.{AreDeclared, IsListed, IsTypeOut, OfModel, everything, ended_at, ended_by}
 use Rattle.cli_input.specs.declared.opened.Input.TheVariants.{File}
 use Rattle.metadata.specs.Model.{IsModelOfFile}
 use Rattle.resources.specs.Resources.{Where}
@@ -61,8 +62,17 @@ module _ {W : Type 0} (request : Request) (name bytes : List ℕ) (old new : Pri
   listing_ended of (Ok done) first same printed = printed
   listing_ended of (Err found) first same printed = (first, same)
 
+-- the options of an outline are these
+pub rows_options : {W : Type 0} {from to : OutlineOptions} {model : Metadata} {old new : Printed W} {rows : List Token} → from ≡ to → PrintsRows from model old new rows
+    → PrintsRows to model old new rows
+rows_options {W} {from} {to} {model} {old} {new} {rows} same printed = subst (λ (options : OutlineOptions). PrintsRows options model old new rows) same printed
+
+pub type_options : {W : Type 0} {from to : OutlineOptions} {model : Metadata} {class : ℕ} {old new : Printed W} → from ≡ to → PrintsType from model class old new
+    → PrintsType to model class old new
+type_options {W} {from} {to} {model} {class} {old} {new} same printed = subst (λ (options : OutlineOptions). PrintsType options model class old new) same printed
+
 -- the rows of an outline were handed to a printer
-pub declared : {W : Type 0} (old new : Printed W) (model : Metadata) (rows : List Token) → PrintsRows model old new rows → AreDeclared (Hands old new) model rows
+pub declared : {W : Type 0} (old new : Printed W) (model : Metadata) (rows : List Token) → PrintsRows everything model old new rows → AreDeclared (Hands old new) model rows
 declared old new model rows out = (out.first, out.later, out.whole, out.lines, out.are, (out.printed, out.all))
 
 nothing_waits : (waiting : Option (List ℕ)) → waiting ≡ None → IsSome waiting → ⊥
@@ -70,7 +80,7 @@ nothing_waits None none some = cc
 nothing_waits (Some bytes) none some = cc
 
 -- those of a type were, or printing failed
-pub type_out : {W : Type 0} (old new : Printed W) (model : Metadata) (class : ℕ) → PrintsType model class old new → IsTypeOut (Hands old new) model class
+pub type_out : {W : Type 0} (old new : Printed W) (model : Metadata) (class : ℕ) → PrintsType everything model class old new → IsTypeOut (Hands old new) model class
 type_out old new model class (inl out) = inl (out.0, out.1, declared old new model _ out.2)
 type_out old new model class (inr out) = inr (out.1, (λ live. nothing_waits new.waiting out.0 live))
 

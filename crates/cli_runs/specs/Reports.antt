@@ -39,6 +39,9 @@ use Rattle.cli_outline.specs.Describing.{AreDescribingType}
 use Rattle.cli_outline.specs.Outline.{class_rows, outline_rows, refs_rows}
 use Rattle.cli_outline.specs.Printed.{AreLines}
 use Rattle.cli_outline.specs.Subjects.{IsSubject}
+use Rattle.cli_outline.specs.declared.source.OutlineOptions.{OutlineOptions}
+use Rattle.cli_outline.specs.declared.source.Tokens.TheVariants as tokens
+use Rattle.cli_outline.specs.declared.source.Visibility.TheVariants as visibility
 use Rattle.cli_print.specs.DigestLines.{digest_line}
 use Rattle.cli_print.specs.Explanations.{IsExplanation}
 use Rattle.cli_print.specs.RootLines.{heads_lines}
@@ -141,6 +144,10 @@ IsRefused request bytes (report.ShowUntilFault table names) stop = ⊥
 IsRefused request bytes of (Failed (Fault found)) = FirstBroken (rules_of request.input bytes) found
 IsRefused request bytes of stop = ⊥
 
+-- an outline shows everything
+abbrev pub everything : OutlineOptions
+everything = record { tokens = tokens.Shown; visibility = visibility.All }
+
 -- `Out All lines`: these lines went out, and they are all lines of the report if `All` holds
 module _ (Out : Type 0 → List (List Part) → Type 0) where
   -- these lines went out, and they are all
@@ -150,7 +157,7 @@ module _ (Out : Type 0 → List (List Part) → Type 0) where
   -- the declarations of the first of these rows went out, and they are all if no row follows
   abbrev pub AreDeclared : Metadata → List Token → Type 0
   AreDeclared model rows =
-      (first later : List Token) × (rows ≡ first ++ later) × (lines : List (List Part)) × AreLines model first lines × Out (later ≡ []) lines
+      (first later : List Token) × (rows ≡ first ++ later) × (lines : List (List Part)) × AreLines everything model first lines × Out (later ≡ []) lines
 
   -- the declarations of a type and its members went out, and those of the rows that describe them; or none, and more are missing
   abbrev pub IsTypeOut : Metadata → ℕ → Type 0

@@ -3,7 +3,7 @@ ghost use Rattle.std.specs.Prelude.{◌≡◌, All, IfErr, OnErr, OnOk, Option};
 ghost use Rattle.cli_header.specs.declared.header.CliHeader.{CliHeader as Header};
 ghost use Rattle.cli_input.specs.Checked.{IsModelOf, rules_of};
 ghost use Rattle.cli_runs.specs.Printing.{HasPrinted, Hands};
-ghost use Rattle.cli_runs.specs.Reports.{IsListed, OfModel, tables_of};
+ghost use Rattle.cli_runs.specs.Reports.{IsListed, OfModel, everything, tables_of};
 ghost use Rattle.cli_runs.specs.declared.report.Report.TheVariants as report;
 ghost use Rattle.metadata.specs.Metadata.{Metadata};
 ghost use Rattle.metadata.specs.Model.{IsModel};
@@ -16,7 +16,10 @@ use cli_faults::{Failure, Stop};
 use cli_info::print_info;
 use cli_input::{Input, open};
 use cli_lines::Printer;
-use cli_outline::{Outcome, Subject, print_outline, print_outline_of, print_refs};
+use cli_outline::{
+    Outcome, OutlineOptions, Subject, Tokens, Visibility, print_outline, print_outline_of,
+    print_refs,
+};
 use cli_print::{print_digest, print_root, print_types};
 use cli_resources::print_resources;
 use cli_roots::{canonical_root, is_spent};
@@ -86,6 +89,16 @@ fn print_listing<W: Write>(
     Ok(())
 }
 
+/// An outline shows everything.
+fn everything() -> OutlineOptions
+    ensures { result ≡ everything }
+{
+    OutlineOptions {
+        tokens: Tokens::Shown,
+        visibility: Visibility::All,
+    }
+}
+
 /// Prints the lines of a listing of a view.
 fn print_view<W: Write>(alloc: Global, listing: Listing, view: &View<'_>, out: &mut Printer<'_, W>)
     ensures { (model : Metadata) → IsModel view.now model → IsListed (Hands out.old out.new) listing model }
@@ -93,8 +106,8 @@ fn print_view<W: Write>(alloc: Global, listing: Listing, view: &View<'_>, out: &
     match listing {
         Listing::Show(table, names) => print_show(alloc, view, tables_of(&table), names, out),
         Listing::Types => print_types(view, out),
-        Listing::Outline => print_outline(alloc, view, out),
-        Listing::Refs => print_refs(alloc, view, out),
+        Listing::Outline => print_outline(alloc, view, everything(), out),
+        Listing::Refs => print_refs(alloc, view, everything(), out),
     }
 }
 
@@ -154,7 +167,7 @@ fn print_type<'a, W: Write>(
     ensures { HasPrinted request.now name.now bytes.now out.old out.new (report.OutlineOf subject.entry) result }
 {
     match open(bytes, request.input) {
-        Ok(view) => match print_outline_of(alloc, &view, subject, out) {
+        Ok(view) => match print_outline_of(alloc, &view, subject, everything(), out) {
             Outcome::Printed => Ended::Printed,
             Outcome::NoSuchType => Ended::Refused(Stop::NoSuchType),
             Outcome::OutOfMemory => Ended::Refused(Stop::Failed(Failure::OutOfMemory)),
