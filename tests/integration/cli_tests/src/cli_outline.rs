@@ -3,7 +3,7 @@
 use crate::runs::answer;
 use cli_input::{Input, open};
 use cli_lines::{Form, Printer};
-use cli_outline::{OutlineOptions, Tokens, print_outline, print_refs};
+use cli_outline::{OutlineOptions, Tokens, Visibility, print_outline, print_refs};
 use sample_roots::RootBuilder;
 use std::alloc::Global;
 use std::fs;
@@ -126,6 +126,7 @@ fn leaves_tokens_out_of_text(rt: HostRuntime) -> Result<(), Fail> {
     let root = root_of_properties(alloc, [[2, 0, 1, 0], [3, 0, 2, 0]], &[GETTER])?;
     let options = OutlineOptions {
         tokens: Tokens::Hidden,
+        visibility: Visibility::All,
     };
     let whole = outline_of(&rt, root.as_slice())?;
     let mut lines = String::new(alloc);
@@ -138,6 +139,29 @@ fn leaves_tokens_out_of_text(rt: HostRuntime) -> Result<(), Fail> {
     assert_eq!(rt; text.as_str(), lines.as_str());
     let json = outline_with(alloc, root.as_slice(), options, Form::JsonLines)?;
     assert_eq!(rt; json.as_str(), json_of(alloc, root.as_slice())?.as_str());
+    Ok(())
+}
+
+/// Two types are private. The event of the public one has no accessor, as has the property of a private one.
+#[test]
+fn prints_what_is_visible_outside_of_the_assembly(rt: HostRuntime) -> Result<(), Fail> {
+    let root = root_of_properties(rt.alloc(), [[2, 0, 1, 0], [3, 0, 2, 0]], &[GETTER])?;
+    let options = OutlineOptions {
+        tokens: Tokens::Hidden,
+        visibility: Visibility::Public,
+    };
+    let lines = "\
+.module extern k.dll
+.class public auto ansi beforefieldinit N.C
+  .method public hidebysig specialname instance int32 N.C::get_P() cil managed
+  .method public static pinvokeimpl void N.C::M() cil managed
+  .property specialname instance int32 N.C::P()
+    .get instance int32 N.C::get_P() of N.C::P
+.pinvokeimpl(\"k.dll\" as \"M\" platformapi) of N.C::M
+.custom void N.C::.ctor() = (0100) of N.C
+";
+    let text = outline_with(rt.alloc(), root.as_slice(), options, Form::Text)?;
+    assert_eq!(rt; text.as_str(), lines);
     Ok(())
 }
 
