@@ -1,5 +1,5 @@
 -- What decides whether types and members are visible.
-use Rattle.std.proofs.Common.{◌≡◌, ◌∙◌, ℕ, zero, suc, ◌<◌, ◌≤◌, Bool, true, false, List, Option, None, Some, ap, arith, subst, sym}
+use Rattle.std.proofs.Common.{◌≡◌, ◌∙◌, ℕ, zero, suc, ◌<◌, ◌≤◌, Bool, true, false, Option, None, Some, IfSome, IfNone, ap, arith, subst, sym}
 use Rattle.std.specs.Bool.{Decides}
 use Rattle.table_schema.specs.declared.table.TableId.{TableId}
 use Rattle.table_schema.specs.declared.table.TableId.TheVariants.{TypeDef, NestedClass}
@@ -74,3 +74,11 @@ pub of_owner : (model : Metadata) (list : MemberList) (row class : ℕ) → Owns
     → Decides result (IsVisibleType model class) → Decides result (IsOfVisibleType model list row)
 of_owner model list row class is one result decides =
     (λ h. (class, is, decides.0 h), λ found. decides.1 (subst (λ (c : ℕ). IsVisibleType model c) (one found.0 found.1) found.2))
+
+pub on_some : {X : Type 0} (P Q : X → Type 0) (o : Option X) → IfSome o P → ((x : X) → P x → Q x) → IfSome o Q
+on_some P Q None is f = tt
+on_some P Q (Some x) is f = f x is
+
+pub on_none : {X P Q : Type 0} (o : Option X) → IfNone o P → (P → Q) → IfNone o Q
+on_none None is f = f is
+on_none (Some x) is f = tt
