@@ -2,7 +2,7 @@
 //!
 //! [`declare`] makes a text the declaration of a row, and [`name_row`] its name. `specs/Layouts.antt` says what the
 //! declaration of a row is, as a list of parts, and `specs/Parts.antt` what the text of a part is. [`unescape`] reads back
-//! the escapes of names for JSON, which has its own. [`number`], [`text`] and [`bytes`] are the values of cells.
+//! the escapes of names for JSON, which has its own. [`number`], [`text`], [`bytes`] and [`guid`] are the values of cells.
 //!
 //! ```text
 //! .assembly Hello { .hash algorithm 0x00008004 .ver 1:0:0:0 }
@@ -22,6 +22,6 @@ mod pieces;
 mod signature_sink;
 
 pub use as_is::{text_or, unescape};
-pub use cell_values::{bytes, number, text};
+pub use cell_values::{bytes, guid, number, text};
 pub use declaration::{declare, name_row};
 pub use declared::Declared;

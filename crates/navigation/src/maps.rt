@@ -20,13 +20,12 @@ const PARENT: usize = 0;
 fn parent_in_event_map<S: ReadCells>(source: &S, row: u32) -> u32
     requires first { 1 ≤ row }
     requires last { row ≤ S.row_count source.now EventMap }
-    ensures { (model : Metadata) → S.shows source.now model → IsMapOf model EventMap result row }
+    ensures map { (model : Metadata) → S.shows source.now model → IsMapOf model EventMap result row }
+    ensures first { 1 ≤ result }
+    ensures last { result ≤ S.row_count source.now TypeDef }
 {
     source.holds_one();
-    match cells::reference(source, TableId::EventMap, row, PARENT) {
-        Some(class) => class.row,
-        None => unreachable!(),
-    }
+    cells::type_row(source, TableId::EventMap, row, PARENT)
 }
 
 /// The type that a row of PropertyMap is of (II.22.35).
@@ -34,13 +33,12 @@ fn parent_in_event_map<S: ReadCells>(source: &S, row: u32) -> u32
 fn parent_in_property_map<S: ReadCells>(source: &S, row: u32) -> u32
     requires first { 1 ≤ row }
     requires last { row ≤ S.row_count source.now PropertyMap }
-    ensures { (model : Metadata) → S.shows source.now model → IsMapOf model PropertyMap result row }
+    ensures map { (model : Metadata) → S.shows source.now model → IsMapOf model PropertyMap result row }
+    ensures first { 1 ≤ result }
+    ensures last { result ≤ S.row_count source.now TypeDef }
 {
     source.holds_one();
-    match cells::reference(source, TableId::PropertyMap, row, PARENT) {
-        Some(class) => class.row,
-        None => unreachable!(),
-    }
+    cells::type_row(source, TableId::PropertyMap, row, PARENT)
 }
 
 /// The first row of EventMap that is of a type; `None` if there is none.
@@ -117,6 +115,8 @@ pub fn type_of_event<S: ReadCells>(source: &S, row: u32) -> u32
     requires last { row ≤ S.row_count source.now Event }
     ensures sound { (model : Metadata) → S.shows source.now model → (map : ℕ) × Owns model list_of.Events map row × IsMapOf model EventMap result map }
     ensures one { (model : Metadata) → S.shows source.now model → (map : ℕ) → Owns model list_of.Events map row → IsMapOf model EventMap result map }
+    ensures first { 1 ≤ result }
+    ensures last { result ≤ S.row_count source.now TypeDef }
 {
     parent_in_event_map(source, event_map_of_event(source, row))
 }
@@ -129,6 +129,8 @@ pub fn type_of_property<S: ReadCells>(source: &S, row: u32) -> u32
     requires last { row ≤ S.row_count source.now Property }
     ensures sound { (model : Metadata) → S.shows source.now model → (map : ℕ) × Owns model list_of.Properties map row × IsMapOf model PropertyMap result map }
     ensures one { (model : Metadata) → S.shows source.now model → (map : ℕ) → Owns model list_of.Properties map row → IsMapOf model PropertyMap result map }
+    ensures first { 1 ≤ result }
+    ensures last { result ≤ S.row_count source.now TypeDef }
 {
     parent_in_property_map(source, property_map_of_property(source, row))
 }
