@@ -1,4 +1,3 @@
-use Rattle.std.proofs.lemmas.Grind.{common_steps}
 use Rattle.std.proofs.Common.{◌∙◌, ap, arith}
 use Rattle.sig_grammar.specs.Views.{core_of}
 use Rattle.sig_grammar.proofs.ViewLemmas.{view_vector, view_function, view_array, view_instance, view_pointer, view_void_pointer, view_typed_ref, view_plain, view_by_ref, views, view_method, view_some_ret, view_void_ret, view_slot, view_type}
@@ -156,27 +155,6 @@ same_slot-returns-then-same_modifiers t c = grind (arith, view_slot)
 pub same_slot-returns-else-same_modifiers : goal.same_slot-returns-else-same_modifiers
 same_slot-returns-else-same_modifiers t c = grind (arith, view_slot)
 
-pub same_slots-returns-then-slots-others : goal.same_slots-returns-then-slots-others
-same_slots-returns-then-slots-others t c = grind (arith, common_steps)
-
-pub same_slots-loop-index-init : goal.same_slots-loop-index-init
-same_slots-loop-index-init t c = grind (arith, common_steps)
-
-pub same_slots-offset_bounds-slots-index : goal.same_slots-offset_bounds-slots-index
-same_slots-offset_bounds-slots-index t c = grind (arith, common_steps)
-
-pub same_slots-offset_bounds-others-index : goal.same_slots-offset_bounds-others-index
-same_slots-offset_bounds-others-index t c = grind (arith, common_steps)
-
-pub same_slots-returns-then-not-same_slot : goal.same_slots-returns-then-not-same_slot
-same_slots-returns-then-not-same_slot t c = grind (arith, common_steps)
-
-pub same_slots-loop-index-preserved : goal.same_slots-loop-index-preserved
-same_slots-loop-index-preserved t c = grind (arith, common_steps)
-
-pub same_slots-returns : goal.same_slots-returns
-same_slots-returns t c = grind (arith, common_steps)
-
 pub same_type-same_modifiers-requires : goal.same_type-same_modifiers-requires
 same_type-same_modifiers-requires t c = grind (arith, view_type)
 
@@ -185,24 +163,3 @@ same_type-returns-then-same_modifiers t c = grind (arith, view_type)
 
 pub same_type-returns-else-same_modifiers : goal.same_type-returns-else-same_modifiers
 same_type-returns-else-same_modifiers t c = grind (arith, view_type)
-
-pub same_types-returns-then-types-others : goal.same_types-returns-then-types-others
-same_types-returns-then-types-others t c = grind (arith, common_steps)
-
-pub same_types-loop-index-init : goal.same_types-loop-index-init
-same_types-loop-index-init t c = grind (arith, common_steps)
-
-pub same_types-offset_bounds-types-index : goal.same_types-offset_bounds-types-index
-same_types-offset_bounds-types-index t c = grind (arith, common_steps)
-
-pub same_types-offset_bounds-others-index : goal.same_types-offset_bounds-others-index
-same_types-offset_bounds-others-index t c = grind (arith, common_steps)
-
-pub same_types-returns-then-not-same_type : goal.same_types-returns-then-not-same_type
-same_types-returns-then-not-same_type t c = grind (arith, common_steps)
-
-pub same_types-loop-index-preserved : goal.same_types-loop-index-preserved
-same_types-loop-index-preserved t c = grind (arith, common_steps)
-
-pub same_types-returns : goal.same_types-returns
-same_types-returns t c = grind (arith, common_steps)
