@@ -1,21 +1,17 @@
 -- The equality test of two cells is true if and only if they are equal, and what it says of values in place.
-use Rattle.std.proofs.Common.{◌≡◌, ◌↔◌, ℕ, Bool, false, IsTrue, List, Some, None, Result, refl, ap, ap₂, sym, subst, ◌∙◌}
+use Rattle.std.proofs.Common.{◌≡◌, ◌↔◌, ℕ, Bool, IsTrue, List, Some, None, Result, refl, ap, ap₂, sym, subst, ◌∙◌}
 use Rattle.std.specs.Prelude.{IfOk}
 use Rattle.std.specs.Borrow.{Bor}
 use Rattle.std.proofs.lemmas.Result.{IfOk-weaker}
 use Rattle.std.specs.Bool.{Decides}
-use Rattle.std.proofs.lemmas.Bool.Decides.{Decides-like, Decides-and, Decides-eqb}
+use Rattle.std.proofs.lemmas.Bool.Decides.{Decides-like, Decides-eqb}
 use Rattle.std.proofs.lemmas.Slice.Eq.{bytes_eq-Decides}
-use denote.Enum.Bare.{same_true, true_same}
-use Rattle.table_schema.specs.declared.table.TableId.{TableId}
-use Rattle.table_schema.specs.contracts.table.TableId as table
-use Rattle.table_schema.specs.contracts.table.TableIdPartialEq.TheImpl as tables
 use Rattle.table_schema.specs.declared.token.Token.{Token}
-use Rattle.table_schema.specs.contracts.token.TokenPartialEq.TheImpl as tokens
 use Rattle.sig_grammar.specs.Syntax.{Body}
 use Rattle.sig_grammar.specs.Encodes.{Encodes}
 use Rattle.table_schema.specs.declared.column.SigKind.{SigKind}
 use Rattle.sig_comparison.specs.Same.{is_same_body}
+use Rattle.sig_comparison.proofs.SameLemmas.{denied, token_decides}
 use Rattle.metadata.specs.Cell.{Cell, Number, Text, Bytes, Guid, Ref, Start, Sig}
 use Rattle.table_schema.specs.declared.column.ColumnKind.{ColumnKind}
 use Rattle.table_schema.specs.declared.column.ColumnKind.TheVariants as column_kind
@@ -25,20 +21,6 @@ use Rattle.reading.specs.declared.cell_ref.CellRef.TheVariants as seen
 use Rattle.reading.specs.contracts.cell_ref.CellRefPartialEq.TheImpl as values
 use Rattle.comparison.proofs.SignatureLemmas.{tests_same}
 use Rattle.comparison.specs.SameCells.{AreSignatures, is_same_cell}
-
-denied : {P : Type 0} → (P → ⊥) → Decides false P
-denied never = (λ h. absurd cc, λ p. absurd (never p))
-
-table_decides : (a b : TableId) → Decides (tables.eq-value.it a b) (a ≡ b)
-table_decides a b = (λ h. same_true table.the_type tt a b h, λ e. true_same table.the_type a b e)
-
-token_same : (a b : Token) → a.table ≡ b.table → a.row ≡ b.row → a ≡ b
-token_same a b h k = ap (λ (t : TableId). record { table = t; row = a.row }) h ∙ ap (λ (n : ℕ). record { table = b.table; row = n }) k
-
-token_decides : (a b : Token) → Decides (tokens.eq-value.it a b) (a ≡ b)
-token_decides a b =
-    Decides-like _ (λ p. token_same a b p.0 p.1) (λ e. (ap (λ (t : Token). t.table) e, ap (λ (t : Token). t.row) e))
-    (Decides-and _ _ (table_decides a.table b.table) (Decides-eqb a.row b.row))
 
 module _ (same : (a b : Body) → Decides (is_same_body a b) (a ≡ b)) where
   pub cell_decides : (a b : Cell) → Decides (is_same_cell a b) (a ≡ b)
@@ -62,55 +44,10 @@ sig_shown _ blob cell shows = absurd shows
 -- the test of two values, of which at most one is a signature, is that of their cells
 pub values_same : (kind : ColumnKind) (left right : CellRef) (first second : Cell) → ¬ AreSignatures left right → Shows kind left first → Shows kind right second
     → values.eq-value.it left right ≡ is_same_cell first second
-values_same kind (seen.Number a) (seen.Number b) first second apart is also = rw (is, also) refl
-values_same kind (seen.Number a) (seen.Text b) first second apart is also = rw (is, also) refl
-values_same kind (seen.Number a) (seen.Bytes b) first second apart is also = rw (is, also) refl
-values_same kind (seen.Number a) (seen.Guid b) first second apart is also = rw (is, also) refl
-values_same kind (seen.Number a) (seen.Ref b) first second apart is also = rw (is, also) refl
-values_same kind (seen.Number a) (seen.Start b) first second apart is also = rw (is, also) refl
-values_same kind (seen.Number a) (seen.Sig b) first second apart is also = let shown = sig_shown kind b.now second also in rw (is, shown.1) refl
-values_same kind (seen.Text a) (seen.Number b) first second apart is also = rw (is, also) refl
-values_same kind (seen.Text a) (seen.Text b) first second apart is also = rw (is, also) refl
-values_same kind (seen.Text a) (seen.Bytes b) first second apart is also = rw (is, also) refl
-values_same kind (seen.Text a) (seen.Guid b) first second apart is also = rw (is, also) refl
-values_same kind (seen.Text a) (seen.Ref b) first second apart is also = rw (is, also) refl
-values_same kind (seen.Text a) (seen.Start b) first second apart is also = rw (is, also) refl
-values_same kind (seen.Text a) (seen.Sig b) first second apart is also = let shown = sig_shown kind b.now second also in rw (is, shown.1) refl
-values_same kind (seen.Bytes a) (seen.Number b) first second apart is also = rw (is, also) refl
-values_same kind (seen.Bytes a) (seen.Text b) first second apart is also = rw (is, also) refl
-values_same kind (seen.Bytes a) (seen.Bytes b) first second apart is also = rw (is, also) refl
-values_same kind (seen.Bytes a) (seen.Guid b) first second apart is also = rw (is, also) refl
-values_same kind (seen.Bytes a) (seen.Ref b) first second apart is also = rw (is, also) refl
-values_same kind (seen.Bytes a) (seen.Start b) first second apart is also = rw (is, also) refl
-values_same kind (seen.Bytes a) (seen.Sig b) first second apart is also = let shown = sig_shown kind b.now second also in rw (is, shown.1) refl
-values_same kind (seen.Guid a) (seen.Number b) first second apart is also = rw (is, also) refl
-values_same kind (seen.Guid a) (seen.Text b) first second apart is also = rw (is, also) refl
-values_same kind (seen.Guid a) (seen.Bytes b) first second apart is also = rw (is, also) refl
-values_same kind (seen.Guid a) (seen.Guid b) first second apart is also = rw (is, also) refl
-values_same kind (seen.Guid a) (seen.Ref b) first second apart is also = rw (is, also) refl
-values_same kind (seen.Guid a) (seen.Start b) first second apart is also = rw (is, also) refl
-values_same kind (seen.Guid a) (seen.Sig b) first second apart is also = let shown = sig_shown kind b.now second also in rw (is, shown.1) refl
-values_same kind (seen.Ref a) (seen.Number b) first second apart is also = rw (is, also) refl
-values_same kind (seen.Ref a) (seen.Text b) first second apart is also = rw (is, also) refl
-values_same kind (seen.Ref a) (seen.Bytes b) first second apart is also = rw (is, also) refl
-values_same kind (seen.Ref a) (seen.Guid b) first second apart is also = rw (is, also) refl
-values_same kind (seen.Ref a) (seen.Ref b) first second apart is also = rw (is, also) refl
-values_same kind (seen.Ref a) (seen.Start b) first second apart is also = rw (is, also) refl
-values_same kind (seen.Ref a) (seen.Sig b) first second apart is also = let shown = sig_shown kind b.now second also in rw (is, shown.1) refl
-values_same kind (seen.Start a) (seen.Number b) first second apart is also = rw (is, also) refl
-values_same kind (seen.Start a) (seen.Text b) first second apart is also = rw (is, also) refl
-values_same kind (seen.Start a) (seen.Bytes b) first second apart is also = rw (is, also) refl
-values_same kind (seen.Start a) (seen.Guid b) first second apart is also = rw (is, also) refl
-values_same kind (seen.Start a) (seen.Ref b) first second apart is also = rw (is, also) refl
-values_same kind (seen.Start a) (seen.Start b) first second apart is also = rw (is, also) refl
-values_same kind (seen.Start a) (seen.Sig b) first second apart is also = let shown = sig_shown kind b.now second also in rw (is, shown.1) refl
-values_same kind (seen.Sig a) (seen.Number b) first second apart is also = let shown = sig_shown kind a.now first is in rw (shown.1, also) refl
-values_same kind (seen.Sig a) (seen.Text b) first second apart is also = let shown = sig_shown kind a.now first is in rw (shown.1, also) refl
-values_same kind (seen.Sig a) (seen.Bytes b) first second apart is also = let shown = sig_shown kind a.now first is in rw (shown.1, also) refl
-values_same kind (seen.Sig a) (seen.Guid b) first second apart is also = let shown = sig_shown kind a.now first is in rw (shown.1, also) refl
-values_same kind (seen.Sig a) (seen.Ref b) first second apart is also = let shown = sig_shown kind a.now first is in rw (shown.1, also) refl
-values_same kind (seen.Sig a) (seen.Start b) first second apart is also = let shown = sig_shown kind a.now first is in rw (shown.1, also) refl
 values_same kind (seen.Sig a) (seen.Sig b) first second apart is also = absurd (apart tt)
+values_same kind (seen.Sig a) _ first second apart is also = let shown = sig_shown kind a.now first is in rw (shown.1, also) refl
+values_same kind _ (seen.Sig b) first second apart is also = let shown = sig_shown kind b.now second also in rw (is, shown.1) refl
+values_same kind _ _ first second apart is also = rw (is, also) refl
 
 -- the test of two signatures is that of their cells
 pub signatures_tested : {E : Type 0} → ((a b : Body) → Decides (is_same_body a b) (a ≡ b)) → (kind : ColumnKind) (column : SigKind) (left right : CellRef) (blob other : Bor (List ℕ))

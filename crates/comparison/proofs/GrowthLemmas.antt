@@ -2,7 +2,7 @@
 use Rattle.std.proofs.Common.{◌≡◌, ◌∙◌, ◌<◌, ◌≤◌, ℕ, zero, suc, ◌+◌, List, [], ◌∷◌, ◌++◌, length, take, get_or, refl, ap, sym, append_assoc, append-nil, arith}
 use Rattle.std.specs.List.{flat_map, range_with_len}
 use Rattle.std.proofs.lemmas.Grind.{flat_map-append}
-use Rattle.std.proofs.lemmas.List.{take_all, take-append-le, length-take}
+use Rattle.std.proofs.lemmas.List.{take_all, take-append-le}
 use Rattle.std.proofs.Math.Seq.{take-suc}
 
 module _ {X : Type 0} where
@@ -10,10 +10,6 @@ module _ {X : Type 0} where
   take_again zero xs ys = refl
   take_again (suc n) [] ys = refl
   take_again (suc n) (x ∷ xs) ys = ap (λ zs. x ∷ zs) (take_again n xs ys)
-
-  pub take_nothing : (n : ℕ) → take {A = X} n [] ≡ []
-  take_nothing zero = refl
-  take_nothing (suc n) = refl
 
   -- nothing more
   pub grows_nothing : (limit : ℕ) (xs : List X) → length xs ≤ limit → xs ≡ take limit (xs ++ [])
@@ -28,9 +24,6 @@ module _ {X : Type 0} where
       → after ≡ take limit (before ++ (more ++ later))
   grows_more limit before between after more later first second =
       second ∙ ap (λ xs. take limit (xs ++ later)) first ∙ take_again limit (before ++ more) later ∙ ap (λ xs. take limit xs) (append_assoc before more later)
-
-  pub few_grown : (limit : ℕ) (xs after : List X) → after ≡ take limit xs → length after ≤ limit
-  few_grown limit xs after is = let cut = length-take limit xs in let same = ap length is in omega (arith, cut, same)
 
 range_last : (a n : ℕ) → range_with_len a (suc n) ≡ range_with_len a n ++ (a + n) ∷ []
 range_last a zero = let same : a ≡ a + 0 = omega arith in ap (λ (k : ℕ). k ∷ []) same

@@ -14,9 +14,6 @@ module _ (one : (kind : SigKind) (first second : Body) (bytes : List ℕ) → En
       one kind first second (short first) (encodes kind first is.column (encodable kind first left is))
       (subst (λ (bytes : List ℕ). Encodes kind second bytes) (sym same) (encodes kind second also.column (encodable kind second right also)))
 
-  pub same_blob : (kind : SigKind) (first second : Body) (left right : List ℕ) → Encodes kind first left → Encodes kind second right → left ≡ right → first ≡ second
-  same_blob kind first second left right is also same = one kind first second right (subst (λ (bytes : List ℕ). Encodes kind first bytes) same is) also
-
 -- two tests of one fact are the same
 pub tests_same : {P : Type 0} (first second : Bool) → Decides first P → Decides second P → first ≡ second
 tests_same true true is also = refl

@@ -1,5 +1,5 @@
 -- Texts that are equal because the bytes up to a NUL are (ECMA-335 II.24.2.3).
-use Rattle.std.proofs.Common.{◌≡◌, ◌∙◌, ◌↔◌, ◌+◌, ◌-◌, ◌<◌, ◌≤◌, ℕ, zero, suc, List, [], ◌∷◌, Option, Some, None, IsTrue, length, take, drop, slice_index, cond, eqb, refl, sym, ap, ap₂, subst, arith, length-drop}
+use Rattle.std.proofs.Common.{◌≡◌, ◌∙◌, ◌↔◌, ◌+◌, ◌-◌, ◌<◌, ◌≤◌, ℕ, zero, suc, List, [], ◌∷◌, Option, Some, None, IsTrue, length, take, drop, slice_index, cond, eqb, sym, ap, ap₂, subst, arith, length-drop}
 use Rattle.std.proofs.lemmas.List.{drop-drop, drop-take, get_or-drop}
 use Rattle.std.specs.Prelude.{IfSome}
 use Rattle.table_schema.specs.declared.table.TableId.{TableId}
@@ -9,6 +9,7 @@ use Rattle.table_schema.specs.Columns.{column_at}
 use Rattle.table_schema.specs.CellColumns.{cell_count, column_of}
 use Rattle.heap_entries.specs.Entries.{IsText}
 use Rattle.heap_pools.specs.HeapTexts.{before_nul, heap_text}
+use Rattle.heap_pools.proofs.HeapTextLemmas.{heap_text_some}
 use Rattle.metadata.specs.Cell.{Cell, Text}
 use Rattle.metadata.specs.Metadata.{Metadata, cell_in}
 use Rattle.metadata.specs.Model.{IsModel}
@@ -23,11 +24,6 @@ use Rattle.comparison.specs.declared.compared_cells.Outcome.{Outcome}
 use Rattle.comparison.specs.ComparedCells.{IsNoted}
 use Rattle.comparison.specs.SameCells.{is_same_cell}
 use Rattle.comparison.specs.SameTexts.{AreSameTexts}
-
-text_some : (heap : List ℕ) (index : ℕ) → 0 < index → heap_text heap index ≡ before_nul (drop index heap)
-unfolding heap_text
-text_some heap zero h = absurd (omega (arith, h))
-text_some heap (suc before) h = refl
 
 -- bytes that are the same up to a NUL have the same bytes before their first NUL
 before_same : (xs ys : List ℕ) (n j : ℕ) → take n xs ≡ take n ys → j < n → j < length (take n xs) → slice_index (take n xs) j ≡ 0 → before_nul xs ≡ before_nul ys
@@ -52,10 +48,10 @@ texts_same left right bytes from to count low right_low long is also nul = λ k 
     λ heap index e. sym (drop-take k m (drop index heap)) ∙ ap (λ n. drop k (take n (drop index heap))) whole ∙ ap (drop k) (sym e) in
     let one = part left from is in
     let last : k + (m - 1) ≡ length bytes - 1 = omega (arith, h, long) in
-    text_some left (from + k) (omega (arith, low)) ∙ ap before_nul (sym (drop-drop k from left))
+    heap_text_some left (from + k) (omega (arith, low)) ∙ ap before_nul (sym (drop-drop k from left))
     ∙ before_same (drop k (drop from left)) (drop k (drop to right)) m (m - 1) (one ∙ sym (part right to also)) (omega (arith, h)) (omega (arith, h, long, length-drop k bytes, ap length one))
     (ap (λ l. slice_index l (m - 1)) one ∙ get_or-drop k bytes (m - 1) 0 ∙ ap (slice_index bytes) last ∙ nul)
-    ∙ ap before_nul (drop-drop k to right) ∙ sym (text_some right (to + k) (omega (arith, right_low)))
+    ∙ ap before_nul (drop-drop k to right) ∙ sym (heap_text_some right (to + k) (omega (arith, right_low)))
 
 module _ (tested : (first second : Cell) → IsTrue (is_same_cell first second) ↔ (first ≡ second))
     (read : (root : List ℕ) (model : Metadata) → IsModel root model → (of : TableId) (row index : ℕ) → 1 ≤ row → row ≤ rows_in (source_of root) of → index < cell_count of
