@@ -1,8 +1,7 @@
 -- Rows and tables that are filled one by one.
-use Rattle.std.proofs.Common.{◌≡◌, ℕ, zero, suc, ◌+◌, ◌<◌, List, [], ◌∷◌, ◌++◌, length, map, get_or, set, take, drop, refl, sym, ap, ◌∙◌, add-one, add-zero, arith}
-use Rattle.std.proofs.lemmas.List.{map-append, take_more, get_or-map, get_or-set_same, set-set}
+use Rattle.std.proofs.Common.{◌≡◌, ℕ, zero, suc, ◌+◌, ◌<◌, List, [], ◌∷◌, ◌++◌, length, get_or, set, take, drop, refl, sym, ap, ◌∙◌, add-one, arith}
+use Rattle.std.proofs.lemmas.List.{map-append, take_more, get_or-set_same, set-set}
 use Rattle.table_schema.specs.declared.table.TableId.{TableId}
-use Rattle.table_schema.specs.declared.table.TableId.TheVariants.{Module}
 use Rattle.table_schema.specs.Tables.{tables, table_index_of}
 use Rattle.metadata.specs.Cell.{Cell}
 use Rattle.metadata.specs.Metadata.{Metadata, rows_of}
@@ -65,26 +64,6 @@ all_padded [] (y ∷ empty) same j all = absurd (omega arith)
 all_padded (x ∷ full) [] same j all = absurd (omega arith)
 all_padded (x ∷ full) (y ∷ empty) same zero all = absurd (omega arith)
 all_padded (x ∷ full) (y ∷ empty) same (suc j) all = ap (λ l. x ∷ l) (all_padded full empty (omega arith) j (omega arith))
-
--- the table indexes, in order
-abbrev count_up : ℕ → ℕ → List ℕ
-count_up from zero = []
-count_up from (suc n) = from ∷ count_up (suc from) n
-
-count_up_at : (from n k : ℕ) → k < n → get_or (count_up from n) k 0 ≡ from + k
-count_up_at from zero k below = absurd (omega arith)
-count_up_at from (suc n) zero below = sym (add-zero from)
-count_up_at from (suc n) (suc k) below = count_up_at (suc from) n k (omega arith) ∙ omega arith
-
-table_indexes : map table_index_of tables ≡ count_up 0 38
-unfolding tables
-table_indexes = refl
-
--- a table is found by its table index
-pub table_index_at : length tables ≡ 38 → (k : ℕ) → k < 38 → table_index_of (get_or tables k Module) ≡ k
-table_index_at count k below =
-    sym (get_or-map table_index_of tables k Module 0 (omega (arith, count))) ∙ ap (λ (l : List ℕ). get_or l k 0) table_indexes ∙ count_up_at 0 38 k below
-    ∙ omega arith
 
 -- one more table, of those that are filled in order
 pub next_table : (model before : Metadata) (table : TableId) (j : ℕ) → length model.tables ≡ 38 → length before.tables ≡ 38 → j < 38 → table_index_of table ≡ j

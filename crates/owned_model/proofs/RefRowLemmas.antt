@@ -108,13 +108,8 @@ signature_held _ blob c shows = absurd shows
 
 -- a value that equals a cell of its column's kind is of the column's shape
 value_held : (k : ColumnKind) (v : CellRef) (c : Cell) → Shows k v c → IsOfKind k c → IsRefOfShape (Some v) (shape_of k)
-value_held k (seen.Number n) c shows is = plain_held k (seen.Number n) (subst (IsOfKind k) shows is)
-value_held k (seen.Text t) c shows is = plain_held k (seen.Text t) (subst (IsOfKind k) shows is)
-value_held k (seen.Bytes b) c shows is = plain_held k (seen.Bytes b) (subst (IsOfKind k) shows is)
-value_held k (seen.Guid g) c shows is = plain_held k (seen.Guid g) (subst (IsOfKind k) shows is)
-value_held k (seen.Ref r) c shows is = plain_held k (seen.Ref r) (subst (IsOfKind k) shows is)
-value_held k (seen.Start n) c shows is = plain_held k (seen.Start n) (subst (IsOfKind k) shows is)
 value_held k (seen.Sig blob) c shows is = signature_held k blob c shows
+value_held k v c shows is = plain_held k v (subst (IsOfKind k) shows is)
 
 signature_said : BlobsSay → (k : ColumnKind) (blob : _) (c : Cell) → Shows k (seen.Sig blob) c → IsSaid (Some (seen.Sig blob)) (Some (shape_of k)) c
 signature_said say (kind.Signature column) blob c shows = shows.2 ∙ ap Sig (sym (say column shows.0 blob.now shows.1))
@@ -122,13 +117,8 @@ signature_said say _ blob c shows = absurd shows
 
 -- it denotes the cell that it equals
 value_said : BlobsSay → (k : ColumnKind) (v : CellRef) (c : Cell) → Shows k v c → IsSaid (Some v) (Some (shape_of k)) c
-value_said say k (seen.Number n) c shows = shows
-value_said say k (seen.Text t) c shows = shows
-value_said say k (seen.Bytes b) c shows = shows
-value_said say k (seen.Guid g) c shows = shows
-value_said say k (seen.Ref r) c shows = shows
-value_said say k (seen.Start n) c shows = shows
 value_said say k (seen.Sig blob) c shows = signature_said say k blob c shows
+value_said say k _ c shows = shows
 
 shown_held : (value : Option CellRef) (table : TableId) (cell_index : ℕ) (k : ColumnKind) (c : Cell) → (column_at table (column_of table cell_index)).kind ≡ k
     → IsShown value table cell_index c → IsOfKind k c → IsRefOfShape value (shape_of k)

@@ -2,10 +2,11 @@ use Rattle.std.proofs.Common.{◌≡◌, ℕ, ◌<◌, List, [], ◌++◌, lengt
 use Rattle.table_schema.specs.declared.table.TableId.{TableId}
 use Rattle.table_schema.specs.declared.table.TableId.TheVariants.{Module}
 use Rattle.table_schema.specs.Tables.{table_index_of}
+use Rattle.table_schema.proofs.TableFacts.{table_index_at}
 use Rattle.metadata.specs.Cell.{Cell}
 use Rattle.metadata.specs.Metadata.{Metadata, rows_of}
 use Rattle.owned_model.specs.Padded.{with_rows}
-use Rattle.owned_model.proofs.PaddingLemmas.{next_left, padded_length, all_padded, table_index_at, next_table}
+use Rattle.owned_model.proofs.PaddingLemmas.{next_left, padded_length, all_padded, next_table}
 use Rattle.owned_model.proofs.table_rows.load_tables.Goals as goal
 
 pub loop-table-preserved : goal.loop-table-preserved
@@ -15,7 +16,7 @@ loop-table-preserved c = λ model is.
     let table = get_or c.all-table-items.result.now j Module in
     let below : j < 38 = omega (arith, c.all-table-items.ensures.count) in
     let at : table_index_of table ≡ j =
-    ap (λ (listed : List TableId). table_index_of (get_or listed j Module)) c.all-table-items.ensures.value ∙ table_index_at c.tables_stand.ensures.count j below in
+    ap (λ (listed : List TableId). table_index_of (get_or listed j Module)) c.all-table-items.ensures.value ∙ table_index_at j below in
     let zero_padded = c.models_are_read.ensures.tables c.args.view.now model is in
     let invariant = c.loop-table.invariant model is in
     let made : List (List (List Cell)) = take j model.tables ++ drop j old.tables in
