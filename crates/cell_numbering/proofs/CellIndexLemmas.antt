@@ -1,12 +1,10 @@
 -- The cells of a row that are left, by the columns that are left.
-use Rattle.std.proofs.Common.{◌≡◌, ℕ, ◌+◌, ◌<◌, ◌≤◌, inl, inr, true, false, cond, List, [], ◌∷◌, length, get_or, drop, map, refl, sym, ap, subst, ◌∙◌, length-drop, arith}
-use Rattle.std.specs.List.{range_with_len}
+use Rattle.std.proofs.Common.{◌≡◌, ℕ, ◌+◌, ◌<◌, ◌≤◌, inl, inr, false, cond, List, [], ◌∷◌, length, get_or, drop, refl, sym, ap, subst, ◌∙◌, length-drop, arith}
 use Rattle.std.proofs.lemmas.Bool.{cases_Bool}
-use Rattle.std.proofs.lemmas.List.{drop_more, drop_all, get_or-map}
-use Rattle.std.proofs.lemmas.List.FromFn.{get_or-range_with_len}
+use Rattle.std.proofs.lemmas.List.{drop_more, drop_all}
 use Rattle.table_schema.specs.declared.table.TableId.{TableId}
 use Rattle.table_schema.specs.declared.table.TableId.TheVariants.{Module}
-use Rattle.table_schema.specs.Tables.{tables, table_index_of}
+use Rattle.table_schema.specs.Tables.{tables}
 use Rattle.table_schema.specs.declared.column.Column.{Column}
 use Rattle.table_schema.specs.declared.column.ColumnKind.{ColumnKind}
 use Rattle.table_schema.specs.declared.column.ColumnKind.TheVariants as kind
@@ -28,11 +26,6 @@ module _ (table : TableId) (index cell_index : ℕ) (below : index < length (col
   left : drop cell_index (cell_columns table)
       ≡ cond (is_padding (column_at table index).kind) (indexes_from (index + 1) (drop (index + 1) (columns_of table))) (index ∷ indexes_from (index + 1) (drop (index + 1) (columns_of table)))
   left = at ∙ ap (indexes_from index) (drop_more (columns_of table) index (col kind.U8) below)
-
-  pub padding_cell_index : is_padding (column_at table index).kind ≡ true → IsCellIndexOf table (index + 1) cell_index
-  padding_cell_index is =
-      let tail = indexes_from (index + 1) (drop (index + 1) (columns_of table)) in
-      left ∙ ap (λ b. cond b tail (index ∷ tail)) is
 
   pub cell_index_is : is_padding (column_at table index).kind ≡ false → (cell_index < cell_count table) × (column_of table cell_index ≡ index) × IsCellIndexOf table (index + 1) (cell_index + 1)
   cell_index_is is =
@@ -56,17 +49,8 @@ module _ (table : TableId) (index cell_index : ℕ) (below : index < length (col
 
 -- a kind other than `Padding` is not padding
 pub unpadded : (k : ColumnKind) → (k ≡ kind.Padding → ⊥) → is_padding k ≡ false
-unpadded kind.U8 other = refl
-unpadded kind.U16 other = refl
-unpadded kind.U32 other = refl
 unpadded kind.Padding other = absurd (other refl)
-unpadded kind.Text other = refl
-unpadded kind.Guid other = refl
-unpadded kind.Blob other = refl
-unpadded (kind.Signature column) other = refl
-unpadded (kind.Row member) other = refl
-unpadded (kind.Coded coded) other = refl
-unpadded (kind.List member) other = refl
+unpadded _ other = refl
 
 few_indexes : (index : ℕ) (columns : List Column) → length (indexes_from index columns) ≤ length columns
 few_indexes index [] = omega arith
@@ -108,12 +92,3 @@ tables_left indexes model i so_far whole below e = sym (ap (λ list. with_tables
 pub tables_done : (indexes : Indexes) (model : Metadata) (i : ℕ) (so_far whole : SoFar) → length tables ≤ i
     → with_tables indexes model (drop i tables) so_far ≡ whole → so_far ≡ whole
 tables_done indexes model i so_far whole past e = sym (ap (λ list. with_tables indexes model list so_far) (drop_all i tables past)) ∙ e
-
-table_indexes : map table_index_of tables ≡ range_with_len 0 38
-unfolding tables
-table_indexes = refl
-
--- a table is found by its index
-pub table_index_at : length tables ≡ 38 → (k : ℕ) → k < 38 → table_index_of (get_or tables k Module) ≡ k
-table_index_at count k below =
-    sym (get_or-map table_index_of tables k Module 0 (omega (arith, count))) ∙ ap (λ (l : List ℕ). get_or l k 0) table_indexes ∙ get_or-range_with_len 0 38 k 0 below ∙ omega arith

@@ -25,7 +25,7 @@ use Rattle.root_writer.specs.Numbered.{flat}
 use Rattle.cell_numbering.specs.declared.numbers_so_far.Indexes.{Indexes}
 use Rattle.cell_numbering.specs.HeapUses.{AreIndexes, all_cells, guid_of}
 use Rattle.cell_numbering.specs.NumbersSoFar.{SoFar, none_numbered, with_number, with_cell, with_next_cell, with_row, with_rows, with_tables}
-use Rattle.cell_numbering.proofs.CellIndexLemmas.{table_index_at}
+use Rattle.table_schema.proofs.TableFacts.{table_index_at}
 
 -- ---- the next indexes of one heap
 
@@ -199,7 +199,7 @@ rows_are count model long =
     let same = length-map tables (rows_of model) in
     ext_get_or [] (map (rows_of model) tables) model.tables (omega (arith, same, count, long)) (λ k below.
     get_or-map (rows_of model) tables k Module [] (omega (arith, same, below))
-    ∙ ap (λ (i : ℕ). get_or model.tables i []) (table_index_at count k (omega (arith, same, count, below))))
+    ∙ ap (λ (i : ℕ). get_or model.tables i []) (table_index_at k (omega (arith, same, count, below))))
 
 cells_by_table : length tables ≡ 38 → (model : Metadata) → length model.tables ≡ 38 → cells_in model tables ≡ all_cells model
 cells_by_table count model long =
