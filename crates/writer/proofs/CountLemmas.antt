@@ -1,40 +1,24 @@
 -- The row counts by table number, and the bits of the tables that are in order, table by table.
-use Rattle.std.proofs.Common.{◌≡◌, ℕ, ◌+◌, ◌<◌, ◌≤◌, Bool, true, false, List, length, get_or, drop, map, refl, sym, ap, ◌∙◌, arith, below_more, get_or-set_other, get_or-set_same}
+use Rattle.std.proofs.Common.{◌≡◌, ℕ, ◌+◌, ◌<◌, ◌≤◌, Bool, true, false, List, length, get_or, drop, refl, sym, ap, ◌∙◌, arith, below_more, get_or-set_other, get_or-set_same}
 use Rattle.std.proofs.Math.ListN.{set}
 use Rattle.std.specs.Prelude.{◌↔◌, Option, Some, None}
 use Rattle.std.specs.Option.{is_some}
-use Rattle.std.specs.List.{range_with_len}
-use Rattle.std.proofs.lemmas.List.{drop_all, get_or-map}
-use Rattle.std.proofs.lemmas.List.FromFn.{get_or-range_with_len}
+use Rattle.std.proofs.lemmas.List.{drop_all}
 use Rattle.std.proofs.lemmas.List.Sums.{sum_by-drop_more}
 use Rattle.table_schema.specs.declared.table.TableId.{TableId}
 use Rattle.table_schema.specs.declared.table.TableId.TheVariants.{Module}
 use Rattle.table_schema.specs.Tables.{tables, table_number, table_index_of}
 use Rattle.table_schema.specs.Columns.{key_of}
+use Rattle.table_schema.proofs.TableFacts.{table_index_at}
 use Rattle.schema.specs.LaidOut.{bits_of}
 use Rattle.metadata.specs.Metadata.{Metadata}
 use Rattle.metadata.specs.Valid.{IsValid}
 use Rattle.metadata.specs.KeyOrder.{IsKeyOrdered}
 use Rattle.root_writer.specs.TableStream.{is_by_key, table_keys, is_sorted}
 use Rattle.root_writer.specs.TableHeader.{bit_if}
+use Rattle.writer.proofs.StandLemmas.{TheyStand}
 
 -- ---- counts
-
--- the tables are listed by their indexes, in ascending order of their numbers
-pub record TheyStand : Type 0 where
-  pub count : length tables ≡ 38
-  pub table_index : (table : TableId) → table_index_of table < 38
-  pub number : (table : TableId) → table_number table < 45
-  pub stand : (table : TableId) → get_or tables (table_index_of table) Module ≡ table
-  pub rise : (lower higher : TableId) → table_index_of lower < table_index_of higher → table_number lower < table_number higher
-
-table_indexes : map table_index_of tables ≡ range_with_len 0 38
-unfolding tables
-table_indexes = refl
-
-table_index_at : length tables ≡ 38 → (k : ℕ) → k < 38 → table_index_of (get_or tables k Module) ≡ k
-table_index_at count k below =
-    sym (get_or-map table_index_of tables k Module 0 (omega (arith, count))) ∙ ap (λ (l : List ℕ). get_or l k 0) table_indexes ∙ get_or-range_with_len 0 38 k 0 below ∙ omega arith
 
 -- an array by table number that is filled in table by table
 pub table_kept : TheyStand → (f : TableId → ℕ) (kept : List ℕ) (i number value : ℕ) → i < 38 → length kept ≡ 45 → number ≡ table_number (get_or tables i Module)
@@ -44,7 +28,7 @@ pub table_kept : TheyStand → (f : TableId → ℕ) (kept : List ℕ) (i number
 table_kept they f kept i number value below long is e before =
     below_more _ _
     (λ k less.
-    let rise = they.rise (get_or tables k Module) (get_or tables i Module) (omega (arith, table_index_at they.count k (omega arith), table_index_at they.count i below)) in
+    let rise = they.rise (get_or tables k Module) (get_or tables i Module) (omega (arith, table_index_at k (omega arith), table_index_at i below)) in
     get_or-set_other kept number (table_number (get_or tables k Module)) value 0 (omega (arith, rise, is)) ∙ before k less)
     (ap (λ (n : ℕ). get_or (set kept number value) n 0) (sym is) ∙ get_or-set_same kept number value 0 (omega (arith, long, is, they.number (get_or tables i Module))) ∙ e)
 

@@ -51,10 +51,7 @@ root_long put model size same =
 
 one_of_five : (size : Kind → ℕ) (kind : Kind) → size kind ≤ size Tables + (size Strings + (size UserStrings + (size Guids + size Blobs)))
 one_of_five size Tables = omega arith
-one_of_five size Strings = omega arith
-one_of_five size UserStrings = omega arith
-one_of_five size Guids = omega arith
-one_of_five size Blobs = omega arith
+one_of_five size _ = omega arith
 
 pub within : ArePut → (model : Metadata) (kind : Kind) → length (stream model kind) ≤ length (canonical model)
 within put model kind =

@@ -2,7 +2,8 @@ use Rattle.std.proofs.Common.{◌<◌, arith, ◌∙◌, ap, get_or, List, lengt
 use Rattle.table_schema.specs.declared.table.TableId.{TableId}
 use Rattle.table_schema.specs.declared.table.TableId.TheVariants.{Module}
 use Rattle.table_schema.specs.Tables.{table_number}
-use Rattle.writer.proofs.CountLemmas.{TheyStand, table_kept, tables_kept}
+use Rattle.writer.proofs.CountLemmas.{table_kept, tables_kept}
+use Rattle.writer.proofs.StandLemmas.{TheyStand}
 use Rattle.writer.proofs.tables_reported.counts.Goals as goal
 
 pub loop-table-preserved : goal.loop-table-preserved
