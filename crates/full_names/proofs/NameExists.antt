@@ -1,5 +1,5 @@
 -- Each token has a name.
-use Rattle.std.proofs.Common.{◌≡◌, ℕ, zero, suc, ◌-◌, ◌<◌, ◌≤◌, Bool, true, false, List, [], ◌∷◌, ◌++◌, ◌⊎◌, inl, inr, Some, None, refl, sym, ap, subst, ◌∙◌, arith}
+use Rattle.std.proofs.Common.{◌≡◌, ℕ, zero, suc, ◌-◌, ◌<◌, ◌≤◌, Bool, true, false, List, [], ◌∷◌, ◌++◌, ◌⊎◌, inl, inr, Some, refl, sym, ap, subst, ◌∙◌, arith}
 use Rattle.std.specs.Prelude.{codes}
 use Rattle.std.specs.Fmt.{decimal, signed_decimal}
 use Rattle.std.specs.Bool.{Decides}
@@ -15,7 +15,7 @@ use Rattle.table_schema.specs.declared.column.SigKind.TheVariants as column
 use Rattle.table_schema.specs.CellColumns.{cell_columns, cell_count}
 use Rattle.sig_grammar.specs.Syntax.{Body}
 use Rattle.sig_text.specs.SignatureText.{Piece, word, number, signed, name, method_name, param_flags, param_name, text_of}
-use Rattle.metadata.specs.Cell.{Cell, Number, Text, Bytes, Guid, Ref, Start, Sig}
+use Rattle.metadata.specs.Cell.{Cell, Text, Ref}
 use Rattle.metadata.specs.Kinds.{IsOfKind}
 use Rattle.metadata.specs.KeyOrder.{IsKeyOrdered, key_in}
 use Rattle.metadata.specs.Lookups.{HasRow, IsKeyCell}
@@ -85,13 +85,7 @@ refers_to token (Ref (Some other)) = elim (same_token other token) [
   | inl same ↦ inl (ap (λ (t : Token). Ref (Some t)) same)
   | inr not ↦ inr (λ e. not (ap (reference_in token) e))
 ]
-refers_to token (Ref None) = inr (λ e. absurd cc)
-refers_to token (Number value) = inr (λ e. absurd cc)
-refers_to token (Text text) = inr (λ e. absurd cc)
-refers_to token (Bytes bytes) = inr (λ e. absurd cc)
-refers_to token (Guid guid) = inr (λ e. absurd cc)
-refers_to token (Start start) = inr (λ e. absurd cc)
-refers_to token (Sig signature) = inr (λ e. absurd cc)
+refers_to token _ = inr (λ e. absurd cc)
 
 -- the row of a table that a cell refers to, or none
 refers_into : (table : TableId) (cell : Cell) → ((row : ℕ) × (cell ≡ Ref (Some (record { table = table; row = row })))) ⊎ ((row : ℕ) → ¬ (cell ≡ Ref (Some (record { table = table; row = row }))))
@@ -100,13 +94,7 @@ refers_into table (Ref (Some token)) = elim (same_table token.table table) [
   | inl same ↦ inl (token.row, ap (λ (t : TableId). Ref (Some (record { table = t; row = token.row }))) same)
   | inr not ↦ inr (λ row e. not (ap (λ (c : Cell). (reference_in token c).table) e))
 ]
-refers_into table (Ref None) = inr (λ row e. absurd cc)
-refers_into table (Number value) = inr (λ row e. absurd cc)
-refers_into table (Text text) = inr (λ row e. absurd cc)
-refers_into table (Bytes bytes) = inr (λ row e. absurd cc)
-refers_into table (Guid guid) = inr (λ row e. absurd cc)
-refers_into table (Start start) = inr (λ row e. absurd cc)
-refers_into table (Sig signature) = inr (λ row e. absurd cc)
+refers_into table _ = inr (λ row e. absurd cc)
 
 has_row : (model : Metadata) (table : TableId) (row : ℕ) → HasRow model table row ⊎ ¬ HasRow model table row
 has_row model table row = elim (cases_lt row 1) [
@@ -198,12 +186,7 @@ outside_def model class = elim (ordered model) [
 
 pub is_text : (cell : Cell) → IsOfKind kind.Text cell → (text : List ℕ) × (cell ≡ Text text)
 is_text (Text text) of = (text, refl)
-is_text (Ref reference) of = absurd of
-is_text (Number value) of = absurd of
-is_text (Bytes bytes) of = absurd of
-is_text (Guid guid) of = absurd of
-is_text (Start start) of = absurd of
-is_text (Sig signature) of = absurd of
+is_text _ of = absurd of
 
 pub own_def : (model : Metadata) → IsValid model → (row : ℕ) → HasRow model TypeDef row → HasText (IsOwnText model TypeDef row)
 unfolding cell_columns
