@@ -8,7 +8,7 @@ use Rattle.table_schema.specs.declared.column.ColumnKind.TheVariants as kind
 use Rattle.table_schema.specs.CellColumns.{cell_columns}
 use Rattle.table_schema.specs.declared.token.Token.{Token}
 use Rattle.sig_text.specs.SignatureText.{Piece, word, number, signed, name, method_name, param_flags, param_name}
-use Rattle.metadata.specs.Cell.{Cell, Number, Text, Bytes, Guid, Ref, Start, Sig}
+use Rattle.metadata.specs.Cell.{Cell, Number, Text}
 use Rattle.metadata.specs.Kinds.{IsOfKind}
 use Rattle.metadata.specs.Lookups.{HasRow}
 use Rattle.metadata.specs.Metadata.{Metadata, cell_in, count_in}
@@ -24,12 +24,7 @@ use Rattle.declarations.specs.declared.flag_words.FlagTable.TheVariants as flag_
 
 is_number : (cell : Cell) → IsOfKind kind.U16 cell → cell ≡ Number (position_of cell)
 is_number (Number value) of = refl
-is_number (Text text) of = absurd of
-is_number (Ref reference) of = absurd of
-is_number (Bytes bytes) of = absurd of
-is_number (Guid guid) of = absurd of
-is_number (Start start) of = absurd of
-is_number (Sig signature) of = absurd of
+is_number _ of = absurd of
 
 module _ (model : Metadata) (valid : IsValid model) (first past position : ℕ) where
   param_number : (row : ℕ) → HasRow model Param row → cell_in model Param row 1 ≡ Number (position_of (cell_in model Param row 1))

@@ -1,6 +1,5 @@
 -- The text of a reference, by the table of its row.
-use Rattle.std.proofs.Common.{◌≡◌, ℕ, List, inl, inr, subst, sym, ◌∙◌}
-use Rattle.table_schema.specs.declared.table.TableId.{TableId}
+use Rattle.std.proofs.Common.{◌≡◌, ℕ, List, inl, inr, sym, ◌∙◌}
 use Rattle.table_schema.specs.declared.table.TableId.TheVariants.{MethodDef, MemberRef}
 use Rattle.table_schema.specs.declared.token.Token.{Token}
 use Rattle.metadata.specs.Lookups.{HasRow}
@@ -9,13 +8,6 @@ use Rattle.full_names.specs.RowNames.{IsRowName}
 use Rattle.declarations.specs.Declarations.{IsReference, IsReferenceBy}
 
 module _ (model : Metadata) (token : Token) (text : List ℕ) where
-  pub missing_row : ¬ HasRow model token.table token.row → IsRowName model token text → IsReference model token text
-  missing_row missing name = record {
-    method = λ is there. absurd (missing (subst (λ (t : TableId). HasRow model t token.row) (sym is) there));
-    member = λ is there. absurd (missing (subst (λ (t : TableId). HasRow model t token.row) (sym is) there));
-    other = λ _. name;
-  }
-
   pub other_row : (token.table ≡ MethodDef → ⊥) → (token.table ≡ MemberRef → ⊥) → IsRowName model token text → IsReference model token text
   other_row no_method no_member name = record {
     method = λ is there. absurd (no_method is);

@@ -18,6 +18,10 @@ shown_word of = record { mask = of.mask; value = of.value; text = of.text.now }
 abbrev pub word : ℕ → ℕ → List ℕ → Word
 word mask value text = record { mask = mask; value = value; text = text }
 
+-- a word that stands for one bit
+abbrev pub bit : ℕ → List ℕ → Word
+bit mask text = word mask mask text
+
 -- a space and the word, or nothing
 abbrev pub word_text : ℕ → Word → List ℕ
 word_text flags of = if bit_and flags of.mask == of.value then codes " " ++ of.text else []
@@ -37,124 +41,70 @@ leading_words flags words = flat_map (leading_text flags) words
 abbrev pub words_of : FlagTable → List Word
 -- II.23.1.15: visibility, layout, semantics, implementation, string formatting, initialization, and the others
 words_of table.Type =
-    word 0x00000007 0x00000000 (codes "private") ∷
-    word 0x00000007 0x00000001 (codes "public") ∷
-    word 0x00000007 0x00000002 (codes "nested public") ∷
-    word 0x00000007 0x00000003 (codes "nested private") ∷
-    word 0x00000007 0x00000004 (codes "nested family") ∷
-    word 0x00000007 0x00000005 (codes "nested assembly") ∷
+    word 0x00000007 0x00000000 (codes "private") ∷ word 0x00000007 0x00000001 (codes "public") ∷
+    word 0x00000007 0x00000002 (codes "nested public") ∷ word 0x00000007 0x00000003 (codes "nested private") ∷
+    word 0x00000007 0x00000004 (codes "nested family") ∷ word 0x00000007 0x00000005 (codes "nested assembly") ∷
     word 0x00000007 0x00000006 (codes "nested famandassem") ∷
-    word 0x00000007 0x00000007 (codes "nested famorassem") ∷
-    word 0x00000018 0x00000000 (codes "auto") ∷
-    word 0x00000018 0x00000008 (codes "sequential") ∷
-    word 0x00000018 0x00000010 (codes "explicit") ∷
-    word 0x00000020 0x00000020 (codes "interface") ∷
-    word 0x00000080 0x00000080 (codes "abstract") ∷
-    word 0x00000100 0x00000100 (codes "sealed") ∷
-    word 0x00000400 0x00000400 (codes "specialname") ∷
-    word 0x00001000 0x00001000 (codes "import") ∷
-    word 0x00002000 0x00002000 (codes "serializable") ∷
-    word 0x00030000 0x00000000 (codes "ansi") ∷
-    word 0x00030000 0x00010000 (codes "unicode") ∷
-    word 0x00030000 0x00020000 (codes "autochar") ∷
-    word 0x00100000 0x00100000 (codes "beforefieldinit") ∷
-    word 0x00000800 0x00000800 (codes "rtspecialname") ∷
-    word 0x00200000 0x00200000 (codes "forwarder") ∷ []
+    word 0x00000007 0x00000007 (codes "nested famorassem") ∷ word 0x00000018 0x00000000 (codes "auto") ∷
+    word 0x00000018 0x00000008 (codes "sequential") ∷ word 0x00000018 0x00000010 (codes "explicit") ∷
+    bit 0x00000020 (codes "interface") ∷ bit 0x00000080 (codes "abstract") ∷ bit 0x00000100 (codes "sealed") ∷
+    bit 0x00000400 (codes "specialname") ∷ bit 0x00001000 (codes "import") ∷
+    bit 0x00002000 (codes "serializable") ∷ word 0x00030000 0x00000000 (codes "ansi") ∷
+    word 0x00030000 0x00010000 (codes "unicode") ∷ word 0x00030000 0x00020000 (codes "autochar") ∷
+    bit 0x00100000 (codes "beforefieldinit") ∷ bit 0x00000800 (codes "rtspecialname") ∷
+    bit 0x00200000 (codes "forwarder") ∷ []
 -- II.23.1.2
-words_of table.Assembly = word 0x0100 0x0100 (codes "retargetable") ∷ []
+words_of table.Assembly = bit 0x0100 (codes "retargetable") ∷ []
 words_of table.Key =
-    word 0x0001 0x0001 (codes ".publickey") ∷
-    word 0x0001 0x0000 (codes ".publickeytoken") ∷ []
+    bit 0x0001 (codes ".publickey") ∷ word 0x0001 0x0000 (codes ".publickeytoken") ∷ []
 -- II.23.1.6
-words_of table.File = word 0x0001 0x0001 (codes "nometadata") ∷ []
+words_of table.File = bit 0x0001 (codes "nometadata") ∷ []
 -- II.23.1.9
 words_of table.Resource =
-    word 0x0007 0x0001 (codes "public") ∷
-    word 0x0007 0x0002 (codes "private") ∷ []
+    word 0x0007 0x0001 (codes "public") ∷ word 0x0007 0x0002 (codes "private") ∷ []
 -- II.23.1.7
 words_of table.Generic =
-    word 0x0003 0x0001 (codes "+") ∷
-    word 0x0003 0x0002 (codes "-") ∷
-    word 0x0004 0x0004 (codes "class") ∷
-    word 0x0008 0x0008 (codes "valuetype") ∷
-    word 0x0010 0x0010 (codes ".ctor") ∷ []
+    word 0x0003 0x0001 (codes "+") ∷ word 0x0003 0x0002 (codes "-") ∷ bit 0x0004 (codes "class") ∷
+    bit 0x0008 (codes "valuetype") ∷ bit 0x0010 (codes ".ctor") ∷ []
 -- II.23.1.4 and II.23.1.14
 words_of table.Mapped =
-    word 0x0200 0x0200 (codes "specialname") ∷
-    word 0x0400 0x0400 (codes "rtspecialname") ∷ []
+    bit 0x0200 (codes "specialname") ∷ bit 0x0400 (codes "rtspecialname") ∷ []
 -- II.23.1.12
 words_of table.Semantics =
-    word 0x0001 0x0001 (codes ".set") ∷
-    word 0x0002 0x0002 (codes ".get") ∷
-    word 0x0004 0x0004 (codes ".other") ∷
-    word 0x0008 0x0008 (codes ".addon") ∷
-    word 0x0010 0x0010 (codes ".removeon") ∷
-    word 0x0020 0x0020 (codes ".fire") ∷ []
+    bit 0x0001 (codes ".set") ∷ bit 0x0002 (codes ".get") ∷ bit 0x0004 (codes ".other") ∷
+    bit 0x0008 (codes ".addon") ∷ bit 0x0010 (codes ".removeon") ∷ bit 0x0020 (codes ".fire") ∷ []
 -- II.23.1.13
 words_of table.Param =
-    word 0x0001 0x0001 (codes "[in]") ∷
-    word 0x0002 0x0002 (codes "[out]") ∷
-    word 0x0010 0x0010 (codes "[opt]") ∷ []
+    bit 0x0001 (codes "[in]") ∷ bit 0x0002 (codes "[out]") ∷ bit 0x0010 (codes "[opt]") ∷ []
 -- II.23.1.8: names, character set, errors, calling convention
 words_of table.Import =
-    word 0x0001 0x0001 (codes "nomangle") ∷
-    word 0x0006 0x0002 (codes "ansi") ∷
-    word 0x0006 0x0004 (codes "unicode") ∷
-    word 0x0006 0x0006 (codes "autochar") ∷
-    word 0x0040 0x0040 (codes "lasterr") ∷
-    word 0x0700 0x0100 (codes "platformapi") ∷
-    word 0x0700 0x0200 (codes "cdecl") ∷
-    word 0x0700 0x0300 (codes "stdcall") ∷
-    word 0x0700 0x0400 (codes "thiscall") ∷
+    bit 0x0001 (codes "nomangle") ∷ word 0x0006 0x0002 (codes "ansi") ∷ word 0x0006 0x0004 (codes "unicode") ∷
+    word 0x0006 0x0006 (codes "autochar") ∷ bit 0x0040 (codes "lasterr") ∷
+    word 0x0700 0x0100 (codes "platformapi") ∷ word 0x0700 0x0200 (codes "cdecl") ∷
+    word 0x0700 0x0300 (codes "stdcall") ∷ word 0x0700 0x0400 (codes "thiscall") ∷
     word 0x0700 0x0500 (codes "fastcall") ∷ []
 -- II.23.1.5: access, contract, and the others
 words_of table.Field =
-    word 0x0007 0x0000 (codes "compilercontrolled") ∷
-    word 0x0007 0x0001 (codes "private") ∷
-    word 0x0007 0x0002 (codes "famandassem") ∷
-    word 0x0007 0x0003 (codes "assembly") ∷
-    word 0x0007 0x0004 (codes "family") ∷
-    word 0x0007 0x0005 (codes "famorassem") ∷
-    word 0x0007 0x0006 (codes "public") ∷
-    word 0x0010 0x0010 (codes "static") ∷
-    word 0x0020 0x0020 (codes "initonly") ∷
-    word 0x0040 0x0040 (codes "literal") ∷
-    word 0x0080 0x0080 (codes "notserialized") ∷
-    word 0x0200 0x0200 (codes "specialname") ∷
-    word 0x2000 0x2000 (codes "pinvokeimpl") ∷
-    word 0x0400 0x0400 (codes "rtspecialname") ∷ []
+    word 0x0007 0x0000 (codes "compilercontrolled") ∷ word 0x0007 0x0001 (codes "private") ∷
+    word 0x0007 0x0002 (codes "famandassem") ∷ word 0x0007 0x0003 (codes "assembly") ∷
+    word 0x0007 0x0004 (codes "family") ∷ word 0x0007 0x0005 (codes "famorassem") ∷
+    word 0x0007 0x0006 (codes "public") ∷ bit 0x0010 (codes "static") ∷ bit 0x0020 (codes "initonly") ∷
+    bit 0x0040 (codes "literal") ∷ bit 0x0080 (codes "notserialized") ∷ bit 0x0200 (codes "specialname") ∷
+    bit 0x2000 (codes "pinvokeimpl") ∷ bit 0x0400 (codes "rtspecialname") ∷ []
 -- II.23.1.10: access, contract, layout of the vtable, and the others
 words_of table.Method =
-    word 0x0007 0x0000 (codes "compilercontrolled") ∷
-    word 0x0007 0x0001 (codes "private") ∷
-    word 0x0007 0x0002 (codes "famandassem") ∷
-    word 0x0007 0x0003 (codes "assembly") ∷
-    word 0x0007 0x0004 (codes "family") ∷
-    word 0x0007 0x0005 (codes "famorassem") ∷
-    word 0x0007 0x0006 (codes "public") ∷
-    word 0x0010 0x0010 (codes "static") ∷
-    word 0x0020 0x0020 (codes "final") ∷
-    word 0x0040 0x0040 (codes "virtual") ∷
-    word 0x0080 0x0080 (codes "hidebysig") ∷
-    word 0x0100 0x0100 (codes "newslot") ∷
-    word 0x0200 0x0200 (codes "strict") ∷
-    word 0x0400 0x0400 (codes "abstract") ∷
-    word 0x0800 0x0800 (codes "specialname") ∷
-    word 0x2000 0x2000 (codes "pinvokeimpl") ∷
-    word 0x0008 0x0008 (codes "unmanagedexp") ∷
-    word 0x1000 0x1000 (codes "rtspecialname") ∷
-    word 0x8000 0x8000 (codes "reqsecobj") ∷ []
+    word 0x0007 0x0000 (codes "compilercontrolled") ∷ word 0x0007 0x0001 (codes "private") ∷
+    word 0x0007 0x0002 (codes "famandassem") ∷ word 0x0007 0x0003 (codes "assembly") ∷
+    word 0x0007 0x0004 (codes "family") ∷ word 0x0007 0x0005 (codes "famorassem") ∷
+    word 0x0007 0x0006 (codes "public") ∷ bit 0x0010 (codes "static") ∷ bit 0x0020 (codes "final") ∷
+    bit 0x0040 (codes "virtual") ∷ bit 0x0080 (codes "hidebysig") ∷ bit 0x0100 (codes "newslot") ∷
+    bit 0x0200 (codes "strict") ∷ bit 0x0400 (codes "abstract") ∷ bit 0x0800 (codes "specialname") ∷
+    bit 0x2000 (codes "pinvokeimpl") ∷ bit 0x0008 (codes "unmanagedexp") ∷ bit 0x1000 (codes "rtspecialname") ∷
+    bit 0x8000 (codes "reqsecobj") ∷ []
 -- II.23.1.11
 words_of table.Implementation =
-    word 0x0003 0x0000 (codes "cil") ∷
-    word 0x0003 0x0001 (codes "native") ∷
-    word 0x0003 0x0002 (codes "optil") ∷
-    word 0x0003 0x0003 (codes "runtime") ∷
-    word 0x0004 0x0004 (codes "unmanaged") ∷
-    word 0x0004 0x0000 (codes "managed") ∷
-    word 0x0010 0x0010 (codes "forwardref") ∷
-    word 0x0080 0x0080 (codes "preservesig") ∷
-    word 0x1000 0x1000 (codes "internalcall") ∷
-    word 0x0020 0x0020 (codes "synchronized") ∷
-    word 0x0008 0x0008 (codes "noinlining") ∷
-    word 0x0040 0x0040 (codes "nooptimization") ∷ []
+    word 0x0003 0x0000 (codes "cil") ∷ word 0x0003 0x0001 (codes "native") ∷
+    word 0x0003 0x0002 (codes "optil") ∷ word 0x0003 0x0003 (codes "runtime") ∷ bit 0x0004 (codes "unmanaged") ∷
+    word 0x0004 0x0000 (codes "managed") ∷ bit 0x0010 (codes "forwardref") ∷ bit 0x0080 (codes "preservesig") ∷
+    bit 0x1000 (codes "internalcall") ∷ bit 0x0020 (codes "synchronized") ∷ bit 0x0008 (codes "noinlining") ∷
+    bit 0x0040 (codes "nooptimization") ∷ []
