@@ -3,7 +3,7 @@ use Rattle.std.specs.Fmt.{WritesInCalls}
 use Rattle.attribute_values.specs.Items.{Item}
 use Rattle.attribute_values.specs.Views.{view}
 use Rattle.attribute_text.specs.ItemTexts.{item_text, items_text}
-use Rattle.attribute_text.proofs.WriterLemmas.{writes_append, writes_nothing, writes_once}
+use Rattle.full_names.proofs.TextLemmas.{writes_append, writes_nothing, writes_once}
 use Rattle.attribute_text.proofs.values.write_items.Goals as goal
 
 pub loop-item-init : goal.loop-item-init
