@@ -1,5 +1,4 @@
 pub mod Buffers
-pub mod GuidLemmas
 pub mod HexLemmas
 pub mod SinkLemmas
 pub mod UserLemmas

@@ -1,15 +1,12 @@
 -- Declarations of rows, and texts that were written one after another.
-use Rattle.std.proofs.Common.{◌≡◌, ◌∙◌, ◌+◌, ◌-◌, ◌^◌, ◌<◌, ◌≤◌, Bool, Bor, ℕ, true, List, [], ◌∷◌, ◌++◌, length, take, drop, min, Result, Ok, Err, OnOk, refl, sym, ap, subst, arith}
-use Rattle.std.proofs.lemmas.List.Folds.{concat-append}
-use Rattle.std.specs.List.{FoldsTo, concat}
-use Rattle.std.specs.Fmt.{WritesInCalls}
+use Rattle.std.proofs.Common.{◌≡◌, ◌∙◌, ◌+◌, ◌-◌, ◌^◌, ◌<◌, ◌≤◌, Bool, Bor, ℕ, true, List, [], ◌++◌, length, take, drop, min, Result, Ok, Err, OnOk, refl, ap, subst, arith}
 use Rattle.table_schema.specs.declared.table.TableId.{TableId}
 use Rattle.table_schema.specs.declared.table.TableId.TheVariants.{TypeDef, Field, MethodDef, Property}
 use Rattle.table_schema.specs.declared.column.SigKind.TheVariants as column
 use Rattle.table_schema.specs.declared.column.ColumnKind.{ColumnKind}
 use Rattle.table_schema.specs.declared.column.ColumnKind.TheVariants as kind
 use Rattle.sig_grammar.specs.Encodes.{Holds}
-use Rattle.sig_grammar.specs.Syntax.{Body, Method, Slot, field, method_body, property, locals, instance_body, type_spec}
+use Rattle.sig_grammar.specs.Syntax.{Body, Method, Slot, method_body, property}
 use Rattle.metadata.specs.Cell.{Cell, Sig}
 use Rattle.metadata.specs.Kinds.{IsHeld, IsOfKind}
 use Rattle.reading.specs.declared.cell_ref.CellRef.{CellRef}
@@ -23,19 +20,11 @@ use Rattle.c_texts.proofs.Buffers.{first_written}
 -- a signature in the column of methods is that of a method, and one in the column of properties is that of a property
 method_held : (of : Body) → Holds column.MethodDef of → (method : Method) × (of ≡ method_body method)
 method_held (method_body m) held = (m, refl)
-method_held (field s) held = absurd held
-method_held (property this of params) held = absurd held
-method_held (locals variables) held = absurd held
-method_held (instance_body args) held = absurd held
-method_held (type_spec ret) held = absurd held
+method_held _ held = absurd held
 
 property_held : (of : Body) → Holds column.Property of → (this : Bool) × (type : Slot) × (params : List Slot) × (of ≡ property this type params)
 property_held (property this of params) held = (this, of, params, refl)
-property_held (method_body m) held = absurd held
-property_held (field s) held = absurd held
-property_held (locals variables) held = absurd held
-property_held (instance_body args) held = absurd held
-property_held (type_spec ret) held = absurd held
+property_held _ held = absurd held
 
 pub method_in : (cell : Cell) → IsOfKind (kind.Signature column.MethodDef) cell → IsHeld (kind.Signature column.MethodDef) cell
     → (method : Method) × (cell ≡ Sig (method_body method))
@@ -51,12 +40,7 @@ property_in cell of_kind held = absurd of_kind
 pub no_other_value : (column_kind : ColumnKind) (value : CellRef) (cell : Cell) → IsOfKind (kind.Signature column.Field) cell → Shows column_kind value cell
     → ((blob : Bor (List ℕ)) → value ≡ seen.Sig blob → ⊥) → ⊥
 no_other_value column_kind (seen.Sig blob) cell of_kind shows other = other blob refl
-no_other_value column_kind (seen.Number number) cell of_kind shows other = subst (λ (c : Cell). IsOfKind (kind.Signature column.Field) c) shows of_kind
-no_other_value column_kind (seen.Text text) cell of_kind shows other = subst (λ (c : Cell). IsOfKind (kind.Signature column.Field) c) shows of_kind
-no_other_value column_kind (seen.Bytes blob) cell of_kind shows other = subst (λ (c : Cell). IsOfKind (kind.Signature column.Field) c) shows of_kind
-no_other_value column_kind (seen.Guid guid) cell of_kind shows other = subst (λ (c : Cell). IsOfKind (kind.Signature column.Field) c) shows of_kind
-no_other_value column_kind (seen.Ref token) cell of_kind shows other = subst (λ (c : Cell). IsOfKind (kind.Signature column.Field) c) shows of_kind
-no_other_value column_kind (seen.Start start) cell of_kind shows other = subst (λ (c : Cell). IsOfKind (kind.Signature column.Field) c) shows of_kind
+no_other_value column_kind _ cell of_kind shows other = subst (λ (c : Cell). IsOfKind (kind.Signature column.Field) c) shows of_kind
 
 -- only four tables have declarations
 pub no_declaration : (table : TableId) → has_declaration table ≡ true → (table ≡ TypeDef → ⊥) → (table ≡ Field → ⊥) → (table ≡ MethodDef → ⊥)
@@ -69,17 +53,6 @@ no_declaration _ has type field_row method property_row = absurd cc
 
 -- what was written by some calls, and by others after them
 module _ {W : Type 0} (took : W → List ℕ → W → Type 0) where
-  folds_append : (w : W) (xs : List (List ℕ)) (v : W) (ys : List (List ℕ)) (u : W) → FoldsTo took w xs v → FoldsTo took v ys u → FoldsTo took w (xs ++ ys) u
-  folds_append w [] v ys u p q = subst (λ (x : W). FoldsTo took x ys u) (sym p) q
-  folds_append w (x ∷ xs) v ys u p q = (p.0, p.1, folds_append p.0 xs v ys u p.2 q)
-
-  pub writes_append : (w : W) (a : List ℕ) (v : W) (b : List ℕ) (u : W) → WritesInCalls took w a v → WritesInCalls took v b u → WritesInCalls took w (a ++ b) u
-  writes_append w a v b u p q = record {
-    parts = p.parts ++ q.parts;
-    calls = folds_append w p.parts v q.parts u p.calls q.calls;
-    whole = concat-append p.parts q.parts ∙ ap (λ (l : List ℕ). l ++ concat q.parts) p.whole ∙ ap (λ (l : List ℕ). a ++ l) q.whole;
-  }
-
   -- a text with one property has another
   pub on_wrote : {T E : Type 0} (P Q : List ℕ → Type 0) (w v : W) (result : Result T E) → OnOk result (Wrote took w P v) → ((text : List ℕ) → P text → Q text)
       → OnOk result (Wrote took w Q v)

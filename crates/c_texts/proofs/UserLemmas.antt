@@ -1,17 +1,13 @@
 -- A user string of a padded heap, by its bytes.
-use Rattle.std.proofs.Common.{◌≡◌, ℕ, zero, suc, ◌+◌, ◌-◌, ◌*◌, ◌/◌, ◌%◌, ◌<◌, ◌≤◌, min, List, [], ◌∷◌, ◌++◌, length, take, drop, set, replicate, flat_map, get_or, Option, Some, unwrap_or, inl, inr, refl, sym, ap, subst, ◌∙◌, ⊎_elim, arith}
+use Rattle.std.proofs.Common.{◌≡◌, ℕ, zero, suc, ◌+◌, ◌-◌, ◌*◌, ◌/◌, ◌%◌, ◌<◌, ◌≤◌, min, List, [], ◌∷◌, ◌++◌, length, take, drop, set, replicate, get_or, unwrap_or, inl, inr, refl, sym, ap, subst, ◌∙◌, ⊎_elim, arith}
 use Rattle.std.proofs.lemmas.Bool.{cases_lt}
 use Rattle.std.proofs.lemmas.List.{get_or_past, get_or-take, get_or-drop, take_more, take_more_set, drop-set-lt, drop-drop, drop_at, length-append, length-take, length-take-le, length-drop, take-take, take-append-drop, take_min, drop_min}
 use Rattle.packed.specs.Packed.{IsPacked}
-use Rattle.heap_entries.specs.Entries.{IsBlob, IsUserString, UserText, EncodesUserText}
+use Rattle.heap_entries.specs.Entries.{IsBlob, IsUserString}
 use Rattle.heap_entries.specs.Padding.{zero_padded}
-use Rattle.heap_entries.specs.Units.{unit_bytes}
 use Rattle.heap_entries.specs.UserView.{units_in, last_of, user_text}
+use Rattle.heap_entries.proofs.UserLemmas.{AreBytes, encodes_from}
 use Rattle.c_texts.specs.Texts.{with_text}
-
--- every element is a byte
-abbrev AreBytes : List ℕ → Type 0
-AreBytes bytes = (i : ℕ) → get_or bytes i 0 < 256
 
 zeros_are : (zeros i : ℕ) → get_or (replicate zeros 0) i 0 < 256
 zeros_are zero i = omega arith
@@ -147,24 +143,6 @@ flag_is (byte ∷ next ∷ bytes) some =
     let further : length (byte ∷ next ∷ bytes) - 1 ≡ suc (length (next ∷ bytes) - 1) = omega arith in
     ap (λ (k : ℕ). get_or (byte ∷ next ∷ bytes) k 0) further ∙ flag_is (next ∷ bytes) (omega arith)
 
--- an odd number of bytes is two bytes for each unit and one more, and only such bytes and none are a user string
-odd_parts : (blob : List ℕ) → AreBytes blob → length blob % 2 ≡ 1 → (last : ℕ) × (blob ≡ flat_map unit_bytes (units_in blob) ++ last ∷ []) × (last_of blob ≡ Some last)
-odd_parts [] h odd = absurd (omega arith)
-odd_parts (last ∷ []) h odd = (last, refl, refl)
-odd_parts (low ∷ high ∷ []) h odd = absurd (omega arith)
-odd_parts (low ∷ high ∷ byte ∷ bytes) h odd =
-    let tail = odd_parts (byte ∷ bytes) (λ i. h (suc (suc i))) (omega arith) in
-    let small = h 0 in
-    let first : (low + 256 * high) % 256 ≡ low = omega arith in
-    let second : (low + 256 * high) / 256 ≡ high = omega arith in
-    (tail.0, rw (first, second) (ap (λ (l : List ℕ). low ∷ high ∷ l) tail.1), tail.2)
-
-encodes_from : (blob : List ℕ) → AreBytes blob → (0 < length blob → length blob % 2 ≡ 1) → EncodesUserText blob (user_text blob)
-encodes_from [] h odd = inl (refl, refl)
-encodes_from (byte ∷ bytes) h odd =
-    let parts = odd_parts (byte ∷ bytes) h (odd (omega arith)) in
-    inr (units_in (byte ∷ bytes), parts.0, parts.1, ap (λ (flag : Option ℕ). record { units = units_in (byte ∷ bytes); flag = flag }) parts.2)
-
 -- the string of a blob with no bytes or an odd number of them
 pub string_at : (bytes : List ℕ) (offset start count : ℕ) → AreBytes bytes → start + count ≤ length (zero_padded bytes)
     → IsBlob (zero_padded bytes) offset (part (zero_padded bytes) start count) → (0 < count → count % 2 ≡ 1)
@@ -174,11 +152,3 @@ string_at bytes offset start count are within stands odd =
     let long = part_long (zero_padded bytes) start count within in
     let is_odd : 0 < length blob → length blob % 2 ≡ 1 = λ some. subst (λ (n : ℕ). n % 2 ≡ 1) (sym long) (odd (omega (arith, long, some))) in
     record { blob = blob; stands = stands; encodes = encodes_from blob (part_are bytes start count are) is_odd }
-
-user_long : (units : List ℕ) (last : ℕ) → length (flat_map unit_bytes units ++ last ∷ []) ≡ 2 * length units + 1
-user_long [] last = refl
-user_long (unit ∷ units) last = omega (arith, user_long units last)
-
-pub encodes_odd : (blob : List ℕ) (string : UserText) → EncodesUserText blob string → 0 < length blob → length blob % 2 ≡ 1
-encodes_odd blob string (inl none) some = absurd (omega (arith, ap length none.0))
-encodes_odd blob string (inr is) some = omega (arith, ap length is.2, user_long is.0 is.1)

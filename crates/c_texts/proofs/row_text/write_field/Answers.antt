@@ -2,7 +2,7 @@ use Rattle.std.proofs.Common.{◌++◌, refl}
 use Rattle.std.specs.Prelude.{codes}
 use Rattle.full_names.specs.declared.quoted.NameKind.TheVariants.{Dotted}
 use Rattle.full_names.specs.Quoted.{name_text}
-use Rattle.c_texts.proofs.RowTextLemmas.{writes_append}
+use Rattle.full_names.proofs.TextLemmas.{writes_append}
 use Rattle.c_texts.proofs.row_text.write_field.Goals as goal
 
 pub returns : goal.returns

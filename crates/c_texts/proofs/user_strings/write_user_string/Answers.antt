@@ -3,7 +3,8 @@ use Rattle.heap_entries.specs.Entries.{IsUserString, UserText}
 use Rattle.heap_entries.specs.Padding.{zero_padded}
 use Rattle.heap_entries.specs.UserView.{user_text}
 use Rattle.c_texts.specs.Texts.{with_text}
-use Rattle.c_texts.proofs.UserLemmas.{encodes_odd, part, part_long, string_at, units_long}
+use Rattle.heap_entries.proofs.UserLemmas.{encodes_odd}
+use Rattle.c_texts.proofs.UserLemmas.{part, part_long, string_at, units_long}
 use Rattle.c_texts.proofs.user_strings.write_user_string.Goals as goal
 
 pub returns-in_err-start-clause-none : goal.returns-in_err-start-clause-none
