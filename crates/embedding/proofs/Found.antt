@@ -104,9 +104,6 @@ native_kept : (name : StrongName) (header : CliHeader) (root : List ℕ) (rva of
 native_kept Keep header root rva offset = refl
 native_kept Clear header root rva offset = ap (λ (n : ℕ). n == 1) (omega arith)
 
-entry_kept : (name : StrongName) (header : CliHeader) (root : List ℕ) (rva offset : ℕ) → (new_header name header root rva offset).entry_point_token ≡ header.entry_point_token
-entry_kept name header root rva offset = refl
-
 entry_found : (laws : Laws) (name : StrongName) (file root : List ℕ) (header : CliHeader) (model : Metadata) (rva offset : ℕ) → IsHeaderOf file header
     → LeadsAlike root (root_in file header) → IsModel root model → has_native_entry_point (new_header name header root rva offset) ≡ false
     → IsEntryPoint header.entry_point_token (count_in model)

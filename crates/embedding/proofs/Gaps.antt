@@ -28,10 +28,7 @@ pub gap_apart : (name : StrongName) (file : List ℕ) (header : CliHeader) (root
     → AllApart at count (header_changes name file root header slot)
 gap_apart Keep file header root source Reused at count all apart fits gap = let wide = directories_end file all in let headers = apart.cli_header in search arith
 gap_apart Clear file header root source Reused at count all apart fits gap = let wide = directories_end file all in let headers = apart.cli_header in search arith
-gap_apart Keep file header root source (Appended address offset) at count all apart fits gap = let wide = directories_end file all in let headers = apart.cli_header in search arith
-gap_apart Clear file header root source (Appended address offset) at count all apart fits gap = let wide = directories_end file all in let headers = apart.cli_header in search arith
-gap_apart Keep file header root source (Extended within) at count all apart fits gap = let wide = directories_end file all in let headers = apart.cli_header in search arith
-gap_apart Clear file header root source (Extended within) at count all apart fits gap = let wide = directories_end file all in let headers = apart.cli_header in search arith
+gap_apart _ file header root source _ at count all apart fits gap = let wide = directories_end file all in let headers = apart.cli_header in search arith
 
 -- between fields of the CLI header that change
 abbrev pub InHeaderGap : CliHeader → ℕ → ℕ → Type 0
