@@ -1,0 +1,2 @@
+pub mod ParamLemmas
+pub mod Written
