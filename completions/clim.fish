@@ -32,7 +32,7 @@ complete -c clim -n "__fish_seen_subcommand_from $lists" -l files-from -x -a - -
 complete -c clim -n "__fish_seen_subcommand_from $lists" -s 0 -d 'Read file names from standard input, each ended by NUL'
 complete -c clim -n "__fish_seen_subcommand_from $lists" -s r -l recursive -d 'Read the PE files in each FILE that is a directory'
 complete -c clim -n "__fish_seen_subcommand_from check" -s q -l quiet -d 'Print no faults; only the exit status reports them'
-complete -c clim -n "__fish_seen_subcommand_from compare" -s q -l quiet -d 'Print nothing; only the exit status says whether they differ'
+complete -c clim -n "__fish_seen_subcommand_from compare" -s q -l quiet -d 'Print nothing; the exit status is the answer'
 complete -c clim -n "__fish_seen_subcommand_from outline" -l no-tokens -d 'Leave the comment with the token away'
 complete -c clim -n "__fish_seen_subcommand_from root" -l until-fault -d 'Print what can be read before a fault, then the fault'
 complete -c clim -n "__fish_seen_subcommand_from check" -l where -d 'Print what contains the byte at a fault, and explain it'

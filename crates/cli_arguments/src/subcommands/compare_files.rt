@@ -8,7 +8,7 @@ pub(crate) const USAGE: Usage<'static> = Usage {
         FILE,
         BARE,
         BUDGET,
-        argument!["quiet" EitherFlag('q') "Print nothing; only the exit status says whether they differ"],
+        argument!["quiet" EitherFlag('q') "Print nothing; the exit status is the answer"],
         JSON,
         argument!["second" Required("OTHER") "The file to compare it with"],
         argument!["ignore" Repeated("TABLE.COLUMN") "Do not compare the cells of this column"],

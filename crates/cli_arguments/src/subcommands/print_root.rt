@@ -26,10 +26,11 @@ cannot be read is reported to standard error with its name, and the next one
 follows. The exit status is the greatest. 'clim check --help' says what '-r',
 '-0' and '--files-from -' read.
 
-'--until-fault' also prints the lines of a broken FILE, as far as its headers can
-be read: that of the CLI header if layers 1 and 2 of 'clim check --help' break
-no rule, then the version, and the stream headers before the first that cannot
-be read. Then the fault is written to standard error, and the exit status is 1.
+'--until-fault' also prints the lines of a broken FILE, as far as its headers
+can be read: that of the CLI header if layers 1 and 2 of 'clim check --help'
+break no rule, then the version, and the stream headers before the first that
+cannot be read. Then the fault is written to standard error, and the exit status
+is 1.
 
 '--json' prints a JSON object (RFC 8259) on each line, whose one member is
 'cli', 'version' or 'stream'; for several FILEs the 'file' comes first. A fault

@@ -274,7 +274,7 @@ fn explains_a_rule(rt: HostRuntime) -> Result<(), Fail> {
     Ok(())
 }
 
-/// A fault, what has the byte at its offset, and its rule: each is an object on a line, and no line is empty.
+/// A fault, what has the byte at its offset, the number there, and its rule: each is an object on a line, and no line is empty.
 #[test]
 fn explains_a_fault(rt: HostRuntime) -> Result<(), Fail> {
     let mut broken = ONE_MODULE;
@@ -284,6 +284,7 @@ fn explains_a_fault(rt: HostRuntime) -> Result<(), Fail> {
 {\"offset\":0,\"size\":144,\"structure\":\"root\"}
 {\"offset\":80,\"size\":40,\"structure\":\"stream #~\"}
 {\"offset\":112,\"size\":2,\"structure\":\"cell\",\"table\":\"Module\",\"row\":1,\"column\":\"Mvid\"}
+{\"offset\":112,\"value\":2,\"stream\":\"#GUID\",\"limit\":1}
 ";
     let report = Report::Check(Verdict::Explained);
     let printed = lines_of(&rt, report, &broken)?;

@@ -10,12 +10,13 @@ use std::test::Fail;
 const NAME: &[u8] = b"Caf\xC3\xA9\xE2\x80\xAE";
 
 /// What the arguments print on a terminal, and its status.
-fn on(rt: &HostRuntime, terminal: Terminal, words: &[&str]) -> Result<(u8, String), Fail> {
+fn on(rt: &HostRuntime, terminal: Terminal, words: &[&str]) -> Result<(u8, String, String), Fail> {
     let mut out = Vec::new(rt.alloc());
     let mut err = Vec::new(rt.alloc());
     let status = go_on(rt, terminal, words, &mut out, &mut err);
-    assert!(rt; err.is_empty());
-    Ok((status, String::from_utf8(out).ok().ok_or("no text")?))
+    let out = String::from_utf8(out).ok().ok_or("no text")?;
+    let err = String::from_utf8(err).ok().ok_or("no text")?;
+    Ok((status, out, err))
 }
 
 /// A letter is printed as it is by `outline`, and a mark of direction is not.
