@@ -12,4 +12,4 @@ returns-in-Some g c =
     )
 
 pub returns-in-None : goal.returns-in-None
-returns-in-None g c = ([] ∷ [], inr ((λ rule is. let none = c.in-None.ensures.complete rule is in cc), refl), c.line.ensures)
+returns-in-None g c = ([] ∷ [], inr ((λ rule is. let none = c.in-None.ensures.complete rule is in cc), refl), c.line-in-None.ensures)
