@@ -13,7 +13,7 @@ use Rattle.cli_faults.specs.declared.failure.Failure.{Failure}
 use Rattle.cli_faults.specs.Status.{status_of}
 use Rattle.cli_files.specs.Stopped.{Outcome, status_of_outcome}
 use Rattle.cli_lines.specs.declared.parts.Form.{Form}
-use Rattle.cli_lines.specs.declared.parts.Form.TheVariants.{Letters, Text}
+use Rattle.cli_lines.specs.declared.parts.Form.TheVariants as shown
 use Rattle.cli_roots.specs.Compared.{IsComparing}
 use Rattle.cli_roots.specs.Embedded.{IsEmbedding, IsRootRun}
 use Rattle.cli_roots.specs.Rewritten.{IsRewriting}
@@ -52,10 +52,10 @@ AsksToWarn ask = (made : Task) × IsTask ask.subcommand ask (Ok made) × MayWarn
 -- the form of a report on a terminal: text with letters beyond ASCII as they are, if it reads UTF-8 and the subcommand is one of
 -- these; the text of the others is printable ASCII everywhere
 abbrev pub form_on : Terminal → Subcommand → Form → Form
-form_on Utf8 word.Info Text = Letters
-form_on Utf8 word.Outline Text = Letters
-form_on Utf8 word.Refs Text = Letters
-form_on Utf8 word.Resources Text = Letters
+form_on Utf8 word.Info shown.Text = shown.Letters
+form_on Utf8 word.Outline shown.Text = shown.Letters
+form_on Utf8 word.Refs shown.Text = shown.Letters
+form_on Utf8 word.Resources shown.Text = shown.Letters
 form_on terminal of form = form
 
 abbrev pub request_on : Terminal → Subcommand → Request → Request

@@ -1,9 +1,11 @@
 use Rattle.std.proofs.Common.{◌⊎◌, inl, inr, subst, sym}
-use Rattle.std.specs.Prelude.{option_map}
+use Rattle.std.specs.Prelude.{◌≡◌, option_map}
 use Rattle.cli_input.specs.declared.opened.Input.{Input}
 use Rattle.cli_roots.specs.Embedded.{IsEmbedding, WarnsOf}
 use Rattle.cli_roots.specs.Rewritten.{IsRewriting}
 use Rattle.cli_roots.specs.Runs.{IsFileRun, IsMixed, IsWithin}
+use Rattle.cli_runs.specs.declared.report.Directories.TheVariants.{Walked}
+use Rattle.cli_runs.specs.declared.report.Request.{Request}
 use Rattle.cli.specs.Runs.{IsRunOf, MayWarn}
 use Rattle.cli.specs.declared.task.Task.{Task}
 use Rattle.cli.proofs.EmbedRuns.{embed_run}
@@ -11,11 +13,17 @@ use Rattle.cli.proofs.program.run_task.Goals as goal
 
 pub returns-in-OnFiles-clause-quiet : goal.returns-in-OnFiles-clause-quiet
 returns-in-OnFiles-clause-quiet g c =
-    λ success. elim (c.run_files.ensures.quiet success) [ inl same ↦ inl same | inr walked ↦ inr (subst MayWarn (sym c.in-OnFiles.is) walked) ]
+    λ success. elim (c.run_files.ensures.quiet success) [
+      | inl same ↦ inl same
+      | inr walked ↦ inr (subst MayWarn (sym c.in-OnFiles.is) (subst (λ (made : Request). made.directories ≡ Walked) c.request_on-request.ensures walked))
+    ]
 
 pub returns-in-OnList-clause-quiet : goal.returns-in-OnList-clause-quiet
 returns-in-OnList-clause-quiet g c =
-    λ success. elim (c.run_listed.ensures.quiet success) [ inl same ↦ inl same | inr walked ↦ inr (subst MayWarn (sym c.in-OnList.is) walked) ]
+    λ success. elim (c.run_listed.ensures.quiet success) [
+      | inl same ↦ inl same
+      | inr walked ↦ inr (subst MayWarn (sym c.in-OnList.is) (subst (λ (made : Request). made.directories ≡ Walked) c.request_on-request-in-OnList.ensures walked))
+    ]
 
 pub returns-in-Rewrite-clause-run : goal.returns-in-Rewrite-clause-run
 returns-in-Rewrite-clause-run g c =

@@ -1,7 +1,8 @@
 use Rattle.std.proofs.Common.{List, Ok, subst, sym, ℕ}
 use Rattle.std.specs.Borrow.{Bor}
 use Rattle.cli_arguments.specs.declared.asked.Subcommand.{Subcommand}
-use Rattle.cli.specs.Tasks.{IsTask, IsTokens}
+use Rattle.cli_outline.specs.declared.source.OutlineOptions.{OutlineOptions}
+use Rattle.cli.specs.Tasks.{IsOutline, IsTask, IsTokens}
 use Rattle.cli.proofs.task.task_of.Goals as goal
 
 pub returns-in-Show : goal.returns-in-Show
@@ -10,8 +11,8 @@ returns-in-Show c =
 
 pub returns-in-Outline : goal.returns-in-Outline
 returns-in-Outline c =
-    subst (λ (of : Subcommand). IsTask of c.args.ask.now c.on_files-in-Outline.result) (sym c.in-Outline.is)
-    (Ok c.outline_of.result, c.outline_of.ensures, c.on_files-in-Outline.ensures)
+    let outline = subst (λ (options : OutlineOptions). IsOutline options c.args.ask.now.part c.outline_of.result) c.options_of.ensures c.outline_of.ensures in
+    subst (λ (of : Subcommand). IsTask of c.args.ask.now c.on_files-in-Outline.result) (sym c.in-Outline.is) (Ok c.outline_of.result, outline, c.on_files-in-Outline.ensures)
 
 pub returns-in-Token : goal.returns-in-Token
 returns-in-Token c =
