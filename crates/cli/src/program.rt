@@ -24,7 +24,7 @@ use std::rt::Files;
 pub enum Terminal {
     /// Printable ASCII.
     Ascii,
-    /// UTF-8: `info`, `outline`, `refs` and `resources` print letters beyond ASCII as they are.
+    /// UTF-8: `info`, `outline`, `refs` and `resources` print visible characters beyond ASCII as they are.
     Utf8,
 }
 

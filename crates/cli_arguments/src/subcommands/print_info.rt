@@ -29,8 +29,8 @@ like those of 'clim show', but not quoted: a name may have commas. '--json' has
 it apart. PublicKeyToken is computed from the key; it is '?' if the key has more
 than 2,080 bytes. FILE is checked first, as by 'clim check'.
 
-In a UTF-8 locale (LC_ALL, LC_CTYPE or LANG), letters beyond ASCII are printed
-as they are; all else that is not printable ASCII is escaped.
+In a UTF-8 locale (LC_ALL, LC_CTYPE or LANG), visible characters beyond ASCII
+are printed as they are; all else that is not printable ASCII is escaped.
 
 For several FILEs each line begins with 'FILE: '. A FILE that breaks a rule or
 cannot be read is reported to standard error with its name, and the next one

@@ -30,8 +30,8 @@ arguments if their types are known, and its bytes otherwise. Names, signatures
 and values longer than 65,536 bytes are cut and end in '..'. FILE is checked
 first, as by 'clim check'.
 
-In a UTF-8 locale (LC_ALL, LC_CTYPE or LANG), letters beyond ASCII are printed
-as they are; all else that is not printable ASCII is escaped.
+In a UTF-8 locale (LC_ALL, LC_CTYPE or LANG), visible characters beyond ASCII
+are printed as they are; all else that is not printable ASCII is escaped.
 
 For several FILEs each line begins with 'FILE: '. A FILE that breaks a rule, has
 no such type or cannot be read is reported to standard error with its name, and
