@@ -1,5 +1,6 @@
 pub mod BlobLemmas
 pub mod CellIndexLemmas
+pub mod EqualLemmas
 pub mod KindLemmas
 pub mod NumberLemmas
 pub mod UseLemmas

@@ -1,6 +1,7 @@
 -- The bytes of the blobs that are written, use by use, and without those of equal ones.
-use Rattle.std.proofs.Common.{◌≡◌, ℕ, ◌+◌, ◌<◌, ◌^◌, List, [], ◌∷◌, ◌++◌, All, length, get_or, map, take, slice_index, refl, sym, ap, subst, ◌∙◌, ⊎_elim, arith}
+use Rattle.std.proofs.Common.{◌≡◌, ℕ, ◌+◌, ◌<◌, ◌≤◌, ◌^◌, ◌⊎◌, List, [], ◌∷◌, ◌++◌, All, length, get_or, map, take, slice_index, refl, sym, ap, subst, ◌∙◌, ⊎_elim, arith, length-take-le, get_or-take}
 use Rattle.std.specs.List.{AllZip}
+use Rattle.std.proofs.lemmas.Bool.{cases_lt}
 use Rattle.std.proofs.lemmas.List.{take_more, ext_get_or, get_or-map, get_or_append_left, get_or_push, length-map, length_push, map_push}
 use Rattle.std.proofs.lemmas.List.Elements.{All-from_get_or, All-take}
 use Rattle.heap_pools.specs.Ranking.{HasText, IsFirstUse, used_at}
@@ -10,6 +11,7 @@ use Rattle.cell_numbering.specs.declared.blob_bytes.BlobBytes.{BlobBytes}
 use Rattle.cell_numbering.specs.declared.blob_bytes.BlobBytes.TheVariants.{Found}
 use Rattle.cell_numbering.specs.BlobBytes.{AreWritten, all_bytes, bytes_at, bytes_in}
 use Rattle.cell_numbering.specs.declared.blob_use.BlobUse.{BlobUse}
+use Rattle.cell_numbering.specs.EqualUses.{IsSameUse}
 use Rattle.cell_numbering.specs.HeapUses.{IsUseOf}
 use Rattle.cell_numbering.proofs.BlobLemmas.{same_map}
 use Rattle.cell_numbering.proofs.UseLemmas.{zip_at, zip_length}
@@ -28,6 +30,20 @@ module _ (uses : List BlobUse) (blobs : List (List ℕ)) (all : AllZip IsUseOf u
       ∙ ap (λ b. take i blobs ++ b ∷ []) (is (get_or blobs i []) (subst (λ (u : BlobUse). IsUseOf u (get_or blobs i [])) (sym here) (zip_at IsUseOf uses blobs i found [] all below)))
       ∙ sym (take_more blobs i [] (omega (arith, below, zip_length IsUseOf uses blobs all)))
 
+  -- the blob of an earlier use that is one of the same blob
+  pub earlier_blob : (before : List (List ℕ)) (earlier : ℕ) (next : List ℕ) → before ≡ take i blobs → earlier < length before → next ≡ get_or blobs i []
+      → (earlier ≡ i) ⊎ ((earlier < i) × IsSameUse (get_or uses earlier found) (get_or uses i found)) → (used_at before earlier ≡ next) × (0 < length next)
+  earlier_blob before earlier next are low is same =
+      let count = zip_length IsUseOf uses blobs all in
+      let within : i ≤ length blobs = omega (arith, below, count) in
+      let lt : earlier < i = omega (arith, low, ap length are, length-take-le i blobs within) in
+      ⊎_elim
+      (λ (own : earlier ≡ i). absurd (omega (arith, own, lt)))
+      (λ other.
+      let one = other.1 (get_or blobs earlier []) (get_or blobs i []) (zip_at IsUseOf uses blobs earlier found [] all (omega (arith, lt, below))) (zip_at IsUseOf uses blobs i found [] all below) in
+      (ap (λ (l : List (List ℕ)). get_or l earlier []) are ∙ get_or-take i blobs earlier [] lt ∙ one.0 ∙ sym is, subst (λ (l : List ℕ). 0 < length l) (sym is) one.1))
+      same
+
   pub short_blobs : (count : ℕ) → All (λ blob. length blob < 2 ^ 29) (take count blobs)
   short_blobs count = All-take (λ blob. length blob < 2 ^ 29) count blobs
       (All-from_get_or (λ blob. length blob < 2 ^ 29) blobs [] (λ k h. (zip_at IsUseOf uses blobs k found [] all (omega (arith, h, zip_length IsUseOf uses blobs all))).short))
@@ -41,36 +57,70 @@ module _ (bytes : List BlobBytes) (firsts : List ℕ) (are : AreWritten bytes fi
 
   -- ---- one more use
 
-  module _ (next : BlobBytes) where
+  -- the use has the bytes of the next one: it is the next one itself, or the first one of an earlier use
+  pub record IsFirstFor (next : BlobBytes) (first : ℕ) : Type 0 where
+    pub at : bytes_at (bytes ++ next ∷ []) first ≡ bytes_in next
+    pub low : first ≤ length firsts
+    pub has : first < length firsts → used_at used first ≡ bytes_in next
+    pub empty : length (bytes_in next) ≡ 0 → first ≡ length firsts
+
+  pub next_first : (next : BlobBytes) (earlier own first : ℕ) → own ≡ length bytes → (length firsts ≤ earlier → first ≡ own) → (earlier < length firsts → first ≡ slice_index firsts earlier)
+      → (earlier < length firsts → (used_at used earlier ≡ bytes_in next) × (0 < length (bytes_in next))) → IsFirstFor next first
+  next_first next earlier own first last fresh known same = ⊎_elim
+      (λ (lt : earlier < length firsts).
+      let has = are.each earlier lt in
+      let low : slice_index firsts earlier < length bytes = omega (arith, has.within, lt, are.len) in
+      subst (IsFirstFor next) (sym (known lt)) (record {
+        at = ap bytes_in (get_or_append_left bytes (next ∷ []) no_bytes (slice_index firsts earlier) low) ∙ sym (bytes_read bytes firsts earlier lt) ∙ (same lt).0;
+        low = omega (arith, has.within, lt);
+        has = λ _. has.same ∙ (same lt).0;
+        empty = λ none. absurd (omega (arith, none, (same lt).1));
+      }))
+      (λ (past : length firsts ≤ earlier). subst (IsFirstFor next) (sym (fresh past ∙ last)) (record {
+        at = ap bytes_in (get_or_push bytes next no_bytes (length bytes) refl);
+        low = omega (arith, are.len);
+        has = λ low. absurd (omega (arith, low, are.len));
+        empty = λ none. sym are.len;
+      }))
+      (cases_lt earlier (length firsts))
+
+  module _ (next : BlobBytes) (first : ℕ) (is : IsFirstFor next first) where
     -- its blob is the last one
-    pub bytes_push : all_bytes (bytes ++ next ∷ []) (firsts ++ length bytes ∷ []) ≡ all_bytes bytes firsts ++ bytes_in next ∷ []
+    pub bytes_push : all_bytes (bytes ++ next ∷ []) (firsts ++ first ∷ []) ≡ all_bytes bytes firsts ++ bytes_in next ∷ []
     bytes_push =
         let more = bytes ++ next ∷ [] in
-        map_push (bytes_at more) firsts (length bytes)
-        ∙ ap (λ blob. map (bytes_at more) firsts ++ blob ∷ []) (ap bytes_in (get_or_push bytes next no_bytes (length bytes) refl))
+        map_push (bytes_at more) firsts first
+        ∙ ap (λ blob. map (bytes_at more) firsts ++ blob ∷ []) is.at
         ∙ ap (λ list. list ++ bytes_in next ∷ []) (same_map (λ (k : ℕ). k < length bytes) (bytes_at more) (bytes_at bytes)
         (λ k low. ap bytes_in (get_or_append_left bytes (next ∷ []) no_bytes k low)) firsts
         (All-from_get_or (λ (k : ℕ). k < length bytes) firsts 0 (λ k h. omega (arith, (are.each k h).within, h, are.len))))
 
-    pub written_push : AreWritten (bytes ++ next ∷ []) (firsts ++ length bytes ∷ [])
+    pub written_push : AreWritten (bytes ++ next ∷ []) (firsts ++ first ∷ [])
     written_push =
         let blob = bytes_in next in
         let all = used ++ blob ∷ [] in
-        let others = firsts ++ length bytes ∷ [] in
-        let long = length_push firsts (length bytes) in
-        let old : (k : ℕ) → k < length firsts → slice_index others k ≡ slice_index firsts k = λ k h. get_or_append_left firsts (length bytes ∷ []) 0 k h in
-        let last : slice_index others (length firsts) ≡ length firsts = get_or_push firsts (length bytes) 0 (length firsts) refl ∙ sym are.len in
+        let others = firsts ++ first ∷ [] in
+        let long = length_push firsts first in
+        let old : (k : ℕ) → k < length firsts → slice_index others k ≡ slice_index firsts k = λ k h. get_or_append_left firsts (first ∷ []) 0 k h in
+        let last : slice_index others (length firsts) ≡ first = get_or_push firsts first 0 (length firsts) refl in
         let read : (k : ℕ) → k < length firsts → used_at all k ≡ used_at used k = λ k h. get_or_append_left used (blob ∷ []) [] k (omega (arith, h, count)) in
+        let own : used_at all (length firsts) ≡ blob = get_or_push used blob [] (length firsts) count in
+        let here : used_at all first ≡ blob = ⊎_elim
+        (λ (low : first < length firsts). read first low ∙ is.has low)
+        (λ (at : first ≡ length firsts). ap (used_at all) at ∙ own)
+        (last_cases first (length firsts) (omega (arith, is.low))) in
         let each : (k : ℕ) → k < length others → HasText all k (slice_index others k) = λ k h. ⊎_elim
         (λ (low : k < length firsts).
         let has = are.each k low in
         subst (HasText all k) (sym (old k low)) (record { within = has.within; same = read (slice_index firsts k) (omega (arith, has.within, low)) ∙ has.same ∙ sym (read k low) }))
         (λ (at : k ≡ length firsts). subst (λ i. HasText all i (slice_index others i)) (sym at)
-        (subst (HasText all (length firsts)) (sym last) (record { within = omega arith; same = refl })))
+        (subst (HasText all (length firsts)) (sym last) (record { within = is.low; same = here ∙ sym own })))
         (last_cases k (length firsts) (omega (arith, h, long))) in
         let empty : (k : ℕ) → k < length others → length (used_at all k) ≡ 0 → slice_index others k ≡ k = λ k h none. ⊎_elim
         (λ (low : k < length firsts). old k low ∙ are.empty k low (ap length (sym (read k low)) ∙ none))
-        (λ (at : k ≡ length firsts). subst (λ i. slice_index others i ≡ i) (sym at) last)
+        (λ (at : k ≡ length firsts).
+        let nothing : length blob ≡ 0 = ap length (sym own ∙ ap (used_at all) (sym at)) ∙ none in
+        subst (λ i. slice_index others i ≡ i) (sym at) (last ∙ is.empty nothing))
         (last_cases k (length firsts) (omega (arith, h, long))) in
         record {
           len = omega (arith, long, are.len, length_push bytes next);

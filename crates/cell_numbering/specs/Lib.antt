@@ -1,6 +1,7 @@
 pub mod BlobBytes
 pub mod BlobUses
 pub mod CellIndexes
+pub mod EqualUses
 pub mod HeapUses
 pub mod IndexColumns
 pub mod NumbersSoFar

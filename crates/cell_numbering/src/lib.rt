@@ -21,6 +21,7 @@
 mod blob_bytes;
 mod blob_use;
 mod blob_uses;
+mod equal_uses;
 mod heap_uses;
 mod index_columns;
 mod last_uses;

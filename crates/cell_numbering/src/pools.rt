@@ -1,4 +1,4 @@
-ghost use Rattle.std.specs.Prelude.{◌≡◌, ◌^◌, ◌<◌, ◌⊎◌, ℕ, All, List, Err, IfOk, flat_map, length, map};
+ghost use Rattle.std.specs.Prelude.{◌≡◌, ◌^◌, ◌<◌, ◌⊎◌, ℕ, All, List, Err, IfOk, flat_map, length, map, vec_len};
 ghost use Rattle.heap_pools.specs.declared.pool_error.PoolError.TheVariants.{Full};
 ghost use Rattle.heap_pools.specs.BlobHeap.{blob_heap, blob_index};
 ghost use Rattle.heap_pools.specs.Distinct.{distinct};
@@ -9,9 +9,11 @@ ghost use Rattle.root_writer.specs.Pools.{pools_of as pools_in};
 ghost use Rattle.root_writer.specs.Numbered.{IsNumbering, IsTooLong};
 ghost use Rattle.cell_numbering.specs.BlobBytes.{AreWritten, all_bytes};
 ghost use Rattle.cell_numbering.specs.BlobUses.{AreBlobUses};
+ghost use Rattle.cell_numbering.specs.EqualUses.{AreEarlierUses};
 ghost use Rattle.cell_numbering.specs.HeapUses.{IsUseOf};
 
 use crate::blob_uses::BlobUses;
+use crate::equal_uses::equal_uses;
 use crate::heap_uses::heap_uses;
 use crate::numbers::numbers_of;
 use crate::numbers_so_far::Indexes;
@@ -46,16 +48,23 @@ fn written_plan(alloc: Global, written: WrittenBlobs<'_>) -> Result<HeapPlan, Po
     SortedBlobs::sort_from(alloc, &blobs, firsts)?.lay_out(alloc)
 }
 
-/// The blob heap of the canonical root, planned from all blobs, and the index of each use (II.24.2.4).
-fn blob_plan(alloc: Global, uses: &BlobUses<'_>) -> Result<(HeapPlan, Vec<u32>), PoolError>
-    requires { ¬ (¬ ((blobs : List (List ℕ)) × AreBlobUses IsUseOf uses.now blobs)) }
+/// The blob heap of the canonical root, planned from all blobs, and the index of each use (II.24.2.4). For each kept use an
+/// earlier one of its blob is given, or itself.
+fn blob_plan(
+    alloc: Global,
+    uses: &BlobUses<'_>,
+    earlier: &[usize],
+) -> Result<(HeapPlan, Vec<u32>), PoolError>
+    requires uses { ¬ (¬ ((blobs : List (List ℕ)) × AreBlobUses IsUseOf uses.now blobs)) }
+    requires len { length earlier.now ≡ vec_len uses.now.kept }
+    requires earlier { AreEarlierUses uses.now.kept.items earlier.now }
     ensures heap { (blobs : List (List ℕ)) → AreBlobUses IsUseOf uses.now blobs → IfOk result (λ plan. plan.0.heap ≡ blob_heap (distinct blobs)) }
     ensures indexes { (blobs : List (List ℕ)) → AreBlobUses IsUseOf uses.now blobs
         → IfOk result (λ plan. plan.1.items ≡ map (blob_index (distinct blobs)) blobs) }
     ensures full { (blobs : List (List ℕ)) → AreBlobUses IsUseOf uses.now blobs → result ≡ Err PoolError.Full
         → 2 ^ 30 < length (blob_heap (distinct blobs)) }
 {
-    let written = written_blobs(alloc, &uses.kept)?;
+    let written = written_blobs(alloc, &uses.kept, earlier)?;
     let plan = written_plan(alloc, written)?;
     let indexes = indexes_of_uses(alloc, &uses.of_use, plan.indexes())?;
     Ok((plan, indexes))
@@ -81,7 +90,9 @@ pub fn pools_of<S: ReadCells>(alloc: Global, source: &S) -> Result<(TextPool, Nu
     let uses = heap_uses(alloc, source)?;
     let (texts, text_indexes) = uses.texts.plan(alloc)?;
     let guids = guid_plan(alloc, &uses.guids)?;
-    let (blobs, blob_indexes) = blob_plan(alloc, &uses.blobs)?;
+    let earlier = equal_uses(alloc, source, &uses.blobs.kept)?;
+    let (blobs, blob_indexes) = blob_plan(alloc, &uses.blobs, &earlier)?;
+    drop(earlier);
     drop(uses);
     let indexes = Indexes {
         texts: &text_indexes,

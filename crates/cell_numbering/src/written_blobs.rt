@@ -1,9 +1,11 @@
-ghost use Rattle.std.specs.Prelude.{◌≡◌, ◌^◌, ◌<◌, ◌≤◌, ◌++◌, ◌∷◌, [], ℕ, List, All, Err, IfOk, length, slice_index};
+ghost use Rattle.std.specs.Prelude.{◌≡◌, ◌^◌, ◌<◌, ◌≤◌, ◌++◌, ◌∷◌, [], ℕ, List, All, Err, IfOk, length, slice_index, vec_len};
 ghost use Rattle.std.specs.List.{AllZip};
 ghost use Rattle.heap_pools.specs.declared.pool_error.PoolError.TheVariants.{Full};
 ghost use Rattle.heap_pools.specs.BlobHeap.{blob_heap};
 ghost use Rattle.heap_pools.specs.Distinct.{distinct};
+ghost use Rattle.heap_pools.specs.Ranking.{used_at};
 ghost use Rattle.heap_pools.specs.Uses.{bytes_of};
+ghost use Rattle.cell_numbering.specs.EqualUses.{AreEarlierUses};
 ghost use Rattle.cell_numbering.specs.HeapUses.{IsUseOf};
 ghost use Rattle.cell_numbering.specs.BlobBytes.{AreWritten, all_bytes, bytes_at, bytes_in};
 
@@ -98,12 +100,26 @@ fn merged<'u>(alloc: Global, written: WrittenBlobs<'u>) -> Result<WrittenBlobs<'
     })
 }
 
-/// The blobs with that of one more use.
+/// The first one of an earlier use, or this one if there is no earlier use.
+fn first_of(firsts: &[usize], earlier: usize, own: usize) -> usize
+    ensures own { length firsts.now ≤ earlier → result ≡ own }
+    ensures earlier { earlier < length firsts.now → result ≡ slice_index firsts.now earlier }
+{
+    match firsts.get(earlier) {
+        Some(first) => *first,
+        None => own,
+    }
+}
+
+/// The blobs with that of one more use. An earlier use index with its blob is given, or its own.
 fn with_next<'u>(
     written: WrittenBlobs<'u>,
     next: BlobBytes<'u>,
+    earlier: usize,
 ) -> Result<WrittenBlobs<'u>, AllocError>
-    requires { AreWritten written.bytes.items written.firsts.items }
+    requires written { AreWritten written.bytes.items written.firsts.items }
+    requires earlier { earlier < vec_len written.firsts
+        → (used_at (all_bytes written.bytes.items written.firsts.items) earlier ≡ bytes_in next) × (0 < length (bytes_in next)) }
     ensures written { IfOk result (λ after. AreWritten after.bytes.items after.firsts.items) }
     ensures next { IfOk result (λ after. all_bytes after.bytes.items after.firsts.items
         ≡ all_bytes written.entry.bytes.items written.entry.firsts.items ++ bytes_in next.entry ∷ []) }
@@ -114,7 +130,8 @@ fn with_next<'u>(
         room,
     } = written;
     let room = room.saturating_sub(next.encoded_len());
-    firsts.push(bytes.len())?;
+    let first = first_of(&firsts, earlier, bytes.len());
+    firsts.push(first)?;
     bytes.push(next)?;
     Ok(WrittenBlobs {
         bytes,
@@ -123,7 +140,7 @@ fn with_next<'u>(
     })
 }
 
-/// The blobs that are written for these uses.
+/// The blobs that are written for these uses. For each one an earlier one with its blob is given, or itself.
 ///
 /// Their encodings take memory in proportion to the number of uses and to the heap of these blobs.
 ///
@@ -133,8 +150,11 @@ fn with_next<'u>(
 pub fn written_blobs<'u>(
     alloc: Global,
     uses: &'u [BlobUse<'_>],
+    earlier: &[usize],
 ) -> Result<WrittenBlobs<'u>, PoolError>
-    requires { ¬ (¬ ((blobs : List (List ℕ)) × AllZip IsUseOf uses.now blobs)) }
+    requires uses { ¬ (¬ ((blobs : List (List ℕ)) × AllZip IsUseOf uses.now blobs)) }
+    requires len { length earlier.now ≡ length uses.now }
+    requires earlier { AreEarlierUses uses.now earlier.now }
     ensures written { IfOk result (λ written. AreWritten written.bytes.items written.firsts.items) }
     ensures blobs { (blobs : List (List ℕ)) → AllZip IsUseOf uses.now blobs → IfOk result (λ written. all_bytes written.bytes.items written.firsts.items ≡ blobs) }
     ensures full { (blobs : List (List ℕ)) → AllZip IsUseOf uses.now blobs → result ≡ Err PoolError.Full
@@ -146,9 +166,9 @@ pub fn written_blobs<'u>(
         firsts: Vec::with_capacity(alloc, uses.len())?,
         room: room_for(uses.len(), 0),
     };
-    for found in uses {
-        let next = written_bytes(alloc, found)?;
-        written = with_next(written, next)?;
+    for use_index in 0..uses.len() {
+        let next = written_bytes(alloc, &uses[use_index])?;
+        written = with_next(written, next, earlier[use_index])?;
         written = merged(alloc, written)?;
     }
     Ok(written)

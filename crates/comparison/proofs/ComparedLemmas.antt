@@ -1,5 +1,5 @@
 -- What is noted of two cells is so in each row with the same numbers.
-use Rattle.std.proofs.Common.{◌≡◌, ◌∙◌, ◌+◌, ◌≤◌, ◌<◌, ℕ, Bool, true, false, List, Option, Some, None, ap, ap₂, sym, subst, cond, arith}
+use Rattle.std.proofs.Common.{◌≡◌, ◌∙◌, ◌+◌, ◌≤◌, ◌<◌, ◌++◌, ℕ, Bool, true, false, List, Option, Some, None, ap, ap₂, sym, subst, cond, arith}
 use Rattle.std.specs.Prelude.{IfSome}
 use Rattle.std.specs.Ordering.{is_eq}
 use Rattle.table_schema.specs.declared.table.TableId.{TableId}
@@ -19,21 +19,25 @@ use Rattle.metadata.specs.Valid.{kind_at}
 use Rattle.reading.specs.Shown.{Shows, ShowsCell}
 use Rattle.reading.specs.declared.cell_ref.CellRef.{CellRef}
 use Rattle.opening.specs.Views.{row_count}
+use Rattle.comparison.specs.BlobNames.{AreBlobNames}
+use Rattle.comparison.specs.declared.blob_names.BlobNames.{BlobNames}
 use Rattle.comparison.specs.declared.compared_cells.ComparedCells.{ComparedCells}
 use Rattle.comparison.specs.declared.compared_cells.Outcome.{Outcome}
-use Rattle.comparison.specs.ComparedCells.{AreOutcomes, IsInHeap, IsNoted, IsOutcome, key_cmp, outcome_at}
+use Rattle.comparison.specs.ComparedCells.{AreOutcomes, HasBlobNames, IsInHeap, IsNoted, IsOutcome, key_cmp, outcome_at}
 use Rattle.comparison.specs.SameCells.{is_same_cell}
 
 -- what was noted before and what is noted now
 pub outcomes_after : (left right : List ℕ) (table : TableId) (before after : ComparedCells) (key : ℕ × ℕ × ℕ) (noted : Outcome)
     → ((other : ℕ × ℕ × ℕ) → outcome_at after other ≡ cond (is_eq (key_cmp key other)) (Some noted) (outcome_at before other))
-    → AreOutcomes left right table before → IsNoted left right table noted → AreOutcomes left right table after
-outcomes_after left right table before after key noted updated was is =
-    λ other more found. go other more (is_eq (key_cmp key other)) (sym (updated other) ∙ found)
+    → after.blobs ≡ before.blobs → AreOutcomes left right table before → IsNoted left right table noted → AreOutcomes left right table after
+outcomes_after left right table before after key noted updated blobs was is = (
+  λ other more found. go other more (is_eq (key_cmp key other)) (sym (updated other) ∙ found),
+  subst (λ (names : BlobNames). AreBlobNames ((source_of left).blobs ++ (source_of right).blobs) names.names.items) (sym blobs) was.1,
+)
   where
     go : (other : ℕ × ℕ × ℕ) (more : Outcome) (same : Bool) → cond same (Some noted) (outcome_at before other) ≡ Some more → IsNoted left right table more
     go other more true found = let one : noted ≡ more = cc found in subst (IsNoted left right table) one is
-    go other more false found = was other more found
+    go other more false found = was.0 other more found
 
 -- what was noted of numbers, and of the next ones
 pub noted_of : (left right : List ℕ) (table : TableId) (compared : ComparedCells) (key : ℕ × ℕ × ℕ) (noted : Outcome) (cell_index m n : ℕ) → outcome_at compared key ≡ Some noted
@@ -43,7 +47,7 @@ noted_of left right table compared key noted cell_index m n found is all =
     let of = is.1 in
     subst (λ (i : ℕ). IsOutcome left right table i m n noted.same) (sym is.0)
     (subst (λ (i : ℕ). IsOutcome left right table noted.cell_index i n noted.same) (sym of.2)
-    (subst (λ (i : ℕ). IsOutcome left right table noted.cell_index (noted.left + of.0) i noted.same) (sym of.3) (all key noted found of.0 of.1)))
+    (subst (λ (i : ℕ). IsOutcome left right table noted.cell_index (noted.left + of.0) i noted.same) (sym of.3) (all.0 key noted found of.0 of.1)))
 
 -- what is noted of two numbers alone
 pub one_noted : (left right : List ℕ) (table : TableId) (cell_index m n : ℕ) (same : Bool) → IsOutcome left right table cell_index m n same
@@ -69,6 +73,10 @@ pub outcomes_kept : (left left_now right right_now : List ℕ) (table : TableId)
     → AreOutcomes left_now right_now table compared → AreOutcomes left right table compared
 outcomes_kept left left_now right right_now table compared left_is right_is all =
     subst (λ (root : List ℕ). AreOutcomes left root table compared) right_is (subst (λ (root : List ℕ). AreOutcomes root right_now table compared) left_is all)
+
+pub blobs_kept : (left left_now right right_now : List ℕ) (compared : ComparedCells) → left_now ≡ left → right_now ≡ right → HasBlobNames left_now right_now compared → HasBlobNames left right compared
+blobs_kept left left_now right right_now compared left_is right_is named =
+    subst (λ (root : List ℕ). HasBlobNames left root compared) right_is (subst (λ (root : List ℕ). HasBlobNames root right_now compared) left_is named)
 
 -- ---- cells
 

@@ -9,3 +9,4 @@ pub mod OutlineLemmas
 pub mod EqualLemmas
 pub mod IgnoredLemmas
 pub mod TextLemmas
+pub mod NameLemmas

@@ -1,5 +1,5 @@
 -- What is known of the cells of a table that were compared (ECMA-335 II.24.2.6).
-use Rattle.std.specs.Prelude.{◌≡◌, ◌+◌, ◌<◌, ◌≤◌, ℕ, Bool, List, Option, Some}
+use Rattle.std.specs.Prelude.{◌≡◌, ◌+◌, ◌<◌, ◌≤◌, ◌++◌, ℕ, Bool, List, Option, Some}
 use Rattle.std.specs.Ordering.{nat_cmp, ordering_then}
 use Rattle.std.specs.declared.cmp.Ordering.{Ordering}
 use Rattle.std.specs.BTreeMap.{get}
@@ -12,6 +12,7 @@ use Rattle.metadata.specs.Model.{IsModel}
 use Rattle.metadata.specs.Source.{number_of}
 use Rattle.metadata.specs.SourceAt.{source_of}
 use Rattle.opening.specs.Views.{row_count}
+use Rattle.comparison.specs.BlobNames.{AreBlobNames}
 use Rattle.comparison.specs.declared.compared_cells.ComparedCells.{ComparedCells}
 use Rattle.comparison.specs.declared.compared_cells.Outcome.{Outcome}
 use Rattle.comparison.specs.SameCells.{is_same_cell}
@@ -31,6 +32,10 @@ key_cmp a b = ordering_then (ordering_then (nat_cmp a.0 b.0) (nat_cmp a.1 b.1)) 
 abbrev pub outcome_at : ComparedCells → ℕ × ℕ × ℕ → Option Outcome
 outcome_at compared key = get key_cmp compared.outcomes key
 
+-- the names are those of the blobs of two roots, whose heaps are joined
+abbrev pub HasBlobNames : List ℕ → List ℕ → ComparedCells → Type 0
+HasBlobNames left right compared = AreBlobNames ((source_of left).blobs ++ (source_of right).blobs) compared.blobs.names.items
+
 module _ (left right : List ℕ) (table : TableId) where
   -- whether a cell is equal in each row of two roots that has these numbers in the column of the cell
   abbrev pub IsOutcome : ℕ → ℕ → ℕ → Bool → Type 0
@@ -43,6 +48,6 @@ module _ (left right : List ℕ) (table : TableId) where
   abbrev pub IsNoted : Outcome → Type 0
   IsNoted noted = (k : ℕ) → k < noted.count → IsOutcome noted.cell_index (noted.left + k) (noted.right + k) noted.same
 
-  -- what was noted is so
+  -- what was noted is so, and the names are those of the blobs
   abbrev pub AreOutcomes : ComparedCells → Type 0
-  AreOutcomes compared = (key : ℕ × ℕ × ℕ) (noted : Outcome) → outcome_at compared key ≡ Some noted → IsNoted noted
+  AreOutcomes compared = ((key : ℕ × ℕ × ℕ) (noted : Outcome) → outcome_at compared key ≡ Some noted → IsNoted noted) × HasBlobNames left right compared

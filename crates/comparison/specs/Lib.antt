@@ -1,4 +1,5 @@
 pub mod Alike
+pub mod BlobNames
 pub mod ComparedCells
 pub mod Differences
 pub mod EqualBut

@@ -6,7 +6,7 @@ ghost use Rattle.metadata.specs.Model.{IsModel};
 ghost use Rattle.metadata.specs.SourceAt.{source_of};
 ghost use Rattle.opening.specs.Views.{row_count};
 ghost use Rattle.comparison.specs.Alike.{AreAlike, AreSameParts};
-ghost use Rattle.comparison.specs.ComparedCells.{AreOutcomes};
+ghost use Rattle.comparison.specs.ComparedCells.{AreOutcomes, HasBlobNames};
 ghost use Rattle.comparison.specs.Differences.{Grows, IsThere, cell_difference, cell_differences, cell_differences_but, row_differences, table_differences};
 
 use crate::compared_cells::ComparedCells;
@@ -24,10 +24,11 @@ use table_schema::cell_count;
 /// If the roots have the same bytes, no cell is read. Otherwise each cell is read at most once, until `limit` are found,
 /// and none of a table or a row whose bytes show that it is the same. A signature is decoded only if its blobs have other
 /// bytes. Values that rows of a table name again are compared once, unless they are short, and texts up to one NUL together.
+/// Equal blobs of all tables are found together, once many that overlap were compared.
 ///
 /// # Errors
 ///
-/// Only if out of memory.
+/// Only if out of memory. If blobs overlap it takes seventeen bytes for each byte of both blob heaps.
 pub fn differing_cells(
     alloc: Global,
     left: &View<'_>,
@@ -65,6 +66,7 @@ pub fn differing_cells_but(
     let same = SameParts::of(left.source(), right.source());
     let mut left_cells = CellCursor::new(left);
     let mut right_cells = CellCursor::new(right);
+    let mut compared = ComparedCells::new(alloc);
     for table in TableId::all() {
         find_in_table(
             alloc,
@@ -74,6 +76,7 @@ pub fn differing_cells_but(
             &same,
             ignored,
             limit,
+            &mut compared,
             &mut found,
         )?;
     }
@@ -89,12 +92,15 @@ fn find_in_table(
     same: &SameParts,
     ignored: &IgnoredColumns,
     limit: usize,
+    compared: &mut ComparedCells,
     found: &mut Vec<Difference>,
 ) -> Result<(), AllocError>
     requires same { AreSameParts (source_of left.old) (source_of right.old) same.now }
+    requires blobs { HasBlobNames left.old right.old compared.old }
     requires few { length found.old.items ≤ limit }
     ensures left { left.new ≡ left.old }
     ensures right { right.new ≡ right.old }
+    ensures blobs { OnOk result (HasBlobNames left.old right.old compared.new) }
     ensures few { OnOk result (length found.new.items ≤ limit) }
     ensures there { OnOk result (All (IsThere left.old right.old) found.old.items → All (IsThere left.old right.old) found.new.items) }
     ensures sound { (first second : Metadata) → IsModel left.old first → IsModel right.old second
@@ -106,7 +112,7 @@ fn find_in_table(
         return Ok(());
     }
     let count = left_view.count(table).min(right_view.count(table));
-    let mut compared = ComparedCells::new(alloc);
+    compared.begin_table(alloc);
     for earlier in 0..count {
         find_in_row(
             alloc,
@@ -117,7 +123,7 @@ fn find_in_table(
             alike,
             ignored,
             limit,
-            &mut compared,
+            compared,
             found,
         )?;
     }

@@ -1,8 +1,9 @@
 //! What a comparison remembers of the cells that it has compared.
 ghost use Rattle.std.specs.Prelude.{◌≡◌, ◌<◌, ◌+◌, ℕ, List, true, IfSome, OnOk};
 ghost use Rattle.table_schema.specs.declared.table.TableId.{TableId as Table};
-ghost use Rattle.comparison.specs.ComparedCells.{AreOutcomes, IsNoted, IsOutcome};
+ghost use Rattle.comparison.specs.ComparedCells.{AreOutcomes, HasBlobNames, IsNoted, IsOutcome};
 
+use crate::blob_names::BlobNames;
 use std::alloc::{AllocError, Global};
 use std::collections::BTreeMap;
 
@@ -45,25 +46,35 @@ fn key_of(cell_index: usize, left: u32, right: u32) -> (usize, u32, u32) {
 }
 
 /// Whether cells of a table are equal, by the index of the cell in its row and the numbers of its column in the two roots.
-/// So the value that many rows name is compared once.
+/// So the value that many rows name is compared once. Blobs are also known to be equal by their names, in all tables.
 #[derive(Drop)]
 pub(crate) struct ComparedCells {
     outcomes: BTreeMap<(usize, u32, u32), Outcome>,
+    /// The names of the blobs of both roots.
+    pub blobs: BlobNames,
 }
 
 impl ComparedCells {
     /// No cells yet. The call does not allocate.
     pub(crate) fn new(alloc: Global) -> ComparedCells
-        ensures { (left right : List ℕ) (table : Table) → AreOutcomes left right table result }
+        ensures { (left right : List ℕ) → HasBlobNames left right result }
     {
         ComparedCells {
             outcomes: BTreeMap::new(alloc),
+            blobs: BlobNames::new(alloc),
         }
     }
 
-    /// Whether nothing was noted.
+    /// Forgets the cells of the table before. The names of the blobs are kept.
+    pub(crate) fn begin_table(&mut self, alloc: Global)
+        ensures { (left right : List ℕ) (table : Table) → HasBlobNames left right self.old → AreOutcomes left right table self.new }
+    {
+        self.outcomes = BTreeMap::new(alloc);
+    }
+
+    /// Whether nothing was noted and no blob is named.
     pub(crate) fn is_empty(&self) -> bool {
-        self.outcomes.is_empty()
+        self.outcomes.is_empty() && self.blobs.names.is_empty()
     }
 
     /// Whether the cells with these numbers are equal; `None` if that was not noted.

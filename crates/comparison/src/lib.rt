@@ -15,6 +15,7 @@
 #![tactic(auto)]
 
 mod all;
+mod blob_names;
 mod cells;
 mod compared_cells;
 mod difference;

@@ -57,10 +57,6 @@ fn blobs_of<'a, 'b>(left: CellRef<'a>, right: CellRef<'b>) -> Option<(&'a [u8], 
 }
 
 /// Whether two cells are equal, in columns of one kind.
-///
-/// # Errors
-///
-/// Only if out of memory.
 pub(crate) fn same_cell(
     alloc: Global,
     kind: ColumnKind,

@@ -1,5 +1,5 @@
 //! Whether a cell is equal in a row of two views.
-ghost use Rattle.std.specs.Prelude.{◌≡◌, ◌≤◌, ◌<◌, IfOk, IfSome, IsTrue, OnOk};
+ghost use Rattle.std.specs.Prelude.{◌≡◌, ◌≤◌, ◌<◌, true, IfOk, IfSome, IsTrue, OnOk};
 ghost use Rattle.table_schema.specs.declared.column.ColumnKind.TheVariants.{Text};
 ghost use Rattle.table_schema.specs.CellColumns.{cell_count, column_of};
 ghost use Rattle.metadata.specs.Metadata.{Metadata, cell_in};
@@ -8,7 +8,7 @@ ghost use Rattle.metadata.specs.Source.{number_of};
 ghost use Rattle.metadata.specs.SourceAt.{source_of};
 ghost use Rattle.metadata.specs.Valid.{kind_at};
 ghost use Rattle.opening.specs.Views.{row_count};
-ghost use Rattle.comparison.specs.ComparedCells.{AreOutcomes, IsInHeap, IsNoted};
+ghost use Rattle.comparison.specs.ComparedCells.{AreOutcomes, HasBlobNames, IsInHeap, IsNoted, IsOutcome};
 ghost use Rattle.comparison.specs.SameCells.{is_same_cell};
 
 use crate::compared_cells::{ComparedCells, Outcome};
@@ -65,7 +65,34 @@ fn numbers_of(
     (left_number, right_number)
 }
 
-/// Whether a cell of a row is equal in two views, if that was noted of an earlier row with the same numbers.
+/// Whether the cells with two numbers are blobs with one name, and so equal.
+fn is_named_same(
+    left: &CellCursor<'_, '_>,
+    right: &CellCursor<'_, '_>,
+    table: TableId,
+    cell_index: usize,
+    numbers: (u32, u32),
+    compared: &ComparedCells,
+) -> bool
+    requires cell_index { cell_index < cell_count table }
+    requires blobs { HasBlobNames left.now right.now compared.now }
+    ensures { IsTrue result → IsOutcome left.now right.now table cell_index numbers.0 numbers.1 true }
+{
+    metadata::laws::models_are_read();
+    laws::cells_are_tested();
+    if compared.blobs.names.is_empty() {
+        return false;
+    }
+    let ColumnKind::Blob = kind_of(table, cell_index) else {
+        return false;
+    };
+    let left_heap = left.view().source().blobs();
+    let names = &compared.blobs;
+    names.have_one_name(left_heap.len(), numbers.0, numbers.1)
+}
+
+/// Whether a cell of a row is equal in two views, if that was noted of an earlier row with the same numbers, or if both
+/// are blobs with one name.
 fn known_in_row(
     left: &CellCursor<'_, '_>,
     right: &CellCursor<'_, '_>,
@@ -85,8 +112,11 @@ fn known_in_row(
     if compared.is_empty() {
         return None;
     }
-    let (left_number, right_number) = numbers_of(left, right, table, row, cell_index);
-    compared.known(cell_index, left_number, right_number)
+    let numbers = numbers_of(left, right, table, row, cell_index);
+    if is_named_same(left, right, table, cell_index, numbers, compared) {
+        return Some(true);
+    }
+    compared.known(cell_index, numbers.0, numbers.1)
 }
 
 /// The length of a text, in a column of texts.
@@ -121,10 +151,6 @@ fn noted_of_texts(
 }
 
 /// Notes whether a cell of a row is equal in two views. Of a text this is noted of all texts that end with the same bytes.
-///
-/// # Errors
-///
-/// Only if out of memory.
 fn note_in_row(
     left: &CellCursor<'_, '_>,
     right: &CellCursor<'_, '_>,
@@ -160,12 +186,30 @@ fn note_in_row(
     })
 }
 
+/// Counts the bytes of a blob that is equal in two views, so that blobs are named after many of them.
+fn count_blob(
+    alloc: Global,
+    left: &CellCursor<'_, '_>,
+    right: &CellCursor<'_, '_>,
+    table: TableId,
+    left_value: CellRef<'_>,
+    same: bool,
+    compared: &mut ComparedCells,
+) -> Result<(), AllocError>
+    requires { AreOutcomes left.now right.now table compared.old }
+    ensures { OnOk result (AreOutcomes left.now right.now table compared.new) }
+{
+    let (CellRef::Bytes(blob), true) = (left_value, same) else {
+        return Ok(());
+    };
+    let (left_source, right_source) = (left.view().source(), right.view().source());
+    compared
+        .blobs
+        .count_compared(alloc, left_source, right_source, blob.len())
+}
+
 /// Whether a cell of a row is equal in two views. What it takes long to compare is noted, and known in a later row with the
 /// same numbers.
-///
-/// # Errors
-///
-/// Only if out of memory.
 pub(crate) fn is_same_in_row(
     alloc: Global,
     left: &mut CellCursor<'_, '_>,
@@ -197,6 +241,7 @@ pub(crate) fn is_same_in_row(
         note_in_row(
             left, right, table, row, cell_index, left_value, same, compared,
         )?;
+        count_blob(alloc, left, right, table, left_value, same, compared)?;
     }
     Ok(same)
 }

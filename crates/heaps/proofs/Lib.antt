@@ -6,3 +6,5 @@ pub mod FirstsLemmas
 pub mod GuidPlanLemmas
 pub mod BytesLemmas
 pub mod UserHeapLemmas
+mod EntryLemmas
+mod WindowLemmas

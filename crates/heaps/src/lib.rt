@@ -10,7 +10,8 @@
 //! first use; a text that another one ends with is part of that one's entry. A [`HeapPlan`] is planned from all values at
 //! once: it has the bytes and the indexes of the pool to which the same values were added in turn. It sorts and does not
 //! hash, so its time does not depend on who chose the values. The length of the heap is known, and `Full` is returned,
-//! before the heap is allocated. A [`UserHeap`] holds each user string that is pushed, and returns its offset, by which
+//! before the heap is allocated. [`equal_blobs`] spares it the comparison of blobs that overlap in the heap that they are
+//! read from. A [`UserHeap`] holds each user string that is pushed, and returns its offset, by which
 //! the code of methods names it. `laws.rt` states that pooled values are read back, and that blobs and GUIDs keep their
 //! index as a pool grows.
 //!
@@ -28,8 +29,10 @@ mod first_byte;
 mod guid_pool;
 mod heap_plan;
 pub mod laws;
+mod overlaps;
 mod user_heap;
 mod user_laws;
+mod windows;
 
 pub use blob_pool::{BlobPool, write_blob};
 pub use first_byte::begin;
@@ -39,5 +42,6 @@ pub use heap_entries::{
 };
 pub use heap_plan::{HeapPlan, SortedBlobs, SortedGuids};
 pub use heap_pools::{HEAP_LIMIT, PoolError, SortedTexts, TextPool};
+pub use overlaps::equal_blobs;
 pub use packed::{Fault, FaultCode};
 pub use user_heap::UserHeap;

@@ -1,3 +1,4 @@
+pub mod BlobsIn
 pub mod ColumnNumbers
 pub mod Keys
 pub mod MemberLists

@@ -15,6 +15,7 @@ pub trait ReadCells: ReadMetadata {
     ghost use Rattle.metadata.specs.Valid.{kind_at};
     ghost use Rattle.reading.specs.Shown.{Shows};
     ghost use Rattle.reading.specs.declared.run_cursors.RunCursors.{RunCursors as Cursors};
+    ghost use Rattle.metadata_source.specs.BlobsIn.{AreBlobsIn};
     ghost use Rattle.metadata_source.specs.ColumnNumbers.{AreIndexesIn, AreNumbersIn};
     ghost use Rattle.metadata_source.specs.SharedBlobs.{CellId, HasCell, ShareBlob, cell_by_id};
     ghost use Rattle.metadata_source.specs.SignatureBytes.{AreBytesOf};
@@ -103,4 +104,9 @@ pub trait ReadCells: ReadMetadata {
     /// are not read from heaps.
     fn strings_heap(&self) -> Option<&[u8]>
         ensures { (model : Metadata) → Self.shows self.now model → IfSome result (λ heap. AreTextsIn (Self.heap_index self.now) heap.now model) };
+
+    /// The bytes of the blob heap that has the blob of each cell in a column of blobs, at the cell's index (II.24.2.4).
+    /// `None` if the cells are not read from heaps.
+    fn blob_heap(&self) -> Option<&[u8]>
+        ensures { (model : Metadata) → Self.shows self.now model → IfSome result (λ heap. AreBlobsIn (Self.heap_index self.now) heap.now model) };
 }

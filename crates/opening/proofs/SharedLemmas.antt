@@ -1,11 +1,11 @@
--- Two cells whose blobs are at one index of the blob heap are equal, and each text is at the index of its cell.
+-- Two cells whose blobs are at one index of the blob heap are equal, and each text and each blob is at the index of its cell.
 use Rattle.std.proofs.Common.{◌≡◌, ℕ, Bool, List, Some, sym, subst}
 use Rattle.table_schema.specs.declared.table.TableId.{TableId}
 use Rattle.table_schema.specs.declared.column.ColumnKind.{ColumnKind}
 use Rattle.table_schema.specs.declared.column.ColumnKind.TheVariants as kind
 use Rattle.table_schema.specs.CellColumns.{column_of}
-use Rattle.heap_entries.specs.Entries.{IsText}
-use Rattle.metadata.specs.Cell.{Cell, Text}
+use Rattle.heap_entries.specs.Entries.{IsBlob, IsText}
+use Rattle.metadata.specs.Cell.{Bytes, Cell, Text}
 use Rattle.metadata.specs.Rows.{IsCell}
 use Rattle.metadata.specs.Source.{Source, number_of}
 use Rattle.metadata.specs.Stands.{StandsFor}
@@ -50,6 +50,15 @@ represented source first second share cell is =
 pub text_stands : (source : Source) (id : CellId) (cell : Cell) → kind_by_id id ≡ kind.Text → IsCell source id.table id.row id.cell_index cell
     → (text : List ℕ) × IsText source.texts (number_by_id source id) text × (cell ≡ Text text)
 text_stands source id cell column is =
+    let nullable = nullable_at id.table id.cell_index in
+    let start = start_of source id.table id.row (column_of id.table id.cell_index) in
+    let P : ColumnKind → Type 0 = λ k. StandsFor source k nullable start (number_by_id source id) cell in
+    subst P column is
+
+-- the number in a column of blobs represents the blob at this index of the heap
+pub blob_stands : (source : Source) (id : CellId) (cell : Cell) → kind_by_id id ≡ kind.Blob → IsCell source id.table id.row id.cell_index cell
+    → (blob : List ℕ) × IsBlob source.blobs (number_by_id source id) blob × (cell ≡ Bytes blob)
+blob_stands source id cell column is =
     let nullable = nullable_at id.table id.cell_index in
     let start = start_of source id.table id.row (column_of id.table id.cell_index) in
     let P : ColumnKind → Type 0 = λ k. StandsFor source k nullable start (number_by_id source id) cell in

@@ -95,6 +95,11 @@ impl ReadCells for View<'_> {
         Some(self.source().texts())
     }
 
+    fn blob_heap(&self) -> Option<&[u8]> {
+        metadata::laws::models_are_read();
+        Some(self.source().blobs())
+    }
+
     fn run_cursors(&self) -> RunCursors {
         RunCursors::new()
     }

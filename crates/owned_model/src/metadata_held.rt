@@ -88,6 +88,10 @@ impl ReadCells for Model {
         None
     }
 
+    fn blob_heap(&self) -> Option<&[u8]> {
+        None
+    }
+
     fn run_cursors(&self) -> RunCursors {
         RunCursors::new()
     }

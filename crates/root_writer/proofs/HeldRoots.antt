@@ -21,7 +21,7 @@ use Rattle.metadata.specs.Valid as valid
 use Rattle.metadata.specs.Valid.{IsValid}
 use Rattle.root_writer.proofs.Lists.{are_from}
 use Rattle.root_writer.proofs.Facts.{Facts}
-use Rattle.root_writer.proofs.PositionLemmas.{table_index_at}
+use Rattle.table_schema.proofs.TableFacts.{table_index_at}
 
 -- ---- cells
 
@@ -125,5 +125,5 @@ module _ (facts : Facts) (model : Metadata) (valid : IsValid model) where
   tables_valid =
       are_from (AreValidRows model) 0 38 model.tables [] valid.tables
       (λ k j below e.
-      let same : table_index_of (table_at j) ≡ k = table_index_at facts.count j (omega arith) ∙ omega arith in
+      let same : table_index_of (table_at j) ≡ k = table_index_at j (omega arith) ∙ omega arith in
       subst (λ i. AllByRecursion (IsValidRow model (table_at j)) (get_or model.tables i [])) same (table_valid (table_at j)))

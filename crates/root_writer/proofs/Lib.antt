@@ -18,5 +18,4 @@ pub mod RootLemmas
 pub mod RowLemmas
 pub mod TableLemmas
 pub mod FlatLemmas
-pub mod PositionLemmas
 pub mod ReadyLemmas

@@ -1,5 +1,5 @@
 -- The cells of a valid model can be numbered.
-use Rattle.std.proofs.Common.{◌≡◌, ℕ, ◌+◌, ◌-◌, ◌<◌, ◌≤◌, Bool, List, [], length, get_or, Some, None, sym, ap, subst, ◌∙◌, arith}
+use Rattle.std.proofs.Common.{◌≡◌, ℕ, ◌+◌, ◌-◌, ◌<◌, ◌≤◌, Bool, List, [], length, get_or, Some, sym, ap, subst, ◌∙◌, arith}
 use Rattle.std.specs.Prelude.{flat_map}
 use Rattle.std.specs.List.{All, AllByRecursion}
 use Rattle.std.proofs.lemmas.List.Elements.{All-from_get_or, All-from_recursion, recursion_from_All}
@@ -11,13 +11,13 @@ use Rattle.table_schema.specs.Tables.{tables}
 use Rattle.table_schema.specs.CellColumns.{cell_count}
 use Rattle.heap_entries.specs.Entries.{HasNoNul}
 use Rattle.sig_grammar.specs.Syntax.{Body}
-use Rattle.metadata.specs.Cell.{Cell, Number, Text, Bytes, Guid, Ref, Start, Sig}
+use Rattle.metadata.specs.Cell.{Cell, Number, Text, Bytes, Ref, Sig}
 use Rattle.metadata.specs.Lookups.{HasRow}
 use Rattle.metadata.specs.Metadata.{Metadata, rows_of, count_in, cell_in}
 use Rattle.metadata.specs.Valid.{IsValid, IsValidCell, kind_at, nullable_at}
 use Rattle.root_writer.specs.Pools.{used, texts_of}
 use Rattle.root_writer.proofs.Lists.{all_flat_map}
-use Rattle.root_writer.proofs.PositionLemmas.{table_index_at}
+use Rattle.table_schema.proofs.TableFacts.{table_index_at}
 use Rattle.root_writer.specs.Numbered.{CanBeNumbered}
 
 -- ---- cells
@@ -28,14 +28,10 @@ sig_ready model _ nullable signature valid = absurd valid.of_kind
 
 cell_ready : (model : Metadata) (k : ColumnKind) (nullable : Bool) (cell : Cell) → ((table : TableId) → count_in model table ≤ 0xFFFFFF)
     → IsValidCell model k nullable cell → CanBeNumbered cell
-cell_ready model k nullable (Number number) few valid = tt
-cell_ready model k nullable (Text text) few valid = tt
 cell_ready model k nullable (Bytes blob) few valid = valid.storable
-cell_ready model k nullable (Guid guid) few valid = tt
-cell_ready model k nullable (Ref None) few valid = tt
 cell_ready model k nullable (Ref (Some token)) few valid = omega (arith, valid.refers.1, few token.table)
-cell_ready model k nullable (Start start) few valid = tt
 cell_ready model k nullable (Sig signature) few valid = sig_ready model k nullable signature valid
+cell_ready model k nullable _ few valid = tt
 
 cell_text : (model : Metadata) (k : ColumnKind) (nullable : Bool) (cell : Cell) → IsValidCell model k nullable cell → AllByRecursion HasNoNul (texts_of cell)
 cell_text model k nullable (Text text) valid = (valid.storable.0, tt)
@@ -78,7 +74,7 @@ pub all_tables : (model : Metadata) → length tables ≡ 38 → IsValid model �
     → ((table : TableId) → AllByRecursion (AllByRecursion P) (rows_of model table)) → AllByRecursion (AllByRecursion (AllByRecursion P)) model.tables
 all_tables model count valid P each =
     recursion_from_All (AllByRecursion (AllByRecursion P)) model.tables (All-from_get_or (AllByRecursion (AllByRecursion P)) model.tables [] (λ k below.
-    subst (λ (i : ℕ). AllByRecursion (AllByRecursion P) (get_or model.tables i [])) (table_index_at count k (omega (arith, below, valid.tables)))
+    subst (λ (i : ℕ). AllByRecursion (AllByRecursion P) (get_or model.tables i [])) (table_index_at k (omega (arith, below, valid.tables)))
     (each (get_or tables k Module))))
 
 pub all_used : (values : Cell → List (List ℕ)) (model : Metadata) (P : List ℕ → Type 0)

@@ -47,10 +47,7 @@ is_name name short ascii no_nul = record { short = short; ascii = IsAscii-from_a
 
 name_is : (kind : Kind) → IsStreamName (stream_name kind)
 name_is Tables = is_name _ (lit≤ tt) (search rules) (search rules)
-name_is Strings = is_name _ (lit≤ tt) (search rules) (search rules)
-name_is UserStrings = is_name _ (lit≤ tt) (search rules) (search rules)
-name_is Guids = is_name _ (lit≤ tt) (search rules) (search rules)
-name_is Blobs = is_name _ (lit≤ tt) (search rules) (search rules)
+name_is _ = is_name _ (lit≤ tt) (search rules) (search rules)
 
 same_kind : (a b : Kind) → bytes_eq (stream_name a) (stream_name b) ≡ true → a ≡ b
 same_kind Tables Tables e = refl

@@ -25,7 +25,7 @@ use Rattle.metadata.specs.Valid.{start_in, HasOwners, IsValid}
 use Rattle.root_writer.proofs.HeldRoots.{IsValidCell, row_long, cell_valid}
 use Rattle.root_writer.proofs.Lists.{in_get_or, in_three, are_from}
 use Rattle.root_writer.proofs.Facts.{Facts}
-use Rattle.root_writer.proofs.PositionLemmas.{table_index_at}
+use Rattle.table_schema.proofs.TableFacts.{table_index_at}
 use Rattle.root_writer.proofs.Widths.{count_is}
 use Rattle.root_writer.proofs.Stands.{source_with, IsUsed, IsWithin, HasNull, stands}
 use Rattle.root_writer.proofs.Rows.{fields, cells_of, number_is, located}
@@ -248,7 +248,7 @@ module _ (facts : Facts) (model : Metadata) (valid : IsValid model) (within : Is
   tables_stand =
       are_from (IsTableAt (source_of model)) 0 38 model.tables [] valid.tables
       (λ k j below e.
-      let same : table_index_of (table_at j) ≡ k = table_index_at facts.count j (omega arith) ∙ omega arith in
+      let same : table_index_of (table_at j) ≡ k = table_index_at j (omega arith) ∙ omega arith in
       subst (λ i. IsTable (source_of model) (table_at j) (get_or model.tables i [])) same (table_stands (table_at j)))
 
   -- ---- each member has one owner

@@ -7,16 +7,20 @@ use Rattle.heap_pools.specs.declared.pool_error.PoolError.TheVariants.{Full}
 use Rattle.heap_pools.specs.BlobHeap.{blob_heap, blob_index}
 use Rattle.heap_pools.specs.Distinct.{distinct}
 use Rattle.cell_numbering.specs.declared.blob_use.BlobUse.{BlobUse}
+use Rattle.cell_numbering.specs.EqualUses.{AreEarlierUses}
 use Rattle.cell_numbering.specs.HeapUses.{IsUseOf}
 use Rattle.cell_numbering.proofs.BlobLemmas.{indexes_are}
 use Rattle.cell_numbering.proofs.pools.blob_plan.Goals as goal
 
-pub written_blobs-requires : goal.written_blobs-requires
-written_blobs-requires c = λ none. c.requires (λ some.
+pub written_blobs-requires-clause-uses : goal.written_blobs-requires-clause-uses
+written_blobs-requires-clause-uses c = λ none. c.requires.uses (λ some.
     none (some.1.kept, subst (λ (uses : List BlobUse). AllZip IsUseOf uses some.1.kept) (sym c.deref.ensures.value) some.1.each))
 
+pub written_blobs-requires-clause-earlier : goal.written_blobs-requires-clause-earlier
+written_blobs-requires-clause-earlier c = subst (λ (uses : List BlobUse). AreEarlierUses uses c.args.earlier.now) (sym c.deref.ensures.value) c.requires.earlier
+
 pub written_plan-requires-clause-short : goal.written_plan-requires-clause-short
-written_plan-requires-clause-short c = λ k d h. lt_of_not-le (λ long. c.requires (λ some.
+written_plan-requires-clause-short c = λ k d h. lt_of_not-le (λ long. c.requires.uses (λ some.
     let all = some.1 in
     let written = c.in_ok-written.ensures.blobs all.kept (subst (λ (uses : List BlobUse). AllZip IsUseOf uses all.kept) (sym c.deref.ensures.value) all.each) in
     let short = subst (λ (list : List (List ℕ)). All (λ (blob : List ℕ). length blob < 2 ^ 29) list) (sym written) all.refer.short in

@@ -10,7 +10,10 @@ use Rattle.heap_pools.specs.TextHeap.{holders, text_heap, text_index}
 use Rattle.heap_pools.specs.declared.pool_error.PoolError.TheVariants.{Full}
 use Rattle.root_writer.specs.Pools.{blobs_of, guids_of, texts_of, used}
 use Rattle.cell_numbering.specs.declared.numbers_so_far.Indexes.{Indexes}
-use Rattle.cell_numbering.specs.HeapUses.{AreIndexes, all_cells, guid_of}
+use Rattle.cell_numbering.specs.declared.blob_use.BlobUse.{BlobUse}
+use Rattle.cell_numbering.specs.EqualUses.{AreEarlierUses}
+use Rattle.cell_numbering.specs.HeapUses.{AreIndexes, IsUseIn, all_cells, guid_of}
+use Rattle.std.specs.List.{AllZip}
 use Rattle.cell_numbering.specs.TextUses.{used_texts}
 use Rattle.cell_numbering.proofs.UseLemmas.{guids_are, used_is, uses_of}
 use Rattle.cell_numbering.proofs.pools.pools_of.Goals as goal
@@ -38,8 +41,20 @@ returns-in_err-guids-clause-full g c = λ model is e.
     let same = ap (flat_map given) (c.deref.ensures.value ∙ (c.in_ok-uses.ensures model is).guids) ∙ guids_are (all_cells model) ∙ sym (used_is guids_of model) in
     inr (inr (subst (λ (l : List (List ℕ)). 2 ^ 30 < length (guid_heap (distinct l))) same (c.guid_plan.ensures.full full)))
 
-pub blob_plan-requires : goal.blob_plan-requires
-blob_plan-requires g c = λ none. not_there c.holds_one.ensures.shown (λ some.
+pub equal_uses-requires : goal.equal_uses-requires
+equal_uses-requires g c = λ none. not_there c.holds_one.ensures.shown (λ some.
+    let index_of = g.S.ReadCells.heap_index c.args.source.now in
+    let uses = (c.in_ok-uses.ensures some.0 some.1).blobs in
+    none (some.0, some.1, (uses.kept, subst (λ (list : List BlobUse). AllZip (IsUseIn index_of some.0) list uses.kept) (sym c.deref-2.ensures.value) uses.each)))
+
+pub blob_plan-requires-clause-earlier : goal.blob_plan-requires-clause-earlier
+blob_plan-requires-clause-earlier g c =
+    let earlier = c.in_ok-earlier.earlier.items in
+    subst (AreEarlierUses c.in_ok-uses.uses.blobs.kept.items) (sym c.deref-3.ensures.value)
+    (subst (λ (list : List BlobUse). AreEarlierUses list earlier) c.deref-2.ensures.value c.in_ok-earlier.ensures.earlier)
+
+pub blob_plan-requires-clause-uses : goal.blob_plan-requires-clause-uses
+blob_plan-requires-clause-uses g c = λ none. not_there c.holds_one.ensures.shown (λ some.
     let blobs = flat_map blobs_of (all_cells some.0) in
     none (
       blobs,
@@ -63,13 +78,13 @@ returns-clause-pools g c = λ model is.
     let texts_are : used_texts c.in_ok-uses.uses.texts ≡ texts = in_uses.texts.texts in
     let guids_given : flat_map given guids ≡ used guids_of model = guids_are (all_cells model) ∙ sym (used_is guids_of model) in
     let guids_is = c.deref.ensures.value ∙ in_uses.guids in
-    let indexes : Indexes = record { texts = c.deref-2.result; guids = c.indexes.result; blobs = c.deref-3.result } in
+    let indexes : Indexes = record { texts = c.deref-4.result; guids = c.indexes.result; blobs = c.deref-5.result } in
     let are : AreIndexes model indexes = record {
-      texts = c.deref-2.ensures.value ∙ c.in_ok-texts.ensures.indexes ∙ ap (λ (l : List (List ℕ)). map (text_index (holders l)) l) texts_are
+      texts = c.deref-4.ensures.value ∙ c.in_ok-texts.ensures.indexes ∙ ap (λ (l : List (List ℕ)). map (text_index (holders l)) l) texts_are
           ∙ ap (λ (l : List (List ℕ)). map (text_index (holders l)) texts) (sym (used_is texts_of model));
       guids = c.indexes.ensures ∙ c.in_ok-guids.ensures.indexes ∙ ap (λ l. map (guid_index (distinct (flat_map given l))) l) guids_is
           ∙ ap (λ (l : List (List ℕ)). map (guid_index (distinct l)) guids) guids_given;
-      blobs = c.deref-3.ensures.value ∙ c.in_ok-blobs.ensures.indexes blobs uses ∙ ap (λ (l : List (List ℕ)). map (blob_index (distinct l)) blobs) (sym (used_is blobs_of model));
+      blobs = c.deref-5.ensures.value ∙ c.in_ok-blobs.ensures.indexes blobs uses ∙ ap (λ (l : List (List ℕ)). map (blob_index (distinct l)) blobs) (sym (used_is blobs_of model));
     } in (
       c.in_ok-texts.ensures.entries ∙ ap holders (texts_are ∙ sym (used_is texts_of model)),
       record {

@@ -1,4 +1,4 @@
-use Rattle.std.proofs.Common.{◌≡◌, ◌∙◌, ◌<◌, ◌≤◌, ℕ, List, ap, length, take, get_or, subst, sym, arith}
+use Rattle.std.proofs.Common.{◌≡◌, ◌∙◌, ◌<◌, ◌≤◌, ℕ, List, [], All, ap, length, take, get_or, refl, subst, sym, arith}
 use Rattle.table_schema.specs.declared.table.TableId.{TableId}
 use Rattle.table_schema.specs.declared.table.TableId.TheVariants.{Module}
 use Rattle.table_schema.specs.Tables.{tables}
@@ -7,8 +7,9 @@ use Rattle.metadata.specs.Source.{Source}
 use Rattle.metadata.specs.SourceAt.{source_of}
 use Rattle.comparison.specs.Alike.{AreSameParts}
 use Rattle.comparison.specs.declared.difference.Difference.{Difference}
-use Rattle.comparison.specs.Differences.{Grows, cell_differences_but, table_differences}
+use Rattle.comparison.specs.Differences.{Grows, IsThere, cell_differences_but, table_differences}
 use Rattle.comparison.proofs.CellSteps.{item_found, tables_are, there_kept}
+use Rattle.comparison.proofs.ComparedLemmas.{blobs_kept}
 use Rattle.comparison.proofs.EqualLemmas.{take_of_nothing}
 use Rattle.comparison.proofs.cells.differing_cells_but.Goals as goal
 
@@ -16,6 +17,18 @@ pub returns-then-have_same_root-clause-sound : goal.returns-then-have_same_root-
 returns-then-have_same_root-clause-sound c = λ first second is also.
     c.new-found.ensures.items ∙ sym (take_of_nothing c.args.limit (cell_differences_but c.args.ignored.now first second)
     (c.have_same_root.ensures.cells c.if-have_same_root.true c.args.ignored.now first second is also))
+
+pub loop-table-init : goal.loop-table-init
+loop-table-init c =
+    let none = c.new-found.ensures.items in
+    record {
+      left = c.new-left_cells.ensures;
+      right = c.new-right_cells.ensures;
+      blobs = c.new-compared.ensures c.args.left.now c.args.right.now;
+      few = omega (arith, ap length none);
+      there = subst (All (IsThere c.args.left.now c.args.right.now)) (sym none) (λ k d low. absurd (omega (arith, low)));
+      found = λ first second is also. none ∙ sym (take_of_nothing c.args.limit [] refl);
+    }
 
 pub find_in_table-requires-clause-same : goal.find_in_table-requires-clause-same
 find_in_table-requires-clause-same c =
@@ -26,6 +39,11 @@ find_in_table-requires-clause-same c =
     (subst (λ (s : Source). AreSameParts s (source_of c.args.right.now) same) c.source.ensures.source
     (subst (λ (s : Source). AreSameParts c.source.result.now.source s same) c.source-2.ensures.source c.of-same.ensures)))
 
+pub find_in_table-requires-clause-blobs : goal.find_in_table-requires-clause-blobs
+find_in_table-requires-clause-blobs c =
+    let loop = c.loop-table.invariant in
+    blobs_kept c.loop-table.left_cells c.args.left.now c.loop-table.right_cells c.args.right.now c.loop-table.compared (sym loop.left) (sym loop.right) loop.blobs
+
 pub loop-table-preserved : goal.loop-table-preserved
 loop-table-preserved c =
     let loop = c.loop-table.invariant in
@@ -35,6 +53,8 @@ loop-table-preserved c =
     record {
       left = c.find_in_table.ensures.left ∙ loop.left;
       right = c.find_in_table.ensures.right ∙ loop.right;
+      blobs = blobs_kept c.args.left.now c.loop-table.left_cells c.args.right.now c.loop-table.right_cells c.find_in_table.new.compared loop.left loop.right
+          c.in_ok-find_in_table.ensures.blobs;
       few = c.in_ok-find_in_table.ensures.few;
       there = there_kept c.args.left.now c.loop-table.left_cells c.args.right.now c.loop-table.right_cells c.loop-table.found.items c.find_in_table.new.found.items loop.left loop.right
           c.in_ok-find_in_table.ensures.there loop.there;

@@ -28,7 +28,7 @@ pub loop-earlier-init : goal.loop-earlier-init
 loop-earlier-init c = record {
   left = refl;
   right = refl;
-  compared = c.new-compared.ensures c.args.left.now c.args.right.now c.args.table;
+  compared = c.begin_table.ensures c.args.left.now c.args.right.now c.args.table c.requires.blobs;
   few = c.requires.few;
   there = λ all. all;
   found = λ first second is also. grows_nothing c.args.limit c.args.found.now.items c.requires.few;
@@ -71,3 +71,6 @@ returns-clause-sound c = λ first second is also.
     let all : c.loop-earlier.earlier ≡ min (count_in first c.args.table) (count_in second c.args.table) = last ∙ c.min-count.ensures ∙ ap₂ min left right in
     subst (λ (more : List Difference). Grows c.args.limit c.args.found.now.items c.loop-earlier.found.items more) (table_is c.args.ignored.now first second c.args.table c.loop-earlier.earlier all)
     (c.loop-earlier.invariant.found first second is also)
+
+pub returns-clause-blobs : goal.returns-clause-blobs
+returns-clause-blobs c = c.loop-earlier.invariant.compared.1

@@ -19,13 +19,13 @@ note_in_row-requires-clause-same c = λ first second is also.
     c.kind_of-kind.ensures c.cell-left_value.ensures.cell c.cell-right_value.ensures.cell c.in_ok-same.ensures first second
     (subst (λ (root : List ℕ). IsModel root first) c.cell-left_value.ensures.same is) (subst (λ (root : List ℕ). IsModel root second) c.cell-right_value.ensures.same also)
 
-pub returns-in_ok-note_in_row-clause-compared : goal.returns-in_ok-note_in_row-clause-compared
-returns-in_ok-note_in_row-clause-compared c =
-    outcomes_kept c.args.left.now c.cell-left_value.new.self c.args.right.now c.cell-right_value.new.self c.args.table c.note_in_row.new.compared
-    c.cell-left_value.ensures.same c.cell-right_value.ensures.same c.in_ok-note_in_row.ensures
+pub returns-in_ok-count_blob-clause-compared : goal.returns-in_ok-count_blob-clause-compared
+returns-in_ok-count_blob-clause-compared c =
+    outcomes_kept c.args.left.now c.cell-left_value.new.self c.args.right.now c.cell-right_value.new.self c.args.table c.count_blob.new.compared
+    c.cell-left_value.ensures.same c.cell-right_value.ensures.same c.in_ok-count_blob.ensures
 
-pub returns-in_ok-note_in_row-clause-same : goal.returns-in_ok-note_in_row-clause-same
-returns-in_ok-note_in_row-clause-same c =
+pub returns-in_ok-count_blob-clause-same : goal.returns-in_ok-count_blob-clause-same
+returns-in_ok-count_blob-clause-same c =
     tested_in_row c.kind_of-kind.result c.args.table c.args.row c.args.cell_index c.cell-left_value.result c.cell-right_value.result c.args.left.now c.args.right.now c.in_ok-same.same
     c.kind_of-kind.ensures c.cell-left_value.ensures.cell c.cell-right_value.ensures.cell c.in_ok-same.ensures
 

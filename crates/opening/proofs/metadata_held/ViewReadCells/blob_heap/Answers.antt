@@ -1,0 +1,19 @@
+use Rattle.std.proofs.Common.{ℕ, List, refl, sym, ap, subst, ◌∙◌, arith}
+use Rattle.table_schema.specs.CellColumns.{column_of}
+use Rattle.heap_entries.specs.Entries.{IsBlob}
+use Rattle.metadata.specs.Source.{Source, number_of}
+use Rattle.metadata.specs.SourceAt.{source_of}
+use Rattle.metadata_source.specs.SharedBlobs.{cell_by_id}
+use Rattle.opening.proofs.SharedLemmas.{blob_stands}
+use Rattle.opening.proofs.metadata_held.ViewReadCells.blob_heap.Goals as goal
+
+pub returns : goal.returns
+returns c = λ model is id here column.
+    let root = c.args.self.now in
+    let source = source_of root in
+    let laws = c.models_are_read.ensures in
+    let number = number_of source id.table id.row (column_of id.table id.cell_index) in
+    let cell = laws.cells root model is id.table id.row id.cell_index here.0.0 (omega (arith, here.0.1, laws.count root model is id.table)) here.1 in
+    let found = blob_stands source id (cell_by_id model id) column cell in
+    let heap = c.blobs.ensures ∙ ap (λ (s : Source). s.blobs) c.source.ensures.source in
+    record { index = number; at = refl; blob = found.0; stands = subst (λ (h : List ℕ). IsBlob h number found.0) (sym heap) found.1; is = found.2 }
