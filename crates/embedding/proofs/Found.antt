@@ -1,7 +1,7 @@
 -- A result opens, and its model is that of the root.
-use Rattle.std.proofs.Common.{◌≡◌, ℕ, suc, ◌+◌, ◌*◌, ◌^◌, ◌<◌, ◌≤◌, ◌==◌, inl, false, List, length, refl, sym, ap, subst, ◌∙◌, arith}
+use Rattle.std.proofs.Common.{◌≡◌, ℕ, suc, ◌+◌, ◌*◌, ◌^◌, ◌<◌, ◌≤◌, ◌==◌, inl, inr, false, List, [], ◌∷◌, length, take, drop, refl, sym, ap, subst, ◌∙◌, arith}
 use Rattle.std.proofs.Math.Logic.{∥∥₁_map}
-use Rattle.packed.specs.Fields.{Field, StandAt, AllSay, widths}
+use Rattle.packed.specs.Fields.{Field, literal, number, ignored, StandAt, AllSay, widths}
 use Rattle.packed.specs.Number.{little_endian}
 use Rattle.packed.specs.Offsets.{part}
 use Rattle.packed.specs.Rule.{AllHold}
@@ -26,70 +26,69 @@ use Rattle.embedding.specs.declared.slot.Slot.{Slot}
 use Rattle.embedding.specs.declared.slot.Slot.TheVariants.{Reused, Appended, Extended}
 use Rattle.embedding.specs.declared.strong_name.StrongName.{StrongName}
 use Rattle.embedding.specs.declared.strong_name.StrongName.TheVariants.{Keep, Clear}
-use Rattle.embedding.specs.Embedded.{IsHeaderOf, AreHeadersApart, IsEmbedded, HasItsModel, embedded, new_header}
+use Rattle.embedding.specs.Embedded.{IsHeaderOf, AreHeadersApart, IsEmbedded, HasItsModel, embedded, new_header, unsigned_flags}
 use Rattle.embedding.specs.Matching.{LeadsAlike}
 use Rattle.embedding.specs.Slots.{target_of, FitsAt}
 use Rattle.embedding.proofs.EntryPoint.{known_entry_point, entry_point_kept}
-use Rattle.embedding.proofs.Headers.{SameHeaders, same_values, rules_same, image_same}
-use Rattle.embedding.proofs.NewHeader.{header_says}
-use Rattle.embedding.proofs.NewImage.{headers_same, count_more}
-use Rattle.embedding.proofs.NewSections.{HasParts, parts_in_slot, parts_appended, parts_extended}
-use Rattle.embedding.proofs.Results.{length-embedded, root_there, begins_with}
+use Rattle.embedding.proofs.NewImage.{NewImage, new_image}
+use Rattle.embedding.proofs.Room.{room}
 use Rattle.embedding.proofs.Sections.{offset_in}
-use Rattle.embedding.proofs.Room.{room, directories_end}
-use Rattle.embedding.proofs.Written.{section_kept}
+use Rattle.embedding.proofs.Written.{begins_with, length-embedded, root_there, kept, read, metadata_set, name_set}
 
--- the result is an image, which names its CLI header as the file does
-record NewImage (file root : List ℕ) (header : CliHeader) (slot : Slot) (result : List ℕ) : Type 0 where
-  rules : AllHold (rules_of_image result)
-  parts : HasParts file root header slot (image_of result).sections
-  rva : (image_of result).cli_directory.0 ≡ (image_of file).cli_directory.0
-  size : (image_of result).cli_directory.1 ≡ (image_of file).cli_directory.1
+-- fields in bytes that are the same have the same values
+say_kept : (file result : List ℕ) (low high : ℕ) → ((at count : ℕ) → low ≤ at → at + count ≤ high → part result at count ≡ part file at count)
+    → (fields : List Field) (offset : ℕ) → low ≤ offset → offset + widths fields ≤ high → AllSay file offset fields → AllSay result offset fields
+say_kept file result low high kept [] offset begins stops says = tt
+say_kept file result low high kept (literal expected ∷ fields) offset begins stops says =
+    (kept offset (length expected) begins (omega arith) ∙ says.0, say_kept file result low high kept fields (offset + length expected) (omega arith) (omega arith) says.1)
+say_kept file result low high kept (number count value ∷ fields) offset begins stops says =
+    (says.0 ∙ ap little_endian (sym (kept offset count begins (omega arith))), say_kept file result low high kept fields (offset + count) (omega arith) (omega arith) says.1)
+say_kept file result low high kept (ignored count ∷ fields) offset begins stops says =
+    (tt, say_kept file result low high kept fields (offset + count) (omega arith) (omega arith) says.1)
 
-image_with : (file root : List ℕ) (header : CliHeader) (slot : Slot) (result : List ℕ) (count : ℕ) → AllHold (rules_of_image file) → SameHeaders file result
-    → little_endian (part result (lfanew file + 6) 2) ≡ count → sections_offset file + 40 * count ≤ length result
-    → HasParts file root header slot (sections_from result (sections_offset file) count) → NewImage file root header slot result
-image_with file root header slot result count all same counted within parts =
-    let v = same_values file result same in
-    let count_is : section_count result ≡ count = ap (λ (n : ℕ). little_endian (part result (n + 6) 2)) v.lfanew_is ∙ counted in
-    let sections : sections_from result (sections_offset result) (section_count result) ≡ sections_from result (sections_offset file) count =
-    ap (λ (n : ℕ). sections_from result n (section_count result)) v.sections ∙ ap (sections_from result (sections_offset file)) count_is in
-    let image = image_same file result same in
-    let P : List SectionHeader → Type 0 = λ (l : List SectionHeader). HasParts file root header slot l in
-    record {
-      rules = rules_same file result all same (omega (arith, count_is));
-      parts = subst P (sym sections) parts;
-      rva = ap (λ (i : Image). i.cli_directory.0) image;
-      size = ap (λ (i : Image). i.cli_directory.1) image;
-    }
-
-new_image : (name : StrongName) (file root : List ℕ) (header : CliHeader) (source : Source) (slot : Slot) → IsBytes file → IsHeaderOf file header → AreHeadersApart file header
-    → FitsAt file (length root) header source slot → NewImage file root header slot (embedded name file root header slot)
-new_image name file root header source Reused bytes of apart fits =
-    let result = embedded name file root header Reused in
-    let wide = directories_end file of.image in
-    let r = room file header root source Reused of apart fits in
-    let long = length-embedded name file root header source Reused of apart fits in
-    image_with file root header Reused result (section_count file) of.image (headers_same name file root header source Reused of apart fits)
-    (ap little_endian (section_kept name file root header source Reused of apart fits (lfanew file + 6) 2 (inl (omega arith, omega arith)) (omega arith) (inl (omega arith))))
-    (omega (arith, long, r.longer, r.header_kept, apart.cli_header)) (parts_in_slot name file root header source of apart fits)
-new_image name file root header source (Appended address offset) bytes of apart fits =
-    let slot = Appended address offset in
-    let result = embedded name file root header slot in
+-- the fields of the new header are those of the old one, or written
+header_says : (name : StrongName) (file root : List ℕ) (header : CliHeader) (source : Source) (slot : Slot) → IsHeaderOf file header → AreHeadersApart file header
+    → FitsAt file (length root) header source slot → header.flags < 2 ^ 32 → AllSay file header.place (fields_of header)
+    → let target = target_of file header (length root) slot in
+    AllSay (embedded name file root header slot) header.place (fields_of (new_header name header root target.address target.start))
+header_says Keep file root header source slot of apart fits flags says =
+    let result = embedded Keep file root header slot in
+    let p = header.place in
     let r = room file header root source slot of apart fits in
-    let long = length-embedded name file root header source slot of apart fits in
-    image_with file root header slot result (suc (section_count file)) of.image (headers_same name file root header source slot of apart fits)
-    (count_more name file root header source address offset bytes of apart fits ∙ omega arith)
-    (omega (arith, long, r.longer, r.header_kept, fits.is_slot.1.cli_header)) (parts_appended name file root header source address offset of apart fits)
-new_image name file root header source (Extended within) bytes of apart fits =
-    let slot = Extended within in
-    let result = embedded name file root header slot in
-    let wide = directories_end file of.image in
+    let begins = (begins_with root header slot).0 in
+    let stays = kept Keep file root header source slot of apart fits in
+    let is_read = read Keep file root header source slot of apart fits in
+    let sets = metadata_set Keep file root header slot of apart in
+    let first = say_kept file result p (p + 8) (λ at count begins stops. stays at count (inr (inr (inl (begins, stops)))))
+    (take 3 (fields_of header)) p (omega arith) (omega arith) (says.0, (says.1.0, (says.1.1.0, tt))) in
+    let rva = is_read (p + 4 + 2 + 2) (p + 8) _ sets.0 fits.address (omega arith) (λ h. omega arith) (λ h. (omega arith, omega arith)) in
+    let size = is_read (p + 4 + 2 + 2 + 4) (p + 12) (length root) sets.1 (omega arith) (omega arith) (λ h. omega arith) (λ h. (omega arith, omega arith)) in
+    let later = say_kept file result (p + 16) (p + 72) (λ at count begins stops. stays at count (inr (inr (inr (begins, stops)))))
+    (drop 5 (fields_of header)) (p + 4 + 2 + 2 + 4 + 4) (omega arith) (omega arith) says.1.1.1.1.1 in
+    (first.0, (first.1.0, (first.1.1.0, (rva, (size, later)))))
+header_says Clear file root header source slot of apart fits flags says =
+    let result = embedded Clear file root header slot in
+    let p = header.place in
     let r = room file header root source slot of apart fits in
-    let long = length-embedded name file root header source slot of apart fits in
-    image_with file root header slot result (section_count file) of.image (headers_same name file root header source slot of apart fits)
-    (ap little_endian (section_kept name file root header source slot of apart fits (lfanew file + 6) 2 (inl (omega arith, omega arith)) (omega arith) (inl (omega arith))))
-    (omega (arith, long, r.longer, r.header_kept, apart.cli_header)) (parts_extended name file root header source within of apart fits)
+    let begins = (begins_with root header slot).0 in
+    let stays = kept Clear file root header source slot of apart fits in
+    let is_read = read Clear file root header source slot of apart fits in
+    let sets = metadata_set Clear file root header slot of apart in
+    let cleared = name_set file root header slot of apart in
+    let fewer : unsigned_flags header.flags ≤ header.flags = omega arith in
+    let old = says.1.1.1.1.1 in
+    let first = say_kept file result p (p + 8) (λ at count begins stops. stays at count (inr (inr (inl (begins, stops)))))
+    (take 3 (fields_of header)) p (omega arith) (omega arith) (says.0, (says.1.0, (says.1.1.0, tt))) in
+    let rva = is_read (p + 4 + 2 + 2) (p + 8) _ sets.0 fits.address (omega arith) (λ h. omega arith) (λ h. (omega arith, omega arith)) in
+    let size = is_read (p + 4 + 2 + 2 + 4) (p + 12) (length root) sets.1 (omega arith) (omega arith) (λ h. omega arith) (λ h. (omega arith, omega arith)) in
+    let unsigned = is_read (p + 4 + 2 + 2 + 4 + 4) (p + 16) _ cleared.0 (omega arith) (omega arith) (λ h. omega arith) (λ h. (omega arith, omega arith)) in
+    let middle = say_kept file result (p + 20) (p + 32) (λ at count begins stops. stays at count (inr (inr (inr (inl (begins, stops))))))
+    (take 3 (drop 6 (fields_of header))) (p + 4 + 2 + 2 + 4 + 4 + 4) (omega arith) (omega arith) (old.1.0, (old.1.1.0, (old.1.1.1.0, tt))) in
+    let no_rva = is_read (p + 4 + 2 + 2 + 4 + 4 + 4 + 4 + 4 + 4) (p + 32) 0 cleared.1 (omega arith) (omega arith) (λ h. omega arith) (λ h. (omega arith, omega arith)) in
+    let no_size = is_read (p + 4 + 2 + 2 + 4 + 4 + 4 + 4 + 4 + 4 + 4) (p + 36) 0 cleared.2 (omega arith) (omega arith) (λ h. omega arith) (λ h. (omega arith, omega arith)) in
+    let last = say_kept file result (p + 40) (p + 72) (λ at count begins stops. stays at count (inr (inr (inr (inr (begins, stops))))))
+    (drop 11 (fields_of header)) (p + 4 + 2 + 2 + 4 + 4 + 4 + 4 + 4 + 4 + 4 + 4) (omega arith) (omega arith) old.1.1.1.1.1.1 in
+    (first.0, (first.1.0, (first.1.1.0, (rva, (size, (unsigned, (middle.0, (middle.1.0, (middle.1.1.0, (no_rva, (no_size, last)))))))))))
 
 -- laws of the crates below
 pub record Laws : Type 0 where
@@ -103,9 +102,6 @@ pub record Laws : Type 0 where
 native_kept : (name : StrongName) (header : CliHeader) (root : List ℕ) (rva offset : ℕ) → has_native_entry_point (new_header name header root rva offset) ≡ has_native_entry_point header
 native_kept Keep header root rva offset = refl
 native_kept Clear header root rva offset = ap (λ (n : ℕ). n == 1) (omega arith)
-
-entry_kept : (name : StrongName) (header : CliHeader) (root : List ℕ) (rva offset : ℕ) → (new_header name header root rva offset).entry_point_token ≡ header.entry_point_token
-entry_kept name header root rva offset = refl
 
 entry_found : (laws : Laws) (name : StrongName) (file root : List ℕ) (header : CliHeader) (model : Metadata) (rva offset : ℕ) → IsHeaderOf file header
     → LeadsAlike root (root_in file header) → IsModel root model → has_native_entry_point (new_header name header root rva offset) ≡ false
@@ -142,7 +138,7 @@ new_cli_header laws name file root header source slot bytes of apart fits image 
         first = ap (λ (n : ℕ). offset_in n 72 (image_of result).sections) image.rva ∙ image.parts.kept (image_of file).cli_directory.0 72 header.place old.place.first;
         within = omega (arith, long, r.longer, r.header_kept);
       };
-      fields = laws.stand result header.place _ (omega (arith, long, r.longer, r.header_kept)) (header_says file root header source slot of apart fits name flags says);
+      fields = laws.stand result header.place _ (omega (arith, long, r.longer, r.header_kept)) (header_says name file root header source slot of apart fits flags says);
       enough = old.enough;
       root = record { first = image.parts.found; within = omega (arith, long, r.root_within, begins) };
       root_end = refl;

@@ -1,6 +1,6 @@
 -- What is in the result: bytes of the file that no change and no root takes the place of.
 use Rattle.std.proofs.Common.{◌≡◌, ℕ, ◌+◌, ◌-◌, ◌≤◌, ◌<◌, ◌==◌, true, false, cond, List, length, take, drop, replicate, refl, sym, ap, ◌∙◌, arith}
-use Rattle.std.proofs.lemmas.List.{length-append, length-replicate, take-append-drop}
+use Rattle.std.proofs.lemmas.List.{length-append, length-replicate}
 use Rattle.packed.specs.Offsets.{part}
 use Rattle.schema.specs.LaidOut.{number_bytes}
 use Rattle.file_ranges.specs.declared.field.Field.TheVariants.{Checksum}
@@ -19,11 +19,7 @@ length-copied file target within longer =
 -- a part of the bytes that stay
 pub copied_part : (file : List ℕ) (target : Target) (at count : ℕ) → target.kept ≤ length file → at + count ≤ target.kept
     → part (copied file target) at count ≡ part file at count
-copied_part file target at count within ends =
-    let long = length-prefix target.kept file within in
-    part_prefix (take target.kept file) (replicate (target.len - target.kept) 0) at count (omega arith)
-    ∙ sym (part_prefix (take target.kept file) (drop target.kept file) at count (omega arith))
-    ∙ ap (λ (l : List ℕ). part l at count) (take-append-drop target.kept file)
+copied_part file target at count within ends = part_prefix target.kept file (replicate (target.len - target.kept) 0) at count within ends
 
 -- a part that is apart from the field of the checksum
 pub summed_part : (file result : List ℕ) (at count : ℕ) → field_offset file Checksum + 4 ≤ length result

@@ -41,14 +41,11 @@ opens_by file header of = subst (λ (h : CliHeader). HasImage file h) of.header_
 
 reasons : (file root : List ℕ) (reason : EmbedError) → AreOpen file root
     → IsMisfit file (length root) (header_of (image_of file)) (source_of (root_in file (header_of (image_of file)))) reason → IsReason file root reason
-reasons file root (error.File fault) both none = absurd none
-reasons file root (error.Root fault) both none = absurd none
-reasons file root error.Unlike both none = absurd none
-reasons file root error.Headers both none = absurd none
 reasons file root error.Occupied both is = (both, is)
 reasons file root error.NoRoom both is = (both, is)
 reasons file root error.TooLong both is = (both, is)
 reasons file root error.Memory both none = none
+reasons file root _ both none = absurd none
 
 -- a misfit is the reason why the root is not put into the file
 pub misfit_is_reason : (file root view : List ℕ) (header : CliHeader) → IsHeaderOf file header → view ≡ root_in file header → HasModel root

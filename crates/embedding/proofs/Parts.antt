@@ -1,7 +1,8 @@
--- What is in a whole after bytes reslotd others.
+-- What is in a whole after some of its bytes were replaced.
 use Rattle.std.proofs.Common.{◌≡◌, ℕ, ◌+◌, ◌-◌, ◌≤◌, ◌<◌, ◌⊎◌, inl, inr, List, [], ◌∷◌, ◌++◌, length, take, drop, replicate, refl, sym, ap, ◌∙◌, arith, append_assoc}
 use Rattle.std.proofs.lemmas.Bool.{cases_lt}
-use Rattle.std.proofs.lemmas.List.{length-append, length-replicate, length-take, length-drop, take-append-drop, take-append-le, drop-append-le, drop-drop, drop_at, take_at}
+use Rattle.std.proofs.lemmas.List.{length-append, length-replicate, length-take, length-drop, take-append-le, take-take, drop-take, drop-drop, drop_at, take_at}
+use Rattle.std.proofs.lemmas.Slice.{drop-put_mid}
 use Rattle.std.proofs.Math.Seq.{drop-append-add}
 use borrow.Rule.Slice.PartMut.{put_mid}
 use Rattle.packed.specs.Offsets.{part}
@@ -12,40 +13,19 @@ use Rattle.embedding.specs.Bytes.{Change, changed, with_bytes}
 pub length-prefix : (offset : ℕ) (whole : List ℕ) → offset ≤ length whole → length (take offset whole) ≡ offset
 length-prefix offset whole within = omega (arith, length-take offset whole)
 
--- a part that ends in the first of two lists
-pub part_prefix : (xs ys : List ℕ) (at count : ℕ) → at + count ≤ length xs → part (xs ++ ys) at count ≡ part xs at count
-part_prefix xs ys at count within =
-    ap (take count) (drop-append-le at xs ys (omega arith))
-    ∙ take-append-le count (drop at xs) ys (omega (arith, length-drop at xs))
+-- a part that ends in the first bytes of a whole
+pub part_prefix : (n : ℕ) (whole tail : List ℕ) (at count : ℕ) → n ≤ length whole → at + count ≤ n → part (take n whole ++ tail) at count ≡ part whole at count
+part_prefix n whole tail at count within ends =
+    sym (drop-take at count (take n whole ++ tail))
+    ∙ ap (drop at) (take-append-le (at + count) (take n whole) tail (omega (arith, length-take n whole)) ∙ take-take (at + count) n whole ends)
+    ∙ drop-take at count whole
 
 -- replacing bytes keeps the length
 pub length-with_bytes : (offset : ℕ) (bytes whole : List ℕ) → offset + length bytes ≤ length whole → length (with_bytes offset bytes whole) ≡ length whole
 length-with_bytes offset bytes whole within =
     simp (length-append, length-drop) (omega (arith, length-prefix offset whole (omega arith)))
 
--- a part before the reslotd bytes is the same
-pub before : (offset : ℕ) (bytes whole : List ℕ) (at count : ℕ) → offset ≤ length whole → at + count ≤ offset
-    → part (with_bytes offset bytes whole) at count ≡ part whole at count
-before offset bytes whole at count within ends =
-    let long = length-prefix offset whole within in
-    part_prefix (take offset whole) (bytes ++ drop (offset + length bytes) whole) at count (omega arith)
-    ∙ sym (part_prefix (take offset whole) (drop offset whole) at count (omega arith))
-    ∙ ap (λ (l : List ℕ). part l at count) (take-append-drop offset whole)
-
--- what follows the reslotd bytes is the same
-pub after : (offset : ℕ) (bytes whole : List ℕ) (at count : ℕ) → offset ≤ length whole → offset + length bytes ≤ at
-    → part (with_bytes offset bytes whole) at count ≡ part whole at count
-after offset bytes whole at count within begins =
-    let long = length-prefix offset whole within in
-    let prefix = take offset whole ++ bytes in
-    let tail = drop (offset + length bytes) whole in
-    let more = at - (offset + length bytes) in
-    let size : length prefix ≡ offset + length bytes = length-append (take offset whole) bytes ∙ ap (λ (n : ℕ). n + length bytes) long in
-    ap (λ (l : List ℕ). part l at count) (sym (append_assoc (take offset whole) bytes tail))
-    ∙ ap (λ (n : ℕ). take count (drop n (prefix ++ tail))) (omega arith)
-    ∙ ap (take count) (drop-append-add prefix tail more ∙ drop-drop more (offset + length bytes) whole ∙ ap (λ (n : ℕ). drop n whole) (omega arith))
-
--- the reslotd bytes are there
+-- the new bytes are there
 pub here : (offset : ℕ) (bytes whole : List ℕ) → offset ≤ length whole → part (with_bytes offset bytes whole) offset (length bytes) ≡ bytes
 here offset bytes whole within =
     ap (take (length bytes)) (drop_at (take offset whole) (bytes ++ drop (offset + length bytes) whole) offset (length-prefix offset whole within))
@@ -56,8 +36,8 @@ pub put_is : (offset count : ℕ) (bytes whole : List ℕ) → count ≡ length 
 put_is offset count bytes whole e =
     ap (λ (l : List ℕ). take offset whole ++ (bytes ++ l)) (drop-drop count offset whole ∙ ap (λ (n : ℕ). drop (offset + n) whole) e)
 
--- bytes that are reslotd, and then those that follow
-pub with_more : (offset : ℕ) (bytes more whole : List ℕ) → offset ≤ length whole
+-- bytes that are replaced, and then those that follow
+with_more : (offset : ℕ) (bytes more whole : List ℕ) → offset ≤ length whole
     → with_bytes (offset + length bytes) more (with_bytes offset bytes whole) ≡ with_bytes offset (bytes ++ more) whole
 with_more offset bytes more whole within =
     let long = length-prefix offset whole within in
@@ -101,13 +81,13 @@ length-changed (one ∷ more) whole within =
     let same = length-with_bytes one.offset (number_bytes 4 one.value) whole within.0 in
     length-changed more (with_bytes one.offset (number_bytes 4 one.value) whole) (rw same within.1) ∙ same
 
--- a part that the reslotd bytes are not in
+-- a part that the new bytes are not in
 pub beside : (offset : ℕ) (bytes whole : List ℕ) (at count : ℕ) → offset ≤ length whole → (offset < at + count → offset + length bytes ≤ at)
     → part (with_bytes offset bytes whole) at count ≡ part whole at count
 beside offset bytes whole at count within apart =
     elim (cases_lt offset (at + count)) [
-      | inl h ↦ after offset bytes whole at count within (apart h)
-      | inr h ↦ before offset bytes whole at count within h
+      | inl h ↦ ap (take count) (ap (drop at) (sym (put_is offset (length bytes) bytes whole refl)) ∙ drop-put_mid offset (length bytes) whole bytes at (apart h) within refl)
+      | inr h ↦ part_prefix offset whole (bytes ++ drop (offset + length bytes) whole) at count within h
     ]
 
 -- a part that is apart from all changes is the same

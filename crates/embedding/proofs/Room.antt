@@ -8,14 +8,14 @@ use Rattle.pe.specs.Rules.{rules_of_image}
 use Rattle.cli_header.specs.declared.header.CliHeader.{CliHeader}
 use Rattle.metadata.specs.Source.{Source}
 use Rattle.file_ranges.specs.declared.field.Field.TheVariants.{FileAlignment}
-use Rattle.file_ranges.specs.Fields.{aligned, field_of, full_size, raw_size, raw_end, last, headers_end}
+use Rattle.file_ranges.specs.Fields.{aligned, field_of, full_size, raw_size, raw_end, section_offset, last, headers_end}
 use Rattle.embedding.specs.declared.slot.Slot.{Slot}
 use Rattle.embedding.specs.declared.slot.Slot.TheVariants.{Reused, Appended, Extended}
 use Rattle.embedding.specs.declared.strong_name.StrongName.{StrongName}
 use Rattle.embedding.specs.declared.strong_name.StrongName.TheVariants.{Keep, Clear}
 use Rattle.embedding.specs.Embedded.{IsHeaderOf, AreHeadersApart, header_changes}
 use Rattle.embedding.specs.Slots.{target_of, root_bytes, FitsAt}
-use Rattle.embedding.proofs.Parts.{AllWithin}
+use Rattle.embedding.proofs.Parts.{AllWithin, AllApart}
 
 pub above : (alignment number : ℕ) → 0 < alignment → number ≤ aligned alignment number
 above alignment number some = omega arith
@@ -41,6 +41,8 @@ pub record Room (file : List ℕ) (header : CliHeader) (root : List ℕ) (slot :
   pub header_clear : (header.place + 72 ≤ (target_of file header (length root) slot).start) ⊎ ((target_of file header (length root) slot).start + length (root_bytes root header slot) ≤ header.place)
   pub root_within : (target_of file header (length root) slot).start + length (root_bytes root header slot) ≤ (target_of file header (length root) slot).len
   pub small : (target_of file header (length root) slot).len ≤ byte_limit
+  pub wide : lfanew file + 240 + wider file ≤ sections_offset file
+  pub headers : headers_end file ≤ header.place
 
 pub room : (file : List ℕ) (header : CliHeader) (root : List ℕ) (source : Source) (slot : Slot) → IsHeaderOf file header → AreHeadersApart file header
     → FitsAt file (length root) header source slot → Room file header root slot
@@ -59,6 +61,8 @@ room file header root source Reused of apart fits =
       ];
       root_within = omega (arith, of.root);
       small = of.image.0;
+      wide = directories_end file of.image;
+      headers = apart.cli_header;
     }
 room file header root source (Appended address offset) of apart fits =
     let some = fits.in_range.alignments.bytes in
@@ -72,6 +76,8 @@ room file header root source (Appended address offset) of apart fits =
       header_clear = inl (omega (arith, of.header_within));
       root_within = omega arith;
       small = fits.in_range.result;
+      wide = directories_end file of.image;
+      headers = apart.cli_header;
     }
 room file header root source (Extended within) of apart fits =
     let longer = fits.is_slot.2 in
@@ -87,35 +93,63 @@ room file header root source (Extended within) of apart fits =
       header_clear = inl (omega (arith, longer.header_before));
       root_within = omega arith;
       small = fits.in_range.result;
+      wide = directories_end file of.image;
+      headers = apart.cli_header;
     }
 
 -- each change is within the bytes that stay
-pub changes_within : (name : StrongName) (file : List ℕ) (header : CliHeader) (root : List ℕ) (source : Source) (slot : Slot) (len : ℕ) → AllHold (rules_of_image file)
+pub changes_within : (name : StrongName) (file : List ℕ) (header : CliHeader) (root : List ℕ) (source : Source) (slot : Slot) (len : ℕ) → IsHeaderOf file header
     → AreHeadersApart file header → FitsAt file (length root) header source slot → header.place + 72 ≤ len
     → AllWithin len (header_changes name file root header slot)
-changes_within Keep file header root source Reused len all apart fits ends =
-    let wide = directories_end file all in
-    let headers = apart.cli_header in
-    search arith
-changes_within Clear file header root source Reused len all apart fits ends =
-    let wide = directories_end file all in
-    let headers = apart.cli_header in
-    search arith
-changes_within Keep file header root source (Appended address offset) len all apart fits ends =
-    let wide = directories_end file all in
-    let headers = fits.is_slot.1.cli_header in
-    search arith
-changes_within Clear file header root source (Appended address offset) len all apart fits ends =
-    let wide = directories_end file all in
-    let headers = fits.is_slot.1.cli_header in
-    search arith
-changes_within Keep file header root source (Extended within) len all apart fits ends =
-    let wide = directories_end file all in
-    let headers = apart.cli_header in
-    let some = fits.is_slot.2.some in
-    search arith
-changes_within Clear file header root source (Extended within) len all apart fits ends =
-    let wide = directories_end file all in
-    let headers = apart.cli_header in
-    let some = fits.is_slot.2.some in
-    search arith
+changes_within Keep file header root source Reused len of apart fits ends = let wide = directories_end file of.image in search arith
+changes_within Clear file header root source Reused len of apart fits ends = let wide = directories_end file of.image in search arith
+changes_within _ file header root source _ len of apart fits ends = let wide = directories_end file of.image in search arith
+
+-- between fields of the PE headers that change
+abbrev pub InGap : List ℕ → ℕ → ℕ → Type 0
+InGap file at count =
+    (at + count ≤ lfanew file + 4)
+    ⊎ (((lfanew file + 8 ≤ at) × (at + count ≤ lfanew file + 32))
+    ⊎ (((lfanew file + 92 ≤ at) × (at + count ≤ lfanew file + 152 + wider file))
+    ⊎ ((lfanew file + 160 + wider file ≤ at) × (at + count ≤ sections_offset file))))
+
+-- Machine and the number of sections
+abbrev pub InCount : List ℕ → ℕ → ℕ → Type 0
+InCount file at count = (lfanew file + 4 ≤ at) × (at + count ≤ lfanew file + 8)
+
+-- between fields of the section headers that change
+abbrev pub InSectionGap : Slot → List ℕ → ℕ → ℕ → Type 0
+InSectionGap Reused file at count = InCount file at count ⊎ ((sections_offset file ≤ at) × (at + count ≤ headers_end file))
+InSectionGap (Appended address offset) file at count = (sections_offset file ≤ at) × (at + count ≤ headers_end file)
+InSectionGap (Extended within) file at count =
+    InCount file at count
+    ⊎ (((sections_offset file ≤ at) × (at + count ≤ section_offset file (last file) + 8))
+    ⊎ (((section_offset file (last file) + 12 ≤ at) × (at + count ≤ section_offset file (last file) + 16))
+    ⊎ ((section_offset file (last file) + 20 ≤ at) × (at + count ≤ headers_end file))))
+
+-- between fields of the CLI header that change, those of the strong name only if it is cleared
+abbrev pub InHeaderGap : StrongName → CliHeader → ℕ → ℕ → Type 0
+InHeaderGap Keep header at count =
+    ((header.place ≤ at) × (at + count ≤ header.place + 8)) ⊎ ((header.place + 16 ≤ at) × (at + count ≤ header.place + 72))
+InHeaderGap Clear header at count =
+    ((header.place ≤ at) × (at + count ≤ header.place + 8))
+    ⊎ (((header.place + 20 ≤ at) × (at + count ≤ header.place + 32))
+    ⊎ ((header.place + 40 ≤ at) × (at + count ≤ header.place + 72)))
+
+-- what no change of the headers is in
+abbrev pub IsUnchanged : StrongName → List ℕ → CliHeader → Slot → ℕ → ℕ → Type 0
+IsUnchanged name file header slot at count = InGap file at count ⊎ (InSectionGap slot file at count ⊎ InHeaderGap name header at count)
+
+-- no change is in a part, nor the checksum, and it comes before the end of the section headers or is in the CLI header
+abbrev pub IsApart : StrongName → List ℕ → CliHeader → List ℕ → Slot → ℕ → ℕ → Type 0
+IsApart name file header root slot at count =
+    AllApart at count (header_changes name file root header slot)
+    × (lfanew file + 88 < at + count → lfanew file + 92 ≤ at)
+    × (headers_end file < at + count → header.place ≤ at)
+    × (at + count ≤ header.place + 72)
+
+pub unchanged : (name : StrongName) (file : List ℕ) (header : CliHeader) (root : List ℕ) (source : Source) (slot : Slot) (at count : ℕ) → IsHeaderOf file header
+    → AreHeadersApart file header → FitsAt file (length root) header source slot → IsUnchanged name file header slot at count → IsApart name file header root slot at count
+unchanged Keep file header root source Reused at count of apart fits gap = let wide = directories_end file of.image in search arith
+unchanged Clear file header root source Reused at count of apart fits gap = let wide = directories_end file of.image in search arith
+unchanged _ file header root source _ at count of apart fits gap = let wide = directories_end file of.image in search arith

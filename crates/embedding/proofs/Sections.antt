@@ -1,9 +1,10 @@
 -- The file offset of bytes, by lists of sections that differ at their end.
-use Rattle.std.proofs.Common.{◌≡◌, ℕ, zero, suc, ◌+◌, ◌-◌, ◌*◌, ◌≤◌, ◌<◌, Bool, true, false, cond, List, [], ◌∷◌, ◌++◌, Option, Some, None, inl, inr, refl, sym, ap, subst, ◌∙◌, arith}
+use Rattle.std.proofs.Common.{◌≡◌, ℕ, zero, suc, ◌+◌, ◌-◌, ◌*◌, ◌≤◌, ◌<◌, Bool, true, false, cond, List, [], ◌∷◌, ◌++◌, Option, Some, None, inl, inr, refl, sym, ap, ◌∙◌, arith}
 use Rattle.std.specs.List.{find}
-use Rattle.std.specs.Option.{option_map}
+use Rattle.std.specs.Option.{option_map, option_or}
 use Rattle.std.proofs.lemmas.Bool.{cases_lt}
 use Rattle.std.proofs.lemmas.Bool.Decides.{nat_tests}
+use Rattle.std.proofs.lemmas.List.Folds.{find-append}
 use Rattle.pe.specs.declared.section.SectionHeader.{SectionHeader}
 use Rattle.pe.specs.Headers.{section_at, sections_from, sections_offset}
 use Rattle.pe.specs.Offset.{has_bytes}
@@ -14,55 +15,42 @@ use Rattle.embedding.specs.Slots.{address_before}
 abbrev pub offset_in : ℕ → ℕ → List SectionHeader → Option ℕ
 offset_in rva count sections = option_map (λ section. section.pointer_to_raw_data + rva - section.virtual_address) (find (has_bytes rva count) sections)
 
--- none of these sections has the bytes
-abbrev pub NoneHas : ℕ → ℕ → List SectionHeader → Type 0
-NoneHas rva count [] = Unit {0}
-NoneHas rva count (section ∷ sections) = (has_bytes rva count section ≡ false) × NoneHas rva count sections
-
 -- where the first byte is, if a section has it
-abbrev start_in : ℕ → SectionHeader → ℕ
+abbrev pub start_in : ℕ → SectionHeader → ℕ
 start_in rva section = section.pointer_to_raw_data + rva - section.virtual_address
 
--- sections that follow change nothing for bytes that are found
-pub found_before : (rva count offset : ℕ) (sections more : List SectionHeader) → offset_in rva count sections ≡ Some offset
-    → offset_in rva count (sections ++ more) ≡ Some offset
-found_before rva count offset [] more found = cc
-found_before rva count offset (section ∷ sections) more found =
-    (elim (has_bytes rva count section) as (λ (b : Bool). option_map (start_in rva) (cond b (Some section) (find (has_bytes rva count) sections)) ≡ Some offset
-    → option_map (start_in rva) (cond b (Some section) (find (has_bytes rva count) (sections ++ more))) ≡ Some offset) [
+-- what follows other sections matters only for bytes that are not found before
+pub found_after : (rva count offset : ℕ) (sections some other : List SectionHeader) → (offset_in rva count some ≡ Some offset → offset_in rva count other ≡ Some offset)
+    → offset_in rva count (sections ++ some) ≡ Some offset → offset_in rva count (sections ++ other) ≡ Some offset
+found_after rva count offset [] some other later found = later found
+found_after rva count offset (section ∷ sections) some other later found =
+    (elim (has_bytes rva count section) as (λ (b : Bool). option_map (start_in rva) (cond b (Some section) (find (has_bytes rva count) (sections ++ some))) ≡ Some offset
+    → option_map (start_in rva) (cond b (Some section) (find (has_bytes rva count) (sections ++ other))) ≡ Some offset) [
       | true ↦ λ here. here
-      | false ↦ λ later. found_before rva count offset sections more later
+      | false ↦ λ follows. found_after rva count offset sections some other later follows
     ]) found
 
 -- bytes of the last section are found there, too, if it is longer
-pub found_longer : (rva count offset : ℕ) (sections : List SectionHeader) (last longer : SectionHeader) → (has_bytes rva count last ≡ true → has_bytes rva count longer ≡ true)
-    → start_in rva last ≡ start_in rva longer → offset_in rva count (sections ++ last ∷ []) ≡ Some offset
-    → offset_in rva count (sections ++ longer ∷ []) ≡ Some offset
-found_longer rva count offset [] last longer has same found =
+pub found_longer : (rva count offset : ℕ) (last longer : SectionHeader) → (has_bytes rva count last ≡ true → has_bytes rva count longer ≡ true)
+    → start_in rva last ≡ start_in rva longer → offset_in rva count (last ∷ []) ≡ Some offset → offset_in rva count (longer ∷ []) ≡ Some offset
+found_longer rva count offset last longer has same found =
     (elim (has_bytes rva count last) as (λ (b : Bool). (b ≡ true → has_bytes rva count longer ≡ true) → option_map (start_in rva) (cond b (Some last) None) ≡ Some offset
     → option_map (start_in rva) (cond (has_bytes rva count longer) (Some longer) None) ≡ Some offset) [
       | true ↦ λ yes here. ap (λ (b : Bool). option_map (start_in rva) (cond b (Some longer) None)) (yes refl) ∙ ap Some (sym same) ∙ here
       | false ↦ λ yes none. cc
     ]) has found
-found_longer rva count offset (section ∷ sections) last longer has same found =
-    (elim (has_bytes rva count section) as (λ (b : Bool). option_map (start_in rva) (cond b (Some section) (find (has_bytes rva count) (sections ++ last ∷ []))) ≡ Some offset
-    → option_map (start_in rva) (cond b (Some section) (find (has_bytes rva count) (sections ++ longer ∷ []))) ≡ Some offset) [
-      | true ↦ λ here. here
-      | false ↦ λ later. found_longer rva count offset sections last longer has same later
-    ]) found
 
--- bytes of a new section are found there if no other has them
-pub found_new : (rva count : ℕ) (sections : List SectionHeader) (new : SectionHeader) → NoneHas rva count sections → has_bytes rva count new ≡ true
+-- the last section is found if no other has the bytes
+found_last : (rva count : ℕ) (sections : List SectionHeader) (section : SectionHeader) (b : Bool) → find (has_bytes rva count) sections ≡ None → has_bytes rva count section ≡ b
+    → find (has_bytes rva count) (sections ++ section ∷ []) ≡ cond b (Some section) None
+found_last rva count sections section b none has =
+    find-append (has_bytes rva count) sections (section ∷ [])
+    ∙ ap (λ (o : Option SectionHeader). option_or o (find (has_bytes rva count) (section ∷ []))) none
+    ∙ ap (λ (b : Bool). cond b (Some section) None) has
+
+pub found_new : (rva count : ℕ) (sections : List SectionHeader) (new : SectionHeader) → find (has_bytes rva count) sections ≡ None → has_bytes rva count new ≡ true
     → offset_in rva count (sections ++ new ∷ []) ≡ Some (start_in rva new)
-found_new rva count [] new none has = ap (λ (b : Bool). option_map (start_in rva) (cond b (Some new) None)) has
-found_new rva count (section ∷ sections) new none has =
-    ap (λ (b : Bool). option_map (start_in rva) (cond b (Some section) (find (has_bytes rva count) (sections ++ new ∷ [])))) none.0
-    ∙ found_new rva count sections new none.1 has
-
-none_more : (rva count : ℕ) (sections : List SectionHeader) (section : SectionHeader) → NoneHas rva count sections → has_bytes rva count section ≡ false
-    → NoneHas rva count (sections ++ section ∷ [])
-none_more rva count [] section none not = (not, tt)
-none_more rva count (other ∷ sections) section none not = (none.0, none_more rva count sections section none.1 not)
+found_new rva count sections new none has = ap (option_map (start_in rva)) (found_last rva count sections new true none has)
 
 -- a section has bytes that it has all of, and none that end after it
 pub has : (rva count : ℕ) (section : SectionHeader) → section.virtual_address ≤ rva → rva + count ≤ section.virtual_address + section.size_of_raw_data
@@ -85,14 +73,15 @@ sections_more file at (suc count) =
 
 -- sections that end before some bytes have none of them
 pub none_each : (file : List ℕ) (rva count last : ℕ) → 0 < count → ((index : ℕ) → index < last → address_end file index ≤ rva)
-    → NoneHas rva count (sections_from file (sections_offset file) last)
-none_each file rva count zero some after = tt
+    → find (has_bytes rva count) (sections_from file (sections_offset file) last) ≡ None
+none_each file rva count zero some after = refl
 none_each file rva count (suc last) some after =
     let start = sections_offset file in
     let section = section_at file (start + 40 * last) in
     let stop = after last (omega arith) in
-    let none = none_more rva count (sections_from file start last) section (none_each file rva count last some (λ index below. after index (omega arith))) (has_not rva count section (omega arith)) in
-    subst (NoneHas rva count) (sym (sections_more file start last)) none
+    ap (find (has_bytes rva count)) (sections_more file start last)
+    ∙ found_last rva count (sections_from file start last) section false (none_each file rva count last some (λ index below. after index (omega arith)))
+    (has_not rva count section (omega arith))
 
 pub ends_before : (file : List ℕ) (count index : ℕ) → index < count → address_end file index ≤ address_before file count
 ends_before file zero index below = absurd (omega arith)

@@ -23,13 +23,9 @@ use Rattle.file_ranges.specs.Fields.{field_offset, field_of, certificate_offset,
 use Rattle.embedding.specs.Matching.{LeadsAlike}
 use Rattle.embedding.specs.Slots.{target_of, root_bytes, slot_changes, metadata_changes, FitsAt}
 
--- the flag of an image with a strong name (II.25.3.3.1)
-abbrev pub strong_name_flag : ℕ
-strong_name_flag = 8
-
--- flags without that of a strong name
+-- flags without 8, that of a strong name (II.25.3.3.1)
 abbrev pub unsigned_flags : ℕ → ℕ
-unsigned_flags flags = flags - strong_name_flag * (flags / strong_name_flag % 2)
+unsigned_flags flags = flags - 8 * (flags / 8 % 2)
 
 -- if the strong name is cleared: Flags without its flag, and zeros for StrongNameSignature (II.25.3.3)
 abbrev pub strong_name_changes : CliHeader → StrongName → List Change
@@ -94,17 +90,13 @@ pub record IsEmbedded (strong_name : StrongName) (file root result : List ℕ) :
   pub leads : LeadsAlike root (root_in file header)
   pub bytes : result ≡ embedded strong_name file root header slot
 
--- no data
-abbrev pub no_data : DataDirectory
-no_data = record { rva = 0; size = 0 }
-
 abbrev pub flags_with : StrongName → CliHeader → ℕ
 flags_with Keep header = header.flags
 flags_with Clear header = unsigned_flags header.flags
 
 abbrev pub strong_name_with : StrongName → CliHeader → DataDirectory
 strong_name_with Keep header = header.strong_name_signature
-strong_name_with Clear header = no_data
+strong_name_with Clear header = record { rva = 0; size = 0 }
 
 -- the CLI header of the result: MetaData and its range are those of the root, and the strong name may be cleared
 abbrev pub new_header : StrongName → CliHeader → List ℕ → ℕ → ℕ → CliHeader

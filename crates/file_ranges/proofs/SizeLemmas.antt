@@ -44,10 +44,6 @@ only_size source row layout size rising may is = record {
   some = inr (layout, may, is);
 }
 
--- the size of a type that has no row
-pub no_size : (source : Source) (row : ℕ) → ((layout : ℕ) → ¬ MayHaveLayout source row layout) → IsSizeOf source row 0
-no_size source row none = record { most = λ layout may. absurd (none layout may); some = inl refl }
-
 -- the largest size of all rows, of which a type may have any
 pub any_size : (source : Source) (row size : ℕ) → ¬ AreParentsRising source
     → ((layout : ℕ) → 1 ≤ layout → layout ≤ rows_in source ClassLayout → class_size source layout ≤ size)

@@ -1,8 +1,17 @@
-use Rattle.std.proofs.Common.{arith}
-use Rattle.embedding.proofs.Words.{words_step}
+use Rattle.std.proofs.Common.{◌≡◌, ℕ, ◌+◌, ◌≤◌, List, [], ◌∷◌, length, take, drop, ap, arith}
+use Rattle.std.proofs.lemmas.List.{length-drop, drop-drop}
+use Rattle.packed.specs.Number.{little_endian}
+use Rattle.embedding.specs.Bytes.{sum_of_words}
 use Rattle.embedding.proofs.change.sum_of_words.Goals as goal
+
+two_first : (bytes : List ℕ) → 2 ≤ length bytes → sum_of_words bytes ≡ little_endian (take 2 bytes) + sum_of_words (drop 2 bytes)
+two_first [] enough = absurd (omega arith)
+two_first (one ∷ []) enough = absurd (omega arith)
+two_first (low ∷ (high ∷ bytes)) enough = omega arith
 
 pub loop-offset-preserved : goal.loop-offset-preserved
 loop-offset-preserved c =
-    let step = words_step c.args.bytes.now c.loop-offset.offset (omega arith) in
-    (omega arith, omega arith, omega (arith, step, c.u16_at.ensures.value))
+    let bytes = c.args.bytes.now in
+    let offset = c.loop-offset.offset in
+    let step = two_first (drop offset bytes) (omega (arith, length-drop offset bytes)) in
+    (omega arith, omega arith, omega (arith, step, ap sum_of_words (drop-drop 2 offset bytes), c.u16_at.ensures.value))

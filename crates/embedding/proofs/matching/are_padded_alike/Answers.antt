@@ -1,6 +1,6 @@
-use Rattle.std.proofs.Common.{◌≡◌, rules, List, ℕ, Bool, true, false, min, refl, sym, ap, ◌∙◌, drop, length, replicate, subst, arith}
+use Rattle.std.proofs.Common.{◌≡◌, rules, List, ℕ, min, refl, sym, ap, ◌∙◌, drop, length, replicate, subst, arith}
 use mathlib.Core.Bool.{not}
-use Rattle.std.proofs.lemmas.Bool.{false≢true, true≢false}
+use Rattle.std.proofs.lemmas.Bool.{false≢true, not-false}
 use Rattle.std.proofs.lemmas.Bool.Decides.{Decides-eqb}
 use Rattle.std.proofs.lemmas.Slice.Eq.{slice_eq-Decides}
 use Rattle.embedding.proofs.Padded.{padded_alike, same_begin, same_fours, zeros_after}
@@ -9,10 +9,6 @@ use Rattle.embedding.proofs.matching.are_padded_alike.Goals as goal
 -- bytes are zeros, of which this is the whole
 zeros_of : (whole bytes : List ℕ) → bytes ≡ whole → bytes ≡ replicate (length bytes) 0 → whole ≡ replicate (length whole) 0
 zeros_of whole bytes same zeros = subst (λ (l : List ℕ). l ≡ replicate (length l) 0) same zeros
-
-true_of : (b : Bool) → not b ≡ false → b ≡ true
-true_of true other = refl
-true_of false other = absurd (true≢false other)
 
 pub returns-then-div_ceil : goal.returns-then-div_ceil
 returns-then-div_ceil c = (
@@ -49,7 +45,7 @@ returns c =
     let count_is : count ≡ min (length left) (length right) = search rules in (
       λ yes.
           let begins : c.split_at.result.0.now ≡ c.split_at-2.result.0.now =
-          (slice_eq-Decides Decides-eqb c.split_at.result.0.now c.split_at-2.result.0.now _ refl).0 (true_of _ (sym c.ne.ensures ∙ c.if-ne.false)) in
+          (slice_eq-Decides Decides-eqb c.split_at.result.0.now c.split_at-2.result.0.now _ refl).0 (not-false _ (sym c.ne.ensures ∙ c.if-ne.false)) in
           padded_alike left right count (omega arith) (omega arith) (omega (arith, c.if-div_ceil.false, c.div_ceil.ensures, c.div_ceil-2.ensures))
           (sym c.split_at.ensures.front ∙ begins ∙ c.split_at-2.ensures.front)
           (zeros_of (drop count left) c.split_at.result.1.now c.split_at.ensures.back (c.are_zeros.ensures.0 c.if-not-are_zeros.false))

@@ -2,15 +2,11 @@ use Rattle.std.proofs.Common.{◌≡◌, List, ℕ, subst, sym, ap, ◌∙◌}
 use Rattle.std.proofs.lemmas.Bool.{false≢true}
 use Rattle.std.proofs.Math.Logic.{∥∥₁_elim}
 use Rattle.std.specs.Coded.{le_prop}
-use Rattle.std.specs.Result.{IfErr, IfOk}
 use Rattle.pe.specs.Headers.{image_of}
 use Rattle.cli_header.specs.Said.{header_of}
 use Rattle.metadata.specs.Streams.{root_in}
-use Rattle.embedding.specs.Errors.{IsReason}
 use Rattle.embedding.specs.Matching.{LeadsAlike}
 use Rattle.embedding.proofs.Misfits.{opens_by}
-use Rattle.embedding.specs.Embedded.{IsEmbedded}
-use Rattle.embedding.specs.Planned.{Planned, result_of}
 use Rattle.packed.specs.Rule.{FirstBroken}
 use Rattle.metadata.specs.Rules.{rules_of_file, rules_of_metadata}
 use Rattle.embedding.proofs.Opens.{no_fault}
@@ -20,17 +16,14 @@ pub plan_opened-requires-clause-small : goal.plan_opened-requires-clause-small
 plan_opened-requires-clause-small c = ∥∥₁_elim c.in-Ok.ensures.sound.1 le_prop (λ some. some.1.small)
 
 pub returns-then-leads_alike-clause-sound : goal.returns-then-leads_alike-clause-sound
-returns-then-leads_alike-clause-sound c =
-    subst (λ (file : List ℕ). IfOk c.plan_opened.result (λ (plan : Planned). IsEmbedded c.args.strong_name file c.args.root.now (result_of plan)))
-    c.in_ok-opened.ensures.opened.headers c.plan_opened.ensures.sound
+returns-then-leads_alike-clause-sound c = rw c.in_ok-opened.ensures.opened.headers at c.plan_opened.ensures.sound
 
 pub returns-then-leads_alike-clause-first_error : goal.returns-then-leads_alike-clause-first_error
 returns-then-leads_alike-clause-first_error c =
     no_fault c.plan_opened.result (FirstBroken (rules_of_file c.args.file.now)) (FirstBroken (rules_of_metadata 0 c.args.root.now)) c.plan_opened.ensures.fault
 
 pub returns-then-leads_alike-clause-refused : goal.returns-then-leads_alike-clause-refused
-returns-then-leads_alike-clause-refused c =
-    subst (λ (file : List ℕ). IfErr c.plan_opened.result (IsReason file c.args.root.now)) c.in_ok-opened.ensures.opened.headers c.plan_opened.ensures.refused
+returns-then-leads_alike-clause-refused c = rw c.in_ok-opened.ensures.opened.headers at c.plan_opened.ensures.refused
 
 pub returns-else-leads_alike-clause-refused : goal.returns-else-leads_alike-clause-refused
 returns-else-leads_alike-clause-refused c =

@@ -1,4 +1,4 @@
-use Rattle.std.proofs.Common.{List, ℕ, length, subst, sym, ◌∙◌}
+use Rattle.std.proofs.Common.{List, ℕ, length, refl, subst, sym, ◌∙◌}
 use Rattle.std.proofs.lemmas.Bool.{false≢true}
 use Rattle.std.proofs.lemmas.Result.{err_from_is_err_and}
 use Rattle.cli_header.specs.declared.header.CliHeader.{CliHeader}
@@ -8,7 +8,6 @@ use Rattle.embedding.specs.Matching.{LeadsAlike}
 use Rattle.embedding.specs.Slots.{FitsAt}
 use Rattle.embedding.specs.Planned.{Planned, IsPlanned}
 use Rattle.embedding.proofs.Misfits.{misfit_is_reason, opens_by}
-use Rattle.embedding.proofs.Results.{embedded_of}
 use Rattle.embedding.proofs.plan.plan_opened.Goals as goal
 
 planned : goal.After-result-1 → Planned
@@ -41,7 +40,9 @@ invariant_of-result c = record { planned = is_planned c; target = c.target_of-ta
 
 pub returns-clause-sound : goal.returns-clause-sound
 unfolding planned
-returns-clause-sound c = embedded_of (planned c) (is_planned c)
+returns-clause-sound c =
+    let is = is_planned c in
+    record { header = c.args.file.header; opens = is.header; slot = c.in_ok-slot.slot; apart = is.apart; fits = is.fits; leads = is.leads; bytes = refl }
 
 pub returns-then-not-are_headers_apart-clause-refused : goal.returns-then-not-are_headers_apart-clause-refused
 returns-then-not-are_headers_apart-clause-refused c =

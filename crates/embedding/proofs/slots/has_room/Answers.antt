@@ -1,6 +1,6 @@
-use Rattle.std.proofs.Common.{◌≡◌, ◌+◌, ◌≤◌, ◌⊎◌, inl, inr, ℕ, List, length, replicate, subst, ap, arith}
+use Rattle.std.proofs.Common.{◌≡◌, ◌+◌, ℕ, List, length, replicate, subst, ap, arith}
 use Rattle.packed.specs.Offsets.{part}
-use Rattle.file_ranges.specs.Fields.{raw_size, raw_offset, headers_end}
+use Rattle.file_ranges.specs.Fields.{headers_end}
 use Rattle.embedding.proofs.Padded.{zeros_at}
 use Rattle.embedding.proofs.slots.has_room.Goals as goal
 
@@ -19,15 +19,7 @@ returns c =
         within = omega (arith, start, long);
         zeros = subst (λ (n : ℕ). part file n 40 ≡ replicate 40 0) start zeros;
         cli_header = omega (arith, start);
-        sections = λ index below.
-            elim (c.are_after.ensures.0 yes index below) as (λ _. (raw_size file index ≡ 0) ⊎ (headers_end file + 40 ≤ raw_offset file index)) [
-              | inl h ↦ inl h
-              | inr h ↦ inr (omega (arith, start))
-            ];
+        sections = (rw start at c.are_after.ensures).0 yes;
       },
-      λ room. c.are_after.ensures.1 (λ index below.
-          elim (room.sections index below) as (λ _. (raw_size file index ≡ 0) ⊎ (first + 40 ≤ raw_offset file index)) [
-            | inl h ↦ inl h
-            | inr h ↦ inr (omega (arith, start))
-          ]),
+      λ room. (rw start at c.are_after.ensures).1 room.sections,
     )

@@ -1,9 +1,6 @@
-use Rattle.std.proofs.Common.{◌≡◌, length, subst, ◌∙◌}
-use Rattle.embedding.specs.Planned.{Planned, shown_plan, result_of, target_in}
-use Rattle.embedding.proofs.Results.{result_long}
+use Rattle.std.proofs.Common.{◌∙◌}
+use Rattle.embedding.proofs.Written.{result_long}
 use Rattle.embedding.proofs.plan.EmbedPlan.fill.Goals as goal
 
 pub put_parts-requires : goal.put_parts-requires
-put_parts-requires c =
-    c.requires
-    ∙ subst (λ (plan : Planned). length (result_of plan) ≡ (target_in plan).len) c.self.view_is (result_long (shown_plan c.self.inside) c.self.invariant.planned)
+put_parts-requires c = c.requires ∙ result_long _ _ c.self.view_is c.self.invariant.planned

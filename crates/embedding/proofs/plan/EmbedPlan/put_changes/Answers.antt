@@ -3,7 +3,7 @@ use Rattle.embedding.specs.Bytes.{changed, with_bytes}
 use Rattle.embedding.specs.Embedded.{certificate_changes, copied, strong_name_changes, with_checksum}
 use Rattle.embedding.specs.Slots.{metadata_changes, slot_changes, root_bytes}
 use Rattle.embedding.specs.Planned.{target_in}
-use Rattle.embedding.proofs.Results.{changed_in_parts}
+use Rattle.embedding.proofs.Written.{changed_in_parts}
 use Rattle.embedding.proofs.plan.EmbedPlan.put_changes.Goals as goal
 
 pub returns : goal.returns
