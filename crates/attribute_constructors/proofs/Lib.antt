@@ -1,3 +1,4 @@
 pub mod LengthLemmas
 pub mod TypeLemmas
 pub mod ParamLemmas
+pub mod OwnerLemmas

@@ -4,9 +4,6 @@ use Rattle.std.proofs.lemmas.Bool.{cases_lt, le-ltb, lt-ltb}
 use Rattle.std.proofs.lemmas.Bool.Decides.{same_from_decides}
 use Rattle.std.proofs.lemmas.Slice.Eq.{bytes_eq-Decides}
 use Rattle.std.specs.Bool.{Decides}
-use Rattle.std.specs.Coded.{le_prop}
-use Rattle.std.specs.Prelude.{IfSome}
-use Rattle.std.proofs.Math.Logic.{∥∥₁_elim}
 use Rattle.table_schema.specs.declared.table.TableId.{TableId}
 use Rattle.table_schema.specs.declared.table.TableId.TheVariants.{Field, TypeDef, TypeRef}
 use Rattle.sig_items.specs.declared.item.Item.{Item}
@@ -15,27 +12,14 @@ use Rattle.table_schema.specs.declared.token.Token.{Token}
 use Rattle.metadata.specs.Cell.{Cell, Ref, Text}
 use Rattle.metadata.specs.Metadata.{Metadata, cell_in, count_in}
 use Rattle.metadata.specs.Lookups.{IsRun}
-use Rattle.metadata.specs.Valid.{MayRefer, start_in}
+use Rattle.metadata.specs.Valid.{start_in}
 use Rattle.reading.specs.Shown.{Shows}
 use Rattle.reading.specs.declared.cell_ref.CellRef.{CellRef}
 use Rattle.reading.specs.declared.cell_ref.CellRef.TheVariants as seen
 use Rattle.table_schema.specs.declared.column.ColumnKind.{ColumnKind}
-use Rattle.attribute_constructors.specs.Signatures.{items_in, reference_in}
+use Rattle.navigation.specs.Cells.{reference_in}
+use Rattle.attribute_constructors.specs.Signatures.{items_in}
 use Rattle.attribute_constructors.specs.Types.{enum_at, field_type, fields_end, has_row, instance_type, is_enum, is_named_type, is_static, is_text, underlying_type}
-
--- ---- references
-
--- a model has these numbers of rows, and may have this reference
-abbrev pub Refers : (TableId → ℕ) → Option Token → Type 0
-Refers rows reference = (model : Metadata) × ((table : TableId) → count_in model table ≡ rows table) × ((nullable : Bool) × MayRefer model nullable (Ref reference))
-
--- a reference in a cell is to a row that exists
-pub referred : (rows : TableId → ℕ) (reference : Option Token) → ∥ Refers rows reference ∥₁ → IfSome reference (λ of. (1 ≤ of.row) × (of.row ≤ rows of.table))
-referred rows None some = tt
-referred rows (Some of) some = (
-  ∥∥₁_elim some le_prop (λ it. it.2.1.0),
-  ∥∥₁_elim some le_prop (λ it. let count = it.1 of.table in let within = it.2.1.1 in omega (arith, count, within)),
-)
 
 -- ---- names
 

@@ -1,3 +1,4 @@
+pub mod Constructors
 pub mod Signatures
 pub mod Types
 pub mod Params

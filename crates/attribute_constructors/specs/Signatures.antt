@@ -1,15 +1,9 @@
 -- The items of the signatures in cells (ECMA-335 II.23.2).
-use Rattle.std.specs.Prelude.{Bool, true, false, List, [], Option, None}
-use Rattle.table_schema.specs.declared.token.Token.{Token}
+use Rattle.std.specs.Prelude.{Bool, true, false, List, []}
 use Rattle.sig_items.specs.declared.item.Item.{Item}
 use Rattle.sig_items.specs.declared.item.Item.TheVariants as item
 use Rattle.sig_items.specs.ItemsOf.{items_of}
-use Rattle.metadata.specs.Cell.{Cell, Ref, Sig}
-
--- the reference in a cell
-abbrev pub reference_in : Cell → Option Token
-reference_in (Ref reference) = reference
-reference_in _ = None
+use Rattle.metadata.specs.Cell.{Cell, Sig}
 
 -- the items of a signature
 abbrev pub items_in : Cell → List Item

@@ -11,7 +11,8 @@ use Rattle.sig_items.specs.declared.item.Item.TheVariants as item
 use Rattle.metadata.specs.Cell.{Cell, Number, Text}
 use Rattle.metadata.specs.Metadata.{Metadata, cell_in, count_in}
 use Rattle.metadata.specs.Valid.{start_in}
-use Rattle.attribute_constructors.specs.Signatures.{items_in, reference_in}
+use Rattle.navigation.specs.Cells.{reference_in}
+use Rattle.attribute_constructors.specs.Signatures.{items_in}
 
 -- the row of a table exists
 abbrev pub has_row : Metadata → TableId → ℕ → Bool

@@ -13,12 +13,12 @@
 //! ```
 #![tactic(auto)]
 
+mod constructors;
 mod enums;
 mod params;
-mod references;
 mod signatures;
 mod system_types;
 
+pub use constructors::{constructor, type_of};
 pub use params::Params;
-pub use references::{constructor, reference};
 pub use signatures::params_of;

@@ -17,7 +17,8 @@ use Rattle.attribute_values.specs.declared.item.Member.TheVariants.{Field, Prope
 use Rattle.attribute_values.specs.Values.{Scalar, number, text, type_name, Elem, plain, boxed, scalar_type, element_type}
 use Rattle.attribute_values.specs.Parts.{Part, byte, sized, value, string, IsPart, AreParts, size_of, is_value, code_of, type_parts, scalar_part, element_parts, has_values, member_code}
 use Rattle.attribute_values.specs.Reading.{sized_at, string_at, bits_at, number_at, checked_value, scalar_at, type_of, first_type, element_at, argument_type_at, member_of, member_at, Intro, named_by, intro_at}
-use Rattle.attribute_values.proofs.PartLemmas.{AreBytes, bytes_after, parts_append, parts_split, bind_some, map_some, cond_some, Takes, Reads, Any, sized_reads, NumbersAreRead, string_parts, string_reads}
+use Rattle.sig_grammar.proofs.OptionLemmas.{IfSome-bind, IfSome-cond, IfSome-map}
+use Rattle.attribute_values.proofs.PartLemmas.{AreBytes, bytes_after, parts_append, parts_split, Takes, Reads, Any, sized_reads, NumbersAreRead, string_parts, string_reads}
 
 -- ---- numbers
 
@@ -35,8 +36,8 @@ sized_parts count n = sized count n ∷ []
 number_found : (of : Element) (b : List ℕ) → AreBytes b → (size : Option ℕ) → size_of of ≡ size → IfSome (option_and_then (checked_value of) (option_and_then (λ count. sized_at count b) size)) (Takes scalar_parts (Has (Simple of)) b)
 number_found of b h None e = tt
 number_found of b h (Some count) e =
-    bind_some (Takes (sized_parts count) (λ n. Any n) b) (Takes scalar_parts (Has (Simple of)) b) (checked_value of) (sized_at count b) ((sized_reads count).found b h)
-    (λ x took. cond_some (Takes scalar_parts (Has (Simple of)) b) (is_value of x.0) _ None
+    IfSome-bind (Takes (sized_parts count) (λ n. Any n) b) (Takes scalar_parts (Has (Simple of)) b) (checked_value of) (sized_at count b) ((sized_reads count).found b h)
+    (λ x took. IfSome-cond (Takes scalar_parts (Has (Simple of)) b) (is_value of x.0) _ None
     (λ fits. record {
       good = refl;
       are = (took.are.0, took.are.1, took.are.2, (fits, subst (λ (o : Option ℕ). IsSomeAnd o (λ count. IsNumber count took.are.0 x.0)) (sym e) took.are.3), took.are.4);
@@ -55,9 +56,9 @@ number_again of n b tail f (Some count) e =
 scalar_found : NumbersAreRead → (of : ElementType) (b : List ℕ) → AreBytes b → IfSome (scalar_at of b) (Takes scalar_parts (Has of) b)
 unfolding scalar_at number_at bits_at
 scalar_found known SystemType b h =
-    map_some (Takes string_parts (λ t. Any t) b) (Takes scalar_parts (Has SystemType) b) (λ x. (type_name x.0, x.1)) (string_at b) ((string_reads known).found b h) (λ x took. record { good = refl; are = took.are })
+    IfSome-map (Takes string_parts (λ t. Any t) b) (Takes scalar_parts (Has SystemType) b) (λ x. (type_name x.0, x.1)) (string_at b) ((string_reads known).found b h) (λ x took. record { good = refl; are = took.are })
 scalar_found known (Simple String) b h =
-    map_some (Takes string_parts (λ t. Any t) b) (Takes scalar_parts (Has (Simple String)) b) (λ x. (text x.0, x.1)) (string_at b) ((string_reads known).found b h) (λ x took. record { good = refl; are = took.are })
+    IfSome-map (Takes string_parts (λ t. Any t) b) (Takes scalar_parts (Has (Simple String)) b) (λ x. (text x.0, x.1)) (string_at b) ((string_reads known).found b h) (λ x took. record { good = refl; are = took.are })
 scalar_found known (Simple of) b h = number_found of b h (size_of of) refl
 
 scalar_again : NumbersAreRead → (b tail : List ℕ) (x : Scalar) → AreParts (scalar_parts x) tail b → scalar_at (scalar_type x) b ≡ Some (x, tail)
@@ -73,7 +74,7 @@ abbrev HasCode : ℕ → Element → Type 0
 HasCode c e = c ≡ element_code e
 
 picked : (c n : ℕ) (e : Element) (other : Option Element) → element_code e ≡ n → IfSome other (HasCode c) → IfSome (pick c n e other) (HasCode c)
-picked c n e other is h = cond_some (HasCode c) (c == n) (Some e) other (λ t. eqb-true c n t ∙ sym is) (λ t. h)
+picked c n e other is h = IfSome-cond (HasCode c) (c == n) (Some e) other (λ t. eqb-true c n t ∙ sym is) (λ t. h)
 
 code_found : (c : ℕ) → IfSome (element_of c) (HasCode c)
 unfolding element_of
@@ -93,11 +94,11 @@ low_code c _ low e = (e, refl)
 type_found : (c : ℕ) → IfSome (type_of c) (IsCode c)
 unfolding type_of
 type_found c =
-    cond_some (IsCode c) (c == 0x50) (Some SystemType) _ (λ t. (eqb-true c 0x50 t, refl))
-    (λ _. cond_some (IsCode c) (c == 0x51) (Some (Simple Object)) _ (λ t. (eqb-true c 0x51 t, refl))
-    (λ _. cond_some (IsCode c) (nat_lt c 0x0F) _ None
+    IfSome-cond (IsCode c) (c == 0x50) (Some SystemType) _ (λ t. (eqb-true c 0x50 t, refl))
+    (λ _. IfSome-cond (IsCode c) (c == 0x51) (Some (Simple Object)) _ (λ t. (eqb-true c 0x51 t, refl))
+    (λ _. IfSome-cond (IsCode c) (nat_lt c 0x0F) _ None
     (λ low. let small : c < 0x0F = grind (arith, nat_tests, low) in
-    map_some (HasCode c) (IsCode c) (λ of. Simple of) (element_of c) (code_found c) (λ of e. low_code c of small e))
+    IfSome-map (HasCode c) (IsCode c) (λ of. Simple of) (element_of c) (code_found c) (λ of e. low_code c of small e))
     (λ _. tt)))
 
 type_again : (of : ElementType) → has_values of ≡ true → type_of (code_of of) ≡ Some of
@@ -116,7 +117,7 @@ HasValues of = has_values of ≡ true
 first_found : (b : List ℕ) → IfSome (first_type b) (Takes code_parts HasValues b)
 first_found [] = tt
 first_found (c ∷ b) =
-    map_some (IsCode c) (Takes code_parts HasValues (c ∷ b)) (λ of. (of, b)) (type_of c) (type_found c)
+    IfSome-map (IsCode c) (Takes code_parts HasValues (c ∷ b)) (λ of. (of, b)) (type_of c) (type_found c)
     (λ of is. record { good = is.1; are = (c ∷ [], b, refl, ap (λ (x : ℕ). x ∷ []) is.0, refl) })
 
 first_again : (of : ElementType) (b tail : List ℕ) → HasValues of → AreParts (code_parts of) tail b → first_type b ≡ Some (of, tail)
@@ -142,8 +143,8 @@ HasType of e = element_type e ≡ of
 
 box_found : NumbersAreRead → (b : List ℕ) → AreBytes b → IfSome (option_and_then (λ x. option_map (λ y. (boxed y.0, y.1)) (scalar_at x.0 x.1)) (first_type b)) (Takes element_parts (HasType (Simple Object)) b)
 box_found known b h =
-    bind_some (Takes code_parts HasValues b) (Takes element_parts (HasType (Simple Object)) b) (λ x. option_map (λ y. (boxed y.0, y.1)) (scalar_at x.0 x.1)) (first_type b) (first_found b)
-    (λ x code. map_some (Takes scalar_parts (Has x.0) x.1) (Takes element_parts (HasType (Simple Object)) b) (λ y. (boxed y.0, y.1)) (scalar_at x.0 x.1)
+    IfSome-bind (Takes code_parts HasValues b) (Takes element_parts (HasType (Simple Object)) b) (λ x. option_map (λ y. (boxed y.0, y.1)) (scalar_at x.0 x.1)) (first_type b) (first_found b)
+    (λ x code. IfSome-map (Takes scalar_parts (Has x.0) x.1) (Takes element_parts (HasType (Simple Object)) b) (λ y. (boxed y.0, y.1)) (scalar_at x.0 x.1)
     (scalar_found known x.0 x.1 (bytes_after (code_parts x.0) b x.1 code.are h))
     (λ y took. record {
       good = refl;
@@ -152,7 +153,7 @@ box_found known b h =
 
 plain_found : NumbersAreRead → (of : ElementType) (b : List ℕ) → AreBytes b → IfSome (option_map (λ y. (plain y.0, y.1)) (scalar_at of b)) (Takes element_parts (HasType of) b)
 plain_found known of b h =
-    map_some (Takes scalar_parts (Has of) b) (Takes element_parts (HasType of) b) (λ y. (plain y.0, y.1)) (scalar_at of b) (scalar_found known of b h)
+    IfSome-map (Takes scalar_parts (Has of) b) (Takes element_parts (HasType of) b) (λ y. (plain y.0, y.1)) (scalar_at of b) (scalar_found known of b h)
     (λ y took. record { good = took.good; are = took.are })
 
 element_found : NumbersAreRead → (of : ElementType) (b : List ℕ) → AreBytes b → IfSome (element_at of b) (Takes element_parts (HasType of) b)
@@ -193,10 +194,10 @@ argument_type_found : (b : List ℕ) → IfSome (argument_type_at b) (Takes type
 unfolding argument_type_at
 argument_type_found [] = tt
 argument_type_found (c ∷ b) =
-    cond_some (Takes type_parts IsKnown (c ∷ b)) (c == SZARRAY) _ _
-    (λ t. map_some (Takes code_parts HasValues b) (Takes type_parts IsKnown (c ∷ b)) (λ x. (Vector x.0, x.1)) (first_type b) (first_found b)
+    IfSome-cond (Takes type_parts IsKnown (c ∷ b)) (c == SZARRAY) _ _
+    (λ t. IfSome-map (Takes code_parts HasValues b) (Takes type_parts IsKnown (c ∷ b)) (λ x. (Vector x.0, x.1)) (first_type b) (first_found b)
     (λ x took. record { good = took.good; are = (c ∷ [], b, refl, ap (λ (n : ℕ). n ∷ []) (eqb-true c SZARRAY t), took.are) }))
-    (λ _. map_some (Takes code_parts HasValues (c ∷ b)) (Takes type_parts IsKnown (c ∷ b)) (λ x. (One x.0, x.1)) (first_type (c ∷ b)) (first_found (c ∷ b))
+    (λ _. IfSome-map (Takes code_parts HasValues (c ∷ b)) (Takes type_parts IsKnown (c ∷ b)) (λ x. (One x.0, x.1)) (first_type (c ∷ b)) (first_found (c ∷ b))
     (λ x took. record { good = took.good; are = took.are }))
 
 no_array : (of : ElementType) → HasValues of → (code_of of == SZARRAY) ≡ false
@@ -219,8 +220,8 @@ member_found : (b : List ℕ) → IfSome (member_at b) (Takes (λ m. byte (membe
 unfolding member_of
 member_found [] = tt
 member_found (c ∷ b) =
-    map_some (IsMemberCode c) (Takes (λ m. byte (member_code m) ∷ []) (λ m. Any m) (c ∷ b)) (λ m. (m, b)) (member_of c)
-    (cond_some (IsMemberCode c) (c == 0x53) (Some Field) _ (λ t. eqb-true c 0x53 t) (λ _. cond_some (IsMemberCode c) (c == 0x54) (Some Property) None (λ t. eqb-true c 0x54 t) (λ _. tt)))
+    IfSome-map (IsMemberCode c) (Takes (λ m. byte (member_code m) ∷ []) (λ m. Any m) (c ∷ b)) (λ m. (m, b)) (member_of c)
+    (IfSome-cond (IsMemberCode c) (c == 0x53) (Some Field) _ (λ t. eqb-true c 0x53 t) (λ _. IfSome-cond (IsMemberCode c) (c == 0x54) (Some Property) None (λ t. eqb-true c 0x54 t) (λ _. tt)))
     (λ m e. record { good = tt; are = (c ∷ [], b, refl, ap (λ (n : ℕ). n ∷ []) e, refl) })
 
 member_again : (m : Member) (b tail : List ℕ) → AreParts (byte (member_code m) ∷ []) tail b → member_at b ≡ Some (m, tail)
@@ -230,7 +231,7 @@ member_again Property b tail f = rw (f.2, f.3, f.4) refl
 
 name_found : NumbersAreRead → (m : Member) (of : ArgumentType) (b mid : List ℕ) → AreBytes mid → IsKnown of → AreParts (byte (member_code m) ∷ type_parts of) mid b → IfSome (option_and_then (named_by m of) (string_at mid)) (Takes intro_parts (λ x. IsKnown x.of) b)
 name_found known m of b mid h good f =
-    bind_some (Takes string_parts (λ t. Any t) mid) (Takes intro_parts (λ x. IsKnown x.of) b) (named_by m of) (string_at mid) ((string_reads known).found mid h)
+    IfSome-bind (Takes string_parts (λ t. Any t) mid) (Takes intro_parts (λ x. IsKnown x.of) b) (named_by m of) (string_at mid) ((string_reads known).found mid h)
     (λ x took. named_found m of b mid good f x took)
   where
     named_found : (m : Member) (of : ArgumentType) (b mid : List ℕ) → IsKnown of → AreParts (byte (member_code m) ∷ type_parts of) mid b → (x : Option (List ℕ) × List ℕ) → Takes string_parts (λ t. Any t) mid x → IfSome (named_by m of x) (Takes intro_parts (λ x. IsKnown x.of) b)
@@ -240,8 +241,8 @@ name_found known m of b mid h good f =
 pub intro_reads : NumbersAreRead → Reads intro_at intro_parts (λ x. IsKnown x.of)
 unfolding intro_at
 intro_reads known = record {
-  found = λ b h. bind_some (Takes (λ m. byte (member_code m) ∷ []) (λ m. Any m) b) (Takes intro_parts (λ x. IsKnown x.of) b) _ (member_at b) (member_found b)
-      (λ m took. bind_some (Takes type_parts IsKnown m.1) (Takes intro_parts (λ x. IsKnown x.of) b) _ (argument_type_at m.1) (argument_type_found m.1)
+  found = λ b h. IfSome-bind (Takes (λ m. byte (member_code m) ∷ []) (λ m. Any m) b) (Takes intro_parts (λ x. IsKnown x.of) b) _ (member_at b) (member_found b)
+      (λ m took. IfSome-bind (Takes type_parts IsKnown m.1) (Takes intro_parts (λ x. IsKnown x.of) b) _ (argument_type_at m.1) (argument_type_found m.1)
       (λ of typed.
       let f = parts_append (byte (member_code m.0) ∷ []) (type_parts of.0) b m.1 of.1 took.are typed.are in
       name_found known m.0 of.0 b of.1 (bytes_after (byte (member_code m.0) ∷ type_parts of.0) b of.1 f h) typed.good f));

@@ -11,6 +11,7 @@ use Rattle.packed.specs.Number.{little_endian}
 use Rattle.packed.specs.Packed.{IsPacked}
 use Rattle.packed.specs.Prefix.{unsigned_at}
 use Rattle.sig_grammar.specs.Reading.{Reader}
+use Rattle.sig_grammar.proofs.OptionLemmas.{IfSome-bind, IfSome-cond}
 use Rattle.attribute_values.specs.Parts.{Part, sized, string, AreParts}
 use Rattle.attribute_values.specs.Reading.{sized_at, string_at, text_in}
 
@@ -48,18 +49,6 @@ bytes_after [] b tail e h = subst AreBytes e h
 bytes_after (p ∷ ps) b tail f h = bytes_after ps f.1 tail f.4 (bytes_tail f.0 f.1 (subst AreBytes f.2 h))
 
 -- ---- facts of the value in an option
-
-pub bind_some : {A B : Type 0} (P : A → Type 0) (Q : B → Type 0) (f : A → Option B) (o : Option A) → IfSome o P → ((x : A) → P x → IfSome (f x) Q) → IfSome (option_and_then f o) Q
-bind_some P Q f None h k = tt
-bind_some P Q f (Some x) h k = k x h
-
-pub map_some : {A B : Type 0} (P : A → Type 0) (Q : B → Type 0) (f : A → B) (o : Option A) → IfSome o P → ((x : A) → P x → Q (f x)) → IfSome (option_map f o) Q
-map_some P Q f None h k = tt
-map_some P Q f (Some x) h k = k x h
-
-pub cond_some : {A : Type 0} (Q : A → Type 0) (b : Bool) (x y : Option A) → (b ≡ true → IfSome x Q) → (b ≡ false → IfSome y Q) → IfSome (cond b x y) Q
-cond_some Q true x y h k = h refl
-cond_some Q false x y h k = k refl
 
 pub self_some : {A : Type 0} (o : Option A) → IfSome o (λ x. o ≡ Some x)
 self_some None = tt
@@ -106,7 +95,7 @@ Any x = ⊤
 sized_found : (count : ℕ) (b : List ℕ) → IfSome (sized_at count b) (Takes (λ n. sized count n ∷ []) (λ n. Any n) b)
 unfolding sized_at
 sized_found count b =
-    cond_some (Takes (λ n. sized count n ∷ []) (λ n. Any n) b) (nat_lt (length b) count) None (Some (little_endian (take count b), drop count b)) (λ _. tt)
+    IfSome-cond (Takes (λ n. sized count n ∷ []) (λ n. Any n) b) (nat_lt (length b) count) None (Some (little_endian (take count b), drop count b)) (λ _. tt)
     (λ long.
     let within : count ≤ length b = grind (arith, nat_tests, long) in
     record {
@@ -139,10 +128,10 @@ string_parts t = string t ∷ []
 text_found : (b : List ℕ) (n u : ℕ) → IsPacked n (take u b) → IfSome (text_in n (drop u b)) (Takes string_parts (λ t. Any t) b)
 text_found b n u packed =
     let d = drop u b in
-    cond_some (Takes string_parts (λ t. Any t) b) (nat_lt (length d) n) None _ (λ _. tt)
+    IfSome-cond (Takes string_parts (λ t. Any t) b) (nat_lt (length d) n) None _ (λ _. tt)
     (λ long.
     let within : n ≤ length (drop u b) = grind (arith, nat_tests, long) in
-    cond_some (Takes string_parts (λ t. Any t) b) (is_utf8 (take n d)) (Some (Some (take n d), drop n d)) None
+    IfSome-cond (Takes string_parts (λ t. Any t) b) (is_utf8 (take n d)) (Some (Some (take n d), drop n d)) None
     (λ utf8. record {
       good = tt;
       are = (
@@ -159,9 +148,9 @@ string_found : NumbersAreRead → (b : List ℕ) → AreBytes b → IfSome (stri
 unfolding string_at
 string_found known [] h = tt
 string_found known (c ∷ b) h =
-    cond_some (Takes string_parts (λ t. Any t) (c ∷ b)) (c == 0xFF) (Some (None, b)) _
+    IfSome-cond (Takes string_parts (λ t. Any t) (c ∷ b)) (c == 0xFF) (Some (None, b)) _
     (λ null. record { good = tt; are = (c ∷ [], b, refl, ap (λ (x : ℕ). x ∷ []) (eqb-true c 0xFF null), refl) })
-    (λ _. bind_some (λ read. (read.1 ≤ length (c ∷ b)) × IsPacked read.0 (take read.1 (c ∷ b))) (Takes string_parts (λ t. Any t) (c ∷ b)) (λ x. text_in x.0 (drop x.1 (c ∷ b)))
+    (λ _. IfSome-bind (λ read. (read.1 ≤ length (c ∷ b)) × IsPacked read.0 (take read.1 (c ∷ b))) (Takes string_parts (λ t. Any t) (c ∷ b)) (λ x. text_in x.0 (drop x.1 (c ∷ b)))
     (unsigned_at (c ∷ b)) (known.found (c ∷ b) (each_byte (c ∷ b) h)) (λ x at. text_found (c ∷ b) x.0 x.1 at.1))
 
 text_seam : (t remainder : List ℕ) → IsUtf8 t → text_in (length t) (t ++ remainder) ≡ Some (Some t, remainder)

@@ -12,7 +12,8 @@ use Rattle.attribute_values.specs.Parts.{Part, byte, sized, string, AreParts, el
 use Rattle.attribute_values.specs.Items.{Head, element, array, Item, fixed, entry, named_count, named, head_of, entries_of, fixed_items, named_items, items_of}
 use Rattle.attribute_values.specs.Reading.{Reporter, item_then, sized_at, element_at, count_of, head_at, Intro, intro_at, entries_at, after, argument_at, named_left, fixed_left}
 use Rattle.attribute_values.specs.Steps.{after_prolog, all_at}
-use Rattle.attribute_values.proofs.PartLemmas.{AreBytes, bytes_after, parts_append, parts_split, bind_some, map_some, cond_some, self_some, weaker_some, Takes, Any, sized_reads, NumbersAreRead}
+use Rattle.sig_grammar.proofs.OptionLemmas.{IfSome-bind, IfSome-cond, IfSome-map}
+use Rattle.attribute_values.proofs.PartLemmas.{AreBytes, bytes_after, parts_append, parts_split, self_some, weaker_some, Takes, Any, sized_reads, NumbersAreRead}
 use Rattle.attribute_values.proofs.ElementLemmas.{HasType, HasValues, element_has_values, element_reads, IsKnown, intro_parts, intro_reads}
 
 -- ---- the elements of an array
@@ -46,8 +47,8 @@ entries_found known of zero next b h =
     weaker_some (λ y. next b ≡ Some y) (TakesEntries of zero next b) (next b) (self_some (next b))
     (λ y e. record { es = []; mid = b; remainder = y.0; long = refl; typed = tt; are = refl; more = e; same = refl })
 entries_found known of (suc n) next b h =
-    bind_some (Takes element_parts (HasType of) b) (TakesEntries of (suc n) next b) (λ x. item_then (entry x.0) (entries_at of n next x.1)) (element_at of b) ((element_reads known of).found b h)
-    (λ x took. map_some (TakesEntries of n next x.1) (TakesEntries of (suc n) next b) (λ y. (entry x.0 ∷ y.0, y.1)) (entries_at of n next x.1)
+    IfSome-bind (Takes element_parts (HasType of) b) (TakesEntries of (suc n) next b) (λ x. item_then (entry x.0) (entries_at of n next x.1)) (element_at of b) ((element_reads known of).found b h)
+    (λ x took. IfSome-map (TakesEntries of n next x.1) (TakesEntries of (suc n) next b) (λ y. (entry x.0 ∷ y.0, y.1)) (entries_at of n next x.1)
     (entries_found known of n next x.1 (bytes_after (element_parts x.0) b x.1 took.are h))
     (λ y m. record {
       es = x.0 ∷ m.es;
@@ -84,11 +85,11 @@ counted of b has n tail f false e = (refl, has, f, λ same. grind (arith, nat_te
 head_found : NumbersAreRead → (of : ArgumentType) (b : List ℕ) → AreBytes b → IfSome (head_at of b) (IsHead of b)
 unfolding head_at
 head_found known (One of) b h =
-    map_some (Takes element_parts (HasType of) b) (IsHead (One of) b) (λ x. (element x.0, x.1)) (element_at of b) ((element_reads known of).found b h)
+    IfSome-map (Takes element_parts (HasType of) b) (IsHead (One of) b) (λ x. (element x.0, x.1)) (element_at of b) ((element_reads known of).found b h)
     (λ x took. (ap (λ (t : ElementType). One t) took.good, took.are))
 head_found known (Vector of) b h =
-    cond_some (IsHead (Vector of) b) (has_values of) _ None
-    (λ has. map_some (Takes (λ n. sized 4 n ∷ []) (λ n. Any n) b) (IsHead (Vector of) b) (λ x. (array of (count_of x.0), x.1)) (sized_at 4 b) ((sized_reads 4).found b h)
+    IfSome-cond (IsHead (Vector of) b) (has_values of) _ None
+    (λ has. IfSome-map (Takes (λ n. sized 4 n ∷ []) (λ n. Any n) b) (IsHead (Vector of) b) (λ x. (array of (count_of x.0), x.1)) (sized_at 4 b) ((sized_reads 4).found b h)
     (λ x took. counted of b has x.0 x.1 took.are (x.0 == null_count) refl))
     (λ _. tt)
 
@@ -105,13 +106,13 @@ record TakesArgument (item : Head → Item) (of : ArgumentType) (next : Reporter
 taken_found : NumbersAreRead → (item : Head → Item) (of : ArgumentType) (next : Reporter) (b : List ℕ) → AreBytes b → (x : Head × List ℕ) → IsHead of b x → IfSome (item_then (item x.0) (after x.0 next x.1)) (TakesArgument item of next b)
 unfolding after
 taken_found known item of next b h (element e, tail) is =
-    map_some (λ y. next tail ≡ Some y) (TakesArgument item of next b) (λ y. (item (element e) ∷ y.0, y.1)) (next tail) (self_some (next tail))
+    IfSome-map (λ y. next tail ≡ Some y) (TakesArgument item of next b) (λ y. (item (element e) ∷ y.0, y.1)) (next tail) (self_some (next tail))
     (λ y more. record { a = one e; mid = tail; remainder = y.0; typed = is.0; good = tt; are = is.1; more = more; same = refl })
 taken_found known item of next b h (array t None, tail) is =
-    map_some (λ y. next tail ≡ Some y) (TakesArgument item of next b) (λ y. (item (array t None) ∷ y.0, y.1)) (next tail) (self_some (next tail))
+    IfSome-map (λ y. next tail ≡ Some y) (TakesArgument item of next b) (λ y. (item (array t None) ∷ y.0, y.1)) (next tail) (self_some (next tail))
     (λ y more. record { a = vector t None; mid = tail; remainder = y.0; typed = is.0; good = (is.1, tt); are = is.2; more = more; same = refl })
 taken_found known item of next b h (array t (Some n), tail) is =
-    map_some (TakesEntries t n next tail) (TakesArgument item of next b) (λ y. (item (array t (Some n)) ∷ y.0, y.1)) (entries_at t n next tail)
+    IfSome-map (TakesEntries t n next tail) (TakesArgument item of next b) (λ y. (item (array t (Some n)) ∷ y.0, y.1)) (entries_at t n next tail)
     (entries_found known t n next tail (bytes_after (sized 4 n ∷ []) b tail is.2 h))
     (λ y m. record {
       a = vector t (Some m.es);
@@ -127,7 +128,7 @@ taken_found known item of next b h (array t (Some n), tail) is =
 argument_found : NumbersAreRead → (item : Head → Item) (of : ArgumentType) (next : Reporter) (b : List ℕ) → AreBytes b → IfSome (argument_at item of next b) (TakesArgument item of next b)
 unfolding argument_at
 argument_found known item of next b h =
-    bind_some (IsHead of b) (TakesArgument item of next b) (λ x. item_then (item x.0) (after x.0 next x.1)) (head_at of b) (head_found known of b h) (taken_found known item of next b h)
+    IfSome-bind (IsHead of b) (TakesArgument item of next b) (λ x. item_then (item x.0) (after x.0 next x.1)) (head_at of b) (head_found known of b h) (taken_found known item of next b h)
 
 then_items : (i : Item) (o : Option (List Item × List ℕ)) → item_then i o ≡ After (i ∷ []) o
 then_items i None = refl
@@ -187,7 +188,7 @@ named_found : NumbersAreRead → (n : ℕ) (b : List ℕ) → AreBytes b → IfS
 unfolding named_left
 named_found known zero b h = record { ns = []; long = refl; good = tt; are = refl; same = refl }
 named_found known (suc n) b h =
-    bind_some (Takes intro_parts (λ x. IsKnown x.of) b) (TakesNamed (suc n) b) (λ x. argument_at (named x.0.member x.0.name) x.0.of (named_left n) x.1) (intro_at b) ((intro_reads known).found b h)
+    IfSome-bind (Takes intro_parts (λ x. IsKnown x.of) b) (TakesNamed (suc n) b) (λ x. argument_at (named x.0.member x.0.name) x.0.of (named_left n) x.1) (intro_at b) ((intro_reads known).found b h)
     (λ x took.
     let after_intro = bytes_after (intro_parts x.0) b x.1 took.are h in
     weaker_some (TakesArgument (named x.0.member x.0.name) x.0.of (named_left n) x.1) (TakesNamed (suc n) b) (argument_at (named x.0.member x.0.name) x.0.of (named_left n) x.1)
@@ -236,8 +237,8 @@ one_fixed of ofs b y t m =
 fixed_found : NumbersAreRead → (ofs : List ArgumentType) (b : List ℕ) → AreBytes b → IfSome (fixed_left ofs b) (TakesValue ofs b)
 unfolding fixed_left
 fixed_found known [] b h =
-    bind_some (Takes (λ n. sized 2 n ∷ []) (λ n. Any n) b) (TakesValue [] b) (λ x. item_then (named_count x.0) (named_left x.0 x.1)) (sized_at 2 b) ((sized_reads 2).found b h)
-    (λ x took. map_some (TakesNamed x.0 x.1) (TakesValue [] b) (λ y. (named_count x.0 ∷ y.0, y.1)) (named_left x.0 x.1)
+    IfSome-bind (Takes (λ n. sized 2 n ∷ []) (λ n. Any n) b) (TakesValue [] b) (λ x. item_then (named_count x.0) (named_left x.0 x.1)) (sized_at 2 b) ((sized_reads 2).found b h)
+    (λ x took. IfSome-map (TakesNamed x.0 x.1) (TakesValue [] b) (λ y. (named_count x.0 ∷ y.0, y.1)) (named_left x.0 x.1)
     (named_found known x.0 x.1 (bytes_after (sized 2 x.0 ∷ []) b x.1 took.are h))
     (λ y m. record {
       v = record { fixed = []; named = m.ns };
@@ -272,8 +273,8 @@ fixed_again known (a ∷ args) ns b tail h k f =
 pub value_found : NumbersAreRead → (ofs : List ArgumentType) (b : List ℕ) → AreBytes b → IfSome (all_at ofs b) (λ y. (v : AttributeValue) × (y.1 ≡ [] → IsAttributeValue ofs v b) × (y.0 ≡ items_of v))
 unfolding all_at
 value_found known ofs b h =
-    bind_some (Takes (λ n. sized 2 n ∷ []) (λ n. Any n) b) (λ y. (v : AttributeValue) × (y.1 ≡ [] → IsAttributeValue ofs v b) × (y.0 ≡ items_of v)) (after_prolog ofs) (sized_at 2 b) ((sized_reads 2).found b h)
-    (λ x took. cond_some (λ y. (v : AttributeValue) × (y.1 ≡ [] → IsAttributeValue ofs v b) × (y.0 ≡ items_of v)) (x.0 == 1) (fixed_left ofs x.1) None
+    IfSome-bind (Takes (λ n. sized 2 n ∷ []) (λ n. Any n) b) (λ y. (v : AttributeValue) × (y.1 ≡ [] → IsAttributeValue ofs v b) × (y.0 ≡ items_of v)) (after_prolog ofs) (sized_at 2 b) ((sized_reads 2).found b h)
+    (λ x took. IfSome-cond (λ y. (v : AttributeValue) × (y.1 ≡ [] → IsAttributeValue ofs v b) × (y.0 ≡ items_of v)) (x.0 == 1) (fixed_left ofs x.1) None
     (λ prolog. weaker_some (TakesValue ofs x.1) _ (fixed_left ofs x.1) (fixed_found known ofs x.1 (bytes_after (sized 2 x.0 ∷ []) b x.1 took.are h))
     (λ y t.
     let begins = subst (λ (n : ℕ). AreParts (sized 2 n ∷ []) x.1 b) (eqb-true x.0 1 prolog) took.are in (

@@ -1,40 +1,18 @@
--- Declarations of rows, and texts that were written one after another.
-use Rattle.std.proofs.Common.{◌≡◌, ◌∙◌, ◌+◌, ◌-◌, ◌^◌, ◌<◌, ◌≤◌, Bool, Bor, ℕ, true, List, [], ◌++◌, length, take, drop, min, Result, Ok, Err, OnOk, refl, ap, subst, arith}
+-- Declarations of rows, and their texts in a buffer.
+use Rattle.std.proofs.Common.{◌≡◌, ◌∙◌, ◌+◌, ◌-◌, ◌^◌, ◌<◌, ◌≤◌, Bor, ℕ, true, List, ◌++◌, length, take, drop, min, refl, subst, arith}
 use Rattle.table_schema.specs.declared.table.TableId.{TableId}
 use Rattle.table_schema.specs.declared.table.TableId.TheVariants.{TypeDef, Field, MethodDef, Property}
 use Rattle.table_schema.specs.declared.column.SigKind.TheVariants as column
 use Rattle.table_schema.specs.declared.column.ColumnKind.{ColumnKind}
 use Rattle.table_schema.specs.declared.column.ColumnKind.TheVariants as kind
-use Rattle.sig_grammar.specs.Encodes.{Holds}
-use Rattle.sig_grammar.specs.Syntax.{Body, Method, Slot, method_body, property}
-use Rattle.metadata.specs.Cell.{Cell, Sig}
-use Rattle.metadata.specs.Kinds.{IsHeld, IsOfKind}
+use Rattle.metadata.specs.Cell.{Cell}
+use Rattle.metadata.specs.Kinds.{IsOfKind}
 use Rattle.reading.specs.declared.cell_ref.CellRef.{CellRef}
 use Rattle.reading.specs.declared.cell_ref.CellRef.TheVariants as seen
 use Rattle.reading.specs.Shown.{Shows}
-use Rattle.full_names.specs.Names.{Wrote}
 use Rattle.c_texts.specs.RowTexts.{IsTextWithin, has_declaration}
 use Rattle.c_texts.specs.Texts.{HasText, text_limit}
 use Rattle.c_texts.proofs.Buffers.{first_written}
-
--- a signature in the column of methods is that of a method, and one in the column of properties is that of a property
-method_held : (of : Body) → Holds column.MethodDef of → (method : Method) × (of ≡ method_body method)
-method_held (method_body m) held = (m, refl)
-method_held _ held = absurd held
-
-property_held : (of : Body) → Holds column.Property of → (this : Bool) × (type : Slot) × (params : List Slot) × (of ≡ property this type params)
-property_held (property this of params) held = (this, of, params, refl)
-property_held _ held = absurd held
-
-pub method_in : (cell : Cell) → IsOfKind (kind.Signature column.MethodDef) cell → IsHeld (kind.Signature column.MethodDef) cell
-    → (method : Method) × (cell ≡ Sig (method_body method))
-method_in (Sig of) of_kind held = let method = method_held of held.0 in (method.0, ap (λ b. Sig b) method.1)
-method_in cell of_kind held = absurd of_kind
-
-pub property_in : (cell : Cell) → IsOfKind (kind.Signature column.Property) cell → IsHeld (kind.Signature column.Property) cell
-    → (this : Bool) × (type : Slot) × (params : List Slot) × (cell ≡ Sig (property this type params))
-property_in (Sig of) of_kind held = let p = property_held of held.0 in (p.0, p.1, p.2, ap (λ b. Sig b) p.3)
-property_in cell of_kind held = absurd of_kind
 
 -- a value that stands for a signature is its blob
 pub no_other_value : (column_kind : ColumnKind) (value : CellRef) (cell : Cell) → IsOfKind (kind.Signature column.Field) cell → Shows column_kind value cell
@@ -50,14 +28,6 @@ no_declaration Field has type field_row method property_row = field_row refl
 no_declaration MethodDef has type field_row method property_row = method refl
 no_declaration Property has type field_row method property_row = property_row refl
 no_declaration _ has type field_row method property_row = absurd cc
-
--- what was written by some calls, and by others after them
-module _ {W : Type 0} (took : W → List ℕ → W → Type 0) where
-  -- a text with one property has another
-  pub on_wrote : {T E : Type 0} (P Q : List ℕ → Type 0) (w v : W) (result : Result T E) → OnOk result (Wrote took w P v) → ((text : List ℕ) → P text → Q text)
-      → OnOk result (Wrote took w Q v)
-  on_wrote P Q w v (Ok done) wrote change = (wrote.0, change wrote.0 wrote.1, wrote.2)
-  on_wrote P Q w v (Err e) wrote change = tt
 
 -- a text in the first bytes of a buffer, and the number that is returned for its length
 pub text_within : (is_text : List ℕ → Type 0) (buffer first tail new : List ℕ) (k len result : ℕ) → k ≡ min (length buffer) text_limit → first ≡ take k buffer → tail ≡ drop k buffer

@@ -17,14 +17,7 @@ kinds = Number ∷ Number ∷ Text ∷ Blob ∷ NullGuid ∷ Guid ∷ NullRow �
 kind_of : (kind : CellKind) → get_or kinds (kind_number kind) Number ≡ kind
 unfolding kinds
 kind_of Number = refl
-kind_of Text = refl
-kind_of Blob = refl
-kind_of NullGuid = refl
-kind_of Guid = refl
-kind_of NullRow = refl
-kind_of Row = refl
-kind_of Start = refl
-kind_of Signature = refl
+kind_of _ = refl
 
 pub kind_one : (a b : CellKind) → kind_number a ≡ kind_number b → a ≡ b
 kind_one a b same = sym (kind_of a) ∙ ap (λ n. get_or kinds n Number) same ∙ kind_of b
@@ -56,23 +49,15 @@ cell_amid table column (x ∷ before) here others (y ∷ cells) are =
 
 -- the fields of a cell are in order
 formed_as : (table : TableId) (column : ℕ) (kind : CellKind) (given : ClimCell) (cell : Cell) → EncodesAs table column kind given cell → IsFormedAs table column kind given
-formed_as table column Number given cell is = tt
 formed_as table column Text given cell is = is.0
-formed_as table column Blob given cell is = tt
-formed_as table column NullGuid given cell is = tt
-formed_as table column Guid given cell is = tt
-formed_as table column NullRow given cell is = tt
 formed_as table column Row given cell is = (is.0, is.1)
-formed_as table column Start given cell is = tt
 formed_as table column Signature given cell is = (is.0, is.1)
+formed_as table column _ given cell is = tt
 
 pub formed : (table : TableId) (column : ℕ) (given : ClimCell) (cell : Cell) → IsCell table column given cell → IsFormed table column given
 formed table column given cell is = (is.0, is.1, formed_as table column is.0 given cell is.2)
 
--- what a cell of a known kind needs
-pub needs : (table : TableId) (column : ℕ) (kind : CellKind) (given : ClimCell) → kind_number kind ≡ given.kind → IsFormed table column given → IsFormedAs table column kind given
-needs table column kind given same is = subst (λ k. IsFormedAs table column k given) (kind_one is.0 kind (is.1 ∙ sym same)) is.2
-
+-- how a cell of a known kind is encoded
 pub needs_encoding : (table : TableId) (column : ℕ) (kind : CellKind) (given : ClimCell) (cell : Cell) → kind_number kind ≡ given.kind → IsCell table column given cell
     → EncodesAs table column kind given cell
 needs_encoding table column kind given cell same is = subst (λ k. EncodesAs table column k given cell) (kind_one is.0 kind (is.1 ∙ sym same)) is.2

@@ -56,14 +56,8 @@ asked_own file (byte ∷ bytes) root none is = absurd (omega (arith, none))
 -- a fault is one of a root with another property
 pub fault_weaker : (of_file P Q : Fault → Type 0) → ((fault : Fault) → P fault → Q fault) → (reason : EmbedError)
     → MatchFault of_file P reason → MatchFault of_file Q reason
-fault_weaker of_file P Q more (error.File fault) is = is
 fault_weaker of_file P Q more (error.Root fault) is = more fault is
-fault_weaker of_file P Q more error.Unlike is = is
-fault_weaker of_file P Q more error.Headers is = is
-fault_weaker of_file P Q more error.Occupied is = is
-fault_weaker of_file P Q more error.NoRoom is = is
-fault_weaker of_file P Q more error.TooLong is = is
-fault_weaker of_file P Q more error.Memory is = is
+fault_weaker of_file P Q more _ is = is
 
 -- the file has a canonical root, of which a reason is true
 pub own_refused : (file view : List ℕ) (header : CliHeader) → HasImage file header → view ≡ root_in file header → (P : List ℕ → Type 0)
@@ -74,13 +68,8 @@ own_refused file view header has is P holds = ∥∥₁_map has (λ some.
 -- the canonical root is not put into the file
 pub own_not_put : (file own : List ℕ) → IsCanonicalRootOf file own → (error : EmbedError) → IsReason file own error → IsNoCopy file [] error
 own_not_put file own is (error.File fault) reason = tt
-own_not_put file own is (error.Root fault) reason = ∣ (own, is, inr (inr reason)) ∣₁
-own_not_put file own is error.Unlike reason = ∣ (own, is, inr (inr reason)) ∣₁
-own_not_put file own is error.Headers reason = ∣ (own, is, inr (inr reason)) ∣₁
-own_not_put file own is error.Occupied reason = ∣ (own, is, inr (inr reason)) ∣₁
-own_not_put file own is error.NoRoom reason = ∣ (own, is, inr (inr reason)) ∣₁
-own_not_put file own is error.TooLong reason = ∣ (own, is, inr (inr reason)) ∣₁
 own_not_put file own is error.Memory reason = ∣ (own, is, inr (inl refl)) ∣₁
+own_not_put file own is _ reason = ∣ (own, is, inr (inr reason)) ∣₁
 
 -- the root that is given is not put into the file
 pub given_not_put : (file given : List ℕ) → 0 < length given → (error : EmbedError) → IsReason file given error → IsNoCopy file given error

@@ -15,7 +15,7 @@ use Rattle.metadata.specs.Same.{SaysSame}
 use Rattle.c_values.specs.declared.cell.ClimCell.{ClimCell}
 use Rattle.c_values.specs.declared.row.ClimRow.{ClimRow}
 use Rattle.c_values.specs.declared.cell_kind.CellKind.{CellKind}
-use Rattle.c_values.specs.declared.cell_kind.CellKind.TheVariants.{Number, Text, Blob, NullGuid, Guid, NullRow, Row, Start, Signature}
+use Rattle.c_values.specs.declared.cell_kind.CellKind.TheVariants.{Number, Text, Row, Signature}
 use Rattle.c_values.specs.Cells.{AreCells, EncodesAs, IsCell}
 use Rattle.c_values.specs.Given.{AreRows, IsGiven, IsRow, TableRow, cells_of}
 use Rattle.c_values.proofs.CellLemmas.{needs_encoding}
@@ -36,21 +36,16 @@ module _ (rise : (lower higher : TableId) → table_index_of lower < table_index
 
   module _ (one : (kind : SigKind) (first second : Body) (bytes : List ℕ) → Encodes kind first bytes → Encodes kind second bytes → first ≡ second) where
     cell_as : (table : TableId) (column : ℕ) (kind : CellKind) (given : ClimCell) (a b : Cell) → EncodesAs table column kind given a → EncodesAs table column kind given b → a ≡ b
-    cell_as table column Number given a b x y = x ∙ sym y
     cell_as table column Text given a b x y = x.1 ∙ sym y.1
-    cell_as table column Blob given a b x y = x ∙ sym y
-    cell_as table column NullGuid given a b x y = x ∙ sym y
-    cell_as table column Guid given a b x y = x ∙ sym y
-    cell_as table column NullRow given a b x y = x ∙ sym y
     cell_as table column Row given a b x y =
         let e = table_one x.0 y.0 (x.1 ∙ sym y.1) in
         x.2 ∙ ap (λ (other : TableId). says.Ref (Some (record { table = other; row = given.number }))) e ∙ sym y.2
-    cell_as table column Start given a b x y = x ∙ sym y
     cell_as table column Signature given a b x y =
         let e : kind.Signature x.0 ≡ kind.Signature y.0 = sym x.1.1 ∙ y.1.1 in
         let k : x.0 ≡ y.0 = cc in
         let P : SigKind → Type 0 = λ signatures. Encodes signatures x.2.0 given.bytes.now in
         x.2.2 ∙ ap says.Sig (one y.0 x.2.0 y.2.0 given.bytes.now (subst P k x.2.1) y.2.1) ∙ sym y.2.2
+    cell_as table column _ given a b x y = x ∙ sym y
 
     cell_one : (table : TableId) (column : ℕ) (given : ClimCell) (a b : Cell) → IsCell table column given a → IsCell table column given b → a ≡ b
     cell_one table column given a b x y = cell_as table column y.0 given a b (needs_encoding table column y.0 given a y.1 x) y.2

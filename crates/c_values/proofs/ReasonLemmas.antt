@@ -3,7 +3,7 @@ use Rattle.std.proofs.Common.{◌≡◌, ℕ, ◌+◌, ◌^◌, ◌<◌, List, �
 use Rattle.std.proofs.Math.Seq.{drop-cons}
 use Rattle.std.proofs.lemmas.List.{take-append-drop}
 use Rattle.packed.specs.Rule.{FirstBroken}
-use Rattle.packed.specs.declared.code.FaultCode.TheVariants.{BadCell, BadSignature}
+use Rattle.packed.specs.declared.code.FaultCode.TheVariants.{BadSignature}
 use Rattle.table_schema.specs.declared.table.TableId.{TableId}
 use Rattle.table_schema.specs.Tables.{table_number}
 use Rattle.metadata.specs.Cell.{Cell}
@@ -43,13 +43,7 @@ pub split_at : {X : Type 0} (xs : List X) (i : ℕ) (d : X) → i < length xs �
 split_at xs i d below =
     sym (take-append-drop i xs) ∙ ap (λ t. take i xs ++ t) (drop-cons xs i d below) ∙ ap (λ j. take i xs ++ get_or xs i d ∷ drop j xs) (sym (add-one i))
 
--- a cell whose fields are not in order, and one whose bytes encode no signature
-pub bad_cell : (table : TableId) (row column : ℕ) (given : ClimCell) (reason : NoRoot) → reason ≡ Refused (refusal_at BadCell (table_number table) row column)
-    → ¬ IsFormed table column given → MatchNoRoot (FirstBroken (rules_of_cell table row column given)) ⊥ reason
-bad_cell table row column given reason is bad =
-    let P : NoRoot → Type 0 = λ r. MatchNoRoot (FirstBroken (rules_of_cell table row column given)) ⊥ r in
-    subst P (sym is) (inl (bad, refl))
-
+-- a cell whose bytes encode no signature
 pub bad_signature : (table : TableId) (row column : ℕ) (given : ClimCell) (reason : NoRoot) → reason ≡ Refused (refusal_at BadSignature (table_number table) row column)
     → IsFormed table column given → ¬ ((cell : Cell) × IsCell table column given cell) → MatchNoRoot (FirstBroken (rules_of_cell table row column given)) ⊥ reason
 bad_signature table row column given reason is formed bad =

@@ -6,7 +6,7 @@ use Rattle.table_schema.specs.declared.table.TableId.{TableId}
 use Rattle.table_schema.specs.declared.table.TableId.TheVariants.{CustomAttribute}
 use Rattle.table_schema.specs.declared.token.Token.{Token}
 use Rattle.metadata.specs.Metadata.{Metadata, cell_in}
-use Rattle.attribute_constructors.specs.Signatures.{reference_in}
+use Rattle.navigation.specs.Cells.{reference_in}
 use Rattle.attribute_constructors.specs.Params.{params_of_constructor}
 use Rattle.cli_values.specs.Constants.{value_limit}
 use Rattle.cli_declarations.specs.Parts.{IsAttributeAt, params_for}

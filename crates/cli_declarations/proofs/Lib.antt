@@ -2,4 +2,3 @@ pub mod AttributeLemmas
 pub mod TextLemmas
 pub mod LayoutLemmas
 pub mod PieceLemmas
-pub mod WriterLemmas

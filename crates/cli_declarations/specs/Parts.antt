@@ -12,7 +12,7 @@ use Rattle.metadata.specs.Cell.{Cell, Number, Text, Bytes, Guid, Ref, Sig}
 use Rattle.attribute_values.specs.declared.types.ArgumentType.{ArgumentType}
 use Rattle.attribute_values.specs.Values.{AttributeValue}
 use Rattle.attribute_values.specs.Parts.{IsAttributeValue}
-use Rattle.attribute_constructors.specs.Signatures.{reference_in}
+use Rattle.navigation.specs.Cells.{reference_in}
 use Rattle.attribute_constructors.specs.Params.{params_of_constructor}
 use Rattle.attribute_text.specs.Texts.{value_text as attribute_value_text}
 use Rattle.metadata.specs.Metadata.{Metadata, cell_in}
@@ -91,10 +91,6 @@ text_of _ = []
 abbrev pub bytes_of : Cell → List ℕ
 bytes_of (Bytes bytes) = bytes
 bytes_of _ = []
-
-abbrev pub reference_of : Cell → Option Token
-reference_of (Ref reference) = reference
-reference_of _ = None
 
 abbrev pub guid_of : Cell → Option (List ℕ)
 guid_of (Guid guid) = guid
@@ -303,16 +299,16 @@ IsPartText model table row (quoted_after before cell) out = out ≡ quoted_text 
 IsPartText model table row (bytes_after before cell) out = out ≡ bytes_text before (bytes_of (cell_in model table row cell))
 IsPartText model table row (key of cell) out = out ≡ key_text (number_of (cell_in model table row of)) (bytes_of (cell_in model table row cell))
 IsPartText model table row (first_bytes cell) out = out ≡ value_bytes_text (bytes_of (cell_in model table row cell))
-IsPartText model table row (token_after before cell) out = out ≡ token_text_after before (reference_of (cell_in model table row cell))
+IsPartText model table row (token_after before cell) out = out ≡ token_text_after before (reference_in (cell_in model table row cell))
 IsPartText model table row (signature cell) out = IsSignatureOf model (cell_in model table row cell) out
 IsPartText model table row declaration out = IsDeclarationAt model table row out
 IsPartText model table row own_name out = IsNameText model (token_at table row) out
-IsPartText model table row (name_after before cell) out = IsNameAfter model before (reference_of (cell_in model table row cell)) out
+IsPartText model table row (name_after before cell) out = IsNameAfter model before (reference_in (cell_in model table row cell)) out
 IsPartText model table row (eight_digits cell) out = out ≡ hexadecimal 8 (number_of (cell_in model table row cell))
 IsPartText model table row (guid_comment cell) out = out ≡ guid_text_in_comment (guid_of (cell_in model table row cell))
 IsPartText model table row (action cell) out = out ≡ action_text (number_of (cell_in model table row cell))
 IsPartText model table row (linked_by of) out = out ≡ linked_text model of (first_linked model of (token_at table row))
 IsPartText model table row own_reference out = IsReferenceText model (token_at table row) out
-IsPartText model table row (reference_after before cell) out = IsReferenceAfter model before (reference_of (cell_in model table row cell)) out
+IsPartText model table row (reference_after before cell) out = IsReferenceAfter model before (reference_in (cell_in model table row cell)) out
 IsPartText model table row (scope_after before) out = IsScopeOfRow model table row before out
 IsPartText model table row attribute_value out = IsAttributeAt model table row out

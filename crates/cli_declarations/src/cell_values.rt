@@ -4,7 +4,8 @@ ghost use Rattle.table_schema.specs.CellColumns.{cell_count};
 ghost use Rattle.metadata.specs.Metadata.{Metadata, cell_in};
 ghost use Rattle.metadata.specs.Model.{IsModel};
 ghost use Rattle.opening.specs.Views.{row_count};
-ghost use Rattle.cli_declarations.specs.Parts.{bytes_of, guid_of, number_of, reference_of, text_of};
+ghost use Rattle.navigation.specs.Cells.{reference_in};
+ghost use Rattle.cli_declarations.specs.Parts.{bytes_of, guid_of, number_of, text_of};
 
 use opening::{CellRef, TableId, Token, View};
 
@@ -52,7 +53,7 @@ pub(crate) fn reference(view: &View<'_>, table: TableId, row: u32, cell: usize) 
     requires first { 1 ≤ row }
     requires last { row ≤ row_count view.now table }
     requires cell { cell < cell_count table }
-    ensures { (model : Metadata) → IsModel view.now model → result ≡ reference_of (cell_in model table row cell) }
+    ensures { (model : Metadata) → IsModel view.now model → result ≡ reference_in (cell_in model table row cell) }
 {
     match view.cell(table, row, cell) {
         CellRef::Ref(token) => token,
@@ -61,7 +62,7 @@ pub(crate) fn reference(view: &View<'_>, table: TableId, row: u32, cell: usize) 
 }
 
 /// The GUID in a cell, otherwise null.
-pub(crate) fn guid(view: &View<'_>, table: TableId, row: u32, cell: usize) -> Option<[u8; 16]>
+pub fn guid(view: &View<'_>, table: TableId, row: u32, cell: usize) -> Option<[u8; 16]>
     requires first { 1 ≤ row }
     requires last { row ≤ row_count view.now table }
     requires cell { cell < cell_count table }

@@ -1,8 +1,8 @@
 //! The declaration of a row of an assembly, in the notation of ILAsm (ECMA-335 II.5 to II.22).
 //!
 //! [`declare`] makes a text the declaration of a row, and [`name_row`] its name. `specs/Layouts.antt` says what the
-//! declaration of a row is, as a list of parts, and `specs/Parts.antt` what the text of a part is. [`number`], [`text`] and
-//! [`bytes`] are the values of cells.
+//! declaration of a row is, as a list of parts, and `specs/Parts.antt` what the text of a part is. [`number`], [`text`],
+//! [`bytes`] and [`guid`] are the values of cells.
 //!
 //! ```text
 //! .assembly Hello { .hash algorithm 0x00008004 .ver 1:0:0:0 }
@@ -20,6 +20,6 @@ mod linked;
 mod pieces;
 mod signature_sink;
 
-pub use cell_values::{bytes, number, text};
+pub use cell_values::{bytes, guid, number, text};
 pub use declaration::{declare, name_row};
 pub use declared::Declared;

@@ -6,8 +6,9 @@ use Rattle.table_schema.specs.declared.table.TableId.{TableId}
 use Rattle.table_schema.specs.declared.table.TableId.TheVariants.{Assembly, CustomAttribute, TypeDef, TypeRef}
 use Rattle.table_schema.specs.declared.token.Token.{Token}
 use Rattle.attribute_values.specs.Items.{Item}
+use Rattle.metadata.specs.Cell.{Cell, Ref}
 use Rattle.metadata.specs.Metadata.{Metadata, cell_in}
-use Rattle.attribute_constructors.specs.Signatures.{reference_in}
+use Rattle.navigation.specs.Cells.{reference_in}
 use Rattle.cli_declarations.specs.Parts.{bytes_of}
 use Rattle.cli_lines.specs.Lines.{Part}
 use Rattle.cli_info.specs.Attributes.{attribute_lines, attributes_after, is_assembly, is_assembly_table, lines_of_items, lines_of_type, lines_of_value}
@@ -21,17 +22,17 @@ other_type model TypeDef row items a b = absurd (a refl)
 other_type model TypeRef row items a b = absurd (b refl)
 other_type model _ row items a b = refl
 
-module _ (model : Metadata) (row : ℕ) (parent : Option Token) (is : parent ≡ reference_in (cell_in model CustomAttribute row 0)) where
+module _ (model : Metadata) (row : ℕ) (parent : Option Token) (is : cell_in model CustomAttribute row 0 ≡ Ref parent) where
   abbrev own_lines : List (List Part)
   own_lines = lines_of_value model (reference_in (cell_in model CustomAttribute row 1)) (bytes_of (cell_in model CustomAttribute row 2))
 
   pub other_parent : is_assembly parent ≡ false → [] ≡ attribute_lines model row
   unfolding attribute_lines
-  other_parent other = sym (ap (λ b. cond b own_lines []) (ap (λ (p : Option Token). is_assembly p) (sym is) ∙ other))
+  other_parent other = sym (ap (λ b. cond b own_lines []) (ap (λ (c : Cell). is_assembly (reference_in c)) is ∙ other))
 
   pub own_parent : is_assembly parent ≡ true → own_lines ≡ attribute_lines model row
   unfolding attribute_lines
-  own_parent own = sym (ap (λ b. cond b own_lines []) (ap (λ (p : Option Token). is_assembly p) (sym is) ∙ own))
+  own_parent own = sym (ap (λ b. cond b own_lines []) (ap (λ (c : Cell). is_assembly (reference_in c)) is ∙ own))
 
 pub no_items : (model : Metadata) (class : Option Token) → [] ≡ lines_of_items model class None
 no_items model None = refl

@@ -2,5 +2,4 @@ pub mod AttributeLemmas
 pub mod HeaderLemmas
 pub mod TokenLemmas
 pub mod QuoteLemmas
-pub mod OwnerLemmas
 pub mod TextLemmas

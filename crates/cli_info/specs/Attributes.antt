@@ -5,15 +5,15 @@ use Rattle.table_schema.specs.declared.table.TableId.{TableId}
 use Rattle.table_schema.specs.declared.table.TableId.TheVariants.{Assembly, CustomAttribute, TypeDef, TypeRef}
 use Rattle.table_schema.specs.declared.token.Token.{Token}
 use Rattle.attribute_values.specs.Items.{Item, fixed, entry, named_count, named}
+use Rattle.attribute_constructors.specs.Constructors.{type_of}
 use Rattle.attribute_constructors.specs.Params.{params_of_constructor}
 use Rattle.metadata.specs.Metadata.{Metadata, cell_in, count_in}
-use Rattle.attribute_constructors.specs.Signatures.{reference_in}
+use Rattle.navigation.specs.Cells.{reference_in}
 use Rattle.cli_declarations.specs.Parts.{bytes_of, text_of}
 use Rattle.cli_lines.specs.declared.names.Name.TheVariants as name
 use Rattle.cli_lines.specs.Lines as line
 use Rattle.cli_lines.specs.Lines.{Part, Value, word, field, note, member, plain, quoted, null}
 use Rattle.cli_print.specs.TypeLines.{dot_after}
-use Rattle.cli_info.specs.Constructors.{type_of}
 use Rattle.cli_info.specs.Texts.{string_in, texts_in}
 
 abbrev pub quoted_or_null : Option (List ℕ) → Value

@@ -2,14 +2,13 @@
 use Rattle.std.specs.Prelude.{◌≡◌, ℕ, nat_lt, if◌then◌else◌, List, [], ◌∷◌, ◌++◌, codes, Option, None, Some}
 use Rattle.cli_header.specs.declared.header.CliHeader.{CliHeader}
 use Rattle.table_schema.specs.declared.table.TableId.TheVariants as table
-use Rattle.metadata.specs.Cell.{Cell, Guid}
 use Rattle.metadata.specs.Metadata.{Metadata, cell_in, count_in}
 use Rattle.metadata.specs.Model.{IsModel, IsModelOfFile}
 use Rattle.cli_input.specs.declared.opened.Input.{Input}
 use Rattle.cli_input.specs.declared.opened.Input.TheVariants.{BareRoot, File}
 use Rattle.cli_lines.specs.declared.names.Name.TheVariants as name
 use Rattle.cli_lines.specs.Lines.{Part, word, field, number, text, guid}
-use Rattle.cli_declarations.specs.Parts.{text_of}
+use Rattle.cli_declarations.specs.Parts.{guid_of, text_of}
 use Rattle.cli_print.specs.RootLines.{version_line}
 use Rattle.cli_info.specs.Attributes.{attributes_lines}
 use Rattle.cli_info.specs.HeaderLines.{header_lines}
@@ -22,10 +21,6 @@ AreFacts BareRoot bytes header model = (header ≡ None) × IsModel bytes model
 AreFacts File bytes header model = (found : CliHeader) × (header ≡ Some found) × IsModelOfFile bytes found model
 
 -- the name and the Mvid of a module (II.22.30)
-abbrev pub guid_of : Cell → Option (List ℕ)
-guid_of (Guid of) = of
-guid_of _ = None
-
 unfoldable pub module_line : List ℕ → Option (List ℕ) → List Part
 module_line of mvid = word (codes "module ") ∷ field name.Module (text of) ∷ word (codes " ") ∷ field name.Mvid (guid mvid) ∷ []
 

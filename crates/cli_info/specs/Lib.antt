@@ -1,4 +1,3 @@
-pub mod Constructors
 pub mod Texts
 pub mod HeaderLines
 pub mod DisplayNames

@@ -10,20 +10,19 @@ ghost use Rattle.cli_declarations.specs.Parts.{text_of};
 ghost use Rattle.cli_print.specs.TypeLines.{dot_after};
 ghost use Rattle.cli_lines.specs.Printed.{Adds, Prints};
 ghost use Rattle.cli_lines.specs.Shown.{shown_value};
+ghost use Rattle.attribute_constructors.specs.Constructors.{type_of};
 ghost use Rattle.cli_info.specs.Attributes.{argument_parts, attribute_line, attribute_lines, attributes_lines, first_parts, is_assembly, is_assembly_table, item_parts, items_parts, lines_of_items, lines_of_type, lines_of_value, quoted_or_null, string_parts};
-ghost use Rattle.cli_info.specs.Constructors.{type_of};
 ghost use Rattle.cli_info.specs.Texts.{string_in, texts_in};
 
-use crate::constructors::type_of;
 use crate::texts::{string_in, texts_in};
-use attribute_constructors::{constructor, params_of, reference};
+use attribute_constructors::{constructor, params_of, type_of};
 use attribute_values::{Argument, ArgumentType, Item, Items};
 use cli_declarations::{bytes, text};
 use cli_lines::Part::{Field, Member, Note, Word};
 use cli_lines::Value::{Null, Plain, Quoted, Text};
 use cli_lines::{Name, Printer, Value};
 use cli_print::{NAME, NAMESPACE};
-use navigation::Neighbours;
+use navigation::{Neighbours, cells};
 use opening::{TableId, Token, View};
 use std::alloc::Global;
 use std::io::Write;
@@ -270,7 +269,7 @@ fn print_attribute<W: Write>(source: &Neighbours<'_, '_>, row: u32, out: &mut Pr
     ensures { (model : Metadata) → IsModel source.now.view.now model → Prints out.old out.new (attribute_lines model row) }
 {
     cli_lines::laws::lines_follow::<W>();
-    if !is_assembly(reference(source.view, TableId::CustomAttribute, row, PARENT)) {
+    if !is_assembly(cells::reference(source, TableId::CustomAttribute, row, PARENT)) {
         return;
     }
     match constructor(source.view, row) {

@@ -2,26 +2,24 @@
 ghost use Rattle.std.specs.Prelude.{◌≡◌, ◌≤◌, ◌∷◌, [], IfErr, IfOk, OnErr, OnOk, Option, Some};
 ghost use Rattle.cli_header.specs.declared.header.CliHeader.{CliHeader as Header};
 ghost use Rattle.cli_info.specs.HeaderLines.{HasRoom};
-ghost use Rattle.cli_info.specs.InfoLines.{AreFacts, counts_line, guid_of, info_lines, module_lines};
+ghost use Rattle.cli_info.specs.InfoLines.{AreFacts, counts_line, info_lines, module_lines};
 ghost use Rattle.cli_input.specs.Checked.{IsWhole, rules_of};
 ghost use Rattle.cli_lines.specs.Printed.{Prints};
-ghost use Rattle.metadata.specs.Metadata.{Metadata, cell_in};
+ghost use Rattle.metadata.specs.Metadata.{Metadata};
 ghost use Rattle.metadata.specs.Model.{IsModel};
-ghost use Rattle.opening.specs.Views.{row_count};
 ghost use Rattle.packed.specs.Rule.{FirstBroken};
-ghost use Rattle.table_schema.specs.declared.table.TableId.TheVariants.{Module};
 
 use crate::attributes::print_attributes;
 use crate::headers::print_headers;
 use crate::identities::{Kind, print_identities};
-use cli_declarations::text;
+use cli_declarations::{guid, text};
 use cli_header::CliHeader;
 use cli_input::Input;
 use cli_lines::Part::{Field, Word};
 use cli_lines::Value::{Guid, Number, Text};
 use cli_lines::{Name, Printer};
 use cli_print::print_version;
-use opening::{CellRef, TableId, View, open_image, open_root};
+use opening::{TableId, View, open_image, open_root};
 use packed::Fault;
 use std::alloc::Global;
 use std::io::Write;
@@ -100,18 +98,6 @@ fn print_facts<W: Write>(
     print_attributes(alloc, view, out);
 }
 
-/// The Mvid of a module.
-#[tactic(auto, unfolding(table_schema::specs::CellColumns::cell_columns))]
-fn mvid_of(view: &View<'_>) -> Option<[u8; 16]>
-    requires { 1 ≤ row_count view.now Module }
-    ensures { (model : Metadata) → IsModel view.now model → result ≡ guid_of (cell_in model Module 1 2) }
-{
-    match view.cell(TableId::Module, 1, MVID) {
-        CellRef::Guid(guid) => guid,
-        _ => None,
-    }
-}
-
 /// Prints the name and the Mvid of the module, if there is one.
 #[tactic(auto, unfolding(crate::specs::InfoLines::module_line, table_schema::specs::CellColumns::cell_columns))]
 fn print_module<W: Write>(view: &View<'_>, out: &mut Printer<'_, W>)
@@ -120,11 +106,12 @@ fn print_module<W: Write>(view: &View<'_>, out: &mut Printer<'_, W>)
     cli_lines::laws::lines_follow::<W>();
     if view.count(TableId::Module) > 0 {
         let name = text(view, TableId::Module, 1, MODULE_NAME);
+        let mvid = guid(view, TableId::Module, 1, MVID);
         out.line(&[
             Word("module "),
             Field(Name::Module, Text(name)),
             Word(" "),
-            Field(Name::Mvid, Guid(mvid_of(view))),
+            Field(Name::Mvid, Guid(mvid)),
         ]);
     }
 }

@@ -13,7 +13,6 @@
 #![tactic(auto)]
 
 mod attributes;
-mod constructors;
 mod display_names;
 mod headers;
 mod identities;

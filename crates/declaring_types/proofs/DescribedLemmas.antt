@@ -1,6 +1,5 @@
 -- Rows of tables that describe nothing, and of tables that are no parts of types.
-use Rattle.std.proofs.Common.{◌≡◌, ◌<◌, ◌≤◌, ℕ, Option, None, ⊎_elim, arith, refl}
-use Rattle.std.proofs.lemmas.Bool.{cases_lt}
+use Rattle.std.proofs.Common.{◌≡◌, ℕ, Option, None, refl}
 use Rattle.table_schema.specs.declared.table.TableId.{TableId}
 use Rattle.table_schema.specs.declared.table.TableId.TheVariants.{TypeDef, Param, InterfaceImpl, GenericParam, GenericParamConstraint, MethodImpl, ImplMap, DeclSecurity, CustomAttribute}
 use Rattle.table_schema.specs.declared.token.Token.{Token}
@@ -24,10 +23,3 @@ pub part_of_member : (model : Metadata) (table : TableId) (row : ℕ) (class : O
 part_of_member model TypeDef row class a b is = absurd (a refl)
 part_of_member model Param row class a b is = absurd (b refl)
 part_of_member model _ row class a b is = is
-
--- what cannot fail holds
-pub at_most : (a b : ℕ) → ¬ (¬ (a ≤ b)) → a ≤ b
-at_most a b h = ⊎_elim
-    (λ (l : b < a). absurd (h (λ (le : a ≤ b). omega arith)))
-    (λ (le : a ≤ b). le)
-    (cases_lt b a)

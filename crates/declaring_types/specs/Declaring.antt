@@ -5,9 +5,9 @@ use Rattle.table_schema.specs.declared.table.TableId.TheVariants.{TypeDef, Metho
 use Rattle.table_schema.specs.declared.token.Token.{Token}
 use Rattle.metadata.specs.Metadata.{Metadata, cell_in}
 use Rattle.metadata_source.specs.declared.member_lists.MemberList.TheVariants as list
+use Rattle.navigation.specs.Cells.{reference_in}
 use Rattle.navigation.specs.Owners.{Owns}
 use Rattle.full_names.specs.RowNames.{IsMemberOf}
-use Rattle.attribute_constructors.specs.Signatures.{reference_in}
 
 -- the row that a row describes: the class of an interface or an override, the owner of a generic parameter or a constraint, the
 -- member that is imported, and the parent of a permission set or an attribute (II.22.10, II.22.11, II.22.20 to II.22.23, II.22.27)

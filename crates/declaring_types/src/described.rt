@@ -5,7 +5,7 @@ ghost use Rattle.metadata.specs.Model.{IsModel};
 ghost use Rattle.opening.specs.Views.{row_count};
 ghost use Rattle.declaring_types.specs.Declaring.{described, subject_of};
 
-use attribute_constructors::reference;
+use navigation::cells;
 use opening::{TableId, Token, View};
 
 /// The index of the cell with the class of an interface (II.22.23) and of an override (II.22.27).
@@ -33,19 +33,19 @@ fn subject_of(view: &View<'_>, of: Token) -> Option<Token>
     ensures there { IfSome result (λ subject. (1 ≤ subject.row) × (subject.row ≤ row_count view.now subject.table)) }
 {
     match of.table {
-        TableId::InterfaceImpl => reference(view, TableId::InterfaceImpl, of.row, CLASS),
-        TableId::GenericParam => reference(view, TableId::GenericParam, of.row, PARAM_OWNER),
-        TableId::GenericParamConstraint => reference(
+        TableId::InterfaceImpl => cells::reference(view, TableId::InterfaceImpl, of.row, CLASS),
+        TableId::GenericParam => cells::reference(view, TableId::GenericParam, of.row, PARAM_OWNER),
+        TableId::GenericParamConstraint => cells::reference(
             view,
             TableId::GenericParamConstraint,
             of.row,
             CONSTRAINT_OWNER,
         ),
-        TableId::MethodImpl => reference(view, TableId::MethodImpl, of.row, CLASS),
-        TableId::ImplMap => reference(view, TableId::ImplMap, of.row, FORWARDED),
-        TableId::DeclSecurity => reference(view, TableId::DeclSecurity, of.row, SECURED),
+        TableId::MethodImpl => cells::reference(view, TableId::MethodImpl, of.row, CLASS),
+        TableId::ImplMap => cells::reference(view, TableId::ImplMap, of.row, FORWARDED),
+        TableId::DeclSecurity => cells::reference(view, TableId::DeclSecurity, of.row, SECURED),
         TableId::CustomAttribute => {
-            reference(view, TableId::CustomAttribute, of.row, ATTRIBUTED)
+            cells::reference(view, TableId::CustomAttribute, of.row, ATTRIBUTED)
         }
         _ => None,
     }

@@ -10,7 +10,6 @@ ghost use Rattle.declaring_types.specs.Declaring.{IsDeclaring, IsPartOf};
 
 use crate::described::described;
 use full_names::type_of_member;
-use metadata_source::ReadMetadata;
 use navigation::{Neighbours, method_of_param};
 use opening::{TableId, Token};
 
@@ -23,7 +22,6 @@ fn method_of(source: &Neighbours<'_, '_>, row: u32) -> Token
     ensures first { 1 ≤ result.row }
     ensures last { result.row ≤ row_count source.now.view.now MethodDef }
 {
-    source.holds_one();
     Token {
         table: TableId::MethodDef,
         row: method_of_param(source, row),

@@ -1,16 +1,21 @@
 -- The bytes of a signature, and what follows from the result of a writer.
-use Rattle.std.proofs.Common.{◌≡◌, ℕ, true, List, Option, Some, None, Result, Ok, Err, OnOk, IfSome, IfNone, refl, sym, ap, subst, ◌∙◌}
+use Rattle.std.proofs.Common.{◌≡◌, ◌<◌, ℕ, Bool, true, List, Option, Some, None, Result, Ok, Err, OnOk, IfSome, IfNone, refl, sym, ap, subst, ◌∙◌}
 use Rattle.std.specs.Prelude.{is_ok}
+use Rattle.table_schema.specs.CellColumns.{cell_count}
+use Rattle.table_schema.specs.declared.table.TableId.{TableId}
 use Rattle.table_schema.specs.declared.table.TableId.TheVariants.{TypeDef, TypeRef, TypeSpec}
 use Rattle.table_schema.specs.declared.token.Token.{Token}
 use Rattle.table_schema.specs.declared.column.SigKind.{SigKind}
+use Rattle.table_schema.specs.declared.column.SigKind.TheVariants as columns
+use Rattle.table_schema.specs.declared.column.ColumnKind.{ColumnKind}
 use Rattle.table_schema.specs.declared.column.ColumnKind.TheVariants as kind
-use Rattle.sig_grammar.specs.Syntax.{Body}
+use Rattle.sig_grammar.specs.Syntax.{Body, Method, Slot, method_body, property}
 use Rattle.sig_grammar.specs.Encodes.{Encodes, Holds, IsEncodable, short}
 use Rattle.metadata.specs.Cell.{Cell, Sig}
 use Rattle.metadata.specs.Kinds.{IsHeld, IsOfKind}
 use Rattle.metadata.specs.Lookups.{HasRow}
 use Rattle.metadata.specs.Metadata.{Metadata, cell_in}
+use Rattle.metadata.specs.Valid.{IsValid, kind_at}
 use Rattle.metadata_source.specs.declared.signature_bytes.SignatureBytes.{SignatureBytes}
 use Rattle.metadata_source.specs.declared.signature_bytes.SignatureBytes.TheVariants.{Stored, Canonical}
 use Rattle.metadata_source.specs.SignatureBytes.{AreBytesOf}
@@ -30,7 +35,7 @@ unfolding signature_in
 same_signature signature other is = ap (signature_in signature) is
 
 -- the bytes of a cell's signature encode it
-pub encoded_in : (kind : SigKind) (bytes : SignatureBytes) (cell : Cell) (signature : Body) → ((other : Body) → Holds kind other → IsEncodable other → Encodes kind other (short other))
+encoded_in : (kind : SigKind) (bytes : SignatureBytes) (cell : Cell) (signature : Body) → ((other : Body) → Holds kind other → IsEncodable other → Encodes kind other (short other))
     → AreBytesOf kind bytes cell → cell ≡ Sig signature → Holds kind signature → IsEncodable signature → Encodes kind signature (bytes_in bytes)
 unfolding signature_in
 encoded_in kind (Stored blob) cell signature short_encodes (other, encodes, is) of holds encodable =
@@ -40,9 +45,16 @@ encoded_in kind (Canonical bytes) cell signature short_encodes (other, items, is
     let short_is : bytes.items ≡ short signature = items ∙ ap (λ (s : Body). short s) same in
     subst (λ (b : List ℕ). Encodes kind signature b) (sym short_is) (short_encodes signature holds encodable)
 
--- a signature in a column of signatures is of the column's kind and has an encoding
-pub held_in : (column : SigKind) (signature : Body) → IsHeld (kind.Signature column) (Sig signature) → Holds column signature × IsEncodable signature
-held_in column signature held = held
+-- the bytes of the signature in a cell of a valid model encode it
+pub encoded_by : (model : Metadata) → IsValid model → (column : SigKind) → ((other : Body) → Holds column other → IsEncodable other → Encodes column other (short other))
+    → (table : TableId) (row cell : ℕ) → HasRow model table row → cell < cell_count table → kind_at table cell ≡ kind.Signature column
+    → (bytes : SignatureBytes) → AreBytesOf column bytes (cell_in model table row cell) → (signature : Body) → cell_in model table row cell ≡ Sig signature
+    → Encodes column signature (bytes_in bytes)
+encoded_by model valid column short_encodes table row cell there within is_column bytes are signature is =
+    let held = (valid.cells table row cell there within).held in
+    let own : Holds column signature × IsEncodable signature =
+    subst (λ (k : ColumnKind). IsHeld k (Sig signature)) is_column (subst (λ (c : Cell). IsHeld (kind_at table cell) c) is held) in
+    encoded_in column bytes (cell_in model table row cell) signature short_encodes are is own.0 own.1
 
 -- what follows from what holds of a result
 pub ok_then : {E P Q : Type 0} (result : Result (Unit {0}) E) → OnOk result P → (P → Q) → OnOk result Q
@@ -58,6 +70,25 @@ on_taken (Err e) is holds = absurd cc
 pub signature_of : (column : SigKind) (cell : Cell) → IsOfKind (kind.Signature column) cell → (signature : Body) × (cell ≡ Sig signature)
 signature_of column (Sig signature) of = (signature, refl)
 signature_of column cell of = absurd of
+
+-- one in the column of methods is that of a method, and one in the column of properties is that of a property
+method_held : (of : Body) → Holds columns.MethodDef of → (method : Method) × (of ≡ method_body method)
+method_held (method_body m) held = (m, refl)
+method_held _ held = absurd held
+
+property_held : (of : Body) → Holds columns.Property of → (this : Bool) × (type : Slot) × (params : List Slot) × (of ≡ property this type params)
+property_held (property this of params) held = (this, of, params, refl)
+property_held _ held = absurd held
+
+pub method_in : (cell : Cell) → IsOfKind (kind.Signature columns.MethodDef) cell → IsHeld (kind.Signature columns.MethodDef) cell
+    → (method : Method) × (cell ≡ Sig (method_body method))
+method_in (Sig of) of_kind held = let method = method_held of held.0 in (method.0, ap (λ b. Sig b) method.1)
+method_in cell of_kind held = absurd of_kind
+
+pub property_in : (cell : Cell) → IsOfKind (kind.Signature columns.Property) cell → IsHeld (kind.Signature columns.Property) cell
+    → (this : Bool) × (type : Slot) × (params : List Slot) × (cell ≡ Sig (property this type params))
+property_in (Sig of) of_kind held = let p = property_held of held.0 in (p.0, p.1, p.2, ap (λ b. Sig b) p.3)
+property_in cell of_kind held = absurd of_kind
 
 -- the text of a TypeSpec is its name
 pub spec_name : {W : Type 0} (took : W → List ℕ → W → Type 0) (model : Metadata) (token : Token) (signature : Body) (w v : W) (result : Result (Unit {0}) TextError)

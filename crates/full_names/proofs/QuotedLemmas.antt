@@ -1,51 +1,27 @@
 -- The text of a name determines the name.
-use Rattle.std.proofs.Common.{◌≡◌, ◌∙◌, ℕ, zero, suc, ◌+◌, ◌/◌, ◌%◌, ◌<◌, ◌≤◌, Bool, true, false, IsTrue, cond, List, [], ◌∷◌, ◌++◌, ◌⊎◌, inl, inr, length, get_or, take, drop, append-nil, drop-cons, refl, ap, sym, subst, append_assoc, arith}
-use Rattle.std.specs.Prelude.{◌&&◌, ◌||◌, ◌==◌, not, nat_le, codes, if◌then◌else◌, Option, Some, None}
+use Rattle.std.proofs.Common.{◌≡◌, ◌∙◌, ℕ, zero, suc, ◌+◌, ◌-◌, ◌/◌, ◌%◌, ◌<◌, ◌≤◌, Bool, true, false, T, eqb, eqb→eq, eq-zero-or-pos, IsTrue, cond, List, [], ◌∷◌, ◌++◌, ◌⊎◌, inl, inr, length, get_or, take, drop, append-nil, drop-cons, refl, ap, sym, subst, append_assoc, arith}
+use lib.Ieee.Fits.{and_l, and_r}
+use Rattle.std.specs.Prelude.{◌&&◌, ◌||◌, ◌==◌, not, nat_le, codes, if◌then◌else◌, slice_get, Option, Some, None}
 use Rattle.std.specs.Char.{is_ascii_digit}
 use Rattle.std.specs.Fmt.{digit_glyph}
 use Rattle.std.specs.List.{All, flat_map, list_all}
 use Rattle.std.specs.Str.{bytes_eq}
-use Rattle.std.proofs.lemmas.Bool.{cases_Bool}
+use Rattle.std.proofs.lemmas.Bool.{and_from, and_parts, cases_Bool, or_cases, or_left, or_right}
 use Rattle.std.proofs.lemmas.Bool.Decides.{nat_tests}
 use Rattle.std.proofs.lemmas.Fmt.{hex_byte}
 use Rattle.std.proofs.lemmas.Grind.{flat_map-append}
 use Rattle.std.proofs.lemmas.List.Elements.{All-head, All-tail}
-use Rattle.std.proofs.lemmas.List.{take-append-drop}
-use Rattle.std.proofs.Math.Seq.{take-suc}
+use Rattle.std.proofs.lemmas.List.{drop_all, drop_more, take-append-drop, take_more}
 use Rattle.std.proofs.lemmas.Slice.Eq.{bytes_eq-Decides}
 use Rattle.table_schema.specs.Tokens.{hexadecimal}
+use Rattle.full_names.specs.declared.quoted.TheConstants.{ROLES}
 use Rattle.full_names.specs.declared.quoted.NameKind.{NameKind}
 use Rattle.full_names.specs.declared.quoted.NameKind.TheVariants.{Identifier, Dotted, Member}
 use Rattle.full_names.specs.declared.quoted.Position.{Position}
 use Rattle.full_names.specs.declared.quoted.Position.TheVariants.{Start, Within}
-use Rattle.full_names.specs.Quoted.{EndsName, begins_identifier, holds_after, is_dotted_from, position_after, is_dotted, is_in_identifier, is_name_byte, is_of_kind, is_verbatim, is_word, name_text, quoted_byte, quoted_bytes, type_text}
-
--- ---- tests
-
-both_true : (a b : Bool) → (a && b) ≡ true → (a ≡ true) × (b ≡ true)
-both_true true b is = (refl, is)
-both_true false b is = absurd cc
-
-both : (a b : Bool) → a ≡ true → b ≡ true → (a && b) ≡ true
-both true b one more = more
-both false b one more = absurd cc
-
-left_true : (a b : Bool) → a ≡ true → (a || b) ≡ true
-left_true true b is = refl
-left_true false b is = absurd cc
-
-right_true : (a b : Bool) → b ≡ true → (a || b) ≡ true
-right_true true b is = refl
-right_true false b is = is
-
-either : (a b : Bool) → (a || b) ≡ true → (a ≡ true) ⊎ (b ≡ true)
-either true b is = inl refl
-either false b is = inr is
+use Rattle.full_names.specs.Quoted.{EndsName, begins_identifier, holds_after, is_dotted_from, position_after, is_dotted, is_identifier, is_in_identifier, is_name_byte, is_of_kind, is_verbatim, is_word, name_text, quoted_byte, quoted_bytes, type_text}
 
 -- ---- positions in a dotted name
-
-suc_tail : (text : List ℕ) (i : ℕ) → i < length text → drop i text ≡ get_or text i 0 ∷ drop (i + 1) text
-suc_tail text i lt = let e : suc i ≡ i + 1 = omega arith in drop-cons text i 0 lt ∙ ap (λ n. get_or text i 0 ∷ drop n text) e
 
 dotted_cons : (position : Position) (byte : ℕ) (tail : List ℕ) → is_dotted_from position (byte ∷ tail) ≡ holds_after (λ next. is_dotted_from next tail) (position_after position byte)
 dotted_cons Start byte tail = refl
@@ -54,7 +30,7 @@ dotted_cons Within byte tail = refl
 dotted_at : (position : Position) (text : List ℕ) (i : ℕ) (after : Option Position) → i < length text → position_after position (get_or text i 0) ≡ after
     → is_dotted_from position (drop i text) ≡ holds_after (λ next. is_dotted_from next (drop (i + 1) text)) after
 dotted_at position text i after lt is =
-    ap (is_dotted_from position) (suc_tail text i lt) ∙ dotted_cons position (get_or text i 0) (drop (i + 1) text) ∙ ap (holds_after (λ next. is_dotted_from next (drop (i + 1) text))) is
+    ap (is_dotted_from position) (drop_more text i 0 lt) ∙ dotted_cons position (get_or text i 0) (drop (i + 1) text) ∙ ap (holds_after (λ next. is_dotted_from next (drop (i + 1) text))) is
 
 pub dotted_step : (position next : Position) (text : List ℕ) (i : ℕ) → i < length text → position_after position (get_or text i 0) ≡ Some next
     → is_dotted_from position (drop i text) ≡ is_dotted_from next (drop (i + 1) text)
@@ -63,27 +39,117 @@ dotted_step position next text i lt is = dotted_at position text i (Some next) l
 pub dotted_stop : (position : Position) (text : List ℕ) (i : ℕ) → i < length text → position_after position (get_or text i 0) ≡ None → is_dotted_from position (drop i text) ≡ false
 dotted_stop position text i lt is = dotted_at position text i None lt is
 
-nothing_left : (text : List ℕ) (i : ℕ) → length text ≤ i → drop i text ≡ []
-nothing_left [] zero le = refl
-nothing_left [] (suc i) le = refl
-nothing_left (x ∷ text) zero le = absurd (omega arith)
-nothing_left (x ∷ text) (suc i) le = nothing_left text i (omega arith)
-
 pub dotted_end : (position : Position) (text : List ℕ) (i : ℕ) → length text ≤ i → is_dotted_from position (drop i text) ≡ is_dotted_from position []
-dotted_end position text i le = ap (is_dotted_from position) (nothing_left text i le)
+dotted_end position text i le = ap (is_dotted_from position) (drop_all i text le)
+
+-- ---- the role of each byte in an identifier
+
+abbrev role : ℕ → ℕ
+role byte = if begins_identifier byte then 50 else (if is_in_identifier byte then 49 else 48)
+
+abbrev are_roles : ℕ → Bool
+are_roles zero = true
+are_roles (suc n) = eqb (get_or ROLES n 0) (role n) && are_roles n
+
+role_below : (count byte : ℕ) → T (are_roles count) → byte < count → get_or ROLES byte 0 ≡ role byte
+role_below zero byte are few = absurd (omega arith)
+role_below (suc count) byte are few =
+    elim (eq-zero-or-pos (count - byte)) [
+      | inl none ↦ let last : byte ≡ count = omega arith in rw last (eqb→eq _ _ (and_l _ (are_roles count) are))
+      | inr more ↦ role_below count byte (and_r _ (are_roles count) are) (omega arith)
+    ]
+
+begins_role : (byte : ℕ) → (role byte == 50) ≡ begins_identifier byte
+begins_role byte = elim (cases_Bool (begins_identifier byte)) [
+  | inl begins ↦ ap (λ t. cond t 50 (cond (is_in_identifier byte) 49 48) == 50) begins ∙ sym begins
+  | inr not_one ↦ elim (cases_Bool (is_in_identifier byte)) [
+    | inl within ↦ ap (λ t. cond t 50 (cond (is_in_identifier byte) 49 48) == 50) not_one ∙ ap (λ t. cond t 49 48 == 50) within ∙ sym not_one
+    | inr other ↦ ap (λ t. cond t 50 (cond (is_in_identifier byte) 49 48) == 50) not_one ∙ ap (λ t. cond t 49 48 == 50) other ∙ sym not_one
+  ]
+]
+
+within_role : (byte : ℕ) → not (role byte == 48) ≡ is_in_identifier byte
+within_role byte = elim (cases_Bool (begins_identifier byte)) [
+  | inl begins ↦ ap (λ t. not (cond t 50 (cond (is_in_identifier byte) 49 48) == 48)) begins ∙ sym (or_left (begins_identifier byte) (is_ascii_digit byte) begins)
+  | inr not_one ↦ elim (cases_Bool (is_in_identifier byte)) [
+    | inl within ↦ ap (λ t. not (cond t 50 (cond (is_in_identifier byte) 49 48) == 48)) not_one ∙ ap (λ t. not (cond t 49 48 == 48)) within ∙ sym within
+    | inr other ↦ ap (λ t. not (cond t 50 (cond (is_in_identifier byte) 49 48) == 48)) not_one ∙ ap (λ t. not (cond t 49 48 == 48)) other ∙ sym other
+  ]
+]
+
+pub begins_at : (byte : ℕ) → byte < 256 → (get_or ROLES byte 0 == 50) ≡ begins_identifier byte
+begins_at byte small = ap (λ n. n == 50) (role_below 256 byte tt small) ∙ begins_role byte
+
+pub within_at : (byte : ℕ) → byte < 256 → not (get_or ROLES byte 0 == 48) ≡ is_in_identifier byte
+within_at byte small = ap (λ n. not (n == 48)) (role_below 256 byte tt small) ∙ within_role byte
+
+-- a byte of an identifier is no dot
+not_dot : (byte : ℕ) → is_in_identifier byte ≡ true → (byte == 46) ≡ false
+not_dot byte within = elim (cases_Bool (byte == 46)) [
+  | inl dot ↦ let at : byte ≡ 46 = grind (arith, nat_tests, dot) in let wrong : true ≡ false = sym within ∙ ap is_in_identifier at in absurd cc
+  | inr other ↦ other
+]
+
+pub within_after : (byte : ℕ) → is_in_identifier byte ≡ true → Some Within ≡ position_after Within byte
+within_after byte within =
+    sym (ap (λ t. cond t (Some Start) (cond (is_in_identifier byte) (Some Within) None)) (not_dot byte within) ∙ ap (λ t. cond t (Some Within) None) within)
+
+pub other_after : (byte : ℕ) → is_in_identifier byte ≡ false → (if byte == 46 then Some Start else None) ≡ position_after Within byte
+other_after byte other = ap (λ t. cond (byte == 46) (Some Start) (cond t (Some Within) None)) (sym other)
+
+-- an identifier: a byte that begins one, and bytes of one
+abbrev no_dot : List ℕ → Bool
+no_dot text = list_all (λ byte. not (byte == 46)) text
+
+and_false : (t : Bool) → (t && false) ≡ false
+and_false true = refl
+and_false false = refl
+
+tail_is : (text : List ℕ) → (is_dotted_from Within text && no_dot text) ≡ list_all is_in_identifier text
+tail_is [] = refl
+tail_is (byte ∷ text) =
+    let holds = λ (next : Option Position). holds_after (λ next. is_dotted_from next text) next in
+    let later = list_all is_in_identifier text in
+    elim (cases_Bool (is_in_identifier byte)) [
+      | inl within ↦
+          ap (λ next. holds next && (not (byte == 46) && no_dot text)) (sym (within_after byte within))
+          ∙ ap (λ t. is_dotted_from Within text && (not t && no_dot text)) (not_dot byte within) ∙ tail_is text ∙ sym (ap (λ t. t && later) within)
+      | inr other ↦ elim (cases_Bool (byte == 46)) [
+        | inl dot ↦ ap (λ t. holds (position_after Within byte) && (not t && no_dot text)) dot ∙ and_false (holds (position_after Within byte)) ∙ sym (ap (λ t. t && later) other)
+        | inr none ↦
+            ap (λ t. holds (cond t (Some Start) (cond (is_in_identifier byte) (Some Within) None)) && (not (byte == 46) && no_dot text)) none
+            ∙ ap (λ t. holds (cond t (Some Within) None) && (not (byte == 46) && no_dot text)) other ∙ sym (ap (λ t. t && later) other)
+      ]
+    ]
+
+identifier_is : (first : ℕ) (tail : List ℕ) → (begins_identifier first && list_all is_in_identifier (first ∷ tail)) ≡ is_identifier (first ∷ tail)
+identifier_is first tail =
+    let holds = λ (t : Bool). holds_after (λ next. is_dotted_from next tail) (cond t (Some Within) None) in
+    let both = λ (t : Bool). holds t && (not (first == 46) && no_dot tail) in
+    elim (cases_Bool (begins_identifier first)) [
+      | inl begins ↦
+          let within : is_in_identifier first ≡ true = or_left (begins_identifier first) (is_ascii_digit first) begins in
+          ap (λ t. t && list_all is_in_identifier (first ∷ tail)) begins ∙ ap (λ t. t && list_all is_in_identifier tail) within ∙ sym (tail_is tail)
+          ∙ sym (ap (λ t. is_dotted_from Within tail && (not t && no_dot tail)) (not_dot first within)) ∙ sym (ap both begins)
+      | inr not_one ↦ ap (λ t. t && list_all is_in_identifier (first ∷ tail)) not_one ∙ sym (ap both not_one)
+    ]
+
+pub first_is : (first : ℕ) (text : List ℕ) → Some first ≡ slice_get text 0 → (begins_identifier first && list_all is_in_identifier text) ≡ is_identifier text
+first_is first [] is = absurd cc
+first_is first (byte ∷ tail) is = let same : first ≡ byte = cc in ap (λ n. begins_identifier n && list_all is_in_identifier (byte ∷ tail)) same ∙ identifier_is byte tail
 
 -- ---- a name without quotes has only bytes of names, and at least one
 
 -- a byte that can be at a position is a byte of a name
 positioned : (position next : Position) (byte : ℕ) → position_after position byte ≡ Some next → is_name_byte byte ≡ true
 positioned Start next byte is = elim (cases_Bool (begins_identifier byte)) [
-  | inl begins ↦ left_true (is_in_identifier byte) (byte == 46) (left_true (begins_identifier byte) (is_ascii_digit byte) begins)
+  | inl begins ↦ or_left (is_in_identifier byte) (byte == 46) (or_left (begins_identifier byte) (is_ascii_digit byte) begins)
   | inr not_one ↦ let none = ap (λ t. cond t (Some Within) None) (sym not_one) ∙ is in absurd cc
 ]
 positioned Within next byte is = elim (cases_Bool (byte == 46)) [
-  | inl dot ↦ right_true (is_in_identifier byte) (byte == 46) dot
+  | inl dot ↦ or_right (is_in_identifier byte) (byte == 46) dot
   | inr other ↦ elim (cases_Bool (is_in_identifier byte)) [
-    | inl within ↦ left_true (is_in_identifier byte) (byte == 46) within
+    | inl within ↦ or_left (is_in_identifier byte) (byte == 46) within
     | inr not_one ↦
         let none = ap (λ t. cond t (Some Start) (cond (is_in_identifier byte) (Some Within) None)) (sym other) ∙ is in
         let more = ap (λ t. cond t (Some Within) None) (sym not_one) ∙ none in absurd cc
@@ -93,7 +159,7 @@ positioned Within next byte is = elim (cases_Bool (byte == 46)) [
 dotted_more : (position : Position) (byte : ℕ) (tail : List ℕ) (after : Option Position) → position_after position byte ≡ after → holds_after (λ next. is_dotted_from next tail) after ≡ true
     → ((next : Position) → is_dotted_from next tail ≡ true → list_all is_name_byte tail ≡ true) → list_all is_name_byte (byte ∷ tail) ≡ true
 dotted_more position byte tail None at is more = absurd cc
-dotted_more position byte tail (Some next) at is more = both (is_name_byte byte) (list_all is_name_byte tail) (positioned position next byte at) (more next is)
+dotted_more position byte tail (Some next) at is more = and_from (is_name_byte byte) (list_all is_name_byte tail) (positioned position next byte at) (more next is)
 
 dotted_bytes : (position : Position) (text : List ℕ) → is_dotted_from position text ≡ true → list_all is_name_byte text ≡ true
 dotted_bytes position [] is = refl
@@ -106,7 +172,7 @@ IsRun (byte ∷ bytes) = (is_name_byte byte ≡ true) × (list_all is_name_byte 
 
 some_run : (name : List ℕ) → (name ≡ [] → ⊥) → list_all is_name_byte name ≡ true → IsRun name
 some_run [] some is = some refl
-some_run (byte ∷ bytes) some is = both_true (is_name_byte byte) (list_all is_name_byte bytes) is
+some_run (byte ∷ bytes) some is = and_parts (is_name_byte byte) (list_all is_name_byte bytes) is
 
 dotted_run : (name : List ℕ) → is_dotted name ≡ true → IsRun name
 dotted_run [] is = absurd cc
@@ -116,10 +182,10 @@ same_run : (name word : List ℕ) → bytes_eq name word ≡ true → IsRun word
 same_run name word is run = subst IsRun (sym ((bytes_eq-Decides name word).0 is)) run
 
 word_run : (kind : NameKind) (name : List ℕ) → is_of_kind kind name ≡ true → IsRun name
-word_run Identifier name is = dotted_run name (both_true (is_dotted name) (list_all (λ byte. not (byte == 46)) name) is).0
+word_run Identifier name is = dotted_run name (and_parts (is_dotted name) (list_all (λ byte. not (byte == 46)) name) is).0
 word_run Dotted name is = dotted_run name is
-word_run Member name is = elim (either (is_dotted name || bytes_eq name (codes ".ctor")) (bytes_eq name (codes ".cctor")) is) [
-  | inl first ↦ elim (either (is_dotted name) (bytes_eq name (codes ".ctor")) first) [
+word_run Member name is = elim (or_cases (is_dotted name || bytes_eq name (codes ".ctor")) (bytes_eq name (codes ".cctor")) is) [
+  | inl first ↦ elim (or_cases (is_dotted name) (bytes_eq name (codes ".ctor")) first) [
     | inl dotted ↦ dotted_run name dotted
     | inr same ↦ same_run name (codes ".ctor") same (refl, refl)
   ]
@@ -142,18 +208,18 @@ runs_end [] (y ∷ b) [] t of_a of_b ends end is = absurd cc
 runs_end [] (y ∷ b) (x ∷ s) t of_a of_b ends end is =
     let same : x ≡ y = cc in
     let no : is_name_byte y ≡ false = subst (λ (n : ℕ). is_name_byte n ≡ false) same ends in
-    let yes = (both_true (is_name_byte y) (list_all is_name_byte b) of_b).0 in
+    let yes = (and_parts (is_name_byte y) (list_all is_name_byte b) of_b).0 in
     let wrong : true ≡ false = sym yes ∙ no in absurd cc
 runs_end (x ∷ a) [] s [] of_a of_b ends end is = absurd cc
 runs_end (x ∷ a) [] s (y ∷ t) of_a of_b ends end is =
     let same : y ≡ x = cc in
     let no : is_name_byte x ≡ false = subst (λ (n : ℕ). is_name_byte n ≡ false) same end in
-    let yes = (both_true (is_name_byte x) (list_all is_name_byte a) of_a).0 in
+    let yes = (and_parts (is_name_byte x) (list_all is_name_byte a) of_a).0 in
     let wrong : true ≡ false = sym yes ∙ no in absurd cc
 runs_end (x ∷ a) (y ∷ b) s t of_a of_b ends end is =
     let same : x ≡ y = cc in
     let more : a ++ s ≡ b ++ t = cc in
-    let tails = runs_end a b s t (both_true (is_name_byte x) (list_all is_name_byte a) of_a).1 (both_true (is_name_byte y) (list_all is_name_byte b) of_b).1 ends end more in
+    let tails = runs_end a b s t (and_parts (is_name_byte x) (list_all is_name_byte a) of_a).1 (and_parts (is_name_byte y) (list_all is_name_byte b) of_b).1 ends end more in
     let first = tails.0 in
     (cc, tails.1)
 
@@ -268,13 +334,13 @@ unfolding name_text
 written kind name =
     let text = λ (t : Bool). cond t name (39 ∷ (quoted_bytes name ++ 39 ∷ [])) in
     elim (cases_Bool (is_word kind name)) [
-      | inl so ↦ inl (ap text so, word_run kind name (both_true (nat_le (length name) 1023) (is_of_kind kind name) so).1)
+      | inl so ↦ inl (ap text so, word_run kind name (and_parts (nat_le (length name) 1023) (is_of_kind kind name) so).1)
       | inr not_so ↦ inr (ap text not_so)
     ]
 
 run_bytes : (name : List ℕ) → IsRun name → list_all is_name_byte name ≡ true
 run_bytes [] run = absurd run
-run_bytes (x ∷ xs) run = both (is_name_byte x) (list_all is_name_byte xs) run.0 run.1
+run_bytes (x ∷ xs) run = and_from (is_name_byte x) (list_all is_name_byte xs) run.0 run.1
 
 -- a run does not begin with a quote
 no_quote : (name s t : List ℕ) → IsRun name → name ++ s ≡ 39 ∷ t → ⊥
@@ -323,9 +389,8 @@ verbatim_text (byte ∷ bytes) are =
 -- one more byte between quotes
 pub one_more : (bytes : List ℕ) (i : ℕ) → i < length bytes → quoted_bytes (take i bytes) ++ quoted_byte (get_or bytes i 0) ≡ quoted_bytes (take (i + 1) bytes)
 one_more bytes i lt =
-    let e : i + 1 ≡ suc i = omega arith in
     let one = get_or bytes i 0 in
-    sym (ap quoted_bytes (ap (λ n. take n bytes) e ∙ take-suc bytes i 0 lt) ∙ flat_map-append quoted_byte (take i bytes) (one ∷ []) ∙ ap (λ t. quoted_bytes (take i bytes) ++ t) (append-nil (quoted_byte one)))
+    sym (ap quoted_bytes (take_more bytes i 0 lt) ∙ flat_map-append quoted_byte (take i bytes) (one ∷ []) ∙ ap (λ t. quoted_bytes (take i bytes) ++ t) (append-nil (quoted_byte one)))
 
 -- the bytes before and after one
 pub both_parts : (bytes : List ℕ) (i : ℕ) → quoted_bytes (take i bytes) ++ quoted_bytes (drop i bytes) ≡ quoted_bytes bytes

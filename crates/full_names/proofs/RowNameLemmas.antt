@@ -1,16 +1,14 @@
 -- The name of a row, from that of its table.
-use Rattle.std.proofs.Common.{◌≡◌, ℕ, ◌≤◌, ◌<◌, false, List, Option, None, refl, subst, sym, arith, ⊎_elim}
-use Rattle.std.proofs.lemmas.Bool.{cases_lt}
+use Rattle.std.proofs.Common.{◌≡◌, ℕ, ◌≤◌, false, List, Option, None, refl, subst, sym, arith}
 use Rattle.table_schema.specs.declared.table.TableId.{TableId}
 use Rattle.table_schema.specs.declared.table.TableId.TheVariants.{TypeDef, TypeRef, TypeSpec, Field, MethodDef, Event, Property, MemberRef, ModuleRef, AssemblyRef, File, ExportedType, GenericParam}
 use Rattle.std.specs.Prelude.{codes}
 use Rattle.table_schema.specs.declared.token.Token.{Token}
-use Rattle.table_schema.specs.CellColumns.{cell_columns, cell_count}
+use Rattle.table_schema.specs.CellColumns.{cell_columns}
 use Rattle.metadata.specs.Cell.{Cell, Ref}
 use Rattle.metadata.specs.Lookups.{HasRow}
 use Rattle.metadata.specs.Metadata.{Metadata, cell_in, count_in}
-use Rattle.metadata.specs.Valid.{IsValid, MayRefer, nullable_at}
-use Rattle.navigation.specs.Maps.{IsMapOf}
+use Rattle.metadata.specs.Valid.{IsValid, MayRefer}
 use Rattle.full_names.specs.RowNames.{IsMemberOf, IsNameIn, IsNameUnder, IsPlainName, IsRowName}
 use Rattle.full_names.specs.Texts.{IsMemberName}
 
@@ -45,17 +43,10 @@ no_name model ExportedType row a b c d e = absurd (d refl)
 no_name model GenericParam row a b c d e = absurd (e refl)
 no_name model _ row a b c d e = refl
 
--- a type to which a row of a map refers exists
-module _ (model : Metadata) (valid : IsValid model) where
-  pub mapped_there : (map : TableId) (class row : ℕ) → 0 < cell_count map → IsMapOf model map class row → class ≤ count_in model TypeDef
-  mapped_there map class row within is =
-      let P : Cell → Type 0 = λ c. MayRefer model (nullable_at map 0) c in
-      (subst P is.1 (valid.cells map row 0 is.0 within).refers).1
-
-  -- the parent of a MemberRef exists
-  pub parent_there : (row : ℕ) → HasRow model MemberRef row → (reference : Option Token) → cell_in model MemberRef row 0 ≡ Ref reference → MayRefer model false (Ref reference)
-  unfolding cell_columns
-  parent_there row there reference is = subst (λ (c : Cell). MayRefer model false c) is (valid.cells MemberRef row 0 there (omega arith)).refers
+-- the parent of a MemberRef exists
+pub parent_there : (model : Metadata) → IsValid model → (row : ℕ) → HasRow model MemberRef row → (reference : Option Token) → cell_in model MemberRef row 0 ≡ Ref reference → MayRefer model false (Ref reference)
+unfolding cell_columns
+parent_there model valid row there reference is = subst (λ (c : Cell). MayRefer model false c) is (valid.cells MemberRef row 0 there (omega arith)).refers
 
 -- a parent that is no method and no module gives its full name
 pub named_under : (model : Metadata) (table : TableId) (row : ℕ) (own text : List ℕ) → (table ≡ MethodDef → ⊥) → (table ≡ ModuleRef → ⊥)
@@ -63,13 +54,6 @@ pub named_under : (model : Metadata) (table : TableId) (row : ℕ) (own text : L
 named_under model MethodDef row own text a b is = absurd (a refl)
 named_under model ModuleRef row own text a b is = absurd (b refl)
 named_under model _ row own text a b is = is
-
--- what cannot fail holds
-pub at_most : (a b : ℕ) → ¬ (¬ (a ≤ b)) → a ≤ b
-at_most a b h = ⊎_elim
-    (λ (l : b < a). absurd (h (λ (le : a ≤ b). omega arith)))
-    (λ (le : a ≤ b). le)
-    (cases_lt b a)
 
 -- a row of a table that is none of these is no member
 pub no_member : (model : Metadata) (table : TableId) (row : ℕ) → (table ≡ Field → ⊥) → (table ≡ MethodDef → ⊥) → (table ≡ Event → ⊥) → (table ≡ Property → ⊥) → IsMemberOf model table row None

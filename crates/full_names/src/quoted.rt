@@ -22,23 +22,22 @@ pub enum NameKind {
     Member,
 }
 
+/// The role of each byte in an identifier (II.5.2): `2` if one can begin with it, `1` if it can only follow, `0` if none has it.
+static ROLES: [u8; 256] =
+    *b"0000000000000000000000000000000000002000000000001111111111000002222222222222222222222222222000022222222222222222222222222220000000000000000000000000000000000000000000000000000000000000000000000000000000000000000000000000000000000000000000000000000000000000";
+
 /// Whether an identifier can begin with a byte (II.5.2).
 fn begins_identifier(byte: u8) -> bool
     ensures { result ≡ begins_identifier byte }
 {
-    byte.is_ascii_alphabetic()
-        || byte == b'_'
-        || byte == b'$'
-        || byte == b'@'
-        || byte == b'`'
-        || byte == b'?'
+    ROLES[byte as usize] == b'2'
 }
 
 /// Whether a byte can be in an identifier (II.5.2).
 fn is_in_identifier(byte: u8) -> bool
     ensures { result ≡ is_in_identifier byte }
 {
-    begins_identifier(byte) || byte.is_ascii_digit()
+    ROLES[byte as usize] != b'0'
 }
 
 /// Where a byte is in a name of identifiers with dots between them.
@@ -54,11 +53,11 @@ enum Position {
 fn position_within(byte: u8) -> Option<Position>
     ensures { result ≡ position_after Within byte }
 {
-    if byte == b'.' {
-        return Some(Position::Start);
-    }
     if is_in_identifier(byte) {
-        Some(Position::Within)
+        return Some(Position::Within);
+    }
+    if byte == b'.' {
+        Some(Position::Start)
     } else {
         None
     }
@@ -109,18 +108,21 @@ fn is_dotted(text: &[u8]) -> bool
     is_end(position)
 }
 
-/// Whether no byte is a dot.
-fn has_no_dot(text: &[u8]) -> bool
-    ensures { result ≡ list_all (λ byte. not (byte == 46)) text.now }
+/// Whether all bytes can be in an identifier (II.5.2).
+fn are_in_identifier(text: &[u8]) -> bool
+    ensures { result ≡ list_all is_in_identifier text.now }
 {
-    text.iter().all(|byte| *byte != b'.')
+    text.iter().all(|byte| is_in_identifier(*byte))
 }
 
 /// Whether a text is an identifier (II.5.2).
 fn is_identifier(text: &[u8]) -> bool
     ensures { result ≡ is_identifier text.now }
 {
-    is_dotted(text) && has_no_dot(text)
+    match text.first() {
+        Some(first) => begins_identifier(*first) && are_in_identifier(text),
+        None => false,
+    }
 }
 
 /// Whether a name is what ILAsm takes for one of a kind.

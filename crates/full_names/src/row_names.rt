@@ -254,8 +254,6 @@ pub fn type_of_member<S: ReadCells>(source: &S, token: Token) -> Option<Token>
     ensures member { (model : Metadata) → S.shows source.now model → IsMemberOf model token.table token.row result }
     ensures last { IfSome result (λ class. class.row ≤ S.row_count source.now TypeDef) }
 {
-    // The metadata is valid, so each member has a type.
-    source.holds_one();
     match token.table {
         TableId::Field => Some(type_token(type_of_field(source, token.row))),
         TableId::MethodDef => Some(type_token(type_of_method(source, token.row))),

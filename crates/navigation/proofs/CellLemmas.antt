@@ -1,8 +1,9 @@
 -- Cells of a valid model that are references or texts.
-use Rattle.std.proofs.Common.{◌≡◌, ℕ, zero, suc, ◌<◌, ◌≤◌, Bool, false, List, [], ◌∷◌, Option, Some, None, refl, sym, ap, subst, arith, ⊎_elim, Bor}
-use Rattle.std.proofs.lemmas.Bool.{cases_lt}
+use Rattle.std.proofs.Common.{◌≡◌, ℕ, zero, suc, ◌<◌, ◌≤◌, Bool, false, List, [], ◌∷◌, Option, Some, None, refl, sym, ap, subst, arith, Bor}
+use Rattle.std.proofs.Math.Logic.{∥∥₁_elim}
 use Rattle.std.proofs.lemmas.Option.{same_Some}
-use Rattle.std.specs.Prelude.{⊤, Contains}
+use Rattle.std.specs.Coded.{le_prop}
+use Rattle.std.specs.Prelude.{⊤, Contains, IfSome}
 use Rattle.table_schema.specs.declared.table.TableId.{TableId}
 use Rattle.table_schema.specs.declared.table.TableId.TheVariants.{TypeDef}
 use Rattle.table_schema.specs.declared.token.Token.{Token}
@@ -11,20 +12,13 @@ use Rattle.table_schema.specs.declared.column.ColumnKind.TheVariants as kind
 use Rattle.table_schema.specs.CellColumns.{cell_count}
 use Rattle.metadata.specs.Cell.{Cell, Number, Text, Ref, Sig}
 use Rattle.metadata.specs.Kinds.{IsOfKind}
-use Rattle.metadata.specs.Metadata.{Metadata, cell_in}
+use Rattle.metadata.specs.Metadata.{Metadata, cell_in, count_in}
 use Rattle.metadata.specs.Lookups.{HasRow}
 use Rattle.metadata.specs.Valid.{IsValid, MayRefer, kind_at, nullable_at}
 use Rattle.reading.specs.declared.cell_ref.CellRef.{CellRef}
 use Rattle.reading.specs.declared.cell_ref.CellRef.TheVariants as seen
 use Rattle.reading.specs.Shown.{Shows}
 use Rattle.navigation.specs.Nesting.{type_token}
-
--- what cannot fail holds
-pub at_most : (a b : ℕ) → ¬ (¬ (a ≤ b)) → a ≤ b
-at_most a b h = ⊎_elim
-    (λ (l : b < a). absurd (h (λ (le : a ≤ b). omega arith)))
-    (λ (le : a ≤ b). le)
-    (cases_lt b a)
 
 -- a reference to a type, which is not null
 abbrev pub IsTypeRow : Metadata → Option Token → Type 0
@@ -49,14 +43,14 @@ row_of_type model (Some token) of_kind refers =
 -- in a column of types that allows no null, a reference is to a type
 pub to_type : (model : Metadata) → IsValid model → (table : TableId) (row cell : ℕ) → HasRow model table row → cell < cell_count table
     → kind_at table cell ≡ kind.Row TypeDef → nullable_at table cell ≡ false
-    → (reference : Option Token) → cell_in model table row cell ≡ Ref reference → IsTypeRow model reference
-to_type model valid table row cell there within is_row not_null reference is =
+    → (reference found : Option Token) → cell_in model table row cell ≡ Ref reference → reference ≡ found → IsTypeRow model found
+to_type model valid table row cell there within is_row not_null reference found is same =
     let held = valid.cells table row cell there within in
     let P : ColumnKind → Type 0 = λ k. IsOfKind k (Ref reference) in
     let Q : Cell → Type 0 = λ c. IsOfKind (kind_at table cell) c in
     let R : Bool → Type 0 = λ b. MayRefer model b (Ref reference) in
     let T : Cell → Type 0 = λ c. MayRefer model (nullable_at table cell) c in
-    row_of_type model reference (subst P is_row (subst Q is held.of_kind)) (subst R not_null (subst T is held.refers))
+    subst (IsTypeRow model) same (row_of_type model reference (subst P is_row (subst Q is held.of_kind)) (subst R not_null (subst T is held.refers)))
 
 -- a reference that is not null is to a row that exists
 pub refers_to : (model : Metadata) → IsValid model → (table : TableId) (row cell : ℕ) → HasRow model table row → cell < cell_count table
@@ -64,6 +58,16 @@ pub refers_to : (model : Metadata) → IsValid model → (table : TableId) (row 
 refers_to model valid table row cell there within token is =
     let P : Cell → Type 0 = λ c. MayRefer model (nullable_at table cell) c in
     subst P is (valid.cells table row cell there within).refers
+
+-- a reference is to a row that exists, if it is so in some model with these numbers of rows
+pub referred : (rows : TableId → ℕ) (reference : Option Token)
+    → ∥ ((model : Metadata) × ((table : TableId) → count_in model table ≡ rows table) × ((of : Token) → reference ≡ Some of → HasRow model of.table of.row)) ∥₁
+    → IfSome reference (λ of. (1 ≤ of.row) × (of.row ≤ rows of.table))
+referred rows None some = tt
+referred rows (Some of) some = (
+  ∥∥₁_elim some le_prop (λ it. (it.2 of refl).0),
+  ∥∥₁_elim some le_prop (λ it. let count = it.1 of.table in let within = (it.2 of refl).1 in omega (arith, count, within)),
+)
 
 -- the kinds of cells
 abbrev IsReference : Cell → Type 0

@@ -1,12 +1,13 @@
 -- The rows of NestedClass with a key are those of a nested type, and the first row of an ascending list is the least.
 use Rattle.std.proofs.Common.{◌≡◌, ℕ, zero, suc, ◌<◌, ◌≤◌, ◌↔◌, List, [], ◌∷◌, Option, Some, None, IfSome, IfNone, MatchOption, refl, sym, ◌∙◌, ap, subst, arith, add-one}
+use Rattle.std.proofs.Math.Logic.{∥∥₁_elim}
+use Rattle.std.specs.Coded.{le_prop}
 use Rattle.std.specs.List.{Contains}
 use Rattle.std.specs.List.Sorted.{IsStrictlyIncreasing}
 use Rattle.table_schema.specs.declared.table.TableId.TheVariants.{NestedClass}
 use Rattle.table_schema.specs.CellColumns.{cell_columns}
 use Rattle.metadata.specs.Metadata.{Metadata, count_in, cell_in}
 use Rattle.metadata.specs.Lookups.{HasRow, HasKey, IsKeyCell}
-use Rattle.navigation.proofs.CellLemmas.{at_most}
 use Rattle.navigation.specs.Nesting.{type_token, IsNesting, IsFirstNesting}
 
 key_cell : IsKeyCell NestedClass 0
@@ -69,15 +70,11 @@ module _ (model : Metadata) (class : ℕ) (rows left : List ℕ) (ascending : Is
       let has = subst P yields.0 ((keyed_rows row).1 (keyed model class row is)) in
       absurd (omega (arith, has.1))
 
--- the first row of NestedClass of a nested type exists
-abbrev pub ShowsFirst : ℕ → ℕ → Option ℕ → Metadata → Type 0
-ShowsFirst class count found model = (count_in model NestedClass ≡ count) × IfSome found (IsFirstNesting model class)
-
-module _ (class count : ℕ) where
-  pub first_there : (found : Option ℕ) → ¬ (¬ ((model : Metadata) × ShowsFirst class count found model)) → IfSome found (λ row. 1 ≤ row)
-  first_there None some = tt
-  first_there (Some row) some = at_most 1 row (λ not. some (λ shown. let there = shown.1.1.nesting.0 in not there.0))
-
-  pub last_there : (found : Option ℕ) → ¬ (¬ ((model : Metadata) × ShowsFirst class count found model)) → IfSome found (λ row. row ≤ count)
-  last_there None some = tt
-  last_there (Some row) some = at_most row count (λ not. some (λ shown. let there = shown.1.1.nesting.0 in let same = shown.1.0 in let last = there.1 in not (omega arith)))
+-- the first row of NestedClass of a nested type exists, if it is found in some model with this number of rows
+pub first_there : (class count : ℕ) (found : Option ℕ) → ∥ ((model : Metadata) × ((count_in model NestedClass ≡ count) × IfSome found (IsFirstNesting model class))) ∥₁
+    → IfSome found (λ row. (1 ≤ row) × (row ≤ count))
+first_there class count None some = tt
+first_there class count (Some row) some = (
+  ∥∥₁_elim some le_prop (λ it. it.1.1.nesting.0.0),
+  ∥∥₁_elim some le_prop (λ it. let same = it.1.0 in let last = it.1.1.nesting.0.1 in omega (arith, same, last)),
+)

@@ -1,3 +1,4 @@
+pub mod Cells
 pub mod Keyed
 pub mod Linked
 pub mod Maps

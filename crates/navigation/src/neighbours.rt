@@ -7,12 +7,12 @@ ghost use Rattle.metadata.specs.Model.{IsModel};
 ghost use Rattle.opening.specs.Views.{row_count};
 ghost use Rattle.navigation.specs.Keyed.{row_of};
 ghost use Rattle.navigation.specs.Linked.{AreReferences, first_linked, linked, number_to, table_of};
-ghost use Rattle.navigation.specs.Starts.{AreStarts};
+ghost use Rattle.navigation.specs.Starts.{AreNestedKeys, AreStarts};
 
 use crate::keyed::{KeyedRow, with_key};
 use crate::links::Link;
 use crate::sorted_links::SortedLinks;
-use crate::starts::starts_of;
+use crate::starts::{nested_keys, starts_of};
 use metadata_source::MemberList;
 use opening::View;
 use std::alloc::{AllocError, Global};
@@ -20,9 +20,8 @@ use table_schema::Token;
 
 /// A view, with what finds the neighbours of its rows in any order, each by binary search.
 ///
-/// A null start is that of the next owner, so a look-up in a view moves on to the next start that is not null. So if a
-/// list of members has a null start, all starts in it are read once, and take four bytes for each owner. The references
-/// of each [`Link`] are sorted once, and take eight bytes for each row.
+/// The starts in the lists of members, and the keys of NestedClass, are read once, and take four bytes for each row. The
+/// references of each [`Link`] are sorted once, and take eight bytes for each row.
 #[derive(Drop)]
 pub struct Neighbours<'v, 'a> {
     /// The view.
@@ -32,17 +31,20 @@ pub struct Neighbours<'v, 'a> {
     params: Vec<u32>,
     events: Vec<u32>,
     properties: Vec<u32>,
+    nested: Vec<u32>,
     links: SortedLinks<'v, 'a>,
     ghost fields_known: { AreStarts view.now list_of.Fields fields.items },
     ghost methods_known: { AreStarts view.now list_of.Methods methods.items },
     ghost params_known: { AreStarts view.now list_of.Params params.items },
     ghost events_known: { AreStarts view.now list_of.Events events.items },
     ghost properties_known: { AreStarts view.now list_of.Properties properties.items },
+    ghost nested_known: { AreNestedKeys view.now nested.items },
     ghost links_known: { links.view.now ≡ view.now },
 }
 
 impl<'v, 'a> Neighbours<'v, 'a> {
-    /// The neighbours of the rows of a view. Each list of members and each column of [`Link`] is read once.
+    /// The neighbours of the rows of a view. Each list of members, the keys of NestedClass, and each column of [`Link`] are read
+    /// once.
     ///
     /// # Errors
     ///
@@ -57,6 +59,7 @@ impl<'v, 'a> Neighbours<'v, 'a> {
             params: starts_of(alloc, view, MemberList::Params)?,
             events: starts_of(alloc, view, MemberList::Events)?,
             properties: starts_of(alloc, view, MemberList::Properties)?,
+            nested: nested_keys(alloc, view)?,
             links: SortedLinks::new(alloc, view)?,
         })
     }
@@ -72,6 +75,13 @@ impl<'v, 'a> Neighbours<'v, 'a> {
             MemberList::Events => &self.events,
             MemberList::Properties => &self.properties,
         }
+    }
+
+    /// The key numbers of NestedClass, in the order of its rows.
+    pub(crate) fn nested(&self) -> &[u32]
+        ensures { AreNestedKeys self.now.view.now result.now }
+    {
+        &self.nested
     }
 
     /// The references of a link, in the order of what they refer to.

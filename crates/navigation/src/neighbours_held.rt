@@ -7,12 +7,35 @@ ghost use Rattle.opening.specs.Views.{row_count};
 ghost use Rattle.reading.specs.Cursors.{AreCursors};
 
 use crate::neighbours::Neighbours;
+use crate::starts::NESTED;
 use metadata_source::{MemberList, ReadCells, ReadMetadata, SignatureBytes};
 use opening::View;
 use reading::{CellRef, RunCursors};
 use rows::ColumnNumbers;
 use std::alloc::{AllocError, Global};
 use table_schema::{SigKind, TableId};
+
+impl Neighbours<'_, '_> {
+    ghost use Rattle.std.specs.Prelude.{◌≡◌, ◌≤◌};
+    ghost use Rattle.table_schema.specs.declared.table.TableId.TheVariants.{NestedClass};
+    ghost use Rattle.table_schema.specs.CellColumns.{column_of};
+    ghost use Rattle.metadata.specs.Source.{number_of};
+    ghost use Rattle.metadata.specs.SourceAt.{source_of};
+    ghost use Rattle.opening.specs.Views.{row_count};
+
+    /// The key number of a row of NestedClass.
+    #[tactic(auto, unfolding(table_schema::specs::CellColumns::cell_columns))]
+    fn nested_key(&self, row: u32) -> u32
+        requires first { 1 ≤ row }
+        requires last { row ≤ row_count self.now.view.now NestedClass }
+        ensures { result ≡ number_of (source_of self.now.view.now) NestedClass row (column_of NestedClass 0) }
+    {
+        match self.nested().get(row as usize - 1) {
+            Some(key) => *key,
+            None => self.view.key(TableId::NestedClass, row, NESTED),
+        }
+    }
+}
 
 impl ReadMetadata for Neighbours<'_, '_> {
     ghost shows = { λ neighbours. IsModel neighbours.view.now };
@@ -51,6 +74,9 @@ impl ReadMetadata for Neighbours<'_, '_> {
     }
 
     fn key(&self, table: TableId, row: u32, cell: usize) -> u32 {
+        if let (TableId::NestedClass, NESTED) = (table, cell) {
+            return self.nested_key(row);
+        }
         self.view.key(table, row, cell)
     }
 
@@ -78,6 +104,10 @@ impl ReadCells for Neighbours<'_, '_> {
 
     fn strings_heap(&self) -> Option<&[u8]> {
         self.view.strings_heap()
+    }
+
+    fn blob_heap(&self) -> Option<&[u8]> {
+        self.view.blob_heap()
     }
 
     fn run_cursors(&self) -> RunCursors {

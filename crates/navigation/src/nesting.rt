@@ -1,8 +1,7 @@
-ghost use Rattle.std.specs.Prelude.{◌≡◌, ◌≤◌, ◌<◌, ℕ, Some, IfSome, IfNone};
+ghost use Rattle.std.specs.Prelude.{◌≤◌, ◌<◌, ℕ, IfSome, IfNone};
 ghost use Rattle.table_schema.specs.declared.table.TableId.TheVariants.{TypeDef, TypeRef, NestedClass};
-ghost use Rattle.metadata.specs.Cell.{Ref};
-ghost use Rattle.metadata.specs.Metadata.{Metadata, cell_in};
-ghost use Rattle.navigation.specs.Nesting.{type_token, IsNesting, IsFirstNesting, IsEnclosed, IsScope};
+ghost use Rattle.metadata.specs.Metadata.{Metadata};
+ghost use Rattle.navigation.specs.Nesting.{IsNesting, IsFirstNesting, IsEnclosed, IsScope};
 
 use crate::cells;
 use metadata_source::{ReadCells, rows_by_key};
@@ -15,8 +14,7 @@ const ENCLOSING: usize = 1;
 fn first_nesting<S: ReadCells>(source: &S, row: u32) -> Option<u32>
     ensures sound { (model : Metadata) → S.shows source.now model → IfSome result (IsFirstNesting model row) }
     ensures none { (model : Metadata) → S.shows source.now model → IfNone result ((nesting : ℕ) → ¬ IsNesting model row nesting) }
-    ensures first { IfSome result (λ nesting. 1 ≤ nesting) }
-    ensures last { IfSome result (λ nesting. nesting ≤ S.row_count source.now NestedClass) }
+    ensures there { IfSome result (λ nesting. (1 ≤ nesting) × (nesting ≤ S.row_count source.now NestedClass)) }
 {
     source.holds_one();
     let nested = Token {
@@ -27,27 +25,12 @@ fn first_nesting<S: ReadCells>(source: &S, row: u32) -> Option<u32>
     nestings.next()
 }
 
-/// The type that encloses the nested type of a row of NestedClass.
-#[tactic(auto, unfolding(table_schema::specs::CellColumns::cell_columns))]
-fn enclosing_in<S: ReadCells>(source: &S, nesting: u32) -> u32
-    requires first { 1 ≤ nesting }
-    requires last { nesting ≤ S.row_count source.now NestedClass }
-    ensures cell { (model : Metadata) → S.shows source.now model → cell_in model NestedClass nesting 1 ≡ Ref (Some (type_token result)) }
-    ensures first { 1 ≤ result }
-    ensures last { result ≤ S.row_count source.now TypeDef }
-{
-    source.holds_one();
-    match cells::reference(source, TableId::NestedClass, nesting, ENCLOSING) {
-        Some(outer) => outer.row,
-        None => unreachable!(),
-    }
-}
-
 /// The type that encloses a nested type, as a row of TypeDef (II.22.32); `None` if the type is not nested.
 ///
 /// It comes before the nested type, so that a chain of enclosing types ends. A chain may be as long as the table. If more
 /// than one row of NestedClass has the type, it is that of the first. The row is found by binary search if the table is
 /// in order. Otherwise each row is looked at.
+#[tactic(auto, unfolding(table_schema::specs::CellColumns::cell_columns))]
 pub fn enclosing_type<S: ReadCells>(source: &S, row: u32) -> Option<u32>
     ensures sound { (model : Metadata) → S.shows source.now model → IfSome result (IsEnclosed model row) }
     ensures none { (model : Metadata) → S.shows source.now model → IfNone result ((nesting : ℕ) → ¬ IsNesting model row nesting) }
@@ -57,7 +40,7 @@ pub fn enclosing_type<S: ReadCells>(source: &S, row: u32) -> Option<u32>
 {
     source.holds_one();
     match first_nesting(source, row) {
-        Some(nesting) => Some(enclosing_in(source, nesting)),
+        Some(nesting) => Some(cells::type_row(source, TableId::NestedClass, nesting, ENCLOSING)),
         None => None,
     }
 }

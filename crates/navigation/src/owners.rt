@@ -1,5 +1,5 @@
 ghost use Rattle.std.specs.Prelude.{◌≡◌, ◌≤◌, ◌<◌, ℕ};
-ghost use Rattle.table_schema.specs.declared.table.TableId.TheVariants.{MethodDef, Field, Param, Event, Property};
+ghost use Rattle.table_schema.specs.declared.table.TableId.TheVariants.{TypeDef, MethodDef, Field, Param, Event, Property};
 ghost use Rattle.metadata_source.specs.declared.member_lists.MemberList.TheVariants as list_of;
 ghost use Rattle.metadata.specs.Metadata.{Metadata};
 ghost use Rattle.metadata_source.specs.MemberLists.{owner_of, member_of};
@@ -38,6 +38,8 @@ pub fn type_of_field<S: ReadMetadata>(source: &S, row: u32) -> u32
     requires last { row ≤ S.row_count source.now Field }
     ensures sound { (model : Metadata) → S.shows source.now model → Owns model list_of.Fields result row }
     ensures one { (model : Metadata) → S.shows source.now model → (class : ℕ) → Owns model list_of.Fields class row → class ≡ result }
+    ensures first { 1 ≤ result }
+    ensures last { result ≤ S.row_count source.now TypeDef }
 {
     owner(source, MemberList::Fields, row)
 }
@@ -50,6 +52,8 @@ pub fn type_of_method<S: ReadMetadata>(source: &S, row: u32) -> u32
     requires last { row ≤ S.row_count source.now MethodDef }
     ensures sound { (model : Metadata) → S.shows source.now model → Owns model list_of.Methods result row }
     ensures one { (model : Metadata) → S.shows source.now model → (class : ℕ) → Owns model list_of.Methods class row → class ≡ result }
+    ensures first { 1 ≤ result }
+    ensures last { result ≤ S.row_count source.now TypeDef }
 {
     owner(source, MemberList::Methods, row)
 }
@@ -62,6 +66,8 @@ pub fn method_of_param<S: ReadMetadata>(source: &S, row: u32) -> u32
     requires last { row ≤ S.row_count source.now Param }
     ensures sound { (model : Metadata) → S.shows source.now model → Owns model list_of.Params result row }
     ensures one { (model : Metadata) → S.shows source.now model → (method : ℕ) → Owns model list_of.Params method row → method ≡ result }
+    ensures first { 1 ≤ result }
+    ensures last { result ≤ S.row_count source.now MethodDef }
 {
     owner(source, MemberList::Params, row)
 }

@@ -1,38 +1,21 @@
-//! The starts in a list of members, read in one pass.
+//! The starts in a list of members, and the keys of NestedClass, read in one pass.
 ghost use Rattle.std.specs.Prelude.{◌≡◌, IfOk};
-ghost use Rattle.navigation.specs.Starts.{AreStarts};
+ghost use Rattle.navigation.specs.Starts.{AreNestedKeys, AreStarts};
 
 use metadata_source::MemberList;
-use opening::{CellCursor, ReadCells, View};
+use opening::{CellCursor, ReadMetadata, View};
 use std::alloc::{AllocError, Global};
+use table_schema::TableId;
 
-/// Whether a start in a list is null: its cell is 0.
-fn has_null(view: &View<'_>, list: MemberList) -> bool {
-    let (owner, cell) = (list.owner(), list.cell());
-    for row in 1..view.count(owner) + 1 {
-        if view.index_in_heap(owner, row, cell) == Some(0) {
-            return true;
-        }
-    }
-    false
-}
+/// The cell of the nested type, the key of NestedClass (II.22.32).
+pub(crate) const NESTED: usize = 0;
 
-/// The starts in a list, or none if no start is null.
+/// The starts of all owners in a list.
 pub(crate) fn starts_of(
     alloc: Global,
     view: &View<'_>,
     list: MemberList,
 ) -> Result<Vec<u32>, AllocError>
-    ensures { IfOk result (λ starts. AreStarts view.now list starts.items) }
-{
-    if !has_null(view, list) {
-        return Ok(Vec::new(alloc));
-    }
-    all_starts(alloc, view, list)
-}
-
-/// The starts of all owners in a list.
-fn all_starts(alloc: Global, view: &View<'_>, list: MemberList) -> Result<Vec<u32>, AllocError>
     ensures { IfOk result (λ starts. AreStarts view.now list starts.items) }
 {
     let owners = view.count(list.owner());
@@ -43,4 +26,17 @@ fn all_starts(alloc: Global, view: &View<'_>, list: MemberList) -> Result<Vec<u3
         starts.push(run.start)?;
     }
     Ok(starts)
+}
+
+/// The key numbers of NestedClass (II.22.32), in the order of its rows.
+#[tactic(auto, unfolding(table_schema::specs::CellColumns::cell_columns))]
+pub(crate) fn nested_keys(alloc: Global, view: &View<'_>) -> Result<Vec<u32>, AllocError>
+    ensures { IfOk result (λ keys. AreNestedKeys view.now keys.items) }
+{
+    let count = view.count(TableId::NestedClass);
+    let mut keys = Vec::with_capacity(alloc, count as usize)?;
+    for earlier in 0..count {
+        keys.push(view.key(TableId::NestedClass, earlier + 1, NESTED))?;
+    }
+    Ok(keys)
 }

@@ -1,18 +1,14 @@
 -- Where a resource is, by what was found of the directory and of its row.
 use Rattle.std.proofs.Common.{◌≡◌, ◌≤◌, ℕ, ◌+◌, List, Option, Some, None, Bool, length, arith, subst}
-use Rattle.std.proofs.Math.Logic.{∥∥₁_elim}
-use Rattle.std.specs.Coded.{le_prop}
 use Rattle.std.specs.Prelude.{IfSome, IsSomeAnd}
 use Rattle.packed.specs.Fields.{Field, StandAt, AllSay, widths}
 use Rattle.pe.specs.Headers.{image_of}
 use Rattle.pe.specs.Image.{Image, IsImage}
 use Rattle.cli_header.specs.declared.header.CliHeader.{CliHeader}
-use Rattle.table_schema.specs.declared.table.TableId.{TableId}
 use Rattle.table_schema.specs.declared.table.TableId.TheVariants.{ManifestResource}
 use Rattle.table_schema.specs.declared.token.Token.{Token}
 use Rattle.metadata.specs.Cell.{Number, Ref}
-use Rattle.metadata.specs.Metadata.{Metadata, cell_in, count_in}
-use Rattle.metadata.specs.Valid.{MayRefer}
+use Rattle.metadata.specs.Metadata.{Metadata, cell_in}
 use Rattle.resources.specs.Resources.{IsContent, IsDirectory, IsLocation, IsStored, Where, here, elsewhere}
 use Rattle.resources.specs.declared.directory.Content.{Content}
 use Rattle.resources.specs.declared.directory.Directory.{Directory}
@@ -74,14 +70,3 @@ module _ (file : List ℕ) (header : CliHeader) (model : Metadata) (row : ℕ) w
         let P : ℕ → Type 0 = λ r. IsStored file header r at other in
         none at other (subst P same is.3)
     nowhere none (elsewhere of) is = absurd cc
-
--- a model has these numbers of rows, and may have this reference
-abbrev pub Refers : (TableId → ℕ) → Token → Type 0
-Refers rows of = (model : Metadata) × ((table : TableId) → count_in model table ≡ rows table) × ((nullable : Bool) × MayRefer model nullable (Ref (Some of)))
-
--- a reference in a cell is to a row that exists
-pub referred : (rows : TableId → ℕ) (of : Token) → ∥ Refers rows of ∥₁ → (1 ≤ of.row) × (of.row ≤ rows of.table)
-referred rows of some = (
-  ∥∥₁_elim some le_prop (λ it. it.2.1.0),
-  ∥∥₁_elim some le_prop (λ it. let count = it.1 of.table in let within = it.2.1.1 in omega (arith, count, within)),
-)

@@ -8,7 +8,6 @@ ghost use Rattle.resources.specs.Resources.{IsDirectoryOf, IsLocation, IsStored,
 ghost use Rattle.table_schema.specs.declared.table.TableId.TheVariants.{ManifestResource};
 
 use crate::directory::{Content, Directory};
-use metadata_source::ReadMetadata;
 use navigation::cells;
 use opening::{TableId, Token, View};
 
@@ -66,7 +65,6 @@ pub fn location_of<'a>(
         → (location : Where) → IsLocation file header model row location → IsOkAnd result (λ found. seen found ≡ location) }
     ensures there { IfOk result (λ location. IsThere (row_count view.now) (seen location)) }
 {
-    view.holds_one();
     match cells::reference(view, TableId::ManifestResource, row, IMPLEMENTATION) {
         Some(token) => Ok(Location::Elsewhere(token)),
         None => {

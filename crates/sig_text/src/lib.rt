@@ -3,7 +3,7 @@
 //! [`write_signature`] reads the bytes of a blob and passes the text to a [`TextSink`], word by word. The sink
 //! writes the names of tokens, because only its owner knows them. [`NamedText`] is a sink that writes to any
 //! `fmt::Write`. [`write_declaration`] writes a method or a property with its name and the flags and the names of its
-//! parameters, and a field with its name.
+//! parameters, and a field with its name. [`element_name`] is the name of a type that is encoded as one byte.
 //! The recursion is as deep as types nest, at most 128.
 //!
 //! The text of a signature is the definition `text_of` in `specs/SignatureText.antt`. It is proved that a sink receives
@@ -34,4 +34,5 @@ pub use declared::{MethodSink, write_declaration};
 pub use named::{NamedText, TokenNames};
 pub use sink::TextSink;
 pub use table_schema::{SigKind, Token};
+pub use types::element_name;
 pub use whole::{write_encoded, write_signature};

@@ -16,7 +16,7 @@ use sig_grammar::{CallingConvention, Element};
 
 /// The name of a type that is encoded as one byte (II.7.1).
 #[tactic(auto, unfolding(crate::specs::SignatureText::element_text))]
-fn element_name(element: Element) -> &'static str
+pub fn element_name(element: Element) -> &'static str
     ensures { result.now ≡ element_text element }
 {
     match element {

@@ -5,12 +5,12 @@ use Rattle.attribute_constructors.proofs.enums.underlying_type.Goals as goal
 
 pub returns-then-not-is_enum : goal.returns-then-not-is_enum
 returns-then-not-is_enum c = λ model is.
-    no_enum model c.args.row c.reference-base.result (c.reference-base.ensures model is) (sym (c.is_enum.ensures model is) ∙ c.if-not-is_enum.true)
+    no_enum model c.args.row c.reference-base.result (c.reference-base.ensures.value model is) (sym (c.is_enum.ensures model is) ∙ c.if-not-is_enum.true)
 
 pub returns : goal.returns
 returns c = λ model is.
     let rows = c.holds_one.ensures.rows model is TypeDef in
     let last = c.requires.last in
     c.instance_type.ensures model is
-    ∙ enum_run model c.args.row c.reference-base.result (c.reference-base.ensures model is) (sym (c.is_enum.ensures model is) ∙ c.if-not-is_enum.false)
+    ∙ enum_run model c.args.row c.reference-base.result (c.reference-base.ensures.value model is) (sym (c.is_enum.ensures model is) ∙ c.if-not-is_enum.false)
     c.fields_of-fields.result.start c.fields_of-fields.result.end (omega (arith, rows, last)) (c.fields_of-fields.ensures model is)

@@ -4,9 +4,9 @@ use Rattle.table_schema.specs.CellColumns.{cell_columns}
 use Rattle.metadata.specs.Lookups.{HasRow}
 use Rattle.metadata.specs.Metadata.{cell_in}
 use Rattle.opening.specs.Views.{row_count}
+use Rattle.full_names.proofs.PieceLemmas.{method_in, on_wrote}
 use Rattle.declarations.specs.Declarations.{IsDeclaration}
 use Rattle.c_texts.specs.RowTexts.{IsMethodDeclaration}
-use Rattle.c_texts.proofs.RowTextLemmas.{method_in, on_wrote}
 use Rattle.c_texts.proofs.row_text.write_method.Goals as goal
 
 pub returns : goal.returns

@@ -5,9 +5,9 @@ use Rattle.sig_text.specs.Declares.{as_method}
 use Rattle.metadata.specs.Lookups.{HasRow}
 use Rattle.metadata.specs.Metadata.{cell_in}
 use Rattle.opening.specs.Views.{row_count}
+use Rattle.full_names.proofs.PieceLemmas.{on_wrote, property_in}
 use Rattle.declarations.specs.Declarations.{IsPropertyDeclaration}
 use Rattle.c_texts.specs.RowTexts.{IsDeclaredProperty}
-use Rattle.c_texts.proofs.RowTextLemmas.{on_wrote, property_in}
 use Rattle.c_texts.proofs.row_text.write_property.Goals as goal
 
 pub returns : goal.returns

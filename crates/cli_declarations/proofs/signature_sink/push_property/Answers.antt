@@ -1,16 +1,14 @@
 use Rattle.std.proofs.Common.{string_bytes, ◌∙◌, ◌++◌, List, ℕ, length, ap, refl, sym, arith}
 use Rattle.table_schema.specs.declared.table.TableId.TheVariants.{Property}
-use Rattle.table_schema.specs.declared.column.SigKind.TheVariants as kind
 use Rattle.table_schema.specs.CellColumns.{cell_columns}
 use Rattle.metadata.specs.Lookups.{HasRow}
 use Rattle.metadata.specs.Metadata.{cell_in}
 use Rattle.opening.specs.Views.{row_count}
-use Rattle.full_names.proofs.PieceLemmas.{signature_of}
+use Rattle.full_names.proofs.PieceLemmas.{property_in}
 use Rattle.cli_declarations.specs.Parts.{cut_text}
 use Rattle.cli_declarations.specs.declared.declared.Declared.{Declared}
 use Rattle.cli_declarations.proofs.PieceLemmas.{on_ok}
 use Rattle.cli_declarations.proofs.TextLemmas.{text_cut}
-use Rattle.cli_declarations.proofs.WriterLemmas.{property_in}
 use Rattle.cli_declarations.proofs.signature_sink.push_property.Goals as goal
 
 pub returns-in-Ok : goal.returns-in-Ok
@@ -21,8 +19,7 @@ returns-in-Ok c = λ model is.
     let there : HasRow model Property c.args.row = (c.requires.first, omega (arith, count, last)) in
     let cell = cell_in model Property c.args.row 2 in
     let valid = (c.models_of_roots_are_valid.ensures c.args.source.now.view.now model is).cells Property c.args.row 2 there (omega arith) in
-    let of = signature_of kind.Property cell valid.of_kind in
-    let form = property_in cell valid.held of.0 of.1 in
+    let form = property_in cell valid.of_kind valid.held in
     let wrote = c.in-Ok.ensures.text model is form.0 form.1 form.2 form.3 in
     let bytes : Declared → List ℕ = λ w. string_bytes w.text in
     let left : Declared → ℕ = λ w. w.left in

@@ -7,9 +7,9 @@ use Rattle.cli_info.proofs.attributes.print_constructed.Goals as goal
 pub returns-in-Some : goal.returns-in-Some
 returns-in-Some g c = λ model is.
     subst (λ (class : Option Token). Prints c.args.out.now c.print_typed.new.out (lines_of_items model class (Some c.args.items)))
-    (sym c.in-Some.is ∙ c.type_of.ensures.of model is) (c.print_typed.ensures model is)
+    (sym c.in-Some.is ∙ c.type_of.ensures.value model is) (c.print_typed.ensures model is)
 
 pub returns-in-None : goal.returns-in-None
 returns-in-None g c = λ model is.
     subst (λ (class : Option Token). Prints c.args.out.now c.args.out.now (lines_of_items model class (Some c.args.items)))
-    (sym c.in-None.is ∙ c.type_of.ensures.of model is) (c.lines_follow.ensures.nothing c.args.out.now)
+    (sym c.in-None.is ∙ c.type_of.ensures.value model is) (c.lines_follow.ensures.nothing c.args.out.now)

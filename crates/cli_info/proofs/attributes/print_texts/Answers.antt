@@ -1,5 +1,5 @@
 use Rattle.std.proofs.Common.{◌∙◌, List, Option, ap, subst}
-use Rattle.cli_info.specs.Constructors.{type_of}
+use Rattle.attribute_constructors.specs.Constructors.{type_of}
 use Rattle.attribute_values.specs.Items.{Item}
 use Rattle.cli_lines.specs.Lines.{Part}
 use Rattle.cli_lines.specs.Printed.{Prints}

@@ -1,5 +1,5 @@
 use Rattle.std.proofs.Common.{◌∙◌, List, Option, Some, ap, subst}
-use Rattle.cli_info.specs.Constructors.{type_of}
+use Rattle.attribute_constructors.specs.Constructors.{type_of}
 use Rattle.std.specs.Prelude.{option_and_then}
 use Rattle.attribute_values.specs.declared.types.ArgumentType.{ArgumentType}
 use Rattle.cli_lines.specs.Lines.{Part}

@@ -4,8 +4,8 @@ use Rattle.table_schema.specs.declared.table.TableId.TheVariants.{Module}
 use Rattle.metadata.specs.Metadata.{cell_in, count_in}
 use Rattle.cli_lines.specs.Lines.{Part}
 use Rattle.cli_lines.specs.Printed.{Prints}
-use Rattle.cli_declarations.specs.Parts.{text_of}
-use Rattle.cli_info.specs.InfoLines.{guid_of, module_line}
+use Rattle.cli_declarations.specs.Parts.{guid_of, text_of}
+use Rattle.cli_info.specs.InfoLines.{module_line}
 use Rattle.cli_info.proofs.info.print_module.Goals as goal
 
 pub returns-then-count-gt0 : goal.returns-then-count-gt0
@@ -16,7 +16,7 @@ returns-then-count-gt0 g c = λ model is.
     let line = module_line (text_of (cell_in model Module 1 1)) (guid_of (cell_in model Module 1 2)) in
     subst (λ (lines : List (List Part)). Prints c.args.out.now c.line.new.self lines) (sym (ap (λ t. cond t (line ∷ []) []) some))
     (subst (λ (of : List Part). Prints c.args.out.now c.line.new.self (of ∷ []))
-    (λ i. module_line (c.text-name.ensures model is i) (c.mvid_of.ensures model is i)) c.line.ensures)
+    (λ i. module_line (c.text-name.ensures model is i) (c.guid-mvid.ensures model is i)) c.line.ensures)
 
 pub returns-else-count-gt0 : goal.returns-else-count-gt0
 returns-else-count-gt0 g c = λ model is.

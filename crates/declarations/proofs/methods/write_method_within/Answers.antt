@@ -1,16 +1,12 @@
-use Rattle.std.proofs.Common.{arith, subst, inl}
+use Rattle.std.proofs.Common.{arith, refl, inl}
 use Rattle.table_schema.specs.declared.table.TableId.TheVariants.{MethodDef}
 use Rattle.table_schema.specs.declared.column.SigKind.TheVariants as kind
-use Rattle.table_schema.specs.declared.column.ColumnKind.TheVariants as column
 use Rattle.table_schema.specs.CellColumns.{cell_columns}
 use Rattle.sig_grammar.specs.Syntax.{method_body}
 use Rattle.sig_grammar.specs.Encodes.{Encodes}
-use Rattle.metadata.specs.Cell.{Cell}
-use Rattle.metadata.specs.Kinds.{IsHeld}
 use Rattle.metadata.specs.Lookups.{HasRow}
-use Rattle.metadata.specs.Metadata.{cell_in}
 use Rattle.declarations.specs.Declarations.{IsDeclaration}
-use Rattle.full_names.proofs.PieceLemmas.{encoded_in, held_in, on_wrote}
+use Rattle.full_names.proofs.PieceLemmas.{encoded_by, on_wrote}
 use Rattle.declarations.proofs.ClassNames.{type_named}
 use Rattle.declarations.proofs.methods.write_method_within.Goals as goal
 
@@ -21,9 +17,8 @@ returns g c = record {
       let rows = c.holds_one.ensures.rows model shown MethodDef in
       let last = c.requires.last in
       let there : HasRow model MethodDef c.args.row = (c.requires.first, omega (arith, rows, last)) in
-      let held = held_in kind.MethodDef (method_body method) (subst (λ (x : Cell). IsHeld (column.Signature kind.MethodDef) x) is ((c.holds_one.ensures.valid model shown).cells MethodDef c.args.row 4 there (omega arith)).held) in
-      let encodes = encoded_in kind.MethodDef c.in_ok-bytes.bytes (cell_in model MethodDef c.args.row 4) (method_body method) (λ other h e. c.shortest_encodes.ensures kind.MethodDef other h e) (c.in_ok-bytes.ensures model shown) is held.0 held.1 in
-      let bytes : Encodes kind.MethodDef (method_body method) c.bytes_of.result.now = rw c.bytes_of.ensures encodes in
+      let bytes : Encodes kind.MethodDef (method_body method) c.bytes_of.result.now = rw c.bytes_of.ensures
+      (encoded_by model (c.holds_one.ensures.valid model shown) kind.MethodDef (c.shortest_encodes.ensures kind.MethodDef) MethodDef c.args.row 4 there (omega arith) refl c.in_ok-bytes.bytes (c.in_ok-bytes.ensures model shown) (method_body method) is) in
       let of = type_named model (c.holds_one.ensures.valid model shown) c.type_of_method.result in
       on_wrote g.W.Write.write_str_gives _ (IsDeclaration model c.args.row method) _ _ c.write_declared.result (c.write_declared.ensures model shown (method_body method) (inl bytes) of.0 of.1)
       (λ text pieces. record {

@@ -1,17 +1,13 @@
-use Rattle.std.proofs.Common.{arith, refl, subst, inl, inr}
+use Rattle.std.proofs.Common.{arith, refl, inl, inr}
 use Rattle.table_schema.specs.declared.table.TableId.TheVariants.{Property}
 use Rattle.table_schema.specs.declared.column.SigKind.TheVariants as kind
-use Rattle.table_schema.specs.declared.column.ColumnKind.TheVariants as column
 use Rattle.table_schema.specs.CellColumns.{cell_columns}
 use Rattle.sig_grammar.specs.Syntax.{property}
 use Rattle.sig_grammar.specs.Encodes.{Encodes}
 use Rattle.sig_text.specs.Declares.{as_method}
-use Rattle.metadata.specs.Cell.{Cell}
-use Rattle.metadata.specs.Kinds.{IsHeld}
 use Rattle.metadata.specs.Lookups.{HasRow}
-use Rattle.metadata.specs.Metadata.{cell_in}
 use Rattle.declarations.specs.Declarations.{IsPropertyDeclaration}
-use Rattle.full_names.proofs.PieceLemmas.{encoded_in, held_in, on_wrote}
+use Rattle.full_names.proofs.PieceLemmas.{encoded_by, on_wrote}
 use Rattle.declarations.proofs.ClassNames.{type_named}
 use Rattle.declarations.proofs.methods.write_property_within.Goals as goal
 
@@ -22,9 +18,8 @@ returns g c = record {
       let rows = c.holds_one.ensures.rows model shown Property in
       let last = c.requires.last in
       let there : HasRow model Property c.args.row = (c.requires.first, omega (arith, rows, last)) in
-      let held = held_in kind.Property (property this of params) (subst (λ (x : Cell). IsHeld (column.Signature kind.Property) x) is ((c.holds_one.ensures.valid model shown).cells Property c.args.row 2 there (omega arith)).held) in
-      let encodes = encoded_in kind.Property c.in_ok-bytes.bytes (cell_in model Property c.args.row 2) (property this of params) (λ other h e. c.shortest_encodes.ensures kind.Property other h e) (c.in_ok-bytes.ensures model shown) is held.0 held.1 in
-      let bytes : Encodes kind.Property (property this of params) c.bytes_of.result.now = rw c.bytes_of.ensures encodes in
+      let bytes : Encodes kind.Property (property this of params) c.bytes_of.result.now = rw c.bytes_of.ensures
+      (encoded_by model (c.holds_one.ensures.valid model shown) kind.Property (c.shortest_encodes.ensures kind.Property) Property c.args.row 2 there (omega arith) refl c.in_ok-bytes.bytes (c.in_ok-bytes.ensures model shown) (property this of params) is) in
       let map = c.type_of_property.ensures.sound model shown in
       let type = type_named model (c.holds_one.ensures.valid model shown) c.type_of_property.result in
       on_wrote g.W.Write.write_str_gives _ (IsPropertyDeclaration model c.args.row (as_method this of params)) _ _ c.write_declared.result

@@ -1,15 +1,12 @@
-use Rattle.std.proofs.Common.{arith, refl, subst, inl}
+use Rattle.std.proofs.Common.{arith, refl, inl}
 use Rattle.table_schema.specs.declared.table.TableId.TheVariants.{MethodDef}
 use Rattle.table_schema.specs.declared.column.SigKind.TheVariants as kind
-use Rattle.table_schema.specs.declared.column.ColumnKind.TheVariants as column
 use Rattle.table_schema.specs.CellColumns.{cell_columns}
 use Rattle.sig_grammar.specs.Encodes.{Encodes}
-use Rattle.metadata.specs.Cell.{Cell}
-use Rattle.metadata.specs.Kinds.{IsHeld}
 use Rattle.metadata.specs.Lookups.{HasRow}
 use Rattle.metadata.specs.Metadata.{cell_in}
 use Rattle.declarations.specs.Declarations.{IsReferenceBy}
-use Rattle.full_names.proofs.PieceLemmas.{encoded_in, held_in, on_wrote, signature_of}
+use Rattle.full_names.proofs.PieceLemmas.{encoded_by, on_wrote, signature_of}
 use Rattle.declarations.proofs.ClassNames.{type_named}
 use Rattle.declarations.proofs.references.write_method_reference.Goals as goal
 
@@ -21,9 +18,8 @@ returns g c = λ model shown.
     let there : HasRow model MethodDef c.args.row = (c.requires.first, omega (arith, rows, last)) in
     let cell = (c.holds_one.ensures.valid model shown).cells MethodDef c.args.row 4 there (omega arith) in
     let one = signature_of kind.MethodDef (cell_in model MethodDef c.args.row 4) cell.of_kind in
-    let held = held_in kind.MethodDef one.0 (subst (λ (x : Cell). IsHeld (column.Signature kind.MethodDef) x) one.1 cell.held) in
-    let encodes = encoded_in kind.MethodDef c.in_ok-bytes.bytes (cell_in model MethodDef c.args.row 4) one.0 (λ other h e. c.shortest_encodes.ensures kind.MethodDef other h e) (c.in_ok-bytes.ensures model shown) one.1 held.0 held.1 in
-    let bytes : Encodes kind.MethodDef one.0 c.bytes_of.result.now = rw c.bytes_of.ensures encodes in
+    let bytes : Encodes kind.MethodDef one.0 c.bytes_of.result.now = rw c.bytes_of.ensures
+    (encoded_by model (c.holds_one.ensures.valid model shown) kind.MethodDef (c.shortest_encodes.ensures kind.MethodDef) MethodDef c.args.row 4 there (omega arith) refl c.in_ok-bytes.bytes (c.in_ok-bytes.ensures model shown) one.0 one.1) in
     let of = type_named model (c.holds_one.ensures.valid model shown) c.type_of_method.result in
     on_wrote g.W.Write.write_str_gives _ (IsReferenceBy model MethodDef c.args.row 3 4) _ _ c.write_declared.result (c.write_declared.ensures model shown one.0 (inl bytes) of.0 of.1)
     (λ text pieces. (

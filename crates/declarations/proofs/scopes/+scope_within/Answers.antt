@@ -9,4 +9,4 @@ returns-in-Some g t c = λ model shown.
     enclosed_scope model c.args.row c.args.depth c.in-Some.outer c.scope_within.result c.if-depth-eq0.false (c.in-Some.ensures.sound model shown) (c.scope_within.ensures model shown)
 
 pub returns-in-None : goal.returns-in-None
-returns-in-None g t c = λ model shown. outermost model c.args.row c.args.depth c.reference.result c.if-depth-eq0.false (c.in-None.ensures.none model shown) (c.reference.ensures model shown)
+returns-in-None g t c = λ model shown. outermost model c.args.row c.args.depth c.reference.result c.if-depth-eq0.false (c.in-None.ensures.none model shown) (c.reference.ensures.value model shown)

@@ -6,7 +6,7 @@ use Rattle.table_schema.specs.CellColumns.{cell_columns}
 use Rattle.metadata.specs.Cell.{Ref}
 use Rattle.metadata.specs.Lookups.{HasRow}
 use Rattle.metadata.specs.Valid.{MayRefer}
-use Rattle.full_names.proofs.RowNameLemmas.{at_most, parent_there}
+use Rattle.full_names.proofs.RowNameLemmas.{parent_there}
 use Rattle.full_names.proofs.row_names.member_parent.Goals as goal
 
 pub unreachable-requires : goal.unreachable-requires
@@ -16,31 +16,9 @@ unreachable-requires g c = not_there c.holds_one.ensures.shown (λ some.
     let count = c.holds_one.ensures.rows model some.1 MemberRef in
     let last = c.requires.last in
     let there : HasRow model MemberRef c.args.row = (c.requires.first, omega arith) in
-    let refers = parent_there model (c.holds_one.ensures.valid model some.1) c.args.row there c.reference.result (c.reference.ensures model some.1) in
+    let refers = parent_there model (c.holds_one.ensures.valid model some.1) c.args.row there c.reference.result (c.reference.ensures.value model some.1) in
     let null = subst (λ (r : Option Token). MayRefer model false (Ref r)) c.in-None.is refers in
     absurd cc)
 
-pub returns-clause-first : goal.returns-clause-first
-returns-clause-first g c = at_most 1 _ (λ not. not_there c.holds_one.ensures.shown (λ some.
-    let model = some.0 in
-    let count = c.holds_one.ensures.rows model some.1 MemberRef in
-    let last = c.requires.last in
-    let there : HasRow model MemberRef c.args.row = (c.requires.first, omega arith) in
-    let refers = parent_there model (c.holds_one.ensures.valid model some.1) c.args.row there c.reference.result (c.reference.ensures model some.1) in
-    let row : HasRow model c.in-Some.class.table c.in-Some.class.row = subst (λ (r : Option Token). MayRefer model false (Ref r)) c.in-Some.is refers in
-    not row.0))
-
-pub returns-clause-last : goal.returns-clause-last
-returns-clause-last g c = at_most _ _ (λ not. not_there c.holds_one.ensures.shown (λ some.
-    let model = some.0 in
-    let count = c.holds_one.ensures.rows model some.1 MemberRef in
-    let last = c.requires.last in
-    let there : HasRow model MemberRef c.args.row = (c.requires.first, omega arith) in
-    let refers = parent_there model (c.holds_one.ensures.valid model some.1) c.args.row there c.reference.result (c.reference.ensures model some.1) in
-    let row : HasRow model c.in-Some.class.table c.in-Some.class.row = subst (λ (r : Option Token). MayRefer model false (Ref r)) c.in-Some.is refers in
-    let rows = c.holds_one.ensures.rows model some.1 c.in-Some.class.table in
-    let within = row.1 in
-    not (omega (arith, rows, within))))
-
 pub returns-clause-parent : goal.returns-clause-parent
-returns-clause-parent g c = λ model shown. c.reference.ensures model shown ∙ ap (λ (r : Option Token). Ref r) c.in-Some.is
+returns-clause-parent g c = λ model shown. c.reference.ensures.value model shown ∙ ap (λ (r : Option Token). Ref r) c.in-Some.is

@@ -1,9 +1,9 @@
 use Rattle.std.proofs.Common.{◌≡◌, ℕ, ◌≤◌, ◌<◌, ◌+◌, subst, arith}
-use Rattle.std.proofs.lemmas.Grind.{not_there}
+use Rattle.std.proofs.Math.Logic.{∥∥₁_elim}
+use Rattle.std.specs.Coded.{le_prop}
 use Rattle.table_schema.specs.declared.table.TableId.{TableId}
 use Rattle.metadata.specs.Metadata.{count_in}
 use Rattle.metadata_source.specs.MemberLists.{owner_of, member_of}
-use Rattle.navigation.proofs.CellLemmas.{at_most}
 use Rattle.navigation.proofs.OwnerLemmas.{start_of, some_owner, from_one, owns, owns_alone}
 use Rattle.navigation.proofs.owners.owner.Goals as goal
 
@@ -12,13 +12,13 @@ loop-past-init g c =
     let owners : ℕ = g.S.ReadMetadata.row_count c.args.source.now (owner_of c.args.list) in
     let P : TableId → Type 0 = λ t. c.count-past.result ≡ g.S.ReadMetadata.row_count c.args.source.now t in
     let count : c.count-past.result ≡ owners = subst P c.owner.ensures c.count-past.ensures.rows in
-    let some : 1 ≤ owners = at_most 1 owners (λ not. not_there c.holds_one.ensures.shown (λ shown.
+    let some : 1 ≤ owners = ∥∥₁_elim c.holds_one.ensures.shown le_prop (λ shown.
     let model = shown.0 in
     let members = c.holds_one.ensures.rows model shown.1 (member_of c.args.list) in
     let there = c.holds_one.ensures.rows model shown.1 (owner_of c.args.list) in
     let last = c.requires.last in
     let one = some_owner model (c.holds_one.ensures.valid model shown.1) c.args.list c.args.member c.requires.first (omega arith) in
-    not (omega arith))) in
+    omega arith) in
     record {
       first = omega arith;
       ordered = omega arith;

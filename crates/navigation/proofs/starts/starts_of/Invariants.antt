@@ -1,6 +1,6 @@
 use Rattle.std.proofs.Common.{◌≡◌, length}
 use Rattle.navigation.specs.Starts.{AreStarts}
-use Rattle.navigation.proofs.starts.all_starts.Given as goal
+use Rattle.navigation.proofs.starts.starts_of.Given as goal
 
 abbrev pub invariant-loop-earlier : goal.invariant-loop-earlier
 invariant-loop-earlier l = record {

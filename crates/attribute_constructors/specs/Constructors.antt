@@ -5,8 +5,8 @@ use Rattle.table_schema.specs.declared.table.TableId.TheVariants.{MemberRef, Met
 use Rattle.table_schema.specs.declared.token.Token.{Token}
 use Rattle.metadata.specs.Metadata.{Metadata, cell_in, count_in}
 use Rattle.metadata.specs.Valid.{start_in}
+use Rattle.navigation.specs.Cells.{reference_in}
 use Rattle.navigation.specs.Nesting.{type_token}
-use Rattle.attribute_constructors.specs.Signatures.{reference_in}
 
 -- of the first types, this many, the last one whose methods begin at a method or before it: the type that has the method (II.22.37)
 unfoldable pub owner_among : Metadata → ℕ → ℕ → ℕ

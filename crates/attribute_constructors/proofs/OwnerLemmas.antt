@@ -7,7 +7,7 @@ use Rattle.metadata.specs.Metadata.{Metadata, cell_in, count_in}
 use Rattle.metadata.specs.Valid.{IsValid, start_in}
 use Rattle.metadata_source.specs.declared.member_lists.MemberList.TheVariants as list
 use Rattle.navigation.specs.Owners.{Owns}
-use Rattle.cli_info.specs.Constructors.{owner_among, type_of}
+use Rattle.attribute_constructors.specs.Constructors.{owner_among, type_of}
 
 module _ (model : Metadata) (valid : IsValid model) (method owner : ℕ) (owns : Owns model list.Methods owner method) where
   abbrev start : ℕ → ℕ

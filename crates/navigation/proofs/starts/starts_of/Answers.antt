@@ -7,7 +7,7 @@ use Rattle.metadata_source.specs.MemberLists.{owner_of}
 use Rattle.opening.specs.Views.{row_count}
 use Rattle.navigation.specs.Starts.{AreStarts}
 use Rattle.navigation.proofs.StartLemmas.{starts_more}
-use Rattle.navigation.proofs.starts.all_starts.Goals as goal
+use Rattle.navigation.proofs.starts.starts_of.Goals as goal
 
 pub loop-earlier-init : goal.loop-earlier-init
 loop-earlier-init c = record {

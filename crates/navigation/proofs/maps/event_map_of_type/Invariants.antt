@@ -1,8 +1,0 @@
-use Rattle.std.proofs.Common.{ℕ, ◌<◌}
-use Rattle.table_schema.specs.declared.table.TableId.TheVariants.{EventMap}
-use Rattle.metadata.specs.Metadata.{Metadata}
-use Rattle.navigation.specs.Maps.{IsMapOf}
-use Rattle.navigation.proofs.maps.event_map_of_type.Given as goal
-
-abbrev pub invariant-loop-map : goal.invariant-loop-map
-invariant-loop-map g l = (model : Metadata) → g.S.ReadMetadata.shows l.source model → (earlier : ℕ) → earlier < l.map → ¬ IsMapOf model EventMap l.row earlier

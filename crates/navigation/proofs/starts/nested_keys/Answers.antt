@@ -1,0 +1,22 @@
+use Rattle.std.proofs.Common.{◌≡◌, ◌∙◌, ℕ, ◌+◌, List, length, ap, sym, subst, arith}
+use Rattle.std.proofs.lemmas.List.{length_push}
+use Rattle.navigation.specs.Starts.{AreNestedKeys}
+use Rattle.navigation.proofs.StartLemmas.{keys_more}
+use Rattle.navigation.proofs.starts.nested_keys.Goals as goal
+
+pub loop-earlier-init : goal.loop-earlier-init
+loop-earlier-init c = record {
+  long = ap length c.in_ok-keys.ensures.items;
+  are = λ k within. absurd (let none = ap length c.in_ok-keys.ensures.items in omega (arith, within, none));
+}
+
+pub loop-earlier-preserved : goal.loop-earlier-preserved
+loop-earlier-preserved c =
+    let keys = c.loop-earlier.keys.items in
+    let key = c.key.result in
+    let pushed = c.in_ok-push.ensures.items in
+    record {
+      long = ap length pushed ∙ length_push keys key ∙ ap (λ n. n + 1) c.loop-earlier.invariant.long;
+      are = subst (λ (xs : List ℕ). AreNestedKeys c.args.view.now xs) (sym pushed)
+          (keys_more c.args.view.now keys key c.loop-earlier.earlier c.loop-earlier.invariant.long c.loop-earlier.invariant.are (sym c.key.ensures));
+    }

@@ -1,0 +1,9 @@
+use Rattle.std.proofs.Common.{◌≡◌, length}
+use Rattle.navigation.specs.Starts.{AreNestedKeys}
+use Rattle.navigation.proofs.starts.nested_keys.Given as goal
+
+abbrev pub invariant-loop-earlier : goal.invariant-loop-earlier
+invariant-loop-earlier l = record {
+  long : length l.keys.items ≡ l.earlier;
+  are : AreNestedKeys l.view l.keys.items;
+}
