@@ -1,6 +1,7 @@
 -- What a run of the program does with its arguments, and with what reading FILE gave.
-use Rattle.std.specs.Prelude.{◌≡◌, ◌≢◌, ℕ, false, List, ◌⊎◌, map, Option, option_map, Result, Ok, Err, MatchResult}
+use Rattle.std.specs.Prelude.{◌≡◌, ◌≢◌, ℕ, false, List, ◌⊎◌, codes, map, None, Option, option_map, Some, Result, Ok, Err, MatchResult}
 use Rattle.packed.specs.declared.code.FaultCode.{FaultCode}
+use Rattle.std.specs.Borrow.{Bor}
 use Rattle.clap.specs.Words.{IsAmong, Text, fault_of}
 use Rattle.clap.specs.declared.error.kind.ErrorKind.{ErrorKind}
 use Rattle.clap.specs.declared.error.kind.ErrorKind.TheVariants as kind
@@ -38,11 +39,16 @@ status_of_run (Err failure) = status_of failure
 abbrev pub IsExplaining : Form → List FaultCode → Option (List ℕ) → Option (List ℕ) → ℕ → Type 0
 IsExplaining form rules before after status = (result : Result (Unit {0}) Failure) × IsExplained form rules before after result × (status ≡ status_of_run result)
 
+-- the path of a list of files: that of the standard input, if there is no other
+abbrev pub path_of : Option (Bor (List ℕ)) → List ℕ
+path_of None = codes "-"
+path_of (Some path) = path.now
+
 -- what may write to standard error and succeed: `embed`, and a report on what is in directories
 abbrev pub MayWarn : Task → Type 0
 MayWarn (task.Embed file options) = Unit {0}
 MayWarn (task.OnFiles request) = request.directories ≡ Walked
-MayWarn (task.OnList request separator) = request.directories ≡ Walked
+MayWarn (task.OnList request list separator) = request.directories ≡ Walked
 MayWarn _ = ⊥
 
 -- the arguments ask for a task that may warn
@@ -77,7 +83,7 @@ module _ {W : Type 0} (contents : W → Option (List ℕ)) (before after : W) wh
     -- the run of a task, over files of this kind, ends with this exit code
     abbrev pub IsRunOf : {F : Type 0} → (F → Option (List ℕ)) → Task → Ask → ℕ → Type 0
     IsRunOf file_contents (task.OnFiles request) ask status = IsRunOn (request_on terminal ask.subcommand request) contents false before after (map (λ file. file.now) ask.files.items) status
-    IsRunOf file_contents (task.OnList request separator) ask status = IsRunOnList (request_on terminal ask.subcommand request) contents (byte_of separator) before after status
+    IsRunOf file_contents (task.OnList request list separator) ask status = IsRunOnList (request_on terminal ask.subcommand request) contents (path_of list) (byte_of separator) before after status
     IsRunOf file_contents (task.Rewrite file out) ask status =
         EndsWith (λ outcome. IsFileRun before after file.now
         (λ bytes. IsWithin before after ask.budget (input_of ask.bare) bytes (IsRewriting contents file_contents before after (input_of ask.bare) bytes out.now)) outcome

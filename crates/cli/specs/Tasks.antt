@@ -93,17 +93,17 @@ separator_of true = Nul
 separator_of false = LineFeed
 
 -- the task is a report on the files of a list, besides which no file may be given
-abbrev pub list_task_with : Ask → List (Bor (List ℕ)) → Report → Result Task Failure
-list_task_with ask [] of = Ok (task.OnList (request_of ask Named of) (separator_of ask.null))
-list_task_with ask (file ∷ more) of = Err (failed.Usage wrong.FilesAndList)
+abbrev pub list_task_with : Option (Bor (List ℕ)) → Ask → List (Bor (List ℕ)) → Report → Result Task Failure
+list_task_with list ask [] of = Ok (task.OnList (request_of ask Named of) list (separator_of ask.null))
+list_task_with list ask (file ∷ more) of = Err (failed.Usage wrong.FilesAndList)
 
-abbrev pub list_task : Ask → Report → Result Task Failure
-list_task ask of = list_task_with ask ask.files.items of
+abbrev pub list_task : Option (Bor (List ℕ)) → Ask → Report → Result Task Failure
+list_task list ask of = list_task_with list ask ask.files.items of
 
--- the task is a report on the files that the arguments name, or on those of a list, which comes from the standard input alone
+-- the task is a report on the files that the arguments name, or on those of a list: that with this path, or the standard input
 abbrev pub files_task : Option (Bor (List ℕ)) → Ask → Report → Result Task Failure
-files_task None ask of = if ask.null then list_task ask of else named_task ask of
-files_task (Some word) ask of = if bytes_eq word.now (codes "-") then list_task ask of else Err (failed.Usage (wrong.NoList word))
+files_task None ask of = if ask.null then list_task None ask of else named_task ask of
+files_task (Some list) ask of = list_task (Some list) ask of
 
 -- the same; a failure if there is no such report
 abbrev pub report_task : Ask → Result Report Failure → Result Task Failure

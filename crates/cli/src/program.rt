@@ -3,14 +3,14 @@ ghost use Rattle.std.specs.Prelude.{◌≡◌, ◌≤◌, ◌⊎◌, map};
 ghost use Rattle.clap.specs.Words.{kind_of};
 ghost use Rattle.cli_arguments.specs.Asked.{Gives};
 ghost use Rattle.cli_arguments.specs.declared.asked.Ask.{Ask as Asked};
-ghost use Rattle.cli.specs.Runs.{AsksToWarn, Does, IsExplaining, IsRunOf, IsUsage, MayWarn, Ran, form_on, request_on};
+ghost use Rattle.cli.specs.Runs.{AsksToWarn, Does, IsExplaining, IsRunOf, IsUsage, MayWarn, Ran, form_on, path_of, request_on};
 
 use crate::task::{Task, form_of, input_of, task_of};
 use crate::usage_text::usage_text;
 use clap::error::ErrorKind;
 use cli_arguments::{Ask, Subcommand, ask};
 use cli_faults::printed;
-use cli_files::{Stopped, out_of_memory, status};
+use cli_files::{STANDARD_INPUT, Stopped, out_of_memory, status};
 use cli_lines::Form;
 use cli_roots::{compare_files, embed_file, rewrite_file};
 use cli_runs::{Request, explain_rules, extract_file, run_files, run_listed};
@@ -20,7 +20,7 @@ use std::io::{self, Write};
 use std::rt::Files;
 
 /// What a terminal reads.
-#[derive(Clone, Copy, Debug, PartialEq, Eq)]
+#[derive(Clone, Copy, PartialEq, Eq)]
 pub enum Terminal {
     /// Printable ASCII.
     Ascii,
@@ -166,9 +166,9 @@ fn run_task<R: Files + Input + AllocGlobal, W: Write, E: Write>(
             let request = request_on(terminal, ask.subcommand, request);
             run_files(rt, &request, ask.files.as_slice(), out, err)
         }
-        Task::OnList(request, separator) => {
+        Task::OnList(request, list, separator) => {
             let request = request_on(terminal, ask.subcommand, request);
-            run_listed(rt, &request, separator, out, err)
+            run_listed(rt, &request, path_of(list), separator, out, err)
         }
         Task::Rewrite(file, path) => {
             let outcome = rewrite_file(rt, path, file, input_of(ask.bare), ask.budget, out);
@@ -185,6 +185,16 @@ fn run_task<R: Files + Input + AllocGlobal, W: Write, E: Write>(
             status(alloc, compare_files(rt, file, other, &options, out), err)
         }
         Task::Explain(rules) => explain(alloc, rules.as_slice(), form_of(ask.json), out, err),
+    }
+}
+
+/// The path of a list of files: that of the standard input, if there is no other.
+fn path_of(list: Option<&str>) -> &str
+    ensures { result.now ≡ path_of list.entry }
+{
+    match list {
+        Some(path) => path,
+        None => STANDARD_INPUT,
     }
 }
 

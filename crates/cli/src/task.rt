@@ -6,7 +6,6 @@ use crate::columns::columns_of;
 use cli_arguments::{Ask, Subcommand};
 use cli_cells::Names;
 use cli_faults::{Failure, UsageError};
-use cli_files::STANDARD_INPUT;
 use cli_input::Input;
 use cli_lines::Form;
 use cli_names::{code_of, offset_of, table_of, token_of, type_row_of};
@@ -27,8 +26,8 @@ const STANDARD_OUTPUT: &str = "-";
 pub(crate) enum Task<'a> {
     /// Report on the files that the arguments name.
     OnFiles(Request<'a>),
-    /// Report on the files that the standard input lists, with this after each name.
-    OnList(Request<'a>, Separator),
+    /// Report on the files of the list with this path, or of the standard input, with this after each name.
+    OnList(Request<'a>, Option<&'a str>, Separator),
     /// Write the canonical root of a file to the path after it.
     Rewrite(&'a str, &'a str),
     /// Write a copy of a file with its canonical root, or with another.
@@ -114,7 +113,7 @@ fn request_of<'a>(ask: &Ask<'_>, naming: Naming, report: Report<'a>) -> Request<
     }
 }
 
-/// The task of a report on the files that the arguments name, or on those that the standard input lists.
+/// The task of a report on the files that the arguments name, or on those of a list.
 fn on_files<'a>(
     ask: &'a Ask<'a>,
     report: Result<Report<'a>, Failure<'a>>,
@@ -123,9 +122,8 @@ fn on_files<'a>(
 {
     match report {
         Ok(report) => match ask.files_from {
-            Some(source) if source == STANDARD_INPUT => on_list(ask, report),
-            Some(source) => Err(Failure::Usage(UsageError::NoList(source))),
-            None if ask.null => on_list(ask, report),
+            Some(path) => on_list(ask, Some(path), report),
+            None if ask.null => on_list(ask, None, report),
             None => on_named(ask, report),
         },
         Err(failure) => Err(failure),
@@ -145,13 +143,17 @@ fn on_named<'a>(ask: &'a Ask<'a>, report: Report<'a>) -> Result<Task<'a>, Failur
     }
 }
 
-/// The task of a report on the files that the standard input lists. No file may be named besides.
-fn on_list<'a>(ask: &'a Ask<'a>, report: Report<'a>) -> Result<Task<'a>, Failure<'a>>
-    ensures { result ≡ list_task ask.now report.entry }
+/// The task of a report on the files of a list. No file may be named besides.
+fn on_list<'a>(
+    ask: &'a Ask<'a>,
+    list: Option<&'a str>,
+    report: Report<'a>,
+) -> Result<Task<'a>, Failure<'a>>
+    ensures { result ≡ list_task list.entry ask.now report.entry }
 {
     if ask.files.is_empty() {
         let request = request_of(ask, Naming::Named, report);
-        Ok(Task::OnList(request, separator_of(ask.null)))
+        Ok(Task::OnList(request, list, separator_of(ask.null)))
     } else {
         Err(Failure::Usage(UsageError::FilesAndList))
     }

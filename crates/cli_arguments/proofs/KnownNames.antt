@@ -25,13 +25,13 @@ unfolding clap_on_literals
 all_known = refl
 
 -- what is found passes the test, and what all elements pass
-found_passes : (p q : Shape → Bool) (subs : List Shape) (s : Shape) → find p subs ≡ Some s → list_all q subs ≡ true → (p s ≡ true) × (q s ≡ true)
+pub found_passes : {X : Type 0} (p q : X → Bool) (among : List X) (s : X) → find p among ≡ Some s → list_all q among ≡ true → (p s ≡ true) × (q s ≡ true)
 found_passes p q [] s found all = cc
-found_passes p q (x ∷ xs) s found all = go (p x) (q x) refl refl found all (found_passes p q xs s)
+found_passes {X} p q (x ∷ xs) s found all = go (p x) (q x) refl refl found all (found_passes p q xs s)
   where
     go : (b c : Bool) → p x ≡ b → q x ≡ c → cond b (Some x) (find p xs) ≡ Some s → (c && list_all q xs) ≡ true
         → (find p xs ≡ Some s → list_all q xs ≡ true → (p s ≡ true) × (q s ≡ true)) → (p s ≡ true) × (q s ≡ true)
-    go true true passes known is later tail = subst (λ (y : Shape). (p y ≡ true) × (q y ≡ true)) (ap (λ o. unwrap_or o x) is) (passes, known)
+    go true true passes known is later tail = subst (λ (y : X). (p y ≡ true) × (q y ≡ true)) (ap (λ o. unwrap_or o x) is) (passes, known)
     go false true passes known is later tail = tail is later
     go true false passes known is later tail = cc
     go false false passes known is later tail = cc

@@ -1,6 +1,6 @@
 -- What the getters of `clap`'s matches return, if the matches are those of the arguments.
 use Rattle.std.proofs.Common.{◌≡◌, ◌↔◌, ◌∙◌, ℕ, Result, Ok, Err, Bool, true, false, IsTrue, List, [], ap, ap₂, sym, Option, Some, None, refl, codes, subst}
-use Rattle.std.specs.Prelude.{if◌then◌else◌, map, option_map, unwrap_or}
+use Rattle.std.specs.Prelude.{map, option_map, unwrap_or}
 use Rattle.std.specs.Borrow.{Bor}
 use Rattle.std.specs.Option.{option_eq}
 use mathlib.Core.Bool.{beq}
@@ -11,9 +11,9 @@ use Rattle.clap.specs.Words.{Row, Text, ReadsOne, subcommand_name_of, subcommand
 use Rattle.clap.specs.declared.ArgMatches.{ArgMatches}
 use Rattle.clap.specs.declared.ArgMatches.TheViews.{out-ArgMatches}
 use Rattle.cli_arguments.specs.Asked.{IsCountOf, subcommand_named}
-use Rattle.cli_arguments.specs.CommandLine.{name_of}
+use Rattle.cli_arguments.specs.CommandLine.{name_of, subcommands}
 use Rattle.cli_arguments.specs.declared.asked.Subcommand.{Subcommand}
-use Rattle.cli_arguments.specs.declared.asked.Subcommand.TheVariants.{Root, Info, Check, Show, Types, Outline, Refs, Resources, Strings, Token, Where, Rewrite, Embed, Digest, Compare, Explain}
+use Rattle.cli_arguments.proofs.KnownNames.{found_passes}
 
 option_map_map : {A B C : Type 0} (f : B → C) (g : A → B) (o : Option A) → option_map f (option_map g o) ≡ option_map (λ x. f (g x)) o
 option_map_map f g None = refl
@@ -26,36 +26,14 @@ both_parts (Some p) name rows e f =
     ap₂ (λ (n : Text) (rs : List Row). Some (n, rs)) (ap (λ o. unwrap_or o name) e) (ap (λ o. unwrap_or o rows) f)
 
 -- the subcommand that was found, by its name and by its rows
-pub rows_met : (m : ArgMatches) (name : Text) (rows : List Row) → subcommand_name_of m ≡ Some name
-    → option_map (λ p. p.1) (subcommand_rows_of m) ≡ Some rows → subcommand_rows_of m ≡ Some (name, rows)
-rows_met m name rows named given = both_parts (subcommand_rows_of m) name rows (option_map_map _ _ (out-ArgMatches m).subcommand ∙ named) given
-
--- an argument that is the name of a subcommand, or else of one of the following ones
-named_by : (word : Text) (found : Bool) (t : Subcommand) (tail : Option Subcommand) (s : Subcommand) → (found ≡ true → word ≡ name_of t)
-    → (tail ≡ Some s → word ≡ name_of s) → (if found then Some t else tail) ≡ Some s → word ≡ name_of s
-named_by word true t tail s is later e = subst (λ (u : Subcommand). word ≡ name_of u) (ap (λ o. unwrap_or o t) e) (is refl)
-named_by word false t tail s is later e = later e
+pub rows_met : {P : Type 0} (f : P → Text) (g : P → List Row) (m : ArgMatches) (o : Option P) (p : P) → o ≡ Some p → option_map f o ≡ subcommand_name_of m
+    → option_map g o ≡ option_map (λ p. p.1) (subcommand_rows_of m) → subcommand_rows_of m ≡ Some (f p, g p)
+rows_met f g m o p is named given =
+    both_parts (subcommand_rows_of m) (f p) (g p) (option_map_map _ _ (out-ArgMatches m).subcommand ∙ sym named ∙ ap (option_map f) is) (sym given ∙ ap (option_map g) is)
 
 -- the argument is the name of the subcommand that it selects
 pub named_back : (word : Text) (s : Subcommand) → subcommand_named word ≡ Some s → word ≡ name_of s
-named_back word s e =
-    named_by word (bytes_eq word (name_of Root)) Root _ s (bytes_eq-Decides word (name_of Root)).0
-    (named_by word (bytes_eq word (name_of Info)) Info _ s (bytes_eq-Decides word (name_of Info)).0
-    (named_by word (bytes_eq word (name_of Check)) Check _ s (bytes_eq-Decides word (name_of Check)).0
-    (named_by word (bytes_eq word (name_of Show)) Show _ s (bytes_eq-Decides word (name_of Show)).0
-    (named_by word (bytes_eq word (name_of Types)) Types _ s (bytes_eq-Decides word (name_of Types)).0
-    (named_by word (bytes_eq word (name_of Outline)) Outline _ s (bytes_eq-Decides word (name_of Outline)).0
-    (named_by word (bytes_eq word (name_of Refs)) Refs _ s (bytes_eq-Decides word (name_of Refs)).0
-    (named_by word (bytes_eq word (name_of Resources)) Resources _ s (bytes_eq-Decides word (name_of Resources)).0
-    (named_by word (bytes_eq word (name_of Strings)) Strings _ s (bytes_eq-Decides word (name_of Strings)).0
-    (named_by word (bytes_eq word (name_of Token)) Token _ s (bytes_eq-Decides word (name_of Token)).0
-    (named_by word (bytes_eq word (name_of Where)) Where _ s (bytes_eq-Decides word (name_of Where)).0
-    (named_by word (bytes_eq word (name_of Rewrite)) Rewrite _ s (bytes_eq-Decides word (name_of Rewrite)).0
-    (named_by word (bytes_eq word (name_of Embed)) Embed _ s (bytes_eq-Decides word (name_of Embed)).0
-    (named_by word (bytes_eq word (name_of Digest)) Digest _ s (bytes_eq-Decides word (name_of Digest)).0
-    (named_by word (bytes_eq word (name_of Compare)) Compare _ s (bytes_eq-Decides word (name_of Compare)).0
-    (named_by word (bytes_eq word (name_of Explain)) Explain _ s (bytes_eq-Decides word (name_of Explain)).0
-    (λ none. cc)))))))))))))))) e
+named_back word s e = (bytes_eq-Decides word (name_of s)).0 (found_passes (λ of. bytes_eq word (name_of of)) (λ _. true) subcommands s e refl).0
 
 -- a flag is read as true if and only if its text is `true`
 flag_reads : (E : Type 0) (o : Option Text) (r : Option Bool) → (o ≡ None → r ≡ None)

@@ -1,34 +1,17 @@
 -- What the arguments of a command line ask for, by what `clap` gives for them.
-use Rattle.std.specs.Prelude.{◌≡◌, ◌≢◌, ◌↔◌, ◌⊎◌, ◌||◌, ℕ, ◌<◌, ◌-◌, ◌^◌, Bool, false, EachIndex, IsSome, IsTrue, MatchOption, List, [], ◌∷◌, ◌++◌, drop, length, map, take, Option, Some, None, codes, if◌then◌else◌, option_map, slice_index, unwrap_or}
+use Rattle.std.specs.Prelude.{◌≡◌, ◌≢◌, ◌↔◌, ◌⊎◌, ◌||◌, ℕ, ◌<◌, ◌-◌, ◌^◌, Bool, false, EachIndex, IsSome, IsTrue, MatchOption, List, [], ◌∷◌, ◌++◌, drop, length, map, take, Option, Some, None, codes, find, option_map, slice_index, unwrap_or}
 use Rattle.std.specs.Str.{bytes_eq, str_eq_ignore_ascii_case}
 use Rattle.std.specs.Option.{SomeIff}
 use Rattle.std.specs.Str.Parse.{IsNumeral, digits_value, without_leading_plus}
 use Rattle.clap.specs.Words.{Row, Text, all_of, first_of, one_of, subcommand_of}
-use Rattle.cli_arguments.specs.CommandLine.{clim, name_of}
+use Rattle.cli_arguments.specs.CommandLine.{clim, name_of, subcommands}
 use Rattle.cli_arguments.specs.declared.asked.Ask.{Ask}
 use Rattle.cli_arguments.specs.declared.asked.Subcommand.{Subcommand}
-use Rattle.cli_arguments.specs.declared.asked.Subcommand.TheVariants.{Root, Info, Check, Show, Types, Outline, Refs, Resources, Strings, Token, Where, Rewrite, Embed, Digest, Compare, Explain}
+use Rattle.cli_arguments.specs.declared.asked.Subcommand.TheVariants.{Show, Outline, Where}
 
 -- the subcommand with this name
 abbrev pub subcommand_named : Text → Option Subcommand
-subcommand_named word =
-    if bytes_eq word (name_of Root) then Some Root
-    else if bytes_eq word (name_of Info) then Some Info
-    else if bytes_eq word (name_of Check) then Some Check
-    else if bytes_eq word (name_of Show) then Some Show
-    else if bytes_eq word (name_of Types) then Some Types
-    else if bytes_eq word (name_of Outline) then Some Outline
-    else if bytes_eq word (name_of Refs) then Some Refs
-    else if bytes_eq word (name_of Resources) then Some Resources
-    else if bytes_eq word (name_of Strings) then Some Strings
-    else if bytes_eq word (name_of Token) then Some Token
-    else if bytes_eq word (name_of Where) then Some Where
-    else if bytes_eq word (name_of Rewrite) then Some Rewrite
-    else if bytes_eq word (name_of Embed) then Some Embed
-    else if bytes_eq word (name_of Digest) then Some Digest
-    else if bytes_eq word (name_of Compare) then Some Compare
-    else if bytes_eq word (name_of Explain) then Some Explain
-    else None
+subcommand_named word = find (λ of. bytes_eq word (name_of of)) subcommands
 
 -- decimal digits of a number of 64 bits, with or without a leading plus sign
 abbrev pub IsByteCount : List ℕ → Type 0
@@ -54,11 +37,8 @@ abbrev pub has_directory : Text → Bool
 has_directory word = begins_with (codes "/") word || begins_with (codes "./") word || begins_with (codes "../") word
 
 -- the word ends like the name of an assembly
-abbrev pub is_image : Text → Bool
-is_image word = ends_in (codes ".dll") word || ends_in (codes ".exe") word
-
 abbrev pub is_assembly : Text → Bool
-is_assembly word = is_image word || ends_in (codes ".winmd") word || ends_in (codes ".netmodule") word
+is_assembly word = ends_in (codes ".dll") word || ends_in (codes ".exe") word || ends_in (codes ".winmd") word || ends_in (codes ".netmodule") word
 
 -- the word has the form of a path: it is `-`, the standard input, or one of these
 abbrev pub is_path : Text → Bool

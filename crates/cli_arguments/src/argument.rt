@@ -7,7 +7,6 @@ use clap::{Arg, ArgAction, value_parser};
 use std::alloc::Global;
 
 /// An argument of a subcommand.
-#[derive(Clone, Copy)]
 pub(crate) struct Argument<'a> {
     /// What names its values.
     pub(crate) id: &'a str,
@@ -18,7 +17,6 @@ pub(crate) struct Argument<'a> {
 }
 
 /// How an argument is given. A text is the name of its value in help.
-#[derive(Clone, Copy)]
 pub(crate) enum Kind<'a> {
     /// `NAME`, one value.
     Required(&'a str),

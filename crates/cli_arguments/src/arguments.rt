@@ -1,6 +1,6 @@
 //! The command line, and what its arguments ask for.
-ghost use Rattle.std.specs.Prelude.{◌≡◌, ◌↔◌, IfOk, IsTrue, Some, [], codes, false, map, unwrap_or};
-ghost use Rattle.clap.specs.Words.{FailsBy, all_of, app_of, fault_of, found_of, one_of, rows_of, shape_of};
+ghost use Rattle.std.specs.Prelude.{◌≡◌, ◌↔◌, IfOk, IsTrue, Some, [], codes, false, map, true, unwrap_or};
+ghost use Rattle.clap.specs.Words.{FailsBy, HasMatchesOf, all_of, app_of, fault_of, found_of, has_subcommand, one_of, rows_of, shape_of, subcommand_of};
 ghost use Rattle.clap.specs.declared.Command.TheViews.{out-Command as fields_of};
 ghost use Rattle.cli_arguments.specs.Asked.{Gives};
 ghost use Rattle.cli_arguments.specs.CommandLine as line;
@@ -13,8 +13,9 @@ use crate::subcommands::usage_of;
 use clap::{ArgMatches, Command, Error};
 use std::alloc::{AllocError, Global};
 
-/// What `--version` prints after the name of the program: its version, and what it is proved and built with (`rt version`).
-const LONG_VERSION: &str = "0.1.0\nproved and built with rattle-kit-13f logic dac8208d650f15bf";
+/// What `--version` prints after the name of the program: its version, and what it is proved and built with: the logic that
+/// `rt version` names.
+const LONG_VERSION: &str = "0.1.0\nproved and built by Rattle, logic dac8208d650f15bf";
 
 /// Parses the arguments of a command line, the program name first.
 ///
@@ -27,22 +28,46 @@ pub fn ask<'a>(alloc: Global, words: &'a [&'a str]) -> Result<Ask<'a>, Error>
     ensures given { IfOk result (Gives (map (λ word. word.now) words.entry.now)) }
     ensures refused { FailsBy (fault_of line.clim (map (λ word. word.now) words.entry.now)) result }
 {
-    let matches = command(alloc)?.try_get_matches_from(words)?;
+    let matches = matches_of(alloc, words)?;
     let (name, given) = matches.subcommand().unwrap();
     let subcommand = Subcommand::named(name).unwrap();
+    Ok(asked(alloc, subcommand, given)?)
+}
+
+/// What `clap` finds in the arguments.
+fn matches_of<'a>(alloc: Global, words: &'a [&'a str]) -> Result<ArgMatches<'a>, Error>
+    ensures matches { IfOk result (HasMatchesOf line.clim (map (λ word. word.now) words.entry.now)) }
+    ensures subcommand { IfOk result (λ matches. has_subcommand matches ≡ true) }
+    ensures refused { FailsBy (fault_of line.clim (map (λ word. word.now) words.entry.now)) result }
+{
+    command(alloc)?.try_get_matches_from(words)
+}
+
+/// What the arguments of the subcommand ask for.
+fn asked<'a>(
+    alloc: Global,
+    subcommand: Subcommand,
+    given: &ArgMatches<'a>,
+) -> Result<Ask<'a>, AllocError>
+    ensures { IfOk result (λ ask. (words : _) → subcommand_of line.clim words ≡ Some (line.name_of subcommand, rows_of (found_of given.now))
+        → Gives words ask) }
+{
     let mut files = list(alloc, given, "FILE")?;
     let part = take_part(subcommand, given, &mut files);
+    let tokens = list(alloc, given, "HEX")?;
+    let ignored = list(alloc, given, "ignore")?;
+    let codes = list(alloc, given, "CODE")?;
     Ok(Ask {
         subcommand,
         bare: flag(given, "bare"),
         file: given.get_str("FILE"),
         second: given.get_str("second"),
-        tokens: list(alloc, given, "HEX")?,
-        ignored: list(alloc, given, "ignore")?,
+        tokens,
+        ignored,
         budget: given.get_one::<u64>("budget"),
         part,
         json: flag(given, "json"),
-        codes: list(alloc, given, "CODE")?,
+        codes,
         files,
         files_from: given.get_str("files-from"),
         null: flag(given, "null"),

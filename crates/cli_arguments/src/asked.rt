@@ -1,8 +1,10 @@
-ghost use Rattle.std.specs.Prelude.{◌≡◌, None, Some};
+ghost use Rattle.std.specs.Prelude.{◌≡◌};
 ghost use Rattle.cli_arguments.specs.Asked.{subcommand_named};
 
+use crate::subcommands::usage_of;
+
 /// What the arguments of a command line ask for.
-#[derive(Debug, Drop)]
+#[derive(Drop)]
 pub struct Ask<'a> {
     /// What to do.
     pub subcommand: Subcommand,
@@ -52,7 +54,7 @@ pub struct Ask<'a> {
 }
 
 /// The subcommands of the program.
-#[derive(Clone, Copy, Debug, PartialEq, Eq)]
+#[derive(Clone, Copy, PartialEq, Eq)]
 pub enum Subcommand {
     /// `root`: print the CLI header, and the version and the stream headers of the metadata root.
     Root,
@@ -113,24 +115,11 @@ impl Subcommand {
     pub fn named(word: &str) -> Option<Subcommand>
         ensures { result ≡ subcommand_named word.now }
     {
-        match word {
-            "root" => Some(Subcommand::Root),
-            "info" => Some(Subcommand::Info),
-            "check" => Some(Subcommand::Check),
-            "show" => Some(Subcommand::Show),
-            "types" => Some(Subcommand::Types),
-            "outline" => Some(Subcommand::Outline),
-            "refs" => Some(Subcommand::Refs),
-            "resources" => Some(Subcommand::Resources),
-            "strings" => Some(Subcommand::Strings),
-            "token" => Some(Subcommand::Token),
-            "where" => Some(Subcommand::Where),
-            "rewrite" => Some(Subcommand::Rewrite),
-            "embed" => Some(Subcommand::Embed),
-            "digest" => Some(Subcommand::Digest),
-            "compare" => Some(Subcommand::Compare),
-            "explain" => Some(Subcommand::Explain),
-            _ => None,
+        for subcommand in Subcommand::ALL {
+            if word == usage_of(*subcommand).name {
+                return Some(*subcommand);
+            }
         }
+        None
     }
 }

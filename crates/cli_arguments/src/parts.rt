@@ -1,7 +1,7 @@
 //! The files among the arguments, and the last argument if it is none of them.
 ghost use Rattle.std.specs.Prelude.{◌≡◌, ◌≢◌, ◌↔◌, ◌⊎◌, [], IsTrue, List, map, option_map};
 ghost use Rattle.clap.specs.Words.{Text, found_of, rows_of};
-ghost use Rattle.cli_arguments.specs.Asked.{AreParts, IsPart, IsPartLast, IsPlainWord, TakesList, ends_in, has_directory, is_assembly, is_image, is_path};
+ghost use Rattle.cli_arguments.specs.Asked.{AreParts, IsPart, IsPartLast, IsPlainWord, TakesList, ends_in, has_directory, is_assembly, is_path};
 
 use crate::arguments::flag;
 use crate::asked::Subcommand;
@@ -84,14 +84,10 @@ fn has_directory(word: &[u8]) -> bool
 fn is_assembly(word: &[u8]) -> bool
     ensures { result ≡ is_assembly word.now }
 {
-    is_image(word) || ends_in(word, b".winmd") || ends_in(word, b".netmodule")
-}
-
-/// Whether a word ends like the name of a program or a library.
-fn is_image(word: &[u8]) -> bool
-    ensures { result ≡ is_image word.now }
-{
-    ends_in(word, b".dll") || ends_in(word, b".exe")
+    ends_in(word, b".dll")
+        || ends_in(word, b".exe")
+        || ends_in(word, b".winmd")
+        || ends_in(word, b".netmodule")
 }
 
 /// Whether a word ends with these small letters, in any case.

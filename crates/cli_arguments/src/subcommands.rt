@@ -85,11 +85,11 @@ const BUDGET: Argument<'static> =
 
 /// `--files-from`, the source of a list of files.
 const FILES_FROM: Argument<'static> =
-    argument!["files-from" Option("-") "Read file names from standard input, one on each line"];
+    argument!["files-from" Option("LIST") "Read file names from LIST, or '-', one on each line"];
 
 /// `-0`, the flag for a list of files whose names end with NULs.
 const NULL: Argument<'static> =
-    argument!["null" ShortFlag('0') "Read file names from standard input, each ended by NUL"];
+    argument!["null" ShortFlag('0') "Each name ends with NUL; LIST is '-' if not given"];
 
 /// `-r`, the flag for directories.
 const RECURSIVE: Argument<'static> =

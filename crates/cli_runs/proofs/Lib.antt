@@ -1,4 +1,3 @@
-pub mod Keeping
 pub mod NamesListed
 pub mod Printings
 pub mod Reporting

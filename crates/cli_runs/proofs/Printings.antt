@@ -74,9 +74,3 @@ nothing_waits (Some bytes) none some = cc
 pub type_out : {W : Type 0} (options : OutlineOptions) (old new : Printed W) (model : Metadata) (class : ℕ) → PrintsType options model class old new → IsTypeOut (Hands old new) options model class
 type_out options old new model class (inl out) = inl (out.0, out.1, declared options old new model _ out.2)
 type_out options old new model class (inr out) = inr (out.1, (λ live. nothing_waits new.waiting out.0 live))
-
-module _ {W : Type 0} (request : Request) (name bytes : List ℕ) (old new : Printed W) where
-  pub strings_refused : (failure : Failure) → AreListed request.input bytes old new (Err failure)
-      → HasPrinted request name bytes old new report.Strings (Refused (Failed failure))
-  strings_refused failure (inl out) = rw out.0 (tt, out.1)
-  strings_refused failure (inr out) = rw out.1 (out.2, out.3)

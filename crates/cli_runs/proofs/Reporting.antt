@@ -1,10 +1,12 @@
 -- What a printer was asked to print of a report, and what went out of it.
 use Rattle.std.proofs.Common.{◌≡◌, ◌≢◌, ℕ, List, [], ◌++◌, Option, None, Some, Result, Ok, Err, append-nil, refl, sym, subst, inl, inr}
-use Rattle.std.specs.Prelude.{IsSome, OnOk}
+use Rattle.std.specs.Prelude.{IfErr, IsSome, OnOk}
+use Rattle.std.specs.Result.{result_and}
 use Rattle.std.specs.Io.KnownBytes.{Appends}
 use Rattle.packed.specs.declared.fault.Fault.{Fault}
 use Rattle.table_schema.specs.declared.token.Token.{Token}
 use Rattle.metadata.specs.Metadata.{Metadata}
+use Rattle.cli_faults.specs.Status.{IsOutput}
 use Rattle.cli_faults.specs.declared.failure.Failure.{Failure}
 use Rattle.cli_faults.specs.declared.stop.Stop.{Stop}
 use Rattle.cli_input.specs.declared.opened.Input.{Input}
@@ -89,20 +91,14 @@ module _ (P Q : Type 0 → List (List Part) → Type 0) (weaker : (all : Type 0)
     printed_weaker report.Digest out = (out.0, out.1, weaker _ _ out.2)
 
     stopped_weaker : (of : Report) (why : Stop) → IsStopped P request name bytes of why → IsStopped Q request name bytes of why
-    stopped_weaker report.Root why out = absurd out
     stopped_weaker report.RootUntilFault why out = (out.0, out.1, out.2, (out.3.0, out.3.1, weaker _ _ out.3.2))
-    stopped_weaker report.Info why out = absurd out
-    stopped_weaker report.Strings why out = absurd out
-    stopped_weaker report.Resources why out = absurd out
-    stopped_weaker (report.Listing of) why out = absurd out
     stopped_weaker (report.Check of) why out = (out.0, out.1, (out.2.0, out.2.1, fault_weaker of request.input bytes _ out.2.0 out.2.2))
     stopped_weaker (report.ShowUntilFault table names) why out = (out.0, out.1, out.2, (out.3.0, out.3.1, weaker _ _ out.3.2))
-    stopped_weaker (report.OutlineOf subject options) why out = absurd out
     stopped_weaker (report.Tokens numbers) why out =
         (out.0, out.1, out.2, out.3, out.4, out.5, out.6, out.7, out.8, named_weaker out.3 out.9)
     stopped_weaker (report.Where offset) why (inl out) = inl (out.0, out.1, (out.2.0, out.2.1, out.2.2, where_weaker Nothing request.input bytes offset out.2.0 out.2.3))
     stopped_weaker (report.Where offset) why (inr out) = inr (out.0, out.1, out.2, (out.3.0, out.3.1, weaker _ _ out.3.2))
-    stopped_weaker report.Digest why out = absurd out
+    stopped_weaker _ why out = absurd out
 
     -- what a report says of its lines holds of what follows from it
     pub ended_weaker : (of : Report) (ends : Ended) → HasEnded P request name bytes of ends → HasEnded Q request name bytes of ends
@@ -112,36 +108,42 @@ module _ (P Q : Type 0 → List (List Part) → Type 0) (weaker : (all : Type 0)
 
 -- ---- the lines went out
 
-module _ (request : Request) {W : Type 0} (contents : W → Option (List ℕ)) (before after : W) (name bytes : List ℕ) where
-  module _ (old new : Printed W) (look : old.style ≡ style_of request name) (asked : Asked (contents before) old []) where
-    -- the text of lines that the printer was asked to print
-    asked_lines : (all : Type 0) (lines : List (List Part)) → Hands old new all lines → Asked (contents before) new (styled_text (style_of request name) lines)
-    asked_lines all lines hands =
-        subst (λ (of : Style). Asked (contents before) new (styled_text of lines)) look (hands.0.asked (contents before) [] asked)
+as_reported : (request : Request) {W : Type 0} (contents : W → Option (List ℕ)) (before after : W) (name bytes : List ℕ) (ends : Ended)
+    → ((why : Stop) → ends ≡ ended.Refused why → after ≡ before) → HasEnded (AreSent request contents before after name) request name bytes request.report ends
+    → IsReported request contents before after name bytes (Ok ends)
+as_reported request contents before after name bytes (ended.Refused why) same out = (out, same why refl)
+as_reported request contents before after name bytes _ same out = out
 
-    -- all that was asked for went out
-    pub sent_ended : (done : Result (Unit {0}) Failure) → ((start : Option (List ℕ)) (text : List ℕ) → Asked start new text → Sent start (contents after) done text)
-        → OnOk done (IsSome new.waiting) → done ≡ Ok tt → (of : Report) (ends : Ended) → HasEnded (Hands old new) request name bytes of ends
-        → HasEnded (AreSent request contents before after name) request name bytes of ends
-    sent_ended (Ok done) sends live is of ends out =
-        ended_weaker (Hands old new) (AreSent request contents before after name)
-        (λ all lines hands. (hands.1 live, sends (contents before) (styled_text (style_of request name) lines) (asked_lines all lines hands))) request name bytes of ends out
-    sent_ended (Err failure) sends live is of ends out = cc
+handed : {W : Type 0} (request : Request) (name bytes : List ℕ) (old new : Printed W) (of : Report) (ends : Ended) → HasPrinted request name bytes old new of ends
+    → HasEnded (Hands old new) request name bytes of ends
+handed request name bytes old new of (ended.Refused why) out = out.0
+handed request name bytes old new of _ out = out
 
-    -- a prefix of it went out
-    pub sent_cut : (done : Result (Unit {0}) Failure) (failure : Failure) → ((start : Option (List ℕ)) (text : List ℕ) → Asked start new text → Sent start (contents after) done text)
-        → done ≡ Err failure → (of : Report) (ends : Ended) → HasEnded (Hands old new) request name bytes of ends
-        → HasEnded (AreCut request contents before after name) request name bytes of ends
-    sent_cut (Ok done) failure sends is of ends out = cc
-    sent_cut (Err other) failure sends is of ends out =
-        ended_weaker (Hands old new) (AreCut request contents before after name)
-        (λ all lines hands. sends (contents before) (styled_text (style_of request name) lines) (asked_lines all lines hands)) request name bytes of ends out
+-- the printer kept the writer that it had before it was asked to print
+module _ (request : Request) {W : Type 0} (contents : W → Option (List ℕ)) (before written after : W) (name bytes : List ℕ) (old new : Printed W)
+    (look : old.style ≡ style_of request name) (asked : Asked (contents before) old []) (kept : new.borrow ≡ old.borrow → written ≡ after) where
+  sent_lines : (done : Result (Unit {0}) Failure) → ((start : Option (List ℕ)) (text : List ℕ) → Asked start new text → Sent start (contents written) done text)
+      → (all : Type 0) (lines : List (List Part)) → Hands old new all lines → Sent (contents before) (contents after) done (styled_text (style_of request name) lines)
+  sent_lines done sends all lines hands =
+      subst (λ (end : W). Sent (contents before) (contents end) done (styled_text (style_of request name) lines)) (kept hands.0.same.borrow)
+      (sends (contents before) _ (subst (λ (of : Style). Asked (contents before) new (styled_text of lines)) look (hands.0.asked (contents before) [] asked)))
 
-    -- what was not refused was handed to the printer
-    pub handed : (of : Report) (ends : Ended) → ((why : Stop) → ends ≢ ended.Refused why) → HasPrinted request name bytes old new of ends → HasEnded (Hands old new) request name bytes of ends
-    handed of ended.Printed other out = out
-    handed of (ended.Stopped why) other out = out
-    handed of (ended.Refused why) other out = absurd (other why refl)
+  -- what was handed to the printer went out, or a prefix of it
+  pub all_reported : (done : Result (Unit {0}) Failure) → ((start : Option (List ℕ)) (text : List ℕ) → Asked start new text → Sent start (contents written) done text)
+      → OnOk done (IsSome new.waiting) → IfErr done IsOutput → (ends : Ended) → ((why : Stop) → ends ≢ ended.Refused why) → HasPrinted request name bytes old new request.report ends
+      → IsReported request contents before after name bytes (result_and done (Ok ends))
+  all_reported (Ok done) sends live failed ends other out =
+      as_reported request contents before after name bytes ends (λ why is. absurd (other why is))
+      (ended_weaker (Hands old new) (AreSent request contents before after name) (λ all lines hands. (hands.1 live, sent_lines (Ok done) sends all lines hands)) request name bytes request.report ends
+      (handed request name bytes old new request.report ends out))
+  all_reported (Err failure) sends live failed ends other out = (
+    failed,
+    (
+      ends,
+      ended_weaker (Hands old new) (AreCut request contents before after name) (sent_lines (Err failure) sends) request name bytes request.report ends
+          (handed request name bytes old new request.report ends out),
+    ),
+  )
 
 module _ (request : Request) {W : Type 0} (contents : W → Option (List ℕ)) (before : W) (name bytes : List ℕ) where
   appends_none : (known : Option (List ℕ)) → Appends known known (styled_text (style_of request name) [])
@@ -156,44 +158,21 @@ module _ (request : Request) {W : Type 0} (contents : W → Option (List ℕ)) (
     subst (λ (of : List (List Part)). Appends (contents before) (contents before) (styled_text (style_of request name) of)) (sym none.1) (appends_none (contents before)),
   )
 
-  quiet_ended : (of : Report) (ends : Ended) → HasEnded AreNone request name bytes of ends → HasEnded (AreSent request contents before before name) request name bytes of ends
-  quiet_ended of ends out = ended_weaker AreNone (AreSent request contents before before name) none_sent request name bytes of ends out
-
-  as_reported : (ends : Ended) → HasEnded (AreSent request contents before before name) request name bytes request.report ends → IsReported request contents before before name bytes (Ok ends)
-  as_reported ended.Printed out = out
-  as_reported (ended.Stopped why) out = out
-  as_reported (ended.Refused why) out = (out, refl)
-
   -- a report that prints no line does not need the output
   pub quiet_reported : (of : Report) (ends : Ended) → request.report ≡ of → HasEnded AreNone request name bytes of ends → IsReported request contents before before name bytes (Ok ends)
   quiet_reported of ends is out =
-      as_reported ends (quiet_ended request.report ends (subst (λ (it : Report). HasEnded AreNone request name bytes it ends) (sym is) out))
+      as_reported request contents before before name bytes ends (λ why refused. refl)
+      (ended_weaker AreNone (AreSent request contents before before name) none_sent request name bytes request.report ends
+      (subst (λ (it : Report). HasEnded AreNone request name bytes it ends) (sym is) out))
 
 -- the lines of a fault that is not explained
 pub fault_out : (Out : Type 0 → List (List Part) → Type 0) (of : Verdict) (input : Input) (bytes : List ℕ) (file : Option (List ℕ)) (found : Fault) → of ≢ verdict.Explained
     → Out (Unit {0}) (verdict_lines of file (Some found)) → IsFaultOut Out of input bytes file found
-fault_out Out verdict.Quiet input bytes file found other out = out
-fault_out Out verdict.Line input bytes file found other out = out
 fault_out Out verdict.Explained input bytes file found other out = absurd (other refl)
-
-module _ (request : Request) {W : Type 0} (contents : W → Option (List ℕ)) (before after : W) (name bytes : List ℕ) where
-  pub sent_reported : (ends : Ended) → ((why : Stop) → ends ≢ ended.Refused why) → HasEnded (AreSent request contents before after name) request name bytes request.report ends
-      → IsReported request contents before after name bytes (Ok ends)
-  sent_reported ended.Printed other out = out
-  sent_reported (ended.Stopped why) other out = out
-  sent_reported (ended.Refused why) other out = absurd (other why refl)
+fault_out Out _ input bytes file found other out = out
 
 -- the name that a line begins with, of a report whose lines do not have it already
 pub other_lead : (of : Report) (file : Option (List ℕ)) → ((v : Verdict) → of ≢ report.Check v) → of ≢ report.Digest → file ≡ lead_of of file
-other_lead report.Root file check digest = refl
-other_lead report.RootUntilFault file check digest = refl
-other_lead report.Info file check digest = refl
-other_lead report.Strings file check digest = refl
-other_lead report.Resources file check digest = refl
-other_lead (report.Listing listing) file check digest = refl
 other_lead (report.Check verdict) file check digest = absurd (check verdict refl)
-other_lead (report.ShowUntilFault table names) file check digest = refl
-other_lead (report.OutlineOf subject options) file check digest = refl
-other_lead (report.Tokens numbers) file check digest = refl
-other_lead (report.Where offset) file check digest = refl
 other_lead report.Digest file check digest = absurd (digest refl)
+other_lead _ file check digest = refl

@@ -1,25 +1,14 @@
 -- Runs on several files, one after another.
-use Rattle.std.proofs.Common.{◌≡◌, ◌∙◌, ◌≤◌, ◌<◌, ◌+◌, ◌&&◌, ◌||◌, ℕ, Bool, List, [], ◌∷◌, ◌++◌, map, drop, get_or, length, max, Option, refl, ap, sym, subst, arith, inl, inr, drop-cons, add-one}
+use Rattle.std.proofs.Common.{◌≡◌, ◌∙◌, ◌≤◌, ◌<◌, ◌+◌, ◌&&◌, ◌||◌, ◌⊎◌, ℕ, Bool, true, false, Result, Ok, Err, List, [], ◌∷◌, ◌++◌, map, drop, get_or, length, max, Option, refl, ap, sym, subst, arith, inl, inr, drop-cons, add-one}
 use Rattle.std.specs.Borrow.{Bor}
 use Rattle.std.proofs.lemmas.List.{drop_all}
 use Rattle.cli_faults.specs.declared.failure.Failure.{Failure}
-use Rattle.cli_faults.specs.declared.failure.Failure.TheVariants.{Fault, NoSuchRow, Usage, NotUtf8, CannotRead, CannotWriteOutput, CannotWriteFile, CannotEmbed, OutOfMemory}
-use Rattle.cli_faults.specs.Status.{IsOutput, IsUnread, status_of}
+use Rattle.cli_faults.specs.declared.failure.Failure.TheVariants.{NotUtf8}
+use Rattle.cli_faults.specs.Status.{IsUnread}
 use Rattle.cli_files.specs.Read.{IsRefused}
-use Rattle.cli_runs.specs.Runs.{AreRun, AreRunAll, IsCutIn, IsNext, IsRun, IsVisited, is_input}
+use Rattle.cli_runs.specs.Runs.{AreRun, AreRunAll, AreVisited, EndsAs, IsCutIn, IsNext, IsRun, IsVisited, is_input}
+use Rattle.cli_runs.specs.declared.report.Directories.TheVariants.{Walked}
 use Rattle.cli_runs.specs.declared.report.Request.{Request}
-
--- a failure of the output has the exit code 3
-pub output_code : (failure : Failure) → IsOutput failure → status_of failure ≡ 3
-output_code (Fault it) is = absurd is
-output_code NoSuchRow is = absurd is
-output_code (Usage usage_error) is = absurd is
-output_code (NotUtf8 name) is = absurd is
-output_code (CannotRead error) is = absurd is
-output_code (CannotWriteOutput reason) is = refl
-output_code (CannotWriteFile error) is = absurd is
-output_code (CannotEmbed misfit) is = absurd is
-output_code OutOfMemory is = refl
 
 abbrev pub names_of : List (Bor (List ℕ)) → List (List ℕ)
 names_of = map (λ name. name.now)
@@ -29,17 +18,23 @@ drop_more xs k d lt = drop-cons xs k d lt ∙ ap (λ (n : ℕ). get_or xs k d �
 
 -- a file that could not be read is refused
 pub unread_refused : (file : List ℕ) (failure : Failure) → IsUnread file failure → IsRefused file failure
-unread_refused file (Fault it) is = is
-unread_refused file NoSuchRow is = is
-unread_refused file (Usage usage_error) is = is
 unread_refused file (NotUtf8 name) is = absurd is
-unread_refused file (CannotRead error) is = is
-unread_refused file (CannotWriteOutput reason) is = is
-unread_refused file (CannotWriteFile error) is = is
-unread_refused file (CannotEmbed misfit) is = is
-unread_refused file OutOfMemory is = is
+unread_refused file _ is = is
+
+-- what follows from how a run ended
+pub ends_weaker : {E F : Type 0} (before after : E) (P Q : ℕ → Type 0) (cut other : Type 0) (result : Result ℕ F) → ((status : ℕ) → P status → Q status) → (cut → other)
+    → EndsAs before after P cut result → EndsAs before after Q other result
+ends_weaker before after P Q cut other (Ok status) ended failed out = (out.0, out.1, ended status out.2)
+ends_weaker before after P Q cut other (Err failure) ended failed out = failed out
 
 module _ (request : Request) {W : Type 0} (contents : W → Option (List ℕ)) where
+  -- the run on an argument ended that is not the standard input again
+  pub next_run : (again : Bool) (before after : W) (name : List ℕ) (status : ℕ) → again ≡ false
+      → IsRun request contents before after name status ⊎ ((request.directories ≡ Walked) × AreVisited request contents before after status)
+      → IsNext request contents again before after name status
+  next_run true before after name status first run = cc
+  next_run false before after name status first run = run
+
   -- the run on one more file ended
   all_more : (before between after : W) (names : List (List ℕ)) (name : List ℕ) (greatest status : ℕ) → AreRunAll request contents before between names greatest
       → IsRun request contents between after name status → AreRunAll request contents before after (names ++ name ∷ []) (max greatest status)
@@ -60,14 +55,12 @@ module _ (request : Request) {W : Type 0} (contents : W → Option (List ℕ)) w
     omega (arith, ran.5),
   )
 
-  pub one_run : (before after : W) (name : List ℕ) (status : ℕ) → IsRun request contents before after name status
-      → (found : List (List ℕ)) × AreRunAll request contents before after found status
+  pub one_run : (before after : W) (name : List ℕ) (status : ℕ) → IsRun request contents before after name status → AreVisited request contents before after status
   one_run before after name status run = (name ∷ [], (after, status, 0, run, (refl, refl), omega arith))
 
   -- the next step of a walk ended
   pub visit_ended : (before between after : W) (greatest status more : ℕ) → more ≡ max greatest status
-      → ((found : List (List ℕ)) × AreRunAll request contents before between found greatest) → IsVisited request contents between after status
-      → (found : List (List ℕ)) × AreRunAll request contents before after found more
+      → AreVisited request contents before between greatest → IsVisited request contents between after status → AreVisited request contents before after more
   visit_ended before between after greatest status more is ran (inl none) =
       let least : greatest ≡ more = omega (arith, is, none.1) in (
         ran.0,
@@ -103,13 +96,13 @@ module _ (request : Request) {W : Type 0} (contents : W → Option (List ℕ)) w
       (omega (arith, is, status_is))
 
   -- the output failed at the next file
-  pub next_cut : (was : Bool) (before : W) (is_read : Bool) (between after : W) (names : List (Bor (List ℕ))) (k : ℕ) (d : Bor (List ℕ)) (greatest status : ℕ)
-      (all : List (List ℕ)) → k < length names → status ≡ 3 → greatest ≤ 3 → Completes was before is_read between (names_of (drop k names)) greatest all
-      → IsCutIn request contents between after (get_or names k d).now → AreRun request contents was before after all status
-  next_cut was before is_read between after names k d greatest status all lt three within whole cut =
-      whole after 3 status
+  pub next_cut : (was : Bool) (before : W) (is_read : Bool) (between after : W) (names : List (Bor (List ℕ))) (k : ℕ) (d : Bor (List ℕ)) (greatest : ℕ)
+      (all : List (List ℕ)) → k < length names → greatest ≤ 3 → Completes was before is_read between (names_of (drop k names)) greatest all
+      → IsCutIn request contents between after (get_or names k d).now → AreRun request contents was before after all 3
+  next_cut was before is_read between after names k d greatest all lt within whole cut =
+      whole after 3 3
       (subst (λ (xs : List (Bor (List ℕ))). AreRun request contents is_read between after (names_of xs) 3) (sym (drop_more names k d lt)) (inr (cut, refl)))
-      (omega (arith, three, within))
+      (omega (arith, within))
 
   -- no file is left
   pub all_ended : (was : Bool) (before : W) (is_read : Bool) (after : W) (names : List (Bor (List ℕ))) (k greatest : ℕ) (all : List (List ℕ)) → length names ≤ k

@@ -1,5 +1,5 @@
 -- What a run prints of the bytes of one file, and of several files.
-use Rattle.std.specs.Prelude.{◌≡◌, ◌≢◌, ℕ, ◌==◌, ◌⊎◌, ◌&&◌, ◌||◌, Bool, true, false, List, [], ◌∷◌, ◌++◌, codes, max, Option, Result, Ok, Err, MatchResult}
+use Rattle.std.specs.Prelude.{◌≡◌, ◌≢◌, ◌≤◌, ℕ, ◌==◌, ◌⊎◌, ◌&&◌, ◌||◌, Bool, true, false, List, [], ◌∷◌, ◌++◌, codes, max, Option, Result, Ok, Err, MatchResult}
 use Rattle.std.specs.Io.KnownBytes.{Appends}
 use Rattle.std.specs.List.{slice_split}
 use Rattle.std.specs.Str.{bytes_eq}
@@ -25,6 +25,10 @@ abbrev pub status_of_ended : Ended → ℕ
 status_of_ended ended.Printed = 0
 status_of_ended (ended.Stopped stop) = status_of_stop stop
 status_of_ended (ended.Refused stop) = status_of_stop stop
+
+-- A run ended with an exit code of at most 3, and nothing was reported if it is 0; or the output failed; for private clauses.
+abbrev pub EndsAs : {E F : Type 0} → E → E → (ℕ → Type 0) → Type 0 → Result ℕ F → Type 0
+EndsAs before after ended cut result = MatchResult result (λ status. (status ≤ 3) × (status ≡ 0 → after ≡ before) × ended status) (λ failed. cut)
 
 -- the byte of a separator: a line feed, whose ASCII code is 10, or a NUL
 abbrev pub byte_of : Separator → ℕ
@@ -79,6 +83,10 @@ module _ (request : Request) {W : Type 0} (contents : W → Option (List ℕ)) w
   abbrev pub IsCutAt : W → W → List ℕ → Type 0
   IsCutAt before after name = (bytes : List ℕ) × (failure : Failure) × IsReported before after name bytes (Err failure)
 
+  -- the output failed at some file; for private clauses
+  abbrev pub IsCutAtOne : W → W → Type 0
+  IsCutAtOne before after = (name : List ℕ) × IsCutAt before after name
+
   -- nothing was reported on, or the run on a file ended with this exit code; for private clauses
   abbrev pub IsVisited : W → W → ℕ → Type 0
   IsVisited before after status = ((after ≡ before) × (status ≡ 0)) ⊎ ((name : List ℕ) × IsRun before after name status)
@@ -89,17 +97,20 @@ module _ (request : Request) {W : Type 0} (contents : W → Option (List ℕ)) w
   AreRunAll before after (name ∷ names) status =
       (between : W) × (first later : ℕ) × IsRun before between name first × AreRunAll between after names later × (status ≡ max first later)
 
+  -- the same for files that were found in a directory
+  abbrev pub AreVisited : W → W → ℕ → Type 0
+  AreVisited before after status = (found : List (List ℕ)) × AreRunAll before after found status
+
   -- the runs on some files ended, and the output failed at the next one
   abbrev pub IsCutAmong : W → W → Type 0
-  IsCutAmong before after =
-      (between : W) × (names : List (List ℕ)) × (name : List ℕ) × (status : ℕ) × AreRunAll before between names status × IsCutAt between after name
+  IsCutAmong before after = (between : W) × (status : ℕ) × AreVisited before between status × IsCutAtOne between after
 
   -- The run on the next argument ended: on the file; or, if directories are walked, on files that were found in the directory.
   -- The standard input is refused if it was read before; the first argument is whether it is that.
   abbrev pub IsNext : Bool → W → W → List ℕ → ℕ → Type 0
   IsNext true before after name status = (after ≡ before) × (status ≡ 3)
   IsNext false before after name status =
-      IsRun before after name status ⊎ ((request.directories ≡ Walked) × (found : List (List ℕ)) × AreRunAll before after found status)
+      IsRun before after name status ⊎ ((request.directories ≡ Walked) × AreVisited before after status)
 
   -- the output failed at the file with this name, or in the directory
   abbrev pub IsCutIn : W → W → List ℕ → Type 0
@@ -119,9 +130,9 @@ module _ (request : Request) {W : Type 0} (contents : W → Option (List ℕ)) w
   abbrev pub IsRunOn : Bool → W → W → List (List ℕ) → ℕ → Type 0
   IsRunOn is_read before after names status = AreRun is_read before after names status ⊎ ((after ≡ before) × (status ≡ 3))
 
-  -- the same for the files that the standard input lists, with this byte after each name, with what reading it gave
-  abbrev pub IsRunOnList : ℕ → W → W → ℕ → Type 0
-  IsRunOnList separator before after status =
+  -- the same for the files of the list with this path, with this byte after each name, with what reading it gave
+  abbrev pub IsRunOnList : List ℕ → ℕ → W → W → ℕ → Type 0
+  IsRunOnList list separator before after status =
       (read : Result (List ℕ) Failure)
-      × MatchResult read (λ given. (names : List (List ℕ)) × AreListed separator given names × IsRunOn true before after names status)
-      (λ failure. IsRefused (codes "-") failure × (status ≡ status_of failure) × (after ≡ before))
+      × MatchResult read (λ given. (names : List (List ℕ)) × AreListed separator given names × IsRunOn (is_input list) before after names status)
+      (λ failure. IsRefused list failure × (status ≡ status_of failure) × (after ≡ before))

@@ -1,9 +1,6 @@
 //! `clim resources --extract`: the content of a resource.
-ghost use Rattle.std.specs.Prelude.{IfErr};
-ghost use Rattle.cli_faults.specs.Status.{IsOutput};
 ghost use Rattle.cli_input.specs.declared.opened.Input.TheVariants.{File};
 ghost use Rattle.cli_roots.specs.Runs.{IsFileRun, IsWithin};
-ghost use Rattle.cli_sending.specs.Sent.{Sent};
 ghost use Rattle.cli_runs.specs.Extracted.{IsExtracted, IsExtracting};
 
 use crate::report::stop_of;
@@ -51,22 +48,12 @@ pub fn extract_file<'a, R: Files + Input + AllocGlobal, W: Write>(
 fn extract<'a, W: Write>(bytes: &[u8], name: &str, out: &mut W) -> Result<(), Stop<'a>>
     ensures { IsExtracted W.contents out.old out.new bytes.now name.now result }
 {
-    match resource_named(bytes, name) {
-        Ok(content) => match send_content(content, out) {
-            Ok(()) => Ok(()),
-            Err(failure) => Err(Stop::Failed(failure)),
-        },
-        Err(unfound) => Err(stop_of(unfound)),
-    }
-}
-
-/// Sends the content of a resource.
-fn send_content<'a, W: Write>(content: &[u8], out: &mut W) -> Result<(), Failure<'a>>
-    ensures sent { Sent (W.contents out.old) (W.contents out.new) result content.now }
-    ensures failed { IfErr result IsOutput }
-{
+    let content = match resource_named(bytes, name) {
+        Ok(content) => content,
+        Err(unfound) => return Err(stop_of(unfound)),
+    };
     match finish(content, out) {
         Ok(()) => Ok(()),
-        Err(error) => Err(Failure::of_printing(&error)),
+        Err(error) => Err(Stop::Failed(Failure::of_printing(&error))),
     }
 }

@@ -1,9 +1,8 @@
 //! Reads files and reports on each.
-ghost use Rattle.std.specs.Prelude.{◌≡◌, ◌≤◌, ◌⊎◌, ◌&&◌, ◌||◌, Err, IfErr, IfOk, IfSome, false, map, max};
-ghost use Rattle.cli_faults.specs.Status.{IsOutput, status_of};
+ghost use Rattle.std.specs.Prelude.{◌≡◌, ◌≤◌, ◌⊎◌, ◌&&◌, ◌||◌, IfOk, IsTrue, false, map, max};
+ghost use Rattle.cli_faults.specs.Status.{status_of};
 ghost use Rattle.cli_faults.specs.Stops.{status_of_stop};
-ghost use Rattle.cli_files.specs.Read.{IsRefused};
-ghost use Rattle.cli_runs.specs.Runs.{AreRun, IsCutAt, IsCutIn, IsNext, IsReported, IsReportedAs, IsRun, IsRunOn, is_input, status_of_ended};
+ghost use Rattle.cli_runs.specs.Runs.{AreRun, EndsAs, IsCutAt, IsCutIn, IsNext, IsRun, IsRunOn, is_input, status_of_ended};
 ghost use Rattle.cli_runs.specs.declared.report.Directories.TheVariants.{Walked};
 
 use crate::printed::report_on;
@@ -59,6 +58,10 @@ pub(crate) struct Room {
     pub(crate) others: u64,
 }
 
+/// The output failed: it could not be written, or memory ran out. That was reported.
+#[derive(Clone, Copy)]
+pub(crate) struct OutputFailed;
+
 /// Reads the files with these names, and reports on each, as [`run_files`] does. `is_read` is whether the standard input was
 /// read before: it is read once.
 pub(crate) fn run_each<R: Files + Input + AllocGlobal, W: Write, E: Write>(
@@ -82,7 +85,7 @@ pub(crate) fn run_each<R: Files + Input + AllocGlobal, W: Write, E: Write>(
     for name in names {
         match run_next(rt, request, name, is_read, &mut room, out, err) {
             Ok(next) => greatest = greater(greatest, next),
-            Err(failure) => return status(rt.alloc(), Err(Stopped::from(failure)), err),
+            Err(OutputFailed) => return 3,
         }
         is_read = is_read_after(is_read, name);
     }
@@ -91,7 +94,7 @@ pub(crate) fn run_each<R: Files + Input + AllocGlobal, W: Write, E: Write>(
 }
 
 /// Whether a name is that of the standard input.
-fn is_input(name: &[u8]) -> bool
+pub(crate) fn is_input(name: &[u8]) -> bool
     ensures { result ≡ is_input name.now }
 {
     name == STANDARD_INPUT.as_bytes()
@@ -119,12 +122,12 @@ pub(crate) fn greater(left: u8, right: u8) -> u8
 }
 
 /// Reports on what has this name: a file, or the files in a directory if it is walked. Returns the exit code. The standard input
-/// is refused if it was read before.
+/// is refused if it was read before, and a name that is not UTF-8.
 ///
 /// # Errors
 ///
-/// The output could not be written, or memory ran out. By then it has nothing or a prefix of the reports.
-fn run_next<'a, R: Files + Input + AllocGlobal, W: Write, E: Write>(
+/// The output failed. It has nothing or a prefix of the reports.
+fn run_next<R: Files + Input + AllocGlobal, W: Write, E: Write>(
     rt: &R,
     request: &Request<'_>,
     name: &[u8],
@@ -132,76 +135,60 @@ fn run_next<'a, R: Files + Input + AllocGlobal, W: Write, E: Write>(
     room: &mut Room,
     out: &mut W,
     err: &mut E,
-) -> Result<u8, Failure<'a>>
-    ensures limit { IfOk result (λ next. next ≤ 3) }
-    ensures done { IfOk result (IsNext request.now W.contents (is_read && is_input name.now) out.old out.new name.now) }
-    ensures cut { IfErr result (λ failure. IsOutput failure × IsCutIn request.now W.contents out.old out.new name.now) }
-    ensures quiet { IfOk result (λ next. next ≡ 0 → err.new ≡ err.old) }
+) -> Result<u8, OutputFailed>
+    ensures { EndsAs err.old err.new (IsNext request.now W.contents (is_read && is_input name.now) out.old out.new name.now)
+        (IsCutIn request.now W.contents out.old out.new name.now) result }
 {
+    let alloc = rt.alloc();
     if is_again(is_read, name) {
-        return Ok(refuse(rt.alloc(), Unread::InputAgain, err));
+        return Ok(refuse(alloc, Unread::InputAgain, err));
     }
-    match directory_of(rt, request, name) {
-        Some(root) => run_tree(rt, request, root, room, out, err),
-        None => run_file(rt, request, name, room, out, err),
+    let Ok(path) = str::from_utf8(name) else {
+        return Ok(report_unread(alloc, request, Failure::NotUtf8(name), name, err));
+    };
+    if is_walked(rt, request, path) {
+        run_tree(rt, request, path, room, out, err)
+    } else {
+        run_file(rt, request, path, room, out, err)
     }
 }
 
-/// The path of the directory with this name, if directories are walked and it is one.
-fn directory_of<'a, R: Files>(rt: &R, request: &Request<'_>, name: &'a [u8]) -> Option<&'a str>
-    ensures { IfSome result (λ _. request.now.directories ≡ Walked) }
+/// Whether a path is that of a directory, and directories are walked.
+fn is_walked<R: Files>(rt: &R, request: &Request<'_>, path: &str) -> bool
+    ensures { IsTrue result → request.now.directories ≡ Walked }
 {
-    if request.directories == Directories::Refused || is_input(name) {
-        return None;
+    match request.directories {
+        Directories::Refused => false,
+        Directories::Walked => path != STANDARD_INPUT && is_directory(rt, path),
     }
-    let path = str::from_utf8(name).ok()?;
-    let found = fs::metadata(rt, path).ok()?;
-    found.is_dir().then_some(path)
 }
 
-/// Reads the file with this name and reports on it. Returns its exit code.
+/// Whether a path is that of a directory.
+fn is_directory<R: Files>(rt: &R, path: &str) -> bool {
+    match fs::metadata(rt, path) {
+        Ok(found) => found.is_dir(),
+        Err(_) => false,
+    }
+}
+
+/// Reads the file with this path and reports on it. Returns its exit code.
 ///
 /// # Errors
 ///
-/// The output could not be written, or memory ran out. By then it has nothing or a prefix of the report.
-pub(crate) fn run_file<'a, R: Files + Input + AllocGlobal, W: Write, E: Write>(
+/// The output failed. It has nothing or a prefix of the report.
+fn run_file<R: Files + Input + AllocGlobal, W: Write, E: Write>(
     rt: &R,
     request: &Request<'_>,
-    name: &[u8],
+    path: &str,
     room: &mut Room,
     out: &mut W,
     err: &mut E,
-) -> Result<u8, Failure<'a>>
-    ensures limit { IfOk result (λ next. next ≤ 3) }
-    ensures done { IfOk result (IsRun request.now W.contents out.old out.new name.now) }
-    ensures cut { IfErr result (λ failure. IsOutput failure × IsCutAt request.now W.contents out.old out.new name.now) }
-    ensures quiet { IfOk result (λ next. next ≡ 0 → err.new ≡ err.old) }
+) -> Result<u8, OutputFailed>
+    ensures { EndsAs err.old err.new (IsRun request.now W.contents out.old out.new path.now) (IsCutAt request.now W.contents out.old out.new path.now) result }
 {
-    match read_named(rt, name, &mut room.bytes) {
-        Ok(file) => run_on_bytes(rt.alloc(), request, file, room.bytes.as_slice(), out, err),
-        Err(failure) => Ok(report_unread(rt.alloc(), request, failure, name, err)),
-    }
-}
-
-/// Reads the file with this name into a buffer, and returns its path.
-///
-/// # Errors
-///
-/// The name is not UTF-8, or the file cannot be read.
-fn read_named<'a, R: Files + Input>(
-    rt: &R,
-    name: &'a [u8],
-    bytes: &mut Vec<u8>,
-) -> Result<&'a str, Failure<'a>>
-    ensures path { IfOk result (λ file. file.now ≡ name.now) }
-    ensures refused { IfErr result (IsRefused name.now) }
-{
-    let Ok(file) = str::from_utf8(name) else {
-        return Err(Failure::NotUtf8(name));
-    };
-    match read_into(rt, file, bytes) {
-        Ok(()) => Ok(file),
-        Err(failure) => Err(failure),
+    match read_into(rt, path, &mut room.bytes) {
+        Ok(()) => run_on_bytes(rt.alloc(), request, path, room.bytes.as_slice(), out, err),
+        Err(failure) => Ok(report_unread(rt.alloc(), request, failure, path.as_bytes(), err)),
     }
 }
 
@@ -209,23 +196,23 @@ fn read_named<'a, R: Files + Input>(
 ///
 /// # Errors
 ///
-/// The output could not be written, or memory ran out.
-fn run_on_bytes<'a, W: Write, E: Write>(
+/// The output failed. It has nothing or a prefix of the report.
+pub(crate) fn run_on_bytes<W: Write, E: Write>(
     alloc: Global,
     request: &Request<'_>,
-    file: &str,
+    path: &str,
     bytes: &[u8],
     out: &mut W,
     err: &mut E,
-) -> Result<u8, Failure<'a>>
-    ensures limit { IfOk result (λ next. next ≤ 3) }
-    ensures done { IfOk result (IsReportedAs request.now W.contents out.old out.new file.now bytes.now) }
-    ensures cut { IfErr result (λ failure. IsOutput failure × IsReported request.now W.contents out.old out.new file.now bytes.now (Err failure)) }
-    ensures quiet { IfOk result (λ next. next ≡ 0 → err.new ≡ err.old) }
+) -> Result<u8, OutputFailed>
+    ensures { EndsAs err.old err.new (IsRun request.now W.contents out.old out.new path.now) (IsCutAt request.now W.contents out.old out.new path.now) result }
 {
-    match report_on(alloc, request, file, bytes, out) {
-        Ok(ended) => Ok(report_end(alloc, request, ended, file, bytes, err)),
-        Err(failure) => Err(failure),
+    match report_on(alloc, request, path, bytes, out) {
+        Ok(ended) => Ok(report_end(alloc, request, ended, path, bytes, err)),
+        Err(failure) => {
+            status(alloc, Err(Stopped::from(failure)), err);
+            Err(OutputFailed)
+        }
     }
 }
 

@@ -134,7 +134,8 @@ fn print_user_strings<'a, W: Write>(
 {
     match print_strings(alloc, bytes, request.input, out) {
         Ok(()) => Ended::Printed,
-        Err(failure) => Ended::Refused(Stop::Failed(failure)),
+        Err(Failure::Fault(fault)) => Ended::Refused(Stop::Failed(Failure::Fault(fault))),
+        Err(_) => Ended::Refused(Stop::Failed(Failure::OutOfMemory)),
     }
 }
 
@@ -208,7 +209,7 @@ fn print_named<'a, W: Write>(
         Ok(view) => match print_tokens(alloc, &view, numbers.as_slice(), out) {
             Ok(()) => Ended::Printed,
             Err(Failure::NoSuchRow) => Ended::Stopped(Stop::Failed(Failure::NoSuchRow)),
-            Err(failure) => Ended::Refused(Stop::Failed(failure)),
+            Err(_) => Ended::Refused(Stop::Failed(Failure::OutOfMemory)),
         },
         Err(fault) => Ended::Refused(Stop::Failed(Failure::Fault(fault))),
     }
@@ -248,6 +249,6 @@ fn print_at<'a, W: Write>(
         Ok(Found::Something) => Ended::Printed,
         Ok(Found::Nothing) => Ended::Stopped(Stop::NothingAt(offset)),
         Err(Failure::Fault(fault)) => Ended::Stopped(Stop::Failed(Failure::Fault(fault))),
-        Err(failure) => Ended::Refused(Stop::Failed(failure)),
+        Err(_) => Ended::Refused(Stop::Failed(Failure::OutOfMemory)),
     }
 }

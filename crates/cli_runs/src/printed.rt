@@ -63,10 +63,7 @@ fn send_report<'a, W: Write>(
         _ => {
             let (writer, sent) = printer.finish();
             let _ = writer;
-            match sent {
-                Ok(()) => Ok(ended),
-                Err(failure) => Err(failure),
-            }
+            sent.and(Ok(ended))
         }
     }
 }

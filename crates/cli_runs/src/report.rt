@@ -12,7 +12,7 @@ use packed::Fault;
 use table_schema::TableId;
 
 /// What to print of the tables of a file. Nothing is printed of a file that breaks a rule.
-#[derive(Clone, Copy, Debug, PartialEq, Eq)]
+#[derive(Clone, Copy)]
 pub enum Listing {
     /// The rows of all tables, or of one (II.22).
     Show(Option<TableId>, Names),
@@ -25,7 +25,7 @@ pub enum Listing {
 }
 
 /// What is printed of a check.
-#[derive(Clone, Copy, Debug, PartialEq, Eq)]
+#[derive(Clone, Copy)]
 pub enum Verdict {
     /// Nothing: the exit code alone says whether a rule is broken.
     Quiet,
@@ -65,7 +65,7 @@ pub enum Report<'a> {
 }
 
 /// Whether a file is named where it is reported on.
-#[derive(Clone, Copy, Debug, PartialEq, Eq)]
+#[derive(Clone, Copy)]
 pub enum Naming {
     /// It is the only one, so its name is not printed.
     Alone,
@@ -74,7 +74,7 @@ pub enum Naming {
 }
 
 /// What becomes of a directory that is named as a file.
-#[derive(Clone, Copy, Debug, PartialEq, Eq)]
+#[derive(Clone, Copy)]
 pub enum Directories {
     /// It cannot be read.
     Refused,
@@ -100,7 +100,7 @@ pub struct Request<'a> {
 }
 
 /// How a report on the bytes of a file ended.
-#[derive(Clone, Copy, Debug, PartialEq, Eq)]
+#[derive(Clone, Copy)]
 pub enum Ended<'a> {
     /// Its lines were printed.
     Printed,

@@ -1,15 +1,14 @@
 //! Reports on the files in a directory, and in the directories in it.
-ghost use Rattle.std.specs.Prelude.{◌≡◌, ◌≤◌, ◌⊎◌, IfErr, IfOk, List, ℕ};
-ghost use Rattle.cli_faults.specs.Status.{IsOutput};
-ghost use Rattle.cli_runs.specs.Runs.{AreRunAll, IsCutAmong, IsCutAt, IsVisited};
+ghost use Rattle.std.specs.Prelude.{◌≡◌, ◌⊎◌};
+ghost use Rattle.cli_runs.specs.Runs.{AreVisited, EndsAs, IsCutAmong, IsCutAtOne, IsVisited};
 ghost use Rattle.cli_runs.specs.declared.report.Directories.TheVariants.{Walked};
 ghost use Rattle.cli_walk.specs.Walks.{IsVisit};
 
-use crate::files::{Room, greater, report_unread, run_file};
+use crate::files::{OutputFailed, Room, greater, report_unread, run_on_bytes};
 use crate::report::{Directories, Report, Request, Verdict};
 use cli_faults::Failure;
 use cli_sending::send_message;
-use cli_walk::{Unread, Visit, Walk, begins_like, refuse};
+use cli_walk::{Unread, Visit, Walk, read_if_like, refuse};
 use std::alloc::Global;
 use std::io::Write;
 use std::rt::Files;
@@ -18,19 +17,16 @@ use std::rt::Files;
 ///
 /// # Errors
 ///
-/// The output could not be written, or memory ran out. By then it has nothing or a prefix of the reports.
-pub(crate) fn run_tree<'a, R: Files + Input + AllocGlobal, W: Write, E: Write>(
+/// The output failed. It has nothing or a prefix of the reports.
+pub(crate) fn run_tree<R: Files + Input + AllocGlobal, W: Write, E: Write>(
     rt: &R,
     request: &Request<'_>,
     root: &str,
     room: &mut Room,
     out: &mut W,
     err: &mut E,
-) -> Result<u8, Failure<'a>>
-    ensures limit { IfOk result (λ next. next ≤ 3) }
-    ensures done { IfOk result (λ next. (found : List (List ℕ)) × AreRunAll request.now W.contents out.old out.new found next) }
-    ensures cut { IfErr result (λ failure. IsOutput failure × IsCutAmong request.now W.contents out.old out.new) }
-    ensures quiet { IfOk result (λ next. next ≡ 0 → err.new ≡ err.old) }
+) -> Result<u8, OutputFailed>
+    ensures { EndsAs err.old err.new (AreVisited request.now W.contents out.old out.new) (IsCutAmong request.now W.contents out.old out.new) result }
 {
     let mut walk = match Walk::over(rt, root) {
         Ok(walk) => walk,
@@ -45,7 +41,7 @@ pub(crate) fn run_tree<'a, R: Files + Input + AllocGlobal, W: Write, E: Write>(
         };
         match run_visit(rt, request, visit, room, out, err) {
             Ok(next) => greatest = greater(greatest, next),
-            Err(failure) => return Err(failure),
+            Err(OutputFailed) => return Err(OutputFailed),
         }
     }
     Ok(greatest)
@@ -55,50 +51,45 @@ pub(crate) fn run_tree<'a, R: Files + Input + AllocGlobal, W: Write, E: Write>(
 ///
 /// # Errors
 ///
-/// The output could not be written, or memory ran out.
-fn run_visit<'a, R: Files + Input + AllocGlobal, W: Write, E: Write>(
+/// The output failed.
+fn run_visit<R: Files + Input + AllocGlobal, W: Write, E: Write>(
     rt: &R,
     request: &Request<'_>,
     visit: Visit<'_>,
     room: &mut Room,
     out: &mut W,
     err: &mut E,
-) -> Result<u8, Failure<'a>>
+) -> Result<u8, OutputFailed>
     requires { IsVisit visit }
-    ensures limit { IfOk result (λ next. next ≤ 3) }
-    ensures done { IfOk result (IsVisited request.now W.contents out.old out.new) }
-    ensures cut { IfErr result (λ failure. IsOutput failure × ((name : List ℕ) × IsCutAt request.now W.contents out.old out.new name)) }
-    ensures quiet { IfOk result (λ next. next ≡ 0 → err.new ≡ err.old) }
+    ensures { EndsAs err.old err.new (IsVisited request.now W.contents out.old out.new) (IsCutAtOne request.now W.contents out.old out.new) result }
 {
     match visit {
         Visit::Passed => Ok(0),
         Visit::Special(path) => Ok(refuse(rt.alloc(), Unread::Special(path), err)),
         Visit::Unread(path, failure) => Ok(report_unread(rt.alloc(), request, failure, path, err)),
-        Visit::File(path) => run_found(rt, request, path, room, out, err),
+        Visit::File(path, reported) => run_found(rt, request, path, reported, room, out, err),
     }
 }
 
-/// Reports on a file that was found in a directory, and returns its exit code. If it does not begin like a file of the kind that
-/// is asked for, it is passed over, and counted.
+/// Reports on a file that was found in a directory, and had `reported` bytes. Returns its exit code. If it does not begin like a
+/// file of the kind that is asked for, it is passed over, and counted.
 ///
 /// # Errors
 ///
-/// The output could not be written, or memory ran out.
-fn run_found<'a, R: Files + Input + AllocGlobal, W: Write, E: Write>(
+/// The output failed.
+fn run_found<R: Files + Input + AllocGlobal, W: Write, E: Write>(
     rt: &R,
     request: &Request<'_>,
     path: &str,
+    reported: u64,
     room: &mut Room,
     out: &mut W,
     err: &mut E,
-) -> Result<u8, Failure<'a>>
-    ensures limit { IfOk result (λ next. next ≤ 3) }
-    ensures done { IfOk result (IsVisited request.now W.contents out.old out.new) }
-    ensures cut { IfErr result (λ failure. IsOutput failure × ((name : List ℕ) × IsCutAt request.now W.contents out.old out.new name)) }
-    ensures quiet { IfOk result (λ next. next ≡ 0 → err.new ≡ err.old) }
+) -> Result<u8, OutputFailed>
+    ensures { EndsAs err.old err.new (IsVisited request.now W.contents out.old out.new) (IsCutAtOne request.now W.contents out.old out.new) result }
 {
-    match begins_like(rt, path, request.input, &mut room.bytes) {
-        Ok(true) => run_file(rt, request, path.as_bytes(), room, out, err),
+    match read_if_like(rt, path, reported, request.input, &mut room.bytes) {
+        Ok(true) => run_on_bytes(rt.alloc(), request, path, room.bytes.as_slice(), out, err),
         Ok(false) => {
             room.others = room.others.saturating_add(1);
             Ok(0)

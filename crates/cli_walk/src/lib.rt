@@ -1,11 +1,11 @@
 //! Walks directories, and reports what is not read there.
 //!
 //! A [`Walk`] goes over what is in a directory and in the directories in it, and says of each what it is, as a [`Visit`].
-//! [`begins_like`] reads the first bytes of a file. [`refuse`] reports what is [`Unread`].
+//! [`read_if_like`] reads a file, if its first bytes are those of the kind that is asked for. [`refuse`] reports what is [`Unread`].
 //!
 //! ```text
 //! let mut walk = Walk::over(&rt, "lib")?;
-//! walk.next(&rt) // Some(Visit::File("lib/one_module.dll"))
+//! walk.next(&rt) // Some(Visit::File("lib/one_module.dll", 1024))
 //! ```
 #![tactic(auto)]
 
@@ -13,4 +13,4 @@ mod unread;
 mod walk;
 
 pub use unread::{Unread, refuse};
-pub use walk::{Visit, Walk, begins_like};
+pub use walk::{Visit, Walk, read_if_like};

@@ -1,9 +1,11 @@
 //! Walks a directory, and the directories in it.
-ghost use Rattle.std.specs.Prelude.{◌≡◌, IfErr, IfOk, IfSome};
+ghost use Rattle.std.specs.Prelude.{◌≡◌, IfErr, IfOk, IfSome, OnOk};
+ghost use Rattle.std.specs.Io.KnownBytes.{Consumes};
 ghost use Rattle.cli_files.specs.Read.{IsRefused};
-ghost use Rattle.cli_walk.specs.Walks.{BeginsLike, IsVisit, signature_of};
+ghost use Rattle.cli_walk.specs.Walks.{IsReadIfLike, IsVisit, signature_of};
 
 use cli_faults::Failure;
+use cli_files::LIMIT;
 use cli_input::Input;
 use std::alloc::AllocError;
 use std::fs::Metadata;
@@ -11,11 +13,14 @@ use std::io::{BufRead, BufReader, Read};
 use std::rt::Files;
 use std::{fs, io};
 
+/// The number of bytes that are read of a file before it is known to be of the kind that is asked for.
+const FIRST: usize = 1 << 14;
+
 /// What a walk comes to.
 #[derive(Clone, Copy)]
 pub enum Visit<'a> {
-    /// A file with this path.
-    File(&'a str),
+    /// A file with this path, which had this number of bytes.
+    File(&'a str, u64),
     /// What has this path is neither a file, a directory nor a link: a pipe, a socket or a device. To open it could block.
     Special(&'a str),
     /// What has this path, which need not be UTF-8, could not be read.
@@ -103,7 +108,7 @@ fn look_at<'a, R: Files + AllocGlobal>(
         return Visit::Unread(path, Failure::NotUtf8(path));
     };
     match enter(rt, text, pending) {
-        Ok(found) if found.is_file() => Visit::File(text),
+        Ok(found) if found.is_file() => Visit::File(text, found.len()),
         Ok(found) if found.is_dir() || found.is_symlink() => Visit::Passed,
         Ok(_) => Visit::Special(text),
         Err(error) => Visit::Unread(path, Failure::of_reading(&error, text)),
@@ -161,22 +166,44 @@ fn signature_of(input: Input) -> &'static [u8]
     }
 }
 
-/// Whether a file begins like one of this kind. The buffer is used to read it.
+/// Reads a file into a buffer, or its first 2^30 + 1 bytes if it has more, if it begins like one of this kind. Otherwise the
+/// buffer holds anything. Returns whether it begins so. It is opened once, and expected to have `reported` bytes.
 ///
 /// # Errors
 ///
-/// The file could not be read, or memory ran out.
-pub fn begins_like<R: Files>(
+/// The file could not be read, or memory ran out. Then the buffer holds anything.
+pub fn read_if_like<R: Files>(
     rt: &R,
     path: &str,
+    reported: u64,
     input: Input,
-    buffer: &mut Vec<u8>,
+    bytes: &mut Vec<u8>,
 ) -> io::Result<bool>
-    ensures { IfOk result (λ begins. (file : R.File) × BeginsLike (R.File.remaining file) input begins) }
+    ensures { IfOk result (λ begins. (file : R.File) × IsReadIfLike R.File.remaining file input begins bytes.new.items) }
 {
     let signature = signature_of(input);
-    let file = fs::open(rt, path)?;
-    buffer.clear();
-    file.take(signature.len() as u64).read_to_end(buffer)?;
-    Ok(signature == buffer.as_slice())
+    let mut file = fs::open(rt, path)?.take(LIMIT + 1);
+    read_once(&mut file, bytes)?;
+    // If fewer bytes than the signature has were read, the rest decides.
+    if bytes.len() >= signature.len() && !bytes.starts_with(signature) {
+        return Ok(false);
+    }
+    // Room for the reported size and one byte more, to see the end.
+    bytes.reserve_exact(reported.min(LIMIT) as usize + 1)?;
+    file.read_to_end(bytes)?;
+    Ok(bytes.starts_with(signature))
+}
+
+/// Replaces what a buffer holds by the bytes that one call reads. If the call fails, there are none: the next one fails too, or
+/// reads them.
+fn read_once<F: Read>(reader: &mut F, bytes: &mut Vec<u8>) -> Result<(), AllocError>
+    ensures { OnOk result (Consumes (F.remaining reader.old) (F.remaining reader.new) bytes.new.items) }
+{
+    bytes.resize(FIRST, 0)?;
+    let count = match reader.read(bytes.as_mut_slice()) {
+        Ok(count) => count,
+        Err(_) => 0,
+    };
+    bytes.truncate(count);
+    Ok(())
 }

@@ -13,7 +13,7 @@ pub(crate) const USAGE: Usage<'static> = Usage {
         RECURSIVE,
         argument!["quiet" EitherFlag('q') "Print no faults; only the exit status reports them"],
         JSON,
-        argument!["where" Flag "Print what contains the byte at a fault, and explain it"],
+        argument!["where" Flag "Print what contains the byte at a fault; explain it"],
     ],
     output: "\
 Prints 'ok' if FILE breaks no rule. Otherwise prints only the first fault, to
@@ -46,9 +46,10 @@ it, in the order of the bytes of their names. It follows no link there. It
 passes over files that do not begin like a PE file ('MZ'; with '--bare' 'BSJB'),
 and writes their number to standard error at the end.
 
-'--files-from -' reads the names of the files from standard input, one on each
-line. With '-0' each name ends with a NUL instead, as 'find . -name '*.dll'
--print0 | clim check -0' gives them.
+'--files-from LIST' reads the names of the files from the file LIST, or from
+standard input if it is '-', one on each line. With '-0' each name ends with a
+NUL instead, and LIST need not be given, as in
+'find . -name '*.dll' -print0 | clim check -0'.
 
 '--quiet' prints neither these lines nor the faults. The exit status is the
 same. Errors of reading and checking are still printed to standard error.
@@ -60,12 +61,12 @@ status is the same. For several FILEs each object also has the member 'file'.
 
 '--where' prints to standard output: the line of the fault, then a line as by
 'clim where' for each structure that contains the byte at OFFSET, a line with
-the number there and what the rule compares it with, if there is one, an empty
-line, and the text of 'clim explain'. Only the parts that are valid are
-described, up to the first fault: the headers of the PE file, the CLI header,
-the metadata root and the table stream. So a fault of layers 5 to 7 has the line
-of a cell, and one of layer 1 has no line of a structure. The exit status is the
-same.
+OFFSET in hexadecimal, and with the number there and what the rule compares it
+with if it is about one, an empty line, and the text of 'clim explain'. Only the
+parts that are valid are described, up to the first fault: the headers of the PE
+file, the CLI header, the metadata root and the table stream. So a fault of
+layers 5 to 7 has the line of a cell, and one of layer 1 has no line of a
+structure. The exit status is the same.
 
 Examples:
   $ clim check one_module.dll

@@ -25,10 +25,10 @@ Then come the first 20 cells that differ, in the rows that both files have:
 'TOKEN COLUMN: A | B', with the name of the column (ECMA-335, II.22). The values
 are printed as by 'clim show'.
 
-'--ignore TABLE.COLUMN' does not compare the cells of this column, by the names
-of ECMA-335, II.22. The option may be given several times. 'equal' then means:
-the same except for these columns. '--ignore Module.Mvid' compares two builds of
-the same source, whose module versions differ.
+'--ignore TABLE.COLUMN' does not compare the cells of this column, one of those
+that 'clim show --help' lists. The option may be given several times. 'equal'
+then means: the same except for these columns. '--ignore Module.Mvid' compares
+two builds of the same source, whose module versions differ.
 
 '--json' prints a JSON object (RFC 8259) on each line: '{\"equal\":true}', or a
 'difference', which is Version, UserStrings, RowCount with its 'table', or Cell

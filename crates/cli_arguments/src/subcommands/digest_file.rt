@@ -17,7 +17,7 @@ Several FILEs have a line each, in the order given. A FILE without a digest (it
 breaks a rule, or cannot be read) is reported to standard error with its name,
 and the next one follows. The exit status is the greatest. 'clim digest -r .'
 prints the digests of all assemblies of a folder. 'clim check --help' says what
-'-r', '-0' and '--files-from -' read.
+'-r', '-0' and '--files-from' read.
 
 '--json' prints a JSON object (RFC 8259) on each line, with the 'digest' and the
 'file'.

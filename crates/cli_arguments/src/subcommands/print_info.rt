@@ -35,7 +35,7 @@ are printed as they are; all else that is not printable ASCII is escaped.
 For several FILEs each line begins with 'FILE: '. A FILE that breaks a rule or
 cannot be read is reported to standard error with its name, and the next one
 follows. The exit status is the greatest. 'clim check --help' says what '-r',
-'-0' and '--files-from -' read.
+'-0' and '--files-from' read.
 
 With '--json' each line is a JSON object (RFC 8259) with the same values, the
 parts of an identity apart. Of an attribute it has the first argument. For

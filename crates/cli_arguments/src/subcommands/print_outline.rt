@@ -36,7 +36,7 @@ are printed as they are; all else that is not printable ASCII is escaped.
 For several FILEs each line begins with 'FILE: '. A FILE that breaks a rule, has
 no such type or cannot be read is reported to standard error with its name, and
 the next one follows. The exit status is the greatest. 'clim check --help' says
-what '-r', '-0' and '--files-from -' read.
+what '-r', '-0' and '--files-from' read.
 
 The last argument after a FILE is NAME, unless it has the form of a path: it is
 '-', begins with '/', './' or '../', or ends in .dll, .exe, .winmd or

@@ -16,7 +16,7 @@ as by 'clim check'.
 For several FILEs each line begins with 'FILE: '. A FILE that breaks a rule or
 cannot be read is reported to standard error with its name, and the next one
 follows. The exit status is the greatest. 'clim check --help' says what '-r',
-'-0' and '--files-from -' read.
+'-0' and '--files-from' read.
 
 '--json' prints a JSON object (RFC 8259) on each line, as 'clim outline --json'.
 For several FILEs the 'file' comes first.

@@ -29,7 +29,7 @@ is no such resource in FILE, the exit status is 1.
 For several FILEs each line begins with 'FILE: '. A FILE that breaks a rule or
 cannot be read is reported to standard error with its name, and the next one
 follows. The exit status is the greatest. 'clim check --help' says what '-r',
-'-0' and '--files-from -' read.
+'-0' and '--files-from' read.
 
 '--json' prints a JSON object (RFC 8259) on each line. Its member 'resource' is
 an object with the 'token', the 'offset' and the 'size', or what has it, the

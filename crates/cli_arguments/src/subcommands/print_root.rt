@@ -24,7 +24,7 @@ and two hexadecimal digits. Tables, heaps and signatures are not checked.
 For several FILEs each line begins with 'FILE: '. A FILE that breaks a rule or
 cannot be read is reported to standard error with its name, and the next one
 follows. The exit status is the greatest. 'clim check --help' says what '-r',
-'-0' and '--files-from -' read.
+'-0' and '--files-from' read.
 
 '--until-fault' also prints the lines of a broken FILE, as far as its headers
 can be read: that of the CLI header if layers 1 and 2 of 'clim check --help'

@@ -41,7 +41,7 @@ error, and the exit status is 1.
 
 The last argument is OFFSET, decimal or hexadecimal after '0x'. For several
 FILEs each line begins with 'FILE: '. The exit status is the greatest. 'clim
-check --help' says what '-r', '-0' and '--files-from -' read.
+check --help' says what '-r', '-0' and '--files-from' read.
 
 '--json' prints a JSON object (RFC 8259) on each line, with the 'offset', the
 'size' and the 'structure' that contains the byte. A 'cell' also has its

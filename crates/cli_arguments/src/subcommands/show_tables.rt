@@ -32,24 +32,51 @@ is printed.
 For several FILEs each line begins with 'FILE: '. A FILE that breaks a rule or
 cannot be read is reported to standard error with its name, and the next one
 follows. The exit status is the greatest. 'clim check --help' says what '-r',
-'-0' and '--files-from -' read.
+'-0' and '--files-from' read.
 
 TABLE is the name or the number of a table. Only its rows are printed. The last
 argument after a FILE is TABLE if it has no dash, dot or slash; a FILE with such
-a name can be given as ./NAME. The tables are:
-  00 Module                 01 TypeRef                02 TypeDef
-  04 Field                  06 MethodDef              08 Param
-  09 InterfaceImpl          0A MemberRef              0B Constant
-  0C CustomAttribute        0D FieldMarshal           0E DeclSecurity
-  0F ClassLayout            10 FieldLayout            11 StandAloneSig
-  12 EventMap               14 Event                  15 PropertyMap
-  17 Property               18 MethodSemantics        19 MethodImpl
-  1A ModuleRef              1B TypeSpec               1C ImplMap
-  1D FieldRVA               20 Assembly               21 AssemblyProcessor
-  22 AssemblyOS             23 AssemblyRef            24 AssemblyRefProcessor
-  25 AssemblyRefOS          26 File                   27 ExportedType
-  28 ManifestResource       29 NestedClass            2A GenericParam
-  2B MethodSpec             2C GenericParamConstraint
+a name can be given as ./NAME. The tables and their columns are:
+  00 Module: Generation Name Mvid EncId EncBaseId
+  01 TypeRef: ResolutionScope TypeName TypeNamespace
+  02 TypeDef: Flags TypeName TypeNamespace Extends FieldList MethodList
+  04 Field: Flags Name Signature
+  06 MethodDef: RVA ImplFlags Flags Name Signature ParamList
+  08 Param: Flags Sequence Name
+  09 InterfaceImpl: Class Interface
+  0A MemberRef: Class Name Signature
+  0B Constant: Type Parent Value
+  0C CustomAttribute: Parent Type Value
+  0D FieldMarshal: Parent NativeType
+  0E DeclSecurity: Action Parent PermissionSet
+  0F ClassLayout: PackingSize ClassSize Parent
+  10 FieldLayout: Offset Field
+  11 StandAloneSig: Signature
+  12 EventMap: Parent EventList
+  14 Event: EventFlags Name EventType
+  15 PropertyMap: Parent PropertyList
+  17 Property: Flags Name Type
+  18 MethodSemantics: Semantics Method Association
+  19 MethodImpl: Class MethodBody MethodDeclaration
+  1A ModuleRef: Name
+  1B TypeSpec: Signature
+  1C ImplMap: MappingFlags MemberForwarded ImportName ImportScope
+  1D FieldRVA: RVA Field
+  20 Assembly: HashAlgId MajorVersion MinorVersion BuildNumber RevisionNumber
+     Flags PublicKey Name Culture
+  21 AssemblyProcessor: Processor
+  22 AssemblyOS: OSPlatformID OSMajorVersion OSMinorVersion
+  23 AssemblyRef: MajorVersion MinorVersion BuildNumber RevisionNumber Flags
+     PublicKeyOrToken Name Culture HashValue
+  24 AssemblyRefProcessor: Processor AssemblyRef
+  25 AssemblyRefOS: OSPlatformID OSMajorVersion OSMinorVersion AssemblyRef
+  26 File: Flags Name HashValue
+  27 ExportedType: Flags TypeDefId TypeName TypeNamespace Implementation
+  28 ManifestResource: Offset Flags Name Implementation
+  29 NestedClass: NestedClass EnclosingClass
+  2A GenericParam: Number Flags Owner Name
+  2B MethodSpec: Method Instantiation
+  2C GenericParamConstraint: Owner Constraint
 
 '--names' begins the line of a row with its token instead of its number, and
 prints the name of the column and an equals sign before each cell. So each line

@@ -1,6 +1,5 @@
-use Rattle.std.proofs.Common.{◌∙◌, ap, arith, inl, inr, refl, sym}
-use Rattle.cli_faults.specs.Stops.{status_of_stop}
-use Rattle.cli_runs.proofs.Running.{all_ended, names_of, next_cut, next_ended, output_code, started}
+use Rattle.std.proofs.Common.{◌∙◌, arith, inl, inr, refl}
+use Rattle.cli_runs.proofs.Running.{all_ended, names_of, next_cut, next_ended, started}
 use Rattle.cli_runs.proofs.files.run_each.Goals as goal
 
 pub loop-name-init : goal.loop-name-init
@@ -12,20 +11,15 @@ loop-name-init g c = record {
 
 pub returns-in-Err-clause-run : goal.returns-in-Err-clause-run
 returns-in-Err-clause-run g c =
-    next_cut c.args.request.now g.W.Write.contents c.args.is_read c.args.out.now c.loop-name.is_read c.loop-name.out c.run_next.new.out c.args.names.now c.loop-name.name-index _ c.loop-name.greatest c.status.result _
-    c.loop-name-test.true (c.status.ensures.status ∙ ap status_of_stop c.from.ensures.0 ∙ output_code c.in-Err.failure c.in-Err.ensures.cut.0) c.loop-name.invariant.within c.loop-name.invariant.completes c.in-Err.ensures.cut.1
-
-pub returns-in-Err-clause-quiet : goal.returns-in-Err-clause-quiet
-returns-in-Err-clause-quiet g c success =
-    let three = c.status.ensures.status ∙ ap status_of_stop c.from.ensures.0 ∙ output_code c.in-Err.failure c.in-Err.ensures.cut.0 in
-    let wrong = sym success ∙ three in cc
+    next_cut c.args.request.now g.W.Write.contents c.args.is_read c.args.out.now c.loop-name.is_read c.loop-name.out c.run_next.new.out c.args.names.now c.loop-name.name-index _ c.loop-name.greatest _
+    c.loop-name-test.true c.loop-name.invariant.within c.loop-name.invariant.completes c.in-Err.ensures
 
 pub loop-name-preserved : goal.loop-name-preserved
 loop-name-preserved g c = record {
   completes = next_ended c.args.request.now g.W.Write.contents c.args.is_read c.args.out.now c.loop-name.is_read c.loop-name.out c.run_next.new.out c.args.names.now c.loop-name.name-index _ c.loop-name.greatest c.in-Ok.next
-      c.greater-greatest.result _ c.is_read_after-is_read.result c.loop-name-test.true c.greater-greatest.ensures c.is_read_after-is_read.ensures c.loop-name.invariant.completes c.in-Ok.ensures.done;
-  within = omega (arith, c.greater-greatest.ensures, c.loop-name.invariant.within, c.in-Ok.ensures.limit);
-  quiet = λ is. c.in-Ok.ensures.quiet (omega (arith, c.greater-greatest.ensures, is)) ∙ c.loop-name.invariant.quiet (omega (arith, c.greater-greatest.ensures, is));
+      c.greater-greatest.result _ c.is_read_after-is_read.result c.loop-name-test.true c.greater-greatest.ensures c.is_read_after-is_read.ensures c.loop-name.invariant.completes c.in-Ok.ensures.2;
+  within = omega (arith, c.greater-greatest.ensures, c.loop-name.invariant.within, c.in-Ok.ensures.0);
+  quiet = λ is. c.in-Ok.ensures.1 (omega (arith, c.greater-greatest.ensures, is)) ∙ c.loop-name.invariant.quiet (omega (arith, c.greater-greatest.ensures, is));
 }
 
 pub returns-clause-run : goal.returns-clause-run

@@ -1,29 +1,33 @@
-use Rattle.std.proofs.Common.{◌∙◌, ◌≡◌, ◌&&◌, Bool, false, inl, inr, refl, subst, sym, true}
-use Rattle.std.proofs.lemmas.Result.{IfErr-weaker, IfOk-weaker}
-use Rattle.cli_runs.specs.Runs.{IsNext, is_input}
+use Rattle.std.proofs.Common.{◌∙◌, ◌≡◌, ◌&&◌, List, ℕ, Err, arith, inl, inr, refl, subst, sym, true}
+use Rattle.cli_faults.specs.declared.failure.Failure.TheVariants.{NotUtf8}
+use Rattle.cli_runs.specs.Runs.{IsCutAt, IsRun, is_input}
+use Rattle.cli_runs.proofs.Running.{ends_weaker, next_run}
 use Rattle.cli_runs.proofs.files.run_next.Goals as goal
 
-pub returns-then-is_again-clause-done : goal.returns-then-is_again-clause-done
-returns-then-is_again-clause-done g c =
+pub returns-then-is_again : goal.returns-then-is_again
+returns-then-is_again g c =
     let again : (c.args.is_read && is_input c.args.name.now) ≡ true = sym c.is_again.ensures ∙ c.if-is_again.true in
-    subst (λ (b : Bool). IsNext c.args.request.now g.W.Write.contents b c.args.out.now c.args.out.now c.args.name.now c.refuse.result) (sym again) (refl, c.refuse.ensures)
+    (omega (arith, c.refuse.ensures), (λ is. absurd (omega (arith, c.refuse.ensures, is))), rw again (refl, c.refuse.ensures))
 
-pub returns-in-Some-clause-done : goal.returns-in-Some-clause-done
-returns-in-Some-clause-done g c =
-    let first : (c.args.is_read && is_input c.args.name.now) ≡ false = sym c.is_again.ensures ∙ c.if-is_again.false in
-    IfOk-weaker c.run_tree.result _ _ (λ next ran.
-    subst (λ (b : Bool). IsNext c.args.request.now g.W.Write.contents b c.args.out.now c.run_tree.new.out c.args.name.now next) (sym first)
-    (inr (c.in-Some.ensures, ran.0, ran.1))) c.run_tree.ensures.done
+pub returns-in_default : goal.returns-in_default
+returns-in_default g c = (
+  c.report_unread.ensures.limit,
+  c.report_unread.ensures.quiet,
+  next_run c.args.request.now g.W.Write.contents _ c.args.out.now c.args.out.now c.args.name.now c.report_unread.result (sym c.is_again.ensures ∙ c.if-is_again.false)
+      (inl (Err (NotUtf8 c.args.name), ((refl, c.in_default.ensures.cases.0), c.report_unread.ensures.status, refl))),
+)
 
-pub returns-in-Some-clause-cut : goal.returns-in-Some-clause-cut
-returns-in-Some-clause-cut g c = IfErr-weaker c.run_tree.result _ _ (λ failure cut. (cut.0, inr (c.in-Some.ensures, cut.1))) c.run_tree.ensures.cut
+pub returns-then-is_walked : goal.returns-then-is_walked
+returns-then-is_walked g c =
+    let walked = c.is_walked.ensures c.if-is_walked.true in
+    ends_weaker _ _ _ _ _ _ c.run_tree.result
+    (λ status ran. next_run c.args.request.now g.W.Write.contents _ c.args.out.now c.run_tree.new.out c.args.name.now status (sym c.is_again.ensures ∙ c.if-is_again.false) (inr (walked, ran)))
+    (λ cut. inr (walked, cut)) c.run_tree.ensures
 
-pub returns-in-None-clause-done : goal.returns-in-None-clause-done
-returns-in-None-clause-done g c =
-    let first : (c.args.is_read && is_input c.args.name.now) ≡ false = sym c.is_again.ensures ∙ c.if-is_again.false in
-    IfOk-weaker c.run_file.result _ _ (λ next ran.
-    subst (λ (b : Bool). IsNext c.args.request.now g.W.Write.contents b c.args.out.now c.run_file.new.out c.args.name.now next) (sym first)
-    (inl ran)) c.run_file.ensures.done
-
-pub returns-in-None-clause-cut : goal.returns-in-None-clause-cut
-returns-in-None-clause-cut g c = IfErr-weaker c.run_file.result _ _ (λ failure cut. (cut.0, inl cut.1)) c.run_file.ensures.cut
+pub returns-else-is_walked : goal.returns-else-is_walked
+returns-else-is_walked g c =
+    let path = c.in-Ok.ensures.cases.0 in
+    ends_weaker _ _ _ _ _ _ c.run_file.result
+    (λ status ran. next_run c.args.request.now g.W.Write.contents _ c.args.out.now c.run_file.new.out c.args.name.now status (sym c.is_again.ensures ∙ c.if-is_again.false)
+    (inl (subst (λ (of : List ℕ). IsRun c.args.request.now g.W.Write.contents c.args.out.now c.run_file.new.out of status) path ran)))
+    (λ cut. inl (subst (IsCutAt c.args.request.now g.W.Write.contents c.args.out.now c.run_file.new.out) path cut)) c.run_file.ensures

@@ -1,4 +1,4 @@
-use Rattle.std.proofs.Common.{◌≡◌, List, map, refl, subst, sym}
+use Rattle.std.proofs.Common.{map, refl, subst, sym}
 use Rattle.cli_regions.specs.Kept.{seen}
 use Rattle.cli_where.specs.Where.{AreStructuresAt}
 use Rattle.cli_where.specs.declared.walk.Reach.TheVariants.{Cells}

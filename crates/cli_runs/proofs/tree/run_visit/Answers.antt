@@ -1,11 +1,24 @@
-use Rattle.std.proofs.Common.{Err, inr, refl, subst}
+use Rattle.std.proofs.Common.{Err, arith, inl, inr, refl, subst}
 use Rattle.cli_faults.specs.declared.failure.Failure.TheVariants.{OutOfMemory}
 use Rattle.cli_walk.specs.Walks.{IsVisit}
 use Rattle.cli_runs.proofs.tree.run_visit.Goals as goal
 
-pub returns-in-Special-clause-done : goal.returns-in-Special-clause-done
-returns-in-Special-clause-done g c = inr (c.in-Special.path.now, (Err OutOfMemory, (tt, c.refuse.ensures, refl)))
+pub returns-in-Passed : goal.returns-in-Passed
+returns-in-Passed g c = (omega arith, (λ is. refl), inl (refl, refl))
 
-pub returns-in-Unread-clause-done : goal.returns-in-Unread-clause-done
-returns-in-Unread-clause-done g c =
-    inr (c.in-Unread.path.now, (Err c.in-Unread.failure, (subst IsVisit c.in-Unread.is c.requires, c.report_unread.ensures.status, refl)))
+pub returns-in-File : goal.returns-in-File
+returns-in-File g c = c.run_found.ensures
+
+pub returns-in-Special : goal.returns-in-Special
+returns-in-Special g c = (
+  omega (arith, c.refuse.ensures),
+  (λ is. absurd (omega (arith, c.refuse.ensures, is))),
+  inr (c.in-Special.path.now, (Err OutOfMemory, (tt, c.refuse.ensures, refl))),
+)
+
+pub returns-in-Unread : goal.returns-in-Unread
+returns-in-Unread g c = (
+  c.report_unread.ensures.limit,
+  c.report_unread.ensures.quiet,
+  inr (c.in-Unread.path.now, (Err c.in-Unread.failure, (subst IsVisit c.in-Unread.is c.requires, c.report_unread.ensures.status, refl))),
+)
