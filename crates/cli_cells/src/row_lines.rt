@@ -16,7 +16,7 @@ use std::io::Write;
 use table_schema::cell_count;
 
 /// Whether columns are named in the line of a row. In JSON they always are.
-#[derive(Clone, Copy, Debug, PartialEq, Eq)]
+#[derive(Clone, Copy, PartialEq, Eq)]
 pub enum Names {
     /// The line begins with the number of the row and a colon, and a cell is its value alone.
     Hidden,

@@ -21,7 +21,7 @@ const IMPL_FLAGS: usize = 1;
 const CODE_TYPES: u32 = 4;
 
 /// The body of a method in a file (II.25.4).
-#[derive(Clone, Copy, Debug, PartialEq, Eq)]
+#[derive(Clone, Copy, PartialEq, Eq)]
 pub struct Body {
     /// The row of the method, from 1.
     pub row: u32,

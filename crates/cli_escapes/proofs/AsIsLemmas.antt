@@ -1,5 +1,5 @@
 -- A text whose escapes are read back, byte by byte.
-use Rattle.std.proofs.Common.{OnOk, is_ok, ◌==◌, false, true, ◌≡◌, ℕ, zero, suc, ◌-◌, ◌<◌, ◌≤◌, Bool, if◌then◌else◌, Option, Some, None, Result, Ok, Err, MatchResult, IsUtf8, Bor, List, [], ◌∷◌, ◌++◌, drop, length, ap, append_assoc, append-nil, arith, refl, sym, ◌∙◌}
+use Rattle.std.proofs.Common.{◌==◌, false, true, ◌≡◌, ℕ, zero, suc, ◌-◌, ◌<◌, ◌≤◌, Bool, if◌then◌else◌, Option, Some, None, Result, Ok, Err, MatchResult, IsUtf8, Bor, List, [], ◌∷◌, ◌++◌, drop, length, ap, append_assoc, append-nil, arith, refl, sym, ◌∙◌}
 use Rattle.std.specs.Prelude.{slice_get, slice_index}
 use Rattle.std.specs.Option.{unwrap_or}
 use Rattle.std.specs.Result.{result_unwrap_or}
@@ -8,7 +8,7 @@ use Rattle.std.proofs.lemmas.Bool.{false_from_ne_true}
 use Rattle.std.proofs.lemmas.Str.{IsUtf8-from_is_utf8, is_utf8-from_IsUtf8}
 use Rattle.std.proofs.lemmas.List.{drop_all}
 use Rattle.cli_escapes.specs.Escapes.{escaped_at}
-use Rattle.cli_escapes.specs.AsIs.{unescaped, unescaped_after}
+use Rattle.cli_escapes.specs.AsIs.{as_is, unescaped, unescaped_after}
 
 -- a byte is passed over
 pub passed : (skipped : ℕ) (text : List ℕ) → 0 < skipped → unescaped_after (skipped - 1) (drop 1 text) ≡ unescaped_after skipped text
@@ -62,8 +62,10 @@ plain_read (byte ∷ tail) none =
     let later = plain_read tail (λ k low lt. none (suc k) (omega arith) (omega (arith, lt))) in
     rw (← not_escaped byte tail first) (ap (λ t. byte ∷ t) later)
 
--- a text that was appended, unless memory ran out
-pub appended : {T E : Type 0} (result : Result T E) (old new text : List ℕ) → new ≡ (if is_ok result then old ++ text else old) → unescaped text ≡ text
-    → OnOk result (new ≡ old ++ unescaped text)
-appended (Ok done) old new text is plain = is ∙ ap (λ t. old ++ t) (sym plain)
-appended (Err error) old new text is plain = tt
+-- so it is the same text as it is
+either : (b : Bool) (text : List ℕ) → text ≡ (if b then text else text)
+either true text = refl
+either false text = refl
+
+pub plain_as_is : (text : List ℕ) → ((k : ℕ) → 0 ≤ k → k < length text → ¬ ((slice_index text k == 92) ≡ true)) → text ≡ as_is text
+plain_as_is text none = either (is_utf8 text) text ∙ ap (λ (t : List ℕ). if is_utf8 t then t else text) (sym (plain_read text none))

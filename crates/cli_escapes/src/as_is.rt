@@ -1,7 +1,7 @@
 //! The text of a declaration with the names as they are in the file.
 ghost use Rattle.std.specs.Prelude.{◌≡◌, ◌++◌, IfOk, OnOk, if◌then◌else◌, drop};
 ghost use Rattle.std.specs.Str.{is_utf8};
-ghost use Rattle.cli_escapes.specs.AsIs.{unescaped, unescaped_after};
+ghost use Rattle.cli_escapes.specs.AsIs.{as_is, unescaped, unescaped_after};
 
 use crate::escapes::{AFTER_BACKSLASH, escaped_at};
 use memchr::memchr;
@@ -40,23 +40,28 @@ fn read_escapes(text: &[u8], out: &mut Vec<u8>) -> Result<(), AllocError>
     Ok(())
 }
 
-/// Appends the bytes of a text whose escapes are read back.
+/// The text that bytes are, or another text if they are no UTF-8.
+fn text_or<'t>(bytes: &'t [u8], other: &'t str) -> &'t str
+    ensures { result.now ≡ (if is_utf8 bytes.now then bytes.now else other.now) }
+{
+    str::from_utf8(bytes).unwrap_or(other)
+}
+
+/// A text whose escapes are read back, unless that is no UTF-8. Then, and if it has no escapes, it is the same text. What
+/// is read back replaces what `room` has.
 ///
 /// # Errors
 ///
 /// Out of memory.
-pub fn unescape(text: &[u8], out: &mut Vec<u8>) -> Result<(), AllocError>
-    ensures { OnOk result (out.new.items ≡ out.old.items ++ unescaped text.now) }
+pub fn text_as_is<'t>(text: &'t str, room: &'t mut Vec<u8>) -> Result<&'t str, AllocError>
+    ensures { IfOk result (λ shown. shown.now ≡ as_is text.now) }
 {
-    match memchr(b'\\', text) {
-        Some(_) => read_escapes(text, out),
-        None => out.extend_from_slice(text),
+    match memchr(b'\\', text.as_bytes()) {
+        Some(_) => {
+            room.clear();
+            read_escapes(text.as_bytes(), room)?;
+            Ok(text_or(room, text))
+        }
+        None => Ok(text),
     }
-}
-
-/// The text that bytes are, or another text if they are no UTF-8.
-pub fn text_or<'t>(bytes: &'t [u8], other: &'t str) -> &'t str
-    ensures { result.now ≡ (if is_utf8 bytes.now then bytes.now else other.now) }
-{
-    str::from_utf8(bytes).unwrap_or(other)
 }

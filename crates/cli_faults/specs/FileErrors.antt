@@ -3,7 +3,7 @@ use Rattle.std.specs.Prelude.{ℕ, List, ◌∷◌, ◌++◌, codes}
 use Rattle.std.specs.declared.io.ErrorKind.{ErrorKind}
 use Rattle.std.specs.declared.io.ErrorKind.TheVariants as cause
 use Rattle.cli_faults.specs.declared.file_error.Reason.{Reason}
-use Rattle.cli_faults.specs.declared.file_error.Reason.TheVariants.{NoSuchFile, Directory, PermissionDenied, NoSpace, Leftover, StandardOutput, Input, ClosedPipe, Other}
+use Rattle.cli_faults.specs.declared.file_error.Reason.TheVariants.{NoSuchFile, Directory, PermissionDenied, NoSpace, Leftover, StandardOutput, Input, ClosedPipe, TooLong, Circle, Other}
 use Rattle.cli_faults.specs.declared.file_error.FileError.{FileError}
 use Rattle.cli_faults.specs.Escaped.{escaped_text}
 
@@ -16,6 +16,8 @@ reason_of cause.StorageFull = NoSpace
 reason_of cause.QuotaExceeded = NoSpace
 reason_of cause.AlreadyExists = Leftover
 reason_of cause.BrokenPipe = ClosedPipe
+reason_of cause.InvalidFilename = TooLong
+reason_of cause.FilesystemLoop = Circle
 reason_of _ = Other
 
 -- the words for a reason
@@ -28,6 +30,8 @@ reason_text Leftover = codes "too many files OUT.clim-new, OUT.clim-new2 .. exis
 reason_text StandardOutput = codes "the standard output, which takes the line 'wrote N bytes'"
 reason_text Input = codes "FILE itself, which cannot be replaced"
 reason_text ClosedPipe = codes "a closed pipe"
+reason_text TooLong = codes "the path is too long"
+reason_text Circle = codes "a circle of links"
 reason_text Other = codes "another error of the system"
 
 -- the path, and then a line with the reason

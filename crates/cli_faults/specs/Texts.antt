@@ -14,7 +14,7 @@ use Rattle.cli_faults.specs.declared.misfit.Misfit.TheVariants.{Unlike, Headers,
 use Rattle.cli_faults.specs.declared.usage_error.Nearest.{Nearest}
 use Rattle.cli_faults.specs.declared.usage_error.Nearest.TheVariants as nearest
 use Rattle.cli_faults.specs.declared.usage_error.UsageError.{UsageError}
-use Rattle.cli_faults.specs.declared.usage_error.UsageError.TheVariants.{NoToken, NoCode, NoFile, FilesAndList, OutputIsDash, ExtractAlone, NoList, NoTable, NoOffset, NoColumn}
+use Rattle.cli_faults.specs.declared.usage_error.UsageError.TheVariants.{NoToken, NoCode, NoFile, FilesAndList, OutputIsDash, ExtractAlone, NoTable, NoOffset, NoColumn}
 
 -- the line of a hint, after a line feed; nothing without a name
 abbrev pub nearest_text : Nearest → List ℕ
@@ -45,11 +45,10 @@ abbrev pub usage_text : UsageError → List ℕ
 usage_text (NoToken word) = codes "error: HEX is one to eight hexadecimal digits, as '06001d06', not '" ++ escaped_text word.now ++ codes "'"
 usage_text (NoCode word code) =
     codes "error: CODE is the number or the name of a fault, which 'clim explain' lists, not '" ++ escaped_text word.now ++ codes "'" ++ hint_of_code code
-usage_text NoFile = codes "error: FILE is missing, and so is '--files-from -'"
+usage_text NoFile = codes "error: no FILE given" ++ 10 ∷ codes "  hint: '-' reads standard input; 'clim <COMMAND> -h' shows the options"
 usage_text FilesAndList = codes "error: '--files-from' and FILE exclude each other"
 usage_text OutputIsDash = codes "error: OUT is a file, and '-' is none" ++ 10 ∷ codes "  hint: './-' is the file with that name"
 usage_text ExtractAlone = codes "error: '--extract' takes one FILE, and no '--json', '-r' or list of files"
-usage_text (NoList word) = codes "error: '--files-from' takes '-', the standard input, not '" ++ escaped_text word.now ++ codes "'"
 usage_text (NoTable word table) =
     codes "error: TABLE is a table, which 'clim show --help' lists, not '" ++ escaped_text word.now ++ codes "'" ++ hint_of_table table
 usage_text (NoOffset word) = codes "error: OFFSET is a number, decimal or hexadecimal after '0x', not '" ++ escaped_text word.now ++ codes "'"

@@ -7,7 +7,7 @@ use std::fmt;
 
 /// A text as the program prints it: printable ASCII except `"` and `\` as it is, and any other byte as `\x` and two
 /// hexadecimal digits. So no text from a file or from the command line can move the cursor or begin a line of its own.
-#[derive(Clone, Copy, Debug, PartialEq, Eq)]
+#[derive(Clone, Copy, PartialEq, Eq)]
 pub struct Escaped<'a>(pub &'a str);
 
 impl fmt::Display for Escaped<'_> {
@@ -19,7 +19,7 @@ impl fmt::Display for Escaped<'_> {
 }
 
 /// Bytes that may be no text, such as the name of a file, as the program prints them: like an [`Escaped`] text.
-#[derive(Clone, Copy, Debug, PartialEq, Eq)]
+#[derive(Clone, Copy, PartialEq, Eq)]
 pub struct EscapedBytes<'a>(pub &'a [u8]);
 
 impl fmt::Display for EscapedBytes<'_> {
@@ -32,7 +32,7 @@ impl fmt::Display for EscapedBytes<'_> {
 
 /// A UTF-16 unit as the program prints it: printable ASCII except `\` as it is, and any other unit as `\u` and four
 /// hexadecimal digits.
-#[derive(Clone, Copy, Debug, PartialEq, Eq)]
+#[derive(Clone, Copy, PartialEq, Eq)]
 pub struct EscapedUnit(pub u16);
 
 impl fmt::Display for EscapedUnit {

@@ -4,7 +4,7 @@ use crate::{cell_faults, file_faults, order_faults, other_faults, stream_faults,
 use packed::FaultCode;
 
 /// The explanation of a rule. Its texts are plain and have no line breaks. Sections are those of ECMA-335.
-#[derive(Clone, Copy, Debug, PartialEq, Eq)]
+#[derive(Clone, Copy, PartialEq, Eq)]
 pub struct Explanation {
     /// The rule.
     pub code: FaultCode,

@@ -7,7 +7,7 @@ use std::fmt;
 use std::io::ErrorKind;
 
 /// A file that could not be read or written. `Display` gives its path, escaped, and a second line with the reason.
-#[derive(Clone, Copy, Debug, PartialEq, Eq)]
+#[derive(Clone, Copy, PartialEq, Eq)]
 pub struct FileError<'a> {
     /// The path of the file, as it was given.
     pub path: &'a str,
@@ -41,7 +41,7 @@ impl fmt::Display for FileError<'_> {
 
 /// Why a file or the output could not be read or written: the kinds of error that a user can do something about. `Display`
 /// gives a few words.
-#[derive(Clone, Copy, Debug, PartialEq, Eq)]
+#[derive(Clone, Copy, PartialEq, Eq)]
 pub enum Reason {
     /// No file has this path, or no folder is where it should be created.
     NoSuchFile,
@@ -59,6 +59,10 @@ pub enum Reason {
     Input,
     /// The other end of the pipe is closed, so that nobody reads the output.
     ClosedPipe,
+    /// The path, or a name in it, has more bytes than the system takes.
+    TooLong,
+    /// The links on the path lead to one another.
+    Circle,
     /// Any other error.
     Other,
 }
@@ -79,6 +83,8 @@ impl Reason {
             ErrorKind::QuotaExceeded => Reason::NoSpace,
             ErrorKind::AlreadyExists => Reason::Leftover,
             ErrorKind::BrokenPipe => Reason::ClosedPipe,
+            ErrorKind::InvalidFilename => Reason::TooLong,
+            ErrorKind::FilesystemLoop => Reason::Circle,
             _ => Reason::Other,
         }
     }
@@ -97,6 +103,8 @@ impl fmt::Display for Reason {
             Reason::StandardOutput => "the standard output, which takes the line 'wrote N bytes'",
             Reason::Input => "FILE itself, which cannot be replaced",
             Reason::ClosedPipe => "a closed pipe",
+            Reason::TooLong => "the path is too long",
+            Reason::Circle => "a circle of links",
             Reason::Other => "another error of the system",
         })
     }

@@ -8,7 +8,7 @@ use std::fmt;
 use table_schema::Token;
 
 /// Why the program stopped early. `Display` gives the line for standard error, without the line feed.
-#[derive(Clone, Copy, Debug, PartialEq, Eq)]
+#[derive(Clone, Copy, PartialEq, Eq)]
 pub enum Stop<'a> {
     /// It failed.
     Failed(Failure<'a>),

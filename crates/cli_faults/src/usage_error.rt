@@ -9,13 +9,13 @@ use table_schema::TableId;
 
 /// An argument that `clap` accepts and the subcommand does not. `Display` gives the line for standard error, without
 /// the line feed. Arguments in it are [`Escaped`].
-#[derive(Clone, Copy, Debug, PartialEq, Eq)]
+#[derive(Clone, Copy, PartialEq, Eq)]
 pub enum UsageError<'a> {
     /// The argument is not a token.
     NoToken(&'a str),
     /// The argument is not the number or the name of a fault. The rule with the nearest name, if one is near.
     NoCode(&'a str, Option<FaultCode>),
-    /// `check` got no file, and no list of files.
+    /// There is no file, and no list of files.
     NoFile,
     /// `check` got both files and a list of files.
     FilesAndList,
@@ -23,8 +23,6 @@ pub enum UsageError<'a> {
     OutputIsDash,
     /// `resources --extract` got several files, or another form.
     ExtractAlone,
-    /// The argument is not where a list of files can come from.
-    NoList(&'a str),
     /// The argument is not the name or the number of a table. The table with the nearest name, if one is near.
     NoTable(&'a str, Option<TableId>),
     /// The argument is not an offset.
@@ -110,7 +108,9 @@ impl fmt::Display for UsageError<'_> {
                 Nearest::of_code(*nearest)
             ),
             UsageError::NoFile => {
-                f.write_str("error: FILE is missing, and so is '--files-from -'")
+                f.write_str(
+                    "error: no FILE given\n  hint: '-' reads standard input; 'clim <COMMAND> -h' shows the options",
+                )
             }
             UsageError::FilesAndList => {
                 f.write_str("error: '--files-from' and FILE exclude each other")
@@ -120,11 +120,6 @@ impl fmt::Display for UsageError<'_> {
             ),
             UsageError::ExtractAlone => f.write_str(
                 "error: '--extract' takes one FILE, and no '--json', '-r' or list of files",
-            ),
-            UsageError::NoList(word) => write!(
-                f,
-                "error: '--files-from' takes '-', the standard input, not '{}'",
-                Escaped(word)
             ),
             UsageError::NoTable(word, nearest) => write!(
                 f,

@@ -10,7 +10,7 @@ use Rattle.cli_lines.specs.Lines.{Part}
 use Rattle.cli_regions.specs.Kept.{seen, seen_what}
 use Rattle.cli_regions.specs.Regions.{Region}
 use Rattle.cli_regions.specs.declared.searches.Structure.{Structure}
-use Rattle.cli_found.specs.Found.{AreFound, AreOf, AreOfCell, cell_of, field_lines, field_size, innermost, value_line}
+use Rattle.cli_found.specs.Found.{AreFound, AreOf, AreOfCell, cell_of, field_lines, field_size, innermost, offset_line, value_line}
 
 -- the last structure is the innermost one
 pub innermost_last : (before : List Structure) (last : Structure) → innermost (map seen (before ++ last ∷ [])) ≡ cell_of (seen_what last.what)
@@ -28,7 +28,7 @@ module _ (rule : FaultCode) (bytes : List ℕ) (offset : ℕ) where
       → field_lines rule bytes offset ≡ value_line offset (little_endian (part bytes offset (field_size rule))) None [] ∷ []
   field_there within = cond-true (nat_le (offset + field_size rule) (length bytes)) _ _ (le-leb (offset + field_size rule) (length bytes) within)
 
-  pub field_past : length bytes < offset + field_size rule → field_lines rule bytes offset ≡ []
+  pub field_past : length bytes < offset + field_size rule → field_lines rule bytes offset ≡ offset_line offset ∷ []
   field_past past = cond-false (nat_le (offset + field_size rule) (length bytes)) _ _ (lt-leb (offset + field_size rule) (length bytes) past)
 
   module _ (input : Input) (structures : List Region) where

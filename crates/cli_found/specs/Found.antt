@@ -1,4 +1,4 @@
--- The line of the number at a fault: what it is, and what its rule compares it with (ECMA-335 II.22 to II.25).
+-- The line of the offset of a fault: the number there, and what its rule compares it with (ECMA-335 II.22 to II.25).
 use Rattle.std.specs.Prelude.{◌≡◌, ◌⊎◌, ◌&&◌, ◌-◌, ◌+◌, ◌/◌, ◌%◌, ◌^◌, ℕ, Bool, true, false, nat_le, nat_lt, if◌then◌else◌, List, [], ◌∷◌, ◌++◌, codes, decimal, length, Option, None, Some, slice_get}
 use Rattle.packed.specs.declared.code.FaultCode.{FaultCode}
 use Rattle.packed.specs.declared.code.FaultCode.TheVariants.{DosHeader, PeSignature, OptionalHeader, Pe32PlusSize, Magic, Directories, Sections, NoCliHeader, CliAddress, CliSize, MetadataAddress, RootSignature, Version, NoTables, TablesVersion, HeapSizes, UnknownTable, RowCount, NotSorted, BadRun, NoOwner, NestedOrder, EntryPoint}
@@ -26,6 +26,14 @@ use Rattle.cli_lines.specs.Lines.{Part, Value, field, member, number, plain, wor
 use Rattle.cli_regions.specs.Regions.{Region, What, cell}
 
 -- ---- what a line says
+
+-- an offset, in hexadecimal
+abbrev pub offset_text : ℕ → List ℕ
+offset_text offset = codes "0x" ++ hexadecimal 1 offset
+
+-- the line of an offset at which the rule is about no number, or about more than one
+unfoldable pub offset_line : ℕ → List Part
+offset_line offset = member name.Offset (number offset) ∷ word (offset_text offset) ∷ []
 
 -- a number after its offset: with its tag and row if it is a coded index (II.24.2.6)
 abbrev pub value_text : ℕ → ℕ → Option Coded → List ℕ
@@ -107,7 +115,7 @@ limit_of rule source at of = kind_limit source (kind_of at) of
 
 -- the line of a cell at an offset
 abbrev pub lines_of : FaultCode → Source → TableCell → ℕ → Option ℕ → List (List Part)
-lines_of rule source at offset None = []
+lines_of rule source at offset None = offset_line offset ∷ []
 lines_of rule source at offset (Some of) = value_line offset of (coded_of (kind_of at)) (limit_of rule source at of) ∷ []
 
 abbrev pub cell_lines : FaultCode → Source → TableCell → ℕ → List (List Part)
@@ -138,10 +146,10 @@ field_size EntryPoint = 4
 field_size UnknownTable = 8
 field_size _ = 0
 
--- the line of a number in a header, if the bytes have it
+-- the line of a number in a header, or that of its offset if the bytes end before it
 abbrev pub field_lines : FaultCode → List ℕ → ℕ → List (List Part)
 field_lines rule bytes offset =
-    if nat_le (offset + field_size rule) (length bytes) then value_line offset (little_endian (part bytes offset (field_size rule))) None [] ∷ [] else []
+    if nat_le (offset + field_size rule) (length bytes) then value_line offset (little_endian (part bytes offset (field_size rule))) None [] ∷ [] else offset_line offset ∷ []
 
 -- ---- the line at a fault
 
@@ -155,17 +163,17 @@ innermost [] = None
 innermost (of ∷ []) = cell_of of.what
 innermost (of ∷ next ∷ later) = innermost (next ∷ later)
 
--- the line of a cell; none if a rule before those for cells is broken
+-- the line of a cell, or that of its offset if a rule before those for cells is broken
 abbrev pub AreOfCell : FaultCode → Input → List ℕ → ℕ → Option TableCell → List (List Part) → Type 0
-AreOfCell rule input bytes offset None lines = lines ≡ []
+AreOfCell rule input bytes offset None lines = lines ≡ offset_line offset ∷ []
 AreOfCell rule input bytes offset (Some at) lines =
-    (AllHold (rules_before input bytes) × (lines ≡ cell_lines rule (source_in input bytes).source at offset)) ⊎ ((¬ AllHold (rules_before input bytes)) × (lines ≡ []))
+    (AllHold (rules_before input bytes) × (lines ≡ cell_lines rule (source_in input bytes).source at offset)) ⊎ ((¬ AllHold (rules_before input bytes)) × (lines ≡ offset_line offset ∷ []))
 
 abbrev pub AreOf : Bool → FaultCode → Input → List ℕ → ℕ → List Region → List (List Part) → Type 0
 AreOf true rule input bytes offset structures lines = lines ≡ field_lines rule bytes offset
 AreOf false rule input bytes offset structures lines = AreOfCell rule input bytes offset (innermost structures) lines
 
--- The lines of the number at the offset of a fault of a rule: one, or none if the rule is about no number there. The structures
--- are those that contain the byte at the offset, outermost first.
+-- The line of the offset of a fault of a rule, with the number there if the rule is about one. The structures are those that
+-- contain the byte at the offset, outermost first.
 abbrev pub AreFound : FaultCode → Input → List ℕ → ℕ → List Region → List (List Part) → Type 0
 AreFound rule input bytes offset structures lines = AreOf (nat_lt 0 (field_size rule)) rule input bytes offset structures lines

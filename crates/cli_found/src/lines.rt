@@ -1,12 +1,12 @@
-//! Prints the line of a number at a fault.
+//! Prints the line of the offset of a fault.
 ghost use Rattle.std.specs.Prelude.{◌≡◌, ◌∷◌, ◌+◌, ◌≤◌, [], length, List, map, nat_le, Some};
 ghost use Rattle.packed.specs.Number.{little_endian};
 ghost use Rattle.packed.specs.Offsets.{part};
 ghost use Rattle.cli_lines.specs.Lines.{Part as ThePart};
 ghost use Rattle.cli_lines.specs.Printed.{Prints};
 ghost use Rattle.cli_regions.specs.Kept.{seen, seen_what};
-ghost use Rattle.cli_found.specs.Found.{AreFound, AreOfCell, cell_lines, cell_of, field_lines, field_size, innermost, value_line};
-ghost use Rattle.cli_found.specs.Kept.{IsFieldSize, lead_text, shown_limit};
+ghost use Rattle.cli_found.specs.Found.{AreFound, AreOfCell, cell_lines, cell_of, field_lines, field_size, innermost, offset_line, offset_text, value_line};
+ghost use Rattle.cli_found.specs.Kept.{IsFieldSize, lead_text, shown_limit, start_text};
 
 use crate::limits::{Limit, coded_of, kind_of, limit_of, number_in, row_of, tag_of};
 use cli_faults::FaultCode;
@@ -43,6 +43,40 @@ impl fmt::Display for Lead {
             }
             None => write!(f, "0x{offset:01x}: value {number} (0x{number:01x})"),
         }
+    }
+}
+
+/// An offset alone.
+#[derive(Clone, Copy)]
+struct Start {
+    offset: u64,
+}
+
+impl fmt::Display for Start {
+    ghost output = { λ start. Some (start_text start) };
+
+    fn fmt<W: fmt::Write>(&self, f: &mut fmt::Formatter<W>) -> fmt::Result {
+        write!(f, "0x{:01x}", self.offset)
+    }
+}
+
+/// Prints the line of an offset, which has this text.
+#[tactic(auto, unfolding(crate::specs::Found::offset_line))]
+fn print_start<W: Write>(text: &str, offset: u64, out: &mut Printer<'_, W>)
+    requires { text.now ≡ offset_text offset }
+    ensures { Prints out.old out.new (offset_line offset ∷ []) }
+{
+    out.line(&[Member(Name::Offset, Number(offset)), Word(text)]);
+}
+
+/// Prints the line of an offset at which there is no number to print.
+fn print_offset<W: Write>(alloc: Global, offset: u64, out: &mut Printer<'_, W>)
+    ensures { Prints out.old out.new (offset_line offset ∷ []) }
+{
+    let start = Start { offset };
+    match start.to_string(alloc) {
+        Ok(text) => print_start(&text, offset, out),
+        Err(_) => out.fail(),
     }
 }
 
@@ -146,7 +180,7 @@ fn number_at(bytes: &[u8], offset: usize, size: usize) -> u64
     }
 }
 
-/// Prints the line of a number in a header, if the bytes have it.
+/// Prints the line of a number in a header, or that of its offset if the bytes end before it.
 fn print_field<W: Write>(
     alloc: Global,
     rule: FaultCode,
@@ -156,7 +190,6 @@ fn print_field<W: Write>(
 )
     ensures { Prints out.old out.new (field_lines rule bytes.now offset) }
 {
-    cli_lines::laws::lines_follow::<W>();
     let size = field_size(rule);
     if has_bytes(bytes, offset, size) {
         let number = number_at(bytes, offset as usize, size);
@@ -166,10 +199,12 @@ fn print_field<W: Write>(
             coded: None,
         };
         print_line(alloc, lead, None, out);
+    } else {
+        print_offset(alloc, offset, out);
     }
 }
 
-/// Prints the line of the number in a cell, if the tables have the cell.
+/// Prints the line of the number in a cell, or that of its offset if the tables do not have the cell.
 fn print_cell<W: Write>(
     alloc: Global,
     rule: FaultCode,
@@ -180,7 +215,6 @@ fn print_cell<W: Write>(
 )
     ensures { Prints out.old out.new (cell_lines rule source.now.source cell offset) }
 {
-    cli_lines::laws::lines_follow::<W>();
     match number_in(source, cell) {
         Some(number) => {
             let lead = Lead {
@@ -191,7 +225,7 @@ fn print_cell<W: Write>(
             let limit = limit_of(rule, source, cell, number);
             print_line(alloc, lead, limit, out);
         }
-        None => {}
+        None => print_offset(alloc, offset, out),
     }
 }
 
@@ -215,7 +249,7 @@ fn innermost(structures: &[Structure<'_>]) -> Option<TableCell>
     }
 }
 
-/// Prints the line of the number in the cell of a fault, if there is one.
+/// Prints the line of the number in the cell of a fault, or that of its offset if there is none.
 fn print_at_cell<W: Write>(
     alloc: Global,
     rule: FaultCode,
@@ -227,24 +261,23 @@ fn print_at_cell<W: Write>(
 )
     ensures { (lines : List (List ThePart)) × AreOfCell rule input bytes.now offset found lines × Prints out.old out.new lines }
 {
-    cli_lines::laws::lines_follow::<W>();
     match found {
         Some(cell) => match rows_of(bytes, input) {
             Ok(source) => print_cell(alloc, rule, &source, cell, offset, out),
-            Err(_) => {}
+            Err(_) => print_offset(alloc, offset, out),
         },
-        None => {}
+        None => print_offset(alloc, offset, out),
     }
 }
 
-/// Prints the number at the offset of a fault of this rule, and what the rule compares it with. `structures` are those that
-/// contain the byte at the offset, the outermost first.
+/// Prints the offset of a fault of this rule, the number there, and what the rule compares it with. `structures` are those
+/// that contain the byte at the offset, the outermost first.
 ///
 /// The line has the offset in hexadecimal, and the number in decimal and in hexadecimal, or with its tag and row if it is a
 /// coded index. Then comes the size of what a cell refers to: the bytes of a heap, the GUIDs of `#GUID`, or the rows of a
 /// table. For a rule about the order of rows (II.22) it is the number in the same column of the row before, or in column
-/// NestedClass of the same row, or the number of rows without an owner. There is no line if the rule is about no number
-/// at the offset, as those for stream headers, or if the bytes end before the number.
+/// NestedClass of the same row, or the number of rows without an owner. If the rule is about no number at the offset, as those for
+/// stream headers, or if the bytes end before the number, the line has the offset alone.
 ///
 /// In JSON it is `{"offset":1100,"value":4095,"stream":"#Blob","limit":208}`, with the member `table`, `row` or `column` in place
 /// of `stream`.

@@ -11,7 +11,7 @@ use opening::{BoundedError, View, open_image, open_image_within, open_root, open
 use packed::Fault;
 
 /// What the bytes are.
-#[derive(Clone, Copy, Debug, PartialEq, Eq)]
+#[derive(Clone, Copy, PartialEq, Eq)]
 pub enum Input {
     /// A PE file with metadata (II.25).
     File,

@@ -5,7 +5,7 @@ use heap_entries::UserString;
 use table_schema::Token;
 
 /// The form in which a report is printed.
-#[derive(Clone, Copy, Debug, PartialEq, Eq)]
+#[derive(Clone, Copy, PartialEq, Eq)]
 pub enum Form {
     /// Lines of text: printable ASCII, with all else escaped.
     Text,

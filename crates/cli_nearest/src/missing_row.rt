@@ -8,14 +8,14 @@ use std::fmt;
 use std::io::Write;
 
 /// The number of a table (II.22) and its row count.
-#[derive(Clone, Copy, Debug, PartialEq, Eq)]
+#[derive(Clone, Copy, PartialEq, Eq)]
 struct RowCount {
     table: TableId,
     rows: u32,
 }
 
 /// Why a row was not printed. `Display` gives the lines for standard error.
-#[derive(Clone, Copy, Debug, PartialEq, Eq)]
+#[derive(Clone, Copy, PartialEq, Eq)]
 struct MissingRow {
     /// The table that does not have the row, if the token names a table.
     table: Option<RowCount>,

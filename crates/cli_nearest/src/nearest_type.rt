@@ -22,7 +22,7 @@ pub(crate) const NAME: usize = 1;
 const NAMESPACE: usize = 2;
 
 /// The names of a type (II.22.37). `Display` gives its full name, escaped.
-#[derive(Clone, Copy, Debug, PartialEq, Eq)]
+#[derive(Clone, Copy, PartialEq, Eq)]
 struct TypeName<'a> {
     /// Its namespace, or the empty text.
     namespace: &'a str,
@@ -40,7 +40,7 @@ impl fmt::Display for TypeName<'_> {
 }
 
 /// Why nothing of a type was printed. `Display` gives the lines for standard error.
-#[derive(Clone, Copy, Debug, PartialEq, Eq)]
+#[derive(Clone, Copy, PartialEq, Eq)]
 struct MissingType<'a> {
     /// The type whose name is nearest, if one is near.
     nearest: Option<TypeName<'a>>,

@@ -1,5 +1,5 @@
 -- The first word of a declaration, and its line in each form.
-use Rattle.std.proofs.Common.{◌≡◌, ◌<◌, ◌≤◌, get_or, Bool, true, inl, inr, ℕ, List, length, ltb, lt-ltb, None, Some, sym, arith, [], ◌∷◌, ◌++◌, Option, ap, refl, subst, codes}
+use Rattle.std.proofs.Common.{◌≡◌, ◌<◌, ◌≤◌, get_or, Bool, true, false, inl, inr, ℕ, List, length, ltb, lt-ltb, None, Some, sym, arith, [], ◌∷◌, ◌++◌, Option, ap, refl, subst, codes}
 use Rattle.std.specs.List.{position, position_or_len}
 use Rattle.std.specs.Str.{IsCharBoundary}
 use Rattle.std.proofs.lemmas.Bool.{cases_lt}
@@ -9,12 +9,13 @@ use Rattle.std.proofs.lemmas.List.Sums.{position_or_len_is}
 use Rattle.table_schema.specs.declared.token.Token.{Token}
 use Rattle.cli_lines.specs.declared.parts.Form.{Form}
 use Rattle.cli_lines.specs.declared.parts.Form.TheVariants.{Text, Letters, JsonLines}
-use Rattle.cli_lines.specs.declared.names.Name.TheVariants as name
-use Rattle.cli_lines.specs.Lines.{Part, line_from, member, note, plain, style, styled_text, token, word}
+use Rattle.cli_lines.specs.Lines.{Part, line_from, style, styled_text}
 use Rattle.cli_lines.specs.Printed.{Asked, Printed, Prints}
 use Rattle.cli_escapes.specs.AsIs.{as_is}
+use Rattle.cli_escapes.specs.Letters.{readable_after}
 use Rattle.cli_outline.specs.declared.source.Tokens.{Tokens}
-use Rattle.cli_outline.specs.Declarations.{comment_mark, comment_token, declaration_line, directive_part, ends_word, type_part, unindented}
+use Rattle.cli_outline.specs.declared.source.Tokens.TheVariants.{Shown, Hidden}
+use Rattle.cli_outline.specs.Declarations.{declaration_line, ends_word, json_line, text_line, unindented}
 
 -- the length of the first word that a search returns
 module _ (p : ℕ → Bool) (text : List ℕ) where
@@ -47,23 +48,44 @@ word_boundary text i e =
 
 -- ---- the line in each form
 
--- the line with another text in its member
-abbrev pub line_with : Tokens → Token → Option Token → Bool → List ℕ → List ℕ → List Part
-line_with tokens of class directive declared named =
-    member name.Token (token of) ∷ type_part class ∷ directive_part directive (unindented declared)
-    ∷ note (plain declared) ∷ member name.Text (plain named) ∷ comment_mark tokens ∷ comment_token tokens of ∷ []
-
 -- a line of text has no members
-same_text : (form : Form) (file : Option (List ℕ)) (tokens : Tokens) (of : Token) (class : Option Token) (directive : Bool) (declared named : List ℕ) → (form ≡ JsonLines → named ≡ as_is (unindented declared))
-    → styled_text (style form file) (line_with tokens of class directive declared named ∷ []) ≡ styled_text (style form file) (declaration_line tokens of class directive declared ∷ [])
-unfolding declaration_line styled_text line_from
-same_text Text file tokens of class directive declared named read = refl
-same_text Letters file tokens of class directive declared named read = refl
-same_text JsonLines file tokens of class directive declared named read = ap (λ (text : List ℕ). styled_text (style JsonLines file) (line_with tokens of class directive declared text ∷ [])) (read refl)
+same_text : (form : Form) (file : Option (List ℕ)) (tokens : Tokens) (of : Token) (class : Option Token) (directive : Bool) (declared : List ℕ) → (form ≡ JsonLines → ⊥)
+    → styled_text (style form file) (text_line tokens of declared ∷ []) ≡ styled_text (style form file) (declaration_line tokens of class directive declared ∷ [])
+unfolding declaration_line styled_text line_from readable_after
+same_text Text file tokens of None true declared is = refl
+same_text Text file tokens of None false declared is = refl
+same_text Text file tokens of (Some class) true declared is = refl
+same_text Text file tokens of (Some class) false declared is = refl
+same_text Letters file tokens of None true declared is = refl
+same_text Letters file tokens of None false declared is = refl
+same_text Letters file tokens of (Some class) true declared is = refl
+same_text Letters file tokens of (Some class) false declared is = refl
+same_text JsonLines file tokens of class directive declared is = absurd (is refl)
 
-pub line_printed : {W : Type 0} (a b : Printed W) (tokens : Tokens) (of : Token) (class : Option Token) (directive : Bool) (declared named : List ℕ)
-    → (a.style.form ≡ JsonLines → named ≡ as_is (unindented declared)) → Prints a b (line_with tokens of class directive declared named ∷ []) → Prints a b (declaration_line tokens of class directive declared ∷ [])
-line_printed a b tokens of class directive declared named read printed = record {
+-- a line of JSON has nothing else
+same_json : (file : Option (List ℕ)) (tokens : Tokens) (of : Token) (class : Option Token) (directive : Bool) (declared : List ℕ)
+    → styled_text (style JsonLines file) (json_line of class directive (unindented declared) (as_is (unindented declared)) ∷ [])
+    ≡ styled_text (style JsonLines file) (declaration_line tokens of class directive declared ∷ [])
+unfolding declaration_line styled_text line_from
+same_json file Shown of class directive declared = refl
+same_json file Hidden of class directive declared = refl
+
+-- a line is printed if one with the same text is
+line_printed : {W : Type 0} (a b : Printed W) (line other : List Part) → styled_text a.style (other ∷ []) ≡ styled_text a.style (line ∷ []) → Prints a b (other ∷ []) → Prints a b (line ∷ [])
+line_printed a b line other same printed = record {
   same = printed.same;
-  asked = λ start text asked. subst (λ (t : List ℕ). Asked start b (text ++ t)) (same_text a.style.form a.style.file tokens of class directive declared named read) (printed.asked start text asked);
+  asked = λ start text asked. subst (λ (t : List ℕ). Asked start b (text ++ t)) same (printed.asked start text asked);
 }
+
+pub text_printed : {W : Type 0} (a b : Printed W) (tokens : Tokens) (of : Token) (class : Option Token) (directive : Bool) (declared : List ℕ)
+    → (a.style.form ≡ JsonLines → ⊥) → Prints a b (text_line tokens of declared ∷ []) → Prints a b (declaration_line tokens of class directive declared ∷ [])
+text_printed a b tokens of class directive declared is printed =
+    line_printed a b (declaration_line tokens of class directive declared) (text_line tokens of declared) (same_text a.style.form a.style.file tokens of class directive declared is) printed
+
+pub json_printed : {W : Type 0} (a b : Printed W) (tokens : Tokens) (of : Token) (class : Option Token) (directive : Bool) (declared named : List ℕ) → named ≡ as_is (unindented declared)
+    → a.style.form ≡ JsonLines → Prints a b (json_line of class directive (unindented declared) named ∷ []) → Prints a b (declaration_line tokens of class directive declared ∷ [])
+json_printed a b tokens of class directive declared named read is printed =
+    line_printed a b (declaration_line tokens of class directive declared) (json_line of class directive (unindented declared) (as_is (unindented declared)))
+    (subst (λ (form : Form). styled_text (style form a.style.file) (json_line of class directive (unindented declared) (as_is (unindented declared)) ∷ [])
+    ≡ styled_text (style form a.style.file) (declaration_line tokens of class directive declared ∷ [])) (sym is) (same_json a.style.file tokens of class directive declared))
+    (subst (λ (text : List ℕ). Prints a b (json_line of class directive (unindented declared) text ∷ [])) read printed)

@@ -1,5 +1,5 @@
 //! The line of a declaration.
-ghost use Rattle.std.specs.Prelude.{◌≡◌, ◌≤◌, ◌∷◌, ◌++◌, [], OnOk};
+ghost use Rattle.std.specs.Prelude.{◌≡◌, ◌≤◌, ◌∷◌, [], string_bytes};
 ghost use Rattle.std.specs.List.{before_first, position};
 ghost use Rattle.metadata.specs.Metadata.{Metadata};
 ghost use Rattle.metadata.specs.Model.{IsModel};
@@ -8,18 +8,17 @@ ghost use Rattle.cli_lines.specs.declared.parts.Form.TheVariants.{JsonLines};
 ghost use Rattle.cli_lines.specs.Printed.{Prints};
 ghost use Rattle.cli_lines.specs.Shown.{shown};
 ghost use Rattle.full_names.specs.RowNames.{IsMemberOf};
-ghost use Rattle.cli_escapes.specs.AsIs.{unescaped};
-ghost use Rattle.cli_outline.specs.Declarations.{comment_mark, comment_token, declaration_line, directive_part, ends_word, has_directive, type_part, unindented};
+ghost use Rattle.cli_outline.specs.Declarations.{comment_mark, comment_token, declaration_line, directive_part, ends_word, has_directive, json_line, text_line, type_part};
 ghost use Rattle.cli_outline.specs.Printed.{PrintsRows};
+ghost use Rattle.cli_outline.specs.declared.source.Tokens.{Tokens as TheTokens};
 
 use crate::source::{Source, Tokens};
 use cli_declarations::{Declared, declare, number};
-use cli_escapes::{text_or, unescape};
+use cli_escapes::text_as_is;
 use cli_lines::Part::{Member, Note, Word};
 use cli_lines::Value::{self, Plain, Text};
 use cli_lines::{Form, Name, Part, Printer};
 use opening::{TableId, Token, View};
-use std::alloc::AllocError;
 use std::io::Write;
 
 /// The cell of the flags of an accessor (II.22.28).
@@ -100,38 +99,52 @@ fn comment_token(tokens: Tokens, of: Token) -> Part<'static>
     }
 }
 
-/// In JSON, appends the bytes of a declaration without the spaces at its start, with the names as they are in the file.
-fn read_names(form: Form, text: &str, named: &mut Vec<u8>) -> Result<(), AllocError>
-    ensures { form ≡ JsonLines → OnOk result (named.new.items ≡ named.old.items ++ unescaped (unindented text.now)) }
+/// Prints the line of a declaration as text.
+fn print_text<W: Write>(tokens: Tokens, of: Token, text: &str, out: &mut Printer<'_, W>)
+    ensures { Prints out.old out.new (text_line tokens of text.now ∷ []) }
 {
-    match form {
-        Form::Text | Form::Letters => Ok(()),
-        Form::JsonLines => unescape(text.trim_ascii_start().as_bytes(), named),
-    }
+    out.line(&[
+        Note(Plain(text)),
+        comment_mark(tokens),
+        comment_token(tokens, of),
+    ]);
 }
 
-/// Prints the line of a declaration. In JSON `named` has the bytes of [`read_names`].
-fn print_declaration<'t, W: Write>(
-    tokens: Tokens,
+/// Prints the line of a declaration as JSON. Its text is `named`.
+fn print_json<'t, W: Write>(
     of: Token,
     class: Option<Token>,
     has_directive: bool,
     text: &'t str,
-    named: &'t [u8],
+    named: &'t str,
     out: &mut Printer<'_, W>,
 )
-    ensures { (out.old.style.form ≡ JsonLines → named.now ≡ unescaped (unindented text.now)) → Prints out.old out.new (declaration_line tokens of class has_directive text.now ∷ []) }
+    ensures { Prints out.old out.new (json_line of class has_directive text.now named.now ∷ []) }
 {
-    let unindented = text.trim_ascii_start();
     out.line(&[
         Member(Name::Token, Value::Token(of)),
         type_part(class),
-        directive_part(has_directive, unindented),
-        Note(Plain(text)),
-        Member(Name::Text, Plain(text_or(named, unindented))),
-        comment_mark(tokens),
-        comment_token(tokens, of),
+        directive_part(has_directive, text),
+        Member(Name::Text, Plain(named)),
     ]);
+}
+
+/// Prints the line of a declaration as JSON, with the names as they are in the file.
+fn print_named<W: Write>(
+    of: Token,
+    class: Option<Token>,
+    has_directive: bool,
+    declared: &Declared,
+    out: &mut Printer<'_, W>,
+)
+    ensures { out.old.style.form ≡ JsonLines → (tokens : TheTokens) → Prints out.old out.new (declaration_line tokens of class has_directive (string_bytes declared.now.text) ∷ []) }
+{
+    let text = declared.text.trim_ascii_start();
+    let mut room = Vec::new(declared.alloc);
+    match text_as_is(text, &mut room) {
+        Ok(named) => print_json(of, class, has_directive, text, named, out),
+        Err(_) => out.fail(),
+    }
 }
 
 /// Prints the line of a row: of a member of a type, if that is given.
@@ -148,24 +161,15 @@ pub(crate) fn print_line<W: Write>(
     ensures { (model : Metadata) → IsModel source.now.neighbours.view.now model → PrintsRows source.now.options model out.old out.new (token ∷ []) }
 {
     match declare(&source.neighbours, token, declared) {
-        Ok(()) => {
-            let has_directive = has_directive(source.neighbours.view, token);
-            let mut named = Vec::new(declared.alloc);
-            match read_names(out.form(), &declared.text, &mut named) {
-                Ok(()) => {
-                    print_declaration(
-                        source.options.tokens,
-                        token,
-                        class,
-                        has_directive,
-                        &declared.text,
-                        &named,
-                        out,
-                    );
-                }
-                Err(_) => out.fail(),
+        Ok(()) => match out.form() {
+            Form::Text | Form::Letters => {
+                print_text(source.options.tokens, token, &declared.text, out)
             }
-        }
+            Form::JsonLines => {
+                let has_directive = has_directive(source.neighbours.view, token);
+                print_named(token, class, has_directive, declared, out)
+            }
+        },
         Err(_) => out.fail(),
     }
 }

@@ -246,8 +246,8 @@ fn print_all<W: Write>(source: &Source<'_, '_>, declared: &mut Declared, out: &m
 /// three tables. A name has the types that enclose it, at most 64, each found by binary search. If NestedClass is not in
 /// the order of its key (II.22), names have none of them. Names in what is cut are not looked up.
 ///
-/// Its memory is that of the longest line, of the lines that wait to be sent, and eight bytes for each row of the three
-/// tables. If a list of members has a null start, its starts take four bytes for each owner.
+/// Its memory is that of the longest line, of the lines that wait to be sent, eight bytes for each row of the tables of
+/// [`Link`](navigation::Link), and four bytes for each type, method, map and nested type.
 pub fn print_outline<W: Write>(
     alloc: Global,
     view: &View<'_>,

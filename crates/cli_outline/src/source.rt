@@ -6,7 +6,7 @@ use opening::View;
 use std::alloc::{AllocError, Global};
 
 /// Whether a line of text ends with the token of its row.
-#[derive(Clone, Copy, Debug, Default, PartialEq, Eq)]
+#[derive(Clone, Copy, Default, PartialEq, Eq)]
 pub enum Tokens {
     /// Each line of text ends with `  // ` and the token.
     #[default]
@@ -16,7 +16,7 @@ pub enum Tokens {
 }
 
 /// What an outline shows.
-#[derive(Clone, Copy, Debug, Default, PartialEq, Eq)]
+#[derive(Clone, Copy, Default, PartialEq, Eq)]
 pub struct OutlineOptions {
     /// Whether lines of text have tokens.
     pub tokens: Tokens,

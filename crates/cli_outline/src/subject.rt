@@ -12,7 +12,7 @@ use opening::{TableId, View};
 use std::alloc::{AllocError, Global};
 
 /// The type whose outline is printed.
-#[derive(Clone, Copy, Debug, PartialEq, Eq)]
+#[derive(Clone, Copy, PartialEq, Eq)]
 pub enum Subject<'s> {
     /// The first type with this path: the names of the types that enclose it, the outermost first, and its own, with slashes
     /// between them, as in `Namespace.Outer/Inner` (II.22.32, II.22.37). If no type has the path, and it is a name alone, the
@@ -23,7 +23,7 @@ pub enum Subject<'s> {
 }
 
 /// What became of the outline of one type.
-#[derive(Clone, Copy, Debug, PartialEq, Eq)]
+#[derive(Clone, Copy, PartialEq, Eq)]
 pub enum Outcome {
     /// Its lines are printed.
     Printed,

@@ -10,7 +10,7 @@ use packed::Fault;
 use resources::{Directory, TableId, Token, directory_of};
 
 /// Why a resource is not found in a file. A token is that of its row.
-#[derive(Clone, Copy, Debug, PartialEq, Eq)]
+#[derive(Clone, Copy, PartialEq, Eq)]
 pub enum Unfound {
     /// The file breaks a rule of the standard.
     Fault(Fault),

@@ -27,7 +27,7 @@ use std::rt::Files;
 const CELLS: usize = 20;
 
 /// What is printed of a comparison.
-#[derive(Clone, Copy, Debug, PartialEq, Eq)]
+#[derive(Clone, Copy, PartialEq, Eq)]
 pub enum Output {
     /// Lines in this form: what differs, or that nothing does.
     Lines(Form),
@@ -36,7 +36,7 @@ pub enum Output {
 }
 
 /// How two files are compared.
-#[derive(Clone, Copy, Debug)]
+#[derive(Clone, Copy)]
 pub struct CompareOptions {
     /// What the bytes of the files are.
     pub input: Given,
@@ -49,7 +49,7 @@ pub struct CompareOptions {
 }
 
 /// A file that was read.
-#[derive(Clone, Copy, Debug)]
+#[derive(Clone, Copy)]
 pub(crate) struct ReadFile<'a, 'b> {
     /// The path that was given.
     pub path: &'a str,

@@ -25,7 +25,7 @@ use std::io::Write;
 use std::rt::Files;
 
 /// What `clim embed` writes, and how.
-#[derive(Clone, Copy, Debug)]
+#[derive(Clone, Copy)]
 pub struct EmbedOptions<'a> {
     /// The path of the file to write.
     pub path: &'a str,

@@ -2,7 +2,6 @@
 ghost use Rattle.std.specs.Prelude.{◌≡◌, ◌++◌, OnOk, length, string_bytes};
 ghost use Rattle.packed.specs.Number.{little_endian};
 ghost use Rattle.sig_grammar.specs.Reading.{element_of};
-ghost use Rattle.sig_text.specs.SignatureText.{element_text};
 ghost use Rattle.cli_values.specs.Constants.{bits_text, bytearray_text, constant_text, is_null, number_text, size_of, sized_text, text_or_bytes, truth_text, typed_text};
 
 use crate::bytes::push_value_bytes;
@@ -11,6 +10,7 @@ use crate::units::push_string;
 use packed::{u16_at, u32_at, u64_at};
 use sig_grammar::Element;
 use sig_grammar::element_type::CLASS;
+use sig_text::element_name;
 use std::alloc::AllocError;
 
 /// The type that a number encodes (II.23.1.16).
@@ -22,31 +22,6 @@ fn element_of(code: u32) -> Option<Element>
         return None;
     }
     Element::from_byte(code as u8)
-}
-
-/// The name of a type (II.7.1).
-#[tactic(auto, unfolding(sig_text::specs::SignatureText::element_text))]
-fn element_name(of: Element) -> &'static str
-    ensures { result.now ≡ element_text of }
-{
-    match of {
-        Element::Boolean => "bool",
-        Element::Char => "char",
-        Element::I1 => "int8",
-        Element::U1 => "unsigned int8",
-        Element::I2 => "int16",
-        Element::U2 => "unsigned int16",
-        Element::I4 => "int32",
-        Element::U4 => "unsigned int32",
-        Element::I8 => "int64",
-        Element::U8 => "unsigned int64",
-        Element::R4 => "float32",
-        Element::R8 => "float64",
-        Element::String => "string",
-        Element::I => "native int",
-        Element::U => "native unsigned int",
-        Element::Object => "object",
-    }
 }
 
 /// The number of bytes of a value of a type, 0 if its values are no numbers.

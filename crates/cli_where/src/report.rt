@@ -22,7 +22,7 @@ use std::alloc::Global;
 use std::io::Write;
 
 /// Whether some structure contains the byte.
-#[derive(Clone, Copy, Debug, PartialEq, Eq)]
+#[derive(Clone, Copy, PartialEq, Eq)]
 pub enum Found {
     /// A structure contains it. Its line was printed.
     Something,

@@ -19,7 +19,7 @@ use schema::Layout;
 use std::alloc::{AllocError, Global};
 
 /// How far a walk goes.
-#[derive(Clone, Copy, Debug, PartialEq, Eq)]
+#[derive(Clone, Copy, PartialEq, Eq)]
 pub enum Reach {
     /// Down to the cells.
     Cells,

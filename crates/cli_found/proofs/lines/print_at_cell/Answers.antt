@@ -1,11 +1,11 @@
-use Rattle.std.proofs.Common.{[], Option, inl, inr, refl, subst, sym}
+use Rattle.std.proofs.Common.{[], ◌∷◌, Option, inl, inr, refl, subst, sym}
 use Rattle.packed.proofs.RuleLemmas.{none_fails}
 use Rattle.packed.specs.Rule.{AllHold}
 use Rattle.metadata.specs.SourceAt.{SourceAt}
 use Rattle.schema.specs.declared.located_cells.TableCell.{TableCell}
 use Rattle.cli_input.specs.Checked.{rules_before, source_in}
 use Rattle.cli_lines.specs.Printed.{Prints}
-use Rattle.cli_found.specs.Found.{AreOfCell, cell_lines}
+use Rattle.cli_found.specs.Found.{AreOfCell, cell_lines, offset_line}
 use Rattle.cli_found.proofs.lines.print_at_cell.Goals as goal
 
 pub returns-in-Ok : goal.returns-in-Ok
@@ -20,14 +20,14 @@ returns-in-Ok g c =
 pub returns-in-Err : goal.returns-in-Err
 returns-in-Err g c =
     let fails : ¬ AllHold (rules_before c.args.input c.args.bytes.now) = λ all. none_fails (rules_before c.args.input c.args.bytes.now) c.in-Err.field-0 all c.in-Err.ensures.reports in (
-      [],
-      subst (λ (found : Option TableCell). AreOfCell c.args.rule c.args.input c.args.bytes.now c.args.offset found []) (sym c.in-Some.is) (inr (fails, refl)),
-      c.lines_follow.ensures.nothing _,
+      offset_line c.args.offset ∷ [],
+      subst (λ (found : Option TableCell). AreOfCell c.args.rule c.args.input c.args.bytes.now c.args.offset found (offset_line c.args.offset ∷ [])) (sym c.in-Some.is) (inr (fails, refl)),
+      c.print_offset.ensures,
     )
 
 pub returns-in-None : goal.returns-in-None
 returns-in-None g c = (
-  [],
-  subst (λ (found : Option TableCell). AreOfCell c.args.rule c.args.input c.args.bytes.now c.args.offset found []) (sym c.in-None.is) refl,
-  c.lines_follow.ensures.nothing _,
+  offset_line c.args.offset ∷ [],
+  subst (λ (found : Option TableCell). AreOfCell c.args.rule c.args.input c.args.bytes.now c.args.offset found (offset_line c.args.offset ∷ [])) (sym c.in-None.is) refl,
+  c.print_offset-in-None.ensures,
 )

@@ -10,5 +10,5 @@ returns-in-Some g c =
 
 pub returns-in-None : goal.returns-in-None
 returns-in-None g c =
-    subst (λ (number : Option ℕ). Prints c.args.out.now c.args.out.now (lines_of c.args.rule c.args.source.now.source c.args.cell c.args.offset number)) (sym c.in-None.is ∙ c.number_in.ensures)
-    (c.lines_follow.ensures.nothing _)
+    subst (λ (number : Option ℕ). Prints c.args.out.now c.print_offset.new.out (lines_of c.args.rule c.args.source.now.source c.args.cell c.args.offset number)) (sym c.in-None.is ∙ c.number_in.ensures)
+    c.print_offset.ensures

@@ -16,6 +16,6 @@ returns-then-has_bytes g c =
 pub returns-else-has_bytes : goal.returns-else-has_bytes
 returns-else-has_bytes g c =
     let past = leb-false (c.args.offset + c.field_size-size.result) (length c.args.bytes.now) (sym c.if-has_bytes.ensures) in
-    subst (λ (lines : List (List Part)). Prints c.args.out.now c.args.out.now lines)
+    subst (λ (lines : List (List Part)). Prints c.args.out.now c.print_offset.new.out lines)
     (sym (field_past c.args.rule c.args.bytes.now c.args.offset (rw (c.field_size-size.ensures.size) at past)))
-    (c.lines_follow.ensures.nothing _)
+    c.print_offset.ensures

@@ -1,26 +1,33 @@
-use Rattle.std.proofs.Common.{◌≡◌, ◌∙◌, ◌∷◌, ◌++◌, [], List, ℕ, ap, refl, subst, sym}
+use Rattle.std.proofs.Common.{◌≡◌, ◌∙◌, ◌∷◌, [], Bool, List, ℕ, inl, inr, refl, subst, sym}
 use Rattle.std.specs.Prelude.{string_bytes}
-use Rattle.cli_lines.specs.declared.parts.Form.TheVariants.{JsonLines}
-use Rattle.cli_lines.specs.Lines.{Part}
+use Rattle.cli_lines.specs.declared.parts.Form.TheVariants.{Text, Letters, JsonLines}
 use Rattle.cli_lines.specs.Printed.{Prints}
-use Rattle.cli_escapes.specs.AsIs.{unescaped}
-use Rattle.cli_outline.specs.Declarations.{declaration_line, unindented}
+use Rattle.cli_outline.specs.Declarations.{declaration_line, has_directive, text_line}
+use Rattle.cli_outline.proofs.DeclarationLemmas.{text_printed}
 use Rattle.cli_outline.proofs.PrintedLemmas.{row_printed, rows_failed}
 use Rattle.cli_outline.proofs.line.print_line.Goals as goal
 
-pub returns-in-Ok-read_names : goal.returns-in-Ok-read_names
-returns-in-Ok-read_names g c = λ model is.
+pub returns-in-Text : goal.returns-in-Text
+returns-in-Text g c = λ model is.
+    let options = c.args.source.now.options in
     let of = c.args.token in
     let text = string_bytes c.declare.new.declared.text in
-    let read : c.args.out.now.style.form ≡ JsonLines → c.deref-in-Ok-read_names-2.result.now ≡ unescaped (unindented c.deref-in-Ok-read_names.result.now) =
-    λ json. c.deref-in-Ok-read_names-2.ensures.value ∙ c.in-Ok-read_names.ensures (c.form.ensures ∙ json)
-    ∙ ap (λ (b : List ℕ). b ++ unescaped (unindented c.deref.result.now)) c.new-named.ensures.items ∙ ap (λ (b : List ℕ). unescaped (unindented b)) (c.deref.ensures ∙ sym c.deref-in-Ok-read_names.ensures) in
-    let printed = subst (λ (parts : List Part). Prints c.args.out.now c.print_declaration.new.out (parts ∷ []))
-    (λ i. declaration_line c.args.source.now.options.tokens of c.args.class (c.has_directive-has_directive.ensures model is i) (c.deref-in-Ok-read_names.ensures i)) (c.print_declaration.ensures read) in
-    row_printed c.args.source.now.options model c.args.out.now c.print_declaration.new.out of _ (text, c.in-Ok.ensures model is, c.args.class, c.requires.member model is, refl) printed
+    row_printed options model c.args.out.now c.print_text.new.out of _ (text, c.in-Ok.ensures model is, c.args.class, c.requires.member model is, refl)
+    (text_printed c.args.out.now c.print_text.new.out options.tokens of c.args.class (has_directive model of) text
+    (λ json. elim c.in-Text.is [
+      | inl form ↦ let f : Text ≡ JsonLines = sym form ∙ c.form.ensures ∙ json in absurd cc
+      | inr form ↦ let f : Letters ≡ JsonLines = sym form ∙ c.form.ensures ∙ json in absurd cc
+    ])
+    (subst (λ (t : List ℕ). Prints c.args.out.now c.print_text.new.out (text_line options.tokens of t ∷ [])) c.deref.ensures c.print_text.ensures))
 
-pub returns-in-Ok : goal.returns-in-Ok
-returns-in-Ok g c = λ model is. rows_failed c.args.source.now.options model c.args.out.now c.fail.new.self (c.args.token ∷ []) (c.fail.ensures.lines []) c.fail.ensures.stopped
+pub returns-in-JsonLines : goal.returns-in-JsonLines
+returns-in-JsonLines g c = λ model is.
+    let options = c.args.source.now.options in
+    let of = c.args.token in
+    let text = string_bytes c.declare.new.declared.text in
+    row_printed options model c.args.out.now c.print_named.new.out of _ (text, c.in-Ok.ensures model is, c.args.class, c.requires.member model is, refl)
+    (subst (λ (directive : Bool). Prints c.args.out.now c.print_named.new.out (declaration_line options.tokens of c.args.class directive text ∷ []))
+    (c.has_directive-has_directive.ensures model is) (c.print_named.ensures (sym c.form.ensures ∙ c.in-JsonLines.is) options.tokens))
 
-pub returns : goal.returns
-returns g c = λ model is. rows_failed c.args.source.now.options model c.args.out.now c.fail-in-Err.new.self (c.args.token ∷ []) (c.fail-in-Err.ensures.lines []) c.fail-in-Err.ensures.stopped
+pub returns-in-Err : goal.returns-in-Err
+returns-in-Err g c = λ model is. rows_failed c.args.source.now.options model c.args.out.now c.fail.new.self (c.args.token ∷ []) (c.fail.ensures.lines []) c.fail.ensures.stopped

@@ -1,27 +1,27 @@
-use Rattle.std.proofs.Common.{◌+◌, ◌≤◌, arith}
-use Rattle.std.proofs.lemmas.Grind.{not_there}
+use Rattle.std.proofs.Common.{◌≤◌, arith}
+use Rattle.std.proofs.Math.Logic.{∥∥₁_elim}
+use Rattle.std.specs.Coded.{le_prop}
 use Rattle.metadata.specs.Metadata.{count_in}
 use Rattle.metadata_source.specs.MemberLists.{member_of, owner_of}
 use Rattle.opening.specs.Views.{row_count}
-use Rattle.cli_outline.proofs.SubjectLemmas.{at_most}
 use Rattle.cli_outline.proofs.RunLemmas.{run_begins, run_ends, run_from, run_to}
 use Rattle.cli_outline.proofs.outline.run_of.Goals as goal
 
 pub returns-clause-first : goal.returns-clause-first
 unfolding row_count
-returns-clause-first c = at_most 1 c.run.result.start (λ not. not_there c.view-view.ensures.model (λ some.
+returns-clause-first c = ∥∥₁_elim c.view-view.ensures.model le_prop (λ some.
     let count = c.models_are_read.ensures.count c.args.cells.now some.0 some.1 (owner_of c.args.list) in
     let within : c.args.row ≤ count_in some.0 (owner_of c.args.list) = omega (arith, count, c.requires.last) in
-    not (run_from some.0 c.args.list c.args.row _ _ c.requires.first within (c.run.ensures.run some.0 some.1) (c.models_of_roots_are_valid.ensures c.args.cells.now some.0 some.1))))
+    run_from some.0 c.args.list c.args.row _ _ c.requires.first within (c.run.ensures.run some.0 some.1) (c.models_of_roots_are_valid.ensures c.args.cells.now some.0 some.1))
 
 pub returns-clause-last : goal.returns-clause-last
 unfolding row_count
-returns-clause-last c = at_most c.run.result.«end» (row_count c.args.cells.now (member_of c.args.list) + 1) (λ not. not_there c.view-view.ensures.model (λ some.
+returns-clause-last c = ∥∥₁_elim c.view-view.ensures.model le_prop (λ some.
     let count = c.models_are_read.ensures.count c.args.cells.now some.0 some.1 (owner_of c.args.list) in
     let members = c.models_are_read.ensures.count c.args.cells.now some.0 some.1 (member_of c.args.list) in
     let within : c.args.row ≤ count_in some.0 (owner_of c.args.list) = omega (arith, count, c.requires.last) in
     let past = run_to some.0 c.args.list c.args.row _ _ c.requires.first within (c.run.ensures.run some.0 some.1) (c.models_of_roots_are_valid.ensures c.args.cells.now some.0 some.1) in
-    not (omega (arith, past, members))))
+    omega (arith, past, members))
 
 pub returns-clause-begin : goal.returns-clause-begin
 unfolding row_count
