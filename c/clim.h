@@ -23,7 +23,7 @@
  * it 3 to 6 milliseconds. clim_find_type also scans a table, at 6 nanoseconds per type. In a call of clim_cells a
  * cell takes about 7 nanoseconds. So read entire columns if you need many cells. clim_canonical_root and clim_digest
  * take some 50 milliseconds for a file of 5 MB, and allocate some 12 MB then. If blobs of a crafted file overlap, these
- * two and clim_compare take 0.8 seconds for 1 MB, and four times as long for twice the bytes. No budget bounds that.
+ * two and clim_compare allocate 16 to 17 bytes more for each byte of the blobs. No budget bounds that.
  *
  * Errors: clim_check, clim_open, clim_read_header and their variants return false and write a clim_fault, or say that
  * a budget is spent. clim_tables returns 0 and writes a clim_refusal. clim_embed returns a number that says why there

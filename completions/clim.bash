@@ -1,8 +1,10 @@
 # Completions of clim for bash.
 
-# The names of the tables, from the help of `show`, with this after each.
-_clim_tables() {
-    clim show --help 2>/dev/null | grep -oE '\b[0-9A-F]{2} [A-Z][A-Za-z]+' | sed "s/^...//; s/\$/$1/"
+# Each column as TABLE.COLUMN, from the help of `show`. A long list of columns has a second line.
+_clim_columns() {
+    clim show --help 2>/dev/null | awk '
+        /^  [0-9A-F][0-9A-F] [A-Za-z]+: / { table = substr($2, 1, length($2) - 1); for (i = 3; i <= NF; i++) print table "." $i }
+        /^     [A-Z]/ { for (i = 1; i <= NF; i++) print table "." $i }'
 }
 
 _clim() {
@@ -38,12 +40,15 @@ _clim() {
             if [ "${COMP_WORDS[1]}" = root ]; then flags="$flags --until-fault"; fi
             if [ "${COMP_WORDS[1]}" = outline ]; then flags="$flags --no-tokens"; fi
             if [ "${COMP_WORDS[1]}" = compare ]; then flags="$flags --quiet --ignore"; fi
-            # A list of files comes from the standard input alone. The budget is a number, and a column a name.
-            if [ "${COMP_WORDS[COMP_CWORD-1]}" = --files-from ]; then COMPREPLY=(-); return; fi
+            # The budget is a number, and a column a name.
             case ${COMP_WORDS[COMP_CWORD-1]} in
+                --files-from)
+                    while read -r line; do COMPREPLY+=("$line"); done < <(compgen -f -W - -- "$word")
+                    return
+                    ;;
                 --budget | --extract) return ;;
                 --ignore)
-                    while read -r line; do COMPREPLY+=("$line"); done < <(compgen -W "$(_clim_tables .)" -- "$word")
+                    while read -r line; do COMPREPLY+=("$line"); done < <(compgen -W "$(_clim_columns)" -- "$word")
                     return
                     ;;
             esac
@@ -55,7 +60,7 @@ _clim() {
             elif [[ $files -gt 0 && ${COMP_WORDS[1]} = token ]]; then
                 return
             elif [[ $files -gt 0 && ${COMP_WORDS[1]} = show ]]; then
-                while read -r line; do COMPREPLY+=("$line"); done < <(compgen -f -W "$(_clim_tables)" -- "$word")
+                while read -r line; do COMPREPLY+=("$line"); done < <(compgen -f -W "$(_clim_columns | cut -d . -f 1 | uniq)" -- "$word")
             else
                 while read -r line; do COMPREPLY+=("$line"); done < <(compgen -f -- "$word")
             fi

@@ -13,6 +13,7 @@ using System.Diagnostics;
 using System.IO;
 using System.Linq;
 using System.Reflection;
+using System.Runtime.InteropServices;
 using System.Threading;
 using Clim;
 using Assembly = Clim.Assembly;
@@ -22,7 +23,7 @@ static class Stress
     // How often the memory, or the time, for half the bytes those for all may be. A square gives 4.
     const double MostMemory = 2.3, MostTime = 2.8;
     // A call is measured this number of times at most, until the least of each size show that it grows as it may.
-    const int Runs = 20;
+    const int Runs = 100;
     // The longest time after which an assembly is closed, in milliseconds.
     const int Longest = 3;
 
@@ -209,8 +210,26 @@ static class Stress
     // The number of bytes that this thread has allocated in the managed heap.
     static double Allocated() { return (long)allocated.Invoke(null, null); }
 
+    // A time of the C library.
+    struct Time
+    {
+        public long Seconds, Nanoseconds;
+    }
+
+    // The clock of the processor time of a thread. What /proc says of that time is behind by up to a tick of the system.
+    const int ThreadClock = 3;
+
+    [DllImport("libc")]
+    static extern int clock_gettime(int clock, out Time time);
+
     // The processor time of this thread, in nanoseconds.
-    static double Now() { return double.Parse(File.ReadAllText("/proc/thread-self/schedstat").Split(' ')[0]); }
+    static double Now()
+    {
+        Time time;
+        if (clock_gettime(ThreadClock, out time) != 0)
+            throw new InvalidOperationException("a thread has no clock");
+        return time.Seconds * 1e9 + time.Nanoseconds;
+    }
 
     // What a call adds to a measure, on an assembly that was opened before.
     static double Added(Func<double> measure, byte[] root, Action<Assembly> call)

@@ -17,7 +17,7 @@ import clim
 MOST_MEMORY = 2.3
 MOST_TIME = 2.8
 # A call is measured this number of times at most, until the least of each size show that it grows as it may.
-RUNS = 20
+RUNS = 100
 # The number of signatures whose texts are read.
 SIGNATURES = 2000
 

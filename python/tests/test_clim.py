@@ -1182,12 +1182,13 @@ class Embedded(unittest.TestCase):
 
 
 class Examples(doctest.DocTestParser):
-    """The examples of README.md, without those from some lines on if the library is too old for them."""
+    """The examples of a page, without those from some lines on if the library is too old for them."""
 
     NEWER = (
         ("Names and declarations are those of ILAsm", "clim_declaration"),
         ("## New metadata\n", "clim_tables"),
         ("## A copy of a file\n", "clim_embed"),
+        ("## And in Python?\n", "clim_declaration"),
     )
 
     def get_examples(self, string, name="<string>"):
@@ -1198,8 +1199,9 @@ class Examples(doctest.DocTestParser):
 
 
 def load_tests(loader, tests, pattern):
-    """The tests above, and the examples of README.md."""
-    tests.addTests(doctest.DocFileSuite(str(TOP / "python/README.md"), module_relative=False, parser=Examples()))
+    """The tests above, and the examples of two pages."""
+    for page in ("python/README.md", "docs/RECIPES.md"):
+        tests.addTests(doctest.DocFileSuite(str(TOP / page), module_relative=False, parser=Examples()))
     return tests
 
 

@@ -184,7 +184,7 @@ def check_readme(counts):
     readme = text_of("README.md")
     lines = readme.count("\n")
     counts.expect(lines <= README_LINES, f"README.md has {lines} lines, more than {README_LINES}")
-    toolchain = re.search(r"rattle-kit-\S+ logic [0-9a-f]+", text_of("docs/PROVED.md"))
+    toolchain = re.search(r"logic [0-9a-f]+", text_of("docs/PROVED.md"))
     counts.expect(toolchain and toolchain[0] in readme, "README.md and docs/PROVED.md name different toolchains")
 
 

@@ -180,6 +180,13 @@ def three_blobs_that_overlap(size):
     return files_of(*in_turn(size, [size // 8, size // 8 - 4, size // 8 - 1]))
 
 
+def overlapping_blobs_at_other_indexes(size):
+    """Rows whose equal blobs are at other indexes in the second root, each at another distance."""
+    indexes, blobs = in_turn(size, [size // 8])
+    others = [indexes[number - 1] for number in mixed(len(indexes))]
+    return files_of(indexes, blobs), files_of(others, blobs)
+
+
 def overlapping_values_of_attributes(size):
     indexes, blobs = in_turn(size, [size // 8])
     parent, method = coded("HasCustomAttribute", "TypeDef", 1), coded("CustomAttributeType", "MethodDef", 1)

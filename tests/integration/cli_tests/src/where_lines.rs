@@ -353,7 +353,7 @@ fn prints_nothing_past_the_end(rt: HostRuntime) -> Result<(), Fail> {
     let file = image();
     for offset in [1024, 1 << 31, 1 << 40, u64::MAX] {
         let (found, text) = printed(&rt, false, &file, offset)?;
-        assert_eq!(rt; found, Found::Nothing);
+        assert!(rt; found == Found::Nothing);
         assert_eq!(rt; text.as_str(), "nothing\n");
     }
     Ok(())
@@ -474,7 +474,7 @@ fn prints_the_layers_that_break_no_rule(rt: HostRuntime) -> Result<(), Fail> {
         file[at] = byte;
         for (offset, lines) in [0, 520, 592, 676].into_iter().zip(lines) {
             let (found, text) = located(rt.alloc(), Form::Text, Input::File, &file, offset)?;
-            assert_eq!(rt; found, Err(fault));
+            assert!(rt; found == Err(fault));
             let whole = if lines.starts_with("592") { format!(in rt.alloc(); "512 512 section 1\n{lines}")? } else { format!(in rt.alloc(); "{lines}")? };
             assert_eq!(rt; text, whole, "{offset}");
         }

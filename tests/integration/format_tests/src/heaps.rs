@@ -1,5 +1,6 @@
 //! Tests of `heaps`: what is read from heaps, and what is pooled in them.
 
+mod overlaps;
 mod pools;
 mod reads;
 

@@ -5,6 +5,8 @@
 //! endings of one text of 7000 letters: 20 million bytes of text, which take one entry of the canonical heap.
 
 #[cfg(test)]
+mod compared;
+#[cfg(test)]
 mod errors;
 #[cfg(test)]
 mod reports;

@@ -16,8 +16,8 @@ pub struct Disk<'a> {
     pub room: usize,
     /// The length that each file reports, if it is not its own.
     pub reported: Option<u64>,
-    /// Whether files can be read.
-    pub is_readable: bool,
+    /// The most bytes that a call reads of a file, if files can be read.
+    pub at_once: Option<usize>,
     /// What the standard input has.
     pub input: &'a [u8],
 }
@@ -28,7 +28,7 @@ pub fn with_input<'a>(rt: &'a HostRuntime, input: &'a [u8]) -> Disk<'a> {
         host: rt,
         room: 0,
         reported: None,
-        is_readable: true,
+        at_once: Some(usize::MAX),
         input,
     }
 }
@@ -55,15 +55,17 @@ pub struct DiskFile {
     file: File,
     room: usize,
     reported: Option<u64>,
-    is_readable: bool,
+    at_once: Option<usize>,
 }
 
 impl Read for DiskFile {
     fn read(&mut self, buf: &mut [u8]) -> io::Result<usize> {
-        if self.is_readable {
-            self.file.read(buf)
-        } else {
-            Err(io::Error::from(ErrorKind::Other))
+        match self.at_once {
+            Some(most) => {
+                let count = buf.len().min(most);
+                self.file.read(&mut buf[..count])
+            }
+            None => Err(io::Error::from(ErrorKind::Other)),
         }
     }
 }
@@ -125,7 +127,7 @@ impl Files for Disk<'_> {
             file: self.host.open_file(how, path)?,
             room: self.room,
             reported: self.reported,
-            is_readable: self.is_readable,
+            at_once: self.at_once,
         })
     }
 

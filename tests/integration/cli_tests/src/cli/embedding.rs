@@ -142,7 +142,7 @@ fn keeps_both_files_on_a_full_disk(rt: HostRuntime) -> Result<(), Fail> {
             host: &rt,
             room: 1023,
             reported: None,
-            is_readable: true,
+            at_once: Some(usize::MAX),
             input: &[],
         };
         let words = ["clim", "embed", "--root", "kept.root", "kept.dll", out];

@@ -92,7 +92,7 @@ fault 8 801 at 540: EntryPoint
     Ok(())
 }
 
-/// The lines of the numbers at the first faults of a sample, one for each fault; an empty line for a fault without one.
+/// The lines of the offsets of the first faults of a sample, with the numbers there, one for each fault.
 const FILE_NUMBERS: &str = "\
 0x0: value 19789 (0x4d4d)
 0x3c: value 129 (0x81)
@@ -105,25 +105,25 @@ const FILE_NUMBERS: &str = "\
 0x168: value 8200 (0x2008)
 0x208: value 71 (0x47)
 0x210: value 8016 (0x1f50)
-
+0x270
 0x21c: value 100663297 (0x6000001)
 ";
 const MODULE_NUMBERS: &str = "\
 0x0: value 1128944450 (0x434a5342)
 0xc: value 13 (0xd)
-
-
-
-
-
+0x90
+0x80
+0x40
+0x40
+0x20
 0x1e: value 0 (0x0)
-
+0x50
 0x54: value 1 (0x1)
 0x56: value 8 (0x8)
 0x58: value 281474976710657 (0x1000000000001)
-
+0x68
 0x68: value 16777217 (0x1000001)
-
+0x6c
 0x6e: value 8 (0x8); #Strings has 8 bytes
 0x6e: value 1 (0x1); #Strings has 8 bytes
 0x70: value 2 (0x2); #GUID has 1 GUIDs
@@ -145,7 +145,7 @@ const NESTED_TYPE_NUMBERS: &str = "\
 0x7c: value 3 (0x3); NestedClass has 3
 ";
 
-/// What is printed of the first fault that has another line of its number; nothing if there is none.
+/// What is printed of the first fault that has another line of its offset; nothing if there is none.
 fn other_number(rt: &HostRuntime, words: &[&str], sample: &[u8], faults: &[FirstFault], lines: &str) -> Result<Option<String>, Fail> {
     for ((changes, _, _, _), line) in faults.iter().zip(lines.lines()) {
         let bytes = changed(rt.alloc(), sample, changes)?;
@@ -153,8 +153,8 @@ fn other_number(rt: &HostRuntime, words: &[&str], sample: &[u8], faults: &[First
         let (_, out, _) = answer(rt, words)?;
         fs::remove_file(rt, "where.file")?;
         let (before, _) = out.split_once("\n\n").ok_or("no explanation")?;
-        let has_number = before.contains("\n0x");
-        if !before.ends_with(line) || has_number == line.is_empty() {
+        let wanted = format!(in rt.alloc(); "\n{line}")?;
+        if !before.ends_with(wanted.as_str()) {
             return Ok(Some(out));
         }
     }

@@ -12,7 +12,7 @@ fn disk(rt: &HostRuntime, room: usize) -> Disk<'_> {
         host: rt,
         room,
         reported: None,
-        is_readable: true,
+        at_once: Some(usize::MAX),
         input: &[],
     }
 }
@@ -182,7 +182,7 @@ fn reads_whatever_length_is_reported(rt: HostRuntime) -> Result<(), Fail> {
     let words = ["clim", "check", "--bare", "grows.root"];
     let long = Disk {
         reported: Some((1 << 30) + 1),
-        is_readable: false,
+        at_once: None,
         ..disk(&rt, 0)
     };
     let (status, out, err) = answer_on(long, &words)?;
@@ -200,7 +200,7 @@ fn reads_whatever_length_is_reported(rt: HostRuntime) -> Result<(), Fail> {
         assert_eq!(rt; answer_on(short, &words)?.1.as_str(), "ok\n");
     }
     let unreadable = Disk {
-        is_readable: false,
+        at_once: None,
         ..disk(&rt, 0)
     };
     let (status, out, err) = answer_on(unreadable, &words)?;

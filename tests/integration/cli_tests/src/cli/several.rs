@@ -179,7 +179,24 @@ fn checks_listed_files(rt: HostRuntime) -> Result<(), Fail> {
         let lines: Vec<u8> = list.iter().map(|byte| if *byte == 0 { b'\n' } else { *byte }).collect(rt.alloc())?;
         let (ended, out, err) = answer_on(with_input(&rt, lines.as_slice()), &["clim", "check", "--files-from", "-"])?;
         assert_eq!(rt; (ended, out.as_str(), err.as_str()), (status, printed, reported));
+        // The same lists in a file.
+        for (list, words) in [
+            (lines.as_slice(), ["clim", "check", "--files-from", "names.txt"].as_slice()),
+            (list, &["clim", "check", "--files-from=names.txt", "-0"]),
+        ] {
+            fs::write(&rt, "names.txt", list)?;
+            let (ended, out, err) = answer(&rt, words)?;
+            assert_eq!(rt; (ended, out.as_str(), err.as_str()), (status, printed, reported));
+        }
     }
+    // The standard input may be in a list that is a file, once.
+    fs::write(&rt, "names.txt", b"-\ngood.dll\n-\n".as_slice())?;
+    let file = image();
+    let (ended, out, err) = answer_on(with_input(&rt, file.as_slice()), &["clim", "check", "--files-from", "names.txt"])?;
+    assert_eq!(rt; (ended, out.as_str(), err.as_str()), (3, "-: ok\ngood.dll: ok\n", AGAIN));
+    fs::remove_file(&rt, "names.txt")?;
+    let (ended, out, err) = answer(&rt, &["clim", "check", "--files-from", "lacks"])?;
+    assert_eq!(rt; (ended, out.as_str(), err.as_str()), (3, "", LACKS));
     remove_files(&rt)
 }
 

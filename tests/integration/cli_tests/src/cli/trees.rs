@@ -1,6 +1,6 @@
 //! Tests of files in directories.
 
-use crate::cli::disks::{answer_on, with_input};
+use crate::cli::disks::{Disk, answer_on, with_input};
 use crate::runs::answer;
 use sample_roots::{ONE_MODULE, TWO_TYPES, image};
 use std::fs;
@@ -112,5 +112,31 @@ fn counts_one_file(rt: HostRuntime) -> Result<(), Fail> {
         assert_eq!(rt; (status, out.as_str(), err.as_str()), (0, "", reported));
     }
     fs::remove_dir_all(&rt, "few")?;
+    Ok(())
+}
+
+/// However few bytes a call reads, a file is read to its end. What cannot be read is not passed over.
+#[test]
+fn reads_a_file_in_parts(rt: HostRuntime) -> Result<(), Fail> {
+    fs::create_dir_all(&rt, "parts")?;
+    fs::write(&rt, "parts/a.dll", image().as_slice())?;
+    fs::write(&rt, "parts/m", b"M".as_slice())?;
+    fs::write(&rt, "parts/text", b"My text".as_slice())?;
+    let words = ["clim", "check", "-r", "parts"];
+    for most in [1, 2, 3, 100] {
+        let disk = Disk { at_once: Some(most), ..with_input(&rt, b"") };
+        let (status, out, err) = answer_on(disk, &words)?;
+        assert_eq!(rt; (status, out.as_str(), err.as_str()), (0, "parts/a.dll: ok\n", "2 files were not PE files\n"));
+    }
+    let unreadable = Disk { at_once: None, ..with_input(&rt, b"") };
+    let (status, out, err) = answer_on(unreadable, &words)?;
+    assert_eq!(rt; (status, out.as_str()), (3, ""));
+    let reason = "reason: another error of the system";
+    let mut want = String::new(rt.alloc());
+    for file in ["a.dll", "m", "text"] {
+        want.push_str(format!(in rt.alloc(); "error: cannot read parts/{file}\n  {reason}\n")?.as_str())?;
+    }
+    assert_eq!(rt; err, want);
+    fs::remove_dir_all(&rt, "parts")?;
     Ok(())
 }

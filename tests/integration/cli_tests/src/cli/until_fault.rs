@@ -173,10 +173,10 @@ fn refuses_other_arguments(rt: HostRuntime) -> Result<(), Fail> {
         (["clim", "show", "--until-fault", "lacks", "typedefs"].as_slice(), "error: TABLE is a table"),
         (&["clim", "show", "--until-fault", "--until-fault", "lacks"], "cannot be used multiple times"),
         (&["clim", "check", "--until-fault", "lacks"], "unexpected argument '--until-fault'"),
-        (&["clim", "root", "--until-fault"], "error: FILE is missing"),
+        (&["clim", "root", "--until-fault"], "error: no FILE given"),
         (&["clim", "types", "--until-fault", "lacks"], "unexpected argument '--until-fault'"),
         (&["clim", "show", "--until-fault=1", "lacks"], "unexpected value '1' for '--until-fault'"),
-        (&["clim", "show", "--until-fault"], "error: FILE is missing"),
+        (&["clim", "show", "--until-fault"], "error: no FILE given"),
     ] {
         let (status, out, err) = answer(&rt, words)?;
         assert!(rt; status == 2 && out.is_empty() && err.contains(reported), "{err}");

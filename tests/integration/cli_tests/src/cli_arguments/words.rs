@@ -1,9 +1,11 @@
 use crate::named::file_named;
 use crate::runs::answer;
 use cli::{Ask, Subcommand, ask};
+use schema::column_names;
 use std::io;
 use std::io::ErrorKind;
 use std::test::Fail;
+use table_schema::TableId;
 
 /// How help shows the lines.
 const LINES_IN_HELP: &str = "\
@@ -13,8 +15,11 @@ const LINES_IN_HELP: &str = "\
   stream 128 16 #GUID
 ";
 
+/// What is printed if there is no file.
+const NO_FILE: &str = "error: no FILE given\n  hint: '-' reads standard input; 'clim <COMMAND> -h' shows the options\n";
+
 /// Arguments that are a usage error, and what the program prints for them.
-const REFUSED: [(&[&str], &str); 112] = [
+const REFUSED: [(&[&str], &str); 108] = [
     (&[], "Usage: clim <COMMAND>"),
     (&["clim"], "Usage: clim <COMMAND>"),
     (&["clim", "lacks"], "unrecognized subcommand 'lacks'"),
@@ -22,8 +27,8 @@ const REFUSED: [(&[&str], &str); 112] = [
         &["clim", "checks", "--bare", "lacks"],
         "unrecognized subcommand 'checks'",
     ),
-    (&["clim", "check"], "error: FILE is missing, and so is '--files-from -'\n"),
-    (&["clim", "check", "--bare"], "error: FILE is missing"),
+    (&["clim", "check"], NO_FILE),
+    (&["clim", "check", "--bare"], NO_FILE),
     (
         &["clim", "check", "-0", "lacks"],
         "error: '--files-from' and FILE exclude each other\n",
@@ -33,22 +38,13 @@ const REFUSED: [(&[&str], &str); 112] = [
         "error: '--files-from' and FILE exclude each other\n",
     ),
     (
-        &["clim", "check", "--files-from", "lacks"],
-        "error: '--files-from' takes '-', the standard input, not 'lacks'\n",
-    ),
-    (
-        &["clim", "check", "--files-from", "lacks", "-0"],
-        "error: '--files-from' takes '-', the standard input, not 'lacks'\n",
-    ),
-    (
         &["clim", "check", "--files-from"],
-        "a value is required for '--files-from <->'",
+        "a value is required for '--files-from <LIST>'",
     ),
     (&["clim", "check", "-00"], "cannot be used multiple times"),
     (&["clim", "show", "-0", "lacks"], "error: TABLE is a table"),
     (&["clim", "show", "-0", "a.dll"], "error: '--files-from' and FILE exclude each other\n"),
-    (&["clim", "types", "--files-from", "lacks"], "error: '--files-from' takes '-', the standard input, not 'lacks'\n"),
-    (&["clim", "outline", "--files-from=-", "lacks.dll"], "error: '--files-from' and FILE exclude each other\n"),
+    (&["clim", "outline", "--files-from=lacks", "lacks.dll"], "error: '--files-from' and FILE exclude each other\n"),
     (&["clim", "token", "-0", "lacks", "1"], "unexpected argument '-0'"),
     (&["clim", "resources", "--extract", "a", "lacks", "lacks"], "error: '--extract' takes one FILE, and no '--json', '-r' or list of files\n"),
     (&["clim", "resources", "--extract=a", "--json", "lacks"], "error: '--extract' takes one FILE, and no '--json', '-r' or list of files\n"),
@@ -56,10 +52,10 @@ const REFUSED: [(&[&str], &str); 112] = [
     (&["clim", "resources", "--extract=a", "-r", "lacks"], "error: '--extract' takes one FILE, and no '--json', '-r' or list of files\n"),
     (&["clim", "resources", "--extract", "a"], "error: '--extract' takes one FILE, and no '--json', '-r' or list of files\n"),
     (&["clim", "resources", "--bare", "lacks"], "unexpected argument '--bare'"),
-    (&["clim", "refs"], "error: FILE is missing, and so is '--files-from -'\n"),
+    (&["clim", "refs"], NO_FILE),
     (&["clim", "rewrite", "-r", "lacks", "out"], "unexpected argument '-r'"),
     (&["clim", "check", "-rr", "lacks"], "cannot be used multiple times"),
-    (&["clim", "digest", "--recursive"], "error: FILE is missing, and so is '--files-from -'\n"),
+    (&["clim", "digest", "--recursive"], NO_FILE),
     (
         &["clim", "check", "--budget", "few", "lacks"],
         "invalid value 'few' for '--budget <N>'",
@@ -81,7 +77,7 @@ const REFUSED: [(&[&str], &str); 112] = [
         &["clim", "root", "--budget", "1", "lacks"],
         "unexpected argument '--budget'",
     ),
-    (&["clim", "show"], "error: FILE is missing, and so is '--files-from -'\n"),
+    (&["clim", "show"], NO_FILE),
     (
         &["clim", "show", "lacks", "a.dll", "typdef"],
         "which 'clim show --help' lists, not 'typdef'\n  hint: the nearest name is 'TypeDef'\n",
@@ -99,17 +95,17 @@ const REFUSED: [(&[&str], &str); 112] = [
         &["clim", "show", "lacks", "\u{1b}[2J"],
         "which 'clim show --help' lists, not '\\x1b[2J'\n",
     ),
-    (&["clim", "check", "-q"], "error: FILE is missing"),
+    (&["clim", "check", "-q"], NO_FILE),
     (&["clim", "check", "-qq", "lacks"], "cannot be used multiple times"),
     (&["clim", "check", "--quiet=1", "lacks"], "unexpected value '1' for '--quiet'"),
     (&["clim", "show", "-q", "lacks"], "unexpected argument '-q'"),
-    (&["clim", "strings"], "error: FILE is missing, and so is '--files-from -'\n"),
-    (&["clim", "types"], "error: FILE is missing, and so is '--files-from -'\n"),
-    (&["clim", "info"], "error: FILE is missing, and so is '--files-from -'\n"),
-    (&["clim", "outline"], "error: FILE is missing, and so is '--files-from -'\n"),
-    (&["clim", "check", "--json"], "error: FILE is missing"),
-    (&["clim", "check", "--where"], "error: FILE is missing"),
-    (&["clim", "check", "--where", "--json", "-q"], "error: FILE is missing"),
+    (&["clim", "strings"], NO_FILE),
+    (&["clim", "types"], NO_FILE),
+    (&["clim", "info"], NO_FILE),
+    (&["clim", "outline"], NO_FILE),
+    (&["clim", "check", "--json"], NO_FILE),
+    (&["clim", "check", "--where"], NO_FILE),
+    (&["clim", "check", "--where", "--json", "-q"], NO_FILE),
     (
         &["clim", "check", "--json", "-0", "lacks"],
         "error: '--files-from' and FILE exclude each other\n",
@@ -120,7 +116,7 @@ const REFUSED: [(&[&str], &str); 112] = [
     ),
     (&["clim", "check", "--json", "--json", "lacks"], "cannot be used multiple times"),
     (&["clim", "strings", "--json", "--json", "lacks"], "cannot be used multiple times"),
-    (&["clim", "digest", "--json"], "error: FILE is missing, and so is '--files-from -'\n"),
+    (&["clim", "digest", "--json"], NO_FILE),
     (&["clim", "explain", "--json=1"], "unexpected value '1' for '--json'"),
     (&["clim", "rewrite", "--json", "lacks", "out"], "unexpected argument '--json'"),
     (&["clim", "types", "--names", "lacks"], "unexpected argument '--names'"),
@@ -139,9 +135,9 @@ const REFUSED: [(&[&str], &str); 112] = [
         &["clim", "token", "--json", "lacks", "", "1"],
         "error: HEX is one to eight hexadecimal digits, as '06001d06', not ''\n",
     ),
-    (&["clim", "where"], "error: FILE is missing, and so is '--files-from -'\n"),
-    (&["clim", "where", "1"], "error: FILE is missing, and so is '--files-from -'\n"),
-    (&["clim", "where", "-0"], "error: FILE is missing, and so is '--files-from -'\n"),
+    (&["clim", "where"], NO_FILE),
+    (&["clim", "where", "1"], NO_FILE),
+    (&["clim", "where", "-0"], NO_FILE),
     (&["clim", "where", "lacks"], "error: OFFSET is a number, decimal or hexadecimal after '0x', not 'lacks'\n"),
     (&["clim", "where", "lacks", "1", "two"], "error: OFFSET is a number, decimal or hexadecimal after '0x', not 'two'\n"),
     (&["clim", "where", "-0", "lacks", "1"], "error: '--files-from' and FILE exclude each other\n"),
@@ -163,12 +159,8 @@ const REFUSED: [(&[&str], &str); 112] = [
         "a value is required for '--root <ROOT>'",
     ),
     (&["clim", "embed", "--unsigned", "lacks", "-"], "error: OUT is a file, and '-' is none\n"),
-    (&["clim", "digest"], "error: FILE is missing, and so is '--files-from -'\n"),
+    (&["clim", "digest"], NO_FILE),
     (&["clim", "digest", "-0", "lacks"], "error: '--files-from' and FILE exclude each other\n"),
-    (
-        &["clim", "digest", "--files-from", "lacks"],
-        "error: '--files-from' takes '-', the standard input, not 'lacks'\n",
-    ),
     (&["clim", "digest", "-q", "lacks"], "unexpected argument '-q'"),
     (&["clim", "compare", "lacks"], "  <OTHER>\n"),
     (
@@ -224,8 +216,8 @@ const REFUSED: [(&[&str], &str); 112] = [
         &["clim", "--bare", "root", "lacks"],
         "unexpected argument '--bare'",
     ),
-    (&["clim", "root"], "error: FILE is missing, and so is '--files-from -'\n"),
-    (&["clim", "root", "--bare", "-r"], "error: FILE is missing, and so is '--files-from -'\n"),
+    (&["clim", "root"], NO_FILE),
+    (&["clim", "root", "--bare", "-r"], NO_FILE),
     (
         &["clim", "root", "--bare", "--bare", "lacks"],
         "cannot be used multiple times",
@@ -350,7 +342,7 @@ fn prints_a_version_of_three_numbers(rt: HostRuntime) -> Result<(), Fail> {
     let (status, out, err) = answer(&rt, &["clim", "--version"])?;
     assert!(rt; status == 0 && err.is_empty());
     let (first, toolchain) = out.split_once('\n').ok_or("no line")?;
-    assert!(rt; short.trim() == first && toolchain.starts_with("proved and built with rattle-kit-"));
+    assert!(rt; short.trim() == first && toolchain.starts_with("proved and built by Rattle, logic "));
     let version = first.trim().strip_prefix("clim ").expect(&rt, "clim and its version");
     assert!(rt; version.split('.').count() == 3);
     for number in version.split('.') {
@@ -467,6 +459,27 @@ fn helps_within_a_screen(rt: HostRuntime) -> Result<(), Fail> {
     let (status, out, err) = answer(&rt, &["clim", "-h"])?;
     assert!(rt; status == 0 && err.is_empty());
     assert_eq!(rt; out.as_str(), short.as_str());
+    Ok(())
+}
+
+/// The help of `show` lists the tables, each with its columns.
+#[test]
+fn helps_with_all_columns(rt: HostRuntime) -> Result<(), Fail> {
+    let (_, help, _) = answer(&rt, &["clim", "show", "--help"])?;
+    let (_, after) = help.split_once("The tables and their columns are:\n").ok_or("no tables")?;
+    let (listed, _) = after.split_once("\n\n").ok_or("no end")?;
+    let mut wanted = String::new(rt.alloc());
+    for number in 0..=0x2C {
+        if let Some(table) = TableId::from_number(number) {
+            wanted.push_str(format!(in rt.alloc(); "{number:02X} {}: ", table.name())?.as_str())?;
+            // A byte without meaning is no cell.
+            for column in column_names(table).iter().filter(|column| **column != "padding") {
+                wanted.push_str(column)?;
+                wanted.push(' ')?;
+            }
+        }
+    }
+    assert!(rt; listed.split_whitespace().eq(wanted.split_whitespace()), "{wanted}");
     Ok(())
 }
 
@@ -593,7 +606,7 @@ fn asks(rt: HostRuntime) -> Result<(), Fail> {
         ),
     ] {
         let asked = ask(rt.alloc(), words)?;
-        assert_eq!(rt; given(&asked), want);
+        assert!(rt; given(&asked) == want);
         assert!(rt; asked.files.as_slice().first().copied() == asked.file);
         assert!(rt; asked.files_from.is_none() && !asked.null && !asked.quiet && !asked.json);
         assert!(rt; asked.codes.is_empty() && asked.root.is_none() && !asked.unsigned);
@@ -710,11 +723,11 @@ fn asks_for_several_files(rt: HostRuntime) -> Result<(), Fail> {
     let words = ["clim", "check", "a", "b", "--bare", "-", "--budget=7", "c", "--", "-0"];
     let asked = ask(rt.alloc(), &words)?;
     assert_eq!(rt; asked.files.as_slice(), ["a", "b", "-", "c", "-0"].as_slice());
-    assert_eq!(rt; given(&asked), (Subcommand::Check, true, Some("a"), None, Some(7), None));
+    assert!(rt; given(&asked) == (Subcommand::Check, true, Some("a"), None, Some(7), None));
     let words = ["clim", "digest", "a", "b", "--bare", "-"];
     let asked_too = ask(rt.alloc(), &words)?;
     assert_eq!(rt; asked_too.files.as_slice(), ["a", "b", "-"].as_slice());
-    assert_eq!(rt; given(&asked_too), (Subcommand::Digest, true, Some("a"), None, None, None));
+    assert!(rt; given(&asked_too) == (Subcommand::Digest, true, Some("a"), None, None, None));
     assert!(rt; asked.files_from.is_none() && !asked.null);
     Ok(())
 }

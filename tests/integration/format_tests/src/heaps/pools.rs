@@ -87,7 +87,7 @@ fn plans_texts_at_starts(rt: HostRuntime) -> Result<(), Fail> {
 }
 
 /// The next of a sequence of numbers below a limit, from the high bits of a linear congruential generator.
-fn next_below(state: &mut u64, limit: usize) -> usize {
+pub fn next_below(state: &mut u64, limit: usize) -> usize {
     *state = state
         .wrapping_mul(6_364_136_223_846_793_005)
         .wrapping_add(1_442_695_040_888_963_407);
