@@ -1,5 +1,5 @@
 -- What a writer took in several calls, and the texts of a descriptor that are there.
-use Rattle.std.proofs.Common.{◌≡◌, ℕ, List, [], ◌∷◌, ◌++◌, ◌⊎◌, inl, inr, Bool, false, length, OnOk, Ok, Err, Result, refl, subst}
+use Rattle.std.proofs.Common.{◌≡◌, ℕ, List, [], ◌∷◌, ◌++◌, ◌⊎◌, inl, inr, false, length, OnOk, Ok, Err, Result, refl, subst}
 use Rattle.std.specs.Prelude.{codes, ◌==◌}
 use Rattle.std.specs.Fmt.{WritesInCalls}
 use Rattle.std.specs.declared.fmt.Error.{Error}

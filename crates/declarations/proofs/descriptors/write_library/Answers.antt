@@ -12,10 +12,10 @@ returns g c =
     let guid = quoted_text c.args.guid.now in
     let unmanaged = quoted_text c.args.unmanaged.now in
     let some : ((length c.args.guid.now == 0) ≡ false) ⊎ ((length c.args.unmanaged.now == 0) ≡ false) =
-        elim c.else-is_empty.branch [
-          else-is_empty-via-then-is_empty+else-is_empty-2 w ↦ inr (sym w.is_empty-then-is_empty.ensures ∙ w.if-is_empty-2.false)
-        | else-is_empty-via-else-is_empty w ↦ inl (sym c.is_empty.ensures ∙ w.if-is_empty.false)
-        ] in
+    elim c.else-is_empty.branch [
+      | else-is_empty-via-then-is_empty+else-is_empty-2 w ↦ inr (sym w.is_empty-then-is_empty.ensures ∙ w.if-is_empty-2.false)
+      | else-is_empty-via-else-is_empty w ↦ inl (sym c.is_empty.ensures ∙ w.if-is_empty.false)
+    ] in
     let end = c.write-2.new.self in
     let result = c.write-2.result in
     writes_same took c.args.out.now (guid ++ (codes ", " ++ (unmanaged ++ codes ", "))) (library_text c.args.guid.now c.args.unmanaged.now) end result
