@@ -34,7 +34,7 @@ parts_of TypeDef =
 -- II.16.1, II.22.15
 parts_of Field =
     word (codes "  .field") ∷ linked_by link.FieldOffsets ∷ flags table.Field 0 ∷ linked_by link.Marshalling ∷ word (codes " ") ∷ signature 2 ∷
-    word (codes " ") ∷ text 1 ∷ linked_by link.Constants ∷ linked_by link.FieldData ∷ []
+    word (codes " ") ∷ own_name ∷ linked_by link.Constants ∷ linked_by link.FieldData ∷ []
 -- II.15.4, II.22.26
 parts_of MethodDef = word (codes "  .method") ∷ flags table.Method 2 ∷ word (codes " ") ∷ declaration ∷ flags table.Implementation 1 ∷ []
 -- II.12.2, II.22.23

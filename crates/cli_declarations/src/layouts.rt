@@ -100,7 +100,7 @@ const TYPE_DEF: &[Piece] = &[
 
 const FIELD: &[Piece] = pieces![
     Word("  .field"); Linked(Link::FieldOffsets); Flags(FlagTable::Field, 0);
-    Linked(Link::Marshalling); Word(" "); Signature(2); Word(" "); Text(1);
+    Linked(Link::Marshalling); Word(" "); Signature(2); Word(" "); OwnName;
     Linked(Link::Constants); Linked(Link::FieldData);
 ];
 
