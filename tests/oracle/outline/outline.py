@@ -109,7 +109,7 @@ class Reader:
             *flags, name = head.rpartition(" [")[0].split()
             self.owners[self.token] = owner
             self.add_of(owner, "generic parameter", " ".join([*sorted(flags), name]))
-        else:
+        elif text.startswith("constraint "):
             of, _, constraint = text.removeprefix("constraint ").partition(", ")
             self.add_of(self.owners[of.rpartition(" ")[2]], "constraint", no_kinds(constraint))
 
