@@ -16,9 +16,11 @@
 mod constructors;
 mod enums;
 mod params;
+mod read_view;
 mod signatures;
 mod system_types;
 
 pub use constructors::{constructor, type_of};
 pub use params::Params;
+pub use read_view::ReadView;
 pub use signatures::params_of;
