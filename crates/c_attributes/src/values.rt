@@ -33,7 +33,7 @@ fn blob_at<'a>(view: &View<'a>, row: u32) -> &'a [u8]
     metadata::laws::models_of_roots_are_valid();
     match view.cell(TableId::CustomAttribute, row, VALUE) {
         CellRef::Bytes(blob) => blob,
-        _ => unreachable!(),
+        _ => &[],
     }
 }
 
@@ -49,7 +49,7 @@ fn params_at(view: &View<'_>, row: u32) -> Option<Params>
 
 /// Writes items, up to the length of the array, and returns the number of all of them.
 fn write_items<'a>(found: Items<'a, '_>, items: &mut [ClimAttributeItem<'a>]) -> usize
-    requires { length found.entry < 2 ^ 63 }
+    requires { length found < 2 ^ 63 }
     ensures count { result ≡ length found.entry }
     ensures written { AreItems found.entry items.old items.new }
 {

@@ -1,5 +1,5 @@
-ghost use Rattle.std.specs.Prelude.{◌≡◌, ◌≤◌, ◌<◌, ◌-◌, ◌^◌, ◌⊎◌, true, false, length};
-ghost use Rattle.clim_c.specs.Words.{AreItems, AttributeValue, HasRow, IsModel, IsValueAt, CustomAttribute, Metadata, items_of, row_count};
+ghost use Rattle.std.specs.Prelude.{◌≡◌, ◌≤◌, ◌<◌, ◌-◌, ◌^◌, ◌⊎◌, length};
+ghost use Rattle.clim_c.specs.Words.{AreItems, AttributeValue, IsModel, IsValueAt, Metadata, items_of};
 ghost use Rattle.clim_c.specs.Attributes.{IsOpenAttribute};
 
 use crate::opened::seen;
