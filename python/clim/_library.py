@@ -167,6 +167,8 @@ _USUAL_ITEMS = 16
 _LARGEST_CODE = 0xFFFF
 #: `CLIM_NO_CELL`.
 NO_CELL = CELL.pack(EMPTY_AT, 0, 0, 0, 0, bytes(16))
+#: `CLIM_NO_ITEM`.
+NO_ITEM = ITEM.pack(EMPTY_AT, 0, EMPTY_AT, 0, 0, 0, 0, 0, False)
 
 _VIEW, _BYTES, _FAULT, _ROW_OUT = POINTER(ViewStruct), POINTER(Bytes), POINTER(FaultStruct), POINTER(c_uint32)
 
@@ -307,8 +309,8 @@ def attribute_items(view: Any, row: int) -> Optional[Iterator[Tuple[Any, ...]]]:
     """The items of the value of an attribute, by the fields of `ITEM`. `None` if it is not decoded."""
     room = _USUAL_ITEMS
     while True:
-        items = ctypes.create_string_buffer(ITEM.size * room)
-        count = library.clim_attribute_items(view, row, items, room)
+        items = bytearray(NO_ITEM * room)
+        count = library.clim_attribute_items(view, row, ctypes.addressof(ctypes.c_char.from_buffer(items)), room)
         if count == NOT_DECODED:
             return None
         if count <= room:
