@@ -23,6 +23,9 @@ use Rattle.full_names.specs.declared.quoted.NameKind.TheVariants.{Dotted}
 use Rattle.full_names.specs.Quoted.{name_text, quoted_bytes}
 use Rattle.full_names.specs.RowNames.{IsRowName}
 use Rattle.full_names.specs.Texts.{ArePiecesText, IsFullName, IsPieceText}
+use Rattle.declarations.specs.Descriptors.{descriptor_text}
+use Rattle.marshal_descriptors.specs.Reading.{descriptor_of}
+use Rattle.marshal_descriptors.specs.Values.{Descriptor}
 use Rattle.declarations.specs.Declarations.{IsDeclaration, IsPropertyDeclaration, IsReference}
 use Rattle.navigation.specs.declared.links.Link.{Link}
 use Rattle.navigation.specs.declared.links.Link.TheVariants as link_of
@@ -268,7 +271,7 @@ IsAttributeAt model _ row out = out ≡ []
 -- ---- the parts of a line
 
 -- the value of a constant (II.16.2), the layout of a type (II.10.7), the offset of a field, the address of its data (II.16.3) and how
--- it is marshalled (II.16.1): the bytes of its descriptor
+-- it is marshalled (II.7.4, II.16.1)
 abbrev pub value_text : ℕ → List ℕ → List ℕ
 value_text code bytes = codes " = " ++ constant_text code bytes
 
@@ -281,8 +284,17 @@ offset_text offset = codes " [" ++ digits offset ++ codes "]"
 abbrev pub address_text : ℕ → List ℕ
 address_text address = codes " at D_" ++ hexadecimal 8 address
 
+-- the descriptor that bytes are (II.23.4), unless they are too long
+abbrev pub descriptor_in : List ℕ → Option Descriptor
+descriptor_in blob = if nat_le (length blob) value_limit then descriptor_of blob else None
+
+-- the text of a descriptor, up to the limit, and of bytes that are none
+abbrev pub marshal_content : Option Descriptor → List ℕ → List ℕ
+marshal_content None blob = value_bytes_text blob
+marshal_content (Some of) blob = cut_text (descriptor_text of)
+
 abbrev pub marshal_text : List ℕ → List ℕ
-marshal_text descriptor = codes " marshal(" ++ value_bytes_text descriptor ++ codes ")"
+marshal_text blob = codes " marshal(" ++ marshal_content (descriptor_in blob) blob ++ codes ")"
 
 -- what a row adds to the row that it refers to
 abbrev pub referring_text : Metadata → Link → ℕ → List ℕ
