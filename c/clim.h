@@ -42,9 +42,10 @@
  *   - No pointer is null, even if the length after it is 0. Use "" then.
  *   - A pointer and a length describe that number of bytes or items. Nobody writes them during the call.
  *   - What a call writes through a pointer does not overlap its other arguments. It is initialised before the call:
- *     initialise a clim_view, a clim_cell, a clim_bytes, a clim_fault, a clim_header, a clim_stream_header, a
- *     clim_location, a clim_difference and a clim_refusal with CLIM_CLOSED, CLIM_NO_CELL, CLIM_NO_BYTES, CLIM_NO_FAULT,
- *     CLIM_NO_HEADER, CLIM_NO_STREAM, CLIM_NO_LOCATION, CLIM_NO_DIFFERENCE and CLIM_NO_REFUSAL.
+ *     initialise a clim_view, a clim_cell, a clim_attribute_item, a clim_bytes, a clim_fault, a clim_header, a
+ *     clim_stream_header, a clim_location, a clim_difference and a clim_refusal with CLIM_CLOSED, CLIM_NO_CELL,
+ *     CLIM_NO_ITEM, CLIM_NO_BYTES, CLIM_NO_FAULT, CLIM_NO_HEADER, CLIM_NO_STREAM, CLIM_NO_LOCATION, CLIM_NO_DIFFERENCE
+ *     and CLIM_NO_REFUSAL.
  *   - Copy a clim_view only as a whole. Only calls write its fields.
  *   - The bytes that were opened do not change and do not move, while a view of them, or a text or a blob from
  *     that view, is in use. So do not pass a map of a file that another process can write.
@@ -145,6 +146,55 @@ typedef struct clim_cell {
     uint8_t table;
     uint8_t guid[16];
 } clim_cell;
+
+/* What an item of the value of a custom attribute is (II.23.3). */
+enum clim_item_kind {
+    CLIM_NO_ITEM_KIND = 0,     /* no item: the kind in CLIM_NO_ITEM */
+    CLIM_FIXED_ARGUMENT = 1,   /* the next argument of the constructor */
+    CLIM_ELEMENT = 2,          /* the next element of the array before it */
+    CLIM_NAMED_COUNT = 3,      /* number: the number of named arguments, which follow; all fixed ones are before it */
+    CLIM_FIELD_ARGUMENT = 4,   /* the next named argument: it sets the field with this name */
+    CLIM_PROPERTY_ARGUMENT = 5 /* the next named argument: it sets the property with this name */
+};
+
+/* What the value of an argument or an element is. */
+enum clim_value_form {
+    CLIM_NO_VALUE = 0,    /* nothing: the item is a CLIM_NAMED_COUNT */
+    CLIM_PLAIN_VALUE = 1, /* a value of a type */
+    CLIM_BOXED_VALUE = 2, /* the same, in an object: the argument, or the element, has the type object */
+    CLIM_ARRAY = 3        /* an array of elements of a type: unless it is null, number elements follow */
+};
+
+/* The type of a value, or of the elements of an array (II.23.1.16), and where the value is. An enum has the type of its
+ * numbers. */
+enum clim_value_type {
+    CLIM_BOOLEAN = 0x02, /* number: 0 or 1 */
+    CLIM_CHAR = 0x03,    /* number: a UTF-16 unit */
+    CLIM_I1 = 0x04,      /* a signed number: (int8_t)number; CLIM_I2, CLIM_I4 and CLIM_I8 likewise */
+    CLIM_U1 = 0x05,      /* an unsigned number: number */
+    CLIM_I2 = 0x06,
+    CLIM_U2 = 0x07,
+    CLIM_I4 = 0x08,
+    CLIM_U4 = 0x09,
+    CLIM_I8 = 0x0A,
+    CLIM_U8 = 0x0B,
+    CLIM_R4 = 0x0C,          /* the low 32 bits of number are the bits of a float */
+    CLIM_R8 = 0x0D,          /* number has the bits of a double */
+    CLIM_STRING = 0x0E,      /* text, in UTF-8 */
+    CLIM_SYSTEM_TYPE = 0x50, /* text: the name of a type in UTF-8, such as "System.String, mscorlib" */
+    CLIM_OBJECT = 0x51       /* only of the elements of an array: each is a CLIM_BOXED_VALUE */
+};
+
+/* An item of the value of a custom attribute. The fields that do not belong to it are 0 or no bytes. */
+typedef struct clim_attribute_item {
+    clim_bytes name; /* of a CLIM_FIELD_ARGUMENT or a CLIM_PROPERTY_ARGUMENT, in UTF-8 */
+    clim_bytes text;
+    uint64_t number;
+    uint8_t kind;    /* one of enum clim_item_kind */
+    uint8_t form;    /* one of enum clim_value_form */
+    uint8_t type;    /* one of enum clim_value_type, or 0 */
+    bool is_null;    /* the string, the name of a type or the array is null */
+} clim_attribute_item;
 
 /* A stream header of a root (II.24.2.2): the name, which the standard need not define, in ASCII and at most 32
  * characters; the offset of the header, and the offset and the size of the stream, in bytes from the start of the
@@ -459,6 +509,7 @@ enum clim_generic_param_constraint_column {
 #define CLIM_NO_BYTES {(const uint8_t *)"", 0}
 #define CLIM_NO_FAULT {0, 0, 0}
 #define CLIM_NO_CELL {CLIM_NO_BYTES, 0, CLIM_NO_KIND, 0, {0}}
+#define CLIM_NO_ITEM {CLIM_NO_BYTES, CLIM_NO_BYTES, 0, CLIM_NO_ITEM_KIND, CLIM_NO_VALUE, 0, false}
 #define CLIM_NO_STREAM {CLIM_NO_BYTES, 0, 0, 0}
 #define CLIM_NO_LOCATION {0, 0, 0, 0, 0}
 #define CLIM_NO_DIFFERENCE {0, 0, 0, 0, CLIM_NO_DIFFERENCE_KIND, 0}
@@ -666,6 +717,31 @@ size_t clim_row_name(const clim_view *view, uint32_t token, uint8_t *buffer, siz
  * what is in the buffer is then not specified. Takes time in proportion to what it reads, and n log n for the n
  * parameters of a method. Reads *view and the root. Allocates in proportion to the rows of Param of a method. */
 size_t clim_declaration(const clim_view *view, uint32_t token, uint8_t *buffer, size_t room);
+
+/* What clim_attribute_items returns for a value that is not decoded. */
+#define CLIM_NOT_DECODED (SIZE_MAX - 8)
+
+/* Writes the items of the value of the custom attribute in a row of CustomAttribute (II.22.10, II.23.3) into items[0] to
+ * items[room - 1]; items that do not fit are left out, and the other elements are unchanged. Returns the number of all
+ * items, which can be more than room: at least 1, and at most the number of bytes of the value. The items are in the order
+ * of the value: the fixed arguments, the number of named arguments, and these. The elements of an array follow it.
+ *
+ *     // [Sizes(new[] {1, 2}, Owner = "me")]
+ *     clim_attribute_item items[] = {CLIM_NO_ITEM, CLIM_NO_ITEM, CLIM_NO_ITEM, CLIM_NO_ITEM, CLIM_NO_ITEM};
+ *     size_t count = clim_attribute_items(&view, row, items, 5);
+ *     // 5: CLIM_FIXED_ARGUMENT of CLIM_ARRAY and CLIM_I4 with number 2, CLIM_ELEMENT 1, CLIM_ELEMENT 2,
+ *     // CLIM_NAMED_COUNT 1, CLIM_PROPERTY_ARGUMENT "Owner" of CLIM_STRING "me"
+ *
+ * The types of the arguments are those of the constructor's parameters. Returns CLIM_NOT_DECODED if these are not all
+ * known, or the bytes are no value for them: a parameter is an enum of another file, whose size is unknown, or has a type
+ * that attributes cannot have; there are more than 64 parameters; an object contains an array, or an enum by its name; or
+ * a named argument is an enum. Returns 0 if the view is not open, or has no such row. Then the items are unchanged.
+ *
+ * Names and texts point into the root. Takes time in proportion to the bytes of the value, and to the signature of the
+ * constructor, of which it reads at most 8,320 bytes; for a parameter that is an enum it reads two starts as clim_cell_at
+ * does, and at most 16 fields. Rows may share one value: so of an untrusted file, the values of all rows together can
+ * take time that grows with the square of its size. Reads *view and the root. */
+size_t clim_attribute_items(const clim_view *view, uint32_t row, clim_attribute_item *items, size_t room);
 
 /* Writes the canonical root of the view (II.24.2) into buffer[0] to buffer[room - 1], if there is room for all of it;
  * otherwise the buffer is unchanged. Returns the length of the root, which can be more than room. It is what clim

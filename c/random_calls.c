@@ -244,6 +244,18 @@ static void ask_rows(const opened *it) {
     EXPECT(clim_find_type(&it->view, space.at, space.len, name.at, name.len) <= clim_count(&it->view, CLIM_TYPE_DEF));
 }
 
+static void ask_attribute(const opened *it) {
+    uint32_t rows = clim_count(&it->view, CLIM_CUSTOM_ATTRIBUTE), row = (uint32_t)odd(rows);
+    size_t room = below(ROOM / sizeof(clim_attribute_item));
+    uint8_t *at = with_room(room * sizeof(clim_attribute_item));
+    clim_attribute_item *items = (clim_attribute_item *)(void *)at;
+    for (size_t i = 0; i < room; i++) items[i] = (clim_attribute_item)CLIM_NO_ITEM;
+    size_t count = clim_attribute_items(&it->view, row, items, room);
+    EXPECT((count > 0) == (row >= 1 && row <= rows) && (count <= it->view.root.len || count == CLIM_NOT_DECODED));
+    EXPECT(is_unwritten(at, room * sizeof(clim_attribute_item)));
+    for (size_t i = 0; i < room; i++) EXPECT((items[i].kind != CLIM_NO_ITEM_KIND) == (count != CLIM_NOT_DECODED && i < count));
+}
+
 static void ask_where(const opened *it) {
     clim_location location = {7, 7, 7, 7, 7};
     size_t offset = (size_t)odd(it->view.root.len);
@@ -346,7 +358,7 @@ static void ask_embed(const opened *it) {
 
 static void *call_some(void *which) {
     static some_call *const often[] = {ask_fault, ask_parts, ask_stream, ask_user_string, ask_names, ask_cell,
-                                       ask_cells, ask_signature, ask_rows, ask_where, ask_row_text, ask_offset};
+                                       ask_cells, ask_signature, ask_rows, ask_where, ask_row_text, ask_offset, ask_attribute};
     static some_call *const seldom[] = {ask_root, ask_compare, ask_tables, ask_embed};
     size_t thread = (size_t)which;
     state = (seed + 1) * 0x9E3779B97F4A7C15 + thread + 1;

@@ -32,12 +32,14 @@ _Static_assert(offsetof(clim_found, in_order) == 5140 && offsetof(clim_found, ut
 _Static_assert(sizeof(clim_view) == 5208 && offsetof(clim_view, is_open) == 5204, "clim_view");
 _Static_assert(sizeof(clim_stream_header) == 32 && offsetof(clim_stream_header, size) == 28, "clim_stream_header");
 _Static_assert(sizeof(clim_cell) == 40 && offsetof(clim_cell, guid) == 22, "clim_cell");
+_Static_assert(sizeof(clim_attribute_item) == 48 && offsetof(clim_attribute_item, is_null) == 43, "clim_attribute_item");
 _Static_assert(sizeof(clim_location) == 32 && offsetof(clim_location, table) == 28, "clim_location");
 _Static_assert(sizeof(clim_difference) == 24 && offsetof(clim_difference, table) == 21, "clim_difference");
 _Static_assert(sizeof(clim_row) == 24 && offsetof(clim_row, table) == 16, "clim_row");
 _Static_assert(sizeof(clim_refusal) == 16 && offsetof(clim_refusal, table) == 14, "clim_refusal");
 
 static const clim_cell NO_CELL = CLIM_NO_CELL;
+static const clim_attribute_item NO_ITEM = CLIM_NO_ITEM;
 static const clim_view CLOSED = CLIM_CLOSED;
 
 /* A buffer without room, which may not be null. */
@@ -1088,6 +1090,135 @@ static void set_sample(sample_rows *to) {
     to->all = (given){text_of("v4.0.30319"), {(const uint8_t *)"\0\3A\0\0\0\0", 8}, to->rows, ROWS};
 }
 
+/* ---- values of custom attributes */
+
+static bool same_item(const clim_attribute_item *a, const clim_attribute_item *b) {
+    return same_bytes(a->name, b->name) && same_bytes(a->text, b->text) && a->number == b->number && a->kind == b->kind &&
+           a->form == b->form && a->type == b->type && a->is_null == b->is_null;
+}
+
+/* Whether a call with this room returns the number of all items, and writes the first of them and nothing else. */
+static bool are_items(const clim_view *view, uint32_t row, const clim_attribute_item *all, size_t count, size_t room) {
+    guarded written = guard(room * sizeof *all);
+    clim_attribute_item *items = (clim_attribute_item *)written.at;
+    for (size_t i = 0; i < room; i++) items[i] = NO_ITEM;
+    bool same = clim_attribute_items(view, row, items, room) == count;
+    for (size_t i = 0; i < room; i++) same &= same_item(&items[i], i < count ? &all[i] : &NO_ITEM);
+    munmap(written.pages, written.room);
+    return same;
+}
+
+/* Whether items are those of a value: fixed arguments, the number of named ones, and these, with elements after arrays. */
+static bool are_of_value(const clim_attribute_item *items, size_t count) {
+    uint64_t elements = 0, named = UINT64_MAX;
+    bool same = true;
+    for (size_t i = 0; i < count; i++) {
+        uint8_t kind = items[i].kind;
+        bool is_array = items[i].form == CLIM_ARRAY;
+        same &= (elements > 0) == (kind == CLIM_ELEMENT);
+        same &= kind == CLIM_ELEMENT || (named == UINT64_MAX) == (kind == CLIM_FIXED_ARGUMENT || kind == CLIM_NAMED_COUNT);
+        if (kind == CLIM_NAMED_COUNT) named = items[i].number + 1;
+        if (kind != CLIM_ELEMENT && kind != CLIM_FIXED_ARGUMENT) named--;
+        elements = is_array ? items[i].number : kind == CLIM_ELEMENT ? elements - 1 : 0;
+        same &= !items[i].is_null || (items[i].number == 0 && items[i].text.len == 0);
+    }
+    return same && elements == 0 && named == 0;
+}
+
+/* The attributes of a view: for each the value has as many items as a call says, whatever room there is. */
+static void ask_attributes(const clim_view *view) {
+    uint32_t rows = clim_count(view, CLIM_CUSTOM_ATTRIBUTE), step = rows / 300 + 1;
+    clim_attribute_item item = NO_ITEM;
+    clim_cell value = NO_CELL;
+    clim_view closed = CLOSED;
+    bool same = true;
+    for (uint32_t row = 1; row <= rows; row += step) {
+        size_t count = clim_attribute_items(view, row, &item, 0);
+        clim_cell_at(view, CLIM_CUSTOM_ATTRIBUTE, row, CLIM_CUSTOM_ATTRIBUTE_VALUE, &value);
+        same &= count == CLIM_NOT_DECODED || (count > 0 && count <= value.bytes.len);
+        if (count == CLIM_NOT_DECODED || count > 1000) continue;
+        static clim_attribute_item all[1000];
+        for (size_t i = 0; i < count; i++) all[i] = NO_ITEM;
+        same &= clim_attribute_items(view, row, all, count) == count && are_of_value(all, count);
+        same &= are_items(view, row, all, count, count / 2) && are_items(view, row, all, count, count + 1);
+    }
+    CHECK(same);
+    CHECK(clim_attribute_items(view, 0, &item, 1) == 0 && clim_attribute_items(view, rows + 1, &item, 1) == 0);
+    CHECK(clim_attribute_items(view, UINT32_MAX, &item, 1) == 0 && clim_attribute_items(&closed, 1, &item, 1) == 0);
+    CHECK(same_item(&item, &NO_ITEM));
+}
+
+static clim_attribute_item item_of(uint8_t kind, uint8_t form, uint8_t type, uint64_t number) {
+    return (clim_attribute_item){CLIM_NO_BYTES, CLIM_NO_BYTES, number, kind, form, type, false};
+}
+
+static clim_attribute_item text_item(uint8_t kind, uint8_t form, uint8_t type, const char *text) {
+    return (clim_attribute_item){CLIM_NO_BYTES, text_of(text == NULL ? "" : text), 0, kind, form, type, text == NULL};
+}
+
+static clim_attribute_item named(const char *name, clim_attribute_item item) {
+    item.name = text_of(name);
+    return item;
+}
+
+/* A value with an argument of each type, one of an enum of another file, and one of no bytes. */
+static void ask_each_type(void) {
+    static const char parameters[] =
+        "\x20\x14\1\2\3\4\5\6\7\10\11\12\13\14\15\16\16\x12\x09\x11\x08\x1C\x1D\x08\x1D\x0E\x1D\x1C";
+    static const char value[] =
+        "\1\0\1\x3D\xD8\xFF\xFF\xFE\xFF\xFE\xFF\xFD\xFF\xFF\xFF\xFD\xFF\xFF\xFF\xFC\xFF\xFF\xFF\xFF\xFF\xFF\xFF"
+        "\xFC\xFF\xFF\xFF\xFF\xFF\xFF\xFF\0\0\xC0\x3F\0\0\0\0\0\0\xF8\xBF\3a\xC3\xA9\xFF\x0DSystem.String\2\0"
+        "\x08*\0\0\0\2\0\0\0\1\0\0\0\2\0\0\0\xFF\xFF\xFF\xFF\2\0\0\0\x0E\1x\x0E\xFF"
+        "\3\0S\x08\5Count\7\0\0\0T\x1D\2\5Flags\1\0\0\0\1TQ\3Tag\2\0";
+    const uint8_t fixed = CLIM_FIXED_ARGUMENT, plain = CLIM_PLAIN_VALUE, boxed = CLIM_BOXED_VALUE;
+    clim_attribute_item no_strings = item_of(fixed, CLIM_ARRAY, CLIM_STRING, 0);
+    no_strings.is_null = true;
+    const clim_attribute_item all[] = {
+        item_of(fixed, plain, CLIM_BOOLEAN, 1), item_of(fixed, plain, CLIM_CHAR, 0xD83D), item_of(fixed, plain, CLIM_I1, 0xFF),
+        item_of(fixed, plain, CLIM_U1, 0xFF), item_of(fixed, plain, CLIM_I2, 0xFFFE), item_of(fixed, plain, CLIM_U2, 0xFFFE),
+        item_of(fixed, plain, CLIM_I4, 0xFFFFFFFD), item_of(fixed, plain, CLIM_U4, 0xFFFFFFFD),
+        item_of(fixed, plain, CLIM_I8, UINT64_MAX - 3), item_of(fixed, plain, CLIM_U8, UINT64_MAX - 3),
+        item_of(fixed, plain, CLIM_R4, 0x3FC00000), item_of(fixed, plain, CLIM_R8, 0xBFF8000000000000),
+        text_item(fixed, plain, CLIM_STRING, "a\xC3\xA9"), text_item(fixed, plain, CLIM_STRING, NULL),
+        text_item(fixed, plain, CLIM_SYSTEM_TYPE, "System.String"), item_of(fixed, plain, CLIM_I2, 2),
+        item_of(fixed, boxed, CLIM_I4, 42), item_of(fixed, CLIM_ARRAY, CLIM_I4, 2),
+        item_of(CLIM_ELEMENT, plain, CLIM_I4, 1), item_of(CLIM_ELEMENT, plain, CLIM_I4, 2), no_strings,
+        item_of(fixed, CLIM_ARRAY, CLIM_OBJECT, 2), text_item(CLIM_ELEMENT, boxed, CLIM_STRING, "x"),
+        text_item(CLIM_ELEMENT, boxed, CLIM_STRING, NULL), item_of(CLIM_NAMED_COUNT, CLIM_NO_VALUE, 0, 3),
+        named("Count", item_of(CLIM_FIELD_ARGUMENT, plain, CLIM_I4, 7)),
+        named("Flags", item_of(CLIM_PROPERTY_ARGUMENT, CLIM_ARRAY, CLIM_BOOLEAN, 1)), item_of(CLIM_ELEMENT, plain, CLIM_BOOLEAN, 1),
+        named("Tag", item_of(CLIM_PROPERTY_ARGUMENT, boxed, CLIM_BOOLEAN, 0))};
+    clim_cell zero = number_cell(0), no_name = text_cell(""), null_guid = bytes_cell(CLIM_NULL_GUID, "", 0);
+    clim_cell module = row_cell(CLIM_MODULE, 1), system = text_cell("System"), constructor = text_cell(".ctor");
+    clim_cell mark = row_cell(CLIM_TYPE_REF, 1), first = row_cell(CLIM_MEMBER_REF, 1), second = row_cell(CLIM_MEMBER_REF, 2);
+    clim_row rows[] = {
+        {(clim_cell[]){zero, text_cell("one.dll"), null_guid, null_guid, null_guid}, 5, CLIM_MODULE},
+        {(clim_cell[]){module, text_cell("Mark"), text_cell("Hello")}, 3, CLIM_TYPE_REF},
+        {(clim_cell[]){module, text_cell("Type"), system}, 3, CLIM_TYPE_REF},
+        {(clim_cell[]){module, text_cell("Enum"), system}, 3, CLIM_TYPE_REF},
+        {(clim_cell[]){zero, text_cell("<Module>"), no_name, row_cell(0, 0), start_cell(1), start_cell(1)}, 6, CLIM_TYPE_DEF},
+        {(clim_cell[]){zero, text_cell("Color"), no_name, row_cell(CLIM_TYPE_REF, 3), start_cell(1), start_cell(1)}, 6, CLIM_TYPE_DEF},
+        {(clim_cell[]){number_cell(6), text_cell("value__"), bytes_cell(CLIM_SIGNATURE, "\x06\x06", 2)}, 3, CLIM_FIELD},
+        {(clim_cell[]){mark, constructor, bytes_cell(CLIM_SIGNATURE, parameters, sizeof parameters - 1)}, 3, CLIM_MEMBER_REF},
+        {(clim_cell[]){mark, constructor, bytes_cell(CLIM_SIGNATURE, "\x20\1\1\x11\x09", 5)}, 3, CLIM_MEMBER_REF},
+        {(clim_cell[]){module, first, bytes_cell(CLIM_BLOB, value, sizeof value - 1)}, 3, CLIM_CUSTOM_ATTRIBUTE},
+        {(clim_cell[]){module, second, bytes_cell(CLIM_BLOB, "\1\0\2\0\0\0\0\0", 8)}, 3, CLIM_CUSTOM_ATTRIBUTE},
+        {(clim_cell[]){module, first, bytes_cell(CLIM_BLOB, "", 0)}, 3, CLIM_CUSTOM_ATTRIBUTE}};
+    given it = {text_of("v4.0.30319"), CLIM_NO_BYTES, rows, sizeof rows / sizeof *rows};
+    uint8_t root[1200];
+    clim_refusal refusal = CLIM_NO_REFUSAL;
+    clim_view view = CLOSED;
+    clim_fault fault = CLIM_NO_FAULT;
+    clim_attribute_item item = NO_ITEM;
+    size_t len = make_root(&it, root, sizeof root, &refusal), count = sizeof all / sizeof *all;
+    CHECK(len <= sizeof root && clim_open_root(root, len, &view, &fault));
+    for (size_t room = 0; room <= count + 1; room++) CHECK(are_items(&view, 1, all, count, room));
+    CHECK(are_of_value(all, count));
+    CHECK(clim_attribute_items(&view, 2, &item, 1) == CLIM_NOT_DECODED && same_item(&item, &NO_ITEM));
+    CHECK(clim_attribute_items(&view, 3, &item, 1) == CLIM_NOT_DECODED && same_item(&item, &NO_ITEM));
+    ask_attributes(&view);
+}
+
 /* Whether a view has the rows that are given, and no others. */
 static bool has_rows(const clim_view *view, const given *it) {
     uint32_t rows[256] = {0};
@@ -1620,6 +1751,8 @@ static void calls(guarded file, clim_view *view, bool bare) {
     ask_too_long();
     ask_moved(view);
     ask_overlapping(view);
+    ask_attributes(view);
+    ask_each_type();
     ask_sample();
     ask_refused_cells();
     ask_refused_rows();

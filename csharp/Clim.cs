@@ -488,6 +488,22 @@ namespace Clim
         [FieldOffset(22)] public Guid Guid;
     }
 
+    enum ItemKind : byte { None, Fixed, Element, NamedCount, Field, Property }
+
+    enum ValueForm : byte { None, Plain, Boxed, Array }
+
+    [StructLayout(LayoutKind.Sequential)]
+    struct NativeItem
+    {
+        public NativeBytes Name;
+        public NativeBytes Text;
+        public ulong Number;
+        public ItemKind Kind;
+        public ValueForm Form;
+        public byte Type;
+        public byte IsNull;
+    }
+
     [StructLayout(LayoutKind.Sequential)]
     struct NativeLocation
     {
@@ -696,6 +712,10 @@ namespace Clim
         public static extern UIntPtr clim_declaration(Memory view, uint token, [In, Out] byte[] buffer, UIntPtr room);
 
         [DllImport(Library)]
+        public static extern UIntPtr clim_attribute_items(
+            Memory view, uint row, [In, Out] NativeItem[] items, UIntPtr room);
+
+        [DllImport(Library)]
         static extern uint clim_abi_version();
 
         // The interface that this file calls, CLIM_ABI_VERSION of clim.h.
@@ -715,6 +735,9 @@ namespace Clim
         // CLIM_UNLIKE to CLIM_NO_ROOM, the other reasons why it makes no copy.
         public const ulong Unlike = BadRoot - 1;
         public const ulong NoRoom = Unlike - (ulong)EmbedReason.NoRoom;
+
+        // CLIM_NOT_DECODED.
+        public const ulong NotDecoded = NoRoom - 1;
 
         static readonly Lazy<uint> version = new Lazy<uint>(ReadVersion);
 
@@ -818,6 +841,114 @@ namespace Clim
             if (bytes == null)
                 throw new ArgumentNullException("bytes");
             return (byte[])bytes.Clone();
+        }
+    }
+
+    /// <summary>The name of a type in the value of a custom attribute, as <c>System.Type</c> writes it.</summary>
+    public struct TypeName : IEquatable<TypeName>
+    {
+        /// <summary>The name, for example <c>System.String, mscorlib</c>.</summary>
+        public string Name { get; }
+
+        public TypeName(string name)
+        {
+            Name = name;
+        }
+
+        public bool Equals(TypeName other) { return Name == other.Name; }
+        public override bool Equals(object other) { return other is TypeName && Equals((TypeName)other); }
+        public override int GetHashCode() { return Name == null ? 0 : Name.GetHashCode(); }
+        public override string ToString() { return Name; }
+    }
+
+    /// <summary>A named argument of a custom attribute (II.23.3).</summary>
+    public struct NamedArgument
+    {
+        /// <summary>The name of the field or the property that it sets.</summary>
+        public string Name { get; }
+
+        /// <summary>Whether it sets a property.</summary>
+        public bool IsProperty { get; }
+
+        /// <summary>The value, as in <see cref="Arguments.Fixed"/>.</summary>
+        public object Value { get; }
+
+        internal NamedArgument(string name, bool isProperty, object value)
+        {
+            Name = name;
+            IsProperty = isProperty;
+            Value = value;
+        }
+    }
+
+    /// <summary>The arguments of a custom attribute (II.23.3).</summary>
+    public sealed class Arguments
+    {
+        /// <summary>
+        /// The arguments of the constructor: a <c>bool</c>, a <c>char</c>, a number of its own type, a <c>string</c>, a
+        /// <see cref="TypeName"/>, or an <c>object[]</c> for an array. That of an enum is its number, and that of an object is
+        /// the value in it. Null is null.
+        /// </summary>
+        public object[] Fixed { get; }
+
+        /// <summary>The fields and properties that are set, in order.</summary>
+        public NamedArgument[] Named { get; }
+
+        // The arguments that items form. A call holds the memory to which their texts belong.
+        internal Arguments(NativeItem[] items, int count)
+        {
+            var fixedOnes = new List<object>();
+            var named = new List<NamedArgument>();
+            object[] elements = null;
+            int next = 0;
+            for (int index = 0; index < count; index++)
+            {
+                var item = items[index];
+                var value = ValueOf(item);
+                if (item.Form == ValueForm.Array)
+                {
+                    elements = (object[])value;
+                    next = 0;
+                }
+                if (item.Kind == ItemKind.Fixed)
+                    fixedOnes.Add(value);
+                else if (item.Kind == ItemKind.Element)
+                    elements[next++] = value;
+                else if (item.Kind != ItemKind.NamedCount)
+                    named.Add(new NamedArgument(Assembly.NameOf(item.Name), item.Kind == ItemKind.Property, value));
+            }
+            Fixed = fixedOnes.ToArray();
+            Named = named.ToArray();
+        }
+
+        // The value of an item; an array has no elements yet.
+        static object ValueOf(NativeItem item)
+        {
+            if (item.IsNull != 0)
+                return null;
+            if (item.Form == ValueForm.Array)
+                return new object[item.Number];
+            unchecked
+            {
+                switch (item.Type)
+                {
+                    case 0x02: return item.Number != 0;
+                    case 0x03: return (char)item.Number;
+                    case 0x04: return (sbyte)item.Number;
+                    case 0x05: return (byte)item.Number;
+                    case 0x06: return (short)item.Number;
+                    case 0x07: return (ushort)item.Number;
+                    case 0x08: return (int)item.Number;
+                    case 0x09: return (uint)item.Number;
+                    case 0x0A: return (long)item.Number;
+                    case 0x0B: return item.Number;
+                    case 0x0C: return BitConverter.ToSingle(BitConverter.GetBytes((uint)item.Number), 0);
+                    case 0x0D: return BitConverter.Int64BitsToDouble((long)item.Number);
+                    case 0x0E: return Assembly.NameOf(item.Text);
+                    case 0x50: return new TypeName(Assembly.NameOf(item.Text));
+                    default: return null;
+                }
+            }
         }
     }
 
@@ -1363,6 +1494,36 @@ namespace Clim
             return Native.RowText((buffer, room) => Native.clim_declaration(memory, (uint)row.Value, buffer, room));
         }
 
+        /// <summary>
+        /// The arguments of a custom attribute (II.22.10, II.23.3); null if its value is not decoded. It is decoded by the types
+        /// of the constructor's parameters. That fails for an enum of another file, whose size is unknown, for more than 64
+        /// parameters, and for bytes that are no value.
+        /// </summary>
+        /// <remarks>
+        /// Time and memory are in proportion to the bytes of the value, which rows of a crafted file may share.
+        /// </remarks>
+        /// <exception cref="NotSupportedException">The library is older than this file.</exception>
+        public Arguments ArgumentsOf(CustomAttributeRow attribute)
+        {
+            return Held(() => ReadArguments((uint)attribute.Token.Row));
+        }
+
+        Arguments ReadArguments(uint row)
+        {
+            for (var items = new NativeItem[Expected]; ;)
+            {
+                for (int index = 0; index < items.Length; index++)
+                    items[index].Name = items[index].Text = NoBytes;
+                ulong count = (ulong)Native.Newer(
+                    () => Native.clim_attribute_items(memory, row, items, (UIntPtr)items.Length));
+                if (count == 0 || count == Native.NotDecoded)
+                    return null;
+                if (count <= (ulong)items.Length)
+                    return new Arguments(items, (int)count);
+                items = new NativeItem[count];
+            }
+        }
+
         /// <summary>The rows of a table whose key is a row, in ascending order; none if the table has no key.</summary>
         /// <remarks>
         /// They are found by binary search. Each call passes over all rows if these are not in order of their keys, as in crafted
@@ -1710,8 +1871,8 @@ namespace Clim
             return copy;
         }
 
-        /// <summary>A name that belongs to the library.</summary>
-        static string NameOf(NativeBytes name)
+        /// <summary>A name that belongs to the library, or a text of the root, whose memory the caller holds.</summary>
+        internal static string NameOf(NativeBytes name)
         {
             return Encoding.UTF8.GetString(Copied(name));
         }

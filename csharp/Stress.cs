@@ -285,6 +285,7 @@ static class Stress
                     Report(false, "a type by its full name");
             });
         }
+        Measure(folder, "ArgumentsOf", "one_array", Now, Arguments);
         if (allocated == null)
             Console.WriteLine("this runtime does not count what it allocates: memory is not measured");
         else
@@ -296,8 +297,16 @@ static class Stress
                 if (name != "overlapping_blobs")
                     Measure(folder, "Root", name, Allocated, Change);
             }
-        if (allocated != null)
-            Measure(folder, "Rows", "one_text", Allocated, assembly => assembly.Rows<ModuleRefRow>().Count());
+        if (allocated == null)
+            return;
+        Measure(folder, "Rows", "one_text", Allocated, assembly => assembly.Rows<ModuleRefRow>().Count());
+        Measure(folder, "ArgumentsOf", "one_array", Allocated, Arguments);
+    }
+
+    static void Arguments(Assembly assembly)
+    {
+        if (assembly.ArgumentsOf(assembly.Row<CustomAttributeRow>(1)).Fixed.Length != 1)
+            Report(false, "an argument");
     }
 
     static void First(Assembly assembly)

@@ -307,6 +307,67 @@ static class Tests
         Check(Value(2, 2) is byte[] && Value(14, 97, 0, 98) is byte[] && Value(18, 1, 0, 0, 0) is byte[], "other bytes");
     }
 
+    static byte[] Bytes(string digits)
+    {
+        return Enumerable.Range(0, digits.Length / 2).Select(at => Convert.ToByte(digits.Substring(2 * at, 2), 16)).ToArray();
+    }
+
+    // An attribute that has an argument of each type, one whose type is an enum of another file, and one of no bytes.
+    static Tables WithAttributes()
+    {
+        var tables = new Tables("v4.0.30319");
+        var module = tables.Add(TableId.Module, 0, "one.dll", null, null, null);
+        var mark = tables.Add(TableId.TypeRef, module, "Mark", "Hello");
+        tables.Add(TableId.TypeRef, module, "Type", "System");
+        var parent = tables.Add(TableId.TypeRef, module, "Enum", "System");
+        tables.Add(TableId.TypeDef, 0, "<Module>", "", null, 1, 1);
+        tables.Add(TableId.TypeDef, 0, "Color", "", parent, 1, 1);
+        tables.Add(TableId.Field, 6, "value__", Bytes("0606"));
+        var each = tables.Add(TableId.MemberRef, mark, ".ctor", Bytes("20140102030405060708090A0B0C0D0E0E120911081C1D081D0E1D1C"));
+        var other = tables.Add(TableId.MemberRef, mark, ".ctor", Bytes("2001011109"));
+        tables.Add(TableId.CustomAttribute, module, each, Bytes(
+            "0100" + "01" + "3DD8" + "FF" + "FF" + "FEFF" + "FEFF" + "FDFFFFFF" + "FDFFFFFF" + "FCFFFFFFFFFFFFFF" + "FCFFFFFFFFFFFFFF"
+            + "0000C03F" + "000000000000F8BF" + "0361C3A9" + "FF" + "0D53797374656D2E537472696E67" + "0200" + "082A000000"
+            + "020000000100000002000000" + "FFFFFFFF" + "02000000" + "0E0178" + "0EFF"
+            + "0300" + "530805436F756E7407000000" + "541D0205466C6167730100000001" + "5451035461670200"));
+        tables.Add(TableId.CustomAttribute, module, other, Bytes("0100020000000000"));
+        tables.Add(TableId.CustomAttribute, module, each, new byte[0]);
+        return tables;
+    }
+
+    static bool Same(object a, object b)
+    {
+        var first = a as object[];
+        var second = b as object[];
+        return first != null && second != null ? first.Length == second.Length && first.Zip(second, Same).All(it => it) : Equals(a, b);
+    }
+
+    static void Attributes(string sample)
+    {
+        using (var assembly = Assembly.OpenRoot(WithAttributes().Root()))
+        {
+            var rows = assembly.Rows<CustomAttributeRow>().ToArray();
+            var arguments = assembly.ArgumentsOf(rows[0]);
+            var wanted = new object[] {
+                true, '\ud83d', (sbyte)-1, (byte)255, (short)-2, (ushort)65534, -3, 4294967293u, -4L, ulong.MaxValue - 3, 1.5f, -1.5,
+                "a\u00e9", null, new TypeName("System.String"), (short)2, 42, new object[] { 1, 2 }, null, new object[] { "x", null } };
+            Check(Same(arguments.Fixed, wanted), "an argument of each type");
+            Check(arguments.Named.Select(it => it.Name).SequenceEqual(new[] { "Count", "Flags", "Tag" }), "named arguments");
+            Check(arguments.Named.Select(it => it.IsProperty).SequenceEqual(new[] { false, true, true }), "a field and properties");
+            Check(Same(arguments.Named.Select(it => it.Value).ToArray(), new object[] { 7, new object[] { true }, false }), "their values");
+            Check(assembly.ArgumentsOf(rows[1]) == null && assembly.ArgumentsOf(rows[2]) == null, "values that are not decoded");
+            Check(assembly.ArgumentsOf(new CustomAttributeRow()) == null, "no attribute");
+            assembly.Dispose();
+            Throws<ObjectDisposedException>(() => assembly.ArgumentsOf(rows[0]));
+        }
+        using (var assembly = Assembly.Open(sample))
+            foreach (var attribute in assembly.Rows<CustomAttributeRow>())
+            {
+                var arguments = assembly.ArgumentsOf(attribute);
+                Check(arguments.Fixed.Length == 0 && arguments.Named.Length == 0, "an attribute without arguments");
+            }
+    }
+
     static void NewerFunctions(byte[] root)
     {
         Newer("clim_open_root_within", () =>
@@ -614,6 +675,7 @@ static class Tests
         Constants();
         Newer("clim_", () => Names(Path.Combine(samples, "members.dll")));
         Newer("clim_tables", FullNames);
+        Newer("clim_", () => Attributes(Path.Combine(samples, "shapes.dll")));
         Files(Path.Combine(samples, "members.dll"));
         Newer("clim_embed", () =>
         {

@@ -49,6 +49,7 @@ from .flags import (
 from .rows import Row
 from .tables import Tables
 from .values import (
+    Arguments,
     BudgetSpent,
     Difference,
     Directory,
@@ -61,12 +62,14 @@ from .values import (
     Start,
     StrongName,
     Token,
+    TypeName,
 )
 
 __version__ = "0.1.0"
 
 __all__ = [
     "Access",
+    "Arguments",
     "Assembly",
     "AssemblyFlags",
     "BudgetSpent",
@@ -99,6 +102,7 @@ __all__ = [
     "Tables",
     "Token",
     "TypeFlags",
+    "TypeName",
     "Unsupported",
     "Variance",
     "Visibility",

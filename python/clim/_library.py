@@ -10,7 +10,7 @@ import ctypes
 import os
 import struct
 from ctypes import POINTER, byref, c_bool, c_size_t, c_uint8, c_uint16, c_uint32, c_uint64, c_void_p
-from typing import Any, Callable, Optional
+from typing import Any, Callable, Iterator, Optional, Tuple
 
 #: The interface that this package calls, `CLIM_ABI_VERSION` of `c/clim.h`. The name of the shared library has it.
 ABI_VERSION = 1
@@ -131,6 +131,14 @@ CELL = struct.Struct("@PNIBB16s2x")
 CELL_BYTES = struct.Struct("@PN24x")
 #: Where the number is in the 32-bit units of a cell, and the kind and the table in its bytes.
 NUMBER_AT, KIND_AT, TABLE_AT = 4, 20, 21
+#: A `clim_attribute_item`: the addresses and the lengths of its name and its text, its number, its kind, its form, its type,
+#: and whether it is null.
+ITEM = struct.Struct("@PNPNQBBB?4x")
+
+#: The kinds of an item before those of named arguments, `enum clim_item_kind`.
+FIXED_ARGUMENT, ELEMENT, NAMED_COUNT = range(1, 4)
+#: `CLIM_ARRAY`: the value of an item is an array, whose elements follow.
+ARRAY = 3
 
 #: The kinds of a cell, `enum clim_kind`.
 NUMBER, TEXT, BLOB, NULL_GUID, GUID, NULL_ROW, ROW, START, SIGNATURE = range(1, 10)
@@ -145,16 +153,22 @@ NO_MEMORY = TOO_LONG - 1
 BAD_FILE, BAD_ROOT = NO_MEMORY - 1, NO_MEMORY - 2
 #: The other reasons why `clim_embed` makes no copy, by what it returns.
 NO_COPY = {BAD_ROOT - 1: "unlike", BAD_ROOT - 2: "headers overlap", BAD_ROOT - 3: "occupied", BAD_ROOT - 4: "no room"}
+#: `CLIM_NOT_DECODED`: the value of an attribute is not decoded.
+NOT_DECODED = TOO_LONG - 8
 #: What `clim_compare` returns if nothing differs.
 EQUAL = 1
 #: The kinds of a difference, `enum clim_difference_kind`.
 VERSION_DIFFERS, USER_DIFFERS, COUNT_DIFFERS, CELL_DIFFERS = range(1, 5)
 # The length that the texts of most signatures and user strings have at most.
 _USUAL = 256
+# The number of items that the values of most attributes have at most.
+_USUAL_ITEMS = 16
 # The largest number of a rule that a call takes.
 _LARGEST_CODE = 0xFFFF
 #: `CLIM_NO_CELL`.
 NO_CELL = CELL.pack(EMPTY_AT, 0, 0, 0, 0, bytes(16))
+#: `CLIM_NO_ITEM`.
+NO_ITEM = ITEM.pack(EMPTY_AT, 0, EMPTY_AT, 0, 0, 0, 0, 0, False)
 
 _VIEW, _BYTES, _FAULT, _ROW_OUT = POINTER(ViewStruct), POINTER(Bytes), POINTER(FaultStruct), POINTER(c_uint32)
 
@@ -201,6 +215,7 @@ _NEWER: dict[str, tuple[Any, ...]] = {
     "clim_offset_of": (c_bool, c_void_p, c_size_t, c_uint32, c_uint32, POINTER(c_size_t)),
     "clim_row_name": (c_size_t, _VIEW, c_uint32, c_void_p, c_size_t),
     "clim_declaration": (c_size_t, _VIEW, c_uint32, c_void_p, c_size_t),
+    "clim_attribute_items": (c_size_t, _VIEW, c_uint32, c_void_p, c_size_t),
 }
 
 
@@ -288,6 +303,19 @@ def written_text(call: Callable[..., int], *arguments: Any) -> Optional[str]:
         if length == NO_MEMORY:
             raise MemoryError
         room = length
+
+
+def attribute_items(view: Any, row: int) -> Optional[Iterator[Tuple[Any, ...]]]:
+    """The items of the value of an attribute, by the fields of `ITEM`. `None` if it is not decoded."""
+    room = _USUAL_ITEMS
+    while True:
+        items = bytearray(NO_ITEM * room)
+        count = library.clim_attribute_items(view, row, ctypes.addressof(ctypes.c_char.from_buffer(items)), room)
+        if count == NOT_DECODED:
+            return None
+        if count <= room:
+            return ITEM.iter_unpack(memoryview(items)[: ITEM.size * count])
+        room = count
 
 
 def explanation(code: int) -> str:

@@ -45,7 +45,20 @@ from .rows import (
     TypeDef,
     TypeRef,
 )
-from .values import BudgetSpent, Difference, Directory, EmbedError, Fault, Header, Location, Start, StrongName, Token
+from .values import (
+    Arguments,
+    BudgetSpent,
+    Difference,
+    Directory,
+    EmbedError,
+    Fault,
+    Header,
+    Location,
+    Start,
+    StrongName,
+    Token,
+    arguments_of,
+)
 
 #: What can be opened: a path, or the bytes themselves.
 Source = Union[str, "os.PathLike[str]", bytes, bytearray, memoryview, _mmap.mmap]
@@ -623,6 +636,11 @@ class Assembly:
             self._unused -= len(text or "")
             texts[key] = text
         return text
+
+    def _arguments(self, row: Row) -> Optional[Arguments]:
+        """The arguments of the attribute in a row of CustomAttribute; `None` if its value is not decoded."""
+        items = _c.attribute_items(self._view(), row.table.row(row.number).number)
+        return None if items is None else arguments_of(items, self._bytes)
 
     # -- cells
 

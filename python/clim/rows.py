@@ -507,6 +507,19 @@ class CustomAttribute(Row, table=0x0C):
         its = self.type
         return its.full_name if isinstance(its, _NamedType) else ""
 
+    @property
+    def arguments(self) -> Optional[values.Arguments]:
+        """The arguments that the cell `Value` contains (II.23.3), or `None` if it is not decoded.
+
+        It is decoded by the types of the constructor's parameters. That fails for an enum of another file, whose size is
+        unknown, for more than 64 parameters, and for bytes that are no value. Each access decodes the value, in time
+        and memory in proportion to its bytes.
+
+        Raises:
+            Unsupported: The library is older than this package.
+        """
+        return self.assembly._arguments(self)
+
 
 class FieldMarshal(Row, table=0x0D):
     """How a field or a parameter is marshalled (II.22.17)."""

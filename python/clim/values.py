@@ -4,9 +4,9 @@ from __future__ import annotations
 
 import enum
 import struct
-from typing import TYPE_CHECKING, NamedTuple, Optional, Tuple, Union
+from typing import TYPE_CHECKING, Any, Callable, Dict, Iterable, List, NamedTuple, Optional, Tuple, Union
 
-from ._library import explanation
+from ._library import ARRAY, ELEMENT, FIXED_ARGUMENT, NAMED_COUNT, explanation
 from .flags import HeaderFlags
 
 if TYPE_CHECKING:
@@ -16,6 +16,8 @@ if TYPE_CHECKING:
 _LONG = 256
 # The types of constants (II.23.1.16): a boolean, a character, numbers by their formats, a string, and a null reference.
 _BOOLEAN, _CHAR, _STRING, _CLASS = 0x02, 0x03, 0x0E, 0x12
+# The type `System.Type` of arguments of attributes (II.23.3).
+_SYSTEM_TYPE = 0x50
 _NUMBERS = {0x04: "<b", 0x05: "<B", 0x06: "<h", 0x07: "<H", 0x08: "<i", 0x09: "<I", 0x0A: "<q", 0x0B: "<Q", 0x0C: "<f", 0x0D: "<d"}
 
 
@@ -227,6 +229,61 @@ def constant_of(type_: int, blob: bytes) -> Union[bool, int, float, str, bytes, 
     if (type_ == _STRING and len(blob) % 2 == 0) or (type_ == _CHAR and len(blob) == 2):
         return blob.decode("utf-16-le", "surrogatepass")
     return None if type_ == _CLASS and blob == bytes(4) else blob
+
+
+class TypeName(str):
+    """The name of a type in the value of an attribute, as `System.Type` writes it: `"System.String, mscorlib"`."""
+
+    __slots__ = ()
+
+    def __repr__(self) -> str:
+        return f"TypeName({super().__repr__()})"
+
+
+#: The value of an argument of an attribute. A character is a `str`, an enum is its number, an array is a list, and an object
+#: is the value in it. `None` is null.
+Argument = Union[bool, int, float, str, TypeName, None, List["Argument"]]
+
+
+class Arguments(NamedTuple):
+    """The arguments of an attribute (II.23.3): the fixed ones in order, and the named ones by the names of their fields and
+    properties. Of those with one name it has the last."""
+
+    fixed: List[Argument]
+    named: Dict[str, Argument]
+
+
+def arguments_of(items: Iterable[Tuple[Any, ...]], bytes_at: Callable[[int, int], bytes]) -> Arguments:
+    """The arguments that items form, by the fields of `_library.ITEM`. Their names and texts are at addresses."""
+    arguments = Arguments([], {})
+    elements: List[Argument] = []
+    for name_at, name_length, text_at, text_length, number, kind, form, code, is_null in items:
+        value: Argument = None
+        if form == ARRAY:
+            elements = []
+        if not is_null and kind != NAMED_COUNT:
+            value = elements if form == ARRAY else _value_of(code, number, bytes_at(text_at, text_length))
+        if kind == FIXED_ARGUMENT:
+            arguments.fixed.append(value)
+        elif kind == ELEMENT:
+            elements.append(value)
+        elif kind != NAMED_COUNT:
+            arguments.named[bytes_at(name_at, name_length).decode()] = value
+    return arguments
+
+
+def _value_of(code: int, number: int, text: bytes) -> Argument:
+    """A value of an element, by the code of its type."""
+    if code == _BOOLEAN:
+        return number != 0
+    if code == _CHAR:
+        return chr(number)
+    if code == _STRING:
+        return text.decode()
+    if code == _SYSTEM_TYPE:
+        return TypeName(text.decode())
+    value: Union[int, float] = struct.unpack_from(_NUMBERS[code], number.to_bytes(8, "little"))[0]
+    return value
 
 
 class Directory(NamedTuple):

@@ -53,6 +53,10 @@ def read_attributes(assembly):
     return [row.custom_attributes for row in assembly.types]
 
 
+def read_arguments(assembly):
+    return assembly.custom_attributes[0].arguments
+
+
 def read_heaps(assembly):
     return assembly.heaps
 
@@ -99,6 +103,8 @@ CASES = [
     (seconds, find_nested, "nested_out_of_order"),
     (seconds, read_attributes, "attributes_out_of_order"),
     (seconds, read_texts, "one_signature"),
+    (seconds, read_arguments, "one_array"),
+    (peak, read_arguments, "one_array"),
 ]
 
 

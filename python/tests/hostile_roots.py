@@ -5,6 +5,7 @@ tests of Python, Rust and C# measure calls on them, and let these grow by at mos
 """
 
 import pathlib
+import struct
 import sys
 
 TOP = pathlib.Path(__file__).resolve().parents[2]
@@ -19,6 +20,12 @@ def many_streams(size):
     return roots.other_streams(size // 16)
 
 
+def one_array(size):
+    """A root with an attribute of one argument, an array of strings that are null. Each takes a byte."""
+    value = roots.blob_of(b"\1\0" + struct.pack("<I", size) + b"\xff" * size + b"\0\0")
+    return roots.own_attributes(1, 1, roots.blob_of(b"\x20\x01\x01\x1d\x0e"), value)
+
+
 # The smallest size of each root. Some are for calls whose memory is counted, and others for those whose time is.
 ROOTS = {
     roots.one_text: 10_000,
@@ -30,6 +37,7 @@ ROOTS = {
     roots.attributes_out_of_order: 60_000,
     roots.one_signature: 100_000,
     many_streams: 100_000,
+    one_array: 20_000,
 }
 
 

@@ -67,6 +67,7 @@ class Declared(unittest.TestCase):
         for name, size in sizes.items():
             self.assertEqual(_library.ctypes.sizeof(getattr(_library, name)), size)
         self.assertEqual((_library.CELL.size, _library.CELL_BYTES.size, _library.GIVEN_ROW.size), (40, 40, 24))
+        self.assertEqual(_library.ITEM.size, 48)
         self.assertEqual(_library.ViewStruct.is_open.offset, 5204)
 
     def test_version(self):
@@ -406,8 +407,9 @@ class Reading(unittest.TestCase):
                     for name, column in leads.get(table.name, {}).items():
                         its = getattr(row, name)
                         self.assertEqual(its.token if its else None, row[column])
+                    needs = {"declaration": "clim_declaration", "arguments": "clim_attribute_items"}
                     for name in dir(row):
-                        if not name.startswith("_") and (name != "declaration" or clim.supports("clim_declaration")):
+                        if not name.startswith("_") and clim.supports(needs.get(name, "clim_open")):
                             getattr(row, name)
 
     def test_many_look_ups_find_the_same_rows(self):
@@ -945,6 +947,78 @@ class Names(unittest.TestCase):
             with clim.open(tables.root(), bare=True) as assembly:
                 constant = assembly.fields[0].constant
                 self.assertEqual((constant.value, constant.parent), (-7, assembly.fields[0]))
+
+
+class Arguments(unittest.TestCase):
+    """The arguments of custom attributes."""
+
+    def setUp(self):
+        if not clim.supports("clim_attribute_items") or not clim.supports("clim_tables"):
+            with clim.open(SAMPLES / "shapes.dll") as assembly:
+                with self.assertRaises(clim.Unsupported) as caught:
+                    assembly.custom_attributes[0].arguments
+            self.assertEqual(caught.exception.function, "clim_attribute_items")
+            self.skipTest("the library is older")
+
+    def made(self, *attributes):
+        """An assembly with attributes, each given by the parameters of its constructor and by its value."""
+        tables = clim.Tables()
+        module = tables.add("Module", Name="one.dll")
+        mark = tables.add("TypeRef", module, "Mark", "Hello")
+        tables.add("TypeRef", module, "Type", "System")
+        enum = tables.add("TypeRef", module, "Enum", "System")
+        tables.add("TypeDef", TypeName="<Module>")
+        tables.add("TypeDef", TypeName="Color", Extends=enum)
+        tables.add("Field", Flags=6, Name="value__", Signature=b"\x06\x06")
+        for parameters, value in attributes:
+            constructor = tables.add("MemberRef", mark, ".ctor", bytes([0x20]) + parameters)
+            tables.add("CustomAttribute", module, constructor, value)
+        return clim.open(tables.root(), bare=True)
+
+    def test_each_type(self):
+        value = (
+            b"\1\0" b"\1" b"\x3d\xd8" + struct.pack("<bBhHiIqQfd", -1, 255, -2, 65534, -3, 1 << 31, -4, 1 << 63, 1.5, -1.5)
+            + b"\3a\xc3\xa9" b"\xff" b"\x0dSystem.String" b"\2\0" b"\x08*\0\0\0"
+            + struct.pack("<III", 2, 1, 2) + b"\xff\xff\xff\xff" b"\2\0\0\0\x0e\1x\x0e\xff"
+            b"\3\0" b"S\x08\5Count\7\0\0\0" b"T\x1d\2\5Flags\1\0\0\0\1" b"TQ\3Tag\2\0"
+        )
+        parameters = b"\x14\1" + bytes(range(2, 15)) + b"\x0e\x12\x09\x11\x08\x1c\x1d\x08\x1d\x0e\x1d\x1c"
+        with self.made((parameters, value)) as assembly:
+            found = assembly.custom_attributes[0].arguments
+        self.assertEqual(found.fixed, [
+            True, "\ud83d", -1, 255, -2, 65534, -3, 1 << 31, -4, 1 << 63, 1.5, -1.5, "a\u00e9", None, "System.String", 2, 42,
+            [1, 2], None, ["x", None],
+        ])
+        self.assertIs(found.fixed[0], True)
+        self.assertEqual([type(it) for it in (found.fixed[12], found.fixed[14])], [str, clim.TypeName])
+        self.assertEqual(repr(found.fixed[14]), "TypeName('System.String')")
+        self.assertEqual(found.named, {"Count": 7, "Flags": [True], "Tag": False})
+
+    def test_what_is_not_decoded(self):
+        cases = (
+            (b"\1\1\x11\x09", b"\1\0\2\0\0\0\0\0"),  # an enum of another file
+            (b"\0\1", b""),  # no bytes
+            (b"\0\1", b"\1\0\0"),  # too few
+            (b"\0\1", b"\1\0\0\0\0"),  # too many
+            (b"\1\1\2", b"\1\0\2\0\0"),  # a boolean that is 2
+            (b"\1\1\x0e", b"\1\0\1\xff\0\0"),  # a string that is not UTF-8
+            (bytes([65, 1]) + bytes([2]) * 65, b"\1\0" + bytes(67)),  # too many parameters
+        )
+        with self.made(*cases) as assembly:
+            self.assertEqual([it.arguments for it in assembly.custom_attributes], [None] * len(cases))
+
+    def test_long_values(self):
+        for count in (15, 16, 17, 5000):
+            with self.made((b"\1\1\x1d\x0e", b"\1\0" + struct.pack("<I", count) + b"\1a" * count + b"\0\0")) as assembly:
+                self.assertEqual(assembly.custom_attributes[0].arguments, ([["a"] * count], {}))
+        with self.made((bytes([64, 1]) + bytes([5]) * 64, b"\1\0" + bytes(range(64)) + b"\0\0")) as assembly:
+            attribute = assembly.custom_attributes[0]
+            self.assertEqual(attribute.arguments.fixed, list(range(64)))
+        self.assertRaises(ValueError, lambda: attribute.arguments)
+
+    def test_samples(self):
+        with clim.open(SAMPLES / "shapes.dll") as assembly:
+            self.assertEqual([it.arguments for it in assembly.custom_attributes], [([], {})])
 
 
 class Built(unittest.TestCase):

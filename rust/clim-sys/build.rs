@@ -28,6 +28,7 @@ const NEWER: &[&str] = &[
     "clim_offset_of",
     "clim_row_name",
     "clim_declaration",
+    "clim_attribute_items",
 ];
 
 /// The folder of the library by pkg-config, or why there is none.

@@ -1,5 +1,5 @@
 -- Types by their names, and enums.
-use Rattle.std.proofs.Common.{◌≡◌, ◌∙◌, ◌≤◌, ◌<◌, ◌+◌, ◌-◌, ◌↔◌, ⊎_elim, ℕ, zero, suc, Bor, Bool, true, false, IsTrue, Option, None, Some, List, [], ◌∷◌, cond, min, length, arith, ap, refl, sym}
+use Rattle.std.proofs.Common.{◌≡◌, ◌∙◌, ◌≤◌, ◌<◌, ◌+◌, ◌-◌, ◌↔◌, ⊎_elim, ℕ, zero, suc, Bor, Bool, true, false, IsTrue, Option, None, List, [], ◌∷◌, cond, min, length, arith, ap, refl, sym}
 use Rattle.std.proofs.lemmas.Bool.{cases_lt, le-ltb, lt-ltb}
 use Rattle.std.proofs.lemmas.Bool.Decides.{same_from_decides}
 use Rattle.std.proofs.lemmas.Slice.Eq.{bytes_eq-Decides}

@@ -11,9 +11,10 @@ ghost use Rattle.opening.specs.Views.{row_count};
 ghost use Rattle.attribute_constructors.specs.Signatures.{items_in};
 ghost use Rattle.attribute_constructors.specs.Types.{enum_at, enum_type, field_type, instance_type, is_enum, is_static, is_underlying, most_fields, underlying_type};
 
+use crate::read_view::ReadView;
 use crate::system_types::{has_row, is_system_type};
 use metadata_source::fields_of;
-use navigation::{Neighbours, ReadMetadata, cells};
+use navigation::cells;
 use opening::{CellRef, TableId, Token, View};
 use sig_grammar::Element;
 use sig_items::{Item, Items};
@@ -38,10 +39,10 @@ const LONGEST: usize = 128;
 
 /// Whether a field is static.
 #[tactic(auto, unfolding(table_schema::specs::CellColumns::cell_columns))]
-fn is_static(source: &Neighbours<'_, '_>, field: u32) -> bool
+fn is_static<S: ReadView>(source: &S, field: u32) -> bool
     requires first { 1 ≤ field }
-    requires last { field ≤ row_count source.now.view.now Field }
-    ensures { (model : Metadata) → IsModel source.now.view.now model → result ≡ is_static (cell_in model Field field 0) }
+    requires last { field ≤ S.row_count source.now Field }
+    ensures { (model : Metadata) → S.shows source.now model → result ≡ is_static (cell_in model Field field 0) }
 {
     cells::number(source, TableId::Field, field, FLAGS) / STATIC % 2 == 1
 }
@@ -110,8 +111,8 @@ fn type_of_field(view: &View<'_>, field: u32) -> Option<Element>
 }
 
 /// Of the first fields from one on and before another, the type of the first that is not static.
-fn instance_type(source: &Neighbours<'_, '_>, first: u32, past: u32) -> Option<Element>
-    ensures { (model : Metadata) → IsModel source.now.view.now model → result ≡ instance_type model (min most_fields (past - first)) first }
+fn instance_type<S: ReadView>(source: &S, first: u32, past: u32) -> Option<Element>
+    ensures { (model : Metadata) → S.shows source.now model → result ≡ instance_type model (min most_fields (past - first)) first }
 {
     let count = MOST_FIELDS.min(past.saturating_sub(first));
     for done in 0..count {
@@ -120,15 +121,15 @@ fn instance_type(source: &Neighbours<'_, '_>, first: u32, past: u32) -> Option<E
             return None;
         }
         if !is_static(source, field) {
-            return type_of_field(source.view, field);
+            return type_of_field(source.view(), field);
         }
     }
     None
 }
 
 /// Whether a reference is to System.Enum.
-fn is_enum(source: &Neighbours<'_, '_>, base: Option<Token>) -> bool
-    ensures { (model : Metadata) → IsModel source.now.view.now model → result ≡ is_enum model base }
+fn is_enum<S: ReadView>(source: &S, base: Option<Token>) -> bool
+    ensures { (model : Metadata) → S.shows source.now model → result ≡ is_enum model base }
 {
     match base {
         Some(base) => is_system_type(source, "Enum", base),
@@ -138,10 +139,10 @@ fn is_enum(source: &Neighbours<'_, '_>, base: Option<Token>) -> bool
 
 /// The underlying type of a type, if it is an enum and its instance field is among its first fields.
 #[tactic(auto, unfolding(table_schema::specs::CellColumns::cell_columns))]
-fn underlying_type(source: &Neighbours<'_, '_>, row: u32) -> Option<Element>
+fn underlying_type<S: ReadView>(source: &S, row: u32) -> Option<Element>
     requires first { 1 ≤ row }
-    requires last { row ≤ row_count source.now.view.now TypeDef }
-    ensures { (model : Metadata) → IsModel source.now.view.now model → result ≡ underlying_type model row }
+    requires last { row ≤ S.row_count source.now TypeDef }
+    ensures { (model : Metadata) → S.shows source.now model → result ≡ underlying_type model row }
 {
     source.holds_one();
     let base = cells::reference(source, TableId::TypeDef, row, EXTENDS);
@@ -153,8 +154,8 @@ fn underlying_type(source: &Neighbours<'_, '_>, row: u32) -> Option<Element>
 }
 
 /// The underlying type of the enum in a row of TypeDef, if it exists.
-fn enum_in(source: &Neighbours<'_, '_>, row: u32) -> Option<Element>
-    ensures { (model : Metadata) → IsModel source.now.view.now model → result ≡ enum_at model TypeDef row }
+fn enum_in<S: ReadView>(source: &S, row: u32) -> Option<Element>
+    ensures { (model : Metadata) → S.shows source.now model → result ≡ enum_at model TypeDef row }
 {
     if !has_row(source, TableId::TypeDef, row) {
         return None;
@@ -163,8 +164,8 @@ fn enum_in(source: &Neighbours<'_, '_>, row: u32) -> Option<Element>
 }
 
 /// The underlying type of an enum of this file.
-pub(crate) fn enum_type(source: &Neighbours<'_, '_>, of: Token) -> Option<Element>
-    ensures { (model : Metadata) → IsModel source.now.view.now model → result ≡ enum_type model of }
+pub(crate) fn enum_type<S: ReadView>(source: &S, of: Token) -> Option<Element>
+    ensures { (model : Metadata) → S.shows source.now model → result ≡ enum_type model of }
 {
     match of.table {
         TableId::TypeDef => enum_in(source, of.row),

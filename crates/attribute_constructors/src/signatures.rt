@@ -7,17 +7,15 @@ ghost use Rattle.sig_grammar.specs.Encodes.{Encodes};
 ghost use Rattle.sig_items.specs.declared.item.Item.{Item as TheItem};
 ghost use Rattle.sig_items.specs.ItemsOf.{items_of};
 ghost use Rattle.metadata.specs.Metadata.{Metadata, cell_in};
-ghost use Rattle.metadata.specs.Model.{IsModel};
 ghost use Rattle.metadata.specs.Valid.{kind_at};
-ghost use Rattle.opening.specs.Views.{row_count};
 ghost use Rattle.attribute_constructors.specs.Signatures.{is_method, is_void, items_in};
 ghost use Rattle.attribute_constructors.specs.Params.{argument_type, begins_vector, element_type, if_few, is_vector, params_from, params_in, params_of_constructor, preceded};
 
 use crate::enums::enum_type;
 use crate::params::Params;
+use crate::read_view::ReadView;
 use crate::system_types::is_system_type;
 use attribute_values::{ArgumentType, ElementType};
-use navigation::Neighbours;
 use opening::{CellRef, TableId, Token};
 use sig_items::{Item, Items};
 use table_schema::SigKind;
@@ -61,8 +59,8 @@ fn begins_vector(vector: bool, item: Item) -> bool
 }
 
 /// The type of an element that an item stands for.
-fn element_type(source: &Neighbours<'_, '_>, item: Item) -> Option<ElementType>
-    ensures { (model : Metadata) → IsModel source.now.view.now model → result ≡ element_type model item }
+fn element_type<S: ReadView>(source: &S, item: Item) -> Option<ElementType>
+    ensures { (model : Metadata) → S.shows source.now model → result ≡ element_type model item }
 {
     match item {
         Item::Simple(of) => Some(ElementType::Simple(of)),
@@ -89,15 +87,10 @@ fn argument_type(vector: bool, of: ElementType) -> ArgumentType
 /// Reads the next item of parameters: the mark of an array, or the type of an element after one or without one. It appends
 /// the parameter that ends there, and returns whether the next item is that of the elements of an array. `None` if the
 /// parameter has no type, or there are too many.
-fn put_item(
-    source: &Neighbours<'_, '_>,
-    item: Item,
-    vector: bool,
-    params: &mut Params,
-) -> Option<bool>
+fn put_item<S: ReadView>(source: &S, item: Item, vector: bool, params: &mut Params) -> Option<bool>
     requires { length params.old ≤ 64 }
     ensures few { length params.new ≤ 64 }
-    ensures types { (model : Metadata) → IsModel source.now.view.now model → (later : List TheItem)
+    ensures types { (model : Metadata) → S.shows source.now model → (later : List TheItem)
         → if_few (preceded params.old (params_from model vector (item ∷ later)))
         ≡ option_and_then (λ next. if_few (preceded params.new (params_from model next later))) result }
 {
@@ -113,8 +106,8 @@ fn put_item(
 }
 
 /// The types of the parameters that have these items.
-fn params_from(source: &Neighbours<'_, '_>, items: Items<'_>) -> Option<Params>
-    ensures { (model : Metadata) → IsModel source.now.view.now model → result ≡ if_few (params_from model false items.entry) }
+fn params_from<S: ReadView>(source: &S, items: Items<'_>) -> Option<Params>
+    ensures { (model : Metadata) → S.shows source.now model → result ≡ if_few (params_from model false items.entry) }
 {
     let mut params = Params::none();
     let mut vector = false;
@@ -125,8 +118,8 @@ fn params_from(source: &Neighbours<'_, '_>, items: Items<'_>) -> Option<Params>
 }
 
 /// The types of the parameters of a method without a result.
-fn params_in(source: &Neighbours<'_, '_>, mut items: Items<'_>) -> Option<Params>
-    ensures { (model : Metadata) → IsModel source.now.view.now model → result ≡ params_in model items.entry }
+fn params_in<S: ReadView>(source: &S, mut items: Items<'_>) -> Option<Params>
+    ensures { (model : Metadata) → S.shows source.now model → result ≡ params_in model items.entry }
 {
     let head = items.next()?;
     let outcome = items.next()?;
@@ -138,8 +131,8 @@ fn params_in(source: &Neighbours<'_, '_>, mut items: Items<'_>) -> Option<Params
 }
 
 /// The same of the signature in a blob. A longer one has too many items.
-fn params_in_blob(source: &Neighbours<'_, '_>, blob: &[u8], kind: SigKind) -> Option<Params>
-    ensures { (model : Metadata) → IsModel source.now.view.now model → (signature : Body) → Encodes kind signature blob.now
+fn params_in_blob<S: ReadView>(source: &S, blob: &[u8], kind: SigKind) -> Option<Params>
+    ensures { (model : Metadata) → S.shows source.now model → (signature : Body) → Encodes kind signature blob.now
         → result ≡ params_in model (items_of signature) }
 {
     sig_values::laws::encoded_is_encodable();
@@ -154,20 +147,20 @@ fn params_in_blob(source: &Neighbours<'_, '_>, blob: &[u8], kind: SigKind) -> Op
 }
 
 /// The same of the signature in a cell.
-fn params_in_cell(
-    source: &Neighbours<'_, '_>,
+fn params_in_cell<S: ReadView>(
+    source: &S,
     table: TableId,
     row: u32,
     cell: usize,
     kind: SigKind,
 ) -> Option<Params>
     requires first { 1 ≤ row }
-    requires last { row ≤ row_count source.now.view.now table }
+    requires last { row ≤ S.row_count source.now table }
     requires cell { cell < cell_count table }
     requires kind { kind_at table cell ≡ Signature kind }
-    ensures { (model : Metadata) → IsModel source.now.view.now model → result ≡ params_in model (items_in (cell_in model table row cell)) }
+    ensures { (model : Metadata) → S.shows source.now model → result ≡ params_in model (items_in (cell_in model table row cell)) }
 {
-    match source.view.cell(table, row, cell) {
+    match source.view().cell(table, row, cell) {
         CellRef::Sig(blob) => params_in_blob(source, blob, kind),
         _ => None,
     }
@@ -177,10 +170,10 @@ fn params_in_cell(
 /// has a type that values are not read of, if there are more than 64 parameters, and of a row that is no method without a
 /// result.
 #[tactic(auto, unfolding(table_schema::specs::CellColumns::cell_columns))]
-pub fn params_of(source: &Neighbours<'_, '_>, of: Token) -> Option<Params>
+pub fn params_of<S: ReadView>(source: &S, of: Token) -> Option<Params>
     requires first { 1 ≤ of.row }
-    requires last { of.row ≤ row_count source.now.view.now of.table }
-    ensures { (model : Metadata) → IsModel source.now.view.now model → result ≡ params_of_constructor model of.table of.row }
+    requires last { of.row ≤ S.row_count source.now of.table }
+    ensures { (model : Metadata) → S.shows source.now model → result ≡ params_of_constructor model of.table of.row }
 {
     let row = of.row;
     match of.table {

@@ -87,7 +87,11 @@ fn left_after(item: Item<'_>, left: u32) -> u32
 }
 
 /// Writes the items of a value.
-fn write_items<W: fmt::Write, L: Limit<W>>(out: &mut W, items: Items<'_>, limit: &L) -> fmt::Result
+fn write_items<W: fmt::Write, L: Limit<W>>(
+    out: &mut W,
+    items: Items<'_, '_>,
+    limit: &L,
+) -> fmt::Result
     ensures { OnOk result (WritesInCalls W.write_str_gives out.old (items_text 0 items.entry) out.new) }
 {
     let mut left = 0;
@@ -109,7 +113,7 @@ fn write_items<W: fmt::Write, L: Limit<W>>(out: &mut W, items: Items<'_>, limit:
 /// The writer refused a part of the text.
 pub fn write_value<W: fmt::Write, L: Limit<W>>(
     out: &mut W,
-    items: Items<'_>,
+    items: Items<'_, '_>,
     limit: &L,
 ) -> fmt::Result
     ensures { (v : AttributeValue) → items.entry ≡ items_of v → OnOk result (WritesInCalls W.write_str_gives out.old (value_text v) out.new) }

@@ -2,3 +2,4 @@ mod PartLemmas
 mod ElementLemmas
 mod WalkLemmas
 mod StepLemmas
+mod LengthLemmas

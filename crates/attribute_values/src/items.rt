@@ -1,4 +1,4 @@
-ghost use Rattle.std.specs.Prelude.{◌≡◌, false, true, IfNone, IfSome, IsSomeAnd};
+ghost use Rattle.std.specs.Prelude.{◌≡◌, ◌≤◌, false, true, length, IfNone, IfSome, IsSomeAnd};
 ghost use Rattle.attribute_values.specs.Items.{items_of};
 ghost use Rattle.attribute_values.specs.Parts.{IsAttributeValue};
 ghost use Rattle.attribute_values.specs.Steps.{all_at, ends, left_at, value_items};
@@ -15,7 +15,7 @@ const PROLOG: u16 = 1;
 
 /// What remains after the prolog of a value, and its bytes, if they are all that remains.
 #[tactic(auto, unfolding(crate::specs::Steps::all_at))]
-fn after_prolog<'a>(blob: &'a [u8], params: &'a [ArgumentType]) -> Option<(&'a [u8], Left<'a>)>
+fn after_prolog<'a, 'p>(blob: &'a [u8], params: &'p [ArgumentType]) -> Option<(&'a [u8], Left<'p>)>
     ensures same { IfSome result (λ x. left_at x.1 x.0.now ≡ all_at params.now blob.now) }
     ensures whole { IfSome result (λ _. ends (all_at params.now blob.now) ≡ true) }
     ensures none { IfNone result (ends (all_at params.now blob.now) ≡ false) }
@@ -32,12 +32,12 @@ fn after_prolog<'a>(blob: &'a [u8], params: &'a [ArgumentType]) -> Option<(&'a [
 ///
 /// Contracts see the list of the items that remain.
 #[derive(Drop)]
-pub struct Items<'a> {
+pub struct Items<'a, 'p> {
     bytes: &'a [u8],
-    left: Left<'a>,
+    left: Left<'p>,
 }
 
-impl<'a> Model for Items<'a> {
+impl<'a, 'p> Model for Items<'a, 'p> {
     ghost use Rattle.std.specs.Prelude.{◌≡◌, List, is_some, true};
     ghost use Rattle.attribute_values.specs.Items.{Item as Shown};
     ghost use Rattle.attribute_values.specs.Steps.{items_in, left_at};
@@ -49,16 +49,18 @@ impl<'a> Model for Items<'a> {
     ghost invariant = { λ s. is_some (left_at s.left s.bytes.now) ≡ true };
 }
 
-impl<'a> Items<'a> {
+impl<'a, 'p> Items<'a, 'p> {
     /// The items of the value that the whole blob is, for a constructor with parameters of these types; `None` if it
     /// is none. It takes time in proportion to the blob.
-    pub fn of(blob: &'a [u8], params: &'a [ArgumentType]) -> Option<Items<'a>>
+    pub fn of(blob: &'a [u8], params: &'p [ArgumentType]) -> Option<Items<'a, 'p>>
         // The items are those of a value that the blob is.
         ensures sound { IfSome result (λ items. (v : AttributeValue) × IsAttributeValue params.now v blob.now × (items ≡ items_of v)) }
         // If the blob is a value, the items are those of this value.
         ensures complete { (v : AttributeValue) → IsAttributeValue params.now v blob.now → IsSomeAnd result (λ items. items ≡ items_of v) }
         // The same as a function of the blob.
         ensures read { result ≡ value_items params.now blob.now }
+        // Each item has a byte of its own.
+        ensures few { IfSome result (λ items. length items ≤ length blob.now) }
     {
         packed::laws::numbers_are_read();
         let (bytes, left) = after_prolog(blob, params)?;
@@ -66,7 +68,7 @@ impl<'a> Items<'a> {
     }
 }
 
-impl<'a> Iterator for Items<'a> {
+impl<'a> Iterator for Items<'a, '_> {
     ghost use Rattle.std.specs.Iterator.{YieldsFirstBy, item_count};
     ghost use Rattle.attribute_values.specs.Views.{view};
 

@@ -28,9 +28,9 @@ pub(crate) struct Left<'a> {
 
 /// An item, what remains after it, and its bytes.
 #[derive(Clone, Copy)]
-pub(crate) struct Step<'a> {
+pub(crate) struct Step<'a, 'p> {
     pub(crate) item: Item<'a>,
-    pub(crate) left: Left<'a>,
+    pub(crate) left: Left<'p>,
     pub(crate) tail: &'a [u8],
 }
 
@@ -77,7 +77,7 @@ impl<'a> Left<'a> {
 
 /// The next element of an array, and what remains after it.
 #[tactic(auto, unfolding(crate::specs::Reading::entries_at))]
-fn entry<'a>(bytes: &'a [u8], left: Left<'a>) -> Option<Step<'a>>
+fn entry<'a, 'p>(bytes: &'a [u8], left: Left<'p>) -> Option<Step<'a, 'p>>
     requires { 0 < left.count }
     ensures reported { reported result ≡ left_at left.entry bytes.now }
     ensures shorter { IfSome result (λ step. length step.tail.now < length bytes.now) }
@@ -97,7 +97,7 @@ fn entry<'a>(bytes: &'a [u8], left: Left<'a>) -> Option<Step<'a>>
 
 /// The number of named arguments, and what remains after it.
 #[tactic(auto, unfolding(crate::specs::Reading::fixed_left))]
-fn named_count(bytes: &[u8]) -> Option<Step<'_>>
+fn named_count<'a, 'p>(bytes: &'a [u8]) -> Option<Step<'a, 'p>>
     ensures reported { reported result ≡ fixed_left [] bytes.now }
     ensures shorter { IfSome result (λ step. length step.tail.now < length bytes.now) }
 {
@@ -111,7 +111,7 @@ fn named_count(bytes: &[u8]) -> Option<Step<'_>>
 
 /// The next fixed argument, or the number of named arguments if there is none, and what remains after it.
 #[tactic(auto, unfolding(crate::specs::Reading::fixed_left, crate::specs::Reading::argument_at))]
-fn fixed<'a>(bytes: &'a [u8], params: &'a [ArgumentType]) -> Option<Step<'a>>
+fn fixed<'a, 'p>(bytes: &'a [u8], params: &'p [ArgumentType]) -> Option<Step<'a, 'p>>
     ensures reported { reported result ≡ fixed_left params.now bytes.now }
     ensures shorter { IfSome result (λ step. length step.tail.now < length bytes.now) }
 {
@@ -128,7 +128,7 @@ fn fixed<'a>(bytes: &'a [u8], params: &'a [ArgumentType]) -> Option<Step<'a>>
 
 /// The next named argument, and what remains after it and before `further` others.
 #[tactic(auto, unfolding(crate::specs::Reading::named_left, crate::specs::Reading::argument_at))]
-fn named(bytes: &[u8], further: u16) -> Option<Step<'_>>
+fn named<'a, 'p>(bytes: &'a [u8], further: u16) -> Option<Step<'a, 'p>>
     ensures reported { reported result ≡ named_left (suc further) bytes.now }
     ensures shorter { IfSome result (λ step. length step.tail.now < length bytes.now) }
 {
@@ -143,7 +143,7 @@ fn named(bytes: &[u8], further: u16) -> Option<Step<'_>>
 
 /// The next item, and what remains after it; `None` if the bytes do not begin with one.
 #[tactic(auto, unfolding(crate::specs::Reading::entries_at, crate::specs::Reading::named_left))]
-pub(crate) fn next_step<'a>(bytes: &'a [u8], left: Left<'a>) -> Option<Step<'a>>
+pub(crate) fn next_step<'a, 'p>(bytes: &'a [u8], left: Left<'p>) -> Option<Step<'a, 'p>>
     requires { is_done left ≡ false }
     ensures reported { reported result ≡ left_at left.entry bytes.now }
     ensures shorter { IfSome result (λ step. length step.tail.now < length bytes.now) }
@@ -151,14 +151,15 @@ pub(crate) fn next_step<'a>(bytes: &'a [u8], left: Left<'a>) -> Option<Step<'a>>
     if left.count > 0 {
         return entry(bytes, left);
     }
-    match left.arguments {
-        Arguments::Fixed(params) => fixed(bytes, params),
-        Arguments::Named(count) => named(bytes, count - 1),
-    }
+    let params = match left.arguments {
+        Arguments::Fixed(params) => params,
+        Arguments::Named(count) => return named(bytes, count - 1),
+    };
+    fixed(bytes, params)
 }
 
 /// Whether the bytes are what remains, and nothing else.
-pub(crate) fn is_whole<'a>(bytes: &'a [u8], left: Left<'a>) -> bool
+pub(crate) fn is_whole<'p>(bytes: &[u8], left: Left<'p>) -> bool
     ensures { result ≡ ends (left_at left.entry bytes.now) }
 {
     let mut bytes = bytes;

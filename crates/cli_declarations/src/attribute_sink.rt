@@ -36,7 +36,7 @@ fn push_bytes_value(blob: &[u8], declared: &mut Declared) -> Result<(), AllocErr
 }
 
 /// Appends the text of a value, up to the limit.
-fn push_items(items: Items<'_>, declared: &mut Declared) -> Result<(), AllocError>
+fn push_items(items: Items<'_, '_>, declared: &mut Declared) -> Result<(), AllocError>
     ensures { (v : TheValue) → items.entry ≡ items_of v
         → OnOk result (string_bytes declared.new.text ≡ string_bytes declared.old.text ++ cut_text (value_text v)) }
 {
@@ -48,7 +48,7 @@ fn push_items(items: Items<'_>, declared: &mut Declared) -> Result<(), AllocErro
 }
 
 /// Appends a value by its items.
-fn push_decoded(items: Items<'_>, declared: &mut Declared) -> Result<(), AllocError>
+fn push_decoded(items: Items<'_, '_>, declared: &mut Declared) -> Result<(), AllocError>
     ensures { (v : TheValue) → items.entry ≡ items_of v
         → OnOk result (string_bytes declared.new.text ≡ string_bytes declared.old.text ++ decoded_value v) }
 {

@@ -74,7 +74,7 @@ fn print_item<W: Write>(item: Item<'_>, out: &mut Printer<'_, W>)
 }
 
 /// Adds the items of a value after the first one.
-fn print_others<W: Write>(items: Items<'_>, out: &mut Printer<'_, W>)
+fn print_others<W: Write>(items: Items<'_, '_>, out: &mut Printer<'_, W>)
     ensures { Adds out.old out.new (flat_map item_parts items.entry) }
 {
     cli_lines::laws::parts_follow::<W>();
@@ -111,7 +111,7 @@ fn print_first<W: Write>(item: Item<'_>, out: &mut Printer<'_, W>)
 }
 
 /// Adds the items of a value.
-fn print_items<W: Write>(mut items: Items<'_>, out: &mut Printer<'_, W>)
+fn print_items<W: Write>(mut items: Items<'_, '_>, out: &mut Printer<'_, W>)
     ensures { Adds out.old out.new (items_parts items.entry) }
 {
     cli_lines::laws::parts_follow::<W>();
@@ -136,7 +136,7 @@ fn dot_after(namespace: &str) -> &'static str
 fn print_line<'a, W: Write>(
     namespace: &'a str,
     name: &'a str,
-    items: Items<'_>,
+    items: Items<'_, '_>,
     out: &mut Printer<'_, W>,
 )
     ensures { Prints out.old out.new (attribute_line namespace.now name.now items.entry ∷ []) }
@@ -158,7 +158,7 @@ fn print_named<W: Write>(
     view: &View<'_>,
     table: TableId,
     row: u32,
-    items: Items<'_>,
+    items: Items<'_, '_>,
     out: &mut Printer<'_, W>,
 )
     requires first { 1 ≤ row }
@@ -174,7 +174,7 @@ fn print_named<W: Write>(
 
 /// Prints the line of an attribute of this type, if that is a row of TypeDef or TypeRef.
 #[tactic(auto, unfolding(table_schema::specs::CellColumns::cell_columns))]
-fn print_typed<W: Write>(view: &View<'_>, class: Token, items: Items<'_>, out: &mut Printer<'_, W>)
+fn print_typed<W: Write>(view: &View<'_>, class: Token, items: Items<'_, '_>, out: &mut Printer<'_, W>)
     requires first { 1 ≤ class.row }
     requires last { class.row ≤ row_count view.now class.table }
     ensures { (model : Metadata) → IsModel view.now model → Prints out.old out.new (lines_of_type model class.table class.row items.entry) }
@@ -191,7 +191,7 @@ fn print_typed<W: Write>(view: &View<'_>, class: Token, items: Items<'_>, out: &
 fn print_constructed<W: Write>(
     source: &Neighbours<'_, '_>,
     of: Token,
-    items: Items<'_>,
+    items: Items<'_, '_>,
     out: &mut Printer<'_, W>,
 )
     requires first { 1 ≤ of.row }

@@ -7,3 +7,4 @@ pub mod SignatureCells
 pub mod CanonicalRoots
 pub mod Compared
 pub mod OpenRows
+pub mod Attributes

@@ -22,6 +22,8 @@ pub use Rattle.table_schema.specs.declared.table.TableId.{TableId as Table}
 pub use Rattle.table_schema.specs.declared.table.TableId.TheVariants.{TypeDef}
 pub use Rattle.schema.specs.ColumnNames.{column_names_of}
 pub use Rattle.sig_grammar.specs.Syntax.{Body}
+pub use Rattle.attribute_values.specs.Items.{items_of}
+pub use Rattle.attribute_values.specs.Values.{AttributeValue}
 pub use Rattle.metadata.specs.Cell.{Sig}
 pub use Rattle.metadata.specs.Lookups.{HasNames, HasRow, IsFirstType}
 pub use Rattle.metadata.specs.Metadata.{Metadata, cell_in, count_in}
@@ -37,6 +39,8 @@ pub use Rattle.full_names.specs.RowNames.{IsRowName}
 pub use Rattle.cli_faults.specs.declared.explained.Explanation.{Explanation as Explained}
 pub use Rattle.root_writer.specs.Canonical.{canonical}
 pub use Rattle.embedding.specs.declared.strong_name.StrongName.{StrongName}
+pub use Rattle.c_attributes.specs.Items.{AreItems}
+pub use Rattle.c_attributes.specs.Values.{IsValueAt}
 pub use Rattle.c_values.specs.Cells.{IsCell}
 pub use Rattle.c_values.specs.Given.{IsGiven}
 pub use Rattle.c_values.specs.Refused.{IsGivenValid, IsRefused, refusal_of}

@@ -6,6 +6,7 @@
 //! tests its arguments, and its result says whether it rejected them.
 #![tactic(auto)]
 
+pub mod attributes;
 pub mod canonical_root;
 pub mod cells;
 pub mod compared;
@@ -28,6 +29,7 @@ pub mod user_strings;
 pub mod view;
 pub mod view_parts;
 
+pub use c_attributes::ClimAttributeItem;
 pub use c_values::{
     ClimCell, ClimDifference, ClimDirectory, ClimHeader, ClimLocation, ClimRefusal, ClimRow,
 };

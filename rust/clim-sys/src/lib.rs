@@ -104,6 +104,46 @@ pub const CLIM_ROW: u8 = 7;
 pub const CLIM_START: u8 = 8;
 pub const CLIM_SIGNATURE: u8 = 9;
 
+/// An item of the value of a custom attribute.
+#[repr(C)]
+#[derive(Clone, Copy)]
+pub struct clim_attribute_item {
+    pub name: clim_bytes,
+    pub text: clim_bytes,
+    pub number: u64,
+    pub kind: u8,
+    pub form: u8,
+    /// The field `type`.
+    pub of: u8,
+    pub is_null: bool,
+}
+
+pub const CLIM_FIXED_ARGUMENT: u8 = 1;
+pub const CLIM_ELEMENT: u8 = 2;
+pub const CLIM_NAMED_COUNT: u8 = 3;
+pub const CLIM_FIELD_ARGUMENT: u8 = 4;
+pub const CLIM_PROPERTY_ARGUMENT: u8 = 5;
+
+pub const CLIM_PLAIN_VALUE: u8 = 1;
+pub const CLIM_BOXED_VALUE: u8 = 2;
+pub const CLIM_ARRAY: u8 = 3;
+
+pub const CLIM_BOOLEAN: u8 = 0x02;
+pub const CLIM_CHAR: u8 = 0x03;
+pub const CLIM_I1: u8 = 0x04;
+pub const CLIM_U1: u8 = 0x05;
+pub const CLIM_I2: u8 = 0x06;
+pub const CLIM_U2: u8 = 0x07;
+pub const CLIM_I4: u8 = 0x08;
+pub const CLIM_U4: u8 = 0x09;
+pub const CLIM_I8: u8 = 0x0A;
+pub const CLIM_U8: u8 = 0x0B;
+pub const CLIM_R4: u8 = 0x0C;
+pub const CLIM_R8: u8 = 0x0D;
+pub const CLIM_STRING: u8 = 0x0E;
+pub const CLIM_SYSTEM_TYPE: u8 = 0x50;
+pub const CLIM_OBJECT: u8 = 0x51;
+
 /// The cell of a table that contains a byte.
 #[repr(C)]
 #[derive(Clone, Copy)]
@@ -191,6 +231,9 @@ pub const CLIM_OCCUPIED: usize = usize::MAX - 6;
 /// What `clim_embed` returns if there is no room for the root.
 pub const CLIM_NO_ROOM: usize = usize::MAX - 7;
 
+/// What `clim_attribute_items` returns for a value that is not decoded.
+pub const CLIM_NOT_DECODED: usize = usize::MAX - 8;
+
 /// What becomes of the strong name in a copy of a file: it is kept, or cleared.
 pub const CLIM_KEEP_STRONG_NAME: u8 = 1;
 pub const CLIM_CLEAR_STRONG_NAME: u8 = 2;
@@ -198,6 +241,15 @@ pub const CLIM_CLEAR_STRONG_NAME: u8 = 2;
 pub const CLIM_NO_BYTES: clim_bytes = clim_bytes { at: b"".as_ptr(), len: 0 };
 pub const CLIM_NO_FAULT: clim_fault = clim_fault { offset: 0, code: 0, layer: 0 };
 pub const CLIM_NO_CELL: clim_cell = clim_cell { bytes: CLIM_NO_BYTES, number: 0, kind: 0, table: 0, guid: [0; 16] };
+pub const CLIM_NO_ITEM: clim_attribute_item = clim_attribute_item {
+    name: CLIM_NO_BYTES,
+    text: CLIM_NO_BYTES,
+    number: 0,
+    kind: 0,
+    form: 0,
+    of: 0,
+    is_null: false,
+};
 pub const CLIM_NO_STARTS: clim_starts = clim_starts { step: 1, starts: [0; 256] };
 pub const CLIM_NOT_FOUND: clim_found = clim_found {
     fields: CLIM_NO_STARTS,
@@ -273,6 +325,7 @@ newer! {
     HAS_OFFSET_OF: fn clim_offset_of(file: *const u8, len: usize, rva: u32, size: u32, offset: *mut usize) -> bool;
     HAS_ROW_NAME: fn clim_row_name(view: *const clim_view, token: u32, buffer: *mut u8, room: usize) -> usize;
     HAS_DECLARATION: fn clim_declaration(view: *const clim_view, token: u32, buffer: *mut u8, room: usize) -> usize;
+    HAS_ATTRIBUTE_ITEMS: fn clim_attribute_items(view: *const clim_view, row: u32, items: *mut clim_attribute_item, room: usize) -> usize;
 }
 
 // The layout of the structs, as tests of the C library have it.
@@ -281,6 +334,7 @@ const _: () = assert!(size_of::<clim_fault>() == 16);
 const _: () = assert!(size_of::<clim_header>() == 96);
 const _: () = assert!(size_of::<clim_view>() == 5208);
 const _: () = assert!(size_of::<clim_cell>() == 40);
+const _: () = assert!(size_of::<clim_attribute_item>() == 48);
 const _: () = assert!(size_of::<clim_location>() == 32);
 const _: () = assert!(size_of::<clim_difference>() == 24);
 const _: () = assert!(size_of::<clim_row>() == 24);

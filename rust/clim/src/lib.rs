@@ -45,7 +45,7 @@
 //! ```
 //!
 //! To open and to read, the library allocates nothing, but for the declarations of methods. This crate allocates the cells of
-//! some rows at a time, what `by_key` and the calls for texts return, and four bytes for each type once an enclosing type is
+//! some rows at a time, what `by_key`, `arguments_of` and the calls for texts return, and four bytes for each type once an enclosing type is
 //! asked for. Rows of a valid file
 //! may still form circles, and names may be any text: see `docs/CLIENTS.md`.
 //!
@@ -53,6 +53,7 @@
 //! all rules, and makes a metadata root of them. [`embed`] puts a root into a copy of a file.
 #![warn(missing_docs)]
 
+mod arguments;
 mod building;
 mod cells;
 mod chunks;
@@ -68,6 +69,7 @@ pub mod rows;
 mod tables;
 mod view;
 
+pub use arguments::{Arguments, AttributeValue, NamedArgument};
 pub use building::Tables;
 pub use cells::{Cell, Guid, Signature};
 pub use chunks::{Cells, Rows};

@@ -8,7 +8,7 @@ use crate::library;
 use crate::rows::{NestedClass, Row, TypeDef};
 use crate::tables::{Table, Token, MOST_ROWS};
 use clim_sys::{
-    clim_cell, clim_fault, clim_header, clim_view, CLIM_CLOSED, CLIM_EQUAL, CLIM_NO_BYTES, CLIM_NO_CELL,
+    clim_attribute_item, clim_cell, clim_fault, clim_header, clim_view, CLIM_CLOSED, CLIM_EQUAL, CLIM_NO_BYTES, CLIM_NO_CELL,
     CLIM_NO_DIFFERENCE, CLIM_NO_FAULT, CLIM_NO_LOCATION, CLIM_NO_MEMORY,
 };
 use std::fmt;
@@ -231,6 +231,12 @@ impl<'a> View<'a> {
         unsafe {
             clim_sys::clim_cells(&self.view, table.number(), first, column, cells.as_mut_ptr(), cells.len())
         }
+    }
+
+    /// Writes the items of the value of an attribute. Returns what `clim_attribute_items` returns.
+    pub(crate) fn write_items(&self, row: u32, items: &mut [clim_attribute_item]) -> usize {
+        // SAFETY: The view is open, and the pointer is valid for that number of items during the call.
+        unsafe { clim_sys::clim_attribute_items(&self.view, row, items.as_mut_ptr(), items.len()) }
     }
 
     /// A view that the library opened of bytes that are borrowed for `'a`.

@@ -130,6 +130,16 @@ fn types_by_their_full_names() {
 }
 
 #[test]
+fn arguments_of_an_attribute() {
+    for measured in [(nanoseconds as fn(&View, fn(&View)) -> f64, MOST_TIME), (peak, MOST_MEMORY)] {
+        is_linear("one_array", measured, |view| {
+            let arguments = view.arguments_of(1).expect("a newer library").expect("a value");
+            assert_eq!(arguments.fixed.len(), 1);
+        });
+    }
+}
+
+#[test]
 fn tables_of_a_view() {
     for name in ["one_text", "endings", "one_plain_blob", "overlapping_blobs"] {
         is_linear(name, (peak, MOST_MEMORY), |view| drop(Tables::of(view)));

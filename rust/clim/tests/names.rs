@@ -2,7 +2,10 @@
 
 use clim::flags::{Access, CallConv, CodeType, ImportFlags, MethodFlags, TypeFlags};
 use clim::rows::*;
-use clim::{offset_of, open, read_header, Assembly, BoundedError, ConstantValue, OpenError, Table, Tables, Token, View};
+use clim::{
+    offset_of, open, read_header, Assembly, AttributeValue, BoundedError, ConstantValue, OpenError, Signature, Table, Tables,
+    Token, View,
+};
 use std::{fs, thread};
 
 /// The path of a sample.
@@ -189,4 +192,60 @@ fn values_of_constants() {
     for (kind, bytes) in malformed {
         assert_eq!(value(kind, bytes), ConstantValue::Malformed(bytes), "{kind}");
     }
+}
+
+/// A root with an attribute that has an argument of each type, one whose type is an enum of another file, and one of no
+/// bytes.
+fn root_with_attributes() -> Vec<u8> {
+    let mut tables = Tables::new("v4.0.30319");
+    let module = tables.add(&Module { generation: 0, name: "one.dll", mvid: None, enc_id: None, enc_base_id: None });
+    let mut reference = |type_name, type_namespace| {
+        tables.add(&TypeRef { resolution_scope: Some(module), type_name, type_namespace })
+    };
+    let (mark, _, base) = (reference("Mark", "Hello"), reference("Type", "System"), reference("Enum", "System"));
+    let first = TypeDef { flags: 0, type_name: "<Module>", type_namespace: "", extends: None, field_list: 1, method_list: 1 };
+    tables.add(&first);
+    tables.add(&TypeDef { type_name: "Color", extends: Some(base), ..first });
+    tables.add(&Field { flags: 6, name: "value__", signature: Signature(b"\x06\x06") });
+    let parameters = b"\x20\x14\x01\x02\x03\x04\x05\x06\x07\x08\x09\x0a\x0b\x0c\x0d\x0e\x0e\x12\x09\x11\x08\x1c\x1d\x08\x1d\x0e\x1d\x1c";
+    let mut constructor = |parameters| {
+        tables.add(&MemberRef { class: mark, name: ".ctor", signature: Signature(parameters) })
+    };
+    let (each, other) = (constructor(parameters), constructor(b"\x20\x01\x01\x11\x09"));
+    let value = b"\x01\0\x01\x3d\xd8\xff\xff\xfe\xff\xfe\xff\xfd\xff\xff\xff\xfd\xff\xff\xff\xfc\xff\xff\xff\xff\xff\xff\xff\
+        \xfc\xff\xff\xff\xff\xff\xff\xff\0\0\xc0\x3f\0\0\0\0\0\0\xf8\xbf\x03a\xc3\xa9\xff\x0dSystem.String\x02\0\
+        \x08*\0\0\0\x02\0\0\0\x01\0\0\0\x02\0\0\0\xff\xff\xff\xff\x02\0\0\0\x0e\x01x\x0e\xff\
+        \x03\0S\x08\x05Count\x07\0\0\0T\x1d\x02\x05Flags\x01\0\0\0\x01TQ\x03Tag\x02\0";
+    for (kind, value) in [(each, &value[..]), (other, b"\x01\0\x02\0\0\0\0\0"), (each, b"")] {
+        tables.add(&CustomAttribute { parent: module, kind, value });
+    }
+    tables.root().expect("valid tables")
+}
+
+#[test]
+fn arguments_of_attributes() {
+    use AttributeValue::{Array, Bool, Char, Double, Float, Int, String, Type, Uint};
+    let root = root_with_attributes();
+    let view = View::open_root(&root).expect("a root");
+    let arguments = view.arguments_of(1).expect("a newer library").expect("a value");
+    let wanted = [
+        Bool(true), Char(0xD83D), Int(-1), Uint(0xFF), Int(-2), Uint(0xFFFE), Int(-3), Uint(0xFFFF_FFFD), Int(-4),
+        Uint(u64::MAX - 3), Float(1.5), Double(-1.5), String(Some("a\u{e9}")), String(None), Type(Some("System.String")),
+        Int(2), Int(42), Array(Some(vec![Int(1), Int(2)])), Array(None), Array(Some(vec![String(Some("x")), String(None)])),
+    ];
+    assert_eq!(arguments.fixed, wanted);
+    let named: Vec<_> = arguments.named.into_iter().map(|it| (it.name, it.is_property, it.value)).collect();
+    let flags = Array(Some(vec![Bool(true)]));
+    assert_eq!(named, [("Count", false, Int(7)), ("Flags", true, flags), ("Tag", true, Bool(false))]);
+    for row in [0, 2, 3, 4, u32::MAX] {
+        assert_eq!(view.arguments_of(row), Ok(None));
+    }
+}
+
+#[test]
+fn arguments_of_a_sample() {
+    let assembly = open(path("shapes.dll")).expect("a file");
+    let view = assembly.view();
+    let decoded = |row| view.arguments_of(row).expect("a newer library").is_some();
+    assert!((1..=view.count(Table::CustomAttribute)).all(decoded));
 }

@@ -96,9 +96,9 @@ class Reader:
             self.add_marshal(how, method_of(tail[:code.start() + 1]).rpartition("::")[2])
         else:
             self.add(word[1:], f"{flags} {self.own(tail)}")
-            self.add_marshal(how, tail.rpartition(" ")[2])
+            self.add_marshal(how, self.own(tail).rpartition(" ")[2])
         for value in values_of(text, unescaped_units) if word == ".field" else ():
-            self.add("value", f"{value} of {tail.rpartition(' ')[2]}")
+            self.add("value", f"{value} of {self.own(tail).rpartition(' ')[2]}")
 
     def add_marshal(self, how, name):
         if how:
@@ -115,7 +115,7 @@ class Reader:
             *flags, name = head.rpartition(" [")[0].split()
             self.owners[self.token] = owner
             self.add_of(owner, "generic parameter", " ".join([*sorted(flags), name]))
-        else:
+        elif text.startswith("constraint "):
             of, _, constraint = text.removeprefix("constraint ").partition(", ")
             self.add_of(self.owners[of.rpartition(" ")[2]], "constraint", no_kinds(constraint))
 

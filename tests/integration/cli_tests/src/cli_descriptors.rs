@@ -130,7 +130,7 @@ fn outline_of(rt: &HostRuntime, name: &str, blobs: &[&[u8]]) -> Result<String, F
 fn lines_of(alloc: Global, marshalled: &[String]) -> Result<String, Fail> {
     let mut lines = format!(in alloc; ".class private auto ansi C\n")?;
     for text in marshalled {
-        let line = format!(in alloc; "  .field public marshal({text}) int32 F\n")?;
+        let line = format!(in alloc; "  .field public marshal({text}) int32 C::F\n")?;
         lines.push_str(&line)?;
     }
     Ok(lines)
@@ -180,10 +180,10 @@ fn marshaler_of(alloc: Global, len: u32, byte: u8) -> Result<Vec<u8>, Fail> {
 #[test]
 fn cuts_long_descriptors(rt: HostRuntime) -> Result<(), Fail> {
     for (len, byte, begin, end, most) in [
-        (65_000, b'a', "marshal(custom(\"aa", "aa\", \"\")) int32 F\n", 65_100),
-        (65_000, 0x1B, "marshal(custom(\"\\x1b\\x1b", "..) int32 F\n", 65_700),
-        (65_528, b'a', "marshal(custom(\"aa", "..) int32 F\n", 65_700),
-        (65_529, b'a', "marshal(2c0000c000fff96161", "6161..) int32 F\n", 131_300),
+        (65_000, b'a', "marshal(custom(\"aa", "aa\", \"\")) int32 C::F\n", 65_100),
+        (65_000, 0x1B, "marshal(custom(\"\\x1b\\x1b", "..) int32 C::F\n", 65_700),
+        (65_528, b'a', "marshal(custom(\"aa", "..) int32 C::F\n", 65_700),
+        (65_529, b'a', "marshal(2c0000c000fff96161", "6161..) int32 C::F\n", 131_300),
     ] {
         let blob = marshaler_of(rt.alloc(), len, byte)?;
         let out = outline_of(&rt, "long.root", &[blob.as_slice()])?;

@@ -1,9 +1,8 @@
 use Rattle.std.proofs.Common.{◌≡◌, ◌+◌, ◌-◌}
 use Rattle.metadata.specs.Metadata.{Metadata}
-use Rattle.metadata.specs.Model.{IsModel}
 use Rattle.attribute_constructors.specs.Types.{instance_type}
 use Rattle.attribute_constructors.proofs.enums.instance_type.Given as goal
 
 -- all fields so far are static
 abbrev pub invariant-loop-done : goal.invariant-loop-done
-invariant-loop-done l = (model : Metadata) → IsModel l.source.view.now model → instance_type model (l.count - l.done) (l.first + l.done) ≡ instance_type model l.count l.first
+invariant-loop-done g l = (model : Metadata) → g.S.ReadMetadata.shows l.source model → instance_type model (l.count - l.done) (l.first + l.done) ≡ instance_type model l.count l.first

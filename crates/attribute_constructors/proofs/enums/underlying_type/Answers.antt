@@ -4,11 +4,11 @@ use Rattle.attribute_constructors.proofs.TypeLemmas.{no_enum, enum_run}
 use Rattle.attribute_constructors.proofs.enums.underlying_type.Goals as goal
 
 pub returns-then-not-is_enum : goal.returns-then-not-is_enum
-returns-then-not-is_enum c = λ model is.
+returns-then-not-is_enum g c = λ model is.
     no_enum model c.args.row c.reference-base.result (c.reference-base.ensures.value model is) (sym (c.is_enum.ensures model is) ∙ c.if-not-is_enum.true)
 
 pub returns : goal.returns
-returns c = λ model is.
+returns g c = λ model is.
     let rows = c.holds_one.ensures.rows model is TypeDef in
     let last = c.requires.last in
     c.instance_type.ensures model is

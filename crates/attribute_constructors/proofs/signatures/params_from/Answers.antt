@@ -5,7 +5,7 @@ use Rattle.attribute_constructors.proofs.ParamLemmas.{all_put, from_none, vector
 use Rattle.attribute_constructors.proofs.signatures.params_from.Goals as goal
 
 pub loop-item-init : goal.loop-item-init
-loop-item-init c =
+loop-item-init g c =
     let none = ap length c.none-params.ensures in
     record {
       few = omega (arith, none);
@@ -16,7 +16,7 @@ loop-item-init c =
     }
 
 pub loop-item-preserved : goal.loop-item-preserved
-loop-item-preserved c = record {
+loop-item-preserved g c = record {
   few = c.put_item.ensures.few;
   types = λ model is.
       sym (c.in_ok-vector.ensures.types model is c.next.new.self)
@@ -25,14 +25,14 @@ loop-item-preserved c = record {
 }
 
 pub returns-then-vector : goal.returns-then-vector
-returns-then-vector c = λ model is.
+returns-then-vector g c = λ model is.
     let got = c.loop-item.params in
     let none : List Item = [] in
     sym (sym (c.loop-item.invariant.types model is) ∙ ap (λ (items : List Item). if_few (preceded got (params_from model c.loop-item.vector items))) c.in-None.ensures.steps.0
     ∙ ap (λ v. if_few (preceded got (params_from model v none))) c.if-vector.true ∙ vector_left model got)
 
 pub returns-else-vector : goal.returns-else-vector
-returns-else-vector c = λ model is.
+returns-else-vector g c = λ model is.
     let got = c.loop-item.params in
     let none : List Item = [] in
     sym (sym (c.loop-item.invariant.types model is) ∙ ap (λ (items : List Item). if_few (preceded got (params_from model c.loop-item.vector items))) c.in-None.ensures.steps.0

@@ -1,12 +1,11 @@
 use Rattle.std.proofs.Common.{◌≡◌, ◌≤◌, false, length}
 use Rattle.metadata.specs.Metadata.{Metadata}
-use Rattle.metadata.specs.Model.{IsModel}
 use Rattle.attribute_constructors.specs.Params.{if_few, params_from, preceded}
 use Rattle.attribute_constructors.proofs.signatures.params_from.Given as goal
 
 -- the types so far, and those of the items that are left, are those of all
 abbrev pub invariant-loop-item : goal.invariant-loop-item
-invariant-loop-item l = record {
+invariant-loop-item g l = record {
   few : length l.params ≤ 64;
-  types : (model : Metadata) → IsModel l.source.view.now model → if_few (preceded l.params (params_from model l.vector l.item-iterator)) ≡ if_few (params_from model false l.fn.items);
+  types : (model : Metadata) → g.S.ReadMetadata.shows l.source model → if_few (preceded l.params (params_from model l.vector l.item-iterator)) ≡ if_few (params_from model false l.fn.items);
 }

@@ -1,0 +1,164 @@
+//! Items as a C caller receives them.
+ghost use Rattle.std.specs.Prelude.{◌≡◌};
+ghost use Rattle.attribute_values.specs.Parts.{code_of};
+ghost use Rattle.attribute_values.specs.Views.{element_view, head_view, scalar_view, view};
+ghost use Rattle.attribute_values.specs.Items.{named_count};
+ghost use Rattle.attribute_values.specs.Values.{scalar_type};
+ghost use Rattle.c_attributes.specs.Items.{element_fields, fields_of, head_fields, is_null, item_fields, member_kind, number_in, scalar_fields, text_in};
+
+use crate::item::ClimAttributeItem;
+use attribute_values::{Argument, Element, ElementType, Item, Member, Scalar, Value};
+
+/// The kinds of items: `CLIM_FIXED_ARGUMENT` to `CLIM_PROPERTY_ARGUMENT` of `clim.h`.
+const FIXED: u8 = 1;
+
+const ELEMENT: u8 = 2;
+
+const NAMED_COUNT: u8 = 3;
+
+const FIELD: u8 = 4;
+
+const PROPERTY: u8 = 5;
+
+/// The forms of values: `CLIM_PLAIN_VALUE` to `CLIM_ARRAY` of `clim.h`.
+const PLAIN: u8 = 1;
+
+const BOXED: u8 = 2;
+
+const ARRAY: u8 = 3;
+
+/// The codes of System.Type and of an object (II.23.3).
+const SYSTEM_TYPE: u8 = 0x50;
+
+const OBJECT: u8 = 0x51;
+
+/// The code of a type.
+fn code_of(of: ElementType) -> u8
+    ensures { result ≡ code_of of }
+{
+    match of {
+        ElementType::Simple(Element::Object) => OBJECT,
+        ElementType::Simple(of) => of.byte(),
+        ElementType::SystemType => SYSTEM_TYPE,
+    }
+}
+
+/// The type of a value.
+fn scalar_type(value: Scalar<'_>) -> ElementType
+    ensures { result ≡ scalar_type (scalar_view value.entry) }
+{
+    match value {
+        Scalar::Number(of, _) => ElementType::Simple(of),
+        Scalar::String(_) => ElementType::Simple(Element::String),
+        Scalar::SystemType(_) => ElementType::SystemType,
+    }
+}
+
+/// A truth value, a character or a number; otherwise 0.
+fn number_in(value: Scalar<'_>) -> u64
+    ensures { result ≡ number_in (scalar_view value.entry) }
+{
+    match value {
+        Scalar::Number(_, number) => number,
+        _ => 0,
+    }
+}
+
+/// A string or the name of a type; otherwise no bytes.
+fn text_in<'a>(value: Scalar<'a>) -> &'a [u8]
+    ensures { result.now ≡ text_in (scalar_view value.entry) }
+{
+    match value {
+        Scalar::String(Some(text)) | Scalar::SystemType(Some(text)) => text.as_bytes(),
+        _ => &[],
+    }
+}
+
+/// Whether a value is a string or a type that is null.
+fn is_null(value: Scalar<'_>) -> bool
+    ensures { result ≡ is_null (scalar_view value.entry) }
+{
+    matches!(value, Scalar::String(None) | Scalar::SystemType(None))
+}
+
+/// An item with a value without its box.
+fn of_scalar<'a>(kind: u8, name: &'a [u8], form: u8, value: Scalar<'a>) -> ClimAttributeItem<'a>
+    ensures { fields_of result ≡ scalar_fields kind name.now form (scalar_view value.entry) }
+{
+    ClimAttributeItem {
+        name,
+        text: text_in(value),
+        number: number_in(value),
+        kind,
+        form,
+        of: code_of(scalar_type(value)),
+        is_null: is_null(value),
+    }
+}
+
+/// An item with an element.
+fn of_element<'a>(kind: u8, name: &'a [u8], value: Value<'a>) -> ClimAttributeItem<'a>
+    ensures { fields_of result ≡ element_fields kind name.now (element_view value.entry) }
+{
+    match value {
+        Value::Plain(value) => of_scalar(kind, name, PLAIN, value),
+        Value::Boxed(value) => of_scalar(kind, name, BOXED, value),
+    }
+}
+
+/// An item with an argument, without the elements of an array.
+fn of_argument<'a>(kind: u8, name: &'a [u8], argument: Argument<'a>) -> ClimAttributeItem<'a>
+    ensures { fields_of result ≡ head_fields kind name.now (head_view argument.entry) }
+{
+    match argument {
+        Argument::One(value) => of_element(kind, name, value),
+        Argument::Vector(of, count) => ClimAttributeItem {
+            name,
+            text: &[],
+            number: u64::from(count.unwrap_or(0)),
+            kind,
+            form: ARRAY,
+            of: code_of(of),
+            is_null: count.is_none(),
+        },
+    }
+}
+
+/// The item with the number of named arguments.
+fn of_count<'a>(count: u16) -> ClimAttributeItem<'a>
+    ensures { fields_of result ≡ item_fields (named_count count) }
+{
+    ClimAttributeItem {
+        name: &[],
+        text: &[],
+        number: u64::from(count),
+        kind: NAMED_COUNT,
+        form: 0,
+        of: 0,
+        is_null: false,
+    }
+}
+
+/// The kind of a named argument.
+fn member_kind(member: Member) -> u8
+    ensures { result ≡ member_kind member }
+{
+    match member {
+        Member::Field => FIELD,
+        Member::Property => PROPERTY,
+    }
+}
+
+/// An item as a C caller receives it.
+pub(crate) fn reported<'a>(item: Item<'a>) -> ClimAttributeItem<'a>
+    ensures { fields_of result ≡ item_fields (view item.entry) }
+{
+    match item {
+        Item::Fixed(argument) => of_argument(FIXED, &[], argument),
+        Item::Element(value) => of_element(ELEMENT, &[], value),
+        Item::NamedCount(count) => of_count(count),
+        Item::Named(member, name, argument) => {
+            of_argument(member_kind(member), name.as_bytes(), argument)
+        }
+    }
+}
