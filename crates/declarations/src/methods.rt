@@ -74,8 +74,7 @@ pub fn write_method<S: ReadCells, W: fmt::Write>(
 ) -> Result<(), TextError>
     requires first { 1 ≤ row }
     requires last { row ≤ S.row_count source.now MethodDef }
-    ensures text { (model : Metadata) → S.shows source.now model → (method : Method) → cell_in model MethodDef row 4 ≡ Sig (method_body method)
-        → OnOk result (Wrote W.write_str_gives out.old (IsDeclaration model row method) out.new) }
+    ensures text { (model : Metadata) → S.shows source.now model → (method : Method) → cell_in model MethodDef row 4 ≡ Sig (method_body method) → OnOk result (Wrote W.write_str_gives out.old (IsDeclaration model row method) out.new) }
 {
     write_method_within(alloc, source, row, &NoLimit, out)
 }

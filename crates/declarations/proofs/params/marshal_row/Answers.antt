@@ -1,12 +1,9 @@
-use Rattle.std.proofs.Common.{◌≡◌, IfSome, Some, Option, ℕ, subst}
+use Rattle.std.proofs.Common.{IfSome, subst}
 use Rattle.std.proofs.Math.Logic.{∥∥₁_elim, ∥∥₁_map}
 use Rattle.std.proofs.Props.{props}
 use Rattle.table_schema.specs.declared.table.TableId.TheVariants.{FieldMarshal}
 use Rattle.metadata.specs.Metadata.{Metadata}
 use Rattle.metadata.specs.Model.{IsModel}
-use Rattle.navigation.specs.declared.links.Link.TheVariants as link
-use Rattle.navigation.specs.Linked.{first_linked}
-use Rattle.declarations.specs.Declarations.{param_token}
 use Rattle.declarations.proofs.MarshalLemmas.{first_there}
 use Rattle.declarations.proofs.params.marshal_row.Goals as goal
 
