@@ -1,0 +1,3 @@
+mod OwnerLemmas
+mod TypeLemmas
+mod ResultLemmas
