@@ -4,7 +4,7 @@ use Rattle.std.specs.List.{filter}
 use Rattle.table_schema.specs.declared.token.Token.{Token}
 use Rattle.metadata.specs.Metadata.{Metadata}
 use Rattle.visible_rows.specs.Visible.{is_visible}
-use Rattle.visible_rows.specs.declared.rows.VisibleRows.{VisibleRows}
+use Rattle.visible_rows.specs.declared.visible.VisibleRows.{VisibleRows}
 use Rattle.cli_outline.specs.declared.source.OutlineOptions.{OutlineOptions}
 use Rattle.cli_outline.specs.declared.source.Rows.{Rows}
 use Rattle.cli_outline.specs.declared.source.Rows.TheVariants.{All, Visible}

@@ -1,3 +1,5 @@
+pub mod OuterLemmas
 mod OwnerLemmas
-mod TypeLemmas
 mod ResultLemmas
+mod TargetLemmas
+mod TypeLemmas

@@ -1,5 +1,5 @@
 -- What is visible outside of an assembly (ECMA-335 II.22 and II.23.1).
-use Rattle.std.specs.Prelude.{◌≡◌, ◌==◌, ◌&&◌, ◌||◌, ℕ, zero, suc, ◌+◌, ◌<◌, Bool, true, false, bit_and, nat_le, if◌then◌else◌, List, [], ◌∷◌, length, map, slice_index, Option, None, Some}
+use Rattle.std.specs.Prelude.{◌≡◌, ◌==◌, ◌&&◌, ◌||◌, ℕ, zero, suc, ◌+◌, ◌<◌, Bool, true, false, bit_and, nat_le, if◌then◌else◌, List, [], ◌∷◌, length, map, slice_index_or, Option, None, Some}
 use Rattle.std.specs.List.{list_any, range_with_len}
 use Rattle.table_schema.specs.declared.table.TableId.{TableId}
 use Rattle.table_schema.specs.declared.table.TableId.TheVariants.{TypeDef, Field, MethodDef, Param, Event, Property, MethodSemantics, MethodImpl, ManifestResource, NestedClass}
@@ -111,7 +111,7 @@ is_visible model of = let last = described_last model of in is_visible_row model
 
 -- for each type the type that encloses it
 abbrev pub AreOuters : List ℕ → List ℕ → Type 0
-AreOuters root outers = (model : Metadata) → IsModel root model → (k : ℕ) → k < length outers → slice_index outers k ≡ outer_of model (k + 1)
+AreOuters root outers = (model : Metadata) → IsModel root model → (k : ℕ) → k < length outers → slice_index_or outers k 0 ≡ outer_of model (k + 1)
 
 -- whether each row is visible, from row 0 on, where no type is
 pub record AreVisibleTypes (root : List ℕ) (types : List Bool) : Type 0 where

@@ -14,7 +14,8 @@ mod access;
 mod accessors;
 mod members;
 mod outers;
-mod rows;
+mod targets;
 mod types;
+mod visible;
 
-pub use rows::VisibleRows;
+pub use visible::VisibleRows;

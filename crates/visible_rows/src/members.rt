@@ -1,14 +1,14 @@
 //! The visible fields and methods (II.23.1.5, II.23.1.10), and the accessors whose methods are visible (II.22.28).
 ghost use Rattle.std.specs.Prelude.{◌≡◌, ◌≤◌};
 ghost use Rattle.table_schema.specs.declared.table.TableId.TheVariants.{Field, MethodDef, MethodSemantics};
-ghost use Rattle.metadata.specs.Metadata.{Metadata, cell_in};
+ghost use Rattle.metadata.specs.Metadata.{Metadata};
 ghost use Rattle.metadata.specs.Model.{IsModel};
-ghost use Rattle.metadata.specs.Valid.{row_in};
 ghost use Rattle.opening.specs.Views.{row_count};
 ghost use Rattle.visible_rows.specs.Visible.{AreVisibleTypes, is_visible_accessor, is_visible_field, is_visible_method};
 
 use crate::access::{access, is_open_member};
-use navigation::{Neighbours, ReadMetadata, cells, type_of_field, type_of_method};
+use crate::targets::target;
+use navigation::{Neighbours, ReadMetadata, type_of_field, type_of_method};
 use opening::TableId;
 
 /// The cells of the flags of a field and of a method (II.22.15, II.22.26).
@@ -45,27 +45,20 @@ pub(crate) fn is_visible_method(source: &Neighbours<'_, '_>, types: &[bool], row
     is_open_member(access(source.view, TableId::MethodDef, row, METHOD_FLAGS)) && is_type_visible
 }
 
-/// The method of an accessor.
-#[tactic(auto, unfolding(table_schema::specs::CellColumns::cell_columns))]
-fn method_of(source: &Neighbours<'_, '_>, row: u32) -> u32
-    requires first { 1 ≤ row }
-    requires last { row ≤ row_count source.now.view.now MethodSemantics }
-    ensures value { (model : Metadata) → IsModel source.now.view.now model → result ≡ row_in (cell_in model MethodSemantics row 1) }
-    ensures first { 1 ≤ result }
-    ensures last { result ≤ row_count source.now.view.now MethodDef }
-{
-    match cells::reference(source.view, TableId::MethodSemantics, row, METHOD) {
-        Some(method) => method.row,
-        None => unreachable!(),
-    }
-}
-
 /// Whether the method of an accessor is visible.
+#[tactic(auto, unfolding(table_schema::specs::CellColumns::cell_columns))]
 pub(crate) fn is_visible_accessor(source: &Neighbours<'_, '_>, types: &[bool], row: u32) -> bool
     requires first { 1 ≤ row }
     requires last { row ≤ row_count source.now.view.now MethodSemantics }
     requires types { AreVisibleTypes source.now.view.now types.now }
     ensures { (model : Metadata) → IsModel source.now.view.now model → result ≡ is_visible_accessor model row }
 {
-    is_visible_method(source, types, method_of(source, row))
+    let method = target(
+        source.view,
+        TableId::MethodDef,
+        TableId::MethodSemantics,
+        row,
+        METHOD,
+    );
+    is_visible_method(source, types, method)
 }

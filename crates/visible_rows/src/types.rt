@@ -33,6 +33,7 @@ fn is_visible_type(view: &View<'_>, outer: u32, earlier: &[bool], row: u32) -> b
     ensures { (model : Metadata) → IsModel view.now model → outer ≡ outer_of model row → earlier.now ≡ map (is_visible_type model) (range_with_len 0 row)
         → result ≡ is_visible_type model row }
 {
+    metadata::laws::models_of_roots_are_valid();
     let access = access(view, TableId::TypeDef, row, FLAGS);
     is_public(access) || is_open_nested(access) && is_known(earlier, outer)
 }

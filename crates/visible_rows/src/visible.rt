@@ -69,6 +69,7 @@ impl<'v, 'a> VisibleRows<'v, 'a> {
         requires same { source.now.view.now ≡ self.now.view.now }
         ensures { (model : Metadata) → IsModel self.now.view.now model → result ≡ is_visible_row model of.table of.row }
     {
+        metadata::laws::models_of_roots_are_valid();
         let types = &self.types;
         match of.table {
             TableId::TypeDef => types[of.row as usize],
