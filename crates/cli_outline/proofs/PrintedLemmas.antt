@@ -67,7 +67,15 @@ module _ {W : Type 0} (options : OutlineOptions) (model : Metadata) where
 
   -- a row without a line
   pub row_hidden : (a : Printed W) (row : Token) → is_shown options model row ≡ false → PrintsRows options model a a [] → PrintsRows options model a a (row ∷ [])
-  row_hidden a row hidden none = record none { whole = ap (λ (shows : Bool). cond shows (row ∷ []) []) hidden ∙ none.whole }
+  row_hidden a row hidden none = record {
+    first = none.first;
+    later = none.later;
+    whole = ap (λ (shows : Bool). cond shows (row ∷ []) []) hidden ∙ none.whole;
+    lines = none.lines;
+    are = none.are;
+    printed = none.printed;
+    all = none.all;
+  }
 
   pub rows_failed : (a b : Printed W) (rows : List Token) → Prints a b [] → b.waiting ≡ None → PrintsRows options model a b rows
   rows_failed a b rows printed failed = record {

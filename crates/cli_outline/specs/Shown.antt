@@ -1,5 +1,5 @@
 -- Which rows have a line.
-use Rattle.std.specs.Prelude.{◌≡◌, ℕ, Bool, true, List, Option, None, Some}
+use Rattle.std.specs.Prelude.{Bool, true, List, Option, None, Some}
 use Rattle.std.specs.List.{filter}
 use Rattle.table_schema.specs.declared.token.Token.{Token}
 use Rattle.metadata.specs.Metadata.{Metadata}
@@ -21,8 +21,7 @@ is_shown options model of = is_among options.rows model of
 abbrev pub shown_rows : OutlineOptions → Metadata → List Token → List Token
 shown_rows options model rows = filter (is_shown options model) rows
 
--- the visible rows of a view are known if only these are asked for
-abbrev pub AreKnown : List ℕ → Rows → Option VisibleRows → Type 0
-AreKnown root All None = Unit {0}
-AreKnown root Visible (Some rows) = rows.view.now ≡ root
-AreKnown root _ _ = ⊥
+-- the rows that are asked for, by whether the visible ones are known
+abbrev pub asked : Option VisibleRows → Rows
+asked None = All
+asked (Some rows) = Visible

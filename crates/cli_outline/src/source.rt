@@ -1,6 +1,7 @@
 //! What an outline is printed from, and what is shown of it.
-ghost use Rattle.std.specs.Prelude.{IfOk};
-ghost use Rattle.cli_outline.specs.Shown.{AreKnown};
+ghost use Rattle.std.proofs.Props.{props};
+ghost use Rattle.std.specs.Prelude.{◌≡◌, IfOk, IfSome};
+ghost use Rattle.cli_outline.specs.Shown.{asked};
 
 use navigation::Neighbours;
 use opening::{Token, View};
@@ -45,7 +46,8 @@ pub(crate) struct Source<'v, 'a> {
     pub(crate) options: OutlineOptions,
     /// The rows that are visible outside of the assembly, unless all rows are shown.
     visible: Option<VisibleRows<'v, 'a>>,
-    ghost known: { AreKnown neighbours.view.now options.rows visible },
+    ghost same_view: { IfSome visible (λ rows. rows.view.now ≡ neighbours.view.now) } by { Prim.hlevel props },
+    ghost asked: { options.rows ≡ asked visible },
 }
 
 /// The visible rows of a view, if only these are shown.
@@ -58,7 +60,8 @@ fn known_rows<'v, 'a>(
     neighbours: &Neighbours<'v, 'a>,
     rows: Rows,
 ) -> Result<Option<VisibleRows<'v, 'a>>, AllocError>
-    ensures { IfOk result (AreKnown neighbours.now.view.now rows) }
+    ensures view { IfOk result (λ visible. IfSome visible (λ known. known.view.now ≡ neighbours.now.view.now)) }
+    ensures asked { IfOk result (λ visible. rows ≡ asked visible) }
 {
     match rows {
         Rows::All => Ok(None),
