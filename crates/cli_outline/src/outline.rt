@@ -28,7 +28,7 @@ use std::alloc::Global;
 use std::io::Write;
 use std::ops::Range;
 
-/// Prints the line of a row. The type of a member is given, or found by binary search.
+/// Prints the line of a row, if it has one. The type of a member is given, or found by binary search.
 pub(crate) fn print_row<W: Write>(
     source: &Source<'_, '_>,
     owner: Option<Token>,
@@ -41,6 +41,10 @@ pub(crate) fn print_row<W: Write>(
     requires member { (class : TheToken) → owner ≡ Some class → (model : Metadata) → IsModel source.now.neighbours.view.now model → IsMemberOf model token.table token.row owner }
     ensures { (model : Metadata) → IsModel source.now.neighbours.view.now model → PrintsRows source.now.options model out.old out.new (row_of token.table token.row) }
 {
+    rows_follow::<W>();
+    if !source.shows(token) {
+        return;
+    }
     match owner {
         Some(class) => print_line(source, Some(class), token, declared, out),
         None => print_line(

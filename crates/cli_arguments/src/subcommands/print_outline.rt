@@ -13,6 +13,7 @@ pub(crate) const USAGE: Usage<'static> = Usage {
         RECURSIVE,
         JSON,
         argument!["no-tokens" Flag "Leave the comment with the token away"],
+        argument!["public" Flag "Print only what is visible outside of the assembly"],
     ],
     output: "\
 Prints a line for each declaration, in a notation close to ILAsm (ECMA-335, II.5
@@ -58,6 +59,16 @@ instead.
 
 '--no-tokens' leaves the comment with the token away, so that 'diff' compares
 the outlines of two versions.
+
+'--public' prints only what is visible outside of the assembly: public types;
+nested types that are public, family, or family or assembly, in visible types;
+fields and methods of visible types with such an access; events and properties
+with a visible accessor; and public resources. Accessors, interfaces, generic
+parameters, constraints, overrides, imports, permission sets and attributes are
+printed if what they describe is visible. The assembly, what it refers to, the
+module, files and exported types are printed always. Of a NAME that is not
+visible nothing is printed. With '--no-tokens', 'diff' compares the public
+interfaces of two versions.
 
 '--json' prints a JSON object (RFC 8259) on each line, with the 'token' of the
 row, the 'directive' and the 'text' of the declaration. The directive is its
