@@ -214,6 +214,7 @@ fn last_tables() -> &'static [TableId]
     ensures { result.now ≡ last_tables }
 {
     &[
+        TableId::Param,
         TableId::InterfaceImpl,
         TableId::GenericParam,
         TableId::GenericParamConstraint,
@@ -243,8 +244,8 @@ fn print_all<W: Write>(source: &Source<'_, '_>, declared: &mut Declared, out: &m
 ///
 /// First come the assembly, the references to others, the module, files, resources and exported types. Then come the types
 /// in the order of their rows, each with its fields, methods, events and properties below it. Below an event and a
-/// property come its accessors. Then come the rows of other tables, such as the interfaces of types. EventMap, PropertyMap
-/// and MethodSemantics may be in any order: their rows are sorted once.
+/// property come its accessors. Then come the rows of other tables, such as the parameters with default values and the
+/// interfaces of types. EventMap, PropertyMap and MethodSemantics may be in any order: their rows are sorted once.
 ///
 /// Its time is that of the lines, of the blobs in them, and at most log n for each name of a type and each row of these
 /// three tables. A name has the types that enclose it, at most 64, each found by binary search. If NestedClass is not in

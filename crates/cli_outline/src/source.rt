@@ -3,8 +3,8 @@ ghost use Rattle.std.proofs.Props.{props};
 ghost use Rattle.std.specs.Prelude.{◌≡◌, IfOk, IfSome};
 ghost use Rattle.cli_outline.specs.Shown.{asked};
 
-use navigation::Neighbours;
-use opening::{Token, View};
+use navigation::{Link, Neighbours};
+use opening::{TableId, Token, View};
 use std::alloc::{AllocError, Global};
 use visible_rows::VisibleRows;
 
@@ -74,7 +74,7 @@ impl<'v, 'a> Source<'v, 'a> {
     ghost use Rattle.metadata.specs.Metadata.{Metadata};
     ghost use Rattle.metadata.specs.Model.{IsModel};
     ghost use Rattle.opening.specs.Views.{row_count};
-    ghost use Rattle.cli_outline.specs.Shown.{is_shown};
+    ghost use Rattle.cli_outline.specs.Shown.{has_line, is_among, is_shown};
 
     /// What the outline of a view is printed from.
     ///
@@ -98,15 +98,41 @@ impl<'v, 'a> Source<'v, 'a> {
         })
     }
 
+    /// Whether a row has a line of its own: of parameters only those with a default value (II.22.9).
+    fn has_line(&self, token: Token) -> bool
+        requires { token.row ≤ row_count self.now.neighbours.view.now token.table }
+        ensures { (model : Metadata) → IsModel self.now.neighbours.view.now model → result ≡ has_line model token.table token.row }
+    {
+        match token.table {
+            TableId::Param => {
+                // The table has at most 0xFFFFFF rows.
+                let _count = self.neighbours.view.count(TableId::Param);
+                self.neighbours
+                    .first_linked(Link::Constants, token)
+                    .is_some()
+            }
+            _ => true,
+        }
+    }
+
+    /// Whether a row is among those that are asked for.
+    fn asks_for(&self, token: Token) -> bool
+        requires first { 1 ≤ token.row }
+        requires last { token.row ≤ row_count self.now.neighbours.view.now token.table }
+        ensures { (model : Metadata) → IsModel self.now.neighbours.view.now model → result ≡ is_among self.now.options.rows model token }
+    {
+        match &self.visible {
+            Some(rows) => rows.is_visible(&self.neighbours, token),
+            None => true,
+        }
+    }
+
     /// Whether a row has a line.
     pub(crate) fn shows(&self, token: Token) -> bool
         requires first { 1 ≤ token.row }
         requires last { token.row ≤ row_count self.now.neighbours.view.now token.table }
         ensures { (model : Metadata) → IsModel self.now.neighbours.view.now model → result ≡ is_shown self.now.options model token }
     {
-        match &self.visible {
-            Some(rows) => rows.is_visible(&self.neighbours, token),
-            None => true,
-        }
+        self.has_line(token) && self.asks_for(token)
     }
 }
