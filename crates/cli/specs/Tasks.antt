@@ -24,6 +24,8 @@ use Rattle.cli_input.specs.declared.opened.Input.TheVariants.{BareRoot, File}
 use Rattle.cli_lines.specs.declared.parts.Form.{Form}
 use Rattle.cli_lines.specs.declared.parts.Form.TheVariants.{JsonLines, Text}
 use Rattle.cli_outline.specs.declared.source.OutlineOptions.{OutlineOptions}
+use Rattle.cli_outline.specs.declared.source.Rows.{Rows}
+use Rattle.cli_outline.specs.declared.source.Rows.TheVariants as shown
 use Rattle.cli_outline.specs.declared.source.Tokens.{Tokens}
 use Rattle.cli_outline.specs.declared.source.Tokens.TheVariants as tokens
 use Rattle.cli_outline.specs.declared.subject.Subject.{Subject}
@@ -186,13 +188,17 @@ abbrev pub NamesType : List ℕ → Subject → Type 0
 NamesType word (subject.Row row) = IsTypeToken (digits_of word) × (row ≡ digits_value 16 (digits_of word) % 2 ^ 24)
 NamesType word (subject.Path path) = (¬ IsTypeToken (digits_of word)) × (path.now ≡ word)
 
--- what an outline shows, by whether the arguments have `--no-tokens`
+-- what an outline shows, by whether the arguments have `--no-tokens`, and whether they have `--public`
 abbrev pub tokens_of : Bool → Tokens
 tokens_of true = tokens.Hidden
 tokens_of false = tokens.Shown
 
-abbrev pub options_of : Bool → OutlineOptions
-options_of no_tokens = record { tokens = tokens_of no_tokens }
+abbrev pub shown_of : Bool → Rows
+shown_of true = shown.Visible
+shown_of false = shown.All
+
+abbrev pub options_of : Bool → Bool → OutlineOptions
+options_of no_tokens public = record { tokens = tokens_of no_tokens; rows = shown_of public }
 
 -- the report of `outline`: that of the type that the argument names, or of all if there is none
 abbrev pub IsOutline : OutlineOptions → Option (Bor (List ℕ)) → Report → Type 0
@@ -324,7 +330,7 @@ IsTask word.Info ask result = result ≡ report_task ask (Ok report.Info)
 IsTask word.Check ask result = result ≡ report_task ask (Ok (report.Check (verdict_of ask.quiet ask.locates)))
 IsTask word.Show ask result = IsReportTask ask (IsShow ask) result
 IsTask word.Types ask result = result ≡ report_task ask (Ok (report.Listing listing.Types))
-IsTask word.Outline ask result = IsReportTask ask (λ made. IsOkAnd made (IsOutline (options_of ask.no_tokens) ask.part)) result
+IsTask word.Outline ask result = IsReportTask ask (λ made. IsOkAnd made (IsOutline (options_of ask.no_tokens ask.public) ask.part)) result
 IsTask word.Refs ask result = result ≡ report_task ask (Ok (report.Listing listing.Refs))
 IsTask word.Resources ask result = result ≡ resources_task ask
 IsTask word.Strings ask result = result ≡ report_task ask (Ok report.Strings)

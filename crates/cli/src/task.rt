@@ -10,7 +10,7 @@ use cli_input::Input;
 use cli_lines::Form;
 use cli_names::{code_of, offset_of, table_of, token_of, type_row_of};
 use cli_nearest::{nearest_code, nearest_column, nearest_table};
-use cli_outline::{OutlineOptions, Subject, Tokens};
+use cli_outline::{OutlineOptions, Rows, Subject, Tokens};
 use cli_roots::{CompareOptions, EmbedOptions, Output};
 use cli_runs::{Directories, Listing, Naming, Report, Request, Separator, Verdict};
 use embedding::StrongName;
@@ -50,7 +50,7 @@ pub(crate) fn task_of<'a>(alloc: Global, ask: &'a Ask<'a>) -> Result<Task<'a>, F
         Subcommand::Check => on_files(ask, Ok(Report::Check(verdict_of(ask.quiet, ask.locates)))),
         Subcommand::Show => on_files(ask, show_of(alloc, ask)),
         Subcommand::Types => on_files(ask, Ok(Report::Listing(Listing::Types))),
-        Subcommand::Outline => on_files(ask, Ok(outline_of(ask.part, options_of(ask.no_tokens)))),
+        Subcommand::Outline => on_files(ask, Ok(outline_of(ask.part, options_of(ask)))),
         Subcommand::Refs => on_files(ask, Ok(Report::Listing(Listing::Refs))),
         Subcommand::Resources => resources_of(ask),
         Subcommand::Strings => on_files(ask, Ok(Report::Strings)),
@@ -255,15 +255,20 @@ fn table_named<'a>(alloc: Global, part: Option<&'a str>) -> Result<Option<TableI
 }
 
 /// What an outline shows.
-fn options_of(no_tokens: bool) -> OutlineOptions
-    ensures { result ≡ options_of no_tokens }
+fn options_of(ask: &Ask<'_>) -> OutlineOptions
+    ensures { result ≡ options_of ask.now.no_tokens ask.now.public }
 {
-    let tokens = if no_tokens {
+    let tokens = if ask.no_tokens {
         Tokens::Hidden
     } else {
         Tokens::Shown
     };
-    OutlineOptions { tokens }
+    let rows = if ask.public {
+        Rows::Visible
+    } else {
+        Rows::All
+    };
+    OutlineOptions { tokens, rows }
 }
 
 /// The report of `outline`: the type that the argument names, or all if there is no argument.

@@ -80,6 +80,7 @@ fn asked<'a>(
         recursive: flag(given, "recursive"),
         extract: given.get_str("extract"),
         no_tokens: flag(given, "no-tokens"),
+        public: flag(given, "public"),
     })
 }
 

@@ -51,6 +51,8 @@ pub struct Ask<'a> {
     pub extract: Option<&'a str>,
     /// Whether `outline` leaves tokens away.
     pub no_tokens: bool,
+    /// Whether `outline` leaves out what is not visible outside of the assembly.
+    pub public: bool,
 }
 
 /// The subcommands of the program.

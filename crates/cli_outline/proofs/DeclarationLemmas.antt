@@ -1,5 +1,5 @@
 -- The first word of a declaration, and its line in each form.
-use Rattle.std.proofs.Common.{◌≡◌, ◌<◌, ◌≤◌, get_or, Bool, true, false, inl, inr, ℕ, List, length, ltb, lt-ltb, None, Some, sym, arith, [], ◌∷◌, ◌++◌, Option, ap, refl, subst, codes}
+use Rattle.std.proofs.Common.{◌≡◌, ◌<◌, ◌≤◌, get_or, Bool, true, false, inl, inr, ℕ, List, length, ltb, lt-ltb, None, Some, sym, arith, [], ◌∷◌, ◌++◌, Option, refl, subst}
 use Rattle.std.specs.List.{position, position_or_len}
 use Rattle.std.specs.Str.{IsCharBoundary}
 use Rattle.std.proofs.lemmas.Bool.{cases_lt}

@@ -1,7 +1,8 @@
 -- The lines of rows, one after another.
-use Rattle.std.proofs.Common.{◌≡◌, ◌∙◌, ℕ, suc, ◌+◌, ◌-◌, ◌<◌, ◌≤◌, List, [], ◌∷◌, ◌++◌, Option, None, Some, refl, ap, sym, subst, append_assoc, append-nil, add-one, drop, drop-cons, get_or, length, map, arith}
+use Rattle.std.proofs.Common.{◌≡◌, ◌∙◌, Bool, true, false, cond, ℕ, suc, ◌+◌, ◌-◌, ◌<◌, ◌≤◌, List, [], ◌∷◌, ◌++◌, Option, None, Some, refl, ap, sym, subst, append_assoc, append-nil, add-one, drop, drop-cons, get_or, length, map, arith}
 use Rattle.std.specs.Prelude.{IsSome}
 use Rattle.std.proofs.lemmas.List.{drop_all}
+use Rattle.std.proofs.lemmas.List.Elements.{filter-append}
 use Rattle.std.specs.List.{flat_map, range_with_len}
 use Rattle.table_schema.specs.declared.token.Token.{Token}
 use Rattle.metadata.specs.Metadata.{Metadata}
@@ -12,6 +13,7 @@ use Rattle.cli_lines.specs.Printed.{Printed, Prints}
 use Rattle.cli_outline.specs.declared.source.OutlineOptions.{OutlineOptions}
 use Rattle.cli_outline.specs.Outline.{each_from}
 use Rattle.cli_outline.specs.Printed.{AreLines, IsLine, PrintsRows}
+use Rattle.cli_outline.specs.Shown.{is_shown, shown_rows}
 
 lines_append : (options : OutlineOptions) (model : Metadata) (xs ys : List Token) (a b : List (List Part)) → AreLines options model xs a → AreLines options model ys b → AreLines options model (xs ++ ys) (a ++ b)
 lines_append options model [] ys a b are more = subst (λ (lines : List (List Part)). AreLines options model ys (lines ++ b)) (sym are) more
@@ -51,21 +53,34 @@ module _ {W : Type 0} (options : OutlineOptions) (model : Metadata) where
   }
 
   -- the line of a row, or none since printing failed
-  pub row_printed : (a b : Printed W) (row : Token) (line : List Part) → IsLine options model row line → Prints a b (line ∷ []) → PrintsRows options model a b (row ∷ [])
-  row_printed a b row line is printed = record {
+  pub row_printed : (a b : Printed W) (row : Token) (line : List Part) → is_shown options model row ≡ true → IsLine options model row line → Prints a b (line ∷ [])
+      → PrintsRows options model a b (row ∷ [])
+  row_printed a b row line shown is printed = record {
     first = row ∷ [];
     later = [];
-    whole = refl;
+    whole = ap (λ (shows : Bool). cond shows (row ∷ []) []) shown;
     lines = line ∷ [];
     are = (line, is, [], refl, refl);
     printed = printed;
     all = λ some. refl;
   }
 
+  -- a row without a line
+  pub row_hidden : (a : Printed W) (row : Token) → is_shown options model row ≡ false → PrintsRows options model a a [] → PrintsRows options model a a (row ∷ [])
+  row_hidden a row hidden none = record {
+    first = none.first;
+    later = none.later;
+    whole = ap (λ (shows : Bool). cond shows (row ∷ []) []) hidden ∙ none.whole;
+    lines = none.lines;
+    are = none.are;
+    printed = none.printed;
+    all = none.all;
+  }
+
   pub rows_failed : (a b : Printed W) (rows : List Token) → Prints a b [] → b.waiting ≡ None → PrintsRows options model a b rows
   rows_failed a b rows printed failed = record {
     first = [];
-    later = rows;
+    later = shown_rows options model rows;
     whole = refl;
     lines = [];
     are = refl;
@@ -75,13 +90,16 @@ module _ {W : Type 0} (options : OutlineOptions) (model : Metadata) where
 
   module _ (joined : (a b c : Printed W) (xs ys : List (List Part)) → Prints a b xs → Prints b c ys → Prints a c (xs ++ ys)) (a b c : Printed W) (xs ys : List Token)
       (prefix : PrintsRows options model a b xs) (back : PrintsRows options model b c ys) where
+    both : shown_rows options model (xs ++ ys) ≡ shown_rows options model xs ++ shown_rows options model ys
+    both = filter-append (is_shown options model) xs ys
+
     after_failure : b.waiting ≡ None → PrintsRows options model a c (xs ++ ys)
     after_failure failed =
         let same = back.printed.same.stays failed in
         record {
           first = prefix.first;
-          later = prefix.later ++ ys;
-          whole = ap (λ zs. zs ++ ys) prefix.whole ∙ append_assoc prefix.first prefix.later ys;
+          later = prefix.later ++ shown_rows options model ys;
+          whole = both ∙ ap (λ zs. zs ++ shown_rows options model ys) prefix.whole ∙ append_assoc prefix.first prefix.later (shown_rows options model ys);
           lines = prefix.lines;
           are = prefix.are;
           printed = subst (λ (p : Printed W). Prints a p prefix.lines) (sym same) prefix.printed;
@@ -91,11 +109,11 @@ module _ {W : Type 0} (options : OutlineOptions) (model : Metadata) where
     after_all : (bytes : List ℕ) → b.waiting ≡ Some bytes → PrintsRows options model a c (xs ++ ys)
     after_all bytes live =
         let none_left = prefix.all (is_some_of b.waiting bytes live) in
-        let all_first : xs ≡ prefix.first = prefix.whole ∙ ap (λ zs. prefix.first ++ zs) none_left ∙ append-nil prefix.first in
+        let all_first : shown_rows options model xs ≡ prefix.first = prefix.whole ∙ ap (λ zs. prefix.first ++ zs) none_left ∙ append-nil prefix.first in
         record {
           first = prefix.first ++ back.first;
           later = back.later;
-          whole = ap (λ zs. zs ++ ys) all_first ∙ ap (λ zs. prefix.first ++ zs) back.whole ∙ sym (append_assoc prefix.first back.first back.later);
+          whole = both ∙ ap (λ zs. zs ++ shown_rows options model ys) all_first ∙ ap (λ zs. prefix.first ++ zs) back.whole ∙ sym (append_assoc prefix.first back.first back.later);
           lines = prefix.lines ++ back.lines;
           are = lines_append options model prefix.first back.first prefix.lines back.lines prefix.are back.are;
           printed = joined a b c prefix.lines back.lines prefix.printed back.printed;

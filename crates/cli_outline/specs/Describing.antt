@@ -1,4 +1,4 @@
--- The rows that describe a type or what it declares: interfaces, generic parameters and their constraints, overrides, imports,
+-- The rows that describe a type or what it declares: parameters with default values, interfaces, generic parameters and their constraints, overrides, imports,
 -- permission sets and attributes (ECMA-335 II.22).
 use Rattle.std.specs.Prelude.{◌≡◌, ◌≢◌, ◌⊎◌, ℕ, List, [], ◌∷◌, ◌++◌, Option, None, Some}
 use Rattle.std.specs.List.{flat_map}

@@ -3,4 +3,5 @@ pub mod Describing
 pub mod Outline
 pub mod Printed
 pub mod Paths
+pub mod Shown
 pub mod Subjects

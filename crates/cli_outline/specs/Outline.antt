@@ -2,7 +2,7 @@
 use Rattle.std.specs.Prelude.{ℕ, ◌+◌, ◌-◌, nat_le, if◌then◌else◌, List, [], ◌∷◌, ◌++◌}
 use Rattle.std.specs.List.{flat_map, range_with_len}
 use Rattle.table_schema.specs.declared.table.TableId.{TableId}
-use Rattle.table_schema.specs.declared.table.TableId.TheVariants.{Assembly, AssemblyRef, Module, ModuleRef, File, ManifestResource, ExportedType, TypeDef, InterfaceImpl, GenericParam, GenericParamConstraint, MethodImpl, MethodSemantics, ImplMap, DeclSecurity, CustomAttribute, TypeRef, MemberRef}
+use Rattle.table_schema.specs.declared.table.TableId.TheVariants.{Assembly, AssemblyRef, Module, ModuleRef, File, ManifestResource, ExportedType, TypeDef, InterfaceImpl, GenericParam, GenericParamConstraint, MethodImpl, MethodSemantics, ImplMap, DeclSecurity, CustomAttribute, TypeRef, MemberRef, Param}
 use Rattle.table_schema.specs.declared.token.Token.{Token}
 use Rattle.metadata.specs.Metadata.{Metadata, cell_in, count_in}
 use Rattle.metadata.specs.Valid.{start_in}
@@ -81,7 +81,7 @@ first_tables = Assembly ∷ AssemblyRef ∷ Module ∷ ModuleRef ∷ File ∷ Ma
 
 -- the tables whose rows come after the types
 unfoldable pub last_tables : List TableId
-last_tables = InterfaceImpl ∷ GenericParam ∷ GenericParamConstraint ∷ MethodImpl ∷ ImplMap ∷ DeclSecurity ∷ CustomAttribute ∷ []
+last_tables = Param ∷ InterfaceImpl ∷ GenericParam ∷ GenericParamConstraint ∷ MethodImpl ∷ ImplMap ∷ DeclSecurity ∷ CustomAttribute ∷ []
 
 -- the rows that have a line, in the order of the lines
 unfoldable pub outline_rows : Metadata → List Token

@@ -7,6 +7,7 @@ use Rattle.cli_lines.specs.Lines.{Part}
 use Rattle.cli_lines.specs.Printed.{Printed, Prints}
 use Rattle.cli_outline.specs.declared.source.OutlineOptions.{OutlineOptions}
 use Rattle.cli_outline.specs.Declarations.{declaration_line, has_directive}
+use Rattle.cli_outline.specs.Shown.{shown_rows}
 use Rattle.cli_declarations.specs.Layouts.{IsDeclared}
 
 -- the line of a row
@@ -21,11 +22,11 @@ AreLines options model [] lines = lines ≡ []
 AreLines options model (row ∷ rows) lines = (line : List Part) × IsLine options model row line × (later : List (List Part)) × AreLines options model rows later × (lines ≡ line ∷ later)
 
 module _ {W : Type 0} where
-  -- the lines of the first rows were printed: of all rows, unless printing failed
+  -- of the rows that have a line those of the first were printed: of all, unless printing failed
   pub record PrintsRows (options : OutlineOptions) (model : Metadata) (old new : Printed W) (rows : List Token) : Type 0 where
     pub first : List Token
     pub later : List Token
-    pub whole : rows ≡ first ++ later
+    pub whole : shown_rows options model rows ≡ first ++ later
     pub lines : List (List Part)
     pub are : AreLines options model first lines
     pub printed : Prints old new lines

@@ -2,7 +2,7 @@
 //!
 //! [`print_outline`] prints the outline of a view, [`print_outline_of`] that of one type, and [`print_refs`] what a view
 //! refers to in other modules. [`OutlineOptions`] says what is shown. `specs/Outline.antt` says which
-//! rows have a line, and in which order. `specs/Layouts.antt` says what the declaration of a row is, as a list of parts,
+//! rows can have a line, and in which order, and `specs/Shown.antt` which of them have one. `specs/Layouts.antt` says what the declaration of a row is, as a list of parts,
 //! `specs/Parts.antt` what the text of a part is, and `specs/Declarations.antt` what the line of a declaration is. It is
 //! proved that these lines are printed and nothing else.
 //!
@@ -25,5 +25,5 @@ mod source;
 mod subject;
 
 pub use outline::{print_outline, print_outline_of, print_refs};
-pub use source::{OutlineOptions, Tokens};
+pub use source::{OutlineOptions, Rows, Tokens};
 pub use subject::{Outcome, Subject};

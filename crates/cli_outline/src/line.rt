@@ -1,5 +1,5 @@
 //! The line of a declaration.
-ghost use Rattle.std.specs.Prelude.{◌≡◌, ◌≤◌, ◌∷◌, [], string_bytes};
+ghost use Rattle.std.specs.Prelude.{◌≡◌, ◌≤◌, ◌∷◌, [], string_bytes, true};
 ghost use Rattle.std.specs.List.{before_first, position};
 ghost use Rattle.metadata.specs.Metadata.{Metadata};
 ghost use Rattle.metadata.specs.Model.{IsModel};
@@ -10,6 +10,7 @@ ghost use Rattle.cli_lines.specs.Shown.{shown};
 ghost use Rattle.full_names.specs.RowNames.{IsMemberOf};
 ghost use Rattle.cli_outline.specs.Declarations.{comment_mark, comment_token, declaration_line, directive_part, ends_word, has_directive, json_line, text_line, type_part};
 ghost use Rattle.cli_outline.specs.Printed.{PrintsRows};
+ghost use Rattle.cli_outline.specs.Shown.{is_shown};
 ghost use Rattle.cli_outline.specs.declared.source.Tokens.{Tokens as TheTokens};
 
 use crate::source::{Source, Tokens};
@@ -158,6 +159,7 @@ pub(crate) fn print_line<W: Write>(
     requires first { 1 ≤ token.row }
     requires last { token.row ≤ row_count source.now.neighbours.view.now token.table }
     requires member { (model : Metadata) → IsModel source.now.neighbours.view.now model → IsMemberOf model token.table token.row class }
+    requires shown { (model : Metadata) → IsModel source.now.neighbours.view.now model → is_shown source.now.options model token ≡ true }
     ensures { (model : Metadata) → IsModel source.now.neighbours.view.now model → PrintsRows source.now.options model out.old out.new (token ∷ []) }
 {
     match declare(&source.neighbours, token, declared) {

@@ -28,7 +28,7 @@ use std::alloc::Global;
 use std::io::Write;
 use std::ops::Range;
 
-/// Prints the line of a row. The type of a member is given, or found by binary search.
+/// Prints the line of a row, if it has one. The type of a member is given, or found by binary search.
 pub(crate) fn print_row<W: Write>(
     source: &Source<'_, '_>,
     owner: Option<Token>,
@@ -41,6 +41,10 @@ pub(crate) fn print_row<W: Write>(
     requires member { (class : TheToken) → owner ≡ Some class → (model : Metadata) → IsModel source.now.neighbours.view.now model → IsMemberOf model token.table token.row owner }
     ensures { (model : Metadata) → IsModel source.now.neighbours.view.now model → PrintsRows source.now.options model out.old out.new (row_of token.table token.row) }
 {
+    rows_follow::<W>();
+    if !source.shows(token) {
+        return;
+    }
     match owner {
         Some(class) => print_line(source, Some(class), token, declared, out),
         None => print_line(
@@ -210,6 +214,7 @@ fn last_tables() -> &'static [TableId]
     ensures { result.now ≡ last_tables }
 {
     &[
+        TableId::Param,
         TableId::InterfaceImpl,
         TableId::GenericParam,
         TableId::GenericParamConstraint,
@@ -239,8 +244,8 @@ fn print_all<W: Write>(source: &Source<'_, '_>, declared: &mut Declared, out: &m
 ///
 /// First come the assembly, the references to others, the module, files, resources and exported types. Then come the types
 /// in the order of their rows, each with its fields, methods, events and properties below it. Below an event and a
-/// property come its accessors. Then come the rows of other tables, such as the interfaces of types. EventMap, PropertyMap
-/// and MethodSemantics may be in any order: their rows are sorted once.
+/// property come its accessors. Then come the rows of other tables, such as the parameters with default values and the
+/// interfaces of types. EventMap, PropertyMap and MethodSemantics may be in any order: their rows are sorted once.
 ///
 /// Its time is that of the lines, of the blobs in them, and at most log n for each name of a type and each row of these
 /// three tables. A name has the types that enclose it, at most 64, each found by binary search. If NestedClass is not in

@@ -1,9 +1,12 @@
 //! What an outline is printed from, and what is shown of it.
-ghost use Rattle.std.specs.Prelude.{◌≡◌, IfOk};
+ghost use Rattle.std.proofs.Props.{props};
+ghost use Rattle.std.specs.Prelude.{◌≡◌, IfOk, IfSome};
+ghost use Rattle.cli_outline.specs.Shown.{asked};
 
-use navigation::Neighbours;
-use opening::View;
+use navigation::{Link, Neighbours};
+use opening::{TableId, Token, View};
 use std::alloc::{AllocError, Global};
+use visible_rows::VisibleRows;
 
 /// Whether a line of text ends with the token of its row.
 #[derive(Clone, Copy, Default, PartialEq, Eq)]
@@ -15,11 +18,23 @@ pub enum Tokens {
     Hidden,
 }
 
+/// Which rows have a line.
+#[derive(Clone, Copy, Default, PartialEq, Eq)]
+pub enum Rows {
+    /// All rows.
+    #[default]
+    All,
+    /// Those that are visible outside of the assembly.
+    Visible,
+}
+
 /// What an outline shows.
 #[derive(Clone, Copy, Default, PartialEq, Eq)]
 pub struct OutlineOptions {
     /// Whether lines of text have tokens.
     pub tokens: Tokens,
+    /// Which rows have a line.
+    pub rows: Rows,
 }
 
 /// A view with what finds the neighbours of its rows, and what is shown of it.
@@ -29,10 +44,37 @@ pub(crate) struct Source<'v, 'a> {
     pub(crate) neighbours: Neighbours<'v, 'a>,
     /// What is shown.
     pub(crate) options: OutlineOptions,
+    /// The rows that are visible outside of the assembly, unless all rows are shown.
+    visible: Option<VisibleRows<'v, 'a>>,
+    ghost same_view: { IfSome visible (λ rows. rows.view.now ≡ neighbours.view.now) } by { Prim.hlevel props },
+    ghost asked: { options.rows ≡ asked visible },
+}
+
+/// The visible rows of a view, if only these are shown.
+///
+/// # Errors
+///
+/// Out of memory.
+fn known_rows<'v, 'a>(
+    alloc: Global,
+    neighbours: &Neighbours<'v, 'a>,
+    rows: Rows,
+) -> Result<Option<VisibleRows<'v, 'a>>, AllocError>
+    ensures view { IfOk result (λ visible. IfSome visible (λ known. known.view.now ≡ neighbours.now.view.now)) }
+    ensures asked { IfOk result (λ visible. rows ≡ asked visible) }
+{
+    match rows {
+        Rows::All => Ok(None),
+        Rows::Visible => Ok(Some(VisibleRows::new(alloc, neighbours)?)),
+    }
 }
 
 impl<'v, 'a> Source<'v, 'a> {
-    ghost use Rattle.std.specs.Prelude.{◌≡◌, IfOk};
+    ghost use Rattle.std.specs.Prelude.{◌≡◌, ◌≤◌, IfOk};
+    ghost use Rattle.metadata.specs.Metadata.{Metadata};
+    ghost use Rattle.metadata.specs.Model.{IsModel};
+    ghost use Rattle.opening.specs.Views.{row_count};
+    ghost use Rattle.cli_outline.specs.Shown.{has_line, is_among, is_shown};
 
     /// What the outline of a view is printed from.
     ///
@@ -47,9 +89,50 @@ impl<'v, 'a> Source<'v, 'a> {
         ensures view { IfOk result (λ source. source.neighbours.view.now ≡ view.now) }
         ensures options { IfOk result (λ source. source.options ≡ options) }
     {
+        let neighbours = Neighbours::new(alloc, view)?;
+        let visible = known_rows(alloc, &neighbours, options.rows)?;
         Ok(Source {
-            neighbours: Neighbours::new(alloc, view)?,
+            neighbours,
             options,
+            visible,
         })
+    }
+
+    /// Whether a row has a line of its own: of parameters only those with a default value (II.22.9).
+    fn has_line(&self, token: Token) -> bool
+        requires { token.row ≤ row_count self.now.neighbours.view.now token.table }
+        ensures { (model : Metadata) → IsModel self.now.neighbours.view.now model → result ≡ has_line model token.table token.row }
+    {
+        match token.table {
+            TableId::Param => {
+                // The table has at most 0xFFFFFF rows.
+                let _count = self.neighbours.view.count(TableId::Param);
+                self.neighbours
+                    .first_linked(Link::Constants, token)
+                    .is_some()
+            }
+            _ => true,
+        }
+    }
+
+    /// Whether a row is among those that are asked for.
+    fn asks_for(&self, token: Token) -> bool
+        requires first { 1 ≤ token.row }
+        requires last { token.row ≤ row_count self.now.neighbours.view.now token.table }
+        ensures { (model : Metadata) → IsModel self.now.neighbours.view.now model → result ≡ is_among self.now.options.rows model token }
+    {
+        match &self.visible {
+            Some(rows) => rows.is_visible(&self.neighbours, token),
+            None => true,
+        }
+    }
+
+    /// Whether a row has a line.
+    pub(crate) fn shows(&self, token: Token) -> bool
+        requires first { 1 ≤ token.row }
+        requires last { token.row ≤ row_count self.now.neighbours.view.now token.table }
+        ensures { (model : Metadata) → IsModel self.now.neighbours.view.now model → result ≡ is_shown self.now.options model token }
+    {
+        self.has_line(token) && self.asks_for(token)
     }
 }

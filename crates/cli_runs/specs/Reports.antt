@@ -38,8 +38,10 @@ use Rattle.cli_info.specs.InfoLines.{AreFacts, info_lines}
 use Rattle.cli_outline.specs.Describing.{AreDescribingType}
 use Rattle.cli_outline.specs.Outline.{class_rows, outline_rows, refs_rows}
 use Rattle.cli_outline.specs.Printed.{AreLines}
+use Rattle.cli_outline.specs.Shown.{shown_rows}
 use Rattle.cli_outline.specs.Subjects.{IsSubject}
 use Rattle.cli_outline.specs.declared.source.OutlineOptions.{OutlineOptions}
+use Rattle.cli_outline.specs.declared.source.Rows.TheVariants as rows_of
 use Rattle.cli_outline.specs.declared.source.Tokens.TheVariants.{Shown}
 use Rattle.cli_print.specs.DigestLines.{digest_line}
 use Rattle.cli_print.specs.Explanations.{IsExplanation}
@@ -151,7 +153,7 @@ IsRefused request bytes of stop = ⊥
 
 -- an outline that shows everything
 abbrev pub everything : OutlineOptions
-everything = record { tokens = Shown }
+everything = record { tokens = Shown; rows = rows_of.All }
 
 -- `Out All lines`: these lines went out, and they are all lines of the report if `All` holds
 module _ (Out : Type 0 → List (List Part) → Type 0) where
@@ -159,10 +161,10 @@ module _ (Out : Type 0 → List (List Part) → Type 0) where
   abbrev pub AreOut : List (List Part) → Type 0
   AreOut lines = Out (Unit {0}) lines
 
-  -- the declarations of the first of these rows went out, and they are all if no row follows
+  -- of these rows the declarations of the first that are shown went out, and they are all if no other is shown
   abbrev pub AreDeclared : OutlineOptions → Metadata → List Token → Type 0
   AreDeclared options model rows =
-      (first later : List Token) × (rows ≡ first ++ later) × (lines : List (List Part)) × AreLines options model first lines × Out (later ≡ []) lines
+      (first later : List Token) × (shown_rows options model rows ≡ first ++ later) × (lines : List (List Part)) × AreLines options model first lines × Out (later ≡ []) lines
 
   -- the declarations of a type and its members went out, and those of the rows that describe them; or none, and more are missing
   abbrev pub IsTypeOut : OutlineOptions → Metadata → ℕ → Type 0

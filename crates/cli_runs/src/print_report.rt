@@ -17,7 +17,7 @@ use cli_info::print_info;
 use cli_input::{Input, open};
 use cli_lines::Printer;
 use cli_outline::{
-    Outcome, OutlineOptions, Subject, Tokens, print_outline, print_outline_of, print_refs,
+    Outcome, OutlineOptions, Rows, Subject, Tokens, print_outline, print_outline_of, print_refs,
 };
 use cli_print::{print_digest, print_root, print_root_until_fault, print_types};
 use cli_resources::print_resources;
@@ -109,6 +109,7 @@ fn everything() -> OutlineOptions
 {
     OutlineOptions {
         tokens: Tokens::Shown,
+        rows: Rows::All,
     }
 }
 

@@ -3,7 +3,7 @@ ghost use Rattle.std.specs.Prelude.{◌≡◌, ◌≤◌, IfSome};
 ghost use Rattle.metadata.specs.Metadata.{Metadata};
 ghost use Rattle.metadata.specs.Model.{IsModel};
 ghost use Rattle.opening.specs.Views.{row_count};
-ghost use Rattle.declaring_types.specs.Declaring.{described, subject_of};
+ghost use Rattle.declaring_types.specs.Declaring.{described, described_last, subject_of};
 
 use navigation::cells;
 use opening::{TableId, Token, View};
@@ -52,7 +52,7 @@ fn subject_of(view: &View<'_>, of: Token) -> Option<Token>
 }
 
 /// The row that a row describes, or the row itself.
-pub(crate) fn described(view: &View<'_>, of: Token) -> Token
+fn described(view: &View<'_>, of: Token) -> Token
     requires first { 1 ≤ of.row }
     requires last { of.row ≤ row_count view.now of.table }
     ensures value { (model : Metadata) → IsModel view.now model → result ≡ described model of }
@@ -63,4 +63,20 @@ pub(crate) fn described(view: &View<'_>, of: Token) -> Token
         Some(subject) => subject,
         None => of,
     }
+}
+
+/// The row that a row describes in the end; a row that describes no other is itself. An attribute can describe a constraint, which
+/// describes a generic parameter, which describes a type or a method.
+///
+/// It takes at most three references.
+pub fn described_last(view: &View<'_>, of: Token) -> Token
+    requires first { 1 ≤ of.row }
+    requires last { of.row ≤ row_count view.now of.table }
+    ensures value { (model : Metadata) → IsModel view.now model → result ≡ described_last model of }
+    ensures first { 1 ≤ result.row }
+    ensures last { result.row ≤ row_count view.now result.table }
+{
+    let subject = described(view, of);
+    let outer = described(view, subject);
+    described(view, outer)
 }

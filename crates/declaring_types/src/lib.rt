@@ -1,8 +1,8 @@
 //! The type that declares what a row describes (ECMA-335 II.22).
 //!
 //! An attribute describes a type, a member of one, a parameter of a method, or what in turn describes one of these; an
-//! interface, a generic parameter, a constraint, an override, an import and a permission set do, too. [`declaring_type`] finds
-//! the type. Nothing here allocates.
+//! interface, a generic parameter, a constraint, an override, an import and a permission set do, too. [`described_last`] finds what
+//! that is in the end, and [`declaring_type`] its type. Nothing here allocates.
 //!
 //! ```text
 //! let attribute = Token { table: TableId::CustomAttribute, row: 1 };
@@ -13,4 +13,5 @@
 mod described;
 mod part;
 
+pub use described::described_last;
 pub use part::declaring_type;

@@ -8,7 +8,7 @@ ghost use Rattle.navigation.specs.Owners.{Owns};
 ghost use Rattle.opening.specs.Views.{row_count};
 ghost use Rattle.declaring_types.specs.Declaring.{IsDeclaring, IsPartOf};
 
-use crate::described::described;
+use crate::described::described_last;
 use full_names::type_of_member;
 use navigation::{Neighbours, method_of_param};
 use opening::{TableId, Token};
@@ -50,8 +50,5 @@ pub fn declaring_type(source: &Neighbours<'_, '_>, of: Token) -> Option<Token>
     requires last { of.row ≤ row_count source.now.view.now of.table }
     ensures { (model : Metadata) → IsModel source.now.view.now model → IsDeclaring model of result }
 {
-    let view = source.view;
-    let subject = described(view, of);
-    let outer = described(view, subject);
-    part_of(source, described(view, outer))
+    part_of(source, described_last(source.view, of))
 }

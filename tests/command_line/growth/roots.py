@@ -11,6 +11,8 @@ INT32 = b"\x08"
 SHORTEST, LONGER = b"\x13\0", b"\x13\x80\0"
 # Signatures of a field and a property of int32, and of a method without parameters that returns nothing, each as a blob.
 FIELD, PROPERTY, METHOD = (blob_of(it) for it in (b"\x06\x08", b"\x08\0\x08", b"\0\0\x01"))
+# Flags of types and methods (II.23.1.10, II.23.1.15).
+PUBLIC, NESTED_PUBLIC, PUBLIC_METHOD = 1, 2, 6
 # The number of types of one name that are looked up.
 DEPTH = 64
 # The bytes of the longest public key whose token is printed, of the longest value of an attribute that is read, and of the
@@ -32,12 +34,12 @@ def heap(*contents):
     return b"\0" + b"".join(contents)
 
 
-def type_row(name=1, namespace=0, extends=0, fields=1, methods=1):
-    return (0, name, namespace, extends, fields, methods)
+def type_row(name=1, namespace=0, extends=0, fields=1, methods=1, flags=0):
+    return (flags, name, namespace, extends, fields, methods)
 
 
-def method_row(name=1, signature=1, params=1):
-    return (0, 0, 0, name, signature, params)
+def method_row(name=1, signature=1, params=1, flags=0):
+    return (0, 0, flags, name, signature, params)
 
 
 def reference_row(key=0, name=1, culture=0, digest=0):
@@ -463,6 +465,27 @@ def attributes_of_one_type(size):
     return attributes_of(size, lambda count: [1] * count)
 
 
+def attributes_of_one_property(size):
+    """Attributes of a property, and accessors of it, whose method is in a type that is not public."""
+    count = size // 20
+    property, method = coded("HasCustomAttribute", "Property", 1), coded("CustomAttributeType", "MethodDef", 1)
+    rows = {"TypeDef": [type_row()], "MethodDef": [method_row(flags=PUBLIC_METHOD)], "PropertyMap": [(1, 1)], "Property": [(0, 1, 1 + len(METHOD))]}
+    rows["MethodSemantics"] = [(2, 1, coded("HasSemantics", "Property", 1))] * count
+    rows["CustomAttribute"] = [(property, method, 1 + len(METHOD) + len(PROPERTY))] * count
+    return Root(rows, b"\0a\0", heap(METHOD, PROPERTY, blob_of(b"\1\0\0")))
+
+
+def attributes_of_parameters(size):
+    """Parameters of methods of types, one of each, and an attribute of each parameter."""
+    count = size // 46
+    parameters = [coded("HasCustomAttribute", "Param", it) for it in mixed(count)]
+    rows = {"TypeDef": [type_row(methods=it, flags=PUBLIC) for it in range(1, count + 1)]}
+    rows["MethodDef"] = [method_row(params=it, flags=PUBLIC_METHOD) for it in range(1, count + 1)]
+    rows["Param"] = [(0, 1, 1)] * count
+    rows["CustomAttribute"] = [(it, coded("CustomAttributeType", "MethodDef", 1), 1 + len(METHOD)) for it in parameters]
+    return Root(rows, b"\0a\0", heap(METHOD, blob_of(b"\1\0\0")))
+
+
 def overrides_of_one_type(size):
     method = coded("MethodDefOrRef", "MethodDef", 1)
     rows = {"TypeDef": [type_row()], "MethodDef": [method_row()], "MethodImpl": [(1, method, method)] * (size // 6)}
@@ -505,6 +528,19 @@ def one_chain_of_nested_types(size):
     count = size // 28
     nested = [(number, number - 1) for number in range(2, count + 1)]
     return Root({"TypeDef": [type_row()] * count, "NestedClass": nested}, b"\0a\0", in_order=("NestedClass",))
+
+
+def one_chain_of_visible_types(size):
+    """The same: the first is public, and the others are nested public. The rows of NestedClass are in descending order."""
+    count = size // 28
+    rows = {"TypeDef": [type_row(flags=PUBLIC)] + [type_row(flags=NESTED_PUBLIC)] * (count - 1)}
+    rows["NestedClass"] = [(number, number - 1) for number in range(count, 1, -1)]
+    return Root(rows, b"\0a\0")
+
+
+def nestings_of_one_type(size):
+    """Rows of NestedClass that all nest one type."""
+    return Root({"TypeDef": [type_row(flags=PUBLIC), type_row(flags=NESTED_PUBLIC)], "NestedClass": [(2, 1)] * (size // 4)}, b"\0a\0")
 
 
 def fields_of_a_nested_type(size):

@@ -13,6 +13,7 @@ pub(crate) const USAGE: Usage<'static> = Usage {
         RECURSIVE,
         JSON,
         argument!["no-tokens" Flag "Leave the comment with the token away"],
+        argument!["public" Flag "Print only what is visible outside of the assembly"],
     ],
     output: "\
 Prints a line for each declaration, in a notation close to ILAsm (ECMA-335, II.5
@@ -20,15 +21,15 @@ to II.22). A line ends with the token of its row in a comment. First come the
 assembly, what it refers to, the module, files, resources and exported types.
 Then come the types in the order of their rows, each with its fields, methods,
 events and properties, and accessors below these. A nested type has the path of
-its outer types only if the rows of NestedClass are in order. Last come
-interfaces, generic parameters and their constraints, overrides, imports,
-permission sets and custom attributes, table by table. A name that is no
-identifier is in single quotes, with '\\xNN' for bytes that cannot stand there.
-A type has its layout; a field has its offset, the bytes of its marshalling, its
-constant and the address of its data. The value of an attribute has its
-arguments if their types are known, and its bytes otherwise. Names, signatures
-and values longer than 65,536 bytes are cut and end in '..'. FILE is checked
-first, as by 'clim check'.
+its outer types only if the rows of NestedClass are in order. Last come default
+values of parameters, interfaces, generic parameters and their constraints,
+overrides, imports, permission sets and custom attributes, table by table. A
+name that is no identifier is in single quotes, with '\\xNN' for bytes that
+cannot stand there. A type has its layout; a field has its offset, its
+marshalling, its constant and the address of its data. The value of an attribute
+has its arguments if their types are known, and its bytes otherwise. Names,
+signatures and values longer than 65,536 bytes are cut and end in '..'. FILE is
+checked first, as by 'clim check'.
 
 In a UTF-8 locale (LC_ALL, LC_CTYPE or LANG), visible characters beyond ASCII
 are printed as they are; all else that is not printable ASCII is escaped.
@@ -50,14 +51,24 @@ several types have the same full name, the first one is printed. If no type has
 it, a NAME without a dot or a slash stands for the only type of this name, in
 any namespace or type. Eight hexadecimal digits that begin with 02 are a token
 instead. Only that type, its fields, methods, events and properties are printed,
-and then the interfaces, generic parameters, constraints, overrides, imports,
-permission sets and attributes of these and of the methods' parameters. If FILE
-has no such type, 'no such type' is written to standard error, and the exit
-status is 1. If several types have the name, the first 20 of them are listed
-instead.
+and then the default values of parameters, interfaces, generic parameters,
+constraints, overrides, imports, permission sets and attributes of these and of
+the methods' parameters. If FILE has no such type, 'no such type' is written to
+standard error, and the exit status is 1. If several types have the name, the
+first 20 of them are listed instead.
 
 '--no-tokens' leaves the comment with the token away, so that 'diff' compares
 the outlines of two versions.
+
+'--public' prints only what is visible outside of the assembly: public types;
+nested types that are public, family, or family or assembly, in visible types;
+fields and methods of visible types with such an access; events and properties
+with a visible accessor; and public resources. Accessors, interfaces, generic
+parameters, constraints, overrides, imports, permission sets and attributes are
+printed if what they describe is visible. The assembly, what it refers to, the
+module, files and exported types are printed always. Of a NAME that is not
+visible nothing is printed. With '--no-tokens', 'diff' compares the public
+interfaces of two versions.
 
 '--json' prints a JSON object (RFC 8259) on each line, with the 'token' of the
 row, the 'directive' and the 'text' of the declaration. The directive is its

@@ -18,4 +18,5 @@ mod several;
 mod terminals;
 mod trees;
 mod until_fault;
+mod visible;
 pub(crate) mod writers;

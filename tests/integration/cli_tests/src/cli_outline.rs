@@ -3,7 +3,7 @@
 use crate::runs::answer;
 use cli_input::{Input, open};
 use cli_lines::{Form, Printer};
-use cli_outline::{OutlineOptions, Tokens, print_outline, print_refs};
+use cli_outline::{OutlineOptions, Rows, Tokens, print_outline, print_refs};
 use sample_roots::RootBuilder;
 use std::alloc::Global;
 use std::fs;
@@ -126,6 +126,7 @@ fn leaves_tokens_out_of_text(rt: HostRuntime) -> Result<(), Fail> {
     let root = root_of_properties(alloc, [[2, 0, 1, 0], [3, 0, 2, 0]], &[GETTER])?;
     let options = OutlineOptions {
         tokens: Tokens::Hidden,
+        rows: Rows::All,
     };
     let whole = outline_of(&rt, root.as_slice())?;
     let mut lines = String::new(alloc);

@@ -38,4 +38,5 @@ returns c = λ words named.
       recursive = c.flag-9.ensures;
       extract = c.get_str-5.ensures ∙ first_value-rows found (codes "extract");
       no_tokens = c.flag-10.ensures;
+      public = c.flag-11.ensures;
     }

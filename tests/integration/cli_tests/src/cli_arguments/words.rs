@@ -846,3 +846,17 @@ fn asks_for_no_tokens(rt: HostRuntime) -> Result<(), Fail> {
     }
     Ok(())
 }
+
+#[test]
+fn asks_for_what_is_visible(rt: HostRuntime) -> Result<(), Fail> {
+    for (words, public, no_tokens) in [
+        (["clim", "outline", "a.dll"].as_slice(), false, false),
+        (&["clim", "outline", "--public", "a.dll"], true, false),
+        (&["clim", "outline", "a.dll", "N.C", "--public", "--no-tokens"], true, true),
+        (&["clim", "outline", "--no-tokens", "--", "a.dll", "--public"], false, true),
+    ] {
+        let asked = ask(rt.alloc(), words)?;
+        assert_eq!(rt; (asked.public, asked.no_tokens), (public, no_tokens));
+    }
+    Ok(())
+}

@@ -1,0 +1,5 @@
+pub mod OuterLemmas
+mod OwnerLemmas
+mod ResultLemmas
+mod TargetLemmas
+mod TypeLemmas

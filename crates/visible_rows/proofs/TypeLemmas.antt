@@ -1,0 +1,82 @@
+-- Types that enclose others, and how deep they are.
+use Rattle.std.proofs.Common.{◌≡◌, ◌∙◌, ◌==◌, ◌&&◌, ◌||◌, ◌≤◌, ◌<◌, ◌+◌, ℕ, zero, suc, List, Bool, true, false, cond, ap, get_or, map, refl, sym, arith}
+use Rattle.std.specs.List.{range_with_len}
+use Rattle.std.proofs.lemmas.Bool.{eqb-true}
+use Rattle.std.proofs.lemmas.List.FromFn.{get_or-map-range_with_len}
+use Rattle.table_schema.specs.declared.table.TableId.TheVariants.{NestedClass, TypeDef}
+use Rattle.metadata.specs.Metadata.{Metadata, cell_in, count_in}
+use Rattle.metadata.specs.Valid.{IsValid, row_in}
+use Rattle.visible_rows.specs.Visible.{access_in, is_open_nested, is_public_type, is_visible_type, is_visible_within, outer_among, outer_of}
+
+module _ (model : Metadata) (valid : IsValid model) where
+  -- the test of a row, and what is found by it
+  by_test : (test : Bool) (nested enclosing class rest : ℕ) → (test ≡ true → nested ≡ class) → enclosing < nested → rest < class → cond test enclosing rest < class
+  by_test true nested enclosing class rest same before less = let e = same refl in omega (arith, e, before)
+  by_test false nested enclosing class rest same before less = less
+
+  among_before : (class : ℕ) → 1 ≤ class → (first count : ℕ) → 1 ≤ first → first + count ≤ count_in model NestedClass + 1
+      → outer_among model (range_with_len first count) class < class
+  among_before class some first zero from within = omega (arith, some)
+  among_before class some first (suc count) from within =
+      let nested = row_in (cell_in model NestedClass first 0) in
+      by_test (nested == class) nested (row_in (cell_in model NestedClass first 1)) class (outer_among model (range_with_len (first + 1) count) class)
+      (λ is. eqb-true nested class is) (valid.nested first (from, omega (arith, within)))
+      (among_before class some (first + 1) count (omega arith) (omega (arith, within)))
+
+  -- a type comes after the one that encloses it
+  pub outer_before : (class : ℕ) → 1 ≤ class → outer_of model class < class
+  outer_before class some = among_before class some 1 (count_in model NestedClass) (omega arith) (omega arith)
+
+  -- more depth than the row of a type changes nothing
+  pub same_within : (depth more class : ℕ) → class ≤ depth → class ≤ more → is_visible_within model depth class ≡ is_visible_within model more class
+  unfolding is_visible_within
+  same_within zero zero class a b = refl
+  same_within zero (suc more) zero a b = refl
+  same_within zero (suc more) (suc before) a b = absurd (omega (arith, a))
+  same_within (suc depth) zero zero a b = refl
+  same_within (suc depth) zero (suc before) a b = absurd (omega (arith, b))
+  same_within (suc depth) (suc more) zero a b = refl
+  same_within (suc depth) (suc more) (suc before) a b =
+      let outer = outer_of model (suc before) in
+      let less = outer_before (suc before) (omega arith) in
+      let access = access_in (cell_in model TypeDef (suc before) 0) in
+      ap (λ (visible : Bool). is_public_type access || (is_open_nested access && visible)) (same_within depth more outer (omega (arith, less, a)) (omega (arith, less, b)))
+
+  -- a type is visible by its access and by the type that encloses it
+  pub visible_type : (class : ℕ) → 1 ≤ class
+      → (is_public_type (access_in (cell_in model TypeDef class 0)) || (is_open_nested (access_in (cell_in model TypeDef class 0)) && is_visible_type model (outer_of model class)))
+      ≡ is_visible_type model class
+  unfolding is_visible_within
+  visible_type zero some = absurd (omega (arith, some))
+  visible_type (suc before) some =
+      let outer = outer_of model (suc before) in
+      let less = outer_before (suc before) some in
+      let access = access_in (cell_in model TypeDef (suc before) 0) in
+      ap (λ (visible : Bool). is_public_type access || (is_open_nested access && visible)) (same_within outer before outer (omega arith) (omega (arith, less)))
+
+  -- the three ways in which the test of a type ends
+  module _ (class access : ℕ) (some : 1 ≤ class) (flags : access ≡ access_in (cell_in model TypeDef class 0)) (public : Bool) (is_public : public ≡ is_public_type access) where
+    rule : (is_public_type access || (is_open_nested access && is_visible_type model (outer_of model class))) ≡ is_visible_type model class
+    rule = ap (λ a. is_public_type a || (is_open_nested a && is_visible_type model (outer_of model class))) flags ∙ visible_type class some
+
+    pub by_public : public ≡ true → public ≡ is_visible_type model class
+    by_public yes_public =
+        yes_public ∙ sym (ap (λ (p : Bool). p || (is_open_nested access && is_visible_type model (outer_of model class))) (sym is_public ∙ yes_public)) ∙ rule
+
+    module _ (not_public : public ≡ false) (nested : Bool) (is_nested : nested ≡ is_open_nested access) where
+      nested_rule : (nested && is_visible_type model (outer_of model class)) ≡ is_visible_type model class
+      nested_rule =
+          ap (λ (n : Bool). n && is_visible_type model (outer_of model class)) is_nested
+          ∙ sym (ap (λ (p : Bool). p || (is_open_nested access && is_visible_type model (outer_of model class))) (sym is_public ∙ not_public)) ∙ rule
+
+      pub by_closed : nested ≡ false → nested ≡ is_visible_type model class
+      by_closed closed = closed ∙ sym (ap (λ (n : Bool). n && is_visible_type model (outer_of model class)) closed) ∙ nested_rule
+
+      pub by_outer : nested ≡ true → (outer : ℕ) (earlier : List Bool) (known : Bool) → outer ≡ outer_of model class
+          → earlier ≡ map (is_visible_type model) (range_with_len 0 class) → known ≡ get_or earlier outer false → known ≡ is_visible_type model class
+      by_outer opens outer earlier known is_outer are is_known =
+          let before = outer_before class some in
+          let at : get_or earlier outer false ≡ is_visible_type model outer =
+          ap (λ (results : List Bool). get_or results outer false) are
+          ∙ get_or-map-range_with_len (is_visible_type model) 0 class outer outer false (omega (arith, before, is_outer)) (omega arith) in
+          is_known ∙ at ∙ ap (is_visible_type model) is_outer ∙ sym (ap (λ (n : Bool). n && is_visible_type model (outer_of model class)) opens) ∙ nested_rule
