@@ -102,14 +102,15 @@ const BYTES: &[&[u8]] = &[
 fn outline_of(rt: &HostRuntime, name: &str, blobs: &[&[u8]]) -> Result<String, Fail> {
     let mut root = RootBuilder::new(rt.alloc());
     root.row(0x02, b"\0\0\0\0\x01\0\0\0\0\0\x01\0\x01\0")?;
+    for _ in blobs {
+        root.row(0x04, b"\x06\x10\x03\0\x01\0")?;
+    }
+    // The type of the fields, and then each blob after its length.
     let mut heap = vec![in rt.alloc(); 0, 2, 6, 8]?;
     for (index, blob) in blobs.iter().enumerate() {
-        // A field of an integer, and its row of FieldMarshal (II.22.15, II.22.17).
-        root.row(0x04, b"\x06\x10\x03\0\x01\0")?;
-        let parent = (2 * (index + 1)) as u32;
-        let at = heap.len() as u32;
-        let [a, b, _, _] = parent.to_le_bytes();
-        let [c, d, _, _] = at.to_le_bytes();
+        // A bit of the parent is 0 for a field (II.24.2.6).
+        let [a, b, _, _] = (2 * (index + 1) as u32).to_le_bytes();
+        let [c, d, _, _] = (heap.len() as u32).to_le_bytes();
         root.row(0x0D, &[a, b, c, d])?;
         let len = blob.len() as u32;
         heap.extend_from_slice(&(0xC000_0000_u32 | len).to_be_bytes())?;
