@@ -2,7 +2,7 @@
 use Rattle.std.proofs.Common.{ℕ, zero, suc, ◌<◌, List, [], ◌∷◌, length, get_or, arith, rules}
 use Rattle.std.specs.Prelude.{⊤}
 use Rattle.table_schema.specs.declared.table.TableId.{TableId}
-use Rattle.table_schema.specs.declared.table.TableId.TheVariants.{Assembly, AssemblyRef, Module, ModuleRef, File, ManifestResource, TypeDef, Field, MethodDef, InterfaceImpl, GenericParam, GenericParamConstraint, ExportedType, MethodImpl, MethodSemantics, Event, Property, ImplMap, DeclSecurity, CustomAttribute, TypeRef, MemberRef}
+use Rattle.table_schema.specs.declared.table.TableId.TheVariants.{Assembly, AssemblyRef, Module, ModuleRef, File, ManifestResource, TypeDef, Field, MethodDef, InterfaceImpl, GenericParam, GenericParamConstraint, ExportedType, MethodImpl, MethodSemantics, Event, Property, ImplMap, DeclSecurity, CustomAttribute, TypeRef, MemberRef, Param}
 use Rattle.table_schema.specs.CellColumns.{cell_columns}
 use Rattle.cli_declarations.specs.Layouts.{parts_of}
 use Rattle.cli_declarations.specs.Parts.{Part}
@@ -37,6 +37,7 @@ parts_within DeclSecurity = search rules
 parts_within CustomAttribute = search rules
 parts_within TypeRef = search rules
 parts_within MemberRef = search rules
+parts_within Param = search rules
 parts_within _ = tt
 
 pub at_index : (table : TableId) (parts : List Part) (i : ℕ) (d : Part) → AllWithin table parts → i < length parts → IsWithin table (get_or parts i d)

@@ -1,7 +1,7 @@
 -- The line of a row of each table, as a list of parts (ECMA-335 II.6 and II.10). A row of another table has no line.
 use Rattle.std.specs.Prelude.{ℕ, List, [], ◌∷◌, codes}
 use Rattle.table_schema.specs.declared.table.TableId.{TableId}
-use Rattle.table_schema.specs.declared.table.TableId.TheVariants.{Assembly, AssemblyRef, Module, ModuleRef, File, ManifestResource, TypeDef, Field, MethodDef, InterfaceImpl, GenericParam, GenericParamConstraint, ExportedType, MethodImpl, MethodSemantics, Event, Property, ImplMap, DeclSecurity, CustomAttribute, TypeRef, MemberRef}
+use Rattle.table_schema.specs.declared.table.TableId.TheVariants.{Assembly, AssemblyRef, Module, ModuleRef, File, ManifestResource, TypeDef, Field, MethodDef, InterfaceImpl, GenericParam, GenericParamConstraint, ExportedType, MethodImpl, MethodSemantics, Event, Property, ImplMap, DeclSecurity, CustomAttribute, TypeRef, MemberRef, Param}
 use Rattle.table_schema.specs.declared.token.Token.{Token}
 use Rattle.metadata.specs.Metadata.{Metadata}
 use Rattle.declarations.specs.declared.flag_words.FlagTable.TheVariants as table
@@ -34,9 +34,11 @@ parts_of TypeDef =
 -- II.16.1, II.22.15
 parts_of Field =
     word (codes "  .field") ∷ linked_by link.FieldOffsets ∷ flags table.Field 0 ∷ linked_by link.Marshalling ∷ word (codes " ") ∷ signature 2 ∷
-    word (codes " ") ∷ text 1 ∷ linked_by link.Constants ∷ linked_by link.FieldData ∷ []
+    word (codes " ") ∷ own_name ∷ linked_by link.Constants ∷ linked_by link.FieldData ∷ []
 -- II.15.4, II.22.26
 parts_of MethodDef = word (codes "  .method") ∷ flags table.Method 2 ∷ word (codes " ") ∷ declaration ∷ flags table.Implementation 1 ∷ []
+-- II.15.4.1.4, II.22.33
+parts_of Param = word (codes ".") ∷ own_reference ∷ linked_by link.Constants ∷ []
 -- II.12.2, II.22.23
 parts_of InterfaceImpl = word (codes ".interfaceimpl type") ∷ name_after (codes " ") 0 ∷ name_after (codes " implements ") 1 ∷ []
 -- II.10.1.7, II.22.20

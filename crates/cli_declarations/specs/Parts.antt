@@ -2,24 +2,30 @@
 use Rattle.std.specs.Prelude.{◌≡◌, ℕ, ◌%◌, ◌==◌, Bool, true, false, nat_lt, if◌then◌else◌, List, [], ◌∷◌, ◌++◌, length, take, codes, count_by, Option, None, Some, ◌⊎◌, nat_le, option_and_then}
 use Rattle.std.specs.Prelude.{decimal as digits}
 use Rattle.table_schema.specs.declared.table.TableId.{TableId}
-use Rattle.table_schema.specs.declared.table.TableId.TheVariants.{MethodDef, Property, Constant, ClassLayout, FieldLayout, FieldRVA, FieldMarshal, AssemblyRef, Event, Field, MemberRef, ModuleRef, TypeDef, CustomAttribute}
+use Rattle.table_schema.specs.declared.table.TableId.TheVariants.{MethodDef, Property, Constant, ClassLayout, FieldLayout, FieldRVA, FieldMarshal, AssemblyRef, Event, Field, MemberRef, ModuleRef, Param, TypeDef, CustomAttribute}
 use Rattle.table_schema.specs.declared.token.Token.{Token}
 use Rattle.table_schema.specs.Tokens.{hexadecimal, token_text}
 use Rattle.sig_grammar.specs.Syntax.{Body, Method, Slot, method_body, property}
 use Rattle.sig_text.specs.Declares.{as_method}
 use Rattle.sig_text.specs.SignatureText.{text_of as pieces_of_signature}
-use Rattle.metadata.specs.Cell.{Cell, Number, Text, Bytes, Guid, Ref, Sig}
+use Rattle.metadata.specs.Cell.{Cell, Number, Text, Bytes, Guid, Sig}
 use Rattle.attribute_values.specs.declared.types.ArgumentType.{ArgumentType}
 use Rattle.attribute_values.specs.Values.{AttributeValue}
 use Rattle.attribute_values.specs.Parts.{IsAttributeValue}
+use Rattle.metadata_source.specs.declared.member_lists.MemberList.TheVariants as list
 use Rattle.navigation.specs.Cells.{reference_in}
+use Rattle.navigation.specs.Owners.{Owns}
 use Rattle.attribute_constructors.specs.Params.{params_of_constructor}
 use Rattle.attribute_text.specs.Texts.{value_text as attribute_value_text}
+use Rattle.metadata.specs.Lookups.{HasRow}
 use Rattle.metadata.specs.Metadata.{Metadata, cell_in}
 use Rattle.full_names.specs.declared.quoted.NameKind.TheVariants.{Dotted}
 use Rattle.full_names.specs.Quoted.{name_text, quoted_bytes}
 use Rattle.full_names.specs.RowNames.{IsRowName}
 use Rattle.full_names.specs.Texts.{ArePiecesText, IsFullName, IsPieceText}
+use Rattle.declarations.specs.Descriptors.{descriptor_text}
+use Rattle.marshal_descriptors.specs.Reading.{descriptor_of}
+use Rattle.marshal_descriptors.specs.Values.{Descriptor}
 use Rattle.declarations.specs.Declarations.{IsDeclaration, IsPropertyDeclaration, IsReference}
 use Rattle.navigation.specs.declared.links.Link.{Link}
 use Rattle.navigation.specs.declared.links.Link.TheVariants as link_of
@@ -72,12 +78,16 @@ pub data Part : Type 0 where
   linked_by : Link → Part
   -- the reference to the row: a method or a field with its signature (II.15.3, II.22.25)
   own_reference : Part
-  -- unless the reference in a cell is null: a word, and the reference to a type or a member, or the token of any other row
+  -- unless the reference in a cell is null: a word, and the reference to a type, a member or a parameter, or the token of any other row
   reference_after : List ℕ → ℕ → Part
   -- unless the row is of no other module: a word, and the scope of the row in brackets (II.7.3)
   scope_after : List ℕ → Part
   -- the value of the attribute that the row is
   attribute_value : Part
+
+-- the token of a row
+abbrev pub token_at : TableId → ℕ → Token
+token_at table row = record { table = table; row = row }
 
 -- the values of cells
 abbrev pub number_of : Cell → ℕ
@@ -182,8 +192,19 @@ abbrev pub IsReferred : Metadata → Bool → Token → List ℕ → Type 0
 IsReferred model true token out = (plain : List ℕ) × IsReference model token plain × (out ≡ cut_text plain)
 IsReferred model false token out = out ≡ token_text token
 
+-- the reference to a parameter: its position, and the reference to its method (II.22.26, II.22.33)
+abbrev pub IsParamText : Metadata → ℕ → List ℕ → Type 0
+IsParamText model row out =
+    (method : ℕ) × Owns model list.Params method row × (reference : List ℕ) × IsReferred model true (token_at MethodDef method) reference
+    × (out ≡ codes "param [" ++ (digits (number_of (cell_in model Param row 1)) ++ (codes "] of " ++ reference)))
+
+-- the reference to a row by its table: to a parameter if there is one, or to any other row
+abbrev pub IsReferenceIn : Metadata → TableId → Token → List ℕ → Type 0
+IsReferenceIn model Param token out = (HasRow model Param token.row × IsParamText model token.row out) ⊎ (¬ HasRow model Param token.row × (out ≡ token_text token))
+IsReferenceIn model table token out = IsReferred model (has_reference table) token out
+
 abbrev pub IsReferenceText : Metadata → Token → List ℕ → Type 0
-IsReferenceText model token out = IsReferred model (has_reference token.table) token out
+IsReferenceText model token out = IsReferenceIn model token.table token out
 
 -- a word and the reference to a row, unless the reference is null
 abbrev pub IsReferenceAfter : Metadata → List ℕ → Option Token → List ℕ → Type 0
@@ -249,12 +270,8 @@ IsAttributeAt model _ row out = out ≡ []
 
 -- ---- the parts of a line
 
--- the token of a row
-abbrev pub token_at : TableId → ℕ → Token
-token_at table row = record { table = table; row = row }
-
 -- the value of a constant (II.16.2), the layout of a type (II.10.7), the offset of a field, the address of its data (II.16.3) and how
--- it is marshalled (II.16.1): the bytes of its descriptor
+-- it is marshalled (II.7.4, II.16.1)
 abbrev pub value_text : ℕ → List ℕ → List ℕ
 value_text code bytes = codes " = " ++ constant_text code bytes
 
@@ -267,8 +284,17 @@ offset_text offset = codes " [" ++ digits offset ++ codes "]"
 abbrev pub address_text : ℕ → List ℕ
 address_text address = codes " at D_" ++ hexadecimal 8 address
 
+-- the descriptor that bytes are (II.23.4), unless they are too long
+abbrev pub descriptor_in : List ℕ → Option Descriptor
+descriptor_in blob = if nat_le (length blob) value_limit then descriptor_of blob else None
+
+-- the text of a descriptor, up to the limit, and of bytes that are none
+abbrev pub marshal_content : Option Descriptor → List ℕ → List ℕ
+marshal_content None blob = value_bytes_text blob
+marshal_content (Some of) blob = cut_text (descriptor_text of)
+
 abbrev pub marshal_text : List ℕ → List ℕ
-marshal_text descriptor = codes " marshal(" ++ value_bytes_text descriptor ++ codes ")"
+marshal_text blob = codes " marshal(" ++ marshal_content (descriptor_in blob) blob ++ codes ")"
 
 -- what a row adds to the row that it refers to
 abbrev pub referring_text : Metadata → Link → ℕ → List ℕ

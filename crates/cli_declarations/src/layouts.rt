@@ -44,10 +44,10 @@ pub enum Piece {
     Action(usize),
     /// What the first row that refers to the row adds to it; nothing if there is none.
     Linked(Link),
-    /// The reference to the row, a method or a field with its signature (II.15.3, II.22.25).
+    /// The reference to the row, a parameter of a method, or a method or a field with its signature (II.15.3, II.22.25).
     OwnReference,
-    /// Unless the reference in a cell is null: this word, and the reference to a type or a member, or the token of any other
-    /// row.
+    /// Unless the reference in a cell is null: this word, and the reference to a type, a member or a parameter, or the token
+    /// of any other row.
     ReferenceAfter(&'static str, usize),
     /// Unless the row is of no other module: this word, and the scope of the row in brackets (II.7.3).
     ScopeAfter(&'static str),
@@ -100,7 +100,7 @@ const TYPE_DEF: &[Piece] = &[
 
 const FIELD: &[Piece] = pieces![
     Word("  .field"); Linked(Link::FieldOffsets); Flags(FlagTable::Field, 0);
-    Linked(Link::Marshalling); Word(" "); Signature(2); Word(" "); Text(1);
+    Linked(Link::Marshalling); Word(" "); Signature(2); Word(" "); OwnName;
     Linked(Link::Constants); Linked(Link::FieldData);
 ];
 
@@ -108,6 +108,8 @@ const METHOD_DEF: &[Piece] = pieces![
     Word("  .method"); Flags(FlagTable::Method, 2); Word(" "); Declaration;
     Flags(FlagTable::Implementation, 1);
 ];
+
+const PARAM: &[Piece] = pieces![Word("."); OwnReference; Linked(Link::Constants);];
 
 const INTERFACE_IMPL: &[Piece] = pieces![
     Word(".interfaceimpl type"); NameAfter(" ", 0); NameAfter(" implements ", 1);
@@ -175,6 +177,7 @@ pub(crate) fn pieces_of(table: TableId) -> &'static [Piece]
         TableId::TypeDef => TYPE_DEF,
         TableId::Field => FIELD,
         TableId::MethodDef => METHOD_DEF,
+        TableId::Param => PARAM,
         TableId::InterfaceImpl => INTERFACE_IMPL,
         TableId::GenericParam => GENERIC_PARAM,
         TableId::GenericParamConstraint => CONSTRAINT,

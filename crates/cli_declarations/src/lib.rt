@@ -17,6 +17,7 @@ mod declaration;
 mod declared;
 mod layouts;
 mod linked;
+mod marshal_sink;
 mod pieces;
 mod signature_sink;
 

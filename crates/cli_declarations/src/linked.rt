@@ -6,11 +6,12 @@ ghost use Rattle.metadata.specs.Model.{IsModel};
 ghost use Rattle.navigation.specs.declared.links.Link.TheVariants as link_of;
 ghost use Rattle.navigation.specs.Linked.{first_linked, table_of};
 ghost use Rattle.opening.specs.Views.{row_count};
-ghost use Rattle.cli_declarations.specs.Parts.{address_text, layout_text, linked_text, marshal_text, offset_text, referring_text, token_at, value_text};
+ghost use Rattle.cli_declarations.specs.Parts.{address_text, layout_text, linked_text, offset_text, referring_text, token_at, value_text};
 
 use crate::cell_values::{bytes, number};
 use crate::declared::{Declared, push_plain};
-use cli_values::{push_constant, push_decimal, push_eight_digits, push_value_bytes};
+use crate::marshal_sink::push_marshal;
+use cli_values::{push_constant, push_decimal, push_eight_digits};
 use navigation::{Link, Neighbours};
 use opening::{TableId, Token, View};
 use std::alloc::AllocError;
@@ -49,15 +50,6 @@ fn push_address(address: u32, declared: &mut Declared) -> Result<(), AllocError>
 {
     push_plain(" at D_", declared)?;
     push_eight_digits(address as u64, &mut declared.text)
-}
-
-/// Appends how a field is marshalled, as bytes.
-fn push_marshal(descriptor: &[u8], declared: &mut Declared) -> Result<(), AllocError>
-    ensures { OnOk result (string_bytes declared.new.text ≡ string_bytes declared.old.text ++ marshal_text descriptor.now) }
-{
-    push_plain(" marshal(", declared)?;
-    push_value_bytes(descriptor, &mut declared.text)?;
-    push_plain(")", declared)
 }
 
 /// Appends the value of a row of Constant (II.22.9).

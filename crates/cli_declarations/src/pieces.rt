@@ -1,13 +1,14 @@
 //! Appends the pieces of a line.
-ghost use Rattle.std.specs.Prelude.{◌≡◌, ◌≤◌, ◌<◌, ◌++◌, Some, option_map, string_bytes, OnOk};
+ghost use Rattle.std.specs.Prelude.{◌≡◌, ◌≤◌, ◌<◌, ◌++◌, true, Some, option_map, string_bytes, OnOk};
 ghost use Rattle.table_schema.specs.CellColumns.{cell_count};
+ghost use Rattle.table_schema.specs.declared.table.TableId.TheVariants.{Param};
 ghost use Rattle.metadata.specs.Metadata.{Metadata, cell_in};
 ghost use Rattle.metadata.specs.Model.{IsModel};
 ghost use Rattle.declarations.specs.FlagWords.{shown_word, word_text, words_of, words_text};
 ghost use Rattle.opening.specs.Views.{row_count};
 ghost use Rattle.cli_lines.specs.Texts.{escaped_bytes};
 ghost use Rattle.table_schema.specs.Tokens.{token_text};
-ghost use Rattle.cli_declarations.specs.Parts.{IsNameAfter, IsNameText, IsPartText, bytes_text, guid_text_in_comment, key_text, quoted_text, token_text_after, IsMarked, IsReferenceAfter, IsReferenceText, IsScopeAfter, has_reference, scope_mark};
+ghost use Rattle.cli_declarations.specs.Parts.{IsNameAfter, IsNameText, IsParamText, IsPartText, IsReferenceIn, IsReferred, bytes_text, guid_text_in_comment, key_text, quoted_text, token_text_after, IsMarked, IsReferenceAfter, IsReferenceText, IsScopeAfter, has_reference, scope_mark};
 ghost use Rattle.cli_declarations.specs.Shown.{IsWithin, shown};
 ghost use Rattle.cli_declarations.specs.Texts.{Gains};
 
@@ -25,10 +26,13 @@ use cli_values::{
 use declarations::{FlagTable, FlagWord, scope_of, words_of, write_reference};
 use full_names::write_row_name;
 use heap_entries::guid_text;
-use navigation::Neighbours;
+use navigation::{Neighbours, method_of_param};
 use opening::{TableId, Token};
 use std::alloc::AllocError;
 use std::fmt::Write;
+
+/// The cell of the position of a parameter (II.22.33).
+const SEQUENCE: usize = 1;
 
 /// Appends a space and the word, if the flags have its value.
 fn push_word(flags: u32, word: FlagWord, declared: &mut Declared) -> Result<(), AllocError>
@@ -148,6 +152,60 @@ fn has_reference(table: TableId) -> bool
     )
 }
 
+/// Appends the reference to a type, a member or a MemberRef.
+fn push_member(
+    source: &Neighbours<'_, '_>,
+    token: Token,
+    declared: &mut Declared,
+) -> Result<(), AllocError>
+    ensures { (model : Metadata) → IsModel source.now.view.now model
+        → OnOk result (Gains (IsReferred model true token) (string_bytes declared.old.text) (string_bytes declared.new.text)) }
+{
+    begin_text(declared);
+    match write_reference(declared.alloc, source, token, &TextLimit, declared) {
+        Ok(()) => end_text(declared),
+        Err(_) => Err(AllocError),
+    }
+}
+
+/// Appends the reference to a parameter: its position, and the reference to its method.
+#[tactic(auto, unfolding(table_schema::specs::CellColumns::cell_columns))]
+fn push_param(
+    source: &Neighbours<'_, '_>,
+    row: u32,
+    declared: &mut Declared,
+) -> Result<(), AllocError>
+    requires first { 1 ≤ row }
+    requires last { row ≤ row_count source.now.view.now Param }
+    ensures { (model : Metadata) → IsModel source.now.view.now model
+        → OnOk result (Gains (IsParamText model row) (string_bytes declared.old.text) (string_bytes declared.new.text)) }
+{
+    let method = Token {
+        table: TableId::MethodDef,
+        row: method_of_param(source, row),
+    };
+    let position = number(source.view, TableId::Param, row, SEQUENCE);
+    push_plain("param [", declared)?;
+    push_decimal(position as u64, &mut declared.text)?;
+    push_plain("] of ", declared)?;
+    push_member(source, method, declared)
+}
+
+/// Appends the reference to a parameter, or its token if it does not exist.
+fn push_param_or_token(
+    source: &Neighbours<'_, '_>,
+    token: Token,
+    declared: &mut Declared,
+) -> Result<(), AllocError>
+    ensures { (model : Metadata) → IsModel source.now.view.now model
+        → OnOk result (Gains (IsReferenceIn model Param token) (string_bytes declared.old.text) (string_bytes declared.new.text)) }
+{
+    if token.row == 0 || token.row > source.view.count(TableId::Param) {
+        return push_token(token, declared);
+    }
+    push_param(source, token.row, declared)
+}
+
 /// Appends the reference to a row, or its token if the reference does not say which row it is.
 fn push_reference(
     source: &Neighbours<'_, '_>,
@@ -157,13 +215,10 @@ fn push_reference(
     ensures { (model : Metadata) → IsModel source.now.view.now model
         → OnOk result (Gains (IsReferenceText model token) (string_bytes declared.old.text) (string_bytes declared.new.text)) }
 {
-    if !has_reference(token.table) {
-        return push_token(token, declared);
-    }
-    begin_text(declared);
-    match write_reference(declared.alloc, source, token, &TextLimit, declared) {
-        Ok(()) => end_text(declared),
-        Err(_) => Err(AllocError),
+    match token.table {
+        TableId::Param => push_param_or_token(source, token, declared),
+        table if has_reference(table) => push_member(source, token, declared),
+        _ => push_token(token, declared),
     }
 }
 

@@ -9,7 +9,7 @@
 //! ```text
 //! .assembly Hello { .hash algorithm 0x00008004 .ver 1:0:0:0 }  // 20000001
 //! .class public auto ansi beforefieldinit Hello.Greeter extends System.Object  // 02000002
-//!   .field private string name  // 04000001
+//!   .field private string Hello.Greeter::name  // 04000001
 //!   .method public hidebysig instance string Hello.Greeter::Greet(int32 times) cil managed  // 06000001
 //! {"token":"06000001","type":"02000002","directive":".method","text":".method public .."} // the same as JSON
 //! ```

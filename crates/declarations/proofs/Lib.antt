@@ -4,3 +4,4 @@ mod ParamNames
 mod ClassNames
 mod ScopeLemmas
 mod ReferenceLemmas
+pub mod DescriptorLemmas

@@ -1,3 +1,4 @@
 pub mod Declarations
 pub mod FlagWords
 pub mod Scopes
+pub mod Descriptors

@@ -9,6 +9,7 @@
 //! ```
 #![tactic(auto)]
 
+mod descriptors;
 mod flag_words;
 mod method_text;
 mod methods;
@@ -17,6 +18,7 @@ mod references;
 mod scopes;
 mod signature_text;
 
+pub use descriptors::write_descriptor;
 pub use flag_words::{FlagTable, FlagWord, words_of};
 pub use full_names::{Limit, NoLimit, ReadCells, ReadMetadata, TableId, TextError, Token};
 pub use methods::{write_method, write_method_within, write_property_within};

@@ -96,7 +96,7 @@ class Reader:
         else:
             self.add(word[1:], f"{flags} {self.own(tail)}")
         for value in values_of(text, unescaped_units) if word == ".field" else ():
-            self.add("value", f"{value} of {tail.rpartition(' ')[2]}")
+            self.add("value", f"{value} of {self.own(tail).rpartition(' ')[2]}")
 
     def go_to(self, owner):
         """Goes to the type of a method, or to a type, and returns the name of the method, or the last one of the type."""
@@ -109,7 +109,7 @@ class Reader:
             *flags, name = head.rpartition(" [")[0].split()
             self.owners[self.token] = owner
             self.add_of(owner, "generic parameter", " ".join([*sorted(flags), name]))
-        else:
+        elif text.startswith("constraint "):
             of, _, constraint = text.removeprefix("constraint ").partition(", ")
             self.add_of(self.owners[of.rpartition(" ")[2]], "constraint", no_kinds(constraint))
 

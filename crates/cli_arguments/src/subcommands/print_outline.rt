@@ -69,13 +69,13 @@ Examples:
   $ clim outline --bare two_types.root
   .class private auto ansi '<Module>'  // 02000001
   .class public auto ansi beforefieldinit N.C  // 02000002
-    .field private int32 a  // 04000001
-    .field private int32 b  // 04000002
+    .field private int32 N.C::a  // 04000001
+    .field private int32 N.C::b  // 04000002
     .method public void N.C::M() cil managed  // 06000001
   $ clim outline --bare two_types.root N.C
   .class public auto ansi beforefieldinit N.C  // 02000002
-    .field private int32 a  // 04000001
-    .field private int32 b  // 04000002
+    .field private int32 N.C::a  // 04000001
+    .field private int32 N.C::b  // 04000002
     .method public void N.C::M() cil managed  // 06000001
   $ clim outline --bare two_types.root 02000001
   .class private auto ansi '<Module>'  // 02000001",

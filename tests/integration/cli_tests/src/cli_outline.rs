@@ -249,7 +249,7 @@ fn forged_names_are_quoted(rt: HostRuntime) -> Result<(), Fail> {
 .assembly 'A { .ver 9:9:9:9 }' { .hash algorithm 0x00000000 .ver 1:0:0:0 }  // 20000001
 .class private auto ansi '9'.'it\\x27s\\x5c\\x0a'  // 02000001
 .class private auto ansi A.B.'T extends Evil' extends '9'.'it\\x27s\\x5c\\x0a'  // 02000002
-  .field private int32 'f  // 04000009'  // 04000001
+  .field private int32 A.B.'T extends Evil'::'f  // 04000009'  // 04000001
   .method public static void A.B.'T extends Evil'::'M()  // 06000009'(int32 'p, int32 q') cil managed  // 06000001
   .method public static void A.B.'T extends Evil'::.cctor(int32) cil managed  // 06000002
 .class private auto ansi 'A.B'  // 02000003
@@ -258,7 +258,7 @@ fn forged_names_are_quoted(rt: HostRuntime) -> Result<(), Fail> {
 .assembly Q { .hash algorithm 0x00000000 .ver 1:0:0:0 }  // 20000001
 .class private auto ansi Q.Q  // 02000001
 .class private auto ansi A.B.Q extends Q.Q  // 02000002
-  .field private int32 Q  // 04000001
+  .field private int32 A.B.Q::Q  // 04000001
   .method public static void A.B.Q::Q(int32 Q) cil managed  // 06000001
   .method public static void A.B.Q::.cctor(int32) cil managed  // 06000002
 .class private auto ansi Q  // 02000003
@@ -355,7 +355,7 @@ fn prints_the_constants_of_fields_and_properties(rt: HostRuntime) -> Result<(), 
         let (of, blob, _) = CONSTANTS[CONSTANTS.len() - row];
         let parent = (CONSTANTS.len() - index) as u8 * 4;
         root.row(0x0B, &[of, 0, parent, 0, blob, 0])?;
-        let line = format!(in rt.alloc(); "  .field public static literal int32 M = {text}  // 040000{row:02x}\n")?;
+        let line = format!(in rt.alloc(); "  .field public static literal int32 N.C::M = {text}  // 040000{row:02x}\n")?;
         lines.push_str(&line)?;
     }
     root.row(0x0B, b"\x08\0\x04\0\x28\0")?;
@@ -366,7 +366,7 @@ fn prints_the_constants_of_fields_and_properties(rt: HostRuntime) -> Result<(), 
     lines.push_str("  .property instance int32 N.C::P() = int32(-1)  // 17000001\n")?;
     let root = root.finish()?;
     assert_eq!(rt; outline_of(&rt, root.as_slice())?.as_str(), lines.as_str());
-    let json = r#""text":".field public static literal int32 M = \"i\\\"\\u00e9\""}"#;
+    let json = r#""text":".field public static literal int32 N.C::M = \"i\\\"\\u00e9\""}"#;
     assert!(rt; json_of(rt.alloc(), root.as_slice())?.as_str().contains(json));
     Ok(())
 }
@@ -393,7 +393,7 @@ fn cuts_long_values(rt: HostRuntime) -> Result<(), Fail> {
         root.heap("#Strings", TEXTS)?;
         root.heap("#Blob", &blobs)?;
         let times = if of == 0x0E { 32_768 } else { 65_536 };
-        let mut line = format!(in rt.alloc(); "  .field public static literal int32 M = {before}")?;
+        let mut line = format!(in rt.alloc(); "  .field public static literal int32 N.C::M = {before}")?;
         for _ in 0..times {
             line.push_str(text)?;
         }
@@ -425,8 +425,8 @@ fn prints_layouts_addresses_and_permissions(rt: HostRuntime) -> Result<(), Fail>
     let lines = "\
 .module k.dll /* {fc1e5832-60f6-47ec-897c-a8adde90f87f} */  // 00000001
 .class private explicit ansi N.C { .pack 8 .size 16 }  // 02000001
-  .field public int32 M at D_00002050  // 04000001
-  .field [4] public marshal(010203) int32 P  // 04000002
+  .field public int32 N.C::M at D_00002050  // 04000001
+  .field [4] public marshal(010203) int32 N.C::P  // 04000002
 .permissionset linkcheck = (010203) of N.C  // 0e000001
 .permissionset 16 = (01) of N.C  // 0e000002
 ";

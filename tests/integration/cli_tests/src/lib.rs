@@ -13,6 +13,8 @@ mod cli_arguments;
 #[cfg(test)]
 mod cli_cells;
 #[cfg(test)]
+mod cli_descriptors;
+#[cfg(test)]
 mod cli_escapes;
 #[cfg(test)]
 mod cli_faults;

@@ -152,8 +152,8 @@ fn compares_with_json(rt: HostRuntime) -> Result<(), Fail> {
 fn prints_json_of_one_type_and_of_one_byte(rt: HostRuntime) -> Result<(), Fail> {
     fs::write(&rt, "parts.root", TWO_TYPES.as_slice())?;
     let class = r#"{"token":"02000002","directive":".class","text":".class public auto ansi beforefieldinit N.C"}
-{"token":"04000001","type":"02000002","directive":".field","text":".field private int32 a"}
-{"token":"04000002","type":"02000002","directive":".field","text":".field private int32 b"}
+{"token":"04000001","type":"02000002","directive":".field","text":".field private int32 N.C::a"}
+{"token":"04000002","type":"02000002","directive":".field","text":".field private int32 N.C::b"}
 {"token":"06000001","type":"02000002","directive":".method","text":".method public void N.C::M() cil managed"}
 "#;
     let cell = r##"{"offset":0,"size":200,"structure":"root"}

@@ -116,8 +116,8 @@ one.root: 00000001 Generation=0 Name=\"a.dll\" Mvid={03020100-0504-0706-0809-0a0
         0,
         "types.root: .class private auto ansi '<Module>'  // 02000001
 types.root: .class public auto ansi beforefieldinit N.C  // 02000002
-types.root:   .field private int32 a  // 04000001
-types.root:   .field private int32 b  // 04000002
+types.root:   .field private int32 N.C::a  // 04000001
+types.root:   .field private int32 N.C::b  // 04000002
 types.root:   .method public void N.C::M() cil managed  // 06000001
 ./one.root: .module a.dll /* {03020100-0504-0706-0809-0a0b0c0d0e0f} */  // 00000001
 ",

@@ -8,8 +8,8 @@ const MODULE: &str = ".class private auto ansi '<Module>'  // 02000001\n";
 
 const CLASS: &str = "\
 .class public auto ansi beforefieldinit N.C  // 02000002
-  .field private int32 a  // 04000001
-  .field private int32 b  // 04000002
+  .field private int32 N.C::a  // 04000001
+  .field private int32 N.C::b  // 04000002
   .method public void N.C::M() cil managed  // 06000001
 ";
 
