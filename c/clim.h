@@ -162,11 +162,11 @@ enum clim_value_form {
     CLIM_NO_VALUE = 0,    /* nothing: the item is a CLIM_NAMED_COUNT */
     CLIM_PLAIN_VALUE = 1, /* a value of a type */
     CLIM_BOXED_VALUE = 2, /* the same, in an object: the argument, or the element, has the type object */
-    CLIM_ARRAY = 3        /* an array of elements of a type: unless it is null, number elements follow */
+    CLIM_ARRAY = 3        /* an array of elements of a type. number: of the elements, which follow; 0 if it is null */
 };
 
-/* The type of a value, or of the elements of an array (II.23.1.16), and where the value is. An enum has the type of its
- * numbers. */
+/* The type of a value, or of the elements of an array (II.23.1.16), and the field that contains a value. An enum has the
+ * type of its numbers. */
 enum clim_value_type {
     CLIM_BOOLEAN = 0x02, /* number: 0 or 1 */
     CLIM_CHAR = 0x03,    /* number: a UTF-16 unit */
