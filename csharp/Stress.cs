@@ -87,6 +87,7 @@ static class Stress
         { "Params", it => it.Params(it.Row<MethodDefRow>(2)).Count() },
         { "FindType", it => it.FindType("Hello", "Greeter") },
         { "ByKey", it => it.ByKey<NestedClassRow>(type) },
+        { "ArgumentsOf", it => it.ArgumentsOf(it.Row<CustomAttributeRow>(1)) },
         { "FindType by a full name", it => it.FindType("Hello.Greeter/Settings") },
         { "NameOf", it => it.NameOf(new Token(TableId.MethodDef, 2)) },
         { "Declaration", it => it.Declaration(new Token(TableId.MethodDef, 2)) },
