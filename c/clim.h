@@ -774,8 +774,9 @@ bool clim_where(const clim_view *view, size_t offset, clim_location *location);
  * signatures are compared by what they are, and not by where they are in the root.
  *
  * Returns 0 if one of the views is not open, and CLIM_NO_MEMORY if memory runs out; then, and if nothing differs,
- * *difference is unchanged. Reads both views and their roots, the cells up to the first that differs. Allocates only to
- * decode signatures whose blobs have other bytes, and for that one cell. */
+ * *difference is unchanged. Reads both views and their roots, the cells up to the first that differs. Allocates to remember
+ * which texts and blobs it has compared, to decode signatures whose blobs have other bytes, for that one cell, and for
+ * blobs that overlap, as the head of this file says. */
 size_t clim_compare(const clim_view *left, const clim_view *right, clim_difference *difference);
 
 /* Checks that rows satisfy all rules (II.22, II.24.2), and writes the canonical root of the metadata that they form

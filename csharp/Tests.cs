@@ -271,6 +271,7 @@ static class Tests
             foreach (int row in new[] { 0, -1, int.MinValue, int.MaxValue, 0x1000001, 0xFFFFFF })
                 Check((assembly.NameOf(new Token(TableId.TypeDef, row)) ?? assembly.Declaration(new Token(TableId.TypeDef, row))) == null, "no row");
             Check(assembly.NameOf(new Token((TableId)0x70, 1)) == null, "no table");
+            Check(!new Token(TableId.TypeRef, 0x1000001).Equals(new Token(TableId.TypeRef, 1)), "a row that no token names");
             Check(Assembly.OffsetOf(file, rva, size) == header.RootStart, "where the root is");
             Check(assembly.BytesAt(rva, 4).SequenceEqual(new byte[] { 0x42, 0x53, 0x4A, 0x42 }), "its first bytes");
             Check(assembly.BytesAt(rva, size).Length == size && assembly.BytesAt(rva, 0).Length == 0, "all of it, and none");
