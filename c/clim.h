@@ -162,11 +162,11 @@ enum clim_value_form {
     CLIM_NO_VALUE = 0,    /* nothing: the item is a CLIM_NAMED_COUNT */
     CLIM_PLAIN_VALUE = 1, /* a value of a type */
     CLIM_BOXED_VALUE = 2, /* the same, in an object: the argument, or the element, has the type object */
-    CLIM_ARRAY = 3        /* an array of elements of a type: unless it is null, number elements follow */
+    CLIM_ARRAY = 3        /* an array of elements of a type. number: of the elements, which follow; 0 if it is null */
 };
 
-/* The type of a value, or of the elements of an array (II.23.1.16), and where the value is. An enum has the type of its
- * numbers. */
+/* The type of a value, or of the elements of an array (II.23.1.16), and the field that contains a value. An enum has the
+ * type of its numbers. */
 enum clim_value_type {
     CLIM_BOOLEAN = 0x02, /* number: 0 or 1 */
     CLIM_CHAR = 0x03,    /* number: a UTF-16 unit */
@@ -774,8 +774,9 @@ bool clim_where(const clim_view *view, size_t offset, clim_location *location);
  * signatures are compared by what they are, and not by where they are in the root.
  *
  * Returns 0 if one of the views is not open, and CLIM_NO_MEMORY if memory runs out; then, and if nothing differs,
- * *difference is unchanged. Reads both views and their roots, the cells up to the first that differs. Allocates only to
- * decode signatures whose blobs have other bytes, and for that one cell. */
+ * *difference is unchanged. Reads both views and their roots, the cells up to the first that differs. Allocates to remember
+ * which texts and blobs it has compared, to decode signatures whose blobs have other bytes, for that one cell, and for
+ * blobs that overlap, as the head of this file says. */
 size_t clim_compare(const clim_view *left, const clim_view *right, clim_difference *difference);
 
 /* Checks that rows satisfy all rules (II.22, II.24.2), and writes the canonical root of the metadata that they form

@@ -1125,7 +1125,7 @@ static bool are_of_value(const clim_attribute_item *items, size_t count) {
     return same && elements == 0 && named == 0;
 }
 
-/* The attributes of a view: for each the value has as many items as a call says, whatever room there is. */
+/* The attributes of a view: a call returns the number of items of each value, and writes those that there is room for. */
 static void ask_attributes(const clim_view *view) {
     uint32_t rows = clim_count(view, CLIM_CUSTOM_ATTRIBUTE), step = rows / 300 + 1;
     clim_attribute_item item = NO_ITEM;

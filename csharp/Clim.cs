@@ -269,10 +269,10 @@ namespace Clim
             Row = (int)(value & 0xFFFFFF);
         }
 
-        /// <summary>The token as a number, as reflection has it.</summary>
+        /// <summary>The token as a number, as reflection has it. It has the row only if that is at most 0xFFFFFF.</summary>
         public int Value { get { return (int)Table << 24 | Row; } }
 
-        public bool Equals(Token other) { return Value == other.Value; }
+        public bool Equals(Token other) { return Table == other.Table && Row == other.Row; }
         public override bool Equals(object other) { return other is Token && Equals((Token)other); }
         public override int GetHashCode() { return Value; }
         public override string ToString() { return Value.ToString("x8"); }
@@ -1253,6 +1253,7 @@ namespace Clim
         /// The offset in a file of bytes at a relative virtual address; null if the file does not have them, or is no image
         /// (II.25.3). They are in the first section that contains all of them. Only the PE headers are checked.
         /// </summary>
+        /// <remarks>Each call copies the file: for many addresses open it, and call <see cref="BytesAt"/>.</remarks>
         /// <exception cref="NotSupportedException">The library is older than this file.</exception>
         public static long? OffsetOf(byte[] file, uint rva, uint size)
         {

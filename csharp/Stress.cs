@@ -48,6 +48,7 @@ static class Stress
         { "Open", file => Assembly.Open(file).Dispose() },
         { "OffsetOf", file => Assembly.OffsetOf(file, 0x2000, 16) },
         { "Open within a budget", file => Assembly.Open(file, 1000).Dispose() },
+        { "Open, of a stream", file => Assembly.Open(new MemoryStream(file)).Dispose() },
     };
 
     // The same of a bare root.
@@ -59,6 +60,7 @@ static class Stress
         { "OpenRoot within a budget", root => Assembly.OpenRoot(root, 1000).Dispose() },
         { "Root, of user strings", user => new Tables { UserStrings = user }.Root() },
         { "Add, of a blob", blob => new Tables().Add(TableId.File, 0, "a", blob) },
+        { "AddUserString", user => new Tables { UserStrings = user }.AddUserString("a") },
     };
 
     // The same of a root for a copy of a file. Each copy that is made opens.
@@ -85,6 +87,7 @@ static class Stress
         { "Params", it => it.Params(it.Row<MethodDefRow>(2)).Count() },
         { "FindType", it => it.FindType("Hello", "Greeter") },
         { "ByKey", it => it.ByKey<NestedClassRow>(type) },
+        { "ArgumentsOf", it => it.ArgumentsOf(it.Row<CustomAttributeRow>(1)) },
         { "FindType by a full name", it => it.FindType("Hello.Greeter/Settings") },
         { "NameOf", it => it.NameOf(new Token(TableId.MethodDef, 2)) },
         { "Declaration", it => it.Declaration(new Token(TableId.MethodDef, 2)) },

@@ -271,6 +271,7 @@ static class Tests
             foreach (int row in new[] { 0, -1, int.MinValue, int.MaxValue, 0x1000001, 0xFFFFFF })
                 Check((assembly.NameOf(new Token(TableId.TypeDef, row)) ?? assembly.Declaration(new Token(TableId.TypeDef, row))) == null, "no row");
             Check(assembly.NameOf(new Token((TableId)0x70, 1)) == null, "no table");
+            Check(!new Token(TableId.TypeRef, 0x1000001).Equals(new Token(TableId.TypeRef, 1)), "a row that no token names");
             Check(Assembly.OffsetOf(file, rva, size) == header.RootStart, "where the root is");
             Check(assembly.BytesAt(rva, 4).SequenceEqual(new byte[] { 0x42, 0x53, 0x4A, 0x42 }), "its first bytes");
             Check(assembly.BytesAt(rva, size).Length == size && assembly.BytesAt(rva, 0).Length == 0, "all of it, and none");
@@ -604,6 +605,60 @@ static class Tests
         Console.WriteLine(leftOut == 0 ? "" : ", without " + leftOut + " of them, which need an assembly that is not found");
     }
 
+    // A value of an argument, as this file or System.Reflection has it.
+    static string Shown(object value)
+    {
+        if (value is CustomAttributeTypedArgument)
+            value = ((CustomAttributeTypedArgument)value).Value;
+        if (value == null)
+            return "null";
+        if (value is Type)
+            return "type " + ((Type)value).FullName;
+        if (value is TypeName)
+            return "type " + value.ToString().Split(',')[0];
+        if (value is Enum)
+            value = Convert.ChangeType(value, Enum.GetUnderlyingType(value.GetType()));
+        var elements = value as System.Collections.IEnumerable;
+        if (elements != null && !(value is string))
+            return "[" + string.Join(" ", elements.Cast<object>().Select(Shown)) + "]";
+        return value.GetType().Name + " " + Convert.ToString(value, System.Globalization.CultureInfo.InvariantCulture);
+    }
+
+    static string Shown(Arguments of)
+    {
+        var named = of.Named.Select(it => it.Name + "=" + Shown(it.Value)).OrderBy(it => it, StringComparer.Ordinal);
+        return string.Join(" ", of.Fixed.Select(Shown).Concat(named));
+    }
+
+    static string Shown(CustomAttributeData of)
+    {
+        var named = of.NamedArguments.Select(it => it.MemberInfo.Name + "=" + Shown(it.TypedValue)).OrderBy(it => it, StringComparer.Ordinal);
+        return string.Join(" ", of.ConstructorArguments.Select(it => Shown(it)).Concat(named));
+    }
+
+    // The arguments of the attributes of types, fields and methods are those of System.Reflection, which has others too.
+    static void CompareArguments(Module module, Assembly assembly)
+    {
+        int compared = 0, undecoded = 0;
+        foreach (var attributes in assembly.Rows<CustomAttributeRow>().GroupBy(it => it.Parent))
+        {
+            var table = attributes.Key.Table;
+            if (table != TableId.TypeDef && table != TableId.Field && table != TableId.MethodDef)
+                continue;
+            CanCompare(() =>
+            {
+                var member = module.ResolveMember(attributes.Key.Value);
+                var theirs = CustomAttributeData.GetCustomAttributes(member).Select(Shown).ToList();
+                foreach (var found in attributes.Select(assembly.ArgumentsOf))
+                    if (found == null)
+                        undecoded++;
+                    else if (++compared > 0)
+                        Expect(theirs.Remove(Shown(found)), "the arguments of an attribute of " + attributes.Key + ": " + Shown(found));
+            });
+        }
+        Console.WriteLine("compared the arguments of {0} attributes; {1} are not decoded", compared, undecoded);
+    }
+
     // Calls against one another, on all rows of an assembly.
     static void CompareCalls(Assembly assembly, string path)
     {
@@ -640,7 +695,9 @@ static class Tests
             CompareCalls(assembly, path);
             try
             {
-                CompareNames(System.Reflection.Assembly.ReflectionOnlyLoadFrom(path).ManifestModule, assembly);
+                var module = System.Reflection.Assembly.ReflectionOnlyLoadFrom(path).ManifestModule;
+                CompareNames(module, assembly);
+                Newer("clim_attribute_items", () => CompareArguments(module, assembly));
             }
             catch (BadImageFormatException)
             {

@@ -14,6 +14,8 @@ if TYPE_CHECKING:
 
 # The number of bytes from which on a signature is long.
 _LONG = 256
+# The largest numbers of a table and a row in a token.
+_LARGEST_TABLE, _LARGEST_ROW = 0xFF, 0xFFFFFF
 # The types of constants (II.23.1.16): a boolean, a character, numbers by their formats, a string, and a null reference.
 _BOOLEAN, _CHAR, _STRING, _CLASS = 0x02, 0x03, 0x0E, 0x12
 # The type `System.Type` of arguments of attributes (II.23.3).
@@ -162,7 +164,13 @@ class Token(int):
 
     @classmethod
     def of(cls, table: int, row: int) -> Token:
-        """The token of a row of the table with a number."""
+        """The token of a row of the table with a number.
+
+        Raises:
+            ValueError: No token has the number of the table, or the row.
+        """
+        if not (0 <= table <= _LARGEST_TABLE and 0 <= row <= _LARGEST_ROW):
+            raise ValueError(f"no token names row {row} of table {table}")
         return cls(table << 24 | row)
 
     @property

@@ -461,6 +461,8 @@ class Reading(unittest.TestCase):
     def test_tokens(self):
         token = clim.Token.of(2, 5)
         self.assertEqual((token, token.table, token.row, repr(token)), (0x02000005, 2, 5, "Token(0x02000005)"))
+        for table, row in (2, 1 << 24), (2, -1), (256, 1), (-1, 1):
+            self.assertRaises(ValueError, clim.Token.of, table, row)
 
     def test_dicts_are_json(self):
         for path, assembly in opened():

@@ -117,6 +117,7 @@ READ = {
     "owner": lambda it: it.methods[0].declaring_type,
     "full_name": lambda it: it.types[1].full_name,
     "custom_attributes": lambda it: it.types[1].custom_attributes,
+    "arguments": lambda it: it.custom_attributes[0].arguments,
     "nested_types": lambda it: it.types[0].nested_types,
     "find_type": lambda it: it.find_type("Hello", "Greeter"),
     "by_key": lambda it: it["NestedClass"].by_key(0x02000002),

@@ -16,7 +16,7 @@ no_other_value (seen.Bytes blob) cell of_kind shows other = other blob refl
 no_other_value (seen.Sig blob) cell of_kind shows other = shows
 no_other_value _ cell of_kind shows other = subst (λ (c : Cell). IsOfKind kind.Blob c) shows of_kind
 
--- a loop writes the items of a list into the elements of another, as many as it has room for
+-- a loop writes the items of a list into the elements of another, up to its length
 module _ {I X F : Type 0} (shown : I → F) (fields : X → F) where
   -- the items so far are written, and the other elements are unchanged; these items are left
   abbrev pub AreWritten : (all : List I) (before : List X) (left : List I) (xs : List X) (count : ℕ) → Type 0

@@ -87,7 +87,7 @@ item_fields (entry e) = element_fields 2 [] e
 item_fields (named_count n) = record { name = []; text = []; number = n; kind = 3; form = 0; of = 0; is_null = false }
 item_fields (named member name head) = head_fields (member_kind member) name head
 
--- the first elements are these items, in order, as many as there is room for; the others are unchanged
+-- the first elements are these items, in order, up to the number of elements; the others are unchanged
 pub record AreItems (items : List Item) (before after : List ClimAttributeItem) : Type 0 where
   pub written : map fields_of (take (length items) after) ≡ map item_fields (take (length before) items)
   pub same : SameFrom before after (length items)

@@ -263,11 +263,7 @@ fn options_of(ask: &Ask<'_>) -> OutlineOptions
     } else {
         Tokens::Shown
     };
-    let rows = if ask.public {
-        Rows::Visible
-    } else {
-        Rows::All
-    };
+    let rows = if ask.public { Rows::Visible } else { Rows::All };
     OutlineOptions { tokens, rows }
 }
 

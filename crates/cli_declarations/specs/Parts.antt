@@ -23,8 +23,7 @@ use Rattle.full_names.specs.declared.quoted.NameKind.TheVariants.{Dotted}
 use Rattle.full_names.specs.Quoted.{name_text, quoted_bytes}
 use Rattle.full_names.specs.RowNames.{IsRowName}
 use Rattle.full_names.specs.Texts.{ArePiecesText, IsFullName, IsPieceText}
-use Rattle.declarations.specs.Descriptors.{descriptor_text}
-use Rattle.marshal_descriptors.specs.Reading.{descriptor_of}
+use Rattle.declarations.specs.Descriptors.{descriptor_in, descriptor_text}
 use Rattle.marshal_descriptors.specs.Values.{Descriptor}
 use Rattle.declarations.specs.Declarations.{IsDeclaration, IsPropertyDeclaration, IsReference}
 use Rattle.navigation.specs.declared.links.Link.{Link}
@@ -283,10 +282,6 @@ offset_text offset = codes " [" ++ digits offset ++ codes "]"
 
 abbrev pub address_text : ℕ → List ℕ
 address_text address = codes " at D_" ++ hexadecimal 8 address
-
--- the descriptor that bytes are (II.23.4), unless they are too long
-abbrev pub descriptor_in : List ℕ → Option Descriptor
-descriptor_in blob = if nat_le (length blob) value_limit then descriptor_of blob else None
 
 -- the text of a descriptor, up to the limit, and of bytes that are none
 abbrev pub marshal_content : Option Descriptor → List ℕ → List ℕ

@@ -23,8 +23,8 @@ use std::alloc::AllocError;
 /// The index of the cell with the value of an attribute (II.22.10).
 const VALUE: usize = 2;
 
-/// The largest value or descriptor that is decoded, in bytes.
-pub(crate) const VALUE_LIMIT: usize = 1 << 16;
+/// The largest value that is decoded, in bytes.
+const VALUE_LIMIT: usize = 1 << 16;
 
 /// Appends the bytes of a value in hexadecimal, up to the limit.
 fn push_bytes_value(blob: &[u8], declared: &mut Declared) -> Result<(), AllocError>

@@ -1,25 +1,14 @@
 //! Appends how a field is marshalled (II.7.4, II.22.17).
-ghost use Rattle.std.specs.Prelude.{◌≡◌, ◌++◌, option_map, string_bytes, OnOk};
-ghost use Rattle.declarations.specs.Descriptors.{descriptor_text};
+ghost use Rattle.std.specs.Prelude.{◌≡◌, ◌++◌, string_bytes, OnOk};
+ghost use Rattle.declarations.specs.Descriptors.{descriptor_in, descriptor_text};
 ghost use Rattle.marshal_descriptors.specs.Views.{view};
-ghost use Rattle.cli_declarations.specs.Parts.{cut_text, descriptor_in, marshal_content, marshal_text};
+ghost use Rattle.cli_declarations.specs.Parts.{cut_text, marshal_content, marshal_text};
 
-use crate::attribute_sink::VALUE_LIMIT;
 use crate::declared::{Declared, TextLimit, begin_text, end_text, push_plain};
 use cli_values::push_value_bytes;
-use declarations::write_descriptor;
-use marshal_descriptors::{Descriptor, read_descriptor};
+use declarations::{descriptor_in, write_descriptor};
+use marshal_descriptors::Descriptor;
 use std::alloc::AllocError;
-
-/// The descriptor that a blob is, if it is read.
-fn descriptor_in(blob: &[u8]) -> Option<Descriptor<'_>>
-    ensures { option_map view result ≡ descriptor_in blob.now }
-{
-    if blob.len() > VALUE_LIMIT {
-        return None;
-    }
-    read_descriptor(blob)
-}
 
 /// Appends a descriptor, up to the limit.
 fn push_descriptor(of: Descriptor<'_>, declared: &mut Declared) -> Result<(), AllocError>

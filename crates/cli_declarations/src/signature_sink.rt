@@ -14,7 +14,7 @@ ghost use Rattle.cli_declarations.specs.Parts.{IsDeclarationAt, IsMethodText, Is
 ghost use Rattle.cli_declarations.specs.Texts.{Gains};
 
 use crate::declared::{Declared, TextLimit, begin_text, end_text};
-use declarations::{write_method_within, write_property_within, write_signature_text};
+use declarations::{write_method_of, write_property_within, write_signature_text};
 use metadata_source::kind_of;
 use navigation::Neighbours;
 use opening::{CellRef, TableId, View};
@@ -88,7 +88,7 @@ fn push_method(
     metadata::laws::models_are_read();
     metadata::laws::models_of_roots_are_valid();
     begin_text(declared);
-    match write_method_within(declared.alloc, source, row, &TextLimit, declared) {
+    match write_method_of(declared.alloc, source, row, &TextLimit, declared) {
         Ok(()) => end_text(declared),
         Err(_) => Err(AllocError),
     }

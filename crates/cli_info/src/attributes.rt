@@ -174,7 +174,12 @@ fn print_named<W: Write>(
 
 /// Prints the line of an attribute of this type, if that is a row of TypeDef or TypeRef.
 #[tactic(auto, unfolding(table_schema::specs::CellColumns::cell_columns))]
-fn print_typed<W: Write>(view: &View<'_>, class: Token, items: Items<'_, '_>, out: &mut Printer<'_, W>)
+fn print_typed<W: Write>(
+    view: &View<'_>,
+    class: Token,
+    items: Items<'_, '_>,
+    out: &mut Printer<'_, W>,
+)
     requires first { 1 ≤ class.row }
     requires last { class.row ≤ row_count view.now class.table }
     ensures { (model : Metadata) → IsModel view.now model → Prints out.old out.new (lines_of_type model class.table class.row items.entry) }

@@ -1,3 +1,4 @@
+mod MarshalLemmas
 mod ParamLemmas
 mod ParamExists
 mod ParamNames

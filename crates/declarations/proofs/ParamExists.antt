@@ -18,7 +18,9 @@ use Rattle.full_names.specs.Quoted.{name_text}
 use Rattle.full_names.specs.RowNames.{IsRowName}
 use Rattle.full_names.specs.Texts.{ArePiecesText}
 use Rattle.full_names.proofs.NameExists.{HasText, any_name, first_row, is_text}
-use Rattle.declarations.specs.Declarations.{IsDeclaredPiece, IsFlagsOf, IsNameOf, IsParamAt, IsParamRow, IsParamText, position_in, position_of, spaced}
+use Rattle.navigation.specs.declared.links.Link.TheVariants as link
+use Rattle.navigation.specs.Linked.{first_linked}
+use Rattle.declarations.specs.Declarations.{IsDeclaredPiece, IsFlagsOf, IsMarshalOf, IsNameOf, IsParamAt, IsParamRow, IsParamText, after_space, before_space, marshal_by, param_token, position_in, position_of, spaced}
 use Rattle.declarations.specs.FlagWords.{leading_words, words_of}
 use Rattle.declarations.specs.declared.flag_words.FlagTable.TheVariants as flag_table
 
@@ -83,6 +85,13 @@ module _ (model : Metadata) (valid : IsValid model) (first past position : ℕ) 
   flags_in None none = ([], (None, none, refl))
   flags_in (Some row) at = (leading_words (position_of (cell_in model Param row 0)) (words_of flag_table.Param), (Some row, at, (position_of (cell_in model Param row 0), param_flags_of row at.there, refl)))
 
+  marshal_of : (space : List ℕ → List ℕ) (row : Option ℕ) → IsParamRow model first past position row → HasText (IsParamText (IsMarshalOf space) model first past position)
+  marshal_of space None none = ([], (None, none, refl))
+  marshal_of space (Some row) at = (marshal_by space model (first_linked model link.Marshalling (param_token row)), (Some row, at, refl))
+
+  pub marshal_exists : (space : List ℕ → List ℕ) → HasText (IsParamText (IsMarshalOf space) model first past position)
+  marshal_exists space = let found = param_row in marshal_of space found.0 found.1
+
   pub name_exists : HasText (IsParamText IsNameOf model first past position)
   name_exists = let found = param_row in name_in found.0 found.1
 
@@ -93,9 +102,15 @@ module _ (model : Metadata) (valid : IsValid model) (first past position : ℕ) 
 
 module _ (model : Metadata) (valid : IsValid model) (class : Token) (named : HasText (IsRowName model class)) (own : List ℕ) (first past : ℕ) where
   declared_piece : (piece : Piece) → HasText (IsDeclaredPiece model class own first past piece)
-  declared_piece method_name = (named.0 ++ (codes "::" ++ name_text Member own), (named.0, named.1, refl))
+  declared_piece method_name =
+      let result = marshal_exists model valid first past 0 before_space in
+      let member = named.0 ++ (codes "::" ++ name_text Member own) in
+      (result.0 ++ member, (result.0, result.1, member, (named.0, named.1, refl), refl))
   declared_piece (param_flags position) = flags_exist model valid first past position
-  declared_piece (param_name position) = name_exists model valid first past position
+  declared_piece (param_name position) =
+      let marshal = marshal_exists model valid first past position after_space in
+      let own = name_exists model valid first past position in
+      (marshal.0 ++ own.0, (marshal.0, marshal.1, own.0, own.1, refl))
   declared_piece (word of) = (of, refl)
   declared_piece (number of) = (decimal of, refl)
   declared_piece (signed of) = (signed_decimal of, refl)

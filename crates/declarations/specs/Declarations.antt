@@ -1,16 +1,18 @@
 -- The declarations of methods and properties, and references to methods and fields (ECMA-335 II.15.3, II.17, II.22.25, II.22.33).
 use Rattle.std.specs.Prelude.{◌≡◌, ◌≢◌, ℕ, ◌+◌, ◌≤◌, ◌<◌, ◌↔◌, ◌⊎◌, List, [], ◌∷◌, ◌++◌, Option, None, Some, codes}
 use Rattle.std.specs.List.{filter}
-use Rattle.table_schema.specs.declared.table.TableId.TheVariants.{TypeDef, MethodDef, MemberRef, Param, Property}
+use Rattle.table_schema.specs.declared.table.TableId.TheVariants.{TypeDef, MethodDef, MemberRef, Param, Property, FieldMarshal}
 use Rattle.table_schema.specs.declared.table.TableId.{TableId}
 use Rattle.table_schema.specs.declared.token.Token.{Token}
 use Rattle.sig_grammar.specs.Syntax.{Body, Method}
 use Rattle.sig_text.specs.Declares.{member_text}
 use Rattle.sig_text.specs.SignatureText.{Piece, method_name, param_flags, param_name, declared_text}
-use Rattle.metadata.specs.Cell.{Cell, Text, Number, Sig}
+use Rattle.metadata.specs.Cell.{Cell, Text, Number, Bytes, Sig}
 use Rattle.metadata.specs.Metadata.{Metadata, cell_in}
 use Rattle.metadata.specs.Lookups.{HasRow, IsRun}
 use Rattle.metadata_source.specs.declared.member_lists.MemberList.TheVariants as list
+use Rattle.navigation.specs.declared.links.Link.TheVariants as link
+use Rattle.navigation.specs.Linked.{first_linked}
 use Rattle.navigation.specs.Keyed.{has_key, keyed_rows}
 use Rattle.navigation.specs.Owners.{Owns}
 use Rattle.navigation.specs.declared.keyed.KeyedRow.{KeyedRow}
@@ -19,6 +21,7 @@ use Rattle.full_names.specs.Quoted.{name_text}
 use Rattle.full_names.specs.RowNames.{IsParent, IsRowName, IsTypeOfMethod, IsTypeOfProperty}
 use Rattle.full_names.specs.Texts.{ArePiecesText, IsFullName, IsPieceText}
 use Rattle.declarations.specs.declared.flag_words.FlagTable.TheVariants as flag_table
+use Rattle.declarations.specs.Descriptors.{marshal_text}
 use Rattle.declarations.specs.FlagWords.{leading_words, words_of}
 
 -- the position in a cell, and that of a row of Param (II.22.33)
@@ -63,7 +66,35 @@ abbrev pub IsFlagsOf : Metadata → Option ℕ → List ℕ → Type 0
 IsFlagsOf model None text = text ≡ []
 IsFlagsOf model (Some row) text = (flags : ℕ) × (cell_in model Param row 0 ≡ Number flags) × (text ≡ leading_words flags (words_of flag_table.Param))
 
--- the text of the name, or of the flags, of the parameter with a position
+-- how the parameter in a row of Param is marshalled, by the first row of FieldMarshal that refers to it (II.22.17), and a space
+-- before or after it; empty without such a row
+abbrev pub bytes_of : Cell → List ℕ
+bytes_of (Bytes blob) = blob
+bytes_of _ = []
+
+abbrev pub marshal_by : (List ℕ → List ℕ) → Metadata → Option ℕ → List ℕ
+marshal_by spaced model None = []
+marshal_by spaced model (Some row) = spaced (marshal_text (bytes_of (cell_in model FieldMarshal row 1)))
+
+abbrev pub param_token : ℕ → Token
+param_token row = record { table = Param; row = row }
+
+abbrev pub IsMarshalOf : (List ℕ → List ℕ) → Metadata → Option ℕ → List ℕ → Type 0
+IsMarshalOf spaced model None text = text ≡ []
+IsMarshalOf spaced model (Some row) text = text ≡ marshal_by spaced model (first_linked model link.Marshalling (param_token row))
+
+-- the same of the blob of that row
+abbrev pub marshalled : (List ℕ → List ℕ) → Option (List ℕ) → List ℕ
+marshalled spaced None = []
+marshalled spaced (Some blob) = spaced (marshal_text blob)
+
+abbrev pub after_space : List ℕ → List ℕ
+after_space text = codes " " ++ text
+
+abbrev pub before_space : List ℕ → List ℕ
+before_space text = text ++ codes " "
+
+-- the text of the name, of the flags, or of how it is marshalled, of the parameter with a position; the result has position 0
 abbrev pub IsParamText : (Metadata → Option ℕ → List ℕ → Type 0) → Metadata → ℕ → ℕ → ℕ → List ℕ → Type 0
 IsParamText is_text model first past position text = (row : Option ℕ) × IsParamRow model first past position row × is_text model row text
 
@@ -71,11 +102,18 @@ IsParamText is_text model first past position text = (row : Option ℕ) × IsPar
 abbrev pub IsMemberOfClass : Metadata → Token → List ℕ → List ℕ → Type 0
 IsMemberOfClass model class own text = (of : List ℕ) × IsRowName model class of × (text ≡ of ++ (codes "::" ++ name_text Member own))
 
--- the pieces of a declaration: of a member of a class, with its own name, and the run of its parameters
+-- two texts, one after another
+abbrev pub IsPair : (List ℕ → Type 0) → (List ℕ → Type 0) → List ℕ → Type 0
+IsPair is_first is_second text = (a : List ℕ) × is_first a × (b : List ℕ) × is_second b × (text ≡ a ++ b)
+
+-- the pieces of a declaration: of a member of a class, with its own name, and the run of its parameters. Before its name is how the
+-- result is marshalled, and before the name of a parameter how this is (II.15.3, II.15.4)
 abbrev pub IsDeclaredPiece : Metadata → Token → List ℕ → ℕ → ℕ → Piece → List ℕ → Type 0
-IsDeclaredPiece model class own first past method_name text = IsMemberOfClass model class own text
+IsDeclaredPiece model class own first past method_name text =
+    IsPair (IsParamText (IsMarshalOf before_space) model first past 0) (IsMemberOfClass model class own) text
 IsDeclaredPiece model class own first past (param_flags position) text = IsParamText IsFlagsOf model first past position text
-IsDeclaredPiece model class own first past (param_name position) text = IsParamText IsNameOf model first past position text
+IsDeclaredPiece model class own first past (param_name position) text =
+    IsPair (IsParamText (IsMarshalOf after_space) model first past position) (IsParamText IsNameOf model first past position) text
 IsDeclaredPiece model class own first past piece text = IsPieceText (IsFullName model) piece text
 
 -- the text of the declaration of a method that has this signature

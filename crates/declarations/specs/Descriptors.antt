@@ -1,9 +1,11 @@
 -- The text of a marshalling descriptor (ECMA-335 II.7.4, II.23.4, and Microsoft's ilasm).
-use Rattle.std.specs.Prelude.{ℕ, ◌%◌, ◌==◌, if◌then◌else◌, Option, None, Some, List, [], ◌∷◌, ◌++◌, codes, decimal}
+use Rattle.std.specs.Prelude.{ℕ, ◌%◌, ◌==◌, nat_le, if◌then◌else◌, Option, None, Some, List, [], ◌∷◌, ◌++◌, length, codes, decimal, flat_map}
+use Rattle.table_schema.specs.Tokens.{hexadecimal}
 use Rattle.full_names.specs.Quoted.{quoted_bytes}
 use Rattle.marshal_descriptors.specs.declared.native.Native.{Native}
 use Rattle.marshal_descriptors.specs.declared.descriptor.ArraySize.{ArraySize}
 use Rattle.marshal_descriptors.specs.declared.descriptor.ArraySize.TheVariants.{Unknown, Param, ParamAndCount, WithFlags}
+use Rattle.marshal_descriptors.specs.Reading.{descriptor_of}
 use Rattle.marshal_descriptors.specs.Values.{Custom, Descriptor, native, array, interface_of, fixed_string, fixed_array, safe_array, safe_array_of, safe_array_named, custom}
 use Rattle.marshal_descriptors.specs.Words.{native_word, variant_word}
 
@@ -67,3 +69,24 @@ descriptor_text safe_array = codes "safearray"
 descriptor_text (safe_array_of n) = safe_text n []
 descriptor_text (safe_array_named n name) = safe_text n name
 descriptor_text (custom c) = custom_text c
+
+-- the largest blob that is decoded, in bytes
+abbrev pub descriptor_limit : ℕ
+descriptor_limit = 0x10000
+
+-- the descriptor that a blob is (II.23.4), unless it is too long
+abbrev pub descriptor_in : List ℕ → Option Descriptor
+descriptor_in blob = if nat_le (length blob) descriptor_limit then descriptor_of blob else None
+
+-- two hexadecimal digits for each byte
+abbrev pub bytes_text : List ℕ → List ℕ
+bytes_text blob = flat_map (hexadecimal 2) blob
+
+-- a descriptor, or the bytes of a blob that is none
+abbrev pub content_text : Option Descriptor → List ℕ → List ℕ
+content_text None blob = bytes_text blob
+content_text (Some of) blob = descriptor_text of
+
+-- how a parameter or a result is marshalled (II.7.4, II.15.4)
+abbrev pub marshal_text : List ℕ → List ℕ
+marshal_text blob = codes "marshal(" ++ (content_text (descriptor_in blob) blob ++ codes ")")

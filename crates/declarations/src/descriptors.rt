@@ -1,12 +1,17 @@
 //! The text of marshalling descriptors (II.7.4, II.23.4).
-ghost use Rattle.std.specs.Prelude.{◌≡◌, ◌++◌, OnOk};
+ghost use Rattle.std.specs.Prelude.{◌≡◌, ◌++◌, OnOk, option_map};
 ghost use Rattle.std.specs.Fmt.{WritesInCalls};
+ghost use Rattle.table_schema.specs.Tokens.{hexadecimal};
 ghost use Rattle.marshal_descriptors.specs.Views.{custom_view, view};
-ghost use Rattle.declarations.specs.Descriptors.{custom_text, descriptor_text, element_word, fixed_text, library_text, quoted_text, safe_text, size_text, sum_text, type_after, variant_text};
+ghost use Rattle.declarations.specs.Declarations.{after_space, before_space, marshalled};
+ghost use Rattle.declarations.specs.Descriptors.{bytes_text, content_text, custom_text, descriptor_in, descriptor_text, element_word, fixed_text, library_text, marshal_text, quoted_text, safe_text, size_text, sum_text, type_after, variant_text};
 
 use full_names::{Limit, write_quoted, write_text};
-use marshal_descriptors::{ArraySize, Custom, Descriptor, Native, variant_word};
+use marshal_descriptors::{ArraySize, Custom, Descriptor, Native, read_descriptor, variant_word};
 use std::fmt;
+
+/// The largest blob that is decoded, in bytes.
+const LIMIT: usize = 1 << 16;
 
 /// The word for the type of elements; empty if it is unknown.
 fn element_word(of: Option<Native>) -> &'static str
@@ -163,5 +168,88 @@ pub fn write_descriptor<W: fmt::Write, L: Limit<W>>(
         Descriptor::SafeArrayOf(of) => write_safe_array(out, of, "", limit),
         Descriptor::SafeArrayNamed(of, name) => write_safe_array(out, of, name, limit),
         Descriptor::Custom(custom) => write_custom(out, custom, limit),
+    }
+}
+
+/// The descriptor that a blob is (II.23.4); `None` if it is none, or has more than 65,536 bytes.
+pub fn descriptor_in(blob: &[u8]) -> Option<Descriptor<'_>>
+    ensures { option_map view result ≡ descriptor_in blob.now }
+{
+    if blob.len() > LIMIT {
+        return None;
+    }
+    read_descriptor(blob)
+}
+
+/// Writes the two hexadecimal digits of a byte.
+fn write_byte<W: fmt::Write>(out: &mut W, byte: u8) -> fmt::Result
+    ensures { OnOk result (WritesInCalls W.write_str_gives out.old (hexadecimal 2 byte) out.new) }
+{
+    write!(out, "{byte:02x}")
+}
+
+/// Writes two hexadecimal digits for each byte, until the limit is reached.
+fn write_bytes<W: fmt::Write, L: Limit<W>>(out: &mut W, blob: &[u8], limit: &L) -> fmt::Result
+    ensures { OnOk result (WritesInCalls W.write_str_gives out.old (bytes_text blob.now) out.new) }
+{
+    for byte in blob {
+        if limit.is_reached(out) {
+            return Ok(());
+        }
+        write_byte(out, *byte)?;
+    }
+    Ok(())
+}
+
+/// Writes a descriptor, or the bytes of a blob that is none.
+fn write_content<W: fmt::Write, L: Limit<W>>(out: &mut W, blob: &[u8], limit: &L) -> fmt::Result
+    ensures { OnOk result (WritesInCalls W.write_str_gives out.old (content_text (descriptor_in blob.now) blob.now) out.new) }
+{
+    match descriptor_in(blob) {
+        Some(of) => write_descriptor(out, of, limit),
+        None => write_bytes(out, blob, limit),
+    }
+}
+
+/// Writes how a parameter or a result is marshalled.
+fn write_marshal<W: fmt::Write, L: Limit<W>>(out: &mut W, blob: &[u8], limit: &L) -> fmt::Result
+    ensures { OnOk result (WritesInCalls W.write_str_gives out.old (marshal_text blob.now) out.new) }
+{
+    write!(out, "marshal(")?;
+    write_content(out, blob, limit)?;
+    write!(out, ")")
+}
+
+/// Writes how a parameter is marshalled, after a space; nothing if it is not.
+pub(crate) fn write_after_space<W: fmt::Write, L: Limit<W>>(
+    out: &mut W,
+    blob: Option<&[u8]>,
+    limit: &L,
+) -> fmt::Result
+    ensures { OnOk result (WritesInCalls W.write_str_gives out.old (marshalled after_space (option_map (λ of. of.now) blob.entry)) out.new) }
+{
+    match blob {
+        Some(blob) => {
+            write!(out, " ")?;
+            write_marshal(out, blob, limit)
+        }
+        None => Ok(()),
+    }
+}
+
+/// Writes how a result is marshalled, before a space; nothing if it is not.
+pub(crate) fn write_before_space<W: fmt::Write, L: Limit<W>>(
+    out: &mut W,
+    blob: Option<&[u8]>,
+    limit: &L,
+) -> fmt::Result
+    ensures { OnOk result (WritesInCalls W.write_str_gives out.old (marshalled before_space (option_map (λ of. of.now) blob.entry)) out.new) }
+{
+    match blob {
+        Some(blob) => {
+            write_marshal(out, blob, limit)?;
+            write!(out, " ")
+        }
+        None => Ok(()),
     }
 }

@@ -18,10 +18,10 @@ mod references;
 mod scopes;
 mod signature_text;
 
-pub use descriptors::write_descriptor;
+pub use descriptors::{descriptor_in, write_descriptor};
 pub use flag_words::{FlagTable, FlagWord, words_of};
 pub use full_names::{Limit, NoLimit, ReadCells, ReadMetadata, TableId, TextError, Token};
-pub use methods::{write_method, write_method_within, write_property_within};
+pub use methods::{write_method, write_method_of, write_method_within, write_property_within};
 pub use references::write_reference;
 pub use scopes::scope_of;
 pub use signature_text::write_signature_text;

@@ -6,8 +6,9 @@ ghost use Rattle.full_names.specs.Names.{Wrote};
 ghost use Rattle.full_names.specs.TextEnd.{IsWhole};
 ghost use Rattle.full_names.specs.RowNames.{IsRowName};
 ghost use Rattle.full_names.specs.Texts.{ArePiecesText};
-ghost use Rattle.declarations.specs.Declarations.{AreParams, IsDeclaredPiece, IsMemberOfClass};
+ghost use Rattle.declarations.specs.Declarations.{AreParams, IsDeclaredPiece, IsMarshalOf, IsMemberOfClass, IsNameOf, IsPair, IsParamText, after_space, before_space};
 
+use crate::descriptors::{write_after_space, write_before_space};
 use crate::params::{Params, write_flags, write_spaced};
 use full_names::{
     Limit, TextEnd, TextError, keep, keep_refusal, write_full_name_within, write_number,
@@ -119,9 +120,9 @@ impl<S: ReadCells, W: fmt::Write, L: Limit<W>> TextSink for MethodText<'_, '_, S
 
 impl<S: ReadCells, W: fmt::Write, L: Limit<W>> MethodSink for MethodText<'_, '_, S, W, L> {
     fn method_name(&mut self) -> Option<()> {
-        let written = write_member(
+        let written = write_marshalled_member(
             self.alloc,
-            self.params.source,
+            self.params,
             self.of,
             self.limit,
             self.writer,
@@ -135,7 +136,7 @@ impl<S: ReadCells, W: fmt::Write, L: Limit<W>> MethodSink for MethodText<'_, '_,
     }
 
     fn param_name(&mut self, position: u32) -> Option<()> {
-        let written = write_spaced(self.writer, self.params.name(position), self.limit);
+        let written = write_param(self.params, position, self.limit, self.writer);
         keep_refusal(&mut self.ended, written)
     }
 }
@@ -153,6 +154,35 @@ fn write_member<S: ReadCells, W: fmt::Write, L: Limit<W>>(
 {
     write_row_name(alloc, source, of.class, limit, out)?;
     Ok(write_own_name(out, of.name, limit)?)
+}
+
+/// Writes the same after how the result is marshalled.
+fn write_marshalled_member<S: ReadCells, W: fmt::Write, L: Limit<W>>(
+    alloc: Global,
+    params: &Params<'_, S>,
+    of: Declared<'_>,
+    limit: &L,
+    out: &mut W,
+) -> Result<(), TextError>
+    ensures { (model : Metadata) → S.shows params.now.source.now model → (first past : ℕ) → AreParams model first past params.now.rows.items
+        → OnOk result (Wrote W.write_str_gives out.old (IsPair (IsParamText (IsMarshalOf before_space) model first past 0) (IsMemberOfClass model of.entry.class of.entry.name.now)) out.new) }
+{
+    write_before_space(out, params.descriptor(0), limit)?;
+    write_member(alloc, params.source, of, limit, out)
+}
+
+/// Writes how a parameter is marshalled, and its name.
+fn write_param<S: ReadCells, W: fmt::Write, L: Limit<W>>(
+    params: &Params<'_, S>,
+    position: u32,
+    limit: &L,
+    out: &mut W,
+) -> fmt::Result
+    ensures { (model : Metadata) → S.shows params.now.source.now model → (first past : ℕ) → AreParams model first past params.now.rows.items
+        → OnOk result (Wrote W.write_str_gives out.old (IsPair (IsParamText (IsMarshalOf after_space) model first past position) (IsParamText IsNameOf model first past position)) out.new) }
+{
+    write_after_space(out, params.descriptor(position), limit)?;
+    write_spaced(out, params.name(position), limit)
 }
 
 /// Puts the declaration of a method, a property or a field into its sink, from the bytes of its signature. Its type or its

@@ -1,9 +1,11 @@
-ghost use Rattle.std.specs.Prelude.{◌≡◌, ◌≤◌, ℕ, Bool, List, OnOk};
+ghost use Rattle.std.specs.Prelude.{◌≡◌, ◌≤◌, ℕ, Bool, List, IfSome, OnOk};
 ghost use Rattle.table_schema.specs.declared.table.TableId.TheVariants.{MethodDef, Property};
 ghost use Rattle.sig_grammar.specs.Syntax.{Body, Method, Slot, method_body, property};
 ghost use Rattle.sig_text.specs.Declares.{Declares, as_method, member_text};
 ghost use Rattle.metadata.specs.Cell.{Sig};
 ghost use Rattle.metadata.specs.Metadata.{Metadata, cell_in};
+ghost use Rattle.metadata.specs.Model.{IsModel};
+ghost use Rattle.opening.specs.Views.{row_count};
 ghost use Rattle.full_names.specs.Names.{Wrote};
 ghost use Rattle.full_names.specs.RowNames.{IsRowName};
 ghost use Rattle.full_names.specs.Texts.{ArePiecesText};
@@ -13,7 +15,7 @@ use crate::method_text::{Declared, MethodText, put_declaration};
 use crate::params::Params;
 use full_names::{Limit, NoLimit, TextError, bytes_of, result_of};
 use metadata_source::params_of;
-use navigation::{ReadCells, cells, type_of_method, type_of_property};
+use navigation::{Neighbours, ReadCells, cells, type_of_method, type_of_property};
 use std::alloc::Global;
 use std::fmt;
 use table_schema::{SigKind, TableId, Token};
@@ -35,15 +37,17 @@ const PROPERTY_SIGNATURE: usize = 2;
 pub(crate) fn write_declared<S: ReadCells, W: fmt::Write, L: Limit<W>>(
     alloc: Global,
     source: &S,
+    links: Option<&Neighbours<'_, '_>>,
     of: Declared<'_>,
     bytes: &[u8],
     limit: &L,
     out: &mut W,
 ) -> Result<(), TextError>
+    requires linked { ∥ IfSome links (λ at. (model : Metadata) → S.shows source.now model → IsModel at.now.view.now model) ∥₁ }
     ensures { (model : Metadata) → S.shows source.now model → (signature : Body) → Declares signature bytes.now → (text : List ℕ) → IsRowName model of.entry.class text
         → OnOk result (Wrote W.write_str_gives out.old (ArePiecesText (IsDeclaredPiece model of.entry.class of.entry.name.now of.entry.first of.entry.past) (member_text signature)) out.new) }
 {
-    let params = Params::new(alloc, source, of.first..of.past)?;
+    let params = Params::new(alloc, source, links, of.first..of.past)?;
     let mut sink = MethodText::new(alloc, &params, of, limit, out);
     put_declaration(&mut sink, bytes);
     result_of(sink.ended)
@@ -53,7 +57,8 @@ pub(crate) fn write_declared<S: ReadCells, W: fmt::Write, L: Limit<W>>(
 ///
 /// That is its calling convention, its result, its type as [`write_full_name`](full_names::write_full_name) writes it, its
 /// name, and its parameters with their flags (II.23.1.13) and names. A parameter has those of the first row of Param that has
-/// its position; the rows may be in any order (II.22.33). Names are quoted as [`write_name`](full_names::write_name) does.
+/// its position; the rows may be in any order (II.22.33). How the result and a parameter are marshalled is before their names,
+/// as `marshal(lpstr)` (II.22.17); a blob that is no descriptor is written in hexadecimal. Names are quoted as [`write_name`](full_names::write_name) does.
 ///
 /// It allocates eight bytes for each row of Param of the method, and the bytes of signatures that are held as values. Its
 /// time is linear in the text, but for log n for each of these rows.
@@ -69,8 +74,7 @@ pub fn write_method<S: ReadCells, W: fmt::Write>(
 ) -> Result<(), TextError>
     requires first { 1 ≤ row }
     requires last { row ≤ S.row_count source.now MethodDef }
-    ensures text { (model : Metadata) → S.shows source.now model → (method : Method) → cell_in model MethodDef row 4 ≡ Sig (method_body method)
-        → OnOk result (Wrote W.write_str_gives out.old (IsDeclaration model row method) out.new) }
+    ensures text { (model : Metadata) → S.shows source.now model → (method : Method) → cell_in model MethodDef row 4 ≡ Sig (method_body method) → OnOk result (Wrote W.write_str_gives out.old (IsDeclaration model row method) out.new) }
 {
     write_method_within(alloc, source, row, &NoLimit, out)
 }
@@ -80,7 +84,6 @@ pub fn write_method<S: ReadCells, W: fmt::Write>(
 /// # Errors
 ///
 /// `Writer` if the writer refused a part of the text. `Memory` if out of memory.
-#[tactic(auto, unfolding(table_schema::specs::CellColumns::cell_columns))]
 pub fn write_method_within<S: ReadCells, W: fmt::Write, L: Limit<W>>(
     alloc: Global,
     source: &S,
@@ -90,6 +93,46 @@ pub fn write_method_within<S: ReadCells, W: fmt::Write, L: Limit<W>>(
 ) -> Result<(), TextError>
     requires first { 1 ≤ row }
     requires last { row ≤ S.row_count source.now MethodDef }
+    ensures text { (model : Metadata) → S.shows source.now model → (method : Method) → cell_in model MethodDef row 4 ≡ Sig (method_body method)
+        → OnOk result (Wrote W.write_str_gives out.old (IsDeclaration model row method) out.new) }
+{
+    write_method_by(alloc, source, None, row, limit, out)
+}
+
+/// Writes a method of a view as [`write_method_within`] does. Rows of FieldMarshal that are not in order are found by binary
+/// search too.
+///
+/// # Errors
+///
+/// `Writer` if the writer refused a part of the text. `Memory` if out of memory.
+pub fn write_method_of<W: fmt::Write, L: Limit<W>>(
+    alloc: Global,
+    source: &Neighbours<'_, '_>,
+    row: u32,
+    limit: &L,
+    out: &mut W,
+) -> Result<(), TextError>
+    requires first { 1 ≤ row }
+    requires last { row ≤ row_count source.now.view.now MethodDef }
+    ensures text { (model : Metadata) → IsModel source.now.view.now model → (method : Method) → cell_in model MethodDef row 4 ≡ Sig (method_body method)
+        → OnOk result (Wrote W.write_str_gives out.old (IsDeclaration model row method) out.new) }
+{
+    write_method_by(alloc, source, Some(source), row, limit, out)
+}
+
+/// Writes a method, with the references of its view if they are known.
+#[tactic(auto, unfolding(table_schema::specs::CellColumns::cell_columns))]
+fn write_method_by<S: ReadCells, W: fmt::Write, L: Limit<W>>(
+    alloc: Global,
+    source: &S,
+    links: Option<&Neighbours<'_, '_>>,
+    row: u32,
+    limit: &L,
+    out: &mut W,
+) -> Result<(), TextError>
+    requires first { 1 ≤ row }
+    requires last { row ≤ S.row_count source.now MethodDef }
+    requires linked { ∥ IfSome links (λ of. (model : Metadata) → S.shows source.now model → IsModel of.now.view.now model) ∥₁ }
     ensures text { (model : Metadata) → S.shows source.now model → (method : Method) → cell_in model MethodDef row 4 ≡ Sig (method_body method)
         → OnOk result (Wrote W.write_str_gives out.old (IsDeclaration model row method) out.new) }
 {
@@ -107,7 +150,7 @@ pub fn write_method_within<S: ReadCells, W: fmt::Write, L: Limit<W>>(
         first: rows.start,
         past: rows.end,
     };
-    write_declared(alloc, source, of, bytes_of(&bytes), limit, out)
+    write_declared(alloc, source, links, of, bytes_of(&bytes), limit, out)
 }
 
 /// Writes a property as it is declared (II.17), up to a limit: `instance int32 Hello.Greeter::Item(string)`.
@@ -144,5 +187,5 @@ pub fn write_property_within<S: ReadCells, W: fmt::Write, L: Limit<W>>(
         first: 0,
         past: 0,
     };
-    write_declared(alloc, source, of, bytes_of(&bytes), limit, out)
+    write_declared(alloc, source, None, of, bytes_of(&bytes), limit, out)
 }

@@ -1,22 +1,27 @@
-//! The flags and the names of the parameters of a method, by their positions (II.22.33).
-ghost use Rattle.std.specs.Prelude.{◌≡◌, ℕ, ◌+◌, ◌-◌, ◌≤◌, All, IfOk, OnOk};
+//! The flags, the names and the marshalling of the parameters of a method, by their positions (II.22.17, II.22.33).
+ghost use Rattle.std.specs.Prelude.{◌≡◌, ℕ, ◌+◌, ◌-◌, ◌≤◌, All, IfOk, IfSome, OnOk};
 ghost use Rattle.std.specs.Fmt.{WritesInCalls};
 ghost use Rattle.std.specs.List.{filter};
 ghost use Rattle.std.specs.List.Sorted.{IsNonDecreasingBy};
-ghost use Rattle.table_schema.specs.declared.table.TableId.TheVariants.{Param};
-ghost use Rattle.metadata.specs.Metadata.{Metadata};
+ghost use Rattle.table_schema.specs.declared.table.TableId.TheVariants.{FieldMarshal, Param};
+ghost use Rattle.metadata.specs.Metadata.{Metadata, cell_in};
+ghost use Rattle.metadata.specs.Model.{IsModel};
+ghost use Rattle.navigation.specs.declared.links.Link.TheVariants as link;
+ghost use Rattle.navigation.specs.Linked.{first_linked};
 ghost use Rattle.navigation.specs.Keyed.{has_key, key_of, keyed_rows};
-ghost use Rattle.declarations.specs.Declarations.{position_in, spaced};
+ghost use Rattle.declarations.specs.Declarations.{bytes_of, param_token, position_in, spaced};
 ghost use Rattle.declarations.specs.FlagWords.{leading_text, leading_words, shown_word, words_of};
 ghost use Rattle.declarations.specs.declared.flag_words.FlagTable.TheVariants as table;
 
 use crate::flag_words::{FlagTable, FlagWord, words_of};
 use full_names::{Limit, NameKind, write_name, write_text};
-use navigation::{KeyedRow, ReadCells, cells, sort_by_key, with_key};
+use metadata_source::rows_by_key;
+use navigation::{KeyedRow, Link, Neighbours, ReadCells, cells, sort_by_key, with_key};
+use reading::CellRef;
 use std::alloc::{AllocError, Global};
 use std::fmt;
 use std::ops::Range;
-use table_schema::TableId;
+use table_schema::{TableId, Token};
 
 /// The cell of a parameter's flags (II.22.33).
 const FLAGS: usize = 0;
@@ -26,6 +31,63 @@ const SEQUENCE: usize = 1;
 
 /// The cell of a parameter's name (II.22.33).
 const NAME: usize = 2;
+
+/// The cell of a descriptor (II.22.17).
+const DESCRIPTOR: usize = 1;
+
+/// The first row of FieldMarshal that refers to a parameter; `None` if there is none. It is found by binary search if the
+/// table is in order. Otherwise each row is looked at.
+fn row_by_key<S: ReadCells>(source: &S, param: u32) -> Option<u32>
+    requires { 1 ≤ param }
+    ensures { (model : Metadata) → S.shows source.now model → result ≡ first_linked model link.Marshalling (param_token param) }
+{
+    metadata::laws::key_numbers_are_one();
+    source.holds_one();
+    let token = Token {
+        table: TableId::Param,
+        row: param,
+    };
+    let mut rows = rows_by_key(source, TableId::FieldMarshal, token);
+    rows.next()
+}
+
+/// The same, by the references of a view if they are known.
+fn marshal_row<S: ReadCells>(
+    source: &S,
+    links: Option<&Neighbours<'_, '_>>,
+    param: u32,
+) -> Option<u32>
+    requires first { 1 ≤ param }
+    requires last { param ≤ S.row_count source.now Param }
+    requires linked { ∥ IfSome links (λ of. (model : Metadata) → S.shows source.now model → IsModel of.now.view.now model) ∥₁ }
+    ensures row { (model : Metadata) → S.shows source.now model → result ≡ first_linked model link.Marshalling (param_token param) }
+    ensures there { IfSome result (λ row. (1 ≤ row) × (row ≤ S.row_count source.now FieldMarshal)) }
+{
+    source.holds_one();
+    // The table has at most 0xFFFFFF rows.
+    let _count = source.count(TableId::Param);
+    let token = Token {
+        table: TableId::Param,
+        row: param,
+    };
+    match links {
+        Some(neighbours) => neighbours.first_linked(Link::Marshalling, token),
+        None => row_by_key(source, param),
+    }
+}
+
+/// The blob of a row of FieldMarshal.
+#[tactic(auto, unfolding(table_schema::specs::CellColumns::cell_columns))]
+fn blob<S: ReadCells>(source: &S, row: u32) -> &[u8]
+    requires first { 1 ≤ row }
+    requires last { row ≤ S.row_count source.now FieldMarshal }
+    ensures { (model : Metadata) → S.shows source.now model → result.now ≡ bytes_of (cell_in model FieldMarshal row 1) }
+{
+    match source.cell(TableId::FieldMarshal, row, DESCRIPTOR) {
+        CellRef::Bytes(blob) => blob,
+        _ => &[],
+    }
+}
 
 /// The rows of Param from one on to before another, each with its position.
 #[tactic(auto, unfolding(table_schema::specs::CellColumns::cell_columns))]
@@ -55,22 +117,30 @@ fn read_positions<S: ReadCells>(
 pub struct Params<'s, S: ReadCells> {
     /// The metadata of the rows.
     pub source: &'s S,
+    links: Option<&'s Neighbours<'s, 's>>,
     rows: Vec<KeyedRow>,
+    ghost linked: { ∥ IfSome links (λ of. (model : Metadata) → S.shows source.now model → IsModel of.now.view.now model) ∥₁ },
     ghost sorted: { IsNonDecreasingBy key_of rows.items },
     ghost within: { (key : ℕ) → All (λ param. (1 ≤ param.row) × (param.row ≤ S.row_count source.now Param)) (filter (has_key key) rows.items) },
 }
 
 impl<'s, S: ReadCells> Params<'s, S> {
-    ghost use Rattle.std.specs.Prelude.{◌≡◌, ℕ, IfOk};
+    ghost use Rattle.std.specs.Prelude.{◌≡◌, ◌≤◌, ℕ, List, IfOk, IfSome, option_map};
     ghost use Rattle.metadata.specs.Metadata.{Metadata};
-    ghost use Rattle.std.specs.Prelude.{◌≤◌, IfSome};
+    ghost use Rattle.metadata.specs.Model.{IsModel};
     ghost use Rattle.table_schema.specs.declared.table.TableId.TheVariants.{Param};
-    ghost use Rattle.declarations.specs.Declarations.{AreParams, IsFlagsOf, IsNameOf, IsParamRow, IsParamText, spaced};
+    ghost use Rattle.declarations.specs.Declarations.{AreParams, IsFlagsOf, IsMarshalOf, IsNameOf, IsParamRow, IsParamText, marshalled, spaced};
     ghost use Rattle.declarations.specs.FlagWords.{leading_words, words_of};
     ghost use Rattle.declarations.specs.declared.flag_words.FlagTable.TheVariants as table;
 
     /// Sorts the rows of Param from one on to before another by their positions. It fails only if out of memory.
-    pub fn new(alloc: Global, source: &'s S, rows: Range<u32>) -> Result<Params<'s, S>, AllocError>
+    pub fn new(
+        alloc: Global,
+        source: &'s S,
+        links: Option<&'s Neighbours<'s, 's>>,
+        rows: Range<u32>,
+    ) -> Result<Params<'s, S>, AllocError>
+        requires linked { ∥ IfSome links (λ of. (model : Metadata) → S.shows source.now model → IsModel of.now.view.now model) ∥₁ }
         ensures source { IfOk result (λ params. params.source.now ≡ source.now) }
         ensures rows { (model : Metadata) → S.shows source.now model → IfOk result (λ params. AreParams model rows.start rows.«end» params.rows.items) }
     {
@@ -81,6 +151,7 @@ impl<'s, S: ReadCells> Params<'s, S> {
         sort_by_key(&mut found)?;
         Ok(Params {
             source,
+            links,
             rows: found,
         })
     }
@@ -109,6 +180,16 @@ impl<'s, S: ReadCells> Params<'s, S> {
             Some(row) => cells::text(self.source, TableId::Param, row, NAME),
             None => "",
         }
+    }
+
+    /// The blob of how the parameter with a position is marshalled; `None` if it is not. The result has position 0.
+    pub fn descriptor(&self, position: u32) -> Option<&[u8]>
+        ensures { (model : Metadata) → S.shows self.now.source.now model → (first past : ℕ) → AreParams model first past self.now.rows.items
+            → (space : List ℕ → List ℕ) → IsParamText (IsMarshalOf space) model first past position (marshalled space (option_map (λ blob. blob.now) result)) }
+    {
+        let param = self.row(position)?;
+        let row = marshal_row(self.source, self.links, param)?;
+        Some(blob(self.source, row))
     }
 
     /// The flags of the parameter with a position; 0 if there is none.

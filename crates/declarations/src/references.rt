@@ -64,7 +64,7 @@ fn write_method_reference<S: ReadCells, W: fmt::Write, L: Limit<W>>(
         first: 0,
         past: 0,
     };
-    write_declared(alloc, source, of, bytes_of(&bytes), limit, out)
+    write_declared(alloc, source, None, of, bytes_of(&bytes), limit, out)
 }
 
 /// Writes a reference to a method or a field by a MemberRef.
@@ -90,7 +90,7 @@ fn write_member_reference<S: ReadCells, W: fmt::Write, L: Limit<W>>(
         first: 0,
         past: 0,
     };
-    write_declared(alloc, source, of, bytes_of(&bytes), limit, out)
+    write_declared(alloc, source, None, of, bytes_of(&bytes), limit, out)
 }
 
 /// Writes a reference to a row, up to a limit: to a method or a field with its signature (II.15.3), so that overloads differ.

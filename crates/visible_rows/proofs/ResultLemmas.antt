@@ -13,7 +13,7 @@ use Rattle.visible_rows.specs.Visible.{AreVisibleTypes, HaveVisibleAccessors, ha
 -- a test of what the elements of a list are
 pub any_of_map : {X Y : Type 0} (p : Y → Bool) (f : X → Y) (xs : List X) → list_any p (map f xs) ≡ list_any (λ (x : X). p (f x)) xs
 any_of_map p f [] = refl
-any_of_map p f (x ∷ xs) = ap (λ (rest : Bool). p (f x) || rest) (any_of_map p f xs)
+any_of_map p f (x ∷ xs) = ap (λ (tail : Bool). p (f x) || tail) (any_of_map p f xs)
 
 -- the result of a type
 pub type_at : (root : List ℕ) (types : List Bool) → AreVisibleTypes root types → (model : Metadata) → IsModel root model → (class : ℕ) → class ≤ row_count root TypeDef

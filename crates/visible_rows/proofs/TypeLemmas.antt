@@ -10,9 +10,9 @@ use Rattle.visible_rows.specs.Visible.{access_in, is_open_nested, is_public_type
 
 module _ (model : Metadata) (valid : IsValid model) where
   -- the test of a row, and what is found by it
-  by_test : (test : Bool) (nested enclosing class rest : ℕ) → (test ≡ true → nested ≡ class) → enclosing < nested → rest < class → cond test enclosing rest < class
-  by_test true nested enclosing class rest same before less = let e = same refl in omega (arith, e, before)
-  by_test false nested enclosing class rest same before less = less
+  by_test : (test : Bool) (nested enclosing class tail : ℕ) → (test ≡ true → nested ≡ class) → enclosing < nested → tail < class → cond test enclosing tail < class
+  by_test true nested enclosing class tail same before less = let e = same refl in omega (arith, e, before)
+  by_test false nested enclosing class tail same before less = less
 
   among_before : (class : ℕ) → 1 ≤ class → (first count : ℕ) → 1 ≤ first → first + count ≤ count_in model NestedClass + 1
       → outer_among model (range_with_len first count) class < class

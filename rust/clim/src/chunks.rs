@@ -40,7 +40,8 @@ impl<'v, 'a> Chunks<'v, 'a> {
     fn read_rows(&mut self) {
         self.room = self.unread.len().min((2 * self.room).clamp(FIRST_ROWS, MOST_ROWS));
         self.cells.resize(self.room * self.columns.len(), CLIM_NO_CELL);
-        let mut count = self.room;
+        // No rows of no columns.
+        let mut count = self.room.min(self.cells.len());
         for (column, cells) in self.columns.clone().zip(self.cells.chunks_mut(self.room.max(1))) {
             count = count.min(self.view.write_cells(self.table, self.unread.start, column, cells));
         }

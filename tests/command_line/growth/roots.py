@@ -266,6 +266,35 @@ def one_native_type(size):
     return Root(rows, b"\0a\0", heap(FIELD, blob_of(bytes(size // 2))))
 
 
+def fields_with_one_marshaler(size):
+    """Fields whose descriptors are one custom marshaler with a long name."""
+    count, name = size // 28, b"b" * (size // 4)
+    rows = {"TypeDef": [type_row()], "Field": [(0, 1, 1)] * count}
+    rows["FieldMarshal"] = [(coded("HasFieldMarshal", "Field", 1 + it), 1 + len(FIELD)) for it in range(count)]
+    return Root(rows, b"\0a\0", heap(FIELD, blob_of(b"\x2c\0\0" + packed(len(name)) + name + b"\0")))
+
+
+def parameters_with_one_bad_marshaler(size):
+    """Methods with a parameter whose descriptors are a long blob that is none because of its last byte."""
+    count, name = size // 48, b"b" * (size // 4)
+    rows = methods_of_one_parameter(count)
+    rows["FieldMarshal"] = [(coded("HasFieldMarshal", "Param", 1 + it), 1 + len(parameters_of(1))) for it in range(count)]
+    return Root(rows, b"\0a\0", heap(parameters_of(1), blob_of(b"\x2c\0\0" + packed(len(name)) + name + b"\0\0")))
+
+
+def methods_of_one_parameter(count):
+    """Tables of methods with one parameter each."""
+    methods = [method_row(params=1 + it) for it in range(count)]
+    return {"TypeDef": [type_row()], "MethodDef": methods, "Param": [(0, 1, 1)] * count}
+
+
+def parameters_marshalled_out_of_order(size):
+    count = size // 28
+    rows = methods_of_one_parameter(count)
+    rows["FieldMarshal"] = [(coded("HasFieldMarshal", "Param", it), 1 + len(parameters_of(1))) for it in mixed(count)]
+    return Root(rows, b"\0a\0", heap(parameters_of(1), blob_of(b"\x14")))
+
+
 def constants_with_one_value(size):
     """Fields whose constants are one long text."""
     count = size // 28

@@ -3,7 +3,7 @@
 import re
 from collections import defaultdict
 
-from texts import ACCESSORS, CODE, Quoted, flags_of, no_kinds, opening, ordered, plain, split_list, split_outside, values_of
+from texts import ACCESSORS, CODE, Quoted, flags_of, marshalled, no_kinds, opening, ordered, plain, split_list, split_outside, values_of
 
 # The words that monodis has for flags.
 WORDS = {
@@ -55,20 +55,11 @@ def numbered(text, mark, names):
     return text
 
 
-def without_marshal(text):
-    """A text without how a field, a parameter or a result is marshalled."""
-    start = re.search(r"\bmarshal ?\(", text)
-    if not start:
-        return text
-    end = next(at for at in range(start.end(), len(text)) if text[at] == ")" and opening(text, at) == start.end() - 1)
-    return f"{text[:start.start()]}{text[end + 1:].lstrip()}"
-
-
 def bare_param(text):
     """A parameter with its flags as the program has them, and without the name that monodis gives to one that has none."""
     flags = re.match(r"(\[(in|out|opt)\]\s*)*", text)[0]
     words = "".join(f"[{it}] " for it in ("in", "out", "opt") if f"[{it}]" in flags)
-    return words + re.sub(r" A_\d+$", "", without_marshal(text[len(flags):]))
+    return words + re.sub(r" A_\d+$", "", text[len(flags):])
 
 
 class Reader:
@@ -150,14 +141,18 @@ class Reader:
         values = [*values_of(text, unescaped_text)]
         text = re.split(r" = | at [A-Z]_", re.sub(r"^\[\d+\] ", "", text))[0].strip()
         flags, tail = flags_of(text, WORDS)
-        flags, tail = flags_of(f"{flags} {without_marshal(tail)}")
+        tail, how = marshalled(tail)
+        flags, tail = flags_of(f"{flags} {tail}")
         of, _, name = tail.strip().rpartition(" ")
+        if how:
+            self.add("marshal", self.quoted.show(f"{how} of {name}"))
         self.add("field", f"{flags} {self.show(of)} {self.quoted.show(name)}")
         for value in values:
             self.add("value", self.quoted.show(f"{value} of {name}"))
 
     def read_method(self, text):
         imported = re.search(r'pinvokeimpl \("(.*?)" as "(.*?)"([^)]*)\)', text)
+        text, how = marshalled(text)
         flags, tail = flags_of(re.sub(r"pinvokeimpl \([^)]*\)", "pinvokeimpl", text), WORDS)
         code = CODE.search(tail)
         start = opening(tail, code.start())
@@ -170,8 +165,10 @@ class Reader:
         names = self.add_params(name, params, of_method=True)
         arity = f"<[{len(names)}]>" if names else ""
         typed = ", ".join(bare_param(it) for it in split_list(tail[start + 1:code.start()]))
-        declared = f"{self.show(without_marshal(of), names)} {name}{arity}({self.show(typed, names)})"
+        declared = f"{self.show(of, names)} {name}{arity}({self.show(typed, names)})"
         self.add("method", f"{flags} {declared} {ordered(standard(code[1]))}")
+        if how:
+            self.add("marshal", f"{how} of {name}")
         if imported:
             self.add("import", f"{imported[1]} as {imported[2]} {ordered(standard(imported[3]))} of {name}")
         self.read_body(name, names)

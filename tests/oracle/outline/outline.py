@@ -3,7 +3,7 @@
 import re
 from collections import defaultdict
 
-from texts import ACCESSORS, CODE, Quoted, flags_of, no_kinds, opening, ordered, plain, split_outside, values_of
+from texts import ACCESSORS, CODE, Quoted, flags_of, marshalled, no_kinds, opening, ordered, plain, split_outside, values_of
 
 
 def declared(text):
@@ -28,9 +28,8 @@ def without_layout(text):
 
 
 def without_values(text):
-    """A member without its offset, its marshalling, its constant and the address of its data."""
-    text = re.sub(r"^\[\d+\] ", "", text)
-    return re.sub(r" marshal\(\w*\)", "", re.split(r" = | at D_", text)[0])
+    """A member without its offset, its constant and the address of its data."""
+    return re.split(r" = | at D_", re.sub(r"^\[\d+\] ", "", text))[0]
 
 
 def method_of(text):
@@ -83,7 +82,8 @@ class Reader:
         return f" {text}".replace(f" {self.type}::", " ", 1).strip()
 
     def read_member(self, word, text):
-        flags, tail = flags_of(without_values(text))
+        declared, how = marshalled(without_values(text))
+        flags, tail = flags_of(declared)
         if word in ACCESSORS:
             called, _, of = text.rpartition(" of ")
             called, of = (it.rpartition("::")[2] for it in (method_of(called), of))
@@ -93,10 +93,16 @@ class Reader:
         if word == ".method":
             code = CODE.search(tail)
             self.add("method", f"{flags} {self.own(tail[:code.start() + 1])} {ordered(code[1])}")
+            self.add_marshal(how, method_of(tail[:code.start() + 1]).rpartition("::")[2])
         else:
             self.add(word[1:], f"{flags} {self.own(tail)}")
+            self.add_marshal(how, self.own(tail).rpartition(" ")[2])
         for value in values_of(text, unescaped_units) if word == ".field" else ():
             self.add("value", f"{value} of {self.own(tail).rpartition(' ')[2]}")
+
+    def add_marshal(self, how, name):
+        if how:
+            self.add("marshal", f"{how} of {name}")
 
     def go_to(self, owner):
         """Goes to the type of a method, or to a type, and returns the name of the method, or the last one of the type."""

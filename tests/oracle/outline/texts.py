@@ -10,6 +10,8 @@ FLAGS = set(
     "notserialized pinvokeimpl final virtual hidebysig newslot strict unmanagedexp reqsecobj".split()
 )
 ACCESSORS = (".get", ".set", ".addon", ".removeon", ".fire", ".other")
+# How a field, a parameter or a result is marshalled (II.7.4). Texts in quotes may contain brackets.
+MARSHAL = re.compile(r' ?\bmarshal ?\(((?:[^()"]|"[^"]*"|\((?:[^()"]|"[^"]*")*\))*)\)')
 # The words at the end of a method: what its code is (II.23.1.11).
 CODE = re.compile(r"\)\s+((?:cil|native|runtime|optil)\b[^()]*)$")
 
@@ -88,6 +90,12 @@ def plain(text):
 def no_kinds(text):
     """A text without the words for classes and value types."""
     return re.sub(r"\b(class|valuetype) ", "", text)
+
+
+def marshalled(text):
+    """A text without how its parts are marshalled, and how they are: in one way, after commas. Nothing is the empty text."""
+    found = [re.sub(r"^custom \(", "custom(", it.strip()).replace("vbbyrefstr", "byvalstr") for it in MARSHAL.findall(text)]
+    return MARSHAL.sub("", text), ", ".join(found)
 
 
 def number_of(kind, digits):

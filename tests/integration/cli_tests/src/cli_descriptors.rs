@@ -1,13 +1,13 @@
-//! Tests of `cli_outline`: how fields are marshalled (II.7.4, II.22.17, II.23.4).
+//! Tests of `cli_outline`: how fields, parameters and results are marshalled (II.7.4, II.15.4, II.22.17, II.23.4).
 
 use crate::runs::answer;
-use sample_roots::RootBuilder;
+use sample_roots::{ALL_SORTED, RootBuilder};
 use std::alloc::Global;
 use std::fs;
 use std::test::Fail;
 
-/// Texts: `C` at 1, and `F` at 3.
-const TEXTS: &[u8] = b"\0C\0F\0";
+/// Texts: `C` at 1, `F` at 3, and `a` at 5.
+const TEXTS: &[u8] = b"\0C\0F\0a\0";
 
 /// Descriptors, and what `clim outline` prints of each. The words are those of Mono's `ilasm`, and of II.7.4.
 const DESCRIPTORS: &[(&[u8], &str)] = &[
@@ -117,7 +117,12 @@ fn outline_of(rt: &HostRuntime, name: &str, blobs: &[&[u8]]) -> Result<String, F
     }
     root.heap("#Strings", TEXTS)?;
     root.heap("#Blob", &heap)?;
-    fs::write(rt, name, &root.finish()?)?;
+    printed(rt, name, &root.finish()?)
+}
+
+/// What `clim outline` prints of a root.
+fn printed(rt: &HostRuntime, name: &str, root: &[u8]) -> Result<String, Fail> {
+    fs::write(rt, name, root)?;
     let (status, out, err) = answer(rt, &["clim", "outline", "--bare", "--no-tokens", name])?;
     fs::remove_file(rt, name)?;
     if status != 0 || !err.is_empty() {
@@ -191,6 +196,42 @@ fn cuts_long_descriptors(rt: HostRuntime) -> Result<(), Fail> {
         assert!(rt; line.contains(begin), "{len}");
         assert!(rt; out.as_str().ends_with(end), "{len}");
         assert!(rt; out.len() < most, "{len}");
+    }
+    Ok(())
+}
+
+/// Blobs: `string (string, int32[])` at 1, the descriptors `lpstr` at 8, `lpwstr` at 10 and `int32[+ 1]` at 12, and two bytes
+/// that are none at 16.
+const BLOBS: &[u8] = b"\0\x06\0\x02\x0E\x0E\x1D\x08\x01\x14\x01\x15\x03\x2A\x07\x01\x02\x14\0";
+
+/// Of several rows of FieldMarshal the first counts, whether the table is in order or not. A bit of its parent is 1 for a
+/// parameter (II.24.2.6); the first row of Param is the result.
+#[test]
+fn prints_how_results_and_parameters_are_marshalled(rt: HostRuntime) -> Result<(), Fail> {
+    let decoded = "string marshal(lpstr) C::F([in] string marshal(lpwstr) a, int32[] marshal(int32[+ 1]))";
+    let bytes = "string C::F([in] string marshal() a, int32[] marshal(1400))";
+    let cases: &[(u64, &[[u8; 2]], &str)] = &[
+        (ALL_SORTED, &[[3, 8], [5, 10], [7, 12], [7, 16]], decoded),
+        (0, &[[7, 12], [5, 10], [3, 8], [3, 16]], decoded),
+        (ALL_SORTED, &[[5, 0], [7, 16]], bytes),
+        (ALL_SORTED, &[], "string C::F([in] string a, int32[])"),
+    ];
+    for (sorted, rows, text) in cases {
+        let mut root = RootBuilder::new(rt.alloc());
+        root.sorted = *sorted;
+        root.row(0x02, b"\0\0\0\0\x01\0\0\0\0\0\x01\0\x01\0")?;
+        root.row(0x06, b"\0\0\0\0\0\0\x16\0\x03\0\x01\0\x01\0")?;
+        root.row(0x08, b"\0\x20\0\0\0\0")?;
+        root.row(0x08, b"\x01\x20\x01\0\x05\0")?;
+        root.row(0x08, b"\0\x20\x02\0\0\0")?;
+        for [parent, blob] in rows.iter() {
+            root.row(0x0D, &[*parent, 0, *blob, 0])?;
+        }
+        root.heap("#Strings", TEXTS)?;
+        root.heap("#Blob", BLOBS)?;
+        let out = printed(&rt, "params.root", &root.finish()?)?;
+        let line = format!(in rt.alloc(); "  .method public static {text} cil managed")?;
+        assert_eq!(rt; out.as_str().lines().last(), Some(line.as_str()));
     }
     Ok(())
 }

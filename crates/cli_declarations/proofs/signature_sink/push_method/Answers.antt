@@ -25,7 +25,7 @@ returns-in-Ok c = λ model is.
     let left : Declared → ℕ = λ w. w.left in
     let start : Declared → ℕ = λ w. w.begun in
     let begun = c.begin_text.new.declared in
-    let out = c.write_method_within.new.out in
+    let out = c.write_method_of.new.out in
     on_ok c.end_text.result c.end_text.ensures
     (λ e. (
       cut_text wrote.0,

@@ -1,6 +1,5 @@
 use Rattle.std.proofs.Common.{refl, sym, ◌∙◌}
 use Rattle.full_names.proofs.PieceLemmas.{on_taken}
-use Rattle.declarations.specs.Declarations.{spaced}
 use Rattle.declarations.proofs.method_text.MethodTextMethodSink.param_name.Goals as goal
 
 pub returns-clause-piece : goal.returns-clause-piece
@@ -11,11 +10,8 @@ returns-clause-piece g c = (
     refl,
     refl,
     λ model shown params.
-        let of = c.args.self.now.of in (
-          spaced c.name.result.now,
-          c.name.ensures model shown of.first of.past params,
-          on_taken c.write_spaced-written.result (sym c.keep_refusal.ensures.taken ∙ taken) c.write_spaced-written.ensures,
-        ),
+        let of = c.args.self.now.of in
+        on_taken c.write_param-written.result (sym c.keep_refusal.ensures.taken ∙ taken) (c.write_param-written.ensures model shown of.first of.past params),
   ),
   λ refused whole. absurd (c.keep_refusal.ensures.failed refused whole),
 )

@@ -8,7 +8,7 @@ use Rattle.metadata.specs.Lookups.{HasRow}
 use Rattle.declarations.specs.Declarations.{IsDeclaration}
 use Rattle.full_names.proofs.PieceLemmas.{encoded_by, on_wrote}
 use Rattle.declarations.proofs.ClassNames.{type_named}
-use Rattle.declarations.proofs.methods.write_method_within.Goals as goal
+use Rattle.declarations.proofs.methods.write_method_by.Goals as goal
 
 pub returns : goal.returns
 unfolding cell_columns

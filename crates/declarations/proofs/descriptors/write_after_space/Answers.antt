@@ -1,0 +1,17 @@
+use Rattle.std.proofs.Common.{refl, sym, ap}
+use Rattle.std.specs.Prelude.{codes, option_map}
+use Rattle.full_names.proofs.TextLemmas.{writes_same}
+use Rattle.declarations.specs.Declarations.{after_space, marshalled}
+use Rattle.declarations.specs.Descriptors.{marshal_text}
+use Rattle.declarations.proofs.DescriptorLemmas.{writes_then}
+use Rattle.declarations.proofs.descriptors.write_after_space.Goals as goal
+
+pub returns-in_ok-write-in-Some : goal.returns-in_ok-write-in-Some
+returns-in_ok-write-in-Some g c =
+    let took = g.W.Write.write_str_gives in
+    let text = marshal_text c.in-Some.blob.now in
+    let end = c.write_marshal.new.out in
+    let result = c.write_marshal.result in
+    writes_same took c.args.out.now (after_space text) (marshalled after_space (option_map (λ of. of.now) c.args.blob)) end result
+    (sym (ap (λ o. marshalled after_space (option_map (λ of. of.now) o)) c.in-Some.is))
+    (writes_then took (codes " ") text end result refl c.in_ok-write-in-Some.ensures.writes c.write_marshal.ensures)

@@ -1,0 +1,7 @@
+use Rattle.std.proofs.Common.{take}
+use Rattle.std.specs.Fmt.{WritesInCalls}
+use Rattle.declarations.specs.Descriptors.{bytes_text}
+use Rattle.declarations.proofs.descriptors.write_bytes.Given as goal
+
+abbrev pub invariant-loop-byte : goal.invariant-loop-byte
+invariant-loop-byte g l = WritesInCalls g.W.Write.write_str_gives l.initial.out (bytes_text (take l.byte-index l.blob)) l.out
