@@ -169,6 +169,7 @@ const ATTRIBUTED: &[(u16, u16, bool)] = &[
 ];
 
 /// A root that is made, the tokens of its visible rows, and the number of its rows so far, by table.
+#[derive(Drop)]
 struct Made {
     root: RootBuilder,
     tokens: Vec<u32>,
@@ -176,7 +177,11 @@ struct Made {
 }
 
 /// Adds a row.
-fn add(alloc: Global, made: &mut Made, (table, columns, visible): Row) -> Result<(), Fail> {
+fn add(
+    alloc: Global,
+    made: &mut Made,
+    (table, columns, visible): (u8, &[u16], bool),
+) -> Result<(), Fail> {
     let mut bytes = Vec::new(alloc);
     for column in columns {
         bytes.extend_from_slice(&column.to_le_bytes())?;
@@ -203,11 +208,13 @@ fn made(alloc: Global) -> Result<(Vec<u8>, Vec<u32>), Fail> {
         }
     }
     for (tag, row, visible) in ATTRIBUTED {
-        add(alloc, &mut made, (0x0C, &[row * 32 + tag, 0x0B, 12], *visible))?;
+        let columns = [row * 32 + tag, 0x0B, 12];
+        add(alloc, &mut made, (0x0C, &columns, *visible))?;
     }
     made.root.heap("#Strings", TEXTS)?;
     made.root.heap("#Blob", BLOBS)?;
-    Ok((made.root.finish()?, made.tokens))
+    let Made { root, tokens, .. } = made;
+    Ok((root.finish()?, tokens))
 }
 
 /// The token of a line of text or JSON.
