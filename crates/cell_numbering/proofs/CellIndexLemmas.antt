@@ -1,5 +1,5 @@
 -- The cells of a row that are left, by the columns that are left.
-use Rattle.std.proofs.Common.{◌≡◌, ℕ, ◌+◌, ◌<◌, ◌≤◌, inl, inr, true, false, cond, List, [], ◌∷◌, length, get_or, drop, map, refl, sym, ap, subst, ◌∙◌, length-drop, arith}
+use Rattle.std.proofs.Common.{◌≡◌, ℕ, ◌+◌, ◌<◌, ◌≤◌, inl, inr, false, cond, List, [], ◌∷◌, length, get_or, drop, map, refl, sym, ap, subst, ◌∙◌, length-drop, arith}
 use Rattle.std.specs.List.{range_with_len}
 use Rattle.std.proofs.lemmas.Bool.{cases_Bool}
 use Rattle.std.proofs.lemmas.List.{drop_more, drop_all, get_or-map}
@@ -29,11 +29,6 @@ module _ (table : TableId) (index cell_index : ℕ) (below : index < length (col
       ≡ cond (is_padding (column_at table index).kind) (indexes_from (index + 1) (drop (index + 1) (columns_of table))) (index ∷ indexes_from (index + 1) (drop (index + 1) (columns_of table)))
   left = at ∙ ap (indexes_from index) (drop_more (columns_of table) index (col kind.U8) below)
 
-  pub padding_cell_index : is_padding (column_at table index).kind ≡ true → IsCellIndexOf table (index + 1) cell_index
-  padding_cell_index is =
-      let tail = indexes_from (index + 1) (drop (index + 1) (columns_of table)) in
-      left ∙ ap (λ b. cond b tail (index ∷ tail)) is
-
   pub cell_index_is : is_padding (column_at table index).kind ≡ false → (cell_index < cell_count table) × (column_of table cell_index ≡ index) × IsCellIndexOf table (index + 1) (cell_index + 1)
   cell_index_is is =
       let tail = indexes_from (index + 1) (drop (index + 1) (columns_of table)) in
@@ -56,17 +51,8 @@ module _ (table : TableId) (index cell_index : ℕ) (below : index < length (col
 
 -- a kind other than `Padding` is not padding
 pub unpadded : (k : ColumnKind) → (k ≡ kind.Padding → ⊥) → is_padding k ≡ false
-unpadded kind.U8 other = refl
-unpadded kind.U16 other = refl
-unpadded kind.U32 other = refl
 unpadded kind.Padding other = absurd (other refl)
-unpadded kind.Text other = refl
-unpadded kind.Guid other = refl
-unpadded kind.Blob other = refl
-unpadded (kind.Signature column) other = refl
-unpadded (kind.Row member) other = refl
-unpadded (kind.Coded coded) other = refl
-unpadded (kind.List member) other = refl
+unpadded _ other = refl
 
 few_indexes : (index : ℕ) (columns : List Column) → length (indexes_from index columns) ≤ length columns
 few_indexes index [] = omega arith

@@ -56,44 +56,17 @@ module _ (indexes : Indexes) (k : ColumnKind) (cell : Cell) (so_far : SoFar) (of
 
 -- only a column of texts has a text
 pub only_text : (k : ColumnKind) (text : List ℕ) → IsOfKind k (Text text) → k ≡ kind.Text
-only_text kind.U8 text of = absurd of
-only_text kind.U16 text of = absurd of
-only_text kind.U32 text of = absurd of
-only_text kind.Padding text of = absurd of
 only_text kind.Text text of = refl
-only_text kind.Guid text of = absurd of
-only_text kind.Blob text of = absurd of
-only_text (kind.Signature column) text of = absurd of
-only_text (kind.Row table) text of = absurd of
-only_text (kind.Coded coded) text of = absurd of
-only_text (kind.List member) text of = absurd of
+only_text _ text of = absurd of
 
 only_guid : (k : ColumnKind) (guid : Option (List ℕ)) → IsOfKind k (Guid guid) → k ≡ kind.Guid
-only_guid kind.U8 guid of = absurd of
-only_guid kind.U16 guid of = absurd of
-only_guid kind.U32 guid of = absurd of
-only_guid kind.Padding guid of = absurd of
-only_guid kind.Text guid of = absurd of
 only_guid kind.Guid guid of = refl
-only_guid kind.Blob guid of = absurd of
-only_guid (kind.Signature column) guid of = absurd of
-only_guid (kind.Row table) guid of = absurd of
-only_guid (kind.Coded coded) guid of = absurd of
-only_guid (kind.List member) guid of = absurd of
+only_guid _ guid of = absurd of
 
 -- only a column of blobs has a blob
 pub only_blob : (k : ColumnKind) (blob : List ℕ) → IsOfKind k (Bytes blob) → k ≡ kind.Blob
-only_blob kind.U8 blob of = absurd of
-only_blob kind.U16 blob of = absurd of
-only_blob kind.U32 blob of = absurd of
-only_blob kind.Padding blob of = absurd of
-only_blob kind.Text blob of = absurd of
-only_blob kind.Guid blob of = absurd of
 only_blob kind.Blob blob of = refl
-only_blob (kind.Signature column) blob of = absurd of
-only_blob (kind.Row table) blob of = absurd of
-only_blob (kind.Coded coded) blob of = absurd of
-only_blob (kind.List member) blob of = absurd of
+only_blob _ blob of = absurd of
 
 -- a column of neither texts, GUIDs, blobs nor signatures
 pub record IsPlainKind (k : ColumnKind) : Type 0 where
@@ -103,37 +76,23 @@ pub record IsPlainKind (k : ColumnKind) : Type 0 where
   pub signature : (column : SigKind) → k ≡ kind.Signature column → ⊥
 
 no_sig : (k : ColumnKind) (signature : Body) → ((column : SigKind) → k ≡ kind.Signature column → ⊥) → IsOfKind k (Sig signature) → ⊥
-no_sig kind.U8 signature other of = of
-no_sig kind.U16 signature other of = of
-no_sig kind.U32 signature other of = of
-no_sig kind.Padding signature other of = of
-no_sig kind.Text signature other of = of
-no_sig kind.Guid signature other of = of
-no_sig kind.Blob signature other of = of
 no_sig (kind.Signature column) signature other of = other column refl
-no_sig (kind.Row table) signature other of = of
-no_sig (kind.Coded coded) signature other of = of
-no_sig (kind.List member) signature other of = of
+no_sig _ signature other of = of
 
 pub plain_cell : (k : ColumnKind) (cell : Cell) → IsPlainKind k → IsOfKind k cell → IsInNoHeap cell
-plain_cell k (Number number) plain of = tt
 plain_cell k (Text text) plain of = absurd (plain.text (only_text k text of))
 plain_cell k (Bytes blob) plain of = absurd (plain.blob (only_blob k blob of))
 plain_cell k (Guid guid) plain of = absurd (plain.guid (only_guid k guid of))
-plain_cell k (Ref reference) plain of = tt
-plain_cell k (Start start) plain of = tt
 plain_cell k (Sig signature) plain of = absurd (no_sig k signature plain.signature of)
+plain_cell k _ plain of = tt
 
 -- such a cell has its own number, and no value in a heap
 pub next_plain : (indexes : Indexes) (k : ColumnKind) (cell : Cell) (so_far : SoFar) → IsInNoHeap cell
     → with_cell indexes k cell so_far ≡ with_number so_far (cell_number no_pools k cell)
 next_plain indexes k (Number number) so_far none = refl
-next_plain indexes k (Text text) so_far none = absurd none
-next_plain indexes k (Bytes blob) so_far none = absurd none
-next_plain indexes k (Guid guid) so_far none = absurd none
 next_plain indexes k (Ref reference) so_far none = refl
 next_plain indexes k (Start start) so_far none = refl
-next_plain indexes k (Sig signature) so_far none = absurd none
+next_plain indexes k _ so_far none = absurd none
 
 pub record HasNone (cell : Cell) : Type 0 where
   pub texts : texts_of cell ≡ []
@@ -142,12 +101,9 @@ pub record HasNone (cell : Cell) : Type 0 where
 
 pub has_none : (cell : Cell) → IsInNoHeap cell → HasNone cell
 has_none (Number number) none = record { texts = refl; guids = refl; blobs = refl }
-has_none (Text text) none = absurd none
-has_none (Bytes blob) none = absurd none
-has_none (Guid guid) none = absurd none
 has_none (Ref reference) none = record { texts = refl; guids = refl; blobs = refl }
 has_none (Start start) none = record { texts = refl; guids = refl; blobs = refl }
-has_none (Sig signature) none = absurd none
+has_none _ none = absurd none
 
 -- ---- the cell that a value in place stands for
 
@@ -167,13 +123,11 @@ pub record IsNoValue (value : CellRef) : Type 0 where
   pub blob : (blob : Bor (List ℕ)) → value ≡ seen.Bytes blob → ⊥
 
 pub no_value : (k : ColumnKind) (value : CellRef) (cell : Cell) → ((encoded : SigKind) → k ≡ kind.Signature encoded → ⊥) → IsNoValue value → Shows k value cell → IsInNoHeap cell
-no_value k (seen.Number number) cell column other shown = subst IsInNoHeap (sym shown) tt
 no_value k (seen.Text text) cell column other shown = absurd (other.text text refl)
 no_value k (seen.Bytes blob) cell column other shown = absurd (other.blob blob refl)
 no_value k (seen.Guid guid) cell column other shown = absurd (other.guid guid refl)
-no_value k (seen.Ref reference) cell column other shown = subst IsInNoHeap (sym shown) tt
-no_value k (seen.Start start) cell column other shown = subst IsInNoHeap (sym shown) tt
 no_value k (seen.Sig blob) cell column other shown = absurd (no_signature k blob.now cell column shown)
+no_value k _ cell column other shown = subst IsInNoHeap (sym shown) tt
 
 -- a cell in a column of texts has no GUID and no blob
 pub record IsOnlyText (cell : Cell) : Type 0 where

@@ -47,15 +47,10 @@ own_number kind.U16 least number cell none of is =
     own (λ (n : ℕ). IsPlainNumber kind.U16 n cell) least number none (record { none = subst IsInNoHeap (sym is) tt; number_is = sym (ap (cell_number no_pools kind.U16) is) })
 own_number kind.U32 least number cell none of is =
     own (λ (n : ℕ). IsPlainNumber kind.U32 n cell) least number none (record { none = subst IsInNoHeap (sym is) tt; number_is = sym (ap (cell_number no_pools kind.U32) is) })
-own_number kind.Padding least number cell none of is = absurd none
-own_number kind.Text least number cell none of is = absurd none
-own_number kind.Guid least number cell none of is = absurd none
-own_number kind.Blob least number cell none of is = absurd none
-own_number (kind.Signature column) least number cell none of is = absurd none
 own_number (kind.Row table) least number cell none of is =
     own (λ (n : ℕ). IsPlainNumber (kind.Row table) n cell) least number none (row_number_is number table cell of is)
 own_number (kind.Coded coded) least number cell is_least of is = coded_number_is least number coded cell is_least is
-own_number (kind.List member) least number cell none of is = absurd none
+own_number _ least number cell none of is = absurd none
 
 -- ---- columns, one by one
 

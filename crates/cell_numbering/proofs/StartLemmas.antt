@@ -1,18 +1,18 @@
 -- Groups of starts, use by use; and the plan of the texts of the groups.
-use Rattle.std.proofs.Common.{◌≡◌, ℕ, ◌<◌, ◌-◌, nat_eq, Bool, true, false, not, ◌&&◌, ◌||◌, cond, Contains, List, [], ◌∷◌, ◌++◌, length, filter, map, refl, sym, ap, subst, ◌∙◌, ⊎_elim, arith}
+use Rattle.std.proofs.Common.{◌≡◌, ℕ, ◌<◌, ◌≤◌, ◌-◌, nat_eq, Bool, true, false, true≢false, not, ◌&&◌, Contains, List, [], ◌∷◌, ◌++◌, length, filter, map, refl, sym, ap, subst, ◌∙◌, inl, inr, ⊎_elim, arith}
 use Rattle.std.specs.Prelude.{slice_index}
 use Rattle.std.specs.List.{list_any}
 use Rattle.std.specs.Str.{bytes_eq}
-use Rattle.std.specs.Cmp.Lexicographic.{pointwise, same_text}
+use Rattle.std.specs.Cmp.Lexicographic.{pointwise}
 use Rattle.std.proofs.Math.Path.{fun_ext}
-use Rattle.std.proofs.lemmas.Bool.{cases_Bool}
-use Rattle.std.proofs.lemmas.List.{drop_all, map_push, get_or_append_left, get_or_push, length_push, length-map, get_or-map}
+use Rattle.std.proofs.lemmas.Bool.{cases_Bool, cases_lt, cond_both, false_from_ne_true}
+use Rattle.std.proofs.lemmas.List.{drop_all, map_push, nil_from_length, get_or_append_left, get_or_push, length_push, length-map, get_or-map}
 use Rattle.std.proofs.lemmas.List.Elements.{All-push, All-nil, All-weaker, Contains-get_or}
-use Rattle.std.proofs.lemmas.List.Folds.{list_any-append}
 use Rattle.heap_pools.specs.Distinct.{distinct, first_uses, is_among, pooled}
 use Rattle.heap_pools.specs.Ending.{ends_with}
 use Rattle.heap_pools.specs.HeapTexts.{heap_text, texts_at}
 use Rattle.heap_pools.specs.TextHeap.{holders, is_holder}
+use Rattle.heap_pools.proofs.MemberLemmas.{IsIn, any_in, in_any, in_distinct}
 use Rattle.cell_numbering.specs.StartGroups.{AreStartGroups}
 use Rattle.cell_numbering.proofs.BlobLemmas.{AreLaws, same_map, map_map}
 
@@ -62,60 +62,29 @@ no_starts groups of_use starts none no_use no_start =
 
 -- ---- the holders of the texts of the groups
 
-or_false : (b : Bool) → (b || false) ≡ b
-or_false true = refl
-or_false false = refl
+-- a first use is one of the values
+in_first : (before values : List (List ℕ)) (x : List ℕ) → IsIn x (first_uses before values) → IsIn x values
+in_first before [] x h = absurd h
+in_first before (value ∷ values) x h =
+    let tail = first_uses (before ++ value ∷ []) values in
+    let later : IsIn x tail → IsIn x (value ∷ values) = λ there. inr (in_first (before ++ value ∷ []) values x there) in
+    cond_both (is_among before value) tail (value ∷ tail) (λ found. IsIn x found → IsIn x (value ∷ values)) (λ _. later) (λ _ there. ⊎_elim (λ (same : value ≡ x). inl same) later there) h
 
-or_true : (b : Bool) → (b || true) ≡ true
-or_true true = refl
-or_true false = refl
+-- a test that the empty value fails is one of the distinct values
+module _ (test : List ℕ → Bool) (none : test [] ≡ false) where
+  any_then : (first second : List (List ℕ)) → distinct first ≡ distinct second → list_any test first ≡ true → list_any test second ≡ true
+  any_then first second same is =
+      let found = any_in test first is in
+      let some : 0 < length found.0 = ⊎_elim (λ (lt : 0 < length found.0). lt)
+      (λ (le : length found.0 ≤ 0). absurd (true≢false (sym found.2 ∙ ap test (nil_from_length found.0 (omega arith)) ∙ none)))
+      (cases_lt 0 (length found.0)) in
+      in_any test found.0 second (in_first ([] ∷ []) second found.0 (subst (IsIn found.0) same (in_distinct first found.0 found.1 some))) found.2
 
-or_again : (a b : Bool) → (b ≡ true → a ≡ true) → (a || b) ≡ a
-or_again true b only = refl
-or_again false true only = sym (only refl)
-or_again false false only = refl
-
-or_or : (a b c : Bool) → ((a || b) || c) ≡ (a || (b || c))
-or_or true b c = refl
-or_or false b c = refl
-
--- a value that is among those before adds nothing to a test of any
-among_again : (test : List ℕ → Bool) (before : List (List ℕ)) (value : List ℕ) → is_among before value ≡ true → test value ≡ true → list_any test before ≡ true
-among_again test [] value among is = among
-among_again test (first ∷ before) value among is = ⊎_elim
-    (λ (e : bytes_eq value first ≡ true). ap (λ b. b || list_any test before) (ap test (sym (same_text value first (sym e))) ∙ is))
-    (λ (e : bytes_eq value first ≡ false).
-    let later = among_again test before value (sym (ap (λ b. b || is_among before value) e) ∙ among) is in
-    ap (λ b. test first || b) later ∙ or_true (test first))
-    (cases_Bool (bytes_eq value first))
-
-module _ (test : List ℕ → Bool) where
-  any_push : (before : List (List ℕ)) (value : List ℕ) → list_any test (before ++ value ∷ []) ≡ (list_any test before || test value)
-  any_push before value = list_any-append test before (value ∷ []) ∙ ap (λ b. list_any test before || b) (or_false (test value))
-
-  -- a test of any of the values, or of those before, is one of the first uses
-  any_first : (before values : List (List ℕ)) → (list_any test before || list_any test (first_uses before values)) ≡ (list_any test before || list_any test values)
-  any_first before [] = refl
-  any_first before (value ∷ values) =
-      let next = before ++ value ∷ [] in
-      let tail = first_uses next values in
-      let more = any_first next values in
-      let out : (list_any test next || list_any test values) ≡ (list_any test before || (test value || list_any test values)) =
-      ap (λ b. b || list_any test values) (any_push before value) ∙ or_or (list_any test before) (test value) (list_any test values) in
-      ⊎_elim
-      (λ (e : is_among before value ≡ true).
-      let same : list_any test next ≡ list_any test before =
-      any_push before value ∙ or_again (list_any test before) (test value) (λ is. among_again test before value e is) in
-      ap (λ b. list_any test before || list_any test (cond b tail (value ∷ tail))) e ∙ ap (λ b. b || list_any test tail) (sym same) ∙ more ∙ out)
-      (λ (e : is_among before value ≡ false).
-      ap (λ b. list_any test before || list_any test (cond b tail (value ∷ tail))) e
-      ∙ sym (ap (λ b. b || list_any test tail) (any_push before value) ∙ or_or (list_any test before) (test value) (list_any test tail)) ∙ more ∙ out)
-      (cases_Bool (is_among before value))
-
-  any_distinct : (values : List (List ℕ)) → test [] ≡ false → list_any test (distinct values) ≡ list_any test values
-  any_distinct values none =
-      let first : list_any test ([] ∷ []) ≡ false = ap (λ b. b || false) none in
-      sym (ap (λ b. b || list_any test (distinct values)) first) ∙ any_first ([] ∷ []) values ∙ ap (λ b. b || list_any test values) first
+  any_same : (first second : List (List ℕ)) → distinct first ≡ distinct second → list_any test first ≡ list_any test second
+  any_same first second same = ⊎_elim
+      (λ (e : list_any test first ≡ true). e ∙ sym (any_then first second same e))
+      (λ (e : list_any test first ≡ false). e ∙ sym (false_from_ne_true _ (λ is. true≢false (sym (any_then second first (sym same) is) ∙ e))))
+      (cases_Bool (list_any test first))
 
 -- the empty text does not end with another
 empty_ends : (text : List ℕ) → (ends_with [] text && not (bytes_eq [] text)) ≡ false
@@ -128,7 +97,7 @@ same_holder : (first second : List (List ℕ)) → distinct first ≡ distinct s
 unfolding is_holder
 same_holder first second same text =
     let test : List ℕ → Bool = λ other. ends_with other text && not (bytes_eq other text) in
-    ap not (sym (any_distinct test first (empty_ends text)) ∙ ap (λ list. list_any test list) same ∙ any_distinct test second (empty_ends text))
+    ap not (any_same test (empty_ends text) first second same)
 
 pub same_holders : (first second : List (List ℕ)) → distinct first ≡ distinct second → holders first ≡ holders second
 same_holders first second same =

@@ -9,7 +9,7 @@ use Rattle.table_schema.specs.declared.column.SigKind.{SigKind}
 use Rattle.table_schema.specs.declared.column.ColumnKind.{ColumnKind}
 use Rattle.table_schema.specs.declared.column.ColumnKind.TheVariants as kind
 use Rattle.heap_pools.specs.GuidHeap.{given}
-use Rattle.metadata.specs.Cell.{Cell, Number, Text, Bytes, Guid, Ref, Start, Sig}
+use Rattle.metadata.specs.Cell.{Cell, Bytes, Guid, Sig}
 use Rattle.metadata.specs.Metadata.{Metadata}
 use Rattle.sig_grammar.specs.Encodes.{short}
 use Rattle.root_writer.specs.Numbered.{CanBeNumbered}
@@ -186,14 +186,9 @@ used_is values model =
 
 -- the GUIDs that are not null
 cell_guids : (cell : Cell) → flat_map given (guid_of cell) ≡ guids_of cell
-cell_guids (Number number) = refl
-cell_guids (Text text) = refl
-cell_guids (Bytes blob) = refl
 cell_guids (Guid None) = refl
 cell_guids (Guid (Some guid)) = refl
-cell_guids (Ref reference) = refl
-cell_guids (Start start) = refl
-cell_guids (Sig signature) = refl
+cell_guids _ = refl
 
 pub guids_are : (cells : List Cell) → flat_map given (flat_map guid_of cells) ≡ flat_map guids_of cells
 guids_are [] = refl
@@ -223,13 +218,9 @@ some_use [] i below = absurd (omega (arith, below))
 some_use (first ∷ uses) i below = first
 
 no_text_beside : (cell : Cell) (blob : List ℕ) → blobs_of cell ≡ blob ∷ [] → IsNoText cell
-no_text_beside (Number number) blob has = absurd (cc)
-no_text_beside (Text text) blob has = absurd (cc)
 no_text_beside (Bytes bytes) blob has = record { texts = refl; guids = refl }
-no_text_beside (Guid guid) blob has = absurd (cc)
-no_text_beside (Ref reference) blob has = absurd (cc)
-no_text_beside (Start start) blob has = absurd (cc)
 no_text_beside (Sig signature) blob has = record { texts = refl; guids = refl }
+no_text_beside _ blob has = absurd (cc)
 
 module _ (index_of : CellId → Option ℕ) (model : Metadata) (laws : AreLaws) (before after : HeapUses) (cells : List Cell) (id : CellId) (are : AreUsesIn index_of model before cells) where
   abbrev cell : Cell

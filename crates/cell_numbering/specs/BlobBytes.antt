@@ -21,3 +21,8 @@ pub record AreWritten (bytes : List BlobBytes) (firsts : List ℕ) : Type 0 wher
   pub len : length firsts ≡ length bytes
   pub each : (k : ℕ) → k < length firsts → HasText (all_bytes bytes firsts) k (slice_index firsts k)
   pub empty : (k : ℕ) → k < length firsts → length (used_at (all_bytes bytes firsts) k) ≡ 0 → slice_index firsts k ≡ k
+
+-- the bytes of the first uses, and for each use a first one, which has its blob of these
+pub record AreWrittenAs (bytes : List BlobBytes) (firsts : List ℕ) (blobs : List (List ℕ)) : Type 0 where
+  pub written : AreWritten bytes firsts
+  pub same : all_bytes bytes firsts ≡ blobs

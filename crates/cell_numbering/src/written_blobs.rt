@@ -7,7 +7,7 @@ ghost use Rattle.heap_pools.specs.Ranking.{used_at};
 ghost use Rattle.heap_pools.specs.Uses.{bytes_of};
 ghost use Rattle.cell_numbering.specs.EqualUses.{AreEarlierUses};
 ghost use Rattle.cell_numbering.specs.HeapUses.{IsUseOf};
-ghost use Rattle.cell_numbering.specs.BlobBytes.{AreWritten, all_bytes, bytes_at, bytes_in};
+ghost use Rattle.cell_numbering.specs.BlobBytes.{AreWritten, AreWrittenAs, all_bytes, bytes_at, bytes_in};
 
 use crate::blob_bytes::{BlobBytes, written_bytes};
 use crate::blob_use::BlobUse;
@@ -75,8 +75,7 @@ fn drop_repeated(bytes: &mut [BlobBytes<'_>], firsts: &[usize])
 fn merged<'u>(alloc: Global, written: WrittenBlobs<'u>) -> Result<WrittenBlobs<'u>, PoolError>
     requires written { AreWritten written.bytes.items written.firsts.items }
     requires short { All (λ blob. length blob < 2 ^ 29) (all_bytes written.bytes.items written.firsts.items) }
-    ensures written { IfOk result (λ after. AreWritten after.bytes.items after.firsts.items) }
-    ensures same { IfOk result (λ after. all_bytes after.bytes.items after.firsts.items ≡ all_bytes written.entry.bytes.items written.entry.firsts.items) }
+    ensures kept { IfOk result (λ after. AreWrittenAs after.bytes.items after.firsts.items (all_bytes written.entry.bytes.items written.entry.firsts.items)) }
     ensures full { result ≡ Err PoolError.Full → 2 ^ 30 < length (blob_heap (distinct (all_bytes written.entry.bytes.items written.entry.firsts.items))) }
 {
     if written.room > 0 {
@@ -120,9 +119,8 @@ fn with_next<'u>(
     requires written { AreWritten written.bytes.items written.firsts.items }
     requires earlier { earlier < vec_len written.firsts
         → (used_at (all_bytes written.bytes.items written.firsts.items) earlier ≡ bytes_in next) × (0 < length (bytes_in next)) }
-    ensures written { IfOk result (λ after. AreWritten after.bytes.items after.firsts.items) }
-    ensures next { IfOk result (λ after. all_bytes after.bytes.items after.firsts.items
-        ≡ all_bytes written.entry.bytes.items written.entry.firsts.items ++ bytes_in next.entry ∷ []) }
+    ensures { IfOk result (λ after. AreWrittenAs after.bytes.items after.firsts.items
+        (all_bytes written.entry.bytes.items written.entry.firsts.items ++ bytes_in next.entry ∷ [])) }
 {
     let WrittenBlobs {
         mut bytes,

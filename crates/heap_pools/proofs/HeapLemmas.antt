@@ -1,8 +1,8 @@
 -- The heap of the flagged texts, extended by one use index.
-use Rattle.std.proofs.Common.{◌≡◌, ℕ, zero, suc, ◌+◌, ◌<◌, ◌≤◌, Bool, true, false, List, [], ◌∷◌, ◌++◌, length, take, drop, get_or, slice_index_or, refl, sym, ap, ◌∙◌, ⊎_elim, true≢false, arith, length-append, add-one}
+use Rattle.std.proofs.Common.{◌≡◌, ℕ, zero, suc, ◌+◌, ◌<◌, ◌≤◌, max, Bool, true, false, List, [], ◌∷◌, ◌++◌, length, take, drop, get_or, slice_index_or, refl, sym, ap, ◌∙◌, ⊎_elim, true≢false, arith, length-append, add-one}
 use Rattle.std.proofs.lemmas.Bool.{cases_lt, false≢true}
 use Rattle.std.proofs.lemmas.List.{append_assoc, get_or_push, get_or_append_left, drop_at, take_at}
-use Rattle.heap_pools.specs.TextHeap.{ended}
+use Rattle.heap_pools.specs.TextHeap.{ended, text_heap}
 use Rattle.heap_pools.specs.Ranking.{used_at, flagged}
 use Rattle.heap_pools.proofs.PlanLemmas.{flagged_split}
 
@@ -29,24 +29,32 @@ flagged_no (t ∷ ts) (false ∷ fs) zero h k e = refl
 flagged_no (t ∷ ts) (true ∷ fs) (suc p) h k e = ap (λ l. t ∷ l) (flagged_no ts fs p (omega arith) (omega arith) e)
 flagged_no (t ∷ ts) (false ∷ fs) (suc p) h k e = flagged_no ts fs p (omega arith) (omega arith) e
 
+-- a heap with one more entry; and where that entry begins
+pub heap_push : (es : List (List ℕ)) (t : List ℕ) → text_heap (es ++ t ∷ []) ≡ 0 ∷ ended (es ++ t ∷ [])
+heap_push [] t = refl
+heap_push (e ∷ es) t = refl
+
+pub heap_begun : (es : List (List ℕ)) → max (length (text_heap es)) 1 ≡ 1 + length (ended es)
+heap_begun [] = omega arith
+heap_begun (e ∷ es) = omega arith
+
+pub heap_some : (es : List (List ℕ)) → 0 < length (text_heap es) → text_heap es ≡ 0 ∷ ended es
+heap_some [] h = absurd (omega arith)
+heap_some (e ∷ es) h = refl
+
+pub heap_none : (es : List (List ℕ)) → length (text_heap es) ≡ 0 → text_heap es ++ 0 ∷ [] ≡ 0 ∷ ended es
+heap_none [] h = refl
+heap_none (e ∷ es) h = absurd (omega arith)
+
+pub length_push : (es : List (List ℕ)) (t : List ℕ) → length (text_heap (es ++ t ∷ [])) ≡ max (length (text_heap es)) 1 + length t + 1
+length_push es t = ap length (heap_push es t ∙ ap (λ l. 0 ∷ l) (ended_push es t)) ∙ omega (arith, heap_begun es, length-append (ended es ++ t) (0 ∷ []), length-append (ended es) t)
+
 module _ (texts : List (List ℕ)) (flags : List Bool) (p : ℕ) (in_texts : p < length texts) where
-  pub ended_yes : (heap : List ℕ) → slice_index_or flags p false ≡ true → heap ≡ 0 ∷ ended (flagged (take p texts) (take p flags)) → (heap ++ used_at texts p) ++ 0 ∷ [] ≡ 0 ∷ ended (flagged (take (p + 1) texts) (take (p + 1) flags))
-  ended_yes heap e is =
-      ap (λ l. (l ++ used_at texts p) ++ 0 ∷ []) is ∙ ap (λ l. 0 ∷ l) (sym (ended_push (flagged (take p texts) (take p flags)) (used_at texts p)))
-      ∙ ap (λ l. 0 ∷ ended l) (sym (flagged_yes texts flags p in_texts e)) ∙ ap (λ n. 0 ∷ ended (flagged (take n texts) (take n flags))) (sym (add-one p))
+  pub more_flagged : slice_index_or flags p false ≡ true → flagged (take (p + 1) texts) (take (p + 1) flags) ≡ flagged (take p texts) (take p flags) ++ used_at texts p ∷ []
+  more_flagged e = ap (λ n. flagged (take n texts) (take n flags)) (add-one p) ∙ flagged_yes texts flags p in_texts e
 
-  pub ended_no : (heap : List ℕ) → p < length flags → slice_index_or flags p false ≡ false → heap ≡ 0 ∷ ended (flagged (take p texts) (take p flags)) → heap ≡ 0 ∷ ended (flagged (take (p + 1) texts) (take (p + 1) flags))
-  ended_no heap h e is = is ∙ ap (λ l. 0 ∷ ended l) (sym (flagged_no texts flags p in_texts h e)) ∙ ap (λ n. 0 ∷ ended (flagged (take n texts) (take n flags))) (sym (add-one p))
-
-  -- the lengths of these heaps
-  pub length_yes : slice_index_or flags p false ≡ true → length (ended (flagged (take (p + 1) texts) (take (p + 1) flags))) ≡ length (ended (flagged (take p texts) (take p flags))) + length (used_at texts p) + 1
-  length_yes e =
-      let heap = 0 ∷ ended (flagged (take p texts) (take p flags)) in
-      let more = ap length (ended_yes heap e refl) in
-      omega (arith, more, length-append (heap ++ used_at texts p) (0 ∷ []), length-append heap (used_at texts p))
-
-  pub length_no : p < length flags → slice_index_or flags p false ≡ false → length (ended (flagged (take (p + 1) texts) (take (p + 1) flags))) ≡ length (ended (flagged (take p texts) (take p flags)))
-  length_no h e = let same = ap length (ended_no (0 ∷ ended (flagged (take p texts) (take p flags))) h e refl) in omega arith
+  pub same_flagged : p < length flags → slice_index_or flags p false ≡ false → flagged (take (p + 1) texts) (take (p + 1) flags) ≡ flagged (take p texts) (take p flags)
+  same_flagged h e = ap (λ n. flagged (take n texts) (take n flags)) (add-one p) ∙ flagged_no texts flags p in_texts h e
 
   pub ended_total : slice_index_or flags p false ≡ true → length (ended (flagged (take p texts) (take p flags))) + length (used_at texts p) + 1 ≤ length (ended (flagged texts flags))
   ended_total e =
@@ -54,6 +62,11 @@ module _ (texts : List (List ℕ)) (flags : List Bool) (p : ℕ) (in_texts : p <
       let a = ap (λ l. length (ended l)) s.1 in
       let b = ap length (ended-append (flagged (take p texts) (take p flags)) (used_at texts p ∷ s.0)) in
       omega (arith, length-append (ended (flagged (take p texts) (take p flags))) (ended (used_at texts p ∷ s.0)), length-append (used_at texts p) (0 ∷ ended s.0))
+
+  pub heap_total : slice_index_or flags p false ≡ true → length (text_heap (flagged (take p texts) (take p flags) ++ used_at texts p ∷ [])) ≤ length (text_heap (flagged texts flags))
+  heap_total e =
+      let more = ended_total e in
+      omega (arith, more, length_push (flagged (take p texts) (take p flags)) (used_at texts p), heap_begun (flagged (take p texts) (take p flags)), heap_begun (flagged texts flags))
 
 -- one more number at the end of a list of a function's values
 pub values_more : (f : ℕ → ℕ) (xs : List ℕ) (i x : ℕ) → length xs ≡ i → x ≡ f i → ((k : ℕ) → k < i → get_or xs k 0 ≡ f k) → (k : ℕ) → k < i + 1 → get_or (xs ++ x ∷ []) k 0 ≡ f k

@@ -1,5 +1,5 @@
 -- StartUses in a strings heap: the texts at them, and the first use index of each start.
-use Rattle.std.proofs.Common.{◌≡◌, ◌≢◌, ℕ, ◌+◌, ◌<◌, ◌≤◌, List, [], ◌∷◌, ◌++◌, All, length, get_or, set, slice_index, sym, ap, subst, ◌∙◌, ⊎_elim, arith}
+use Rattle.std.proofs.Common.{◌≡◌, ◌≢◌, ℕ, ◌+◌, ◌<◌, List, [], ◌∷◌, ◌++◌, All, length, set, slice_index, sym, ap, subst, ◌∙◌, ⊎_elim, arith}
 use Rattle.std.specs.Borrow.{Bor}
 use Rattle.std.specs.List.Sorted.{IsPermutation}
 use Rattle.std.proofs.lemmas.Bool.{cases_eq}
@@ -10,7 +10,7 @@ use Rattle.heap_entries.specs.Entries.{HasNoNul}
 use Rattle.heap_pools.specs.declared.heap_texts.StartUse.{StartUse}
 use Rattle.heap_pools.specs.HeapTexts.{heap_text, texts_at}
 use Rattle.heap_pools.specs.StartUses.{start_use_at, AreStartUses}
-use Rattle.heap_pools.specs.Ranking.{used_at, HasText}
+use Rattle.heap_pools.specs.Ranking.{used_at}
 use Rattle.heap_pools.specs.Uses.{bytes_of}
 use Rattle.heap_pools.proofs.FirstLemmas.{last_cases}
 use Rattle.heap_pools.proofs.HeapTextLemmas.{heap_text_plain}
@@ -78,21 +78,7 @@ module _ (heap starts : List ℕ) (start_uses : List StartUse) (p : AreStartUses
       let found = p.all i within in
       ap (used_at texts) (sym found.2) ∙ each found.0 found.1 ∙ ap (heap_text heap) (p.start found.0 found.1 ∙ ap (slice_index starts) found.2) ∙ sym (get_or-map (heap_text heap) starts i 0 [] within))
 
--- one more number is written in a list of numbers that are related to their indexes
-pub related_set : (R : ℕ → ℕ → Type 0) (xs : List ℕ) (at x n : ℕ) → at < length xs → R at x → ((k : ℕ) → k < n → R k (get_or xs k 0)) → (k : ℕ) → k < n → R k (get_or (set xs at x) k 0)
-related_set R xs at x n within new old k h = ⊎_elim
-    (λ (here : k ≡ at). subst (λ i. R i (get_or (set xs at x) i 0)) (sym here) (subst (R at) (sym (get_or-set_same xs at x 0 within)) new))
-    (λ (apart : k ≢ at). subst (R k) (sym (get_or-set_other xs at k x 0 apart)) (old k h))
-    (cases_eq k at)
-
 -- no text of a heap has a NUL
 pub texts_plain : (heap starts : List ℕ) → All HasNoNul (texts_at heap starts)
 texts_plain heap starts = All-from_get_or HasNoNul (texts_at heap starts) [] (λ i h.
     subst HasNoNul (sym (get_or-map (heap_text heap) starts i 0 [] (omega (arith, h, length-map starts (heap_text heap))))) (heap_text_plain heap (slice_index starts i)))
-
--- texts at one start are one
-pub starts_have_text : (heap starts : List ℕ) (use_index first : ℕ) → use_index < length starts → (first ≤ use_index) × (slice_index starts first ≡ slice_index starts use_index) → HasText (texts_at heap starts) use_index first
-starts_have_text heap starts use_index first h f = record {
-  within = f.0;
-  same = get_or-map (heap_text heap) starts first 0 [] (omega (arith, f.0, h)) ∙ ap (heap_text heap) f.1 ∙ sym (get_or-map (heap_text heap) starts use_index 0 [] h);
-}

@@ -1,10 +1,10 @@
 -- The value of a planned strings heap, and its encoding in bytes and spans.
-use Rattle.std.specs.Prelude.{◌≡◌, ◌==◌, ℕ, ◌+◌, ◌<◌, ◌≤◌, ◌^◌, List, [], ◌∷◌, length, take, drop, slice_index, if◌then◌else◌}
+use Rattle.std.specs.Prelude.{◌≡◌, ◌==◌, ℕ, ◌+◌, ◌<◌, ◌≤◌, ◌^◌, Bool, List, [], ◌∷◌, length, take, drop, slice_index, if◌then◌else◌}
 use Rattle.std.specs.declared.cmp.Ordering.TheVariants.{Less}
 use Rattle.heap_pools.specs.declared.text_plan.Span.{Span}
 use Rattle.heap_pools.specs.EndingOrder.{ending_cmp}
 use Rattle.heap_pools.specs.TextHeap.{text_heap, text_index, holders, ended}
-use Rattle.heap_pools.specs.Ranking.{used_at, IsFirstUse}
+use Rattle.heap_pools.specs.Ranking.{flagged}
 use Rattle.heap_pools.specs.Uses.{span_at}
 
 -- the entries of the heap, the texts that were planned, and the index of each text in the order of use
@@ -45,7 +45,11 @@ pub record IsSpanOf (used : List (List ℕ)) (text : List ℕ) (span : Span) : T
   pub within : span.start + span.len ≤ length (ended (holders used))
   pub reads : text_in (0 ∷ ended (holders used)) span ≡ text
 
--- the index of each non-empty text is at the first use index of this text
-abbrev pub HasFirstIndexes : List (List ℕ) → List ℕ → Type 0
-HasFirstIndexes used indexes = (use_index : ℕ) → use_index < length used → 0 < length (used_at used use_index) → IsFirstUse used use_index use_index
-    → slice_index indexes use_index ≡ text_index (holders used) (used_at used use_index)
+-- the offset that the entry of a text at each use index would have
+abbrev pub AreStarts : List (List ℕ) → List Bool → List ℕ → Type 0
+AreStarts used flags starts = (use_index : ℕ) → use_index < length used → slice_index starts use_index ≡ 1 + length (ended (flagged (take use_index used) (take use_index flags)))
+
+-- the span is that of a text at the end of an entry, which begins at a start
+pub record IsAtEnd (text entry : List ℕ) (start : ℕ) (span : Span) : Type 0 where
+  pub len : span.len ≡ length text
+  pub end : span.start + length text ≡ start + length entry

@@ -1,4 +1,4 @@
-ghost use Rattle.std.specs.Prelude.{◌≡◌, ◌≤◌, ◌<◌, ◌-◌, ◌⊎◌, ℕ, length, slice_index, vec_len, IfOk};
+ghost use Rattle.std.specs.Prelude.{◌≡◌, ◌≤◌, ◌<◌, ◌-◌, ℕ, length, slice_index, vec_len, IfOk};
 ghost use Rattle.heap_pools.specs.HeapTexts.{heap_text, texts_at};
 ghost use Rattle.heap_pools.specs.StartUses.{AreStartUses};
 ghost use Rattle.heap_pools.specs.Uses.{bytes_of};
@@ -92,17 +92,6 @@ pub fn read_texts<'a>(
     Ok(texts)
 }
 
-/// The first use index with the start of a use, if the use before it has that of its own start.
-fn first_with_start(before: StartUse, start_use: &StartUse) -> usize
-    ensures within { result ≤ start_use.now.use_index }
-    ensures from { (result ≡ start_use.now.use_index) ⊎ ((result ≡ before.use_index) × (before.start ≡ start_use.now.start)) }
-{
-    if before.start == start_use.start && before.use_index <= start_use.use_index {
-        return before.use_index;
-    }
-    start_use.use_index
-}
-
 /// Each use index below `count`, as the first one of its text.
 ///
 /// # Errors
@@ -115,34 +104,6 @@ pub fn own_firsts(alloc: Global, count: usize) -> Result<Vec<usize>, AllocError>
     let mut firsts = Vec::with_capacity(alloc, count)?;
     for use_index in 0..count {
         firsts.push(use_index)?;
-    }
-    Ok(firsts)
-}
-
-/// For each use index, the first one with its start.
-pub fn firsts_of(
-    alloc: Global,
-    starts: &[u32],
-    start_uses: &[StartUse],
-) -> Result<Vec<usize>, AllocError>
-    requires { AreStartUses starts.now start_uses.now }
-    ensures len { IfOk result (λ firsts. vec_len firsts ≡ length starts.now) }
-    ensures firsts { IfOk result (λ firsts. (use_index : ℕ) → use_index < length starts.now
-        → (slice_index firsts.items use_index ≤ use_index)
-        × (slice_index starts.now (slice_index firsts.items use_index) ≡ slice_index starts.now use_index)) }
-{
-    let mut firsts = own_firsts(alloc, starts.len())?;
-    let mut before = StartUse {
-        start: 0,
-        use_index: starts.len(),
-    };
-    for start_use in start_uses {
-        let use_index = first_with_start(before, start_use);
-        firsts[start_use.use_index] = use_index;
-        before = StartUse {
-            start: start_use.start,
-            use_index,
-        };
     }
     Ok(firsts)
 }

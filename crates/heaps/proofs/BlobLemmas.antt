@@ -103,11 +103,12 @@ module _ {A : Type 0} where
       ∙ sym (starts_from-push 1 (names_of entries) blob)
       ∙ ap (starts_from 1) (sym (names_of-push entries key start blob is))
 
--- the length of the heap with a new blob
+-- the length of the heap with one more blob
+pub length-push : (entries : List (List ℕ)) (blob : List ℕ) → length (blob_heap (entries ++ blob ∷ [])) ≡ max (length (blob_heap entries)) 1 + length (counted blob)
+length-push entries blob = omega (arith, ap length (blob_heap-push entries blob), length-append (begun (blob_heap entries)) (counted blob), length-begun (blob_heap entries))
+
 pub length-pooled : (entries : List (List ℕ)) (blob : List ℕ) → 0 < length blob → is_among entries blob ≡ false → length (blob_heap (pooled entries blob)) ≡ max (length (blob_heap entries)) 1 + length (counted blob)
-length-pooled entries blob some new =
-    let e = ap (λ (l : List (List ℕ)). length (blob_heap l)) (pooled_new entries blob some new) in
-    omega (arith, e, ap length (blob_heap-push entries blob), length-append (begun (blob_heap entries)) (counted blob), length-begun (blob_heap entries))
+length-pooled entries blob some new = ap (λ (l : List (List ℕ)). length (blob_heap l)) (pooled_new entries blob some new) ∙ length-push entries blob
 
 -- the index of a blob that is appended
 pub blob_index-push : (entries : List (List ℕ)) (blob : List ℕ) → 0 < length blob → is_among entries blob ≡ false → blob_index (entries ++ blob ∷ []) blob ≡ max (length (blob_heap entries)) 1

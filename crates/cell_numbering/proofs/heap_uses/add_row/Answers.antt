@@ -11,8 +11,7 @@ loop-cell_index-init g c = λ model is cells are. no_cells_yet _ model _ cells a
 pub loop-cell_index-preserved : goal.loop-cell_index-preserved
 loop-cell_index-preserved g c = λ model is cells are.
     let row = row_of model c.args.table c.args.row in
-    let rows = c.holds_one.ensures.rows model is c.args.table in
-    let there : HasRow model c.args.table c.args.row = (c.requires.first, omega (arith, rows, c.requires.last)) in
+    let there : HasRow model c.args.table c.args.row = (c.requires.first, omega (arith, c.holds_one.ensures.rows model is c.args.table, c.requires.last)) in
     let long = (c.holds_one.ensures.valid model is).long c.args.table c.args.row there in
     let i = c.loop-cell_index.cell_index in
     let below : i < length row = omega (arith, long) in
@@ -21,8 +20,7 @@ loop-cell_index-preserved g c = λ model is cells are.
 pub returns : goal.returns
 returns g c = λ model is cells are.
     let row = row_of model c.args.table c.args.row in
-    let rows = c.holds_one.ensures.rows model is c.args.table in
-    let there : HasRow model c.args.table c.args.row = (c.requires.first, omega (arith, rows, c.requires.last)) in
+    let there : HasRow model c.args.table c.args.row = (c.requires.first, omega (arith, c.holds_one.ensures.rows model is c.args.table, c.requires.last)) in
     let long = (c.holds_one.ensures.valid model is).long c.args.table c.args.row there in
     let past : length row ≤ c.loop-cell_index.cell_index = omega (arith, long) in
     all_cells_in _ model _ cells row c.loop-cell_index.cell_index past (c.loop-cell_index.invariant model is cells are)

@@ -29,8 +29,7 @@ returns-in-Some g c = λ model is cells are.
     let cell_index = c.args.cell_index in
     let index_of = g.S.ReadCells.heap_index c.args.source.now in
     let id : CellId = record { table = table; row = row; cell_index = cell_index } in
-    let rows = c.holds_one.ensures.rows model is table in
-    let there : HasRow model table row = (c.requires.first, omega (arith, rows, c.requires.last)) in
+    let there : HasRow model table row = (c.requires.first, omega (arith, c.holds_one.ensures.rows model is table, c.requires.last)) in
     let laws : AreLaws = record { more = c.pooled_are_distinct.ensures.more; again = c.pooled_are_distinct.ensures.again } in
     added_known index_of model laws c.args.uses.now _ cells id are (c.shared_blobs_are_one.ensures model is) c.in-Some.known c.args.kind c.args.index
     (there, c.requires.cell_index) (sym c.requires.kind) c.requires.index c.in-Some.ensures.0 c.in-Some.ensures.1
@@ -43,8 +42,7 @@ returns-in_ok-add-in-Bytes g c = λ model is cells are.
     let cell_index = c.args.cell_index in
     let index_of = g.S.ReadCells.heap_index c.args.source.now in
     let id : CellId = record { table = table; row = row; cell_index = cell_index } in
-    let rows = c.holds_one.ensures.rows model is table in
-    let there : HasRow model table row = (c.requires.first, omega (arith, rows, c.requires.last)) in
+    let there : HasRow model table row = (c.requires.first, omega (arith, c.holds_one.ensures.rows model is table, c.requires.last)) in
     let laws : AreLaws = record { more = c.pooled_are_distinct.ensures.more; again = c.pooled_are_distinct.ensures.again } in
     let cell = cell_in model table row cell_index in
     let valid = c.holds_one.ensures.valid model is in
@@ -64,8 +62,7 @@ returns-in_default-cell g c = λ model is cells are.
     let row = c.args.row in
     let cell_index = c.args.cell_index in
     let cell = cell_in model table row cell_index in
-    let rows = c.holds_one.ensures.rows model is table in
-    let there : HasRow model table row = (c.requires.first, omega (arith, rows, c.requires.last)) in
+    let there : HasRow model table row = (c.requires.first, omega (arith, c.holds_one.ensures.rows model is table, c.requires.last)) in
     let good = (c.holds_one.ensures.valid model is).cells table row cell_index there c.requires.cell_index in
     let shown = c.cell.ensures model is in
     let P : CellRef → Type 0 = λ value. Shows (kind_at table cell_index) value cell in

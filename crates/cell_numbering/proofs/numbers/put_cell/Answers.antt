@@ -19,8 +19,7 @@ returns-in-Text-clause-ok g c = λ model is.
     let table = c.args.table in
     let cell_index = c.args.cell_index in
     let cell = cell_in model table c.args.row cell_index in
-    let rows = c.holds_one.ensures.rows model is table in
-    let there : HasRow model table c.args.row = (c.requires.first, omega (arith, rows, c.requires.last)) in
+    let there : HasRow model table c.args.row = (c.requires.first, omega (arith, c.holds_one.ensures.rows model is table, c.requires.last)) in
     let good = (c.holds_one.ensures.valid model is).cells table c.args.row cell_index there c.requires.cell_index in
     on_ok_weaker c.put_text.result (λ e. e ∙ sym (next_text c.args.indexes (kind_at table cell_index) cell c.args.so_far.now good.of_kind (sym c.kind_of-kind.ensures ∙ c.in-Text.is))) c.put_text.ensures
 
@@ -29,8 +28,7 @@ returns-in-Guid-clause-ok g c = λ model is.
     let table = c.args.table in
     let cell_index = c.args.cell_index in
     let cell = cell_in model table c.args.row cell_index in
-    let rows = c.holds_one.ensures.rows model is table in
-    let there : HasRow model table c.args.row = (c.requires.first, omega (arith, rows, c.requires.last)) in
+    let there : HasRow model table c.args.row = (c.requires.first, omega (arith, c.holds_one.ensures.rows model is table, c.requires.last)) in
     let good = (c.holds_one.ensures.valid model is).cells table c.args.row cell_index there c.requires.cell_index in
     on_ok_weaker c.put_guid.result (λ e. e ∙ sym (next_guid c.args.indexes (kind_at table cell_index) cell c.args.so_far.now good.of_kind (sym c.kind_of-kind.ensures ∙ c.in-Guid.is))) c.put_guid.ensures
 
@@ -39,8 +37,7 @@ returns-in-Blob-clause-ok g c = λ model is.
     let table = c.args.table in
     let cell_index = c.args.cell_index in
     let cell = cell_in model table c.args.row cell_index in
-    let rows = c.holds_one.ensures.rows model is table in
-    let there : HasRow model table c.args.row = (c.requires.first, omega (arith, rows, c.requires.last)) in
+    let there : HasRow model table c.args.row = (c.requires.first, omega (arith, c.holds_one.ensures.rows model is table, c.requires.last)) in
     let good = (c.holds_one.ensures.valid model is).cells table c.args.row cell_index there c.requires.cell_index in
     on_ok_weaker c.put_blob.result (λ e. e ∙ sym (next_blob c.args.indexes (kind_at table cell_index) cell c.args.so_far.now good.of_kind (sym c.kind_of-kind.ensures ∙ c.in-Blob.is))) c.put_blob.ensures
 
@@ -49,8 +46,7 @@ returns-in-Signature-clause-ok g c = λ model is.
     let table = c.args.table in
     let cell_index = c.args.cell_index in
     let cell = cell_in model table c.args.row cell_index in
-    let rows = c.holds_one.ensures.rows model is table in
-    let there : HasRow model table c.args.row = (c.requires.first, omega (arith, rows, c.requires.last)) in
+    let there : HasRow model table c.args.row = (c.requires.first, omega (arith, c.holds_one.ensures.rows model is table, c.requires.last)) in
     let good = (c.holds_one.ensures.valid model is).cells table c.args.row cell_index there c.requires.cell_index in
     on_ok_weaker c.put_blob-in-Signature.result (λ e. e ∙ sym (next_signature c.args.indexes (kind_at table cell_index) cell c.args.so_far.now good.of_kind c.in-Signature.field-0 (sym c.kind_of-kind.ensures ∙ c.in-Signature.is))) c.put_blob-in-Signature.ensures
 
@@ -60,8 +56,7 @@ plain_number-requires g c = λ none. not_there c.holds_one.ensures.shown (λ som
     let row = c.args.row in
     let cell_index = c.args.cell_index in
     let cell = cell_in some.0 table row cell_index in
-    let rows = c.holds_one.ensures.rows some.0 some.1 table in
-    let there : HasRow some.0 table row = (c.requires.first, omega (arith, rows, c.requires.last)) in
+    let there : HasRow some.0 table row = (c.requires.first, omega (arith, c.holds_one.ensures.rows some.0 some.1 table, c.requires.last)) in
     let valid = c.holds_one.ensures.valid some.0 some.1 in
     let good = valid.cells table row cell_index there c.requires.cell_index in
     let kind = c.kind_of-kind.ensures in
@@ -84,8 +79,7 @@ returns-in_default-kind-clause-ok g c = λ model is.
     let table = c.args.table in
     let cell_index = c.args.cell_index in
     let cell = cell_in model table c.args.row cell_index in
-    let rows = c.holds_one.ensures.rows model is table in
-    let there : HasRow model table c.args.row = (c.requires.first, omega (arith, rows, c.requires.last)) in
+    let there : HasRow model table c.args.row = (c.requires.first, omega (arith, c.holds_one.ensures.rows model is table, c.requires.last)) in
     let good = (c.holds_one.ensures.valid model is).cells table c.args.row cell_index there c.requires.cell_index in
     let kind = c.kind_of-kind.ensures in
     let plain : IsPlainKind (kind_at table cell_index) = record {

@@ -31,8 +31,7 @@ pub returns-in_ok-put_cell-in_default-clause-ok : goal.returns-in_ok-put_cell-in
 returns-in_ok-put_cell-in_default-clause-ok g c = λ model is tail.
     let table = c.args.table in
     let row = row_of model table c.args.row in
-    let rows = c.holds_one.ensures.rows model is table in
-    let there : HasRow model table c.args.row = (c.requires.first, omega (arith, rows, c.requires.last)) in
+    let there : HasRow model table c.args.row = (c.requires.first, omega (arith, c.holds_one.ensures.rows model is table, c.requires.last)) in
     let long = (c.holds_one.ensures.valid model is).long table c.args.row there in
     next_cell table c.args.index c.args.cell_index c.requires.column c.requires.cell_index (no_padding c.args.table c.args.index c.columns.result.now c.columns.ensures c.in_default.not-Padding) c.args.indexes tail row c.args.so_far.now long
     ∙ ap (tail (drop (c.args.cell_index + 1) row)) (sym (c.in_ok-put_cell-in_default.ensures.ok model is))

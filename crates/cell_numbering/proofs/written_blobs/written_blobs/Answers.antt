@@ -48,7 +48,7 @@ merged-requires-clause-short c = λ k d h. lt_of_not-le (λ long. c.requires.use
     let uses = c.args.uses.now in
     let i = c.loop-use_index.use_index in
     let after = all_bytes c.in_ok-written.written.bytes.items c.in_ok-written.written.firsts.items in
-    let so_far : after ≡ take (i + 1) some.0 = c.in_ok-written.ensures.next
+    let so_far : after ≡ take (i + 1) some.0 = c.in_ok-written.ensures.same
     ∙ next_blob uses some.0 some.1 i c.index-uses-use_index.result c.loop-use_index-test.true c.index-uses-use_index.is
     (all_bytes c.loop-use_index.written.bytes.items c.loop-use_index.written.firsts.items) (bytes_in c.in_ok-next.next) (c.loop-use_index.invariant.blobs some.0 some.1) c.in_ok-next.ensures in
     let short : All (λ (blob : List ℕ). length blob < 2 ^ 29) after = subst (λ (list : List (List ℕ)). All (λ (blob : List ℕ). length blob < 2 ^ 29) list) (sym so_far)
@@ -60,7 +60,7 @@ returns-in_err-written-2-clause-full c = λ blobs all e.
     let uses = c.args.uses.now in
     let i = c.loop-use_index.use_index in
     let after = all_bytes c.in_ok-written.written.bytes.items c.in_ok-written.written.firsts.items in
-    let so_far : after ≡ take (i + 1) blobs = c.in_ok-written.ensures.next
+    let so_far : after ≡ take (i + 1) blobs = c.in_ok-written.ensures.same
     ∙ next_blob uses blobs all i c.index-uses-use_index.result c.loop-use_index-test.true c.index-uses-use_index.is
     (all_bytes c.loop-use_index.written.bytes.items c.loop-use_index.written.firsts.items) (bytes_in c.in_ok-next.next) (c.loop-use_index.invariant.blobs blobs all) c.in_ok-next.ensures in
     let full : c.merged.result ≡ Err Full = search rules in
@@ -75,8 +75,8 @@ loop-use_index-preserved c =
     let i = c.loop-use_index.use_index in
     let after = all_bytes c.in_ok-written.written.bytes.items c.in_ok-written.written.firsts.items in
     record {
-      written = c.in_ok-written-2.ensures.written;
-      blobs = λ blobs all. c.in_ok-written-2.ensures.same ∙ c.in_ok-written.ensures.next
+      written = c.in_ok-written-2.ensures.kept.written;
+      blobs = λ blobs all. c.in_ok-written-2.ensures.kept.same ∙ c.in_ok-written.ensures.same
           ∙ next_blob uses blobs all i c.index-uses-use_index.result c.loop-use_index-test.true c.index-uses-use_index.is
           (all_bytes c.loop-use_index.written.bytes.items c.loop-use_index.written.firsts.items) (bytes_in c.in_ok-next.next) (c.loop-use_index.invariant.blobs blobs all) c.in_ok-next.ensures;
     }

@@ -1,4 +1,4 @@
-use Rattle.std.proofs.Common.{length, sym, subst, ◌∙◌, arith}
+use Rattle.std.proofs.Common.{sym, subst, ◌∙◌, arith}
 use Rattle.heaps.specs.Windows.{HavePositions}
 use Rattle.heaps.proofs.overlaps.find_equal.Goals as goal
 

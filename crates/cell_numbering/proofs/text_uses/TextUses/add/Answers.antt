@@ -21,8 +21,7 @@ returns-in_ok-push-in-Indexed g c = λ model is texts are.
     let row = c.args.row in
     let index_of = g.S.ReadCells.heap_index c.args.source.now in
     let id : CellId = record { table = table; row = row; cell_index = c.args.cell_index } in
-    let rows = c.holds_one.ensures.rows model is table in
-    let there : HasRow model table row = (c.requires.first, omega (arith, rows, c.requires.last)) in
+    let there : HasRow model table row = (c.requires.first, omega (arith, c.holds_one.ensures.rows model is table, c.requires.last)) in
     let indexes = c.in-Indexed.indexes.items in
     let before : AreTextUses index_of model (Indexed c.in-Indexed.field-0 c.in-Indexed.indexes) texts =
     subst (λ (uses : TextUses). AreTextUses index_of model uses texts) c.in-Indexed.is are in
