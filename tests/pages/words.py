@@ -81,7 +81,7 @@ WORDS_OF = {PYTHON: {"raise", "raises", "raised"}}
 # Words of prose, as patterns, and what to say.
 PROSE = {
     r"exactly (?:where|when|if)": "if and only if",
-    r"(?:`None`|`Ok`|`Err`|`true`|`false`|null|but|also|even|or|and|else|only|just|;|,) where (?:it|they|there|that|this|none|all|no|one|its|their|nothing|each|both|the \w+ (?:is|are|has|have|does|do)\b)": "if or when",
+    r"(?:`None`|`Ok`|`Err`|`true`|`false`|null|but|also|even|or|and|else|only|just|;|,) where (?!that \w+ (?:begins|ends)\b)(?:it|they|there|that|this|none|all|no|one|its|their|nothing|each|both|the \w+ (?:is|are|has|have|does|do)\b)": "if or when",
     r"demand(?:s|ed|ing)?": "rule, or to require",
     r"(?:it|that|which|what|call|calls|function|functions|reader|both|and|all|each) answers?(?= )|answers (?:a|an|the|as|with|no|what|whether|how|that|each|alike|otherwise|for|to)\b|(?:is|are|was|be|been) answered|(?:has|have) to answer|answering": "return",
     r"(?:for )?want of memory": "out of memory",
