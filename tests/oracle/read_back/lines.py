@@ -27,13 +27,14 @@ LINES = {
         r"\.class<Flags> <own>(?= extends | \{|$)", [" extends ", "Extends"], r"(?: \{ \.pack <ClassLayout_PackingSize> \.size <ClassLayout_ClassSize> \})?",
     ],
     "Field": [
-        r"  \.field(?: \[<FieldLayout_Offset>\])?<Flags>(?: marshal\(<FieldMarshal_NativeType>\))? ", "declaration", [" = ", "constant"],
+        r"  \.field(?: \[<FieldLayout_Offset>\])?<Flags> ", "declaration", [" = ", "constant"],
         "(?: at D_<FieldRVA_RVA>)?",
     ],
     "MethodDef": [r"  \.method<Flags> ", "declaration", "<ImplFlags>"],
     "Property": [r"  \.property<Flags> ", "declaration", [" = ", "constant"]],
     "Event": [r"  \.event<EventFlags>", [f" (?!{PATH}::{MEMBER}$)", "EventType"], " ", "member"],
     "MethodSemantics": ["   <Semantics> ", "Method", " of ", "Association"],
+    "Param": [r"\.param \[<Sequence>\] of ", "method", " = ", "constant"],
     "InterfaceImpl": [r"\.interfaceimpl type ", "Class", " implements ", "Interface"],
     "GenericParam": [r"\.param type<Flags> <Name> \[<Number>\] of ", "Owner"],
     "GenericParamConstraint": [rf"\.param constraint (?={WORD} <given>, )", "Owner", f" {TOKEN}, ", "Constraint"],
@@ -64,6 +65,14 @@ def pattern_of(table, step):
 
 
 LINES = {table: pattern_of(table, steps) for table, steps in LINES.items()}
+# A name or a text in quotes, or how something is marshalled.
+IN_QUOTES = r"""'[^']*'|"(?:[^"\\]|\\.)*\""""
+MARSHALLED = re.compile(rf"{IN_QUOTES}| marshal\((?:[^()'\"]|{IN_QUOTES}|\((?:[^()'\"]|{IN_QUOTES})*\))*\)")
+
+
+def without_marshalling(text):
+    """A line without how its field, or its parameters and its result, are marshalled."""
+    return MARSHALLED.sub(lambda it: "" if it[0].startswith(" marshal(") else it[0], text)
 
 
 class Line:
@@ -72,7 +81,10 @@ class Line:
     def __init__(self, rows, put, text, above):
         text, _, self.token = text.rpartition("  // ")
         self.rows, self.put, self.above, self.table = rows, put, above, table_of(self.token)
-        self.reader, self.scope, self.key, self.given = Reader(text, rows), None, None, None
+        plain_text = without_marshalling(text) if self.table in ("Field", "MethodDef") else text
+        if self.table == "Field" and plain_text != text:
+            self.describing("FieldMarshal")
+        self.reader, self.scope, self.key, self.given = Reader(plain_text, rows), None, None, None
         self.steps(LINES[self.table])
         self.reader.want("$")
 
@@ -140,7 +152,10 @@ class Line:
     def refer(self, column):
         """A reference to one of several rows, in the tables of a column."""
         is_named = re.compile(f"{PATH}(?:::{MEMBER})?$").match(self.reader.text, self.reader.at)
-        if self.table == "CustomAttribute" and column == "Parent" and (token := self.reader.take(f"{TOKEN}$")):
+        of_param = self.table == "CustomAttribute" and column == "Parent" and self.reader.take(r"param \[([0-9]+)\] of ")
+        if of_param:
+            tokens = [it for method in self.reader.reference() for it in self.rows.positions.get((method, int(of_param[1])), [])]
+        elif self.table == "CustomAttribute" and column == "Parent" and (token := self.reader.take(f"{TOKEN}$")):
             tokens = [token[0]]
         elif column in TYPES:
             tokens = self.reader.types()
@@ -151,6 +166,10 @@ class Line:
         kind, only = KINDS[NUMBERS[self.table], column], self.above if column == "Association" else self.given
         tables, self.given = CODED.get(kind, (0, kind))[1].split(), None
         self.put(self.token, column, [it for it in tokens if table_of(it) in tables and only in (None, it)].__contains__)
+
+    def method(self):
+        """The method of a parameter."""
+        self.put(self.token, "owner", self.reader.reference().__contains__)
 
     def declaration(self):
         is_property = self.table == "Property"

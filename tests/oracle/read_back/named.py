@@ -38,12 +38,14 @@ class Rows:
 
     def __init__(self, lines):
         self.tables, self.owners, self.keyed, self.unclear = {name: [] for name in NUMBERS}, {}, {}, {}
-        self.named, self.known, self.params = {}, {}, {}
+        self.named, self.known, self.params, self.positions = {}, {}, {}, {}
         for value in map(json.loads, lines):
             self.tables[value["table"]].append(value)
         for number, column in KINDS:
             if column in LISTS:
                 self.read_list(self.tables[TABLES[number][0]], column, self.tables[LISTS[column]])
+        for row in self.tables["Param"]:
+            self.positions.setdefault((row["owner"], row["Sequence"]), []).append(row["token"])
         for row in (row for table in KEYS for row in self.tables[table]):
             self.keyed.setdefault((row["table"], self.key(row)), row)
         nested = [row["NestedClass"] for row in self.tables["NestedClass"]]
