@@ -194,6 +194,27 @@ fn add(
     Ok(())
 }
 
+/// Adds the rows of a table.
+fn add_table(alloc: Global, made: &mut Made, table: u8) -> Result<(), Fail> {
+    for rows in [TYPES, MEMBERS, ACCESSORS, MANIFEST, DESCRIBING] {
+        for row in rows {
+            if row.0 == table {
+                add(alloc, made, *row)?;
+            }
+        }
+    }
+    Ok(())
+}
+
+/// Adds the attributes.
+fn add_attributes(alloc: Global, made: &mut Made) -> Result<(), Fail> {
+    for (tag, row, visible) in ATTRIBUTED {
+        let columns = [row * 32 + tag, 0x0B, 12];
+        add(alloc, made, (0x0C, &columns, *visible))?;
+    }
+    Ok(())
+}
+
 /// The root with all of these rows, and the tokens of the visible ones.
 fn made(alloc: Global) -> Result<(Vec<u8>, Vec<u32>), Fail> {
     let mut made = Made {
@@ -202,14 +223,12 @@ fn made(alloc: Global) -> Result<(Vec<u8>, Vec<u32>), Fail> {
         counts: vec![in alloc; 0; 64]?,
     };
     made.root.sorted = 0;
-    for rows in [TYPES, MEMBERS, ACCESSORS, MANIFEST, DESCRIBING] {
-        for row in rows {
-            add(alloc, &mut made, *row)?;
-        }
+    for table in 0..0x0C {
+        add_table(alloc, &mut made, table)?;
     }
-    for (tag, row, visible) in ATTRIBUTED {
-        let columns = [row * 32 + tag, 0x0B, 12];
-        add(alloc, &mut made, (0x0C, &columns, *visible))?;
+    add_attributes(alloc, &mut made)?;
+    for table in 0x0D..0x2D {
+        add_table(alloc, &mut made, table)?;
     }
     made.root.heap("#Strings", TEXTS)?;
     made.root.heap("#Blob", BLOBS)?;
