@@ -275,7 +275,7 @@ fn prints_what_is_visible_outside(rt: HostRuntime) -> Result<(), Fail> {
     for words in [
         ["v.root"].as_slice(),
         &["v.root", "--json"],
-        &["v.root", "v.root"],
+        &["v.root", "./v.root"],
         &["v.root", "02000002"],
         &["v.root", "02000003"],
         &["v.root", "02000004"],
