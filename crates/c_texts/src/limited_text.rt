@@ -1,7 +1,7 @@
 //! A text that is written into a caller's buffer as it is made, up to a limit.
 use crate::parts::append;
 use crate::signature_text::TEXT_LIMIT;
-use full_names::Limit;
+use full_names::{Limit, Scopes};
 use std::fmt;
 
 /// A writer of a text into a buffer that is not longer than the limit. It passes over what follows the limit, and never
@@ -30,8 +30,17 @@ impl fmt::Write for LimitedText<'_> {
 pub(crate) struct TextLimit;
 
 impl Limit<LimitedText<'_>> for TextLimit {
+    ghost use Rattle.std.specs.Prelude.{◌≡◌};
+    ghost use Rattle.full_names.specs.declared.limit.Scopes.TheVariants.{Omitted};
+
     #[tactic(auto, using(crate::proofs::Buffers::stays))]
     fn is_reached(&self, text: &LimitedText<'_>) -> bool {
         text.len > TEXT_LIMIT
+    }
+
+    fn scopes_of_names(&self) -> Scopes
+        ensures { result ≡ Omitted }
+    {
+        Scopes::Omitted
     }
 }

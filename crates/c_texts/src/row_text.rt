@@ -9,6 +9,7 @@ ghost use Rattle.metadata.specs.Cell.{Sig};
 ghost use Rattle.metadata.specs.Metadata.{Metadata, cell_in};
 ghost use Rattle.metadata.specs.Model.{IsModel};
 ghost use Rattle.opening.specs.Views.{row_count};
+ghost use Rattle.full_names.specs.declared.limit.Scopes.TheVariants.{Omitted};
 ghost use Rattle.full_names.specs.Names.{Wrote};
 ghost use Rattle.c_texts.specs.RowTexts.{IsDeclared, IsDeclaredProperty, IsFieldDeclaration, IsMethodDeclaration, IsRowText, IsTextWithin, IsTokenIn, has_declaration, has_text};
 ghost use Rattle.c_texts.specs.Texts.{HasText, text_limit};
@@ -83,6 +84,7 @@ fn write_field<W: fmt::Write, L: Limit<W>>(
 ) -> Result<(), TextError>
     requires first { 1 ≤ row }
     requires last { row ≤ row_count view.now Field }
+    requires omitted { L.scopes ≡ Omitted }
     ensures { (model : Metadata) → IsModel view.now model → OnOk result (Wrote W.write_str_gives out.old (IsFieldDeclaration model row) out.new) }
 {
     let blob = field_signature(view, row);
@@ -102,6 +104,7 @@ fn write_method<W: fmt::Write, L: Limit<W>>(
 ) -> Result<(), TextError>
     requires first { 1 ≤ row }
     requires last { row ≤ row_count view.now MethodDef }
+    requires omitted { L.scopes ≡ Omitted }
     ensures { (model : Metadata) → IsModel view.now model → OnOk result (Wrote W.write_str_gives out.old (IsMethodDeclaration model row) out.new) }
 {
     metadata::laws::models_are_read();
@@ -119,6 +122,7 @@ fn write_property<W: fmt::Write, L: Limit<W>>(
 ) -> Result<(), TextError>
     requires first { 1 ≤ row }
     requires last { row ≤ row_count view.now Property }
+    requires omitted { L.scopes ≡ Omitted }
     ensures { (model : Metadata) → IsModel view.now model → OnOk result (Wrote W.write_str_gives out.old (IsDeclaredProperty model row) out.new) }
 {
     metadata::laws::models_are_read();
@@ -137,6 +141,7 @@ fn write_declaration<W: fmt::Write, L: Limit<W>>(
     requires first { 1 ≤ token.row }
     requires last { token.row ≤ row_count view.now token.table }
     requires declared { has_declaration token.table ≡ true }
+    requires omitted { L.scopes ≡ Omitted }
     ensures { (model : Metadata) → IsModel view.now model → OnOk result (Wrote W.write_str_gives out.old (IsDeclared model token.table token.row) out.new) }
 {
     match token.table {
@@ -160,6 +165,7 @@ fn write_whole<W: fmt::Write, L: Limit<W>>(
     requires first { 1 ≤ token.row }
     requires last { token.row ≤ row_count view.now token.table }
     requires there { has_text of token.table ≡ true }
+    requires omitted { L.scopes ≡ Omitted }
     ensures { (model : Metadata) → IsModel view.now model → OnOk result (Wrote W.write_str_gives out.old (IsRowText of model token) out.new) }
 {
     match of {

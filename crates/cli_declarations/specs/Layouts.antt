@@ -7,7 +7,7 @@ use Rattle.metadata.specs.Metadata.{Metadata}
 use Rattle.declarations.specs.declared.flag_words.FlagTable.TheVariants as table
 use Rattle.navigation.specs.declared.links.Link.TheVariants as link
 use Rattle.cli_declarations.specs.Texts.{AreTexts}
-use Rattle.cli_declarations.specs.Parts.{IsPartText, Part, word, flags, text, number, quoted_after, bytes_after, key, first_bytes, token_after, signature, declaration, own_name, name_after, eight_digits, guid_comment, action, linked_by, own_reference, reference_after, scope_after, attribute_value}
+use Rattle.cli_declarations.specs.Parts.{IsPartText, Part, word, flags, text, number, quoted_after, bytes_after, key, first_bytes, token_after, signature, declaration, own_name, name_after, eight_digits, guid_comment, action, linked_by, listed, own_reference, reference_after, attribute_value}
 
 abbrev pub parts_of : TableId → List Part
 -- II.6.2, II.22.2
@@ -28,9 +28,10 @@ parts_of ModuleRef = word (codes ".module extern ") ∷ text 0 ∷ []
 parts_of File = word (codes ".file") ∷ flags table.File 0 ∷ word (codes " ") ∷ text 1 ∷ []
 -- II.6.2.2, II.22.24
 parts_of ManifestResource = word (codes ".mresource") ∷ flags table.Resource 1 ∷ word (codes " ") ∷ text 2 ∷ []
--- II.10.1, II.10.7, II.22.37
+-- II.10.1, II.10.2, II.10.7, II.12.2, II.22.37
 parts_of TypeDef =
-    word (codes ".class") ∷ flags table.Type 0 ∷ word (codes " ") ∷ own_name ∷ name_after (codes " extends ") 3 ∷ linked_by link.TypeLayouts ∷ []
+    word (codes ".class") ∷ flags table.Type 0 ∷ word (codes " ") ∷ own_name ∷ listed link.GenericParams (codes "<") (codes ">") ∷ name_after (codes " extends ") 3 ∷
+    listed link.Interfaces (codes " implements ") [] ∷ linked_by link.TypeLayouts ∷ []
 -- II.16.1, II.22.15
 parts_of Field =
     word (codes "  .field") ∷ linked_by link.FieldOffsets ∷ flags table.Field 0 ∷ linked_by link.Marshalling ∷ word (codes " ") ∷ signature 2 ∷
@@ -67,9 +68,9 @@ parts_of DeclSecurity = word (codes ".permissionset ") ∷ action 0 ∷ word (co
 parts_of CustomAttribute =
     word (codes ".custom") ∷ reference_after (codes " ") 1 ∷ attribute_value ∷ reference_after (codes " of ") 0 ∷ []
 -- II.7.3, II.22.38
-parts_of TypeRef = word (codes ".typeref ") ∷ scope_after [] ∷ own_name ∷ []
+parts_of TypeRef = word (codes ".typeref ") ∷ own_name ∷ []
 -- II.15.3, II.22.25
-parts_of MemberRef = word (codes ".memberref ") ∷ own_reference ∷ scope_after (codes " of ") ∷ []
+parts_of MemberRef = word (codes ".memberref ") ∷ own_reference ∷ []
 parts_of _ = []
 
 -- the declaration of a row: the texts of its parts

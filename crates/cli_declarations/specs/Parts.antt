@@ -2,7 +2,7 @@
 use Rattle.std.specs.Prelude.{◌≡◌, ℕ, ◌%◌, ◌==◌, Bool, true, false, nat_lt, if◌then◌else◌, List, [], ◌∷◌, ◌++◌, length, take, codes, count_by, Option, None, Some, ◌⊎◌, nat_le, option_and_then}
 use Rattle.std.specs.Prelude.{decimal as digits}
 use Rattle.table_schema.specs.declared.table.TableId.{TableId}
-use Rattle.table_schema.specs.declared.table.TableId.TheVariants.{MethodDef, Property, Constant, ClassLayout, FieldLayout, FieldRVA, FieldMarshal, AssemblyRef, Event, Field, MemberRef, ModuleRef, Param, TypeDef, CustomAttribute}
+use Rattle.table_schema.specs.declared.table.TableId.TheVariants.{MethodDef, Property, Constant, ClassLayout, FieldLayout, FieldRVA, FieldMarshal, Event, Field, MemberRef, Param, TypeDef, CustomAttribute}
 use Rattle.table_schema.specs.declared.token.Token.{Token}
 use Rattle.table_schema.specs.Tokens.{hexadecimal, token_text}
 use Rattle.sig_grammar.specs.Syntax.{Body, Method, Slot, method_body, property}
@@ -19,19 +19,20 @@ use Rattle.attribute_constructors.specs.Params.{params_of_constructor}
 use Rattle.attribute_text.specs.Texts.{value_text as attribute_value_text}
 use Rattle.metadata.specs.Lookups.{HasRow}
 use Rattle.metadata.specs.Metadata.{Metadata, cell_in}
+use Rattle.full_names.specs.declared.limit.Scopes.TheVariants.{Written}
 use Rattle.full_names.specs.declared.quoted.NameKind.TheVariants.{Dotted}
 use Rattle.full_names.specs.Quoted.{name_text, quoted_bytes}
-use Rattle.full_names.specs.RowNames.{IsRowName}
-use Rattle.full_names.specs.Texts.{ArePiecesText, IsFullName, IsPieceText}
+use Rattle.full_names.specs.RowNames.{IsRowNameBy}
+use Rattle.full_names.specs.Texts.{ArePiecesText, IsFullNameBy, IsPieceText}
 use Rattle.declarations.specs.Descriptors.{descriptor_in, descriptor_text}
 use Rattle.marshal_descriptors.specs.Values.{Descriptor}
-use Rattle.declarations.specs.Declarations.{IsDeclaration, IsPropertyDeclaration, IsReference}
+use Rattle.declarations.specs.Declarations.{IsDeclarationBy, IsPropertyDeclarationBy, IsReference}
 use Rattle.navigation.specs.declared.links.Link.{Link}
 use Rattle.navigation.specs.declared.links.Link.TheVariants as link_of
-use Rattle.navigation.specs.Linked.{first_linked}
+use Rattle.navigation.specs.Linked.{first_linked, linked}
 use Rattle.cli_lines.specs.Lines.{guid_text}
-use Rattle.declarations.specs.Scopes.{IsScopeOf}
 use Rattle.cli_lines.specs.Texts.{escaped_bytes}
+use Rattle.type_heads.specs.Heads.{AreListed, IsInHead, enclosed}
 use Rattle.cli_values.specs.Actions.{action_text}
 use Rattle.cli_values.specs.Constants.{constant_text, value_limit}
 use Rattle.cli_values.specs.Constants.{bytes_text as value_bytes_text}
@@ -75,12 +76,12 @@ pub data Part : Type 0 where
   action : ℕ → Part
   -- what the first row that refers to the row adds to it
   linked_by : Link → Part
+  -- unless no row refers to the row: a word, what the rows that refer to it are in its head, with commas between them, and a word
+  listed : Link → List ℕ → List ℕ → Part
   -- the reference to the row: a method or a field with its signature (II.15.3, II.22.25)
   own_reference : Part
   -- unless the reference in a cell is null: a word, and the reference to a type, a member or a parameter, or the token of any other row
   reference_after : List ℕ → ℕ → Part
-  -- unless the row is of no other module: a word, and the scope of the row in brackets (II.7.3)
-  scope_after : List ℕ → Part
   -- the value of the attribute that the row is
   attribute_value : Part
 
@@ -143,11 +144,11 @@ token_text_after before (Some token) = before ++ token_text token
 
 -- the name of a row (II.5.3), up to the limit
 abbrev pub IsNameText : Metadata → Token → List ℕ → Type 0
-IsNameText model token out = (name : List ℕ) × IsRowName model token name × (out ≡ cut_text name)
+IsNameText model token out = (name : List ℕ) × IsRowNameBy Written model token name × (out ≡ cut_text name)
 
 -- the text of a signature, with the full names of types, up to the limit (II.7.1, II.15.3)
 abbrev pub IsSignatureText : Metadata → Body → List ℕ → Type 0
-IsSignatureText model of out = (plain : List ℕ) × ArePiecesText (IsPieceText (IsFullName model)) (pieces_of_signature of) plain × (out ≡ cut_text plain)
+IsSignatureText model of out = (plain : List ℕ) × ArePiecesText (IsPieceText (IsFullNameBy Written model)) (pieces_of_signature of) plain × (out ≡ cut_text plain)
 
 -- the same of a cell, which has no text if it is no signature
 abbrev pub IsSignatureOf : Metadata → Cell → List ℕ → Type 0
@@ -157,13 +158,13 @@ IsSignatureOf model _ out = out ≡ []
 -- the declaration of a method, with its full name and the names of its parameters, up to the limit (II.15.3)
 abbrev pub IsMethodText : Metadata → ℕ → List ℕ → Type 0
 IsMethodText model row out =
-    (method : Method) × (cell_in model MethodDef row 4 ≡ Sig (method_body method)) × (plain : List ℕ) × IsDeclaration model row method plain × (out ≡ cut_text plain)
+    (method : Method) × (cell_in model MethodDef row 4 ≡ Sig (method_body method)) × (plain : List ℕ) × IsDeclarationBy Written model row method plain × (out ≡ cut_text plain)
 
 -- the declaration of a property, with its full name, up to the limit (II.17)
 abbrev pub IsPropertyText : Metadata → ℕ → List ℕ → Type 0
 IsPropertyText model row out =
     (this : Bool) × (of : Slot) × (params : List Slot) × (cell_in model Property row 2 ≡ Sig (property this of params))
-    × (plain : List ℕ) × IsPropertyDeclaration model row (as_method this of params) plain × (out ≡ cut_text plain)
+    × (plain : List ℕ) × IsPropertyDeclarationBy Written model row (as_method this of params) plain × (out ≡ cut_text plain)
 
 -- the same of a row, which has no text if it is neither
 abbrev pub IsDeclarationAt : Metadata → TableId → ℕ → List ℕ → Type 0
@@ -188,7 +189,7 @@ has_reference _ = false
 
 -- the reference to a row, up to the limit, or its token
 abbrev pub IsReferred : Metadata → Bool → Token → List ℕ → Type 0
-IsReferred model true token out = (plain : List ℕ) × IsReference model token plain × (out ≡ cut_text plain)
+IsReferred model true token out = (plain : List ℕ) × IsReference Written model token plain × (out ≡ cut_text plain)
 IsReferred model false token out = out ≡ token_text token
 
 -- the reference to a parameter: its position, and the reference to its method (II.22.26, II.22.33)
@@ -209,25 +210,6 @@ IsReferenceText model token out = IsReferenceIn model token.table token out
 abbrev pub IsReferenceAfter : Metadata → List ℕ → Option Token → List ℕ → Type 0
 IsReferenceAfter model before None out = out ≡ []
 IsReferenceAfter model before (Some token) out = (reference : List ℕ) × IsReferenceText model token reference × (out ≡ before ++ reference)
-
--- what is before the name of a scope (II.7.3): this module has no mark
-abbrev pub scope_mark : TableId → Option (List ℕ)
-scope_mark AssemblyRef = Some (codes "[")
-scope_mark ModuleRef = Some (codes "[.module ")
-scope_mark _ = None
-
--- a word, the mark of a scope, its name, and a bracket
-abbrev pub IsMarked : Metadata → List ℕ → Option (List ℕ) → Token → List ℕ → Type 0
-IsMarked model before None scope out = out ≡ []
-IsMarked model before (Some mark) scope out = (name : List ℕ) × IsNameText model scope name × (out ≡ before ++ (mark ++ (name ++ codes "]")))
-
-abbrev pub IsScopeAfter : Metadata → List ℕ → Option Token → List ℕ → Type 0
-IsScopeAfter model before None out = out ≡ []
-IsScopeAfter model before (Some scope) out = IsMarked model before (scope_mark scope.table) scope out
-
--- the same of the scope of a row
-abbrev pub IsScopeOfRow : Metadata → TableId → ℕ → List ℕ → List ℕ → Type 0
-IsScopeOfRow model table row before out = (scope : Option Token) × IsScopeOf model table row scope × IsScopeAfter model before scope out
 
 -- ---- the values of custom attributes (II.21, II.22.10)
 
@@ -305,6 +287,16 @@ abbrev pub linked_text : Metadata → Link → Option ℕ → List ℕ
 linked_text model of None = []
 linked_text model of (Some row) = referring_text model of row
 
+-- ---- the lists in the head of a type
+
+-- the list of some rows, up to the limit
+abbrev pub IsCutList : Metadata → Link → List ℕ → List ℕ → Type 0
+IsCutList model of rows out = (items : List ℕ) × AreListed (IsInHead Written model of) [] rows items × (out ≡ cut_text items)
+
+-- the same between two words
+abbrev pub IsHeadList : Metadata → Link → List ℕ → List ℕ → List ℕ → List ℕ → Type 0
+IsHeadList model of before after rows out = (items : List ℕ) × IsCutList model of rows items × (out ≡ enclosed before after rows items)
+
 -- a GUID in a comment, unless it is null
 abbrev pub guid_text_in_comment : Option (List ℕ) → List ℕ
 guid_text_in_comment None = []
@@ -329,7 +321,7 @@ IsPartText model table row (eight_digits cell) out = out ≡ hexadecimal 8 (numb
 IsPartText model table row (guid_comment cell) out = out ≡ guid_text_in_comment (guid_of (cell_in model table row cell))
 IsPartText model table row (action cell) out = out ≡ action_text (number_of (cell_in model table row cell))
 IsPartText model table row (linked_by of) out = out ≡ linked_text model of (first_linked model of (token_at table row))
+IsPartText model table row (listed of before after) out = IsHeadList model of before after (linked model of (token_at table row)) out
 IsPartText model table row own_reference out = IsReferenceText model (token_at table row) out
 IsPartText model table row (reference_after before cell) out = IsReferenceAfter model before (reference_in (cell_in model table row cell)) out
-IsPartText model table row (scope_after before) out = IsScopeOfRow model table row before out
 IsPartText model table row attribute_value out = IsAttributeAt model table row out

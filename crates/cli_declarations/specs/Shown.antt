@@ -5,7 +5,7 @@ use Rattle.table_schema.specs.CellColumns.{cell_count}
 use Rattle.cli_declarations.specs.Parts as part
 use Rattle.cli_declarations.specs.Parts.{Part}
 use Rattle.cli_declarations.specs.declared.layouts.Piece.{Piece}
-use Rattle.cli_declarations.specs.declared.layouts.Piece.TheVariants.{Word as PlainWord, Flags, Text, Number, QuotedAfter, BytesAfter, Key, FirstBytes, TokenAfter, Signature, Declaration, OwnName, NameAfter, EightDigits, GuidComment, Action, Linked, OwnReference, ReferenceAfter, ScopeAfter, AttributeValue}
+use Rattle.cli_declarations.specs.declared.layouts.Piece.TheVariants.{Word as PlainWord, Flags, Text, Number, QuotedAfter, BytesAfter, Key, FirstBytes, TokenAfter, Signature, Declaration, OwnName, NameAfter, EightDigits, GuidComment, Action, Linked, Listed, OwnReference, ReferenceAfter, AttributeValue}
 
 abbrev pub shown : Piece → Part
 shown (PlainWord of) = part.word of.now
@@ -25,9 +25,9 @@ shown (EightDigits cell) = part.eight_digits cell
 shown (GuidComment cell) = part.guid_comment cell
 shown (Action cell) = part.action cell
 shown (Linked of) = part.linked_by of
+shown (Listed of before after) = part.listed of before.now after.now
 shown OwnReference = part.own_reference
 shown (ReferenceAfter of cell) = part.reference_after of.now cell
-shown (ScopeAfter of) = part.scope_after of.now
 shown AttributeValue = part.attribute_value
 
 -- the cells of a part are in the rows of a table
@@ -49,7 +49,7 @@ IsWithin table (part.eight_digits cell) = cell < cell_count table
 IsWithin table (part.guid_comment cell) = cell < cell_count table
 IsWithin table (part.action cell) = cell < cell_count table
 IsWithin table (part.linked_by of) = ⊤
+IsWithin table (part.listed of before after) = ⊤
 IsWithin table part.own_reference = ⊤
 IsWithin table (part.reference_after of cell) = cell < cell_count table
-IsWithin table (part.scope_after of) = ⊤
 IsWithin table part.attribute_value = ⊤

@@ -4,7 +4,7 @@ ghost use Rattle.full_names.specs.declared.quoted.NameKind.TheVariants.{Dotted};
 ghost use Rattle.full_names.specs.Quoted.{name_text, quoted_bytes};
 ghost use Rattle.cli_declarations.specs.Parts.{cut_mark, cut_text, is_open, text_limit};
 
-use full_names::{Limit, NameKind, write_name, write_quoted};
+use full_names::{Limit, NameKind, Scopes, write_name, write_quoted};
 use std::alloc::{AllocError, Global};
 use std::fmt::{self, Write};
 
@@ -77,12 +77,20 @@ fn push_first(text: &str, room: usize, out: &mut String) -> Result<(), AllocErro
     }
 }
 
-/// The limit of a text of the file.
+/// The limit of a text of the file, in which types of other modules have their scopes.
 pub(crate) struct TextLimit;
 
 impl Limit<Declared> for TextLimit {
+    ghost use Rattle.full_names.specs.declared.limit.Scopes.TheVariants.{Written};
+
+    ghost scopes = { Written };
+
     fn is_reached(&self, declared: &Declared) -> bool {
         declared.left == 0
+    }
+
+    fn scopes_of_names(&self) -> Scopes {
+        Scopes::Written
     }
 }
 

@@ -44,20 +44,21 @@ pub enum Piece {
     Action(usize),
     /// What the first row that refers to the row adds to it; nothing if there is none.
     Linked(Link),
+    /// Unless no row refers to the row: the first word, what the rows that refer to it are in its head, with commas between
+    /// them, and the last word (II.10.1.7, II.12.2).
+    Listed(Link, &'static str, &'static str),
     /// The reference to the row, a parameter of a method, or a method or a field with its signature (II.15.3, II.22.25).
     OwnReference,
     /// Unless the reference in a cell is null: this word, and the reference to a type, a member or a parameter, or the token
     /// of any other row.
     ReferenceAfter(&'static str, usize),
-    /// Unless the row is of no other module: this word, and the scope of the row in brackets (II.7.3).
-    ScopeAfter(&'static str),
     /// The value of the attribute that the row is (II.21).
     AttributeValue,
 }
 
 use Piece::{
     Action, AttributeValue, BytesAfter, Declaration, EightDigits, FirstBytes, Flags, GuidComment,
-    Key, Linked, NameAfter, Number, OwnName, OwnReference, QuotedAfter, ReferenceAfter, ScopeAfter,
+    Key, Linked, Listed, NameAfter, Number, OwnName, OwnReference, QuotedAfter, ReferenceAfter,
     Signature, Text, TokenAfter, Word,
 };
 
@@ -94,7 +95,9 @@ const TYPE_DEF: &[Piece] = &[
     Flags(FlagTable::Type, 0),
     Word(" "),
     OwnName,
+    Listed(Link::GenericParams, "<", ">"),
     NameAfter(" extends ", 3),
+    Listed(Link::Interfaces, " implements ", ""),
     Linked(Link::TypeLayouts),
 ];
 
@@ -159,9 +162,9 @@ const CUSTOM: &[Piece] = pieces![
     Word(".custom"); ReferenceAfter(" ", 1); AttributeValue; ReferenceAfter(" of ", 0);
 ];
 
-const TYPE_REF: &[Piece] = pieces![Word(".typeref "); ScopeAfter(""); OwnName;];
+const TYPE_REF: &[Piece] = pieces![Word(".typeref "); OwnName;];
 
-const MEMBER_REF: &[Piece] = pieces![Word(".memberref "); OwnReference; ScopeAfter(" of ");];
+const MEMBER_REF: &[Piece] = pieces![Word(".memberref "); OwnReference;];
 
 /// The pieces of the line of a row. A row of a table that is not named here has none.
 pub(crate) fn pieces_of(table: TableId) -> &'static [Piece]

@@ -6,7 +6,7 @@
 //!
 //! ```text
 //! .assembly Hello { .hash algorithm 0x00008004 .ver 1:0:0:0 }
-//! .class public auto ansi beforefieldinit Hello.Greeter extends System.Object
+//! .class public auto ansi beforefieldinit Hello.Greeter extends [mscorlib]System.Object
 //!   .method public hidebysig instance string Hello.Greeter::Greet(int32 times) cil managed
 //! ```
 #![tactic(auto)]
@@ -15,6 +15,7 @@ mod attribute_sink;
 mod cell_values;
 mod declaration;
 mod declared;
+mod heads;
 mod layouts;
 mod linked;
 mod marshal_sink;

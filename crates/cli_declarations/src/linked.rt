@@ -135,6 +135,9 @@ fn push_referring(
         Link::Events => Ok(()),
         Link::Properties => Ok(()),
         Link::Accessors => Ok(()),
+        Link::Interfaces => Ok(()),
+        Link::GenericParams => Ok(()),
+        Link::Constraints => Ok(()),
     }
 }
 

@@ -1,5 +1,5 @@
 //! Appends the pieces of a line.
-ghost use Rattle.std.specs.Prelude.{◌≡◌, ◌≤◌, ◌<◌, ◌++◌, true, Some, option_map, string_bytes, OnOk};
+ghost use Rattle.std.specs.Prelude.{◌≡◌, ◌≤◌, ◌<◌, ◌++◌, true, string_bytes, OnOk};
 ghost use Rattle.table_schema.specs.CellColumns.{cell_count};
 ghost use Rattle.table_schema.specs.declared.table.TableId.TheVariants.{Param};
 ghost use Rattle.metadata.specs.Metadata.{Metadata, cell_in};
@@ -8,7 +8,7 @@ ghost use Rattle.declarations.specs.FlagWords.{shown_word, word_text, words_of, 
 ghost use Rattle.opening.specs.Views.{row_count};
 ghost use Rattle.cli_lines.specs.Texts.{escaped_bytes};
 ghost use Rattle.table_schema.specs.Tokens.{token_text};
-ghost use Rattle.cli_declarations.specs.Parts.{IsNameAfter, IsNameText, IsParamText, IsPartText, IsReferenceIn, IsReferred, bytes_text, guid_text_in_comment, key_text, quoted_text, token_text_after, IsMarked, IsReferenceAfter, IsReferenceText, IsScopeAfter, has_reference, scope_mark};
+ghost use Rattle.cli_declarations.specs.Parts.{IsNameAfter, IsNameText, IsParamText, IsPartText, IsReferenceIn, IsReferred, bytes_text, guid_text_in_comment, key_text, quoted_text, token_text_after, IsReferenceAfter, IsReferenceText, has_reference};
 ghost use Rattle.cli_declarations.specs.Shown.{IsWithin, shown};
 ghost use Rattle.cli_declarations.specs.Texts.{Gains};
 
@@ -17,13 +17,14 @@ use crate::cell_values::{bytes, guid, number, reference, text};
 use crate::declared::{
     Declared, TextLimit, begin_text, end_text, push_plain, push_string, push_text,
 };
+use crate::heads::push_listed;
 use crate::layouts::Piece;
 use crate::linked::push_linked;
 use crate::signature_sink::{push_declaration, push_signature};
 use cli_values::{
     push_action, push_decimal, push_eight_digits, push_hexadecimal, push_value_bytes,
 };
-use declarations::{FlagTable, FlagWord, scope_of, words_of, write_reference};
+use declarations::{FlagTable, FlagWord, words_of, write_reference};
 use full_names::write_row_name;
 use heap_entries::guid_text;
 use navigation::{Neighbours, method_of_param};
@@ -241,66 +242,6 @@ fn push_reference_after(
     }
 }
 
-/// What is before the name of a scope (II.7.3); `None` if it is this module.
-fn scope_mark(table: TableId) -> Option<&'static str>
-    ensures { option_map (λ mark. mark.now) result ≡ scope_mark table }
-{
-    match table {
-        TableId::AssemblyRef => Some("["),
-        TableId::ModuleRef => Some("[.module "),
-        _ => None,
-    }
-}
-
-/// Appends a word, the mark of a scope, its name, and a bracket.
-fn push_marked(
-    source: &Neighbours<'_, '_>,
-    word: &str,
-    mark: &str,
-    scope: Token,
-    declared: &mut Declared,
-) -> Result<(), AllocError>
-    ensures { (model : Metadata) → IsModel source.now.view.now model
-        → OnOk result (Gains (IsMarked model word.now (Some mark.now) scope) (string_bytes declared.old.text) (string_bytes declared.new.text)) }
-{
-    push_plain(word, declared)?;
-    push_plain(mark, declared)?;
-    push_name(source, scope, declared)?;
-    push_plain("]", declared)
-}
-
-/// Appends a word and a scope in brackets, unless it is this module.
-fn push_bracketed(
-    source: &Neighbours<'_, '_>,
-    word: &str,
-    scope: Token,
-    declared: &mut Declared,
-) -> Result<(), AllocError>
-    ensures { (model : Metadata) → IsModel source.now.view.now model
-        → OnOk result (Gains (IsMarked model word.now (scope_mark scope.table) scope) (string_bytes declared.old.text) (string_bytes declared.new.text)) }
-{
-    match scope_mark(scope.table) {
-        Some(mark) => push_marked(source, word, mark, scope, declared),
-        None => Ok(()),
-    }
-}
-
-/// Appends a word and a scope in brackets, unless there is none.
-fn push_scope(
-    source: &Neighbours<'_, '_>,
-    word: &str,
-    scope: Option<Token>,
-    declared: &mut Declared,
-) -> Result<(), AllocError>
-    ensures { (model : Metadata) → IsModel source.now.view.now model
-        → OnOk result (Gains (IsScopeAfter model word.now scope) (string_bytes declared.old.text) (string_bytes declared.new.text)) }
-{
-    match scope {
-        Some(scope) => push_bracketed(source, word, scope, declared),
-        None => Ok(()),
-    }
-}
-
 /// Appends a word and a token, unless the reference is null.
 fn push_token_after(
     word: &str,
@@ -384,10 +325,12 @@ pub(crate) fn push_piece(
             push_action(action, &mut declared.text)
         }
         Piece::Linked(link) => push_linked(source, link, table, row, declared),
+        Piece::Listed(link, before, after) => {
+            push_listed(source, link, before, after, token, declared)
+        }
         Piece::OwnReference => push_reference(source, token, declared),
         Piece::ReferenceAfter(word, cell) => {
             push_reference_after(source, word, reference(view, table, row, cell), declared)
         }
-        Piece::ScopeAfter(word) => push_scope(source, word, scope_of(source, token), declared),
     }
 }

@@ -14,24 +14,25 @@ use Rattle.metadata.specs.Kinds.{IsOfKind}
 use Rattle.metadata.specs.Lookups.{HasRow}
 use Rattle.metadata.specs.Metadata.{Metadata, cell_in}
 use Rattle.metadata.specs.Valid.{IsValid, MayRefer}
+use Rattle.full_names.specs.declared.limit.Scopes.{Scopes}
 use Rattle.full_names.specs.declared.quoted.NameKind.TheVariants.{Dotted}
 use Rattle.full_names.specs.Quoted.{name_text}
-use Rattle.full_names.specs.RowNames.{IsNameIn, IsParent, IsRowName}
-use Rattle.full_names.specs.Texts.{IsFullName}
+use Rattle.full_names.specs.RowNames.{IsNameIn, IsParent, IsRowNameBy}
+use Rattle.full_names.specs.Texts.{IsFullNameBy}
 use Rattle.full_names.proofs.NameExists.{HasText, any_name, is_text}
 use Rattle.declarations.specs.Declarations.{IsClassUnder}
 
-module _ (model : Metadata) (valid : IsValid model) where
+module _ (scopes : Scopes) (model : Metadata) (valid : IsValid model) where
   -- the name of a type
-  named_as : (token : Token) → ((text : List ℕ) → IsFullName model token text → IsNameIn model token.table token.row text) → HasText (IsRowName model token)
+  named_as : (token : Token) → ((text : List ℕ) → IsFullNameBy scopes model token text → IsNameIn scopes model token.table token.row text) → HasText (IsRowNameBy scopes model token)
   named_as token into =
-      let any = any_name model valid token in
+      let any = any_name model valid scopes token in
       (any.0, record { there = λ _. into any.0 any.1; missing = λ not. any.1.other (λ named. not named.1) (λ spec. not spec.1) })
 
-  pub type_named : (row : ℕ) → HasText (IsRowName model (record { table = TypeDef; row = row }))
+  pub type_named : (row : ℕ) → HasText (IsRowNameBy scopes model (record { table = TypeDef; row = row }))
   type_named row = named_as (record { table = TypeDef; row = row }) (λ text is. is)
 
-  module_named : (row : ℕ) → HasRow model ModuleRef row → HasText (IsRowName model (record { table = ModuleRef; row = row }))
+  module_named : (row : ℕ) → HasRow model ModuleRef row → HasText (IsRowNameBy scopes model (record { table = ModuleRef; row = row }))
   unfolding cell_columns
   module_named row there =
       let own = is_text (cell_in model ModuleRef row 0) (valid.cells ModuleRef row 0 there (omega arith)).of_kind in
@@ -41,9 +42,9 @@ module _ (model : Metadata) (valid : IsValid model) where
   Named : Option TableId → Type 0
   Named None = ⊤
   Named (Some MethodDef) = ⊤
-  Named (Some table) = (row : ℕ) → HasRow model table row → HasText (IsRowName model (record { table = table; row = row }))
+  Named (Some table) = (row : ℕ) → HasRow model table row → HasText (IsRowNameBy scopes model (record { table = table; row = row }))
 
-  unfolded : (table : TableId) → (table ≡ MethodDef → ⊥) → Named (Some table) → (row : ℕ) → HasRow model table row → HasText (IsRowName model (record { table = table; row = row }))
+  unfolded : (table : TableId) → (table ≡ MethodDef → ⊥) → Named (Some table) → (row : ℕ) → HasRow model table row → HasText (IsRowNameBy scopes model (record { table = table; row = row }))
   unfolding Named
   unfolded MethodDef not named = absurd (not refl)
   unfolded _ not named = named
@@ -57,7 +58,7 @@ module _ (model : Metadata) (valid : IsValid model) where
       (All-cons Named (Some MethodDef) (Some TypeSpec ∷ []) tt
       (All-cons Named (Some TypeSpec) [] (λ row there. named_as (record { table = TypeSpec; row = row }) (λ text is. is)) (All-nil Named)))))
 
-  pub parent_named : (row : ℕ) (parent : Token) → HasRow model MemberRef row → IsParent model row parent → (parent.table ≡ MethodDef → ⊥) → HasText (IsRowName model parent)
+  pub parent_named : (row : ℕ) (parent : Token) → HasRow model MemberRef row → IsParent model row parent → (parent.table ≡ MethodDef → ⊥) → HasText (IsRowNameBy scopes model parent)
   unfolding cell_columns
   parent_named row parent there is not =
       let cell = valid.cells MemberRef row 0 there (omega arith) in

@@ -13,9 +13,10 @@ use Rattle.metadata.specs.Kinds.{IsOfKind}
 use Rattle.metadata.specs.Lookups.{HasRow}
 use Rattle.metadata.specs.Metadata.{Metadata, cell_in, count_in}
 use Rattle.metadata.specs.Valid.{IsValid}
+use Rattle.full_names.specs.declared.limit.Scopes.{Scopes}
 use Rattle.full_names.specs.declared.quoted.NameKind.TheVariants.{Member}
 use Rattle.full_names.specs.Quoted.{name_text}
-use Rattle.full_names.specs.RowNames.{IsRowName}
+use Rattle.full_names.specs.RowNames.{IsRowNameBy}
 use Rattle.full_names.specs.Texts.{ArePiecesText}
 use Rattle.full_names.proofs.NameExists.{HasText, any_name, first_row, is_text}
 use Rattle.navigation.specs.declared.links.Link.TheVariants as link
@@ -100,8 +101,8 @@ module _ (model : Metadata) (valid : IsValid model) (first past position : ℕ) 
 
 -- ---- the pieces of a declaration
 
-module _ (model : Metadata) (valid : IsValid model) (class : Token) (named : HasText (IsRowName model class)) (own : List ℕ) (first past : ℕ) where
-  declared_piece : (piece : Piece) → HasText (IsDeclaredPiece model class own first past piece)
+module _ (scopes : Scopes) (model : Metadata) (valid : IsValid model) (class : Token) (named : HasText (IsRowNameBy scopes model class)) (own : List ℕ) (first past : ℕ) where
+  declared_piece : (piece : Piece) → HasText (IsDeclaredPiece scopes model class own first past piece)
   declared_piece method_name =
       let result = marshal_exists model valid first past 0 before_space in
       let member = named.0 ++ (codes "::" ++ name_text Member own) in
@@ -114,9 +115,9 @@ module _ (model : Metadata) (valid : IsValid model) (class : Token) (named : Has
   declared_piece (word of) = (of, refl)
   declared_piece (number of) = (decimal of, refl)
   declared_piece (signed of) = (signed_decimal of, refl)
-  declared_piece (name token) = any_name model valid token
+  declared_piece (name token) = any_name model valid scopes token
 
-  pub declared_texts : (pieces : List Piece) → HasText (ArePiecesText (IsDeclaredPiece model class own first past) pieces)
+  pub declared_texts : (pieces : List Piece) → HasText (ArePiecesText (IsDeclaredPiece scopes model class own first past) pieces)
   declared_texts [] = ([], refl)
   declared_texts (piece ∷ pieces) =
       let one = declared_piece piece in

@@ -4,11 +4,12 @@ use Rattle.table_schema.specs.declared.table.TableId.TheVariants.{MethodDef, Mem
 use Rattle.table_schema.specs.declared.token.Token.{Token}
 use Rattle.metadata.specs.Lookups.{HasRow}
 use Rattle.metadata.specs.Metadata.{Metadata}
-use Rattle.full_names.specs.RowNames.{IsRowName}
+use Rattle.full_names.specs.declared.limit.Scopes.{Scopes}
+use Rattle.full_names.specs.RowNames.{IsRowNameBy}
 use Rattle.declarations.specs.Declarations.{IsReference, IsReferenceBy}
 
-module _ (model : Metadata) (token : Token) (text : List ℕ) where
-  pub other_row : (token.table ≡ MethodDef → ⊥) → (token.table ≡ MemberRef → ⊥) → IsRowName model token text → IsReference model token text
+module _ (scopes : Scopes) (model : Metadata) (token : Token) (text : List ℕ) where
+  pub other_row : (token.table ≡ MethodDef → ⊥) → (token.table ≡ MemberRef → ⊥) → IsRowNameBy scopes model token text → IsReference scopes model token text
   other_row no_method no_member name = record {
     method = λ is there. absurd (no_method is);
     member = λ is there. absurd (no_member is);
@@ -16,14 +17,14 @@ module _ (model : Metadata) (token : Token) (text : List ℕ) where
   }
 
   module _ (there : HasRow model token.table token.row) where
-    pub method_row : token.table ≡ MethodDef → IsReferenceBy model MethodDef token.row 3 4 text → IsReference model token text
+    pub method_row : token.table ≡ MethodDef → IsReferenceBy scopes model MethodDef token.row 3 4 text → IsReference scopes model token text
     method_row is by = record {
       method = λ _ _. by;
       member = λ same _. let f : MethodDef ≡ MemberRef = sym is ∙ same in absurd cc;
       other = λ not. elim not [ inl tables ↦ absurd (tables.0 is) | inr missing ↦ absurd (missing there) ];
     }
 
-    pub member_row : token.table ≡ MemberRef → IsReferenceBy model MemberRef token.row 1 2 text → IsReference model token text
+    pub member_row : token.table ≡ MemberRef → IsReferenceBy scopes model MemberRef token.row 1 2 text → IsReference scopes model token text
     member_row is by = record {
       method = λ same _. let f : MemberRef ≡ MethodDef = sym is ∙ same in absurd cc;
       member = λ _ _. by;

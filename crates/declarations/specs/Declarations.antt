@@ -16,10 +16,12 @@ use Rattle.navigation.specs.Linked.{first_linked}
 use Rattle.navigation.specs.Keyed.{has_key, keyed_rows}
 use Rattle.navigation.specs.Owners.{Owns}
 use Rattle.navigation.specs.declared.keyed.KeyedRow.{KeyedRow}
+use Rattle.full_names.specs.declared.limit.Scopes.{Scopes}
+use Rattle.full_names.specs.declared.limit.Scopes.TheVariants.{Omitted}
 use Rattle.full_names.specs.declared.quoted.NameKind.TheVariants.{Identifier, Member}
 use Rattle.full_names.specs.Quoted.{name_text}
-use Rattle.full_names.specs.RowNames.{IsParent, IsRowName, IsTypeOfMethod, IsTypeOfProperty}
-use Rattle.full_names.specs.Texts.{ArePiecesText, IsFullName, IsPieceText}
+use Rattle.full_names.specs.RowNames.{IsParent, IsRowNameBy, IsTypeOfMethod, IsTypeOfProperty}
+use Rattle.full_names.specs.Texts.{ArePiecesText, IsFullNameBy, IsPieceText}
 use Rattle.declarations.specs.declared.flag_words.FlagTable.TheVariants as flag_table
 use Rattle.declarations.specs.Descriptors.{marshal_text}
 use Rattle.declarations.specs.FlagWords.{leading_words, words_of}
@@ -99,8 +101,8 @@ abbrev pub IsParamText : (Metadata → Option ℕ → List ℕ → Type 0) → M
 IsParamText is_text model first past position text = (row : Option ℕ) × IsParamRow model first past position row × is_text model row text
 
 -- the name of a method, a property or a field after that of its type or its module
-abbrev pub IsMemberOfClass : Metadata → Token → List ℕ → List ℕ → Type 0
-IsMemberOfClass model class own text = (of : List ℕ) × IsRowName model class of × (text ≡ of ++ (codes "::" ++ name_text Member own))
+abbrev pub IsMemberOfClass : Scopes → Metadata → Token → List ℕ → List ℕ → Type 0
+IsMemberOfClass scopes model class own text = (of : List ℕ) × IsRowNameBy scopes model class of × (text ≡ of ++ (codes "::" ++ name_text Member own))
 
 -- two texts, one after another
 abbrev pub IsPair : (List ℕ → Type 0) → (List ℕ → Type 0) → List ℕ → Type 0
@@ -108,16 +110,16 @@ IsPair is_first is_second text = (a : List ℕ) × is_first a × (b : List ℕ) 
 
 -- the pieces of a declaration: of a member of a class, with its own name, and the run of its parameters. Before its name is how the
 -- result is marshalled, and before the name of a parameter how this is (II.15.3, II.15.4)
-abbrev pub IsDeclaredPiece : Metadata → Token → List ℕ → ℕ → ℕ → Piece → List ℕ → Type 0
-IsDeclaredPiece model class own first past method_name text =
-    IsPair (IsParamText (IsMarshalOf before_space) model first past 0) (IsMemberOfClass model class own) text
-IsDeclaredPiece model class own first past (param_flags position) text = IsParamText IsFlagsOf model first past position text
-IsDeclaredPiece model class own first past (param_name position) text =
+abbrev pub IsDeclaredPiece : Scopes → Metadata → Token → List ℕ → ℕ → ℕ → Piece → List ℕ → Type 0
+IsDeclaredPiece scopes model class own first past method_name text =
+    IsPair (IsParamText (IsMarshalOf before_space) model first past 0) (IsMemberOfClass scopes model class own) text
+IsDeclaredPiece scopes model class own first past (param_flags position) text = IsParamText IsFlagsOf model first past position text
+IsDeclaredPiece scopes model class own first past (param_name position) text =
     IsPair (IsParamText (IsMarshalOf after_space) model first past position) (IsParamText IsNameOf model first past position) text
-IsDeclaredPiece model class own first past piece text = IsPieceText (IsFullName model) piece text
+IsDeclaredPiece scopes model class own first past piece text = IsPieceText (IsFullNameBy scopes model) piece text
 
 -- the text of the declaration of a method that has this signature
-pub record IsDeclaration (model : Metadata) (row : ℕ) (method : Method) (text : List ℕ) : Type 0 where
+pub record IsDeclarationBy (scopes : Scopes) (model : Metadata) (row : ℕ) (method : Method) (text : List ℕ) : Type 0 where
   pub class : ℕ
   pub owner : Owns model list.Methods class row
   pub own : List ℕ
@@ -125,15 +127,21 @@ pub record IsDeclaration (model : Metadata) (row : ℕ) (method : Method) (text 
   pub first : ℕ
   pub past : ℕ
   pub params : IsRun model MethodDef 5 Param row first past
-  pub pieces : ArePiecesText (IsDeclaredPiece model (record { table = TypeDef; row = class }) own first past) (declared_text method) text
+  pub pieces : ArePiecesText (IsDeclaredPiece scopes model (record { table = TypeDef; row = class }) own first past) (declared_text method) text
+
+abbrev pub IsDeclaration : Metadata → ℕ → Method → List ℕ → Type 0
+IsDeclaration = IsDeclarationBy Omitted
 
 -- the text of the declaration of a property that has the form of this method; its parameters have no rows, so no names
-pub record IsPropertyDeclaration (model : Metadata) (row : ℕ) (form : Method) (text : List ℕ) : Type 0 where
+pub record IsPropertyDeclarationBy (scopes : Scopes) (model : Metadata) (row : ℕ) (form : Method) (text : List ℕ) : Type 0 where
   pub class : Token
   pub member : IsTypeOfProperty model row class
   pub own : List ℕ
   pub is_named : cell_in model Property row 1 ≡ Text own
-  pub pieces : ArePiecesText (IsDeclaredPiece model class own 0 0) (declared_text form) text
+  pub pieces : ArePiecesText (IsDeclaredPiece scopes model class own 0 0) (declared_text form) text
+
+abbrev pub IsPropertyDeclaration : Metadata → ℕ → Method → List ℕ → Type 0
+IsPropertyDeclaration = IsPropertyDeclarationBy Omitted
 
 -- ---- references
 
@@ -148,20 +156,20 @@ IsClassOf model MemberRef row class = (parent : Token) × IsParent model row par
 IsClassOf model table row class = IsTypeOfMethod model row class
 
 -- the text of a reference to what has this signature: as it is declared, without the names and the flags of parameters
-pub record IsReferenceTo (model : Metadata) (table : TableId) (row name_cell : ℕ) (signature : Body) (text : List ℕ) : Type 0 where
+pub record IsReferenceTo (scopes : Scopes) (model : Metadata) (table : TableId) (row name_cell : ℕ) (signature : Body) (text : List ℕ) : Type 0 where
   pub class : Token
   pub owner : IsClassOf model table row class
   pub own : List ℕ
   pub is_named : cell_in model table row name_cell ≡ Text own
-  pub pieces : ArePiecesText (IsDeclaredPiece model class own 0 0) (member_text signature) text
+  pub pieces : ArePiecesText (IsDeclaredPiece scopes model class own 0 0) (member_text signature) text
 
 -- the same with the signature in a cell
-abbrev pub IsReferenceBy : Metadata → TableId → ℕ → ℕ → ℕ → List ℕ → Type 0
-IsReferenceBy model table row name_cell signature_cell text =
-    (signature : Body) × (cell_in model table row signature_cell ≡ Sig signature) × IsReferenceTo model table row name_cell signature text
+abbrev pub IsReferenceBy : Scopes → Metadata → TableId → ℕ → ℕ → ℕ → List ℕ → Type 0
+IsReferenceBy scopes model table row name_cell signature_cell text =
+    (signature : Body) × (cell_in model table row signature_cell ≡ Sig signature) × IsReferenceTo scopes model table row name_cell signature text
 
 -- the text of a reference to a row: of a method or a MemberRef with its signature (II.15.3, II.22.25, II.22.26), of any other row its name
-pub record IsReference (model : Metadata) (token : Token) (text : List ℕ) : Type 0 where
-  pub method : token.table ≡ MethodDef → HasRow model MethodDef token.row → IsReferenceBy model MethodDef token.row 3 4 text
-  pub member : token.table ≡ MemberRef → HasRow model MemberRef token.row → IsReferenceBy model MemberRef token.row 1 2 text
-  pub other : (token.table ≢ MethodDef) × (token.table ≢ MemberRef) ⊎ ¬ HasRow model token.table token.row → IsRowName model token text
+pub record IsReference (scopes : Scopes) (model : Metadata) (token : Token) (text : List ℕ) : Type 0 where
+  pub method : token.table ≡ MethodDef → HasRow model MethodDef token.row → IsReferenceBy scopes model MethodDef token.row 3 4 text
+  pub member : token.table ≡ MemberRef → HasRow model MemberRef token.row → IsReferenceBy scopes model MemberRef token.row 1 2 text
+  pub other : (token.table ≢ MethodDef) × (token.table ≢ MemberRef) ⊎ ¬ HasRow model token.table token.row → IsRowNameBy scopes model token text

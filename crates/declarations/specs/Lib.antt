@@ -1,4 +1,3 @@
 pub mod Declarations
 pub mod FlagWords
-pub mod Scopes
 pub mod Descriptors

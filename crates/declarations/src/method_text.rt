@@ -4,11 +4,12 @@ ghost use Rattle.sig_text.specs.Declares.{Declares, member_text};
 ghost use Rattle.metadata.specs.Metadata.{Metadata};
 ghost use Rattle.full_names.specs.Names.{Wrote};
 ghost use Rattle.full_names.specs.TextEnd.{IsWhole};
-ghost use Rattle.full_names.specs.RowNames.{IsRowName};
+ghost use Rattle.full_names.specs.RowNames.{IsRowNameBy};
 ghost use Rattle.full_names.specs.Texts.{ArePiecesText};
 ghost use Rattle.declarations.specs.Declarations.{AreParams, IsDeclaredPiece, IsMarshalOf, IsMemberOfClass, IsNameOf, IsPair, IsParamText, after_space, before_space};
 
 use crate::descriptors::{write_after_space, write_before_space};
+use crate::flag_words::FlagTable;
 use crate::params::{Params, write_flags, write_spaced};
 use full_names::{
     Limit, TextEnd, TextError, keep, keep_refusal, write_full_name_within, write_number,
@@ -83,7 +84,7 @@ impl<S: ReadCells, W: fmt::Write, L: Limit<W>> TextSink for MethodText<'_, '_, S
     ghost gives = { λ s piece taken t.
         (taken ≡ true → (t.ended ≡ s.ended) × (t.params.now ≡ s.params.now) × (t.of ≡ s.of) × (t.writer.ghost_name ≡ s.writer.ghost_name)
         × ((model : Metadata) → S.shows s.params.now.source.now model → AreParams model s.of.first s.of.past s.params.now.rows.items
-        → Wrote W.write_str_gives s.writer.now (IsDeclaredPiece model s.of.class s.of.name.now s.of.first s.of.past piece) t.writer.now))
+        → Wrote W.write_str_gives s.writer.now (IsDeclaredPiece L.scopes model s.of.class s.of.name.now s.of.first s.of.past piece) t.writer.now))
         × (taken ≡ false → IsWhole t.ended → (t.writer.ghost_name ≡ s.writer.ghost_name)
         × ((text : List ℕ) → W.write_str_gives s.writer.now text t.writer.now)) };
 
@@ -131,7 +132,7 @@ impl<S: ReadCells, W: fmt::Write, L: Limit<W>> MethodSink for MethodText<'_, '_,
     }
 
     fn param_flags(&mut self, position: u32) -> Option<()> {
-        let written = write_flags(self.writer, self.params.flags(position));
+        let written = write_flags(self.writer, FlagTable::Param, self.params.flags(position));
         keep_refusal(&mut self.ended, written)
     }
 
@@ -150,7 +151,7 @@ fn write_member<S: ReadCells, W: fmt::Write, L: Limit<W>>(
     out: &mut W,
 ) -> Result<(), TextError>
     ensures { (model : Metadata) → S.shows source.now model
-        → OnOk result (Wrote W.write_str_gives out.old (IsMemberOfClass model of.entry.class of.entry.name.now) out.new) }
+        → OnOk result (Wrote W.write_str_gives out.old (IsMemberOfClass L.scopes model of.entry.class of.entry.name.now) out.new) }
 {
     write_row_name(alloc, source, of.class, limit, out)?;
     Ok(write_own_name(out, of.name, limit)?)
@@ -165,7 +166,7 @@ fn write_marshalled_member<S: ReadCells, W: fmt::Write, L: Limit<W>>(
     out: &mut W,
 ) -> Result<(), TextError>
     ensures { (model : Metadata) → S.shows params.now.source.now model → (first past : ℕ) → AreParams model first past params.now.rows.items
-        → OnOk result (Wrote W.write_str_gives out.old (IsPair (IsParamText (IsMarshalOf before_space) model first past 0) (IsMemberOfClass model of.entry.class of.entry.name.now)) out.new) }
+        → OnOk result (Wrote W.write_str_gives out.old (IsPair (IsParamText (IsMarshalOf before_space) model first past 0) (IsMemberOfClass L.scopes model of.entry.class of.entry.name.now)) out.new) }
 {
     write_before_space(out, params.descriptor(0), limit)?;
     write_member(alloc, params.source, of, limit, out)
@@ -192,10 +193,10 @@ pub fn put_declaration<S: ReadCells, W: fmt::Write, L: Limit<W>>(
     bytes: &[u8],
 )
     ensures { (model : Metadata) → S.shows sink.old.params.now.source.now model → (signature : Body) → Declares signature bytes.now
-        → AreParams model sink.old.of.first sink.old.of.past sink.old.params.now.rows.items → (text : List ℕ) → IsRowName model sink.old.of.class text
+        → AreParams model sink.old.of.first sink.old.of.past sink.old.params.now.rows.items → (text : List ℕ) → IsRowNameBy L.scopes model sink.old.of.class text
         → sink.old.ended ≡ None → IsWhole sink.new.ended
         → (sink.new.writer.ghost_name ≡ sink.old.writer.ghost_name) × Wrote W.write_str_gives sink.old.writer.now
-        (ArePiecesText (IsDeclaredPiece model sink.old.of.class sink.old.of.name.now sink.old.of.first sink.old.of.past) (member_text signature))
+        (ArePiecesText (IsDeclaredPiece L.scopes model sink.old.of.class sink.old.of.name.now sink.old.of.first sink.old.of.past) (member_text signature))
         sink.new.writer.now }
 {
     sink.params.source.holds_one();

@@ -7,9 +7,9 @@ ghost use Rattle.metadata.specs.Metadata.{Metadata, cell_in};
 ghost use Rattle.metadata.specs.Model.{IsModel};
 ghost use Rattle.opening.specs.Views.{row_count};
 ghost use Rattle.full_names.specs.Names.{Wrote};
-ghost use Rattle.full_names.specs.RowNames.{IsRowName};
+ghost use Rattle.full_names.specs.RowNames.{IsRowNameBy};
 ghost use Rattle.full_names.specs.Texts.{ArePiecesText};
-ghost use Rattle.declarations.specs.Declarations.{IsDeclaration, IsDeclaredPiece, IsPropertyDeclaration};
+ghost use Rattle.declarations.specs.Declarations.{IsDeclaration, IsDeclarationBy, IsDeclaredPiece, IsPropertyDeclarationBy};
 
 use crate::method_text::{Declared, MethodText, put_declaration};
 use crate::params::Params;
@@ -44,8 +44,8 @@ pub(crate) fn write_declared<S: ReadCells, W: fmt::Write, L: Limit<W>>(
     out: &mut W,
 ) -> Result<(), TextError>
     requires linked { ∥ IfSome links (λ at. (model : Metadata) → S.shows source.now model → IsModel at.now.view.now model) ∥₁ }
-    ensures { (model : Metadata) → S.shows source.now model → (signature : Body) → Declares signature bytes.now → (text : List ℕ) → IsRowName model of.entry.class text
-        → OnOk result (Wrote W.write_str_gives out.old (ArePiecesText (IsDeclaredPiece model of.entry.class of.entry.name.now of.entry.first of.entry.past) (member_text signature)) out.new) }
+    ensures { (model : Metadata) → S.shows source.now model → (signature : Body) → Declares signature bytes.now → (text : List ℕ) → IsRowNameBy L.scopes model of.entry.class text
+        → OnOk result (Wrote W.write_str_gives out.old (ArePiecesText (IsDeclaredPiece L.scopes model of.entry.class of.entry.name.now of.entry.first of.entry.past) (member_text signature)) out.new) }
 {
     let params = Params::new(alloc, source, links, of.first..of.past)?;
     let mut sink = MethodText::new(alloc, &params, of, limit, out);
@@ -94,7 +94,7 @@ pub fn write_method_within<S: ReadCells, W: fmt::Write, L: Limit<W>>(
     requires first { 1 ≤ row }
     requires last { row ≤ S.row_count source.now MethodDef }
     ensures text { (model : Metadata) → S.shows source.now model → (method : Method) → cell_in model MethodDef row 4 ≡ Sig (method_body method)
-        → OnOk result (Wrote W.write_str_gives out.old (IsDeclaration model row method) out.new) }
+        → OnOk result (Wrote W.write_str_gives out.old (IsDeclarationBy L.scopes model row method) out.new) }
 {
     write_method_by(alloc, source, None, row, limit, out)
 }
@@ -115,7 +115,7 @@ pub fn write_method_of<W: fmt::Write, L: Limit<W>>(
     requires first { 1 ≤ row }
     requires last { row ≤ row_count source.now.view.now MethodDef }
     ensures text { (model : Metadata) → IsModel source.now.view.now model → (method : Method) → cell_in model MethodDef row 4 ≡ Sig (method_body method)
-        → OnOk result (Wrote W.write_str_gives out.old (IsDeclaration model row method) out.new) }
+        → OnOk result (Wrote W.write_str_gives out.old (IsDeclarationBy L.scopes model row method) out.new) }
 {
     write_method_by(alloc, source, Some(source), row, limit, out)
 }
@@ -134,7 +134,7 @@ fn write_method_by<S: ReadCells, W: fmt::Write, L: Limit<W>>(
     requires last { row ≤ S.row_count source.now MethodDef }
     requires linked { ∥ IfSome links (λ of. (model : Metadata) → S.shows source.now model → IsModel of.now.view.now model) ∥₁ }
     ensures text { (model : Metadata) → S.shows source.now model → (method : Method) → cell_in model MethodDef row 4 ≡ Sig (method_body method)
-        → OnOk result (Wrote W.write_str_gives out.old (IsDeclaration model row method) out.new) }
+        → OnOk result (Wrote W.write_str_gives out.old (IsDeclarationBy L.scopes model row method) out.new) }
 {
     sig_values::laws::shortest_encodes();
     source.holds_one();
@@ -172,7 +172,7 @@ pub fn write_property_within<S: ReadCells, W: fmt::Write, L: Limit<W>>(
     requires first { 1 ≤ row }
     requires last { row ≤ S.row_count source.now Property }
     ensures text { (model : Metadata) → S.shows source.now model → (this : Bool) (of : Slot) (params : List Slot) → cell_in model Property row 2 ≡ Sig (property this of params)
-        → OnOk result (Wrote W.write_str_gives out.old (IsPropertyDeclaration model row (as_method this of params)) out.new) }
+        → OnOk result (Wrote W.write_str_gives out.old (IsPropertyDeclarationBy L.scopes model row (as_method this of params)) out.new) }
 {
     sig_values::laws::shortest_encodes();
     source.holds_one();

@@ -11,7 +11,6 @@ ghost use Rattle.navigation.specs.Linked.{first_linked};
 ghost use Rattle.navigation.specs.Keyed.{has_key, key_of, keyed_rows};
 ghost use Rattle.declarations.specs.Declarations.{bytes_of, param_token, position_in, spaced};
 ghost use Rattle.declarations.specs.FlagWords.{leading_text, leading_words, shown_word, words_of};
-ghost use Rattle.declarations.specs.declared.flag_words.FlagTable.TheVariants as table;
 
 use crate::flag_words::{FlagTable, FlagWord, words_of};
 use full_names::{Limit, NameKind, write_name, write_text};
@@ -216,11 +215,11 @@ fn write_flag<W: fmt::Write>(out: &mut W, flags: u32, word: FlagWord) -> fmt::Re
     write_text(out, " ")
 }
 
-/// Writes the words of the flags of a parameter (II.15.4), a space after each.
-pub fn write_flags<W: fmt::Write>(out: &mut W, flags: u32) -> fmt::Result
-    ensures { OnOk result (WritesInCalls W.write_str_gives out.old (leading_words flags (words_of table.Param)) out.new) }
+/// Writes the words of flags (II.10.1.7, II.15.4), a space after each.
+pub fn write_flags<W: fmt::Write>(out: &mut W, of: FlagTable, flags: u32) -> fmt::Result
+    ensures { OnOk result (WritesInCalls W.write_str_gives out.old (leading_words flags (words_of of)) out.new) }
 {
-    for word in words_of(FlagTable::Param) {
+    for word in words_of(of) {
         write_flag(out, flags, *word)?;
     }
     Ok(())

@@ -3,7 +3,8 @@ ghost use Rattle.std.specs.Prelude.{◌≤◌, ℕ, List, OnOk};
 ghost use Rattle.table_schema.specs.declared.table.TableId.TheVariants.{MemberRef, MethodDef};
 ghost use Rattle.metadata.specs.Metadata.{Metadata};
 ghost use Rattle.full_names.specs.Names.{Wrote};
-ghost use Rattle.full_names.specs.RowNames.{IsRowName};
+ghost use Rattle.full_names.specs.declared.limit.Scopes.{Scopes};
+ghost use Rattle.full_names.specs.RowNames.{IsRowNameBy};
 ghost use Rattle.declarations.specs.Declarations.{IsClassOf, IsReference, IsReferenceBy};
 
 use crate::method_text::Declared;
@@ -25,7 +26,7 @@ fn class_of_member<S: ReadCells>(source: &S, row: u32) -> Token
     requires first { 1 ≤ row }
     requires last { row ≤ S.row_count source.now MemberRef }
     ensures class { (model : Metadata) → S.shows source.now model → IsClassOf model MemberRef row result }
-    ensures named { (model : Metadata) → S.shows source.now model → (text : List ℕ) × IsRowName model result text }
+    ensures named { (model : Metadata) → S.shows source.now model → (scopes : Scopes) → (text : List ℕ) × IsRowNameBy scopes model result text }
 {
     source.holds_one();
     let parent = member_parent(source, row);
@@ -49,7 +50,7 @@ fn write_method_reference<S: ReadCells, W: fmt::Write, L: Limit<W>>(
 ) -> Result<(), TextError>
     requires first { 1 ≤ row }
     requires last { row ≤ S.row_count source.now MethodDef }
-    ensures { (model : Metadata) → S.shows source.now model → OnOk result (Wrote W.write_str_gives out.old (IsReferenceBy model MethodDef row 3 4) out.new) }
+    ensures { (model : Metadata) → S.shows source.now model → OnOk result (Wrote W.write_str_gives out.old (IsReferenceBy L.scopes model MethodDef row 3 4) out.new) }
 {
     sig_values::laws::shortest_encodes();
     source.holds_one();
@@ -78,7 +79,7 @@ fn write_member_reference<S: ReadCells, W: fmt::Write, L: Limit<W>>(
 ) -> Result<(), TextError>
     requires first { 1 ≤ row }
     requires last { row ≤ S.row_count source.now MemberRef }
-    ensures { (model : Metadata) → S.shows source.now model → OnOk result (Wrote W.write_str_gives out.old (IsReferenceBy model MemberRef row 1 2) out.new) }
+    ensures { (model : Metadata) → S.shows source.now model → OnOk result (Wrote W.write_str_gives out.old (IsReferenceBy L.scopes model MemberRef row 1 2) out.new) }
 {
     sig_values::laws::shortest_encodes();
     source.holds_one();
@@ -113,7 +114,7 @@ pub fn write_reference<S: ReadCells, W: fmt::Write, L: Limit<W>>(
     limit: &L,
     out: &mut W,
 ) -> Result<(), TextError>
-    ensures { (model : Metadata) → S.shows source.now model → OnOk result (Wrote W.write_str_gives out.old (IsReference model token) out.new) }
+    ensures { (model : Metadata) → S.shows source.now model → OnOk result (Wrote W.write_str_gives out.old (IsReference L.scopes model token) out.new) }
 {
     source.holds_one();
     if token.row == 0 || token.row > source.count(token.table) {

@@ -5,7 +5,7 @@ ghost use Rattle.sig_text.specs.SignatureText.{text_of};
 ghost use Rattle.metadata.specs.Metadata.{Metadata};
 ghost use Rattle.full_names.specs.Names.{Wrote};
 ghost use Rattle.full_names.specs.TextEnd.{IsWhole};
-ghost use Rattle.full_names.specs.Texts.{ArePiecesText, IsFullName, IsPieceText};
+ghost use Rattle.full_names.specs.Texts.{ArePiecesText, IsFullNameBy, IsPieceText};
 
 use full_names::{
     Limit, TextEnd, TextError, keep, keep_refusal, result_of, write_full_name_within, write_number,
@@ -37,14 +37,14 @@ impl<S: ReadCells, W: fmt::Write, L: Limit<W>> TextSink for SignatureText<'_, '_
     ghost use Rattle.metadata.specs.Metadata.{Metadata};
     ghost use Rattle.full_names.specs.Names.{Wrote};
     ghost use Rattle.full_names.specs.TextEnd.{IsWhole};
-    ghost use Rattle.full_names.specs.Texts.{IsFullName, IsPieceText};
+    ghost use Rattle.full_names.specs.Texts.{IsFullNameBy, IsPieceText};
 
     ghost refused = { λ s. is_some s.ended };
 
     ghost gives = { λ s piece taken t.
         (taken ≡ true → (t.ended ≡ s.ended) × (t.source.now ≡ s.source.now) × (t.writer.ghost_name ≡ s.writer.ghost_name)
         × ((model : Metadata) → S.shows s.source.now model
-        → Wrote W.write_str_gives s.writer.now (IsPieceText (IsFullName model) piece) t.writer.now))
+        → Wrote W.write_str_gives s.writer.now (IsPieceText (IsFullNameBy L.scopes model) piece) t.writer.now))
         × (taken ≡ false → IsWhole t.ended → (t.writer.ghost_name ≡ s.writer.ghost_name)
         × ((text : List ℕ) → W.write_str_gives s.writer.now text t.writer.now)) };
 
@@ -87,7 +87,7 @@ fn put_signature<S: ReadCells, W: fmt::Write, L: Limit<W>>(
 )
     ensures { (model : Metadata) → S.shows sink.old.source.now model → (signature : Body) → Encodes kind signature bytes.now
         → sink.old.ended ≡ None → IsWhole sink.new.ended → (sink.new.writer.ghost_name ≡ sink.old.writer.ghost_name)
-        × Wrote W.write_str_gives sink.old.writer.now (ArePiecesText (IsPieceText (IsFullName model)) (text_of signature)) sink.new.writer.now }
+        × Wrote W.write_str_gives sink.old.writer.now (ArePiecesText (IsPieceText (IsFullNameBy L.scopes model)) (text_of signature)) sink.new.writer.now }
 {
     sink.source.holds_one();
     let _ = write_encoded(sink, bytes, kind);
@@ -109,7 +109,7 @@ pub fn write_signature_text<S: ReadCells, W: fmt::Write, L: Limit<W>>(
     out: &mut W,
 ) -> Result<(), TextError>
     ensures { (model : Metadata) → S.shows source.now model → (signature : Body) → Encodes kind signature bytes.now
-        → OnOk result (Wrote W.write_str_gives out.old (ArePiecesText (IsPieceText (IsFullName model)) (text_of signature)) out.new) }
+        → OnOk result (Wrote W.write_str_gives out.old (ArePiecesText (IsPieceText (IsFullNameBy L.scopes model)) (text_of signature)) out.new) }
 {
     let mut sink = SignatureText {
         alloc,

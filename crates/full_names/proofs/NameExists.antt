@@ -1,17 +1,18 @@
 -- Each token has a name.
-use Rattle.std.proofs.Common.{◌≡◌, ℕ, zero, suc, ◌-◌, ◌<◌, ◌≤◌, Bool, true, false, List, [], ◌∷◌, ◌++◌, ◌⊎◌, inl, inr, Some, refl, sym, ap, subst, ◌∙◌, arith}
-use Rattle.std.specs.Prelude.{codes}
+use Rattle.std.proofs.Common.{◌≡◌, ℕ, zero, suc, ◌-◌, ◌<◌, ◌≤◌, Bool, true, false, List, [], ◌∷◌, ◌++◌, ◌⊎◌, inl, inr, Option, None, Some, refl, sym, ap, subst, ◌∙◌, arith}
+use Rattle.std.specs.Prelude.{⊤, codes}
 use Rattle.std.specs.Fmt.{decimal, signed_decimal}
 use Rattle.std.specs.Bool.{Decides}
 use Rattle.std.proofs.lemmas.Bool.{cases_eq, cases_lt}
 use denote.Enum.Bare.{same_true, true_same}
 use Rattle.table_schema.specs.declared.table.TableId.{TableId}
-use Rattle.table_schema.specs.declared.table.TableId.TheVariants.{TypeDef, TypeRef, TypeSpec, NestedClass}
+use Rattle.table_schema.specs.declared.table.TableId.TheVariants.{TypeDef, TypeRef, TypeSpec, NestedClass, ModuleRef, AssemblyRef}
 use Rattle.table_schema.specs.contracts.table.TableId as tables
 use Rattle.table_schema.specs.contracts.table.TableIdPartialEq.TheImpl as equal
 use Rattle.table_schema.specs.declared.token.Token.{Token}
 use Rattle.table_schema.specs.declared.column.ColumnKind.TheVariants as kind
 use Rattle.table_schema.specs.declared.column.SigKind.TheVariants as column
+use Rattle.table_schema.specs.declared.coded.Coded.TheVariants as coded
 use Rattle.table_schema.specs.CellColumns.{cell_columns, cell_count}
 use Rattle.sig_grammar.specs.Syntax.{Body}
 use Rattle.sig_text.specs.SignatureText.{Piece, word, number, signed, name, method_name, param_flags, param_name, text_of}
@@ -22,9 +23,12 @@ use Rattle.metadata.specs.Lookups.{HasRow, IsKeyCell}
 use Rattle.metadata.specs.Metadata.{Metadata, cell_in, count_in}
 use Rattle.metadata.specs.Valid.{IsValid, MayRefer, nullable_at}
 use Rattle.navigation.specs.Nesting.{IsEnclosed, IsFirstNesting, IsNesting, IsScope, type_token}
+use Rattle.full_names.specs.declared.limit.Scopes.{Scopes}
+use Rattle.full_names.specs.declared.limit.Scopes.TheVariants.{Omitted, Written}
 use Rattle.full_names.specs.Quoted.{type_text}
 use Rattle.full_names.specs.Names.{IsChainText, IsOuter, IsOwnText, IsTypeDefText, IsTypeRefText}
-use Rattle.full_names.specs.Texts.{ArePiecesText, IsFullName, IsInnerName, IsPieceText, IsTypeSpecText}
+use Rattle.full_names.specs.Scopes.{IsScopeIn, IsScopeText, IsScopeWithin, IsTypeRefName, IsTypeScope, in_brackets}
+use Rattle.full_names.specs.Texts.{ArePiecesText, IsFullNameBy, IsInnerName, IsPieceText, IsTypeSpecText}
 use Rattle.full_names.proofs.PieceLemmas.{same_signature, signature_of}
 use Rattle.full_names.proofs.PlainPieces.{ArePlain, IsPlain, text_is_plain}
 
@@ -225,6 +229,26 @@ exists_in model valid table row cell_index there within token is =
     let P : Cell → Type 0 = λ c. MayRefer model (nullable_at table cell_index) c in
     subst P is (valid.cells table row cell_index there within).refers
 
+-- a reference is null, or to a row that exists
+abbrev IsThere : Metadata → Option Token → Type 0
+IsThere model None = ⊤
+IsThere model (Some token) = HasRow model token.table token.row
+
+reference_there : (model : Metadata) (nullable : Bool) (cell : Cell) → IsOfKind (kind.Coded coded.ResolutionScope) cell → MayRefer model nullable cell
+    → (reference : Option Token) × (cell ≡ Ref reference) × IsThere model reference
+reference_there model nullable (Ref None) of refers = (None, refl, tt)
+reference_there model nullable (Ref (Some token)) of refers = (Some token, refl, refers)
+reference_there model nullable _ of refers = absurd of
+
+-- a scope has a text
+scope_in : (model : Metadata) → IsValid model → (table : TableId) (row : ℕ) → HasRow model table row → HasText (IsScopeIn model table row)
+unfolding cell_columns
+scope_in model valid AssemblyRef row there =
+    let own = is_text (cell_in model AssemblyRef row 6) (valid.cells AssemblyRef row 6 there (omega arith)).of_kind in (in_brackets (codes "[") own.0, (own.0, own.1, refl))
+scope_in model valid ModuleRef row there =
+    let own = is_text (cell_in model ModuleRef row 0) (valid.cells ModuleRef row 0 there (omega arith)).of_kind in (in_brackets (codes "[.module ") own.0, (own.0, own.1, refl))
+scope_in model valid _ row there = ([], refl)
+
 -- the text of a piece that a signature may have, if each token has a name
 piece_text : (is_name : Token → List ℕ → Type 0) → ((token : Token) → HasText (is_name token)) → (piece : Piece) → IsPlain piece → HasText (IsPieceText is_name piece)
 piece_text is_name named (word of) is = (of, refl)
@@ -250,8 +274,37 @@ module _ (model : Metadata) (valid : IsValid model) where
   type_ref_text : (row : ℕ) → HasRow model TypeRef row → HasText (IsTypeRefText model 64 row)
   type_ref_text = chain (IsScope model) (IsOwnText model TypeRef) (HasRow model TypeRef) (λ row. refers_into TypeRef (cell_in model TypeRef row 0)) stays_ref (own_ref model valid) 64
 
-  pub inner_name : (token : Token) → HasText (IsInnerName model token)
-  inner_name token = elim (has_row model token.table token.row) [
+  -- the scope of a type of another module
+  may_be : (row : ℕ) → HasRow model TypeRef row → (scope : Option Token) × (cell_in model TypeRef row 0 ≡ Ref scope) × IsThere model scope
+  unfolding cell_columns
+  may_be row there =
+      let cell = valid.cells TypeRef row 0 there (omega arith) in
+      reference_there model (nullable_at TypeRef 0) (cell_in model TypeRef row 0) cell.of_kind cell.refers
+
+  scope_found : (depth row : ℕ) → HasRow model TypeRef row → (scope : Option Token) × IsScopeWithin model depth row scope × IsThere model scope
+  scope_found zero row there = (None, refl, tt)
+  scope_found (suc depth) row there = elim (refers_into TypeRef (cell_in model TypeRef row 0)) [
+    | inl found ↦ let further = scope_found depth found.0 (stays_ref row found.0 there found.1) in (further.0, inr (found.0, found.1, further.1), further.2)
+    | inr none ↦ let own = may_be row there in (own.0, inl (none, own.1), own.2)
+  ]
+
+  scope_text : (scope : Option Token) → IsThere model scope → HasText (IsScopeText model scope)
+  scope_text None there = ([], refl)
+  scope_text (Some scope) there = scope_in model valid scope.table scope.row there
+
+  pub type_scope : (row : ℕ) → HasRow model TypeRef row → HasText (IsTypeScope model row)
+  type_scope row there =
+      let scope = scope_found 64 row there in
+      let text = scope_text scope.0 scope.2 in (text.0, (scope.0, scope.1, text.1))
+
+  type_ref_name : (scopes : Scopes) (row : ℕ) → HasRow model TypeRef row → HasText (IsTypeRefName scopes model row)
+  type_ref_name Omitted row there = type_ref_text row there
+  type_ref_name Written row there =
+      let scope = type_scope row there in
+      let own = type_ref_text row there in (scope.0 ++ own.0, (scope.0, scope.1, own.0, own.1, refl))
+
+  pub inner_name : (scopes : Scopes) (token : Token) → HasText (IsInnerName scopes model token)
+  inner_name scopes token = elim (has_row model token.table token.row) [
     | inr missing ↦ (codes "..", record { type_def = λ table there. absurd (missing there); type_ref = λ table there. absurd (missing there); other = λ not. refl })
     | inl there ↦ elim (same_table token.table TypeDef) [
       | inl def ↦
@@ -259,7 +312,7 @@ module _ (model : Metadata) (valid : IsValid model) where
           (text.0, record { type_def = λ table row. text.1; type_ref = λ table row. let f : TypeDef ≡ TypeRef = sym def ∙ table in absurd cc; other = λ not. absurd (not (inl def, there)) })
       | inr not_def ↦ elim (same_table token.table TypeRef) [
         | inl ref ↦
-            let text = type_ref_text token.row (subst (λ (t : TableId). HasRow model t token.row) ref there) in
+            let text = type_ref_name scopes token.row (subst (λ (t : TableId). HasRow model t token.row) ref there) in
             (text.0, record { type_def = λ table row. absurd (not_def table); type_ref = λ table row. text.1; other = λ not. absurd (not (inr ref, there)) })
         | inr not_ref ↦ (codes "..", record { type_def = λ table row. absurd (not_def table); type_ref = λ table row. absurd (not_ref table); other = λ not. refl })
       ]
@@ -273,14 +326,14 @@ module _ (model : Metadata) (valid : IsValid model) where
       let tail = pieces_text is_name named pieces are.1 in
       (first.0 ++ tail.0, (first.0, first.1, tail.0, tail.1, refl))
 
-  type_spec_text : (signature : Body) → HasText (IsTypeSpecText model signature)
-  type_spec_text signature = pieces_text (IsInnerName model) inner_name (text_of signature) (text_is_plain signature)
+  type_spec_text : (scopes : Scopes) (signature : Body) → HasText (IsTypeSpecText scopes model signature)
+  type_spec_text scopes signature = pieces_text (IsInnerName scopes model) (inner_name scopes) (text_of signature) (text_is_plain signature)
 
-  pub any_name : (token : Token) → HasText (IsFullName model token)
+  pub any_name : (scopes : Scopes) (token : Token) → HasText (IsFullNameBy scopes model token)
   unfolding cell_columns
-  any_name token = elim (same_table token.table TypeSpec) [
+  any_name scopes token = elim (same_table token.table TypeSpec) [
     | inr not_spec ↦
-        let text = inner_name token in (
+        let text = inner_name scopes token in (
           text.0,
           record {
             type_def = text.1.type_def;
@@ -302,12 +355,12 @@ module _ (model : Metadata) (valid : IsValid model) where
       | inl there ↦
           let at : HasRow model TypeSpec token.row = subst (λ (t : TableId). HasRow model t token.row) spec there in
           let own = signature_of column.TypeSpec (cell_in model TypeSpec token.row 0) (valid.cells TypeSpec token.row 0 at (omega arith)).of_kind in
-          let text = type_spec_text own.0 in (
+          let text = type_spec_text scopes own.0 in (
             text.0,
             record {
               type_def = λ table row. let f : TypeSpec ≡ TypeDef = sym spec ∙ table in absurd cc;
               type_ref = λ table row. let f : TypeSpec ≡ TypeRef = sym spec ∙ table in absurd cc;
-              type_spec = λ table row signature is. subst (λ (s : Body). IsTypeSpecText model s text.0) (same_signature own.0 signature (sym own.1 ∙ is)) text.1;
+              type_spec = λ table row signature is. subst (λ (s : Body). IsTypeSpecText scopes model s text.0) (same_signature own.0 signature (sym own.1 ∙ is)) text.1;
               other = λ not none. absurd (none (spec, there));
             },
           )

@@ -20,9 +20,10 @@ use Rattle.metadata_source.specs.declared.signature_bytes.SignatureBytes.{Signat
 use Rattle.metadata_source.specs.declared.signature_bytes.SignatureBytes.TheVariants.{Stored, Canonical}
 use Rattle.metadata_source.specs.SignatureBytes.{AreBytesOf}
 use Rattle.std.specs.Fmt.{WritesInCalls}
+use Rattle.full_names.specs.declared.limit.Scopes.{Scopes}
 use Rattle.full_names.specs.Names.{Wrote}
 use Rattle.full_names.specs.SignatureBytes.{bytes_in}
-use Rattle.full_names.specs.Texts.{IsFullName, IsTypeSpecText}
+use Rattle.full_names.specs.Texts.{IsFullNameBy, IsTypeSpecText}
 use Rattle.full_names.specs.declared.text_error.TextError.{TextError}
 use Rattle.full_names.proofs.TextLemmas.{writes_once}
 
@@ -91,17 +92,17 @@ property_in (Sig of) of_kind held = let p = property_held of held.0 in (p.0, p.1
 property_in cell of_kind held = absurd of_kind
 
 -- the text of a TypeSpec is its name
-pub spec_name : {W : Type 0} (took : W → List ℕ → W → Type 0) (model : Metadata) (token : Token) (signature : Body) (w v : W) (result : Result (Unit {0}) TextError)
+pub spec_name : {W : Type 0} (took : W → List ℕ → W → Type 0) (scopes : Scopes) (model : Metadata) (token : Token) (signature : Body) (w v : W) (result : Result (Unit {0}) TextError)
     → token.table ≡ TypeSpec → HasRow model token.table token.row → cell_in model TypeSpec token.row 0 ≡ Sig signature
-    → OnOk result (Wrote took w (IsTypeSpecText model signature) v) → OnOk result (Wrote took w (IsFullName model token) v)
+    → OnOk result (Wrote took w (IsTypeSpecText scopes model signature) v) → OnOk result (Wrote took w (IsFullNameBy scopes model token) v)
 unfolding signature_in
-spec_name took model token signature w v (Err e) table there is wrote = tt
-spec_name took model token signature w v (Ok u) table there is wrote = (
+spec_name took scopes model token signature w v (Err e) table there is wrote = tt
+spec_name took scopes model token signature w v (Ok u) table there is wrote = (
   wrote.0,
   record {
     type_def = λ other row. let f : TypeSpec ≡ TypeDef = sym table ∙ other in absurd cc;
     type_ref = λ other row. let f : TypeSpec ≡ TypeRef = sym table ∙ other in absurd cc;
-    type_spec = λ same row other of. let one : signature ≡ other = ap (signature_in signature) (sym is ∙ of) in subst (λ (s : Body). IsTypeSpecText model s wrote.0) one wrote.1;
+    type_spec = λ same row other of. let one : signature ≡ other = ap (signature_in signature) (sym is ∙ of) in subst (λ (s : Body). IsTypeSpecText scopes model s wrote.0) one wrote.1;
     other = λ named spec. absurd (spec (table, there));
   },
   wrote.2,

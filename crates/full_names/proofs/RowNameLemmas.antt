@@ -9,27 +9,28 @@ use Rattle.metadata.specs.Cell.{Cell, Ref}
 use Rattle.metadata.specs.Lookups.{HasRow}
 use Rattle.metadata.specs.Metadata.{Metadata, cell_in, count_in}
 use Rattle.metadata.specs.Valid.{IsValid, MayRefer}
-use Rattle.full_names.specs.RowNames.{IsMemberOf, IsNameIn, IsNameUnder, IsPlainName, IsRowName}
+use Rattle.full_names.specs.declared.limit.Scopes.{Scopes}
+use Rattle.full_names.specs.RowNames.{IsMemberOf, IsNameIn, IsNameUnder, IsPlainName, IsRowNameBy}
 use Rattle.full_names.specs.Texts.{IsMemberName}
 
 -- a row of a table that is none of these has a plain name
-pub plain_name : (model : Metadata) (table : TableId) (row : ℕ) (text : List ℕ) → (table ≡ TypeDef → ⊥) → (table ≡ TypeRef → ⊥) → (table ≡ TypeSpec → ⊥) → (table ≡ Field → ⊥)
-    → (table ≡ MethodDef → ⊥) → (table ≡ Event → ⊥) → (table ≡ Property → ⊥) → (table ≡ MemberRef → ⊥) → IsPlainName model table row text → IsNameIn model table row text
-plain_name model TypeDef row text a b c d e f g h is = absurd (a refl)
-plain_name model TypeRef row text a b c d e f g h is = absurd (b refl)
-plain_name model TypeSpec row text a b c d e f g h is = absurd (c refl)
-plain_name model Field row text a b c d e f g h is = absurd (d refl)
-plain_name model MethodDef row text a b c d e f g h is = absurd (e refl)
-plain_name model Event row text a b c d e f g h is = absurd (f refl)
-plain_name model Property row text a b c d e f g h is = absurd (g refl)
-plain_name model MemberRef row text a b c d e f g h is = absurd (h refl)
-plain_name model _ row text a b c d e f g h is = is
+pub plain_name : (scopes : Scopes) (model : Metadata) (table : TableId) (row : ℕ) (text : List ℕ) → (table ≡ TypeDef → ⊥) → (table ≡ TypeRef → ⊥) → (table ≡ TypeSpec → ⊥) → (table ≡ Field → ⊥)
+    → (table ≡ MethodDef → ⊥) → (table ≡ Event → ⊥) → (table ≡ Property → ⊥) → (table ≡ MemberRef → ⊥) → IsPlainName model table row text → IsNameIn scopes model table row text
+plain_name scopes model TypeDef row text a b c d e f g h is = absurd (a refl)
+plain_name scopes model TypeRef row text a b c d e f g h is = absurd (b refl)
+plain_name scopes model TypeSpec row text a b c d e f g h is = absurd (c refl)
+plain_name scopes model Field row text a b c d e f g h is = absurd (d refl)
+plain_name scopes model MethodDef row text a b c d e f g h is = absurd (e refl)
+plain_name scopes model Event row text a b c d e f g h is = absurd (f refl)
+plain_name scopes model Property row text a b c d e f g h is = absurd (g refl)
+plain_name scopes model MemberRef row text a b c d e f g h is = absurd (h refl)
+plain_name scopes model _ row text a b c d e f g h is = is
 
 -- a row that exists has this name
-pub row_named : (model : Metadata) (table : TableId) (token : Token) → token.table ≡ table → 1 ≤ token.row → token.row ≤ count_in model token.table → (text : List ℕ)
-    → IsNameIn model table token.row text → IsRowName model token text
-row_named model table token is first last text name = record {
-  there = λ _. subst (λ (t : TableId). IsNameIn model t token.row text) (sym is) name;
+pub row_named : (scopes : Scopes) (model : Metadata) (table : TableId) (token : Token) → token.table ≡ table → 1 ≤ token.row → token.row ≤ count_in model token.table → (text : List ℕ)
+    → IsNameIn scopes model table token.row text → IsRowNameBy scopes model token text
+row_named scopes model table token is first last text name = record {
+  there = λ _. subst (λ (t : TableId). IsNameIn scopes model t token.row text) (sym is) name;
   missing = λ not. absurd (not (first, last));
 }
 
@@ -49,11 +50,11 @@ unfolding cell_columns
 parent_there model valid row there reference is = subst (λ (c : Cell). MayRefer model false c) is (valid.cells MemberRef row 0 there (omega arith)).refers
 
 -- a parent that is no method and no module gives its full name
-pub named_under : (model : Metadata) (table : TableId) (row : ℕ) (own text : List ℕ) → (table ≡ MethodDef → ⊥) → (table ≡ ModuleRef → ⊥)
-    → IsMemberName model (record { table = table; row = row }) own text → IsNameUnder model table row own text
-named_under model MethodDef row own text a b is = absurd (a refl)
-named_under model ModuleRef row own text a b is = absurd (b refl)
-named_under model _ row own text a b is = is
+pub named_under : (scopes : Scopes) (model : Metadata) (table : TableId) (row : ℕ) (own text : List ℕ) → (table ≡ MethodDef → ⊥) → (table ≡ ModuleRef → ⊥)
+    → IsMemberName scopes model (record { table = table; row = row }) own text → IsNameUnder scopes model table row own text
+named_under scopes model MethodDef row own text a b is = absurd (a refl)
+named_under scopes model ModuleRef row own text a b is = absurd (b refl)
+named_under scopes model _ row own text a b is = is
 
 -- a row of a table that is none of these is no member
 pub no_member : (model : Metadata) (table : TableId) (row : ℕ) → (table ≡ Field → ⊥) → (table ≡ MethodDef → ⊥) → (table ≡ Event → ⊥) → (table ≡ Property → ⊥) → IsMemberOf model table row None

@@ -10,10 +10,12 @@ use Rattle.metadata_source.specs.declared.member_lists.MemberList.TheVariants as
 use Rattle.navigation.specs.Maps.{IsMapOf}
 use Rattle.navigation.specs.Nesting.{type_token}
 use Rattle.navigation.specs.Owners.{Owns}
+use Rattle.full_names.specs.declared.limit.Scopes.{Scopes}
+use Rattle.full_names.specs.declared.limit.Scopes.TheVariants.{Omitted}
 use Rattle.full_names.specs.declared.quoted.NameKind.{NameKind}
 use Rattle.full_names.specs.declared.quoted.NameKind.TheVariants.{Identifier, Dotted, Member}
 use Rattle.full_names.specs.Quoted.{name_text, type_text}
-use Rattle.full_names.specs.Texts.{IsFullName, IsMemberName}
+use Rattle.full_names.specs.Texts.{IsFullNameBy, IsMemberName}
 
 -- the text in a cell
 abbrev pub IsTextOf : Metadata → TableId → ℕ → ℕ → List ℕ → Type 0
@@ -24,8 +26,8 @@ abbrev pub IsNameOf : Metadata → NameKind → TableId → ℕ → ℕ → List
 IsNameOf model kind table row cell text = (own : List ℕ) × IsTextOf model table row cell own × (text ≡ name_text kind own)
 
 -- the name of a field, a method, an event or a property, which is in a cell, after that of its type and two colons
-abbrev pub IsNamedMember : Metadata → TableId → ℕ → ℕ → Token → List ℕ → Type 0
-IsNamedMember model table row cell class text = (own : List ℕ) × IsTextOf model table row cell own × IsMemberName model class own text
+abbrev pub IsNamedMember : Scopes → Metadata → TableId → ℕ → ℕ → Token → List ℕ → Type 0
+IsNamedMember scopes model table row cell class text = (own : List ℕ) × IsTextOf model table row cell own × IsMemberName scopes model class own text
 
 -- the type of a field or a method, of an event or a property (II.22.12, II.22.35, II.22.37), and the parent of a MemberRef (II.22.25)
 abbrev pub IsTypeOfField : Metadata → ℕ → Token → Type 0
@@ -66,25 +68,29 @@ IsPlainName model GenericParam row text = IsNameOf model Identifier GenericParam
 IsPlainName model _ row text = text ≡ codes ".."
 
 -- the name of a MemberRef, by its parent: a type, a module, or a method of this module, whose type it is named after (II.22.25)
-abbrev pub IsNameUnder : Metadata → TableId → ℕ → List ℕ → List ℕ → Type 0
-IsNameUnder model MethodDef parent own text = (class : Token) × IsTypeOfMethod model parent class × IsMemberName model class own text
-IsNameUnder model ModuleRef parent own text = (module_name : List ℕ) × IsNameOf model Dotted ModuleRef parent 0 module_name × (text ≡ module_name ++ (codes "::" ++ name_text Member own))
-IsNameUnder model table parent own text = IsMemberName model (record { table = table; row = parent }) own text
+abbrev pub IsNameUnder : Scopes → Metadata → TableId → ℕ → List ℕ → List ℕ → Type 0
+IsNameUnder scopes model MethodDef parent own text = (class : Token) × IsTypeOfMethod model parent class × IsMemberName scopes model class own text
+IsNameUnder scopes model ModuleRef parent own text = (module_name : List ℕ) × IsNameOf model Dotted ModuleRef parent 0 module_name × (text ≡ module_name ++ (codes "::" ++ name_text Member own))
+IsNameUnder scopes model table parent own text = IsMemberName scopes model (record { table = table; row = parent }) own text
 
 -- the name of a row that exists, by its table
-abbrev pub IsNameIn : Metadata → TableId → ℕ → List ℕ → Type 0
-IsNameIn model TypeDef row text = IsFullName model (record { table = TypeDef; row = row }) text
-IsNameIn model TypeRef row text = IsFullName model (record { table = TypeRef; row = row }) text
-IsNameIn model TypeSpec row text = IsFullName model (record { table = TypeSpec; row = row }) text
-IsNameIn model Field row text = (class : Token) × IsTypeOfField model row class × IsNamedMember model Field row 1 class text
-IsNameIn model MethodDef row text = (class : Token) × IsTypeOfMethod model row class × IsNamedMember model MethodDef row 3 class text
-IsNameIn model Event row text = (class : Token) × IsTypeOfEvent model row class × IsNamedMember model Event row 1 class text
-IsNameIn model Property row text = (class : Token) × IsTypeOfProperty model row class × IsNamedMember model Property row 1 class text
-IsNameIn model MemberRef row text =
-    (parent : Token) × IsParent model row parent × (own : List ℕ) × IsTextOf model MemberRef row 1 own × IsNameUnder model parent.table parent.row own text
-IsNameIn model table row text = IsPlainName model table row text
+abbrev pub IsNameIn : Scopes → Metadata → TableId → ℕ → List ℕ → Type 0
+IsNameIn scopes model TypeDef row text = IsFullNameBy scopes model (record { table = TypeDef; row = row }) text
+IsNameIn scopes model TypeRef row text = IsFullNameBy scopes model (record { table = TypeRef; row = row }) text
+IsNameIn scopes model TypeSpec row text = IsFullNameBy scopes model (record { table = TypeSpec; row = row }) text
+IsNameIn scopes model Field row text = (class : Token) × IsTypeOfField model row class × IsNamedMember scopes model Field row 1 class text
+IsNameIn scopes model MethodDef row text = (class : Token) × IsTypeOfMethod model row class × IsNamedMember scopes model MethodDef row 3 class text
+IsNameIn scopes model Event row text = (class : Token) × IsTypeOfEvent model row class × IsNamedMember scopes model Event row 1 class text
+IsNameIn scopes model Property row text = (class : Token) × IsTypeOfProperty model row class × IsNamedMember scopes model Property row 1 class text
+IsNameIn scopes model MemberRef row text =
+    (parent : Token) × IsParent model row parent × (own : List ℕ) × IsTextOf model MemberRef row 1 own × IsNameUnder scopes model parent.table parent.row own text
+IsNameIn scopes model table row text = IsPlainName model table row text
 
 -- the name of a row, or `..` if it does not exist
-pub record IsRowName (model : Metadata) (token : Token) (text : List ℕ) : Type 0 where
-  pub there : HasRow model token.table token.row → IsNameIn model token.table token.row text
+pub record IsRowNameBy (scopes : Scopes) (model : Metadata) (token : Token) (text : List ℕ) : Type 0 where
+  pub there : HasRow model token.table token.row → IsNameIn scopes model token.table token.row text
   pub missing : ¬ HasRow model token.table token.row → text ≡ codes ".."
+
+-- the same without scopes
+abbrev pub IsRowName : Metadata → Token → List ℕ → Type 0
+IsRowName = IsRowNameBy Omitted

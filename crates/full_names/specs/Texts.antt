@@ -8,9 +8,12 @@ use Rattle.sig_text.specs.SignatureText.{Piece, word, number, signed, name, meth
 use Rattle.metadata.specs.Cell.{Sig}
 use Rattle.metadata.specs.Metadata.{Metadata, cell_in}
 use Rattle.metadata.specs.Lookups.{HasRow}
+use Rattle.full_names.specs.declared.limit.Scopes.{Scopes}
+use Rattle.full_names.specs.declared.limit.Scopes.TheVariants.{Omitted}
 use Rattle.full_names.specs.declared.quoted.NameKind.TheVariants.{Member}
 use Rattle.full_names.specs.Quoted.{name_text}
-use Rattle.full_names.specs.Names.{IsTypeDefText, IsTypeRefText}
+use Rattle.full_names.specs.Names.{IsTypeDefText}
+use Rattle.full_names.specs.Scopes.{IsTypeRefName}
 
 -- ---- pieces
 
@@ -36,25 +39,29 @@ abbrev pub IsNamed : Metadata → Token → Type 0
 IsNamed model token = ((token.table ≡ TypeDef) ⊎ (token.table ≡ TypeRef)) × HasRow model token.table token.row
 
 -- the text of a token within the text of a TypeSpec: `..` stands for a TypeSpec, and for a row that does not exist
-pub record IsInnerName (model : Metadata) (token : Token) (text : List ℕ) : Type 0 where
+pub record IsInnerName (scopes : Scopes) (model : Metadata) (token : Token) (text : List ℕ) : Type 0 where
   pub type_def : token.table ≡ TypeDef → HasRow model token.table token.row → IsTypeDefText model 64 token.row text
-  pub type_ref : token.table ≡ TypeRef → HasRow model token.table token.row → IsTypeRefText model 64 token.row text
+  pub type_ref : token.table ≡ TypeRef → HasRow model token.table token.row → IsTypeRefName scopes model token.row text
   pub other : ¬ IsNamed model token → text ≡ codes ".."
 
 -- the text of a TypeSpec that has this signature
-abbrev pub IsTypeSpecText : Metadata → Body → List ℕ → Type 0
-IsTypeSpecText model signature = ArePiecesText (IsPieceText (IsInnerName model)) (text_of signature)
+abbrev pub IsTypeSpecText : Scopes → Metadata → Body → List ℕ → Type 0
+IsTypeSpecText scopes model signature = ArePiecesText (IsPieceText (IsInnerName scopes model)) (text_of signature)
 
 -- the text of a token: the name of a type, the type that a TypeSpec is, and `..` for a row that does not exist
-pub record IsFullName (model : Metadata) (token : Token) (text : List ℕ) : Type 0 where
+pub record IsFullNameBy (scopes : Scopes) (model : Metadata) (token : Token) (text : List ℕ) : Type 0 where
   pub type_def : token.table ≡ TypeDef → HasRow model token.table token.row → IsTypeDefText model 64 token.row text
-  pub type_ref : token.table ≡ TypeRef → HasRow model token.table token.row → IsTypeRefText model 64 token.row text
+  pub type_ref : token.table ≡ TypeRef → HasRow model token.table token.row → IsTypeRefName scopes model token.row text
   pub type_spec : token.table ≡ TypeSpec → HasRow model token.table token.row
-      → (signature : Body) → cell_in model TypeSpec token.row 0 ≡ Sig signature → IsTypeSpecText model signature text
+      → (signature : Body) → cell_in model TypeSpec token.row 0 ≡ Sig signature → IsTypeSpecText scopes model signature text
   pub other : ¬ IsNamed model token → ¬ ((token.table ≡ TypeSpec) × HasRow model token.table token.row) → text ≡ codes ".."
+
+-- the same without scopes
+abbrev pub IsFullName : Metadata → Token → List ℕ → Type 0
+IsFullName = IsFullNameBy Omitted
 
 -- ---- members
 
 -- a member's name after that of its type
-abbrev pub IsMemberName : Metadata → Token → List ℕ → List ℕ → Type 0
-IsMemberName model class own text = (of : List ℕ) × IsFullName model class of × (text ≡ of ++ (codes "::" ++ name_text Member own))
+abbrev pub IsMemberName : Scopes → Metadata → Token → List ℕ → List ℕ → Type 0
+IsMemberName scopes model class own text = (of : List ℕ) × IsFullNameBy scopes model class of × (text ≡ of ++ (codes "::" ++ name_text Member own))

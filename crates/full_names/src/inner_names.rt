@@ -8,8 +8,9 @@ ghost use Rattle.full_names.specs.TextEnd.{IsWhole};
 ghost use Rattle.full_names.specs.Texts.{IsInnerName, IsTypeSpecText};
 
 use crate::limit::Limit;
-use crate::names::{DEPTH, write_type_def_within, write_type_ref_within};
+use crate::names::{DEPTH, write_type_def_within};
 use crate::parts::{write_left_out, write_number, write_signed, write_text};
+use crate::scopes::write_type_ref_name;
 use crate::text_end::{TextEnd, keep_refusal};
 use navigation::ReadCells;
 use sig_text::{TextSink, write_encoded};
@@ -25,7 +26,7 @@ fn write_inner_name<S: ReadCells, W: fmt::Write, L: Limit<W>>(
     out: &mut W,
 ) -> fmt::Result
     ensures { (model : Metadata) → S.shows source.now model
-        → OnOk result (Wrote W.write_str_gives out.old (IsInnerName model token) out.new) }
+        → OnOk result (Wrote W.write_str_gives out.old (IsInnerName L.scopes model token) out.new) }
 {
     source.holds_one();
     if token.row == 0 || token.row > source.count(token.table) {
@@ -33,7 +34,7 @@ fn write_inner_name<S: ReadCells, W: fmt::Write, L: Limit<W>>(
     }
     match token.table {
         TableId::TypeDef => write_type_def_within(source, token.row, limit, out, DEPTH),
-        TableId::TypeRef => write_type_ref_within(source, token.row, limit, out, DEPTH),
+        TableId::TypeRef => write_type_ref_name(source, token.row, limit, out),
         _ => write_left_out(out),
     }
 }
@@ -63,7 +64,7 @@ impl<S: ReadCells, W: fmt::Write, L: Limit<W>> TextSink for TypeSpecText<'_, '_,
     ghost gives = { λ s piece taken t.
         (taken ≡ true → (t.ended ≡ s.ended) × (t.source.now ≡ s.source.now) × (t.writer.ghost_name ≡ s.writer.ghost_name)
         × ((model : Metadata) → S.shows s.source.now model
-        → Wrote W.write_str_gives s.writer.now (IsPieceText (IsInnerName model) piece) t.writer.now))
+        → Wrote W.write_str_gives s.writer.now (IsPieceText (IsInnerName L.scopes model) piece) t.writer.now))
         × (taken ≡ false → IsWhole t.ended → (t.writer.ghost_name ≡ s.writer.ghost_name)
         × ((text : List ℕ) → W.write_str_gives s.writer.now text t.writer.now)) };
 
@@ -99,7 +100,7 @@ pub fn put_type_spec<S: ReadCells, W: fmt::Write, L: Limit<W>>(
 )
     ensures { (model : Metadata) → S.shows sink.old.source.now model → (signature : Body) → Encodes kind.TypeSpec signature bytes.now
         → sink.old.ended ≡ None → IsWhole sink.new.ended → (sink.new.writer.ghost_name ≡ sink.old.writer.ghost_name)
-        × Wrote W.write_str_gives sink.old.writer.now (IsTypeSpecText model signature) sink.new.writer.now }
+        × Wrote W.write_str_gives sink.old.writer.now (IsTypeSpecText L.scopes model signature) sink.new.writer.now }
 {
     sink.source.holds_one();
     let _ = write_encoded(sink, bytes, SigKind::TypeSpec);

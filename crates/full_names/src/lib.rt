@@ -17,12 +17,13 @@ mod names;
 mod parts;
 mod quoted;
 mod row_names;
+mod scopes;
 mod signature_bytes;
 mod specs_named;
 mod text_end;
 mod text_error;
 
-pub use limit::{Limit, NoLimit};
+pub use limit::{Limit, NoLimit, Scopes};
 pub use names::{
     DEPTH, write_type_def, write_type_def_within, write_type_ref, write_type_ref_within,
 };

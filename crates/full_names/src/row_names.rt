@@ -7,7 +7,7 @@ ghost use Rattle.full_names.specs.Names.{Wrote};
 ghost use Rattle.full_names.specs.Quoted.{name_text};
 ghost use Rattle.full_names.specs.declared.quoted.NameKind.TheVariants.{Dotted, Member};
 ghost use Rattle.full_names.specs.Texts.{IsMemberName};
-ghost use Rattle.full_names.specs.RowNames.{IsMemberOf, IsNameIn, IsParent, IsPlainName, IsRowName, IsTypeOfEvent, IsTypeOfField, IsTypeOfMethod, IsTypeOfProperty};
+ghost use Rattle.full_names.specs.RowNames.{IsMemberOf, IsNameIn, IsParent, IsPlainName, IsRowNameBy, IsTypeOfEvent, IsTypeOfField, IsTypeOfMethod, IsTypeOfProperty};
 
 use crate::limit::Limit;
 use crate::parts::{write_left_out, write_text};
@@ -34,10 +34,10 @@ const MEMBER_NAME: usize = 1;
 const MEMBER_PARENT: usize = 0;
 
 /// The cell of a module's name (II.22.31).
-const MODULE_NAME: usize = 0;
+pub(crate) const MODULE_NAME: usize = 0;
 
 /// The cell of the name of an assembly (II.22.5).
-const ASSEMBLY_NAME: usize = 6;
+pub(crate) const ASSEMBLY_NAME: usize = 6;
 
 /// The cell of a file's name (II.22.19).
 const FILE_NAME: usize = 1;
@@ -82,7 +82,7 @@ fn write_member_name<S: ReadCells, W: fmt::Write, L: Limit<W>>(
     out: &mut W,
 ) -> Result<(), TextError>
     ensures { (model : Metadata) → S.shows source.now model
-        → OnOk result (Wrote W.write_str_gives out.old (IsMemberName model class name.now) out.new) }
+        → OnOk result (Wrote W.write_str_gives out.old (IsMemberName L.scopes model class name.now) out.new) }
 {
     write_full_name_within(alloc, source, class, limit, out)?;
     Ok(write_own_name(out, name, limit)?)
@@ -128,7 +128,7 @@ fn write_member_ref<S: ReadCells, W: fmt::Write, L: Limit<W>>(
 ) -> Result<(), TextError>
     requires first { 1 ≤ row }
     requires last { row ≤ S.row_count source.now MemberRef }
-    ensures { (model : Metadata) → S.shows source.now model → OnOk result (Wrote W.write_str_gives out.old (IsNameIn model MemberRef row) out.new) }
+    ensures { (model : Metadata) → S.shows source.now model → OnOk result (Wrote W.write_str_gives out.old (IsNameIn L.scopes model MemberRef row) out.new) }
 {
     let parent = member_parent(source, row);
     let name = cells::text(source, TableId::MemberRef, row, MEMBER_NAME);
@@ -210,7 +210,7 @@ pub fn write_row_name<S: ReadCells, W: fmt::Write, L: Limit<W>>(
     limit: &L,
     out: &mut W,
 ) -> Result<(), TextError>
-    ensures { (model : Metadata) → S.shows source.now model → OnOk result (Wrote W.write_str_gives out.old (IsRowName model token) out.new) }
+    ensures { (model : Metadata) → S.shows source.now model → OnOk result (Wrote W.write_str_gives out.old (IsRowNameBy L.scopes model token) out.new) }
 {
     source.holds_one();
     if token.row == 0 || token.row > source.count(token.table) {

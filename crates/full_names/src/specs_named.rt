@@ -4,12 +4,14 @@ ghost use Rattle.sig_grammar.specs.Syntax.{Body};
 ghost use Rattle.metadata.specs.Cell.{Sig};
 ghost use Rattle.metadata.specs.Metadata.{Metadata, cell_in};
 ghost use Rattle.full_names.specs.Names.{IsTypeDefText, IsTypeRefText, Wrote};
-ghost use Rattle.full_names.specs.Texts.{IsFullName, IsTypeSpecText};
+ghost use Rattle.full_names.specs.Scopes.{IsTypeRefName};
+ghost use Rattle.full_names.specs.Texts.{IsFullName, IsFullNameBy, IsTypeSpecText};
 
 use crate::inner_names::{TypeSpecText, put_type_spec};
 use crate::limit::{Limit, NoLimit};
-use crate::names::{DEPTH, write_type_def_within, write_type_ref_within};
+use crate::names::{DEPTH, write_type_def_within};
 use crate::parts::write_left_out;
+use crate::scopes::write_type_ref_name;
 use crate::signature_bytes::bytes_of;
 use crate::text_end::result_of;
 use crate::text_error::TextError;
@@ -76,7 +78,8 @@ pub fn write_full_name<S: ReadCells, W: fmt::Write>(
 }
 
 /// Writes the name of a type as [`write_full_name`] does, up to a limit: when it is reached, the names of enclosing types
-/// and what follows in a TypeSpec are passed over.
+/// and what follows in a TypeSpec are passed over. If the limit says so, the name of a TypeRef begins with the scope of the
+/// outermost type (II.7.3), also within a TypeSpec; this module is no scope, and neither is null or one after [`DEPTH`] types.
 ///
 /// # Errors
 ///
@@ -91,8 +94,8 @@ pub fn write_full_name_within<S: ReadCells, W: fmt::Write, L: Limit<W>>(
     ensures type_def { (model : Metadata) → S.shows source.now model → token.table ≡ TypeDef → 1 ≤ token.row → token.row ≤ S.row_count source.now TypeDef
         → OnOk result (Wrote W.write_str_gives out.old (IsTypeDefText model 64 token.row) out.new) }
     ensures type_ref { (model : Metadata) → S.shows source.now model → token.table ≡ TypeRef → 1 ≤ token.row → token.row ≤ S.row_count source.now TypeRef
-        → OnOk result (Wrote W.write_str_gives out.old (IsTypeRefText model 64 token.row) out.new) }
-    ensures name { (model : Metadata) → S.shows source.now model → OnOk result (Wrote W.write_str_gives out.old (IsFullName model token) out.new) }
+        → OnOk result (Wrote W.write_str_gives out.old (IsTypeRefName L.scopes model token.row) out.new) }
+    ensures name { (model : Metadata) → S.shows source.now model → OnOk result (Wrote W.write_str_gives out.old (IsFullNameBy L.scopes model token) out.new) }
 {
     source.holds_one();
     if token.row == 0 || token.row > source.count(token.table) {
@@ -100,7 +103,7 @@ pub fn write_full_name_within<S: ReadCells, W: fmt::Write, L: Limit<W>>(
     }
     match token.table {
         TableId::TypeDef => Ok(write_type_def_within(source, token.row, limit, out, DEPTH)?),
-        TableId::TypeRef => Ok(write_type_ref_within(source, token.row, limit, out, DEPTH)?),
+        TableId::TypeRef => Ok(write_type_ref_name(source, token.row, limit, out)?),
         TableId::TypeSpec => write_type_spec(alloc, source, token.row, limit, out),
         _ => Ok(write_left_out(out)?),
     }
@@ -118,7 +121,7 @@ fn write_type_spec<S: ReadCells, W: fmt::Write, L: Limit<W>>(
     requires first { 1 ≤ row }
     requires last { row ≤ S.row_count source.now TypeSpec }
     ensures { (model : Metadata) → S.shows source.now model → (signature : Body) → cell_in model TypeSpec row 0 ≡ Sig signature
-        → OnOk result (Wrote W.write_str_gives out.old (IsTypeSpecText model signature) out.new) }
+        → OnOk result (Wrote W.write_str_gives out.old (IsTypeSpecText L.scopes model signature) out.new) }
 {
     sig_values::laws::shortest_encodes();
     source.holds_one();

@@ -126,7 +126,7 @@ pub use navigation::{
 // Names of types and signatures of methods as text.
 pub use declarations::{write_method, write_method_within};
 pub use full_names::{
-    DEPTH, FullNames, Limit, NoLimit, TextError, write_full_name, write_full_name_within,
+    DEPTH, FullNames, Limit, NoLimit, Scopes, TextError, write_full_name, write_full_name_within,
     write_type_def, write_type_ref,
 };
 

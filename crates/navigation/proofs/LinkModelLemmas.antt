@@ -1,7 +1,7 @@
 -- The references of a root and of its model have the same numbers.
 use Rattle.std.proofs.Common.{◌≡◌, ◌∙◌, ℕ, ◌<◌, ◌≤◌, ◌==◌, inl, inr, Bool, false, List, refl, sym, ap, arith}
 use Rattle.table_schema.specs.declared.table.TableId.{TableId}
-use Rattle.table_schema.specs.declared.table.TableId.TheVariants.{TypeDef, EventMap, PropertyMap, MethodSemantics, Constant, ClassLayout, FieldLayout, FieldRVA, FieldMarshal}
+use Rattle.table_schema.specs.declared.table.TableId.TheVariants.{TypeDef, EventMap, PropertyMap, MethodSemantics, Constant, ClassLayout, FieldLayout, FieldRVA, FieldMarshal, InterfaceImpl, GenericParam, GenericParamConstraint}
 use Rattle.table_schema.specs.declared.token.Token.{Token}
 use Rattle.table_schema.specs.declared.column.ColumnKind.TheVariants as kind
 use Rattle.table_schema.specs.CellColumns.{cell_columns, cell_count, column_of}
@@ -41,6 +41,9 @@ module _ (root : List ℕ) (model : Metadata)
   numbers_are_one link_of.FieldOffsets row first last = keys FieldLayout 1 row (record { within = omega arith; key = refl }) first last
   numbers_are_one link_of.FieldData row first last = keys FieldRVA 1 row (record { within = omega arith; key = refl }) first last
   numbers_are_one link_of.Marshalling row first last = keys FieldMarshal 0 row (record { within = omega arith; key = refl }) first last
+  numbers_are_one link_of.Interfaces row first last = keys InterfaceImpl 0 row (record { within = omega arith; key = refl }) first last
+  numbers_are_one link_of.GenericParams row first last = keys GenericParam 2 row (record { within = omega arith; key = refl }) first last
+  numbers_are_one link_of.Constraints row first last = keys GenericParamConstraint 0 row (record { within = omega arith; key = refl }) first last
 
   -- so the same rows refer to a row
   pub rows_linked : (of : Link) (number : ℕ) (token : Token) → number ≡ number_to of token

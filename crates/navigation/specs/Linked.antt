@@ -1,7 +1,8 @@
--- The rows that refer to a type or a member (ECMA-335 II.22.8, II.22.9, II.22.12, II.22.16 to II.22.18, II.22.28 and II.22.35).
+-- The rows that refer to a type or a member, and to a generic parameter (ECMA-335 II.22.8, II.22.9, II.22.12, II.22.16 to II.22.18, II.22.20,
+-- II.22.21, II.22.23, II.22.28 and II.22.35).
 use Rattle.std.specs.Prelude.{ℕ, ◌==◌, List, Option, slice_get}
 use Rattle.table_schema.specs.declared.table.TableId.{TableId}
-use Rattle.table_schema.specs.declared.table.TableId.TheVariants.{EventMap, PropertyMap, MethodSemantics, Constant, ClassLayout, FieldLayout, FieldRVA, FieldMarshal}
+use Rattle.table_schema.specs.declared.table.TableId.TheVariants.{EventMap, PropertyMap, MethodSemantics, Constant, ClassLayout, FieldLayout, FieldRVA, FieldMarshal, InterfaceImpl, GenericParam, GenericParamConstraint}
 use Rattle.table_schema.specs.declared.token.Token.{Token}
 use Rattle.table_schema.specs.CellColumns.{column_of}
 use Rattle.metadata.specs.KeyOrder.{key_in, row_number}
@@ -26,6 +27,9 @@ table_of link_of.TypeLayouts = ClassLayout
 table_of link_of.FieldOffsets = FieldLayout
 table_of link_of.FieldData = FieldRVA
 table_of link_of.Marshalling = FieldMarshal
+table_of link_of.Interfaces = InterfaceImpl
+table_of link_of.GenericParams = GenericParam
+table_of link_of.Constraints = GenericParamConstraint
 
 abbrev pub cell_of : Link → ℕ
 cell_of link_of.Events = 0
@@ -36,6 +40,9 @@ cell_of link_of.TypeLayouts = 2
 cell_of link_of.FieldOffsets = 1
 cell_of link_of.FieldData = 1
 cell_of link_of.Marshalling = 0
+cell_of link_of.Interfaces = 0
+cell_of link_of.GenericParams = 2
+cell_of link_of.Constraints = 0
 
 -- the number of the reference of a row (II.24.2.6): in a root, and in a model
 abbrev pub number_in : List ℕ → Link → ℕ → ℕ

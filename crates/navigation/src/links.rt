@@ -1,4 +1,4 @@
-//! The rows that refer to a type or a member (II.22).
+//! The rows that refer to a type, a member or a generic parameter (II.22).
 ghost use Rattle.std.specs.Prelude.{◌≡◌, ◌≤◌, IfOk};
 ghost use Rattle.opening.specs.Views.{row_count};
 ghost use Rattle.navigation.specs.Keyed.{keyed_rows};
@@ -30,6 +30,12 @@ pub enum Link {
     FieldData,
     /// The field or the parameter of a row of FieldMarshal (II.22.17).
     Marshalling,
+    /// The type of a row of InterfaceImpl (II.22.23).
+    Interfaces,
+    /// The type or the method of a row of GenericParam (II.22.20).
+    GenericParams,
+    /// The generic parameter of a row of GenericParamConstraint (II.22.21).
+    Constraints,
 }
 
 impl Link {
@@ -50,6 +56,9 @@ impl Link {
             Link::FieldOffsets => TableId::FieldLayout,
             Link::FieldData => TableId::FieldRVA,
             Link::Marshalling => TableId::FieldMarshal,
+            Link::Interfaces => TableId::InterfaceImpl,
+            Link::GenericParams => TableId::GenericParam,
+            Link::Constraints => TableId::GenericParamConstraint,
         }
     }
 
@@ -60,9 +69,13 @@ impl Link {
         ensures within { cell_of self < cell_count (table_of self) }
     {
         match self {
-            Link::Events | Link::Properties | Link::Marshalling => 0,
+            Link::Events
+            | Link::Properties
+            | Link::Marshalling
+            | Link::Interfaces
+            | Link::Constraints => 0,
             Link::Constants | Link::FieldOffsets | Link::FieldData => 1,
-            Link::Accessors | Link::TypeLayouts => 2,
+            Link::Accessors | Link::TypeLayouts | Link::GenericParams => 2,
         }
     }
 

@@ -21,6 +21,9 @@ pub(crate) struct SortedLinks<'v, 'a> {
     field_offsets: Vec<KeyedRow>,
     field_data: Vec<KeyedRow>,
     marshalling: Vec<KeyedRow>,
+    interfaces: Vec<KeyedRow>,
+    generic_params: Vec<KeyedRow>,
+    constraints: Vec<KeyedRow>,
     ghost events_known: { AreReferences view.now link_of.Events events.items },
     ghost properties_known: { AreReferences view.now link_of.Properties properties.items },
     ghost accessors_known: { AreReferences view.now link_of.Accessors accessors.items },
@@ -29,6 +32,9 @@ pub(crate) struct SortedLinks<'v, 'a> {
     ghost field_offsets_known: { AreReferences view.now link_of.FieldOffsets field_offsets.items },
     ghost field_data_known: { AreReferences view.now link_of.FieldData field_data.items },
     ghost marshalling_known: { AreReferences view.now link_of.Marshalling marshalling.items },
+    ghost interfaces_known: { AreReferences view.now link_of.Interfaces interfaces.items },
+    ghost generic_params_known: { AreReferences view.now link_of.GenericParams generic_params.items },
+    ghost constraints_known: { AreReferences view.now link_of.Constraints constraints.items },
 }
 
 impl<'v, 'a> SortedLinks<'v, 'a> {
@@ -50,6 +56,9 @@ impl<'v, 'a> SortedLinks<'v, 'a> {
             field_offsets: references(alloc, view, Link::FieldOffsets)?,
             field_data: references(alloc, view, Link::FieldData)?,
             marshalling: references(alloc, view, Link::Marshalling)?,
+            interfaces: references(alloc, view, Link::Interfaces)?,
+            generic_params: references(alloc, view, Link::GenericParams)?,
+            constraints: references(alloc, view, Link::Constraints)?,
         })
     }
 
@@ -66,6 +75,9 @@ impl<'v, 'a> SortedLinks<'v, 'a> {
             Link::FieldOffsets => &self.field_offsets,
             Link::FieldData => &self.field_data,
             Link::Marshalling => &self.marshalling,
+            Link::Interfaces => &self.interfaces,
+            Link::GenericParams => &self.generic_params,
+            Link::Constraints => &self.constraints,
         }
     }
 }

@@ -1,7 +1,10 @@
-use Rattle.std.proofs.Common.{◌++◌, refl}
+use Rattle.std.proofs.Common.{◌++◌, refl, subst}
 use Rattle.std.specs.Prelude.{codes}
+use Rattle.sig_text.specs.SignatureText.{text_of}
+use Rattle.full_names.specs.declared.limit.Scopes.{Scopes}
 use Rattle.full_names.specs.declared.quoted.NameKind.TheVariants.{Dotted}
 use Rattle.full_names.specs.Quoted.{name_text}
+use Rattle.full_names.specs.Texts.{ArePiecesText, IsFullNameBy, IsPieceText}
 use Rattle.full_names.proofs.TextLemmas.{writes_append}
 use Rattle.c_texts.proofs.row_text.write_field.Goals as goal
 
@@ -17,7 +20,7 @@ returns g c = λ model is.
         signature = of.0;
         is_signature = of.2;
         before = before.0;
-        is_before = before.1;
+        is_before = subst (λ (s : Scopes). ArePiecesText (IsPieceText (IsFullNameBy s model)) (text_of of.0) before.0) c.requires.omitted before.1;
         own = c.text-name.result.now;
         is_own = c.text-name.ensures model is;
         whole = refl;

@@ -1,11 +1,12 @@
-use Rattle.std.proofs.Common.{arith}
+use Rattle.std.proofs.Common.{arith, subst}
 use Rattle.table_schema.specs.declared.table.TableId.TheVariants.{MethodDef}
 use Rattle.table_schema.specs.CellColumns.{cell_columns}
 use Rattle.metadata.specs.Lookups.{HasRow}
 use Rattle.metadata.specs.Metadata.{cell_in}
 use Rattle.opening.specs.Views.{row_count}
+use Rattle.full_names.specs.declared.limit.Scopes.{Scopes}
 use Rattle.full_names.proofs.PieceLemmas.{method_in, on_wrote}
-use Rattle.declarations.specs.Declarations.{IsDeclaration}
+use Rattle.declarations.specs.Declarations.{IsDeclarationBy}
 use Rattle.c_texts.specs.RowTexts.{IsMethodDeclaration}
 use Rattle.c_texts.proofs.row_text.write_method.Goals as goal
 
@@ -17,5 +18,5 @@ returns g c = λ model is.
     let there : HasRow model MethodDef c.args.row = (c.requires.first, omega (arith, count, last)) in
     let valid = (c.models_of_roots_are_valid.ensures c.args.view.now model is).cells MethodDef c.args.row 4 there (omega arith) in
     let method = method_in (cell_in model MethodDef c.args.row 4) valid.of_kind valid.held in
-    on_wrote g.W.Write.write_str_gives (IsDeclaration model c.args.row method.0) (IsMethodDeclaration model c.args.row) _ _ c.write_method_within.result
-    (c.write_method_within.ensures.text model is method.0 method.1) (λ text declared. (method.0, method.1, declared))
+    on_wrote g.W.Write.write_str_gives (IsDeclarationBy g.L.Limit.scopes model c.args.row method.0) (IsMethodDeclaration model c.args.row) _ _ c.write_method_within.result
+    (c.write_method_within.ensures.text model is method.0 method.1) (λ text declared. (method.0, method.1, subst (λ (s : Scopes). IsDeclarationBy s model c.args.row method.0 text) c.requires.omitted declared))

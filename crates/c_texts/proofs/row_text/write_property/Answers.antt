@@ -1,12 +1,13 @@
-use Rattle.std.proofs.Common.{arith}
+use Rattle.std.proofs.Common.{arith, subst}
 use Rattle.table_schema.specs.declared.table.TableId.TheVariants.{Property}
 use Rattle.table_schema.specs.CellColumns.{cell_columns}
 use Rattle.sig_text.specs.Declares.{as_method}
 use Rattle.metadata.specs.Lookups.{HasRow}
 use Rattle.metadata.specs.Metadata.{cell_in}
 use Rattle.opening.specs.Views.{row_count}
+use Rattle.full_names.specs.declared.limit.Scopes.{Scopes}
 use Rattle.full_names.proofs.PieceLemmas.{on_wrote, property_in}
-use Rattle.declarations.specs.Declarations.{IsPropertyDeclaration}
+use Rattle.declarations.specs.Declarations.{IsPropertyDeclarationBy}
 use Rattle.c_texts.specs.RowTexts.{IsDeclaredProperty}
 use Rattle.c_texts.proofs.row_text.write_property.Goals as goal
 
@@ -18,5 +19,6 @@ returns g c = λ model is.
     let there : HasRow model Property c.args.row = (c.requires.first, omega (arith, count, last)) in
     let valid = (c.models_of_roots_are_valid.ensures c.args.view.now model is).cells Property c.args.row 2 there (omega arith) in
     let of = property_in (cell_in model Property c.args.row 2) valid.of_kind valid.held in
-    on_wrote g.W.Write.write_str_gives (IsPropertyDeclaration model c.args.row (as_method of.0 of.1 of.2)) (IsDeclaredProperty model c.args.row) _ _
-    c.write_property_within.result (c.write_property_within.ensures.text model is of.0 of.1 of.2 of.3) (λ text declared. (of.0, of.1, of.2, of.3, declared))
+    on_wrote g.W.Write.write_str_gives (IsPropertyDeclarationBy g.L.Limit.scopes model c.args.row (as_method of.0 of.1 of.2)) (IsDeclaredProperty model c.args.row) _ _
+    c.write_property_within.result (c.write_property_within.ensures.text model is of.0 of.1 of.2 of.3) (λ text declared.
+    (of.0, of.1, of.2, of.3, subst (λ (s : Scopes). IsPropertyDeclarationBy s model c.args.row (as_method of.0 of.1 of.2) text) c.requires.omitted declared))

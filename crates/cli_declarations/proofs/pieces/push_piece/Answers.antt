@@ -136,6 +136,13 @@ returns-in-Linked c = λ model is.
     on_ok c.push_linked.result (c.push_linked.ensures model is)
     (λ e. part_gains model c.args.table c.args.row c.args.piece (part.linked_by c.in-Linked.link) _ _ _ (ap shown c.in-Linked.is) refl e)
 
+pub returns-in-Listed : goal.returns-in-Listed
+returns-in-Listed c = λ model is.
+    let before = string_bytes c.args.declared.now.text in
+    let after = string_bytes c.push_listed.new.declared.text in
+    on_ok c.push_listed.result (c.push_listed.ensures model is)
+    (λ gains. subst (λ (p : Part). Gains (IsPartText model c.args.table c.args.row p) before after) (sym (ap shown c.in-Listed.is)) gains)
+
 pub returns-in-OwnReference : goal.returns-in-OwnReference
 returns-in-OwnReference c = λ model is.
     let before = string_bytes c.args.declared.now.text in
@@ -151,14 +158,6 @@ returns-in-ReferenceAfter c = λ model is.
     on_ok c.push_reference_after.result (c.push_reference_after.ensures model is)
     (λ gains. subst (λ (p : Part). Gains (IsPartText model c.args.table c.args.row p) before after) (sym (ap shown c.in-ReferenceAfter.is))
     (subst (λ (r : Option Token). Gains (IsReferenceAfter model word r) before after) (c.reference-in-ReferenceAfter.ensures model is) gains))
-
-pub returns-in-ScopeAfter : goal.returns-in-ScopeAfter
-returns-in-ScopeAfter c = λ model is.
-    let before = string_bytes c.args.declared.now.text in
-    let after = string_bytes c.push_scope.new.declared.text in
-    on_ok c.push_scope.result (c.push_scope.ensures model is)
-    (λ gains. subst (λ (p : Part). Gains (IsPartText model c.args.table c.args.row p) before after) (sym (ap shown c.in-ScopeAfter.is))
-    (gains.0, (c.scope_of.result, c.scope_of.ensures model is, gains.1), gains.2))
 
 pub returns-in-AttributeValue : goal.returns-in-AttributeValue
 returns-in-AttributeValue c = λ model is.

@@ -16,13 +16,13 @@ returns g c = λ model shown signature declares params text named none whole.
     let valid = c.holds_one.ensures.valid model shown in
     received _ took (λ s. s.writer.now)
     (λ s. (s.ended ≡ None) × (s.params.now ≡ sink.params.now) × (s.of ≡ of) × (s.writer.ghost_name ≡ sink.writer.ghost_name))
-    (λ s. s.writer.ghost_name ≡ sink.writer.ghost_name) (λ s. IsWhole s.ended) (IsDeclaredPiece model of.class of.name.now of.first of.past)
-    (λ ps. ⊤) (λ p ps fit. tt) (λ ps fit. declared_texts model valid of.class (text, named) of.name.now of.first of.past ps) (λ s kept. kept.3)
+    (λ s. s.writer.ghost_name ≡ sink.writer.ghost_name) (λ s. IsWhole s.ended) (IsDeclaredPiece g.L.Limit.scopes model of.class of.name.now of.first of.past)
+    (λ ps. ⊤) (λ p ps fit. tt) (λ ps fit. declared_texts g.L.Limit.scopes model valid of.class (text, named) of.name.now of.first of.past ps) (λ s kept. kept.3)
     (λ s p t call kept. let gave = call.0 refl in
     let read = subst (λ (d : Declared). AreParams model d.first d.past s.params.now.rows.items) (sym kept.2) (subst (λ q. AreParams model of.first of.past q.rows.items) (sym kept.1) params) in
     let did = gave.4 model (subst (λ q. g.S.ReadMetadata.shows q.source.now model) (sym kept.1) shown) read in (
       (gave.0 ∙ kept.0, gave.1 ∙ kept.1, gave.2 ∙ kept.2, gave.3 ∙ kept.3),
-      subst (λ (d : Declared). Wrote took s.writer.now (IsDeclaredPiece model d.class d.name.now d.first d.past p) t.writer.now) kept.2 did,
+      subst (λ (d : Declared). Wrote took s.writer.now (IsDeclaredPiece g.L.Limit.scopes model d.class d.name.now d.first d.past p) t.writer.now) kept.2 did,
     ))
     (λ s p t call kept done. let gave = call.1 refl done in (gave.0 ∙ kept.3, gave.1))
     (c.write_declaration.ensures.text signature declares) tt (none, refl, refl, refl) whole

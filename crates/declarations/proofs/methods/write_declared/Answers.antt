@@ -3,7 +3,7 @@ use Rattle.std.specs.Fmt.{WritesInCalls}
 use Rattle.sig_text.specs.Declares.{member_text}
 use Rattle.declarations.specs.declared.method_text.Declared.{Declared}
 use Rattle.full_names.specs.Names.{Wrote}
-use Rattle.full_names.specs.RowNames.{IsRowName}
+use Rattle.full_names.specs.RowNames.{IsRowNameBy}
 use Rattle.full_names.specs.Texts.{ArePiecesText}
 use Rattle.declarations.specs.Declarations.{AreParams, IsDeclaredPiece}
 use Rattle.full_names.proofs.PieceLemmas.{ok_then}
@@ -17,8 +17,8 @@ returns g c = λ model shown signature declares name named.
     let read = subst (λ (d : Declared). AreParams model d.first d.past sink.params.now.rows.items) (sym c.new-sink.ensures.of)
     (subst (λ q. AreParams model c.args.of.first c.args.of.past q.rows.items) (sym c.new-sink.ensures.params) (c.in_ok-params.ensures.rows model shown)) in
     ok_then c.result_of.result c.result_of.ensures (λ whole.
-    let did = c.put_declaration.ensures model held_by signature declares read name (subst (λ (d : Declared). IsRowName model d.class name) (sym c.new-sink.ensures.of) named) c.new-sink.ensures.ended whole in
-    let text = subst (λ (d : Declared). Wrote took sink.writer.now (ArePiecesText (IsDeclaredPiece model d.class d.name.now d.first d.past) (member_text signature)) c.put_declaration.new.sink.writer.now)
+    let did = c.put_declaration.ensures model held_by signature declares read name (subst (λ (d : Declared). IsRowNameBy g.L.Limit.scopes model d.class name) (sym c.new-sink.ensures.of) named) c.new-sink.ensures.ended whole in
+    let text = subst (λ (d : Declared). Wrote took sink.writer.now (ArePiecesText (IsDeclaredPiece g.L.Limit.scopes model d.class d.name.now d.first d.past) (member_text signature)) c.put_declaration.new.sink.writer.now)
     c.new-sink.ensures.of did.1 in
     let same = sym did.0 in
     let lent = c.new-sink.ensures.same in

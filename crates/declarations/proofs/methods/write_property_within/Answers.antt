@@ -6,7 +6,7 @@ use Rattle.sig_grammar.specs.Syntax.{property}
 use Rattle.sig_grammar.specs.Encodes.{Encodes}
 use Rattle.sig_text.specs.Declares.{as_method}
 use Rattle.metadata.specs.Lookups.{HasRow}
-use Rattle.declarations.specs.Declarations.{IsPropertyDeclaration}
+use Rattle.declarations.specs.Declarations.{IsPropertyDeclarationBy}
 use Rattle.full_names.proofs.PieceLemmas.{encoded_by, on_wrote}
 use Rattle.declarations.proofs.ClassNames.{type_named}
 use Rattle.declarations.proofs.methods.write_property_within.Goals as goal
@@ -21,8 +21,8 @@ returns g c = record {
       let bytes : Encodes kind.Property (property this of params) c.bytes_of.result.now = rw c.bytes_of.ensures
       (encoded_by model (c.holds_one.ensures.valid model shown) kind.Property (c.shortest_encodes.ensures kind.Property) Property c.args.row 2 there (omega arith) refl c.in_ok-bytes.bytes (c.in_ok-bytes.ensures model shown) (property this of params) is) in
       let map = c.type_of_property.ensures.sound model shown in
-      let type = type_named model (c.holds_one.ensures.valid model shown) c.type_of_property.result in
-      on_wrote g.W.Write.write_str_gives _ (IsPropertyDeclaration model c.args.row (as_method this of params)) _ _ c.write_declared.result
+      let type = type_named g.L.Limit.scopes model (c.holds_one.ensures.valid model shown) c.type_of_property.result in
+      on_wrote g.W.Write.write_str_gives _ (IsPropertyDeclarationBy g.L.Limit.scopes model c.args.row (as_method this of params)) _ _ c.write_declared.result
       (c.write_declared.ensures model shown (property this of params) (inr (inl bytes)) type.0 type.1)
       (λ text pieces. record {
         class = record { table = _; row = c.type_of_property.result };

@@ -1,9 +1,8 @@
 use Rattle.std.proofs.Common.{take}
 use Rattle.std.specs.Fmt.{WritesInCalls}
 use Rattle.declarations.specs.FlagWords.{leading_words, words_of}
-use Rattle.declarations.specs.declared.flag_words.FlagTable.TheVariants as table
 use Rattle.declarations.proofs.params.write_flags.Given as goal
 
 -- the words before this one are written
 abbrev pub invariant-loop-word : goal.invariant-loop-word
-invariant-loop-word g l = WritesInCalls g.W.Write.write_str_gives l.initial.out (leading_words l.flags (take l.word-index (words_of table.Param))) l.out
+invariant-loop-word g l = WritesInCalls g.W.Write.write_str_gives l.initial.out (leading_words l.flags (take l.word-index (words_of l.fn.of))) l.out

@@ -18,7 +18,7 @@ returns-in-MethodDef-clause-class g c = λ model shown. (
 )
 
 pub returns-in-MethodDef-clause-named : goal.returns-in-MethodDef-clause-named
-returns-in-MethodDef-clause-named g c = λ model shown. type_named model (c.holds_one.ensures.valid model shown) c.type_of_method.result
+returns-in-MethodDef-clause-named g c = λ model shown scopes. type_named scopes model (c.holds_one.ensures.valid model shown) c.type_of_method.result
 
 pub returns-in_default-clause-class : goal.returns-in_default-clause-class
 returns-in_default-clause-class g c = λ model shown. (
@@ -28,8 +28,8 @@ returns-in_default-clause-class g c = λ model shown. (
 )
 
 pub returns-in_default-clause-named : goal.returns-in_default-clause-named
-returns-in_default-clause-named g c = λ model shown.
+returns-in_default-clause-named g c = λ model shown scopes.
     let rows = c.holds_one.ensures.rows model shown MemberRef in
     let last = c.requires.last in
     let there : HasRow model MemberRef c.args.row = (c.requires.first, omega (arith, rows, last)) in
-    parent_named model (c.holds_one.ensures.valid model shown) c.args.row c.member_parent-parent.result there (c.member_parent-parent.ensures.parent model shown) c.in_default.not-MethodDef
+    parent_named scopes model (c.holds_one.ensures.valid model shown) c.args.row c.member_parent-parent.result there (c.member_parent-parent.ensures.parent model shown) c.in_default.not-MethodDef

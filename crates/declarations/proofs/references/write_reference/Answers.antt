@@ -2,7 +2,7 @@ use Rattle.std.proofs.Common.{◌≤◌, arith, subst}
 use Rattle.table_schema.specs.declared.table.TableId.{TableId}
 use Rattle.table_schema.specs.declared.table.TableId.TheVariants.{MethodDef, MemberRef}
 use Rattle.metadata.specs.Lookups.{HasRow}
-use Rattle.full_names.specs.RowNames.{IsRowName}
+use Rattle.full_names.specs.RowNames.{IsRowNameBy}
 use Rattle.full_names.proofs.PieceLemmas.{on_wrote}
 use Rattle.declarations.specs.Declarations.{IsReference, IsReferenceBy}
 use Rattle.declarations.proofs.ReferenceLemmas.{member_row, method_row, other_row}
@@ -20,17 +20,17 @@ pub returns-in-MethodDef : goal.returns-in-MethodDef
 returns-in-MethodDef g c = λ model shown.
     let rows = c.holds_one.ensures.rows model shown c.args.token.table in
     let there : HasRow model c.args.token.table c.args.token.row = (omega (arith, c.if-token-eq0.false), omega (arith, c.if-token-count.false, c.count.ensures.rows, rows)) in
-    on_wrote g.W.Write.write_str_gives (IsReferenceBy model MethodDef c.args.token.row 3 4) (IsReference model c.args.token) _ _ c.write_method_reference.result (c.write_method_reference.ensures model shown)
-    (λ text is. method_row model c.args.token text there c.in-MethodDef.is is)
+    on_wrote g.W.Write.write_str_gives (IsReferenceBy g.L.Limit.scopes model MethodDef c.args.token.row 3 4) (IsReference g.L.Limit.scopes model c.args.token) _ _ c.write_method_reference.result (c.write_method_reference.ensures model shown)
+    (λ text is. method_row g.L.Limit.scopes model c.args.token text there c.in-MethodDef.is is)
 
 pub returns-in-MemberRef : goal.returns-in-MemberRef
 returns-in-MemberRef g c = λ model shown.
     let rows = c.holds_one.ensures.rows model shown c.args.token.table in
     let there : HasRow model c.args.token.table c.args.token.row = (omega (arith, c.if-token-eq0.false), omega (arith, c.if-token-count.false, c.count.ensures.rows, rows)) in
-    on_wrote g.W.Write.write_str_gives (IsReferenceBy model MemberRef c.args.token.row 1 2) (IsReference model c.args.token) _ _ c.write_member_reference.result (c.write_member_reference.ensures model shown)
-    (λ text is. member_row model c.args.token text there c.in-MemberRef.is is)
+    on_wrote g.W.Write.write_str_gives (IsReferenceBy g.L.Limit.scopes model MemberRef c.args.token.row 1 2) (IsReference g.L.Limit.scopes model c.args.token) _ _ c.write_member_reference.result (c.write_member_reference.ensures model shown)
+    (λ text is. member_row g.L.Limit.scopes model c.args.token text there c.in-MemberRef.is is)
 
 pub returns-in_default : goal.returns-in_default
 returns-in_default g c = λ model shown.
-    on_wrote g.W.Write.write_str_gives (IsRowName model c.args.token) (IsReference model c.args.token) _ _ c.write_row_name-in_default.result (c.write_row_name-in_default.ensures model shown)
-    (λ text is. other_row model c.args.token text c.in_default.not-MethodDef c.in_default.not-MemberRef is)
+    on_wrote g.W.Write.write_str_gives (IsRowNameBy g.L.Limit.scopes model c.args.token) (IsReference g.L.Limit.scopes model c.args.token) _ _ c.write_row_name-in_default.result (c.write_row_name-in_default.ensures model shown)
+    (λ text is. other_row g.L.Limit.scopes model c.args.token text c.in_default.not-MethodDef c.in_default.not-MemberRef is)

@@ -1,6 +1,6 @@
 use Rattle.std.proofs.Common.{◌≡◌, None, refl, sym, ◌∙◌, subst}
 use Rattle.full_names.specs.TextEnd.{IsWhole}
-use Rattle.full_names.specs.Texts.{IsFullName, IsPieceText}
+use Rattle.full_names.specs.Texts.{IsFullNameBy, IsPieceText}
 use Rattle.full_names.proofs.NameExists.{any_name, pieces_text}
 use Rattle.full_names.proofs.PlainPieces.{ArePlain, text_is_plain}
 use Rattle.full_names.proofs.SinkLemmas.{received}
@@ -11,8 +11,8 @@ returns g c = λ model shown signature encodes none whole.
     let sink = c.args.sink.now in
     let valid = c.holds_one.ensures.valid model shown in
     received _ g.W.Write.write_str_gives (λ s. s.writer.now) (λ s. (s.ended ≡ None) × (s.source.now ≡ sink.source.now) × (s.writer.ghost_name ≡ sink.writer.ghost_name))
-    (λ s. s.writer.ghost_name ≡ sink.writer.ghost_name) (λ s. IsWhole s.ended) (IsPieceText (IsFullName model)) ArePlain (λ p ps fit. fit.1)
-    (pieces_text model valid (IsFullName model) (any_name model valid)) (λ s kept. kept.2)
+    (λ s. s.writer.ghost_name ≡ sink.writer.ghost_name) (λ s. IsWhole s.ended) (IsPieceText (IsFullNameBy g.L.Limit.scopes model)) ArePlain (λ p ps fit. fit.1)
+    (pieces_text model valid (IsFullNameBy g.L.Limit.scopes model) (any_name model valid g.L.Limit.scopes)) (λ s kept. kept.2)
     (λ s p t call kept. let gave = call.0 refl in ((gave.0 ∙ kept.0, gave.1 ∙ kept.1, gave.2 ∙ kept.2), gave.3 model (subst (λ x. g.S.ReadMetadata.shows x model) (sym kept.1) shown)))
     (λ s p t call kept done. let gave = call.1 refl done in (gave.0 ∙ kept.2, gave.1))
     (c.write_encoded.ensures.text signature encodes) (text_is_plain signature) (none, refl, refl) whole

@@ -20,13 +20,13 @@ pub returns-in-MethodDef : goal.returns-in-MethodDef
 returns-in-MethodDef g c = λ model shown.
     let parent = c.member_parent-parent.result in
     let own = c.text-name.result.now in
-    on_wrote g.W.Write.write_str_gives (IsMemberName model c.type_token-class.result own) (IsNameIn model MemberRef c.args.row) _ _ c.write_member_name.result (c.write_member_name.ensures model shown)
+    on_wrote g.W.Write.write_str_gives (IsMemberName g.L.Limit.scopes model c.type_token-class.result own) (IsNameIn g.L.Limit.scopes model MemberRef c.args.row) _ _ c.write_member_name.result (c.write_member_name.ensures model shown)
     (λ text is. (
       parent,
       c.member_parent-parent.ensures.parent model shown,
       own,
       c.text-name.ensures model shown,
-      subst (λ (t : TableId). IsNameUnder model t parent.row own text) (sym c.in-MethodDef.is)
+      subst (λ (t : TableId). IsNameUnder g.L.Limit.scopes model t parent.row own text) (sym c.in-MethodDef.is)
           (c.type_token-class.result, (c.type_of_method.result, c.type_of_method.ensures.sound model shown, c.type_token-class.ensures), is),
     ))
 
@@ -42,7 +42,7 @@ returns-in_ok-write_global_name-in-ModuleRef g c = λ model shown.
         c.member_parent-parent.ensures.parent model shown,
         own,
         c.text-name.ensures model shown,
-        subst (λ (t : TableId). IsNameUnder model t parent.row own text) (sym c.in-ModuleRef.is) (module_name, (c.text-module.result.now, c.text-module.ensures model shown, refl), refl),
+        subst (λ (t : TableId). IsNameUnder g.L.Limit.scopes model t parent.row own text) (sym c.in-ModuleRef.is) (module_name, (c.text-module.result.now, c.text-module.ensures model shown, refl), refl),
       ),
       c.in_ok-write_global_name-in-ModuleRef.ensures,
     )
@@ -51,5 +51,5 @@ pub returns-in_default : goal.returns-in_default
 returns-in_default g c = λ model shown.
     let parent = c.member_parent-parent.result in
     let own = c.text-name.result.now in
-    on_wrote g.W.Write.write_str_gives (IsMemberName model parent own) (IsNameIn model MemberRef c.args.row) _ _ c.write_member_name-in_default.result (c.write_member_name-in_default.ensures model shown)
-    (λ text is. (parent, c.member_parent-parent.ensures.parent model shown, own, c.text-name.ensures model shown, named_under model parent.table parent.row own text c.in_default.not-MethodDef c.in_default.not-ModuleRef is))
+    on_wrote g.W.Write.write_str_gives (IsMemberName g.L.Limit.scopes model parent own) (IsNameIn g.L.Limit.scopes model MemberRef c.args.row) _ _ c.write_member_name-in_default.result (c.write_member_name-in_default.ensures model shown)
+    (λ text is. (parent, c.member_parent-parent.ensures.parent model shown, own, c.text-name.ensures model shown, named_under g.L.Limit.scopes model parent.table parent.row own text c.in_default.not-MethodDef c.in_default.not-ModuleRef is))

@@ -20,4 +20,4 @@ returns g c = λ model shown signature is.
     ok_then c.result_of.result c.result_of.ensures (λ whole.
     let both = c.put_type_spec.ensures model shown signature bytes refl whole in
     let same = sym both.0 in
-    subst (Wrote g.W.Write.write_str_gives c.args.out.now (IsTypeSpecText model signature)) (search rules) both.1)
+    subst (Wrote g.W.Write.write_str_gives c.args.out.now (IsTypeSpecText g.L.Limit.scopes model signature)) (search rules) both.1)

@@ -1,0 +1,8 @@
+use Rattle.std.proofs.Common.{◌<◌, subst, sym}
+use Rattle.table_schema.specs.CellColumns.{cell_count}
+use Rattle.table_schema.specs.declared.table.TableId.{TableId}
+use Rattle.type_heads.proofs.HeadLemmas.{second_cell}
+use Rattle.type_heads.proofs.heads.reference.Goals as goal
+
+pub cell-requires-clause-column : goal.cell-requires-clause-column
+cell-requires-clause-column c = subst (λ (t : TableId). 1 < cell_count t) (sym c.table.ensures) (second_cell c.args.link)

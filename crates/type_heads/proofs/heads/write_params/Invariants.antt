@@ -1,0 +1,19 @@
+use denote.Shadow.{shadow}
+use denote.Text.{Utf8}
+use Rattle.std.proofs.Common.{[], map}
+use Rattle.metadata.specs.Metadata.{Metadata}
+use Rattle.metadata.specs.Model.{IsModel}
+use Rattle.full_names.specs.Names.{Wrote}
+use Rattle.navigation.specs.Keyed.{row_of}
+use Rattle.type_heads.specs.Heads.{AreListed, IsGenericParam}
+use Rattle.type_heads.proofs.HeadLemmas.{WroteFrom}
+use Rattle.type_heads.proofs.heads.write_params.Given as goal
+
+-- the rows that are left complete the rows
+abbrev pub invariant-loop-found : goal.invariant-loop-found
+invariant-loop-found g l = record {
+  utf8 : shadow (Utf8 l.before);
+  left : (model : Metadata) (later : _) → IsModel l.source.view.now model
+      → WroteFrom g.W.Write.write_str_gives (IsGenericParam g.L.Limit.scopes model) l.rows l.found-index l.before l.out later
+      → Wrote g.W.Write.write_str_gives l.initial.out (AreListed (IsGenericParam g.L.Limit.scopes model) [] (map row_of l.rows)) later;
+}
