@@ -38,7 +38,7 @@ _clim() {
             case ${COMP_WORDS[1]} in root | info | check | show | types | outline | refs | resources | strings | token | where | digest | compare) flags="$flags --json" ;; esac
             if [ "${COMP_WORDS[1]}" = show ]; then flags="$flags --names --until-fault"; fi
             if [ "${COMP_WORDS[1]}" = root ]; then flags="$flags --until-fault"; fi
-            if [ "${COMP_WORDS[1]}" = outline ]; then flags="$flags --no-tokens --public"; fi
+            if [ "${COMP_WORDS[1]}" = outline ]; then flags="$flags --no-tokens --public --sorted"; fi
             if [ "${COMP_WORDS[1]}" = compare ]; then flags="$flags --quiet --ignore"; fi
             # The budget is a number, and a column a name.
             case ${COMP_WORDS[COMP_CWORD-1]} in

@@ -48,6 +48,7 @@ complete -c clim -n "__fish_seen_subcommand_from check" -s q -l quiet -d 'Print 
 complete -c clim -n "__fish_seen_subcommand_from compare" -s q -l quiet -d 'Print nothing; the exit status is the answer'
 complete -c clim -n "__fish_seen_subcommand_from outline" -l no-tokens -d 'Leave the comment with the token away'
 complete -c clim -n "__fish_seen_subcommand_from outline" -l public -d 'Print only what is visible outside of the assembly'
+complete -c clim -n "__fish_seen_subcommand_from outline" -l sorted -d 'Print in the order of names, not of rows'
 complete -c clim -n "__fish_seen_subcommand_from root" -l until-fault -d 'Print what can be read before a fault, then the fault'
 complete -c clim -n "__fish_seen_subcommand_from check" -l where -d 'Print what contains the byte at a fault; explain it'
 complete -c clim -n "__fish_seen_subcommand_from show" -a "(__clim_columns | string replace -r '\\..*' '' | uniq)" -d 'Table'

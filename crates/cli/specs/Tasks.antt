@@ -26,10 +26,12 @@ use Rattle.cli_lines.specs.declared.parts.Form.TheVariants.{JsonLines, Text}
 use Rattle.cli_outline.specs.declared.source.OutlineOptions.{OutlineOptions}
 use Rattle.cli_outline.specs.declared.source.Rows.{Rows}
 use Rattle.cli_outline.specs.declared.source.Rows.TheVariants as shown
+use Rattle.cli_outline.specs.declared.source.Sorting.{Sorting}
+use Rattle.cli_outline.specs.declared.source.Sorting.TheVariants as sorting
 use Rattle.cli_outline.specs.declared.source.Tokens.{Tokens}
 use Rattle.cli_outline.specs.declared.source.Tokens.TheVariants as tokens
-use Rattle.cli_outline.specs.declared.subject.Subject.{Subject}
-use Rattle.cli_outline.specs.declared.subject.Subject.TheVariants as subject
+use Rattle.cli_paths.specs.declared.subject.Subject.{Subject}
+use Rattle.cli_paths.specs.declared.subject.Subject.TheVariants as subject
 use Rattle.cli_roots.specs.declared.compare.Output.{Output}
 use Rattle.cli_roots.specs.declared.compare.Output.TheVariants.{Lines, Quiet as Silent}
 use Rattle.cli_runs.specs.declared.listed.Separator.{Separator}
@@ -188,7 +190,7 @@ abbrev pub NamesType : List ℕ → Subject → Type 0
 NamesType word (subject.Row row) = IsTypeToken (digits_of word) × (row ≡ digits_value 16 (digits_of word) % 2 ^ 24)
 NamesType word (subject.Path path) = (¬ IsTypeToken (digits_of word)) × (path.now ≡ word)
 
--- what an outline shows, by whether the arguments have `--no-tokens`, and whether they have `--public`
+-- what an outline shows, by whether the arguments have `--no-tokens`, `--public` and `--sorted`
 abbrev pub tokens_of : Bool → Tokens
 tokens_of true = tokens.Hidden
 tokens_of false = tokens.Shown
@@ -197,8 +199,12 @@ abbrev pub shown_of : Bool → Rows
 shown_of true = shown.Visible
 shown_of false = shown.All
 
-abbrev pub options_of : Bool → Bool → OutlineOptions
-options_of no_tokens public = record { tokens = tokens_of no_tokens; rows = shown_of public }
+abbrev pub sorting_of : Bool → Sorting
+sorting_of true = sorting.ByName
+sorting_of false = sorting.ByRow
+
+abbrev pub options_of : Bool → Bool → Bool → OutlineOptions
+options_of no_tokens public sorted = record { tokens = tokens_of no_tokens; rows = shown_of public; sorting = sorting_of sorted }
 
 -- the report of `outline`: that of the type that the argument names, or of all if there is none
 abbrev pub IsOutline : OutlineOptions → Option (Bor (List ℕ)) → Report → Type 0
@@ -330,7 +336,7 @@ IsTask word.Info ask result = result ≡ report_task ask (Ok report.Info)
 IsTask word.Check ask result = result ≡ report_task ask (Ok (report.Check (verdict_of ask.quiet ask.locates)))
 IsTask word.Show ask result = IsReportTask ask (IsShow ask) result
 IsTask word.Types ask result = result ≡ report_task ask (Ok (report.Listing listing.Types))
-IsTask word.Outline ask result = IsReportTask ask (λ made. IsOkAnd made (IsOutline (options_of ask.no_tokens ask.public) ask.part)) result
+IsTask word.Outline ask result = IsReportTask ask (λ made. IsOkAnd made (IsOutline (options_of ask.no_tokens ask.public ask.sorted) ask.part)) result
 IsTask word.Refs ask result = result ≡ report_task ask (Ok (report.Listing listing.Refs))
 IsTask word.Resources ask result = result ≡ resources_task ask
 IsTask word.Strings ask result = result ≡ report_task ask (Ok report.Strings)

@@ -10,7 +10,7 @@ use cli_input::Input;
 use cli_lines::Form;
 use cli_names::{code_of, offset_of, table_of, token_of, type_row_of};
 use cli_nearest::{nearest_code, nearest_column, nearest_table};
-use cli_outline::{OutlineOptions, Rows, Subject, Tokens};
+use cli_outline::{OutlineOptions, Rows, Sorting, Subject, Tokens};
 use cli_roots::{CompareOptions, EmbedOptions, Output};
 use cli_runs::{Directories, Listing, Naming, Report, Request, Separator, Verdict};
 use embedding::StrongName;
@@ -256,7 +256,7 @@ fn table_named<'a>(alloc: Global, part: Option<&'a str>) -> Result<Option<TableI
 
 /// What an outline shows.
 fn options_of(ask: &Ask<'_>) -> OutlineOptions
-    ensures { result ≡ options_of ask.now.no_tokens ask.now.public }
+    ensures { result ≡ options_of ask.now.no_tokens ask.now.public ask.now.sorted }
 {
     let tokens = if ask.no_tokens {
         Tokens::Hidden
@@ -264,7 +264,16 @@ fn options_of(ask: &Ask<'_>) -> OutlineOptions
         Tokens::Shown
     };
     let rows = if ask.public { Rows::Visible } else { Rows::All };
-    OutlineOptions { tokens, rows }
+    let sorting = if ask.sorted {
+        Sorting::ByName
+    } else {
+        Sorting::ByRow
+    };
+    OutlineOptions {
+        tokens,
+        rows,
+        sorting,
+    }
 }
 
 /// The report of `outline`: the type that the argument names, or all if there is no argument.

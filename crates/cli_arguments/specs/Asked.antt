@@ -91,3 +91,4 @@ pub record Gives (words : List Text) (ask : Ask) : Type 0 where
   pub extract : option_map (λ word. word.now) ask.extract ≡ first_of (codes "extract") rows
   pub no_tokens : IsTrue ask.no_tokens ↔ (one_of (codes "no-tokens") rows ≡ Some (codes "true"))
   pub public : IsTrue ask.public ↔ (one_of (codes "public") rows ≡ Some (codes "true"))
+  pub sorted : IsTrue ask.sorted ↔ (one_of (codes "sorted") rows ≡ Some (codes "true"))

@@ -136,8 +136,8 @@ rules_of Check = files ∷ bare ∷ budget ∷ files_from ∷ null ∷ recursive
 rules_of Show = files ∷ bare ∷ budget ∷ files_from ∷ null ∷ recursive ∷ json ∷ flag (codes "names") ∷ until_fault ∷ []
 -- `types [--bare] [--budget N] [--files-from LIST] [-0] [-r] [--json] [FILE]..`
 rules_of Types = files ∷ bare ∷ budget ∷ files_from ∷ null ∷ recursive ∷ json ∷ []
--- `outline [--bare] [--budget N] [--files-from LIST] [-0] [-r] [--json] [--no-tokens] [--public] [FILE].. [NAME]`
-rules_of Outline = files ∷ bare ∷ budget ∷ files_from ∷ null ∷ recursive ∷ json ∷ flag (codes "no-tokens") ∷ flag (codes "public") ∷ []
+-- `outline [--bare] [--budget N] [--files-from LIST] [-0] [-r] [--json] [--no-tokens] [--public] [--sorted] [FILE].. [NAME]`
+rules_of Outline = files ∷ bare ∷ budget ∷ files_from ∷ null ∷ recursive ∷ json ∷ flag (codes "no-tokens") ∷ flag (codes "public") ∷ flag (codes "sorted") ∷ []
 -- `refs [--bare] [--budget N] [--files-from LIST] [-0] [-r] [--json] [FILE]..`
 rules_of Refs = files ∷ bare ∷ budget ∷ files_from ∷ null ∷ recursive ∷ json ∷ []
 -- `resources [--budget N] [--files-from LIST] [-0] [-r] [--json] [--extract NAME] [FILE]..`

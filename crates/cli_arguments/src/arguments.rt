@@ -81,6 +81,7 @@ fn asked<'a>(
         extract: given.get_str("extract"),
         no_tokens: flag(given, "no-tokens"),
         public: flag(given, "public"),
+        sorted: flag(given, "sorted"),
     })
 }
 

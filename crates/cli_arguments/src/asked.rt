@@ -53,6 +53,8 @@ pub struct Ask<'a> {
     pub no_tokens: bool,
     /// Whether `outline` leaves out what is not visible outside of the assembly.
     pub public: bool,
+    /// Whether `outline` prints in the order of names.
+    pub sorted: bool,
 }
 
 /// The subcommands of the program.

@@ -81,6 +81,26 @@ module _ (model : Metadata) (of : MemberList) (row first past : ℕ) (from : 1 �
       (λ all. let end = run.last (omega (arith, all, within)) in omega (arith, end))
       (cases_lt row (count_in model (owner_of of)))
 
+  -- it ends where it begins, or later
+  pub run_rises : IsValid model → first ≤ past
+  run_rises valid =
+      let start = ap start_in run.start in
+      ⊎_elim
+      (λ (more : row < count_in model (owner_of of)).
+      let step = (owners model valid of).rising (row + 1) (omega (arith, from)) (omega (arith, more)) in
+      let same : row + 1 - 1 ≡ row = omega arith in
+      let P : ℕ → Type 0 = λ r. start_in (cell_in model (owner_of of) r (cell_of of)) ≤ start_in (cell_in model (owner_of of) (row + 1) (cell_of of)) in
+      let up = subst P same step in
+      let next = ap start_in (run.next more) in
+      omega (arith, start, next, up))
+      (λ all.
+      let members = subst (λ (k : ColumnKind). IsWithinMembers model k (cell_in model (owner_of of) row (cell_of of))) (kind_is of)
+      (valid.cells (owner_of of) row (cell_of of) (from, within) (cell_is of)).within in
+      let there = subst (λ (c : Cell). IsWithinMembers model (kind.List (member_of of)) c) run.start members in
+      let end = run.last (omega (arith, all, within)) in
+      omega (arith, end, there))
+      (cases_lt row (count_in model (owner_of of)))
+
   pub run_begins : first ≡ run_start model of row
   run_begins =
       sym (ap (λ t. cond t (start_in (cell_in model (owner_of of) row (cell_of of))) (count_in model (member_of of) + 1)) (le-leb row (count_in model (owner_of of)) within)
@@ -104,3 +124,10 @@ is_member model list.Methods types class row first past there run from to =
 is_member model list.Params types class row first past there run from to = absurd cc
 is_member model list.Events types class row first past there run from to = absurd cc
 is_member model list.Properties types class row first past there run from to = absurd cc
+
+module _ (model : Metadata) (of : MemberList) (valid : IsValid model) where
+  -- the members of the first owner begin at the first row
+  pub run_first : 1 ≤ count_in model (owner_of of) → run_start model of 1 ≡ 1
+  run_first some =
+      let first = (owners model valid of).first (λ none. let no : count_in model (owner_of of) ≡ 0 = none in absurd (omega (arith, no, some))) in
+      ap (λ t. cond t (start_in (cell_in model (owner_of of) 1 (cell_of of))) (count_in model (member_of of) + 1)) (le-leb 1 (count_in model (owner_of of)) some) ∙ first

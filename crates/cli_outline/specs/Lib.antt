@@ -1,7 +1,7 @@
 pub mod Declarations
 pub mod Describing
+pub mod Orders
 pub mod Outline
 pub mod Printed
-pub mod Paths
 pub mod Shown
 pub mod Subjects

@@ -16,6 +16,14 @@ use Rattle.cli_outline.specs.declared.mapped.Mapped.{Mapped}
 use Rattle.cli_outline.specs.declared.mapped.Mapped.TheVariants.{Events, Properties}
 use Rattle.cli_declarations.specs.Parts.{token_at}
 
+-- the row at each position of each table, in an order of the rows
+abbrev pub Order : Type 0
+Order = TableId → ℕ → ℕ
+
+-- that of the rows themselves
+abbrev pub by_row : Order
+by_row table row = row
+
 -- the rows for each number from one on and before another
 unfoldable pub each_from : (ℕ → List Token) → ℕ → ℕ → List Token
 each_from rows first past = flat_map rows (range_with_len first (past - first))
@@ -24,9 +32,13 @@ each_from rows first past = flat_map rows (range_with_len first (past - first))
 abbrev pub row_of : TableId → ℕ → List Token
 row_of table row = token_at table row ∷ []
 
+-- the row at a position of an order, alone; positions begin at one
+abbrev pub row_by : Order → TableId → ℕ → List Token
+row_by order table position = row_of table (order table position)
+
 -- all rows of a table
-abbrev pub all_rows : Metadata → TableId → List Token
-all_rows model table = each_from (row_of table) 1 (count_in model table + 1)
+abbrev pub all_rows : Order → Metadata → TableId → List Token
+all_rows order model table = each_from (row_by order table) 1 (count_in model table + 1)
 
 -- the first member of an owner; after the last owner, one more than the last member
 abbrev pub run_start : Metadata → MemberList → ℕ → ℕ
@@ -38,8 +50,8 @@ abbrev pub each_member : Metadata → MemberList → (ℕ → List Token) → �
 each_member model list rows owner = each_from rows (run_start model list owner) (run_start model list (owner + 1))
 
 -- the members of a type
-abbrev pub members : Metadata → MemberList → ℕ → List Token
-members model list class = each_member model list (row_of (member_of list)) class
+abbrev pub members : Order → Metadata → MemberList → ℕ → List Token
+members order model list class = each_member model list (row_by order (member_of list)) class
 
 -- ---- events and properties
 
@@ -60,20 +72,27 @@ unfoldable pub accessed_rows : Metadata → Mapped → ℕ → List Token
 accessed_rows model of row =
     token_at (table_of of) row ∷ flat_map (row_of MethodSemantics) (linked model linked_by.Accessors (token_at (table_of of) row))
 
+abbrev pub accessed_by : Order → Metadata → Mapped → ℕ → List Token
+accessed_by order model of position = accessed_rows model of (order (table_of of) position)
+
 -- the events or the properties of a row of EventMap or PropertyMap
-abbrev pub mapped_rows : Metadata → Mapped → ℕ → List Token
-mapped_rows model of row = each_member model (list_of of) (accessed_rows model of) row
+abbrev pub mapped_rows : Order → Metadata → Mapped → ℕ → List Token
+mapped_rows order model of row = each_member model (list_of of) (accessed_by order model of) row
 
 -- the events or the properties of a type: those of each row of the map that refers to it, wherever it stands
-unfoldable pub type_rows : Metadata → Mapped → ℕ → List Token
-type_rows model of class = flat_map (mapped_rows model of) (linked model (link_of of) (token_at TypeDef class))
+unfoldable pub type_rows : Order → Metadata → Mapped → ℕ → List Token
+type_rows order model of class = flat_map (mapped_rows order model of) (linked model (link_of of) (token_at TypeDef class))
 
 -- ---- the whole
 
 -- a type, its fields, its methods, its events and its properties
-unfoldable pub class_rows : Metadata → ℕ → List Token
-class_rows model row =
-    token_at TypeDef row ∷ (members model list.Fields row ++ (members model list.Methods row ++ (type_rows model Events row ++ type_rows model Properties row)))
+unfoldable pub class_rows : Order → Metadata → ℕ → List Token
+class_rows order model row =
+    token_at TypeDef row
+    ∷ (members order model list.Fields row ++ (members order model list.Methods row ++ (type_rows order model Events row ++ type_rows order model Properties row)))
+
+abbrev pub class_by : Order → Metadata → ℕ → List Token
+class_by order model position = class_rows order model (order TypeDef position)
 
 -- the tables whose rows come before the types
 unfoldable pub first_tables : List TableId
@@ -84,10 +103,10 @@ unfoldable pub last_tables : List TableId
 last_tables = Param ∷ InterfaceImpl ∷ GenericParam ∷ GenericParamConstraint ∷ MethodImpl ∷ ImplMap ∷ DeclSecurity ∷ CustomAttribute ∷ []
 
 -- the rows that have a line, in the order of the lines
-unfoldable pub outline_rows : Metadata → List Token
-outline_rows model =
-    flat_map (all_rows model) first_tables
-    ++ (each_from (class_rows model) 1 (count_in model TypeDef + 1) ++ flat_map (all_rows model) last_tables)
+unfoldable pub outline_rows : Order → Metadata → List Token
+outline_rows order model =
+    flat_map (all_rows order model) first_tables
+    ++ (each_from (class_by order model) 1 (count_in model TypeDef + 1) ++ flat_map (all_rows order model) last_tables)
 
 -- ---- references to other modules
 
@@ -97,4 +116,4 @@ ref_tables = ModuleRef ∷ TypeRef ∷ MemberRef ∷ []
 
 -- their rows, by table and row
 abbrev pub refs_rows : Metadata → List Token
-refs_rows model = flat_map (all_rows model) ref_tables
+refs_rows model = flat_map (all_rows by_row model) ref_tables

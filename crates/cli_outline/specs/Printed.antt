@@ -1,5 +1,5 @@
 -- What a printer was asked to print of the outline.
-use Rattle.std.specs.Prelude.{◌≡◌, ℕ, List, [], ◌∷◌, ◌++◌, Option, IsSome}
+use Rattle.std.specs.Prelude.{◌≡◌, ◌⊎◌, ℕ, List, [], ◌∷◌, ◌++◌, Option, None, IsSome}
 use Rattle.table_schema.specs.declared.token.Token.{Token}
 use Rattle.metadata.specs.Metadata.{Metadata}
 use Rattle.full_names.specs.RowNames.{IsMemberOf}
@@ -31,3 +31,7 @@ module _ {W : Type 0} where
     pub are : AreLines options model first lines
     pub printed : Prints old new lines
     pub all : IsSome new.waiting → later ≡ []
+
+  -- so were those of some rows that this is true of; or memory ran out before
+  abbrev pub PrintsSome : OutlineOptions → Metadata → (List Token → Type 0) → Printed W → Printed W → Type 0
+  PrintsSome options model Are old new = ((rows : List Token) × Are rows × PrintsRows options model old new rows) ⊎ ((new.waiting ≡ None) × Prints old new [])

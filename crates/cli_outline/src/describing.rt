@@ -5,6 +5,7 @@ ghost use Rattle.metadata.specs.Metadata.{Metadata};
 ghost use Rattle.metadata.specs.Model.{IsModel};
 ghost use Rattle.opening.specs.Views.{row_count};
 ghost use Rattle.cli_outline.specs.Describing.{PrintsDescribing};
+ghost use Rattle.cli_outline.specs.Orders.{row_in};
 ghost use Rattle.cli_outline.specs.Outline.{all_rows};
 
 use crate::laws::{descriptions_follow, rows_follow};
@@ -42,10 +43,11 @@ fn print_describing_in<W: Write>(
     declared: &mut Declared,
     out: &mut Printer<'_, W>,
 )
-    ensures { (model : Metadata) → IsModel source.now.neighbours.view.now model → PrintsDescribing source.now.options model class out.old out.new (all_rows model table) }
+    ensures { (model : Metadata) → IsModel source.now.neighbours.view.now model → PrintsDescribing source.now.options model class out.old out.new (all_rows (row_in source.now.orders.items) model table) }
 {
     descriptions_follow::<W>();
-    for row in 1..source.neighbours.view.count(table) + 1 {
+    for position in 1..source.neighbours.view.count(table) + 1 {
+        let row = source.row_at(table, position);
         print_if_describing(source, class, Token { table, row }, declared, out);
     }
 }
@@ -58,7 +60,7 @@ pub(crate) fn print_describing<W: Write>(
     declared: &mut Declared,
     out: &mut Printer<'_, W>,
 )
-    ensures { (model : Metadata) → IsModel source.now.neighbours.view.now model → PrintsDescribing source.now.options model class out.old out.new (flat_map (all_rows model) tables.now) }
+    ensures { (model : Metadata) → IsModel source.now.neighbours.view.now model → PrintsDescribing source.now.options model class out.old out.new (flat_map (all_rows (row_in source.now.orders.items) model) tables.now) }
 {
     descriptions_follow::<W>();
     for table in tables {

@@ -2,13 +2,13 @@
 //!
 //! [`print_outline`] prints the outline of a view, [`print_outline_of`] that of one type, and [`print_refs`] what a view
 //! refers to in other modules. [`OutlineOptions`] says what is shown. `specs/Outline.antt` says which
-//! rows can have a line, and in which order, and `specs/Shown.antt` which of them have one. `specs/Layouts.antt` says what the declaration of a row is, as a list of parts,
+//! rows can have a line, `specs/Orders.antt` in which order, and `specs/Shown.antt` which of them have one. `specs/Layouts.antt` says what the declaration of a row is, as a list of parts,
 //! `specs/Parts.antt` what the text of a part is, and `specs/Declarations.antt` what the line of a declaration is. It is
 //! proved that these lines are printed and nothing else.
 //!
 //! ```text
 //! .assembly Hello { .hash algorithm 0x00008004 .ver 1:0:0:0 }  // 20000001
-//! .class public auto ansi beforefieldinit Hello.Greeter extends System.Object  // 02000002
+//! .class public auto ansi beforefieldinit Hello.Greeter extends [mscorlib]System.Object  // 02000002
 //!   .field private string Hello.Greeter::name  // 04000001
 //!   .method public hidebysig instance string Hello.Greeter::Greet(int32 times) cil managed  // 06000001
 //! {"token":"06000001","type":"02000002","directive":".method","text":".method public .."} // the same as JSON
@@ -19,11 +19,12 @@ mod describing;
 mod laws;
 mod line;
 mod mapped;
+mod orders;
+mod outcome;
 mod outline;
-mod path;
 mod source;
-mod subject;
 
+pub use cli_paths::Subject;
+pub use outcome::Outcome;
 pub use outline::{print_outline, print_outline_of, print_refs};
-pub use source::{OutlineOptions, Rows, Tokens};
-pub use subject::{Outcome, Subject};
+pub use source::{OutlineOptions, Rows, Sorting, Tokens};

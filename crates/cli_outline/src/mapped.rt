@@ -4,7 +4,8 @@ ghost use Rattle.metadata.specs.Metadata.{Metadata};
 ghost use Rattle.metadata.specs.Model.{IsModel};
 ghost use Rattle.metadata_source.specs.MemberLists.{owner_of};
 ghost use Rattle.opening.specs.Views.{row_count};
-ghost use Rattle.cli_outline.specs.Outline.{accessed_rows, each_from, list_of, mapped_rows, table_of, type_rows};
+ghost use Rattle.cli_outline.specs.Outline.{accessed_by, accessed_rows, each_from, list_of, mapped_rows, table_of, type_rows};
+ghost use Rattle.cli_outline.specs.Orders.{row_in};
 ghost use Rattle.cli_outline.specs.Printed.{PrintsRows};
 
 use crate::laws::{ranges_follow, rows_follow};
@@ -92,7 +93,7 @@ fn print_accessed<W: Write>(
     }
 }
 
-/// Prints the lines of some events or properties, in ascending order, each with its accessors.
+/// Prints the lines of the events or properties at some positions, each with its accessors.
 fn print_all_accessed<W: Write>(
     source: &Source<'_, '_>,
     of: Mapped,
@@ -102,13 +103,15 @@ fn print_all_accessed<W: Write>(
 )
     requires first { 1 ≤ rows.start }
     requires last { rows.«end» ≤ row_count source.now.neighbours.view.now (table_of of) + 1 }
-    ensures { (model : Metadata) → IsModel source.now.neighbours.view.now model → PrintsRows source.now.options model out.old out.new (each_from (accessed_rows model of) rows.start rows.«end») }
+    ensures { (model : Metadata) → IsModel source.now.neighbours.view.now model → PrintsRows source.now.options model out.old out.new (each_from (accessed_by (row_in source.now.orders.items) model of) rows.start rows.«end») }
 {
+    let table = of.list().member();
     // The table has at most 0xFFFFFF rows.
-    let _count = source.neighbours.view.count(of.list().member());
+    let _count = source.neighbours.view.count(table);
     ranges_follow::<W>();
     let (first, past) = (rows.start, rows.end);
-    for row in first..past {
+    for position in first..past {
+        let row = source.row_at(table, position);
         print_accessed(source, of, row, declared, out);
     }
 }
@@ -126,7 +129,7 @@ fn print_map<W: Write>(
     requires last { map ≤ row_count cells.old (owner_of (list_of of)) }
     requires at { cells.old ≡ source.now.neighbours.view.now }
     ensures same { cells.new ≡ cells.old }
-    ensures lines { (model : Metadata) → IsModel source.now.neighbours.view.now model → PrintsRows source.now.options model out.old out.new (mapped_rows model of map) }
+    ensures lines { (model : Metadata) → IsModel source.now.neighbours.view.now model → PrintsRows source.now.options model out.old out.new (mapped_rows (row_in source.now.orders.items) model of map) }
 {
     let rows = run_of(cells, of.list(), map);
     print_all_accessed(source, of, rows, declared, out);
@@ -143,7 +146,7 @@ pub(crate) fn print_mapped<W: Write>(
 )
     requires at { cells.old ≡ source.now.neighbours.view.now }
     ensures same { cells.new ≡ cells.old }
-    ensures lines { (model : Metadata) → IsModel source.now.neighbours.view.now model → PrintsRows source.now.options model out.old out.new (type_rows model of class) }
+    ensures lines { (model : Metadata) → IsModel source.now.neighbours.view.now model → PrintsRows source.now.options model out.old out.new (type_rows (row_in source.now.orders.items) model of class) }
 {
     rows_follow::<W>();
     let maps = source.neighbours.linked(of.link(), class);

@@ -10,18 +10,20 @@ ghost use Rattle.metadata_source.specs.MemberLists.{cell_of, member_of, owner_of
 ghost use Rattle.full_names.specs.RowNames.{IsMemberOf};
 ghost use Rattle.opening.specs.Views.{row_count};
 ghost use Rattle.cli_outline.specs.Describing.{PrintsType};
-ghost use Rattle.cli_outline.specs.Outline.{all_rows, class_rows, each_from, first_tables, last_tables, members, outline_rows, ref_tables, refs_rows, row_of, run_start};
-ghost use Rattle.cli_outline.specs.Printed.{PrintsRows};
+ghost use Rattle.cli_outline.specs.Outline.{all_rows, class_by, class_rows, each_from, first_tables, last_tables, members, outline_rows, ref_tables, refs_rows, row_by, row_of, run_start};
+ghost use Rattle.cli_outline.specs.Orders.{AreOutlineRows, row_in};
+ghost use Rattle.cli_outline.specs.Printed.{PrintsRows, PrintsSome};
 ghost use Rattle.cli_outline.specs.Subjects.{PrintsNone, PrintsSubject};
 
 use crate::describing::print_describing;
 use crate::laws::{ranges_follow, rows_follow};
 use crate::line::print_line;
 use crate::mapped::{Mapped, print_mapped};
+use crate::outcome::Outcome;
 use crate::source::{OutlineOptions, Source};
-use crate::subject::{Outcome, Subject, found_row};
 use cli_declarations::Declared;
 use cli_lines::Printer;
+use cli_paths::{Subject, found_row};
 use full_names::type_of_member;
 use opening::{CellCursor, MemberList, TableId, Token, View};
 use std::alloc::Global;
@@ -57,7 +59,7 @@ pub(crate) fn print_row<W: Write>(
     }
 }
 
-/// Prints the lines of some rows of a table, in ascending order. The type of members is given, or found for each.
+/// Prints the lines of the rows at some positions of a table. The type of members is given, or found for each.
 fn print_rows<W: Write>(
     source: &Source<'_, '_>,
     owner: Option<Token>,
@@ -69,12 +71,14 @@ fn print_rows<W: Write>(
     requires first { 1 ≤ rows.start }
     requires last { rows.«end» ≤ row_count source.now.neighbours.view.now table + 1 }
     requires members { (class : TheToken) → owner ≡ Some class → (model : Metadata) → IsModel source.now.neighbours.view.now model
-        → (row : ℕ) → rows.start ≤ row → row < rows.«end» → IsMemberOf model table row owner }
-    ensures { (model : Metadata) → IsModel source.now.neighbours.view.now model → PrintsRows source.now.options model out.old out.new (each_from (row_of table) rows.start rows.«end») }
+        → (position : ℕ) → rows.start ≤ position → position < rows.«end» → IsMemberOf model table (row_in source.now.orders.items table position) owner }
+    ensures { (model : Metadata) → IsModel source.now.neighbours.view.now model
+        → PrintsRows source.now.options model out.old out.new (each_from (row_by (row_in source.now.orders.items) table) rows.start rows.«end») }
 {
     ranges_follow::<W>();
     let (first, past) = (rows.start, rows.end);
-    for row in first..past {
+    for position in first..past {
+        let row = source.row_at(table, position);
         print_row(source, owner, Token { table, row }, declared, out);
     }
 }
@@ -86,7 +90,7 @@ fn print_table<W: Write>(
     declared: &mut Declared,
     out: &mut Printer<'_, W>,
 )
-    ensures { (model : Metadata) → IsModel source.now.neighbours.view.now model → PrintsRows source.now.options model out.old out.new (all_rows model table) }
+    ensures { (model : Metadata) → IsModel source.now.neighbours.view.now model → PrintsRows source.now.options model out.old out.new (all_rows (row_in source.now.orders.items) model table) }
 {
     let count = source.neighbours.view.count(table);
     print_rows(source, None, table, 1..count + 1, declared, out);
@@ -99,7 +103,7 @@ fn print_tables<W: Write>(
     declared: &mut Declared,
     out: &mut Printer<'_, W>,
 )
-    ensures { (model : Metadata) → IsModel source.now.neighbours.view.now model → PrintsRows source.now.options model out.old out.new (flat_map (all_rows model) tables.now) }
+    ensures { (model : Metadata) → IsModel source.now.neighbours.view.now model → PrintsRows source.now.options model out.old out.new (flat_map (all_rows (row_in source.now.orders.items) model) tables.now) }
 {
     rows_follow::<W>();
     for table in tables {
@@ -139,7 +143,7 @@ fn print_members<W: Write>(
     requires types { owner_of list ≡ TypeDef }
     requires at { cells.old ≡ source.now.neighbours.view.now }
     ensures same { cells.new ≡ cells.old }
-    ensures lines { (model : Metadata) → IsModel source.now.neighbours.view.now model → PrintsRows source.now.options model out.old out.new (members model list row) }
+    ensures lines { (model : Metadata) → IsModel source.now.neighbours.view.now model → PrintsRows source.now.options model out.old out.new (members (row_in source.now.orders.items) model list row) }
 {
     metadata::laws::models_are_read();
     let rows = run_of(cells, list, row);
@@ -162,7 +166,7 @@ fn print_class<W: Write>(
     requires last { row ≤ row_count cells.old TypeDef }
     requires at { cells.old ≡ source.now.neighbours.view.now }
     ensures same { cells.new ≡ cells.old }
-    ensures lines { (model : Metadata) → IsModel source.now.neighbours.view.now model → PrintsRows source.now.options model out.old out.new (class_rows model row) }
+    ensures lines { (model : Metadata) → IsModel source.now.neighbours.view.now model → PrintsRows source.now.options model out.old out.new (class_rows (row_in source.now.orders.items) model row) }
 {
     rows_follow::<W>();
     let class = Token {
@@ -182,12 +186,13 @@ fn print_classes<W: Write>(
     declared: &mut Declared,
     out: &mut Printer<'_, W>,
 )
-    ensures { (model : Metadata) → IsModel source.now.neighbours.view.now model → PrintsRows source.now.options model out.old out.new (each_from (class_rows model) 1 (count_in model TypeDef + 1)) }
+    ensures { (model : Metadata) → IsModel source.now.neighbours.view.now model → PrintsRows source.now.options model out.old out.new (each_from (class_by (row_in source.now.orders.items) model) 1 (count_in model TypeDef + 1)) }
 {
     ranges_follow::<W>();
     let mut cells = CellCursor::new(source.neighbours.view);
     let count = source.neighbours.view.count(TableId::TypeDef);
-    for row in 1..count + 1 {
+    for position in 1..count + 1 {
+        let row = source.row_at(TableId::TypeDef, position);
         print_class(source, &mut cells, row, declared, out);
     }
 }
@@ -227,7 +232,7 @@ fn last_tables() -> &'static [TableId]
 
 /// Prints all lines of the outline.
 fn print_all<W: Write>(source: &Source<'_, '_>, declared: &mut Declared, out: &mut Printer<'_, W>)
-    ensures { (model : Metadata) → IsModel source.now.neighbours.view.now model → PrintsRows source.now.options model out.old out.new (outline_rows model) }
+    ensures { (model : Metadata) → IsModel source.now.neighbours.view.now model → PrintsRows source.now.options model out.old out.new (outline_rows (row_in source.now.orders.items) model) }
 {
     rows_follow::<W>();
     print_tables(source, first_tables(), declared, out);
@@ -247,6 +252,12 @@ fn print_all<W: Write>(source: &Source<'_, '_>, declared: &mut Declared, out: &m
 /// property come its accessors. Then come the rows of other tables, such as the parameters with default values and the
 /// interfaces of types. EventMap, PropertyMap and MethodSemantics may be in any order: their rows are sorted once.
 ///
+/// With [`Sorting::ByName`] the types stand in the order of their names, and so do of each its fields, its methods, its events
+/// and its properties, and the rows of each other table. Of one name, and of rows without one, the order is that of the bytes of
+/// their declarations. Of name and declaration the first 64 bytes are compared, and 32 MiB more of all that are put in order
+/// together. Each row is named and declared once more for it, and the memory is that of these bytes, the longest line, and
+/// some 60 bytes for each row that is put in order.
+///
 /// Its time is that of the lines, of the blobs in them, and at most log n for each name of a type and each row of these
 /// three tables. A name has the types that enclose it, at most 64, each found by binary search. If NestedClass is not in
 /// the order of its key (II.22), names have none of them. Names in what is cut are not looked up.
@@ -259,9 +270,9 @@ pub fn print_outline<W: Write>(
     options: OutlineOptions,
     out: &mut Printer<'_, W>,
 )
-    ensures { (model : Metadata) → IsModel view.now model → PrintsRows options model out.old out.new (outline_rows model) }
+    ensures { (model : Metadata) → IsModel view.now model → PrintsSome options model (AreOutlineRows options model) out.old out.new }
 {
-    match Source::new(alloc, view, options) {
+    match Source::sorted(alloc, view, options) {
         Ok(source) => print_all(&source, &mut Declared::new(alloc), out),
         Err(_) => out.fail(),
     }
@@ -277,7 +288,7 @@ fn ref_tables() -> &'static [TableId]
 
 /// Prints what a view refers to in other modules, one per line as [`print_outline`] prints declarations: the modules, the
 /// types, and the methods and fields, in the order of their rows (II.22.25, II.22.31, II.22.38). A type has its scope in
-/// brackets before its name, a member after it (II.7.3).
+/// brackets before its name (II.7.3).
 ///
 /// Its time is that of the lines, and of the blobs in them. Its memory is that of [`print_outline`].
 pub fn print_refs<W: Write>(
@@ -308,7 +319,7 @@ fn print_type<W: Write>(
     ensures { (model : Metadata) → IsModel view.now model → PrintsType options model row out.old out.new }
 {
     rows_follow::<W>();
-    match Source::new(alloc, view, options) {
+    match Source::sorted(alloc, view, options) {
         Ok(source) => {
             let mut cells = CellCursor::new(source.neighbours.view);
             let mut declared = Declared::new(alloc);

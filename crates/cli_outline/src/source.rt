@@ -1,8 +1,12 @@
 //! What an outline is printed from, and what is shown of it.
 ghost use Rattle.std.proofs.Props.{props};
 ghost use Rattle.std.specs.Prelude.{◌≡◌, IfOk, IfSome};
+ghost use Rattle.metadata.specs.Metadata.{Metadata};
+ghost use Rattle.metadata.specs.Model.{IsModel};
+ghost use Rattle.cli_outline.specs.Orders.{AreRowsIn, KeepsRuns, row_in};
 ghost use Rattle.cli_outline.specs.Shown.{asked};
 
+use crate::orders::{TableOrder, orders_by_name, rows_of};
 use navigation::{Link, Neighbours};
 use opening::{TableId, Token, View};
 use std::alloc::{AllocError, Global};
@@ -28,6 +32,16 @@ pub enum Rows {
     Visible,
 }
 
+/// In which order the lines stand.
+#[derive(Clone, Copy, Default, PartialEq, Eq)]
+pub enum Sorting {
+    /// That of the rows.
+    #[default]
+    ByRow,
+    /// That of the names of the rows, and of one name that of the declarations: it does not depend on the order of the rows.
+    ByName,
+}
+
 /// What an outline shows.
 #[derive(Clone, Copy, Default, PartialEq, Eq)]
 pub struct OutlineOptions {
@@ -35,6 +49,8 @@ pub struct OutlineOptions {
     pub tokens: Tokens,
     /// Which rows have a line.
     pub rows: Rows,
+    /// In which order they stand.
+    pub sorting: Sorting,
 }
 
 /// A view with what finds the neighbours of its rows, and what is shown of it.
@@ -46,8 +62,12 @@ pub(crate) struct Source<'v, 'a> {
     pub(crate) options: OutlineOptions,
     /// The rows that are visible outside of the assembly, unless all rows are shown.
     visible: Option<VisibleRows<'v, 'a>>,
+    /// The orders of the rows of tables, by the indexes of these.
+    pub(crate) orders: Vec<TableOrder>,
     ghost same_view: { IfSome visible (λ rows. rows.view.now ≡ neighbours.view.now) } by { Prim.hlevel props },
     ghost asked: { options.rows ≡ asked visible },
+    ghost within: { AreRowsIn neighbours.view.now orders.items },
+    ghost kept: { (model : Metadata) → IsModel neighbours.view.now model → KeepsRuns model (row_in orders.items) },
 }
 
 /// The visible rows of a view, if only these are shown.
@@ -70,13 +90,15 @@ fn known_rows<'v, 'a>(
 }
 
 impl<'v, 'a> Source<'v, 'a> {
-    ghost use Rattle.std.specs.Prelude.{◌≡◌, ◌≤◌, IfOk};
+    ghost use Rattle.std.specs.Prelude.{◌≡◌, ◌≤◌, [], IfOk};
     ghost use Rattle.metadata.specs.Metadata.{Metadata};
     ghost use Rattle.metadata.specs.Model.{IsModel};
     ghost use Rattle.opening.specs.Views.{row_count};
+    ghost use Rattle.cli_outline.specs.declared.source.Sorting.TheVariants.{ByName};
+    ghost use Rattle.cli_outline.specs.Orders.{IsOrder, row_in};
     ghost use Rattle.cli_outline.specs.Shown.{has_line, is_among, is_shown};
 
-    /// What the outline of a view is printed from.
+    /// What the outline of a view is printed from, in the order of the rows.
     ///
     /// # Errors
     ///
@@ -88,6 +110,7 @@ impl<'v, 'a> Source<'v, 'a> {
     ) -> Result<Source<'v, 'a>, AllocError>
         ensures view { IfOk result (λ source. source.neighbours.view.now ≡ view.now) }
         ensures options { IfOk result (λ source. source.options ≡ options) }
+        ensures orders { IfOk result (λ source. source.orders.items ≡ []) }
     {
         let neighbours = Neighbours::new(alloc, view)?;
         let visible = known_rows(alloc, &neighbours, options.rows)?;
@@ -95,7 +118,62 @@ impl<'v, 'a> Source<'v, 'a> {
             neighbours,
             options,
             visible,
+            orders: Vec::new(alloc),
         })
+    }
+
+    /// What it is printed from in the order of the names.
+    ///
+    /// # Errors
+    ///
+    /// Out of memory.
+    fn by_name(self, alloc: Global) -> Result<Source<'v, 'a>, AllocError>
+        ensures view { IfOk result (λ source. source.neighbours.view.now ≡ self.entry.neighbours.view.now) }
+        ensures options { IfOk result (λ source. source.options ≡ self.entry.options) }
+        ensures order { (model : Metadata) → IsModel self.entry.neighbours.view.now model → IfOk result (λ source. IsOrder self.entry.options ByName model (row_in source.orders.items)) }
+    {
+        let orders = orders_by_name(alloc, &self)?;
+        Ok(Source {
+            neighbours: self.neighbours,
+            options: self.options,
+            visible: self.visible,
+            orders,
+        })
+    }
+
+    /// What the outline of a view is printed from, in the order that is asked for.
+    ///
+    /// # Errors
+    ///
+    /// Out of memory.
+    pub(crate) fn sorted(
+        alloc: Global,
+        view: &'v View<'a>,
+        options: OutlineOptions,
+    ) -> Result<Source<'v, 'a>, AllocError>
+        ensures view { IfOk result (λ source. source.neighbours.view.now ≡ view.now) }
+        ensures options { IfOk result (λ source. source.options ≡ options) }
+        ensures order { (model : Metadata) → IsModel view.now model → IfOk result (λ source. IsOrder options options.sorting model (row_in source.orders.items)) }
+    {
+        let source = Source::new(alloc, view, options)?;
+        match options.sorting {
+            Sorting::ByRow => Ok(source),
+            Sorting::ByName => source.by_name(alloc),
+        }
+    }
+
+    /// The row at a position of the order. Positions begin at one.
+    pub(crate) fn row_at(&self, table: TableId, position: u32) -> u32
+        requires first { 1 ≤ position }
+        requires last { position ≤ row_count self.now.neighbours.view.now table }
+        ensures row { result ≡ row_in self.now.orders.items table position }
+        ensures first { 1 ≤ result }
+        ensures last { result ≤ row_count self.now.neighbours.view.now table }
+    {
+        match rows_of(&self.orders, table).get(position as usize - 1) {
+            Some(row) => *row,
+            None => position,
+        }
     }
 
     /// Whether a row has a line of its own: of parameters only those with a default value (II.22.9).

@@ -14,12 +14,11 @@ use Rattle.cli_input.specs.Checked.{IsWhole, rules_of}
 use Rattle.cli_input.specs.Heads.{AreHeads, HasHeads, rules_of_heads}
 use Rattle.cli_lines.specs.Printed.{Printed, Prints}
 use Rattle.cli_outline.specs.declared.source.OutlineOptions.{OutlineOptions}
-use Rattle.cli_outline.specs.Describing.{PrintsType}
-use Rattle.cli_outline.specs.Printed.{PrintsRows}
+use Rattle.cli_outline.specs.Printed.{PrintsRows, PrintsSome}
 use Rattle.cli_where.specs.Located.{AreListed}
 use Rattle.cli_print.specs.RootLines.{heads_lines}
 use Rattle.cli_runs.specs.Printing.{Hands, HasPrinted}
-use Rattle.cli_runs.specs.Reports.{AreDeclared, IsListed, IsTypeOut, OfModel, ended_at, ended_by}
+use Rattle.cli_runs.specs.Reports.{AreDeclared, AreSomeDeclared, IsListed, OfModel, ended_at, ended_by}
 use Rattle.cli_input.specs.declared.opened.Input.TheVariants.{File}
 use Rattle.metadata.specs.Model.{IsModelOfFile}
 use Rattle.resources.specs.Resources.{Where}
@@ -70,7 +69,8 @@ nothing_waits : (waiting : Option (List ℕ)) → waiting ≡ None → IsSome wa
 nothing_waits None none some = cc
 nothing_waits (Some bytes) none some = cc
 
--- those of a type were, or printing failed
-pub type_out : {W : Type 0} (options : OutlineOptions) (old new : Printed W) (model : Metadata) (class : ℕ) → PrintsType options model class old new → IsTypeOut (Hands old new) options model class
-type_out options old new model class (inl out) = inl (out.0, out.1, declared options old new model _ out.2)
-type_out options old new model class (inr out) = inr (out.1, (λ live. nothing_waits new.waiting out.0 live))
+-- some of these were, or printing failed
+pub some_declared : {W : Type 0} (options : OutlineOptions) (old new : Printed W) (model : Metadata) (Are : List Token → Type 0) → PrintsSome options model Are old new
+    → AreSomeDeclared (Hands old new) options model Are
+some_declared options old new model Are (inl out) = inl (out.0, out.1, declared options old new model _ out.2)
+some_declared options old new model Are (inr out) = inr (out.1, (λ live. nothing_waits new.waiting out.0 live))

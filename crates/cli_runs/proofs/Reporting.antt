@@ -20,7 +20,7 @@ use Rattle.cli_where.specs.declared.report.Found.{Found as FoundAt}
 use Rattle.cli_where.specs.declared.report.Found.TheVariants.{Nothing, Something}
 use Rattle.cli_outline.specs.declared.source.OutlineOptions.{OutlineOptions}
 use Rattle.cli_runs.specs.Printing.{AreNone, Hands, HasPrinted}
-use Rattle.cli_runs.specs.Reports.{AreDeclared, AreNamed, AreOut, HasEnded, IsFaultOut, IsListed, IsPrinted, IsStopped, IsTypeOut, OfModel, everything, lead_of, style_of, verdict_lines}
+use Rattle.cli_runs.specs.Reports.{AreDeclared, AreNamed, AreOut, AreSomeDeclared, HasEnded, IsFaultOut, IsListed, IsPrinted, IsStopped, OfModel, everything, lead_of, style_of, verdict_lines}
 use Rattle.cli_runs.specs.Runs.{AreCut, AreSent, IsReported}
 use Rattle.cli_runs.specs.declared.report.Ended.{Ended}
 use Rattle.cli_runs.specs.declared.report.Ended.TheVariants as ended
@@ -48,9 +48,9 @@ module _ (P Q : Type 0 → List (List Part) → Type 0) (weaker : (all : Type 0)
   declared_weaker : (options : OutlineOptions) (model : Metadata) (rows : List Token) → AreDeclared P options model rows → AreDeclared Q options model rows
   declared_weaker options model rows out = (out.0, out.1, out.2, out.3, out.4, weaker (out.1 ≡ []) out.3 out.5)
 
-  type_weaker : (options : OutlineOptions) (model : Metadata) (class : ℕ) → IsTypeOut P options model class → IsTypeOut Q options model class
-  type_weaker options model class (inl out) = inl (out.0, out.1, declared_weaker options model _ out.2)
-  type_weaker options model class (inr out) = inr (weaker _ _ out)
+  some_weaker : (options : OutlineOptions) (model : Metadata) (Are : List Token → Type 0) → AreSomeDeclared P options model Are → AreSomeDeclared Q options model Are
+  some_weaker options model Are (inl out) = inl (out.0, out.1, declared_weaker options model _ out.2)
+  some_weaker options model Are (inr out) = inr (weaker _ _ out)
 
   where_weaker : (found : FoundAt) (input : Input) (bytes : List ℕ) (offset : ℕ) (structures : List Region)
       → HasContents found input bytes offset (λ contents. AreOut P (where_lines structures ++ contents))
@@ -62,7 +62,7 @@ module _ (P Q : Type 0 → List (List Part) → Type 0) (weaker : (all : Type 0)
   listed_weaker : (of : Listing) (model : Metadata) → IsListed P of model → IsListed Q of model
   listed_weaker (listing.Show table names) model out = weaker _ _ out
   listed_weaker listing.Types model out = weaker _ _ out
-  listed_weaker (listing.Outline options) model out = declared_weaker options model _ out
+  listed_weaker (listing.Outline options) model out = some_weaker options model _ out
   listed_weaker listing.Refs model out = declared_weaker everything model _ out
 
   fault_weaker : (of : Verdict) (input : Input) (bytes : List ℕ) (file : Option (List ℕ)) (found : Fault) → IsFaultOut P of input bytes file found → IsFaultOut Q of input bytes file found
@@ -85,7 +85,7 @@ module _ (P Q : Type 0 → List (List Part) → Type 0) (weaker : (all : Type 0)
     printed_weaker (report.Check of) out = (out.0, weaker _ _ out.1)
     printed_weaker (report.ShowUntilFault table names) out = (out.0, (λ model is. weaker _ _ (out.1 model is)))
     printed_weaker (report.OutlineOf subject options) out =
-        (out.0, (λ model is. let at = out.1 model is in (at.0, at.1, type_weaker options model at.0 at.2)))
+        (out.0, (λ model is. let at = out.1 model is in (at.0, at.1, some_weaker options model _ at.2)))
     printed_weaker (report.Tokens numbers) out = (out.0, out.1, out.2, named_weaker numbers.items out.3)
     printed_weaker (report.Where offset) out = (out.0, (out.1.0, out.1.1, out.1.2, where_weaker Something request.input bytes offset out.1.0 out.1.3))
     printed_weaker report.Digest out = (out.0, out.1, weaker _ _ out.2)

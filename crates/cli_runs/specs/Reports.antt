@@ -35,13 +35,15 @@ use Rattle.cli_cells.specs.Before.{AreLinesBefore}
 use Rattle.cli_cells.specs.RowLines.{show_lines}
 use Rattle.cli_cells.specs.TokenLines.{AreTokenLines, IsNamed}
 use Rattle.cli_info.specs.InfoLines.{AreFacts, info_lines}
-use Rattle.cli_outline.specs.Describing.{AreDescribingType}
-use Rattle.cli_outline.specs.Outline.{class_rows, outline_rows, refs_rows}
+use Rattle.cli_outline.specs.Describing.{AreTypeRows}
+use Rattle.cli_outline.specs.Orders.{AreOutlineRows}
+use Rattle.cli_outline.specs.Outline.{refs_rows}
 use Rattle.cli_outline.specs.Printed.{AreLines}
 use Rattle.cli_outline.specs.Shown.{shown_rows}
-use Rattle.cli_outline.specs.Subjects.{IsSubject}
+use Rattle.cli_paths.specs.Subjects.{IsSubject}
 use Rattle.cli_outline.specs.declared.source.OutlineOptions.{OutlineOptions}
 use Rattle.cli_outline.specs.declared.source.Rows.TheVariants as rows_of
+use Rattle.cli_outline.specs.declared.source.Sorting.TheVariants.{ByRow}
 use Rattle.cli_outline.specs.declared.source.Tokens.TheVariants.{Shown}
 use Rattle.cli_print.specs.DigestLines.{digest_line}
 use Rattle.cli_print.specs.Explanations.{IsExplanation}
@@ -151,9 +153,9 @@ IsRefused request bytes (report.ShowUntilFault table names) stop = ⊥
 IsRefused request bytes of (Failed (Fault found)) = FirstBroken (rules_of request.input bytes) found
 IsRefused request bytes of stop = ⊥
 
--- an outline that shows everything
+-- an outline that shows everything, in the order of the rows
 abbrev pub everything : OutlineOptions
-everything = record { tokens = Shown; rows = rows_of.All }
+everything = record { tokens = Shown; rows = rows_of.All; sorting = ByRow }
 
 -- `Out All lines`: these lines went out, and they are all lines of the report if `All` holds
 module _ (Out : Type 0 → List (List Part) → Type 0) where
@@ -166,11 +168,9 @@ module _ (Out : Type 0 → List (List Part) → Type 0) where
   AreDeclared options model rows =
       (first later : List Token) × (shown_rows options model rows ≡ first ++ later) × (lines : List (List Part)) × AreLines options model first lines × Out (later ≡ []) lines
 
-  -- the declarations of a type and its members went out, and those of the rows that describe them; or none, and more are missing
-  abbrev pub IsTypeOut : OutlineOptions → Metadata → ℕ → Type 0
-  IsTypeOut options model class =
-      ((found : List Token) × AreDescribingType model class found × AreDeclared options model (class_rows model class ++ found))
-      ⊎ Out ⊥ []
+  -- so did those of rows that this is true of; or none, and more are missing
+  abbrev pub AreSomeDeclared : OutlineOptions → Metadata → (List Token → Type 0) → Type 0
+  AreSomeDeclared options model Are = ((rows : List Token) × Are rows × AreDeclared options model rows) ⊎ Out ⊥ []
 
   -- what numbers name in a model went out
   abbrev pub AreNamed : List ℕ → Metadata → Type 0
@@ -180,7 +180,7 @@ module _ (Out : Type 0 → List (List Part) → Type 0) where
   abbrev pub IsListed : Listing → Metadata → Type 0
   IsListed (listing.Show table names) model = AreOut (show_lines names model (tables_of table))
   IsListed listing.Types model = AreOut (types_lines model)
-  IsListed (listing.Outline options) model = AreDeclared options model (outline_rows model)
+  IsListed (listing.Outline options) model = AreSomeDeclared options model (AreOutlineRows options model)
   IsListed listing.Refs model = AreDeclared everything model (refs_rows model)
 
   -- this fault went out, with what is asked about it
@@ -221,7 +221,7 @@ module _ (Out : Type 0 → List (List Part) → Type 0) where
     IsPrinted (report.Check verdict) = IsWhole request.input bytes × AreOut (verdict_lines verdict (label request.naming name) None)
     IsPrinted (report.ShowUntilFault table names) = OfModel request.input bytes (IsListed (listing.Show table names))
     IsPrinted (report.OutlineOf subject options) =
-        OfModel request.input bytes (λ model. (row : ℕ) × IsSubject model subject row × IsTypeOut options model row)
+        OfModel request.input bytes (λ model. (row : ℕ) × IsSubject model subject row × AreSomeDeclared options model (AreTypeRows options model row))
     IsPrinted (report.Tokens numbers) =
         (root : List ℕ) × IsOpened request.input bytes root × All (IsNamed root) numbers.items × OfModel request.input bytes (AreNamed numbers.items)
     IsPrinted (report.Where offset) = IsWhole request.input bytes × IsLocated offset Something

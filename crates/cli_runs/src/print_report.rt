@@ -17,7 +17,8 @@ use cli_info::print_info;
 use cli_input::{Input, open};
 use cli_lines::Printer;
 use cli_outline::{
-    Outcome, OutlineOptions, Rows, Subject, Tokens, print_outline, print_outline_of, print_refs,
+    Outcome, OutlineOptions, Rows, Sorting, Subject, Tokens, print_outline, print_outline_of,
+    print_refs,
 };
 use cli_print::{print_digest, print_root, print_root_until_fault, print_types};
 use cli_resources::print_resources;
@@ -103,13 +104,14 @@ fn print_view<W: Write>(alloc: Global, listing: Listing, view: &View<'_>, out: &
     }
 }
 
-/// The options of an outline that shows everything.
+/// The options of an outline that shows everything, in the order of the rows.
 fn everything() -> OutlineOptions
     ensures { result ≡ everything }
 {
     OutlineOptions {
         tokens: Tokens::Shown,
         rows: Rows::All,
+        sorting: Sorting::ByRow,
     }
 }
 

@@ -14,6 +14,7 @@ pub(crate) const USAGE: Usage<'static> = Usage {
         JSON,
         argument!["no-tokens" Flag "Leave the comment with the token away"],
         argument!["public" Flag "Print only what is visible outside of the assembly"],
+        argument!["sorted" Flag "Print in the order of names, not of rows"],
     ],
     output: "\
 Prints a line for each declaration, in a notation close to ILAsm (ECMA-335, II.5
@@ -25,11 +26,12 @@ its outer types only if the rows of NestedClass are in order. Last come default
 values of parameters, interfaces, generic parameters and their constraints,
 overrides, imports, permission sets and custom attributes, table by table. A
 name that is no identifier is in single quotes, with '\\xNN' for bytes that
-cannot stand there. A type has its layout; a field has its offset, its
-marshalling, its constant and the address of its data. The value of an attribute
-has its arguments if their types are known, and its bytes otherwise. Names,
-signatures and values longer than 65,536 bytes are cut and end in '..'. FILE is
-checked first, as by 'clim check'.
+cannot stand there. A type of another module has its scope before its name, as
+in '[mscorlib]System.Object'. A type has its generic parameters, its interfaces
+and its layout; a field has its offset, its marshalling, its constant and the
+address of its data. The value of an attribute has its arguments if their types
+are known, and its bytes otherwise. Names, signatures and values longer than
+65,536 bytes are cut and end in '..'. FILE is checked first, as by 'clim check'.
 
 In a UTF-8 locale (LC_ALL, LC_CTYPE or LANG), visible characters beyond ASCII
 are printed as they are; all else that is not printable ASCII is escaped.
@@ -67,8 +69,14 @@ with a visible accessor; and public resources. Accessors, interfaces, generic
 parameters, constraints, overrides, imports, permission sets and attributes are
 printed if what they describe is visible. The assembly, what it refers to, the
 module, files and exported types are printed always. Of a NAME that is not
-visible nothing is printed. With '--no-tokens', 'diff' compares the public
-interfaces of two versions.
+visible nothing is printed. With '--no-tokens --sorted', 'diff' compares the
+public interfaces of two versions.
+
+'--sorted' prints in the order of names in place of that of rows: types by their
+full names, and of a type its fields, methods, events and properties each by
+theirs. Declarations of one name, or of none, stand in the order of their bytes.
+At least 64 bytes of name and declaration are compared, and more if there are
+fewer rows; what is equal so far stays in the order of rows.
 
 '--json' prints a JSON object (RFC 8259) on each line, with the 'token' of the
 row, the 'directive' and the 'text' of the declaration. The directive is its

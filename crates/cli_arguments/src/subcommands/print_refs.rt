@@ -9,9 +9,8 @@ pub(crate) const USAGE: Usage<'static> = Usage {
 Prints a line for each module, type, method and field that the assembly refers
 to, in the order of the rows of ModuleRef, TypeRef and MemberRef (ECMA-335,
 II.22.31, II.22.38, II.22.25). A line ends with the token of its row in a
-comment. A type has its scope in brackets before its name, a member after it
-(II.7.3). Names are quoted and cut as by 'clim outline'. FILE is checked first,
-as by 'clim check'.
+comment. A type has its scope in brackets before its name (II.7.3). Names are
+quoted and cut as by 'clim outline'. FILE is checked first, as by 'clim check'.
 
 For several FILEs each line begins with 'FILE: '. A FILE that breaks a rule or
 cannot be read is reported to standard error with its name, and the next one

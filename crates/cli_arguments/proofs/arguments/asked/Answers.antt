@@ -39,4 +39,5 @@ returns c = λ words named.
       extract = c.get_str-5.ensures ∙ first_value-rows found (codes "extract");
       no_tokens = c.flag-10.ensures;
       public = c.flag-11.ensures;
+      sorted = c.flag-12.ensures;
     }

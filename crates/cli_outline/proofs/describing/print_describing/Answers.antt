@@ -4,6 +4,7 @@ use Rattle.std.proofs.lemmas.List.{drop_all}
 use Rattle.table_schema.specs.declared.table.TableId.{TableId}
 use Rattle.table_schema.specs.declared.table.TableId.TheVariants.{Module}
 use Rattle.cli_outline.specs.Describing.{PrintsDescribing}
+use Rattle.cli_outline.specs.Orders.{row_in}
 use Rattle.cli_outline.specs.Outline.{all_rows}
 use Rattle.cli_outline.proofs.PrintedLemmas.{items_left}
 use Rattle.cli_outline.proofs.describing.print_describing.Goals as goal
@@ -13,11 +14,11 @@ loop-table-preserved g c = λ model later is printed.
     let tables = c.args.tables.now in
     let index = c.loop-table.table-index in
     c.loop-table.invariant model later is
-    (subst (λ (left : List TableId). PrintsDescribing c.args.source.now.options model c.args.class c.loop-table.out later (flat_map (all_rows model) left)) (sym (items_left tables index Module c.loop-table-test.true))
-    (c.descriptions_follow.ensures.more c.args.source.now.options model c.args.class _ _ _ _ (flat_map (all_rows model) (drop (index + 1) tables)) (c.print_describing_in.ensures model is) printed))
+    (subst (λ (left : List TableId). PrintsDescribing c.args.source.now.options model c.args.class c.loop-table.out later (flat_map (all_rows (row_in c.args.source.now.orders.items) model) left)) (sym (items_left tables index Module c.loop-table-test.true))
+    (c.descriptions_follow.ensures.more c.args.source.now.options model c.args.class _ _ _ _ (flat_map (all_rows (row_in c.args.source.now.orders.items) model) (drop (index + 1) tables)) (c.print_describing_in.ensures model is) printed))
 
 pub returns : goal.returns
 returns g c = λ model is.
     c.loop-table.invariant model c.loop-table.out is
-    (subst (λ (left : List TableId). PrintsDescribing c.args.source.now.options model c.args.class c.loop-table.out c.loop-table.out (flat_map (all_rows model) left))
+    (subst (λ (left : List TableId). PrintsDescribing c.args.source.now.options model c.args.class c.loop-table.out c.loop-table.out (flat_map (all_rows (row_in c.args.source.now.orders.items) model) left))
     (sym (drop_all c.loop-table.table-index c.args.tables.now c.loop-table-test.false)) (c.descriptions_follow.ensures.nothing c.args.source.now.options model c.args.class c.loop-table.out))

@@ -10,6 +10,7 @@ use Rattle.navigation.specs.Linked.{linked, number_to}
 use Rattle.navigation.specs.Linked.{table_of as linked_table}
 use Rattle.cli_outline.specs.declared.mapped.Mapped.{Mapped}
 use Rattle.cli_outline.specs.declared.mapped.Mapped.TheVariants.{Events, Properties}
+use Rattle.cli_outline.specs.Orders.{row_in}
 use Rattle.cli_outline.specs.Outline.{link_of, list_of, mapped_rows, type_rows}
 use Rattle.cli_declarations.specs.Parts.{token_at}
 use Rattle.cli_outline.proofs.PrintedLemmas.{found_left, none_left, rows_are}
@@ -42,7 +43,7 @@ pub loop-map-preserved : goal.loop-map-preserved
 loop-map-preserved g c = record {
   same = c.print_map.ensures.same ∙ c.loop-map.invariant.same;
   lines = λ model later is printed.
-      let rows = mapped_rows model c.args.of in
+      let rows = mapped_rows (row_in c.args.source.now.orders.items) model c.args.of in
       let maps = c.linked-maps.result.now in
       let index = c.loop-map.map-index in
       c.loop-map.invariant.lines model later is
@@ -53,7 +54,7 @@ loop-map-preserved g c = record {
 pub returns-clause-lines : goal.returns-clause-lines
 unfolding type_rows
 returns-clause-lines g c = λ model is.
-    let rows = mapped_rows model c.args.of in
+    let rows = mapped_rows (row_in c.args.source.now.orders.items) model c.args.of in
     let maps = c.linked-maps.result.now in
     let linked_rows = c.linked-maps.ensures.rows model is (token_at TypeDef c.args.class) (number_of_class c.args.of c.link.ensures c.args.class) in
     rows_are (ap (λ xs. flat_map rows xs) (linked_rows ∙ ap (λ l. linked model l (token_at TypeDef c.args.class)) c.link.ensures))

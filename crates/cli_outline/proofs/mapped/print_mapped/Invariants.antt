@@ -4,6 +4,7 @@ use Rattle.metadata.specs.Metadata.{Metadata}
 use Rattle.metadata.specs.Model.{IsModel}
 use Rattle.navigation.specs.Keyed.{row_of}
 use Rattle.cli_lines.specs.Printed.{Printed}
+use Rattle.cli_outline.specs.Orders.{row_in}
 use Rattle.cli_outline.specs.Outline.{mapped_rows}
 use Rattle.cli_outline.specs.Printed.{PrintsRows}
 use Rattle.cli_outline.proofs.mapped.print_mapped.Given as goal
@@ -13,6 +14,6 @@ abbrev pub invariant-loop-map : goal.invariant-loop-map
 invariant-loop-map g l = record {
   same : l.cells ≡ l.source.neighbours.view.now;
   lines : (model : Metadata) (later : Printed _) → IsModel l.source.neighbours.view.now model
-      → PrintsRows l.source.options model l.out later (flat_map (mapped_rows model l.of) (map row_of (drop l.map-index l.maps)))
-      → PrintsRows l.source.options model l.initial.out later (flat_map (mapped_rows model l.of) (map row_of l.maps));
+      → PrintsRows l.source.options model l.out later (flat_map (mapped_rows (row_in l.source.orders.items) model l.of) (map row_of (drop l.map-index l.maps)))
+      → PrintsRows l.source.options model l.initial.out later (flat_map (mapped_rows (row_in l.source.orders.items) model l.of) (map row_of l.maps));
 }

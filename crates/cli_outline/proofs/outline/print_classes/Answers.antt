@@ -1,29 +1,35 @@
-use Rattle.std.proofs.Common.{◌+◌, ◌≤◌, ◌<◌, ◌∙◌, List, ℕ, sym, subst, arith}
+use Rattle.std.proofs.Common.{◌+◌, ◌≤◌, ◌<◌, ◌∙◌, List, ℕ, ap, sym, subst, arith}
 use Rattle.table_schema.specs.declared.table.TableId.TheVariants.{TypeDef}
 use Rattle.metadata.specs.Metadata.{count_in}
 use Rattle.opening.specs.Views.{row_count}
-use Rattle.cli_outline.specs.Outline.{class_rows}
+use Rattle.cli_outline.specs.Orders.{row_in}
+use Rattle.cli_outline.specs.Outline.{class_by, class_rows}
+use Rattle.cli_outline.proofs.PrintedLemmas.{rows_are}
 use Rattle.cli_outline.proofs.outline.print_classes.Goals as goal
+
+pub row_at-row-requires : goal.row_at-row-requires
+row_at-row-requires g c = record { first = c.loop-position.auto.position; last = omega (arith, c.count-count.ensures.rows, c.loop-position-test.true) }
 
 pub print_class-requires : goal.print_class-requires
 print_class-requires g c = record {
-  first = c.loop-row.auto.row;
-  last = subst (λ (root : List ℕ). c.loop-row.row ≤ row_count root TypeDef) (sym c.loop-row.invariant.same) (omega (arith, c.count-count.ensures.rows, c.loop-row-test.true));
-  at = c.loop-row.invariant.same;
+  first = c.row_at-row.ensures.first;
+  last = subst (λ (root : List ℕ). c.row_at-row.result ≤ row_count root TypeDef) (sym c.loop-position.invariant.same) c.row_at-row.ensures.last;
+  at = c.loop-position.invariant.same;
 }
 
-pub loop-row-preserved : goal.loop-row-preserved
-loop-row-preserved g c = record {
-  same = c.print_class.ensures.same ∙ c.loop-row.invariant.same;
+pub loop-position-preserved : goal.loop-position-preserved
+loop-position-preserved g c = record {
+  same = c.print_class.ensures.same ∙ c.loop-position.invariant.same;
   lines = λ model later is printed.
       let counted = c.count-count.ensures.model model is in
-      let within : c.loop-row.row < count_in model TypeDef + 1 = omega (arith, counted, c.loop-row-test.true) in
-      c.loop-row.invariant.lines model later is
-      (c.ranges_follow.ensures.more c.args.source.now.options model (class_rows model) _ _ _ c.loop-row.row (count_in model TypeDef + 1) within (c.print_class.ensures.lines model is) printed);
+      let within : c.loop-position.position < count_in model TypeDef + 1 = omega (arith, counted, c.loop-position-test.true) in
+      let own = rows_are (ap (class_rows (row_in c.args.source.now.orders.items) model) c.row_at-row.ensures.row) (c.print_class.ensures.lines model is) in
+      c.loop-position.invariant.lines model later is
+      (c.ranges_follow.ensures.more c.args.source.now.options model (class_by (row_in c.args.source.now.orders.items) model) _ _ _ c.loop-position.position (count_in model TypeDef + 1) within own printed);
 }
 
 pub returns : goal.returns
 returns g c = λ model is.
     let counted = c.count-count.ensures.model model is in
-    let past : count_in model TypeDef + 1 ≤ c.loop-row.row = omega (arith, counted, c.loop-row-test.false) in
-    c.loop-row.invariant.lines model c.loop-row.out is (c.ranges_follow.ensures.none c.args.source.now.options model (class_rows model) c.loop-row.out c.loop-row.row (count_in model TypeDef + 1) past)
+    let past : count_in model TypeDef + 1 ≤ c.loop-position.position = omega (arith, counted, c.loop-position-test.false) in
+    c.loop-position.invariant.lines model c.loop-position.out is (c.ranges_follow.ensures.none c.args.source.now.options model (class_by (row_in c.args.source.now.orders.items) model) c.loop-position.out c.loop-position.position (count_in model TypeDef + 1) past)

@@ -3,14 +3,15 @@ use Rattle.table_schema.specs.declared.table.TableId.TheVariants.{TypeDef}
 use Rattle.metadata.specs.Metadata.{Metadata, count_in}
 use Rattle.metadata.specs.Model.{IsModel}
 use Rattle.cli_lines.specs.Printed.{Printed}
-use Rattle.cli_outline.specs.Outline.{class_rows, each_from}
+use Rattle.cli_outline.specs.Orders.{row_in}
+use Rattle.cli_outline.specs.Outline.{class_by, each_from}
 use Rattle.cli_outline.specs.Printed.{PrintsRows}
 use Rattle.cli_outline.proofs.outline.print_classes.Given as goal
 
 -- the types that are left complete the types
-abbrev pub invariant-loop-row : goal.invariant-loop-row
-invariant-loop-row g l = record {
+abbrev pub invariant-loop-position : goal.invariant-loop-position
+invariant-loop-position g l = record {
   same : l.cells ≡ l.source.neighbours.view.now;
-  lines : (model : Metadata) (later : Printed _) → IsModel l.source.neighbours.view.now model → PrintsRows l.source.options model l.out later (each_from (class_rows model) l.row (count_in model TypeDef + 1))
-      → PrintsRows l.source.options model l.initial.out later (each_from (class_rows model) 1 (count_in model TypeDef + 1));
+  lines : (model : Metadata) (later : Printed _) → IsModel l.source.neighbours.view.now model → PrintsRows l.source.options model l.out later (each_from (class_by (row_in l.source.orders.items) model) l.position (count_in model TypeDef + 1))
+      → PrintsRows l.source.options model l.initial.out later (each_from (class_by (row_in l.source.orders.items) model) 1 (count_in model TypeDef + 1));
 }

@@ -1,13 +1,14 @@
-use Rattle.std.proofs.Common.{List, [], ℕ, sym, subst}
+use Rattle.std.proofs.Common.{List, [], ℕ, inl, inr, refl, sym, subst}
 use Rattle.metadata.specs.Model.{IsModel}
-use Rattle.cli_outline.specs.Outline.{outline_rows}
-use Rattle.cli_outline.proofs.PrintedLemmas.{options_are, rows_failed}
+use Rattle.cli_outline.specs.Orders.{row_in}
+use Rattle.cli_outline.proofs.PrintedLemmas.{options_are}
 use Rattle.cli_outline.proofs.outline.print_outline.Goals as goal
 
 pub returns-in-Ok : goal.returns-in-Ok
 returns-in-Ok g c = λ model is.
-    let printed = c.print_all.ensures model (subst (λ (root : List ℕ). IsModel root model) (sym c.in-Ok.ensures.view) is) in
-    options_are c.in-Ok.ensures.options printed
+    let of = subst (λ (root : List ℕ). IsModel root model) (sym c.in-Ok.ensures.view) is in
+    let order = row_in c.in-Ok.source.orders.items in
+    inl (_, (order, c.in-Ok.ensures.order model is, refl), options_are c.in-Ok.ensures.options (c.print_all.ensures model of))
 
 pub returns-in-Err : goal.returns-in-Err
-returns-in-Err g c = λ model is. rows_failed c.args.options model c.args.out.now c.fail.new.self (outline_rows model) (c.fail.ensures.lines []) c.fail.ensures.stopped
+returns-in-Err g c = λ model is. inr (c.fail.ensures.stopped, c.fail.ensures.lines [])

@@ -3,11 +3,12 @@ use Rattle.std.specs.List.{flat_map}
 use Rattle.metadata.specs.Metadata.{Metadata}
 use Rattle.metadata.specs.Model.{IsModel}
 use Rattle.cli_lines.specs.Printed.{Printed}
+use Rattle.cli_outline.specs.Orders.{row_in}
 use Rattle.cli_outline.specs.Outline.{all_rows}
 use Rattle.cli_outline.specs.Printed.{PrintsRows}
 use Rattle.cli_outline.proofs.outline.print_tables.Given as goal
 
 -- the tables that are left complete the tables
 abbrev pub invariant-loop-table : goal.invariant-loop-table
-invariant-loop-table g l = (model : Metadata) (later : Printed _) → IsModel l.source.neighbours.view.now model → PrintsRows l.source.options model l.out later (flat_map (all_rows model) (drop l.table-index l.tables))
-    → PrintsRows l.source.options model l.initial.out later (flat_map (all_rows model) l.tables)
+invariant-loop-table g l = (model : Metadata) (later : Printed _) → IsModel l.source.neighbours.view.now model → PrintsRows l.source.options model l.out later (flat_map (all_rows (row_in l.source.orders.items) model) (drop l.table-index l.tables))
+    → PrintsRows l.source.options model l.initial.out later (flat_map (all_rows (row_in l.source.orders.items) model) l.tables)

@@ -1,9 +1,10 @@
-use Rattle.std.proofs.Common.{List, [], ℕ, inl, inr, sym, subst}
+use Rattle.std.proofs.Common.{List, [], ℕ, inl, inr, refl, sym, subst}
 use Rattle.std.specs.List.{flat_map}
 use Rattle.table_schema.specs.declared.table.TableId.{TableId}
 use Rattle.metadata.specs.Model.{IsModel}
 use Rattle.navigation.specs.Nesting.{type_token}
 use Rattle.cli_outline.specs.Describing.{AreDescribing}
+use Rattle.cli_outline.specs.Orders.{row_in}
 use Rattle.cli_outline.specs.Outline.{all_rows}
 use Rattle.cli_outline.proofs.PrintedLemmas.{options_are}
 use Rattle.cli_outline.proofs.outline.print_type.Goals as goal
@@ -12,9 +13,16 @@ pub returns-in-Ok : goal.returns-in-Ok
 returns-in-Ok g c = λ model is.
     let of = subst (λ (root : List ℕ). IsModel root model) (sym c.in-Ok.ensures.view) is in
     let found = c.print_describing.ensures model of in
+    let order = row_in c.in-Ok.source.orders.items in
     inl (
-      found.0,
-      subst (λ (tables : List TableId). AreDescribing model (type_token c.args.row) (flat_map (all_rows model) tables) found.0) c.last_tables.ensures found.1,
+      _,
+      (
+        order,
+        c.in-Ok.ensures.order model is,
+        found.0,
+        subst (λ (tables : List TableId). AreDescribing model (type_token c.args.row) (flat_map (all_rows order model) tables) found.0) c.last_tables.ensures found.1,
+        refl,
+      ),
       options_are c.in-Ok.ensures.options (c.rows_follow.ensures.more _ model _ _ _ _ _ (c.print_class.ensures.lines model of) found.2),
     )
 

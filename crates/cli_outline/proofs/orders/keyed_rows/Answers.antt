@@ -1,0 +1,52 @@
+use Rattle.std.proofs.Common.{◌≡◌, ◌∙◌, ◌∷◌, ◌++◌, [], All, ◌+◌, ◌-◌, ap, arith, map, subst, sym}
+use Rattle.std.specs.List.{range_with_len}
+use Rattle.std.proofs.lemmas.List.{map-append}
+use Rattle.std.proofs.lemmas.List.Elements.{All-push}
+use Rattle.cli_outline.specs.Orders.{IsKey, IsKeyed, key_limit, row_of_keyed}
+use Rattle.cli_outline.specs.declared.orders.Keyed.{Keyed}
+use Rattle.cli_declarations.specs.Parts.{token_at}
+use Rattle.cli_outline.proofs.OrderLemmas.{range_more}
+use Rattle.cli_outline.proofs.orders.keyed_rows.Goals as goal
+
+pub loop-row-init : goal.loop-row-init
+loop-row-init c =
+    let none : 0 ≡ c.args.rows.start - c.args.rows.start = omega arith in
+    record {
+      below = omega arith;
+      rows = ap (map row_of_keyed) c.new-keyed.ensures.items ∙ ap (range_with_len c.args.rows.start) none;
+      keys = λ model is. subst (All (IsKeyed c.args.source.now.options model c.args.table _)) (sym c.new-keyed.ensures.items) (λ k d lt. absurd (omega (arith, lt)));
+    }
+
+pub loop-row-preserved : goal.loop-row-preserved
+loop-row-preserved c =
+    let first = c.args.rows.start in
+    let count = c.args.rows.«end» - first in
+    let row = c.loop-row.row in
+    let item : Keyed = record { key = c.in_ok-key.key; row = row } in
+    let n = row - first in
+    let from = c.loop-row.auto.row in
+    let below = c.loop-row-test.true in
+    let more : row + 1 - first ≡ n + 1 = omega (arith, from) in
+    let at : first + n ≡ row = omega (arith, from) in
+    let limit = c.key_limit-limit.ensures ∙ ap key_limit c.saturating_sub.ensures in
+    record {
+      below = omega (arith, from, below);
+      rows = ap (map row_of_keyed) c.in_ok-push.ensures.items ∙ map-append row_of_keyed c.loop-row.keyed.items (item ∷ [])
+          ∙ ap (λ xs. xs ++ row ∷ []) c.loop-row.invariant.rows ∙ sym (ap (range_with_len first) more ∙ range_more first n ∙ ap (λ r. range_with_len first n ++ r ∷ []) at);
+      keys = λ model is.
+          let key = subst (λ n. IsKey c.args.source.now.options model n (token_at c.args.table row) c.in_ok-key.key.items) limit (c.in_ok-key.ensures model is) in
+          subst (All (IsKeyed c.args.source.now.options model c.args.table (key_limit count))) (sym c.in_ok-push.ensures.items)
+          (All-push (IsKeyed c.args.source.now.options model c.args.table (key_limit count)) c.loop-row.keyed.items item (c.loop-row.invariant.keys model is) key);
+    }
+
+pub returns-clause-rows : goal.returns-clause-rows
+returns-clause-rows c =
+    let first = c.args.rows.start in
+    let past = c.args.rows.«end» in
+    let below = c.loop-row.invariant.below in
+    let all = c.loop-row-test.false in
+    let same : c.loop-row.row - first ≡ past - first = omega (arith, below, all) in
+    c.loop-row.invariant.rows ∙ ap (range_with_len first) same
+
+pub returns-clause-keys : goal.returns-clause-keys
+returns-clause-keys c = c.loop-row.invariant.keys

@@ -1,0 +1,17 @@
+use Rattle.std.proofs.Common.{◌≡◌, ◌≤◌, ◌+◌, All, length}
+use Rattle.metadata.specs.Metadata.{Metadata, count_in}
+use Rattle.metadata.specs.Model.{IsModel}
+use Rattle.metadata_source.specs.MemberLists.{member_of, owner_of}
+use Rattle.cli_outline.specs.Orders.{IsRowIn}
+use Rattle.cli_outline.specs.Outline.{run_start}
+use Rattle.cli_outline.proofs.OrderLemmas.{AreMembers}
+use Rattle.cli_outline.proofs.orders.members_in_order.Given as goal
+
+-- the members of the first owners are in order, and those of the next one are due
+abbrev pub invariant-loop-owner : goal.invariant-loop-owner
+invariant-loop-owner l = record {
+  same : l.cells ≡ l.source.neighbours.view.now;
+  within : All (IsRowIn l.source.neighbours.view.now (member_of l.list)) l.order.items;
+  due : (model : Metadata) → IsModel l.source.neighbours.view.now model → l.owner ≤ count_in model (owner_of l.list) → length l.order.items + 1 ≡ run_start model l.list l.owner;
+  grouped : (model : Metadata) → IsModel l.source.neighbours.view.now model → AreMembers l.source.options model (member_of l.list) (run_start model l.list) l.order.items l.owner;
+}

@@ -1,0 +1,48 @@
+use Rattle.std.proofs.Common.{◌≡◌, ◌∙◌, ◌∷◌, ◌++◌, [], ◌+◌, ◌-◌, ap, append-nil, append_assoc, get_or, map, refl, rules, subst, sym, take}
+use Rattle.std.specs.List.{range_with_len}
+use Rattle.std.specs.List.Sorted.{IsPermutation}
+use Rattle.std.specs.Ordering.{is_lt}
+use Rattle.std.proofs.lemmas.List.{map-append, take_all, take_more}
+use Rattle.std.proofs.lemmas.List.Sorted.{All-permutation, IsPermutation-map, answers_always, ranks_by}
+use Rattle.cli_outline.specs.Orders.{IsKeyed, key_limit, keyed_cmp, row_of_keyed}
+use Rattle.cli_outline.specs.declared.orders.Keyed.{Keyed}
+use Rattle.cli_outline.proofs.OrderLemmas.{keyed_cmp_total, rows_within}
+use Rattle.cli_outline.proofs.orders.push_in_order.Goals as goal
+
+pub loop-item-init : goal.loop-item-init
+loop-item-init c = sym (append-nil c.args.order.now.items)
+
+pub loop-item-preserved : goal.loop-item-preserved
+loop-item-preserved c =
+    let items = c.deref-item-items.result.now in
+    let i = c.loop-item.item-index in
+    let before = c.args.order.now.items in
+    let item = c.item-item.result in
+    let rows = map row_of_keyed (take i items) in
+    let at : get_or items i item ≡ item = search rules in
+    let more : map row_of_keyed (take (i + 1) items) ≡ rows ++ item.row ∷ [] =
+    ap (map row_of_keyed) (take_more items i item c.loop-item-test.true) ∙ map-append row_of_keyed (take i items) (get_or items i item ∷ []) ∙ ap (λ (it : Keyed). rows ++ it.row ∷ []) at in
+    c.in_ok-push.ensures.items ∙ ap (λ xs. xs ++ item.row ∷ []) c.loop-item.invariant ∙ append_assoc before rows (item.row ∷ []) ∙ sym (ap (λ xs. before ++ xs) more)
+
+pub returns : goal.returns
+returns c =
+    let keyed = c.sort_unstable_by.new.self.items in
+    let first = c.args.rows.start in
+    let past = c.args.rows.«end» in
+    let found = map row_of_keyed keyed in
+    let all : c.loop-item.order.items ≡ c.args.order.now.items ++ found =
+    c.loop-item.invariant ∙ ap (λ xs. c.args.order.now.items ++ map row_of_keyed xs) (take_all _ c.deref-item-items.result.now c.loop-item-test.false ∙ c.deref-item-items.ensures.value) in
+    let same : IsPermutation (range_with_len first (past - first)) found =
+    subst (λ xs. IsPermutation xs found) c.in_ok-keyed.ensures.rows (IsPermutation-map row_of_keyed _ _ c.sort_unstable_by.ensures.permutation) in
+    let sorted = c.sort_unstable_by.ensures.sorted (λ (x y : Keyed). is_lt (keyed_cmp x y)) (ranks_by keyed_cmp_total (λ (x : Keyed). x)) (answers_always _ _ _ (λ f a r g h. search rules)) in (
+      found,
+      all,
+      rows_within first past _ found same c.requires.first c.requires.last,
+      λ model is. record {
+        keyed = keyed;
+        keys = All-permutation (IsKeyed c.args.source.now.options model c.args.table (key_limit (past - first))) _ _ c.sort_unstable_by.ensures.permutation (c.in_ok-keyed.ensures.keys model is);
+        sorted = sorted;
+        same = same;
+        rows = refl;
+      },
+    )

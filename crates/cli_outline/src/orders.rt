@@ -1,0 +1,257 @@
+//! The rows of tables in the order of their names.
+ghost use Rattle.std.specs.Prelude.{◌≡◌, ◌≤◌, ◌+◌, ◌-◌, ◌++◌, ℕ, List, All, IfOk, OnOk, map, slice_get};
+ghost use Rattle.std.specs.List.{range_with_len};
+ghost use Rattle.table_schema.specs.Tables.{table_index_of};
+ghost use Rattle.metadata.specs.Metadata.{Metadata};
+ghost use Rattle.metadata.specs.Model.{IsModel};
+ghost use Rattle.metadata_source.specs.declared.member_lists.MemberList.{MemberList as TheList};
+ghost use Rattle.metadata_source.specs.MemberLists.{member_of};
+ghost use Rattle.opening.specs.Views.{row_count};
+ghost use Rattle.cli_outline.specs.declared.orders.Grouping.TheVariants.{Members, Table};
+ghost use Rattle.cli_outline.specs.declared.source.Sorting.TheVariants.{ByName};
+ghost use Rattle.cli_outline.specs.Orders.{AreGrouped, AreInOrder, AreRowsIn, IsKey, IsKeyed, IsOrder, IsRowIn, grouping_of, key_limit, keyed_cmp, row_at, row_in, row_of_keyed, rows_of};
+
+use crate::outline::run_of;
+use crate::source::Source;
+use cli_declarations::{Declared, declare, name_row};
+use opening::{CellCursor, MemberList, TableId, Token};
+use std::alloc::{AllocError, Global};
+use std::cmp::Ordering;
+use std::ops::Range;
+
+/// The number of bytes of a key that are always compared.
+const OWN_BYTES: usize = 64;
+
+/// The number of further bytes that the keys of rows have together which are put in order together.
+const SHARED_BYTES: usize = 1 << 25;
+
+/// A row with its key.
+#[derive(Drop)]
+pub struct Keyed {
+    /// The first bytes of its name, a zero byte, and its declaration; empty if it has no line.
+    pub key: Vec<u8>,
+    /// The row.
+    pub row: u32,
+}
+
+/// The rows of a table, in an order.
+#[derive(Drop)]
+pub struct TableOrder {
+    /// The rows. If there are none, the order is that of the rows.
+    pub rows: Vec<u32>,
+}
+
+/// Which rows of a table are put in order together.
+#[derive(Clone, Copy)]
+pub enum Grouping {
+    /// All rows.
+    Table,
+    /// The members of each owner.
+    Members(MemberList),
+    /// None: no line is in their order.
+    Nothing,
+}
+
+/// Which rows of a table are put in order together.
+fn grouping_of(table: TableId) -> Grouping
+    ensures grouping { result ≡ grouping_of table }
+    ensures members { (list : TheList) → result ≡ Members list → table ≡ member_of list }
+{
+    match table {
+        TableId::Assembly
+        | TableId::AssemblyRef
+        | TableId::Module
+        | TableId::ModuleRef
+        | TableId::File
+        | TableId::ManifestResource
+        | TableId::ExportedType
+        | TableId::TypeDef
+        | TableId::Param
+        | TableId::InterfaceImpl
+        | TableId::GenericParam
+        | TableId::GenericParamConstraint
+        | TableId::MethodImpl
+        | TableId::ImplMap
+        | TableId::DeclSecurity
+        | TableId::CustomAttribute => Grouping::Table,
+        TableId::Field => Grouping::Members(MemberList::Fields),
+        TableId::MethodDef => Grouping::Members(MemberList::Methods),
+        TableId::Event => Grouping::Members(MemberList::Events),
+        TableId::Property => Grouping::Members(MemberList::Properties),
+        _ => Grouping::Nothing,
+    }
+}
+
+/// The key of a row: the first bytes of its name, a zero byte, and its declaration; empty if it has no line.
+fn key_of(
+    source: &Source<'_, '_>,
+    token: Token,
+    limit: usize,
+    declared: &mut Declared,
+) -> Result<Vec<u8>, AllocError>
+    requires first { 1 ≤ token.row }
+    requires last { token.row ≤ row_count source.now.neighbours.view.now token.table }
+    ensures { (model : Metadata) → IsModel source.now.neighbours.view.now model → IfOk result (λ key. IsKey source.now.options model limit token key.items) }
+{
+    let mut whole = Vec::new(declared.alloc);
+    if !source.shows(token) {
+        return Ok(whole);
+    }
+    name_row(&source.neighbours, token, declared)?;
+    whole.extend_from_slice(declared.text.as_bytes())?;
+    whole.push(0)?;
+    declare(&source.neighbours, token, declared)?;
+    whole.extend_from_slice(declared.text.as_bytes())?;
+    whole.truncate(limit);
+    Vec::from_slice(declared.alloc, &whole)
+}
+
+/// The number of bytes of a key, by the number of rows that are put in order together.
+fn key_limit(count: u32) -> usize
+    ensures { result ≡ key_limit count }
+{
+    OWN_BYTES + SHARED_BYTES / (count as usize + 1)
+}
+
+/// Some rows of a table with their keys, in ascending order.
+fn keyed_rows(
+    source: &Source<'_, '_>,
+    table: TableId,
+    rows: Range<u32>,
+    declared: &mut Declared,
+) -> Result<Vec<Keyed>, AllocError>
+    requires first { 1 ≤ rows.start }
+    requires last { rows.«end» ≤ row_count source.now.neighbours.view.now table + 1 }
+    ensures rows { IfOk result (λ keyed. map row_of_keyed keyed.items ≡ range_with_len rows.start (rows.«end» - rows.start)) }
+    ensures keys { (model : Metadata) → IsModel source.now.neighbours.view.now model → IfOk result (λ keyed. All (IsKeyed source.now.options model table (key_limit (rows.«end» - rows.start))) keyed.items) }
+{
+    let (first, past) = (rows.start, rows.end);
+    let limit = key_limit(past.saturating_sub(first));
+    let mut keyed = Vec::new(declared.alloc);
+    for row in first..past {
+        let key = key_of(source, Token { table, row }, limit, declared)?;
+        keyed.push(Keyed { key, row })?;
+    }
+    Ok(keyed)
+}
+
+/// The order of two rows: that of the bytes of their keys; with one key, that of the rows.
+fn compare_keyed(left: &Keyed, right: &Keyed) -> Ordering
+    ensures { result ≡ keyed_cmp left.now right.now }
+{
+    match left.key.cmp(&right.key) {
+        Ordering::Equal => left.row.cmp(&right.row),
+        order => order,
+    }
+}
+
+/// Appends some rows of a table in the order of their keys.
+fn push_in_order(
+    source: &Source<'_, '_>,
+    table: TableId,
+    rows: Range<u32>,
+    declared: &mut Declared,
+    order: &mut Vec<u32>,
+) -> Result<(), AllocError>
+    requires first { 1 ≤ rows.start }
+    requires last { rows.«end» ≤ row_count source.now.neighbours.view.now table + 1 }
+    ensures { OnOk result ((found : List ℕ) × (order.new.items ≡ order.old.items ++ found) × All (IsRowIn source.now.neighbours.view.now table) found
+        × ((model : Metadata) → IsModel source.now.neighbours.view.now model → AreInOrder source.now.options model table rows.start rows.«end» found)) }
+{
+    let mut keyed = keyed_rows(source, table, rows, declared)?;
+    keyed.sort_unstable_by(
+        |left: &Keyed, right: &Keyed| -> Ordering
+            ensures { result ≡ keyed_cmp left.now right.now }
+        { compare_keyed(left, right) },
+    );
+    for item in &keyed {
+        order.push(item.row)?;
+    }
+    Ok(())
+}
+
+/// The members of each owner in the order of their keys, owner by owner.
+fn members_in_order(
+    source: &Source<'_, '_>,
+    list: MemberList,
+    declared: &mut Declared,
+) -> Result<Vec<u32>, AllocError>
+    ensures within { IfOk result (λ order. All (IsRowIn source.now.neighbours.view.now (member_of list)) order.items) }
+    ensures grouped { (model : Metadata) → IsModel source.now.neighbours.view.now model
+        → IfOk result (λ order. AreGrouped source.now.options model (member_of list) (row_at order.items) (Members list)) }
+{
+    metadata::laws::models_are_read();
+    metadata::laws::models_of_roots_are_valid();
+    let mut order = Vec::new(declared.alloc);
+    let mut cells = CellCursor::new(source.neighbours.view);
+    for owner in 1..source.neighbours.view.count(list.owner()) + 1 {
+        let rows = run_of(&mut cells, list, owner);
+        push_in_order(source, list.member(), rows, declared, &mut order)?;
+    }
+    Ok(order)
+}
+
+/// All rows of a table in the order of their keys.
+fn table_in_order(
+    source: &Source<'_, '_>,
+    table: TableId,
+    declared: &mut Declared,
+) -> Result<Vec<u32>, AllocError>
+    ensures within { IfOk result (λ order. All (IsRowIn source.now.neighbours.view.now table) order.items) }
+    ensures grouped { (model : Metadata) → IsModel source.now.neighbours.view.now model
+        → IfOk result (λ order. AreGrouped source.now.options model table (row_at order.items) Table) }
+{
+    let mut order = Vec::new(declared.alloc);
+    let past = source.neighbours.view.count(table) + 1;
+    push_in_order(source, table, 1..past, declared, &mut order)?;
+    Ok(order)
+}
+
+/// The rows of a table in order, by what is put in order together.
+fn rows_in_order(
+    source: &Source<'_, '_>,
+    table: TableId,
+    declared: &mut Declared,
+) -> Result<Vec<u32>, AllocError>
+    ensures within { IfOk result (λ order. All (IsRowIn source.now.neighbours.view.now table) order.items) }
+    ensures grouped { (model : Metadata) → IsModel source.now.neighbours.view.now model
+        → IfOk result (λ order. AreGrouped source.now.options model table (row_at order.items) (grouping_of table)) }
+{
+    match grouping_of(table) {
+        Grouping::Table => table_in_order(source, table, declared),
+        Grouping::Members(list) => members_in_order(source, list, declared),
+        Grouping::Nothing => Ok(Vec::new(declared.alloc)),
+    }
+}
+
+/// The rows of a table in the order that is known; none if none is.
+pub(crate) fn rows_of(orders: &[TableOrder], table: TableId) -> &[u32]
+    ensures { result.now ≡ rows_of (slice_get orders.now (table_index_of table)) }
+{
+    match orders.get(table.table_index()) {
+        Some(order) => &order.rows,
+        None => &[],
+    }
+}
+
+/// The orders of the rows of all tables, by their names.
+///
+/// # Errors
+///
+/// Out of memory.
+pub(crate) fn orders_by_name(
+    alloc: Global,
+    source: &Source<'_, '_>,
+) -> Result<Vec<TableOrder>, AllocError>
+    ensures within { IfOk result (λ orders. AreRowsIn source.now.neighbours.view.now orders.items) }
+    ensures order { (model : Metadata) → IsModel source.now.neighbours.view.now model → IfOk result (λ orders. IsOrder source.now.options ByName model (row_in orders.items)) }
+{
+    table_schema::laws::tables_stand();
+    let mut orders = Vec::new(alloc);
+    let mut declared = Declared::new(alloc);
+    for table in TableId::all() {
+        let rows = rows_in_order(source, *table, &mut declared)?;
+        orders.push(TableOrder { rows })?;
+    }
+    Ok(orders)
+}
