@@ -12,10 +12,13 @@ DESCRIBING = (
     (".interfaceimpl type ", " implements "),
     (".override ", None),
     (".param type ", None),
+    (".param [", None),
     (".pinvokeimpl(", None),
     (".permissionset ", None),
     (".custom ", None),
 )
+# The name of a type, before its generic parameters, its base type and its interfaces.
+OWN_NAME = re.compile("(?:'[^']*'|[^'< ])*")
 CONSTRAINT = re.compile(r"\.param constraint .*?([0-9a-f]{8}), ")
 
 
@@ -31,7 +34,7 @@ def types_of(text):
         word, _, tail = line.partition(" ")
         if word == ".class" and not tail.startswith("extern "):
             _, declared = flags_of(without_layout(tail.rpartition("  // ")[0]))
-            lines, name = [], declared.partition(" extends ")[0]
+            lines, name = [], OWN_NAME.match(declared)[0]
             types.setdefault(plain(name), lines)
         elif not line.startswith("  "):
             lines = []

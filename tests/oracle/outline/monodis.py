@@ -116,6 +116,9 @@ class Reader:
         if not of_method:
             self.types[-1].params = names
         for *parts, name in params:
+            if not of_method:
+                shown = sorted(no_kinds(self.show(it, names)) for it in parts)
+                self.add("generic parameter in the head", " ".join([*shown, self.quoted.show(name)]))
             flags = sorted(it for it in parts if not it.startswith("("))
             self.add("generic parameter", f"{' '.join([*flags, self.quoted.show(name)])} of {owner}")
             for it in [it for part in parts if part.startswith("(") for it in split_list(part[1:-1])]:
@@ -135,7 +138,8 @@ class Reader:
         self.add_params(name, params[:-1])
         self.add("class", f"{flags} extends {no_kinds(self.show(extends))}")
         for it in split_list(interfaces):
-            self.add("interface", no_kinds(self.show(it)))
+            for kind in ("interface", "interface in the head"):
+                self.add(kind, no_kinds(self.show(it)))
 
     def read_field(self, text):
         values = [*values_of(text, unescaped_text)]

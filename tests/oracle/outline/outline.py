@@ -3,7 +3,7 @@
 import re
 from collections import defaultdict
 
-from texts import ACCESSORS, CODE, Quoted, flags_of, marshalled, no_kinds, opening, ordered, plain, split_outside, values_of
+from texts import ACCESSORS, CODE, Quoted, flags_of, marshalled, no_kinds, opening, ordered, plain, split_list, split_outside, values_of
 
 
 def declared(text):
@@ -72,10 +72,17 @@ class Reader:
 
     def read_class(self, text):
         flags, tail = flags_of(text)
-        self.type, _, extends = without_layout(tail).partition(" extends ")
+        head, _, interfaces = without_layout(tail).partition(" implements ")
+        head, _, extends = head.partition(" extends ")
+        self.type, _, params = head.partition("<")
         # monodis does not print the type of what belongs to no type.
         if self.quoted.show(self.type) != "<Module>":
             self.add("class", f"{flags} extends {no_kinds(extends)}")
+        for it in split_list(params[:-1]):
+            *parts, name = split_outside(it, " ")
+            self.add("generic parameter in the head", " ".join([*sorted(no_kinds(it) for it in parts), name]))
+        for it in split_list(interfaces):
+            self.add("interface in the head", no_kinds(it))
 
     def own(self, text):
         """A text without the type before the name of its member."""

@@ -80,8 +80,7 @@ def opening(text, end):
 
 
 def plain(text):
-    """A text without the scopes of types, without `default`, and with spaces as the program has them."""
-    text = re.sub(r"\[(?!\.\.\.)[^\[\]\d,-][^\[\]]*\](?=\S)", "", text)
+    """A text without `default`, and with spaces as the program has them."""
     text = re.sub(r"\bdefault ", "", text)
     text = re.sub(r" ?(modreq|modopt) ?\(", r" \1(", text).replace(") *", ")*")
     return re.sub(r",\s+", ",", re.sub(r"\s+", " ", text)).strip()

@@ -4,12 +4,12 @@ import re
 
 from left_out import ACTIONS, WORDS
 from named import KEYS, matches, names_of_type, table_of
-from notation import HEX, MEMBER, NAME, PATH, PROPERTY, TYPE, WORD, Reader, plain
+from notation import HEX, MEMBER, NAME, PATH, PROPERTY, SCOPE, TYPE, WORD, Reader, plain
 from rows import KINDS
 from walk import CODED, NUMBERS
 
 VERSION = r'\.ver <MajorVersion>:<MinorVersion>:<BuildNumber>:<RevisionNumber>(?: \.culture "<Culture>")?'
-SCOPE, TOKEN = rf"\[(?:\.module )?{NAME}\]", "[0-9a-f]{8}"
+TOKEN = "[0-9a-f]{8}"
 # What a cell or another part of a line is, by its name. The others are given by the kinds of their columns.
 PARTS = {"own": PATH, "given": TOKEN, "scope": SCOPE, "key": r"\.publickey(?:token)?", "Culture": '[^"]*', "ImportName": '[^"]*'}
 PARTS |= {"HashAlgId": TOKEN, "RVA": TOKEN, "Action": r"\w+"}
@@ -24,7 +24,8 @@ LINES = {
     "ManifestResource": [r"\.mresource<Flags> <Name>"],
     "ExportedType": [r"\.class extern<Flags> <own>(?= in |$)", [" in <given> ", "Implementation"]],
     "TypeDef": [
-        r"\.class<Flags> <own>(?= extends | \{|$)", [" extends ", "Extends"], r"(?: \{ \.pack <ClassLayout_PackingSize> \.size <ClassLayout_ClassSize> \})?",
+        r"\.class<Flags> <own>(?=<| extends | implements | \{|$)", "generic_params", [" extends ", "Extends"], "interfaces",
+        r"(?: \{ \.pack <ClassLayout_PackingSize> \.size <ClassLayout_ClassSize> \})?",
     ],
     "Field": [
         r"  \.field(?: \[<FieldLayout_Offset>\])?<Flags> ", "declaration", [" = ", "constant"],
@@ -43,8 +44,10 @@ LINES = {
     "DeclSecurity": [r"\.permissionset <Action> = \(<PermissionSet>\) of ", "Parent"],
     "CustomAttribute": [r"\.custom ", "Type", "value", " of ", "Parent"],
     "TypeRef": [r"\.typeref <scope>?<own>"],
-    "MemberRef": [r"\.memberref ", "declaration", "(?: of <scope>)?", "parent"],
+    "MemberRef": [r"\.memberref ", "declaration", "parent"],
 }
+# The words of the flags of a generic parameter in the head of a type.
+GENERIC_WORDS = "(?:" + "|".join(re.escape(f"{it} ") for _, _, it in WORDS["GenericParam.Flags"]) + ")*"
 # The columns whose references are types, and those whose references have signatures.
 TYPES, REFERENCES = ("Extends", "EventType", "Class", "Interface", "Constraint"), ("Method", "MethodBody", "MethodDeclaration", "Type")
 
@@ -137,17 +140,37 @@ class Line:
 
     def read_own(self, text):
         """The name of a type, after those of the types that enclose it."""
-        if self.table != "ExportedType" and self.token not in self.rows.types(text):
+        if self.table != "ExportedType" and self.token not in self.rows.types(text, self.scope):
             raise ValueError(f"{text} is the name of other rows")
         outer, name = re.fullmatch(rf"(?:({PATH})/)?({TYPE})", text).groups()
         for column, part in zip(("TypeNamespace", "TypeName"), names_of_type(name)):
             self.put(self.token, column, part)
         if not (outer or "").startswith("..") and self.table != "ExportedType" and (outer or self.table == "TypeRef"):
-            scopes = self.rows.scopes(self.scope)
-            found = [it for it in self.rows.types(outer) if self.rows.scope(it) in scopes] if outer else scopes
+            found = self.rows.types(outer, self.scope) if outer else self.rows.scopes(self.scope)
             row, column = (self.token, "ResolutionScope") if self.table == "TypeRef" else (self.describing("NestedClass"), "EnclosingClass")
             # Neither this module nor no scope has a mark.
             self.put(row, column, lambda value: (None if value and table_of(value) == "Module" else value) in found)
+
+    def listed(self, table, column, owner, read, begin, end):
+        """A list in the head of a type: reads what each row of a table is that refers to an owner."""
+        tokens = self.rows.referring[table, owner]
+        if bool(tokens) != bool(self.reader.take(begin)):
+            raise ValueError(f"a list of {len(tokens)} rows of {table}")
+        for token, of in zip(tokens, self.reader.listed(read, end) if tokens else [], strict=True):
+            self.put(token, column, of.__contains__)
+
+    def interfaces(self):
+        self.listed("InterfaceImpl", "Interface", self.token, self.reader.types, " implements ", r"(?= \{|$)")
+
+    def generic_params(self):
+        left = iter(self.rows.referring["GenericParam", self.token])
+        self.listed("GenericParam", "Name", self.token, lambda: self.generic_param(next(left)), "<", ">")
+
+    def generic_param(self, token):
+        """A generic parameter: the words of its flags, its constraints, and its name, which is returned in a list."""
+        self.put(token, "Flags", self.flags("GenericParam.Flags", self.reader.take(GENERIC_WORDS)[0].split()))
+        self.listed("GenericParamConstraint", "Constraint", token, self.reader.types, r"\(", r"\) ")
+        return [plain(self.reader.want(WORD)[0])]
 
     def refer(self, column):
         """A reference to one of several rows, in the tables of a column."""
@@ -190,8 +213,8 @@ class Line:
 
     def parent(self):
         """The parent of a MemberRef; a method stands for its type."""
-        owners, scopes, rows = self.reader.owners, self.rows.scopes(self.scope), self.rows
-        self.put(self.token, "Class", lambda value: rows.owners.get(value, value) in owners and rows.scope(value) in scopes)
+        owners, rows = self.reader.owners, self.rows
+        self.put(self.token, "Class", lambda value: rows.owners.get(value, value) in owners)
 
     def value(self):
         self.matching("Value", self.reader.value())

@@ -2,6 +2,7 @@
 
 import json
 import re
+from collections import defaultdict
 
 from notation import NAME, TYPE, WORD, plain
 from rows import KINDS, LISTS
@@ -12,6 +13,8 @@ DEPTH = 64
 # The columns by which a row refers to the one that it describes. Of several such rows the first one counts.
 KEYS = {"Constant": "Parent", "FieldMarshal": "Parent", "ClassLayout": "Parent", "FieldLayout": "Field", "FieldRVA": "Field"}
 KEYS |= {"NestedClass": "NestedClass", "Param": "Sequence"}
+# The columns of the rows that are lists in the head of another row.
+HEADS = {"InterfaceImpl": "Class", "GenericParam": "Owner", "GenericParamConstraint": "Owner"}
 # A signature whose text does not say where a TypeSpec ends. No compiler is known to write one.
 UNCLEAR = re.compile("(?:class|valuetype) 1b")
 # The tables of members, and of other rows with a name.
@@ -48,6 +51,9 @@ class Rows:
             self.positions.setdefault((row["owner"], row["Sequence"]), []).append(row["token"])
         for row in (row for table in KEYS for row in self.tables[table]):
             self.keyed.setdefault((row["table"], self.key(row)), row)
+        self.referring = defaultdict(list)
+        for row in (row for table in HEADS for row in self.tables[table]):
+            self.referring[row["table"], row[HEADS[row["table"]]]].append(row["token"])
         nested = [row["NestedClass"] for row in self.tables["NestedClass"]]
         self.is_nested_in_order = nested == sorted(nested)
         for key, row in (it for part in (self.type_names(), self.other_names(), self.member_names()) for it in part):
@@ -116,11 +122,12 @@ class Rows:
             return [None]
         return self.others(text[9:-1], "ModuleRef") if text.startswith("[.module ") else self.others(text[1:-1], "AssemblyRef")
 
-    def types(self, text):
-        """The rows of TypeDef and TypeRef with a path."""
-        if text not in self.known:
-            self.known[text] = self.named.get(tuple(None if it == ".." else names_of_type(it) for it in re.findall(rf"\.\.|{TYPE}", text)), [])
-        return self.known[text]
+    def types(self, text, scope=None):
+        """The rows of TypeDef and TypeRef with a path, in a scope."""
+        if (text, scope) not in self.known:
+            path, scopes = tuple(None if it == ".." else names_of_type(it) for it in re.findall(rf"\.\.|{TYPE}", text)), self.scopes(scope)
+            self.known[text, scope] = [it for it in self.named.get(path, []) if self.scope(it) in scopes]
+        return self.known[text, scope]
 
     def specs(self, text, pattern):
         """The rows of TypeSpec with a text, whose signatures a pattern matches."""

@@ -12,6 +12,8 @@ NAME, WORD = rf"(?:'[^']*'|{ID}(?:\.{ID})*)", rf"(?:'[^']*'|{ID})"
 TYPE = rf"(?:(?:{NAME}\.)?{WORD})"
 # Types that enclose one another. Of a long chain the outermost ones are left out.
 PATH = rf"(?:\.\.|{TYPE})(?:/{TYPE})*"
+# The scope of a type of another module (II.7.3).
+SCOPE = rf"\[(?:\.module )?{NAME}\]"
 MEMBER = rf"(?:\.c?ctor(?![A-Za-z0-9_$@`?.])|{NAME})"
 HEX, TEXT = "((?:[0-9a-f]{2})*)", r'"((?:\\.|[^"\\])*)"'
 # The words for types of one byte in signatures (II.23.1.16) and in values (II.23.3), and the bytes of a number.
@@ -85,9 +87,9 @@ class Reader:
 
     def types(self):
         """The rows of the type here: those with this name, or the TypeSpecs of this type."""
-        start, found = self.at, self.take(PATH)
-        if found and self.rows.types(found[0]):
-            return self.rows.types(found[0])
+        start, found = self.at, self.take(f"({SCOPE})?({PATH})")
+        if found and (types := self.rows.types(found[2], found[1])):
+            return types
         if found and self.is_inner and found[0] == "..":
             return [row["token"] for row in self.rows.tables["TypeSpec"]]
         self.at, before, self.is_inner = start, self.is_inner, True
@@ -160,8 +162,10 @@ class Reader:
 
     def qualified(self):
         """The name of a member, and the rows of the type or the module before it."""
-        start, found = self.at, self.take(f"({PATH})::")
-        self.owners = self.rows.types(found[1]) + self.rows.others(found[1], "ModuleRef") if found else []
+        start, found = self.at, self.take(f"({SCOPE})?({PATH})::")
+        self.owners = self.rows.types(found[2], found[1]) if found else []
+        if found and not found[1]:
+            self.owners = self.owners + self.rows.others(found[2], "ModuleRef")
         if not self.owners:
             self.at = start
             self.owners = self.types()
@@ -175,9 +179,9 @@ class Reader:
 
     def named(self):
         """The rows that a name without a signature stands for."""
-        found = self.want(f"({PATH})(?:::({MEMBER}))?")
-        types = self.rows.types(found[1])
-        return self.rows.members(types, plain(found[2])) if found[2] else types + self.rows.others(found[1])
+        found = self.want(f"({SCOPE})?({PATH})(?:::({MEMBER}))?")
+        types = self.rows.types(found[2], found[1])
+        return self.rows.members(types, plain(found[3])) if found[3] else types + self.rows.others(found[2])
 
     # ---- values
 

@@ -3,7 +3,7 @@
 use crate::runs::answer;
 use cli_input::{Input, open};
 use cli_lines::{Form, Printer};
-use cli_outline::{OutlineOptions, Rows, Tokens, print_outline, print_refs};
+use cli_outline::{OutlineOptions, Rows, Sorting, Tokens, print_outline, print_refs};
 use sample_roots::RootBuilder;
 use std::alloc::Global;
 use std::fs;
@@ -119,6 +119,29 @@ fn outline_with(
     Ok(String::from_utf8(out).ok().ok_or("no text")?)
 }
 
+/// In the order of names `M` comes before `get_P`, and a name in quotes before one without. Accessors stay with their property.
+#[test]
+fn prints_in_the_order_of_names(rt: HostRuntime) -> Result<(), Fail> {
+    let root = root_of_properties(rt.alloc(), [[2, 0, 1, 0], [3, 0, 2, 0]], &[GETTER])?;
+    let lines = "\
+.module extern k.dll  // 1a000001
+.class private auto ansi '<M>'  // 02000001
+.class private auto ansi '\\x1bD' extends N.C  // 02000003
+  .property instance int32 '\\x1bD'::M()  // 17000002
+.class public auto ansi beforefieldinit N.C  // 02000002
+  .method public static pinvokeimpl void N.C::M() cil managed  // 06000002
+  .method public hidebysig specialname instance int32 N.C::get_P() cil managed  // 06000001
+  .event N.C N.C::E  // 14000001
+  .property specialname instance int32 N.C::P()  // 17000001
+    .get instance int32 N.C::get_P() of N.C::P  // 18000001
+.pinvokeimpl(\"k.dll\" as \"M\" platformapi) of N.C::M  // 1c000001
+.custom void N.C::.ctor() = (0100) of N.C  // 0c000001
+";
+    let text = printed(&rt, root.as_slice(), &["clim", "outline", "--bare", "--sorted", "o.root"])?;
+    assert_eq!(rt; text.as_str(), lines);
+    Ok(())
+}
+
 /// Without tokens no line of text has a comment. A line of JSON has its token all the same.
 #[test]
 fn leaves_tokens_out_of_text(rt: HostRuntime) -> Result<(), Fail> {
@@ -127,6 +150,7 @@ fn leaves_tokens_out_of_text(rt: HostRuntime) -> Result<(), Fail> {
     let options = OutlineOptions {
         tokens: Tokens::Hidden,
         rows: Rows::All,
+        sorting: Sorting::ByRow,
     };
     let whole = outline_of(&rt, root.as_slice())?;
     let mut lines = String::new(alloc);
@@ -435,6 +459,41 @@ fn prints_layouts_addresses_and_permissions(rt: HostRuntime) -> Result<(), Fail>
     Ok(())
 }
 
+/// The rows of interfaces and of constraints are in no order (II.22.20, II.22.21, II.22.23).
+#[test]
+fn prints_generic_parameters_and_interfaces(rt: HostRuntime) -> Result<(), Fail> {
+    let mut root = RootBuilder::new(rt.alloc());
+    root.sorted = 0;
+    root.row(0x02, b"\0\0\0\0\x01\0\0\0\0\0\x01\0\x01\0")?;
+    root.row(0x02, b"\x01\0\0\0\x07\0\x05\0\x04\0\x01\0\x01\0")?;
+    root.row(0x02, b"\xA0\0\0\0\x0B\0\0\0\0\0\x01\0\x01\0")?;
+    root.row(0x09, b"\x02\0\x0C\0")?;
+    root.row(0x09, b"\x03\0\x04\0")?;
+    root.row(0x09, b"\x02\0\x04\0")?;
+    root.row(0x2A, b"\0\0\x15\0\x04\0\x09\0")?;
+    root.row(0x2A, b"\x01\0\0\0\x04\0\x13\0")?;
+    root.row(0x2C, b"\x01\0\x0C\0")?;
+    root.row(0x2C, b"\x02\0\x04\0")?;
+    root.row(0x2C, b"\x01\0\x04\0")?;
+    root.heap("#Strings", TEXTS)?;
+    let root = root.finish()?;
+    let lines = "\
+.class private auto ansi '<M>'  // 02000001
+.class public auto ansi N.C<+ class .ctor (P, '<M>') M, ('<M>') E> extends '<M>' implements P, '<M>'  // 02000002
+.class private auto interface abstract ansi P implements '<M>'  // 02000003
+.interfaceimpl type N.C implements P  // 09000001
+.interfaceimpl type P implements '<M>'  // 09000002
+.interfaceimpl type N.C implements '<M>'  // 09000003
+.param type + class .ctor M [0] of N.C  // 2a000001
+.param type E [1] of N.C  // 2a000002
+.param constraint M 2a000001, P  // 2c000001
+.param constraint E 2a000002, '<M>'  // 2c000002
+.param constraint M 2a000001, '<M>'  // 2c000003
+";
+    assert_eq!(rt; outline_of(&rt, root.as_slice())?.as_str(), lines);
+    Ok(())
+}
+
 /// MemberRefs of a method and of a module, and exported types, one within another (II.22.14, II.22.25).
 fn root_of_names(alloc: Global) -> Result<Vec<u8>, Fail> {
     let mut root = RootBuilder::new(alloc);
@@ -502,8 +561,8 @@ fn prints_references_with_their_scopes(rt: HostRuntime) -> Result<(), Fail> {
 .typeref [E]N.C/M  // 01000002
 .typeref [.module k.dll]C  // 01000003
 .typeref E  // 01000004
-.memberref instance int32 N.C/M::.ctor() of [E]  // 0a000001
-.memberref int32 C::P of [.module k.dll]  // 0a000002
+.memberref instance int32 [E]N.C/M::.ctor()  // 0a000001
+.memberref int32 [.module k.dll]C::P  // 0a000002
 .memberref vararg void k.dll::M(int32, ..., string)  // 0a000003
 ";
     let Ok(view) = open(root.as_slice(), Input::BareRoot) else {

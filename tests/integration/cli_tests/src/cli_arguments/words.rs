@@ -860,3 +860,17 @@ fn asks_for_what_is_visible(rt: HostRuntime) -> Result<(), Fail> {
     }
     Ok(())
 }
+
+#[test]
+fn asks_for_the_order_of_names(rt: HostRuntime) -> Result<(), Fail> {
+    for (words, sorted, public) in [
+        (["clim", "outline", "a.dll"].as_slice(), false, false),
+        (&["clim", "outline", "--sorted", "a.dll"], true, false),
+        (&["clim", "outline", "a.dll", "N.C", "--sorted", "--public"], true, true),
+        (&["clim", "outline", "--public", "--", "a.dll", "--sorted"], false, true),
+    ] {
+        let asked = ask(rt.alloc(), words)?;
+        assert_eq!(rt; (asked.sorted, asked.public), (sorted, public));
+    }
+    Ok(())
+}

@@ -1,5 +1,5 @@
 use model::{
-    Limit, ReadCells, TableId, Token, open_root, write_full_name, write_full_name_within,
+    Limit, ReadCells, Scopes, TableId, Token, open_root, write_full_name, write_full_name_within,
     write_method, write_type_def,
 };
 use sample_roots::{
@@ -160,6 +160,10 @@ struct Needed;
 impl Limit<Given> for Needed {
     fn is_reached(&self, writer: &Given) -> bool {
         writer.text.len() >= writer.needed
+    }
+
+    fn scopes_of_names(&self) -> Scopes {
+        Scopes::Omitted
     }
 }
 
