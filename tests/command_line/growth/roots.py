@@ -11,8 +11,8 @@ INT32 = b"\x08"
 SHORTEST, LONGER = b"\x13\0", b"\x13\x80\0"
 # Signatures of a field and a property of int32, and of a method without parameters that returns nothing, each as a blob.
 FIELD, PROPERTY, METHOD = (blob_of(it) for it in (b"\x06\x08", b"\x08\0\x08", b"\0\0\x01"))
-# Flags of types and methods (II.23.1.10, II.23.1.15).
-PUBLIC, NESTED_PUBLIC, PUBLIC_METHOD = 1, 2, 6
+# Flags of types, methods and fields (II.23.1.5, II.23.1.10, II.23.1.15).
+PUBLIC, NESTED_PUBLIC, PUBLIC_METHOD, STATIC = 1, 2, 6, 16
 # The number of types of one name that are looked up.
 DEPTH = 64
 # The bytes of the longest public key whose token is printed, of the longest value of an attribute that is read, and of the
@@ -330,10 +330,21 @@ def endings_of_keys(size):
 
 
 def own_attributes(size, width, signature, value):
-    """A root of which a part is attributes of the assembly, all with this signature of their constructor and this value."""
+    """A root of which a part is attributes of the assembly, all with this signature of their constructor and this value.
+
+    The first type is an enum, whose instance field follows as many static ones as are looked at.
+    """
     row = coded("HasCustomAttribute", "Assembly", 1), coded("CustomAttributeType", "MemberRef", 1), 1 + len(signature)
-    rows = {"TypeRef": [(0, 1, 0)], "MemberRef": [(coded("MemberRefParent", "TypeRef", 1), 1, 1)], "CustomAttribute": [row] * (size // width)}
-    return Root({**rows, "Assembly": [(0, 0, 0, 0, 0, 0, 0, 1, 0)]}, b"\0a\0", heap(signature, value))
+    field = 1 + len(signature + value)
+    rows = {
+        "TypeRef": [(0, 1, 0), (0, 3, 8)],
+        "TypeDef": [type_row(extends=coded("TypeDefOrRef", "TypeRef", 2))],
+        "Field": [(STATIC, 1, field)] * 15 + [(0, 1, field)],
+        "MemberRef": [(coded("MemberRefParent", "TypeRef", 1), 1, 1)],
+        "CustomAttribute": [row] * (size // width),
+        "Assembly": [(0, 0, 0, 0, 0, 0, 0, 1, 0)],
+    }
+    return Root(rows, b"\0a\0Enum\0System\0", heap(signature, value, FIELD))
 
 
 def attributes_with_one_value(size):
@@ -351,6 +362,21 @@ def attributes_with_a_long_value(size):
 def attributes_with_a_long_signature(size):
     """Attributes with a constructor that takes too many strings."""
     return own_attributes(size, 56, blob_of(b"\x20" + packed(size // 2) + b"\x01" + b"\x0e" * (size // 2)), blob_of(b"\1\0\0\0"))
+
+
+def attributes_of_strings(size):
+    """Attributes with a constructor that takes as many strings as are looked at, and a value that has none."""
+    return own_attributes(size, 8, blob_of(b"\x20\x40\x01" + b"\x0e" * 64), blob_of(b"\1\0\0\0"))
+
+
+def attributes_of_enums(size):
+    """The same, with enums in place of the strings."""
+    return own_attributes(size, 8, blob_of(b"\x20\x40\x01" + b"\x11\x04" * 64), blob_of(b"\1\0" + bytes(258)))
+
+
+def attributes_of_many_strings(size):
+    """Attributes with a constructor that takes thousands of strings, and a value for many."""
+    return own_attributes(size, 8, blob_of(b"\x20" + packed(8314) + b"\x01" + b"\x0e" * 8314), blob_of(b"\1\0" + bytes(1000)))
 
 
 def members_with_one_signature(size):

@@ -1,0 +1,22 @@
+use Rattle.std.proofs.Common.{◌∙◌, List, ap, subst, sym}
+use Rattle.table_schema.specs.declared.column.ColumnKind.{ColumnKind}
+use Rattle.sig_items.specs.declared.item.Item.{Item}
+use Rattle.metadata.specs.Cell.{Cell}
+use Rattle.metadata.specs.Metadata.{cell_in}
+use Rattle.metadata.specs.Valid.{kind_at}
+use Rattle.reading.specs.Shown.{ShowsSignature}
+use Rattle.attribute_constructors.specs.Signatures.{items_in}
+use Rattle.attribute_constructors.specs.Params.{if_strings, params_in}
+use Rattle.attribute_constructors.proofs.TypeLemmas.{no_signature}
+use Rattle.attribute_constructors.proofs.strings.strings_in_cell.Goals as goal
+
+pub returns-in-Sig : goal.returns-in-Sig
+returns-in-Sig g c = λ model is.
+    let cell = cell_in model c.args.table c.args.row c.args.cell in
+    let shows = subst (λ (k : ColumnKind). ShowsSignature k c.in-Sig.blob.now cell) c.requires.kind (c.in-Sig.ensures.cell model (c.view.ensures.shown model is)) in
+    c.strings_in_blob.ensures model shows.0 shows.1 ∙ ap (λ (v : Cell). if_strings c.args.most (params_in model (items_in v))) (sym shows.2)
+
+pub returns-in_default : goal.returns-in_default
+returns-in_default g c = λ model is.
+    sym (ap (λ (items : List Item). if_strings c.args.most (params_in model items))
+    (no_signature (kind_at c.args.table c.args.cell) c.cell.result (cell_in model c.args.table c.args.row c.args.cell) c.in_default.not-Sig (c.cell.ensures.cell model (c.view.ensures.shown model is))))

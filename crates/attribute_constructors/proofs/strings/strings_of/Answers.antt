@@ -1,0 +1,16 @@
+use Rattle.std.proofs.Common.{◌∙◌, ap, sym}
+use Rattle.table_schema.specs.declared.table.TableId.{TableId}
+use Rattle.attribute_constructors.specs.Params.{if_strings, params_of_constructor}
+use Rattle.attribute_constructors.proofs.StringLemmas.{no_strings}
+use Rattle.attribute_constructors.proofs.strings.strings_of.Goals as goal
+
+pub returns-in-MethodDef : goal.returns-in-MethodDef
+returns-in-MethodDef g c = λ model is.
+    c.strings_in_cell.ensures model is ∙ sym (ap (λ (t : TableId). if_strings c.args.most (params_of_constructor model t c.args.of.row)) c.in-MethodDef.is)
+
+pub returns-in-MemberRef : goal.returns-in-MemberRef
+returns-in-MemberRef g c = λ model is.
+    c.strings_in_cell-in-MemberRef.ensures model is ∙ sym (ap (λ (t : TableId). if_strings c.args.most (params_of_constructor model t c.args.of.row)) c.in-MemberRef.is)
+
+pub returns-in_default : goal.returns-in_default
+returns-in_default g c = λ model is. no_strings model c.args.most c.args.of.table c.args.of.row c.in_default.not-MethodDef c.in_default.not-MemberRef
