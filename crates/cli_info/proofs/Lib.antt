@@ -3,3 +3,4 @@ pub mod HeaderLemmas
 pub mod TokenLemmas
 pub mod QuoteLemmas
 pub mod TextLemmas
+pub mod StringLemmas
