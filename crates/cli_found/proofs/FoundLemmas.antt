@@ -1,7 +1,7 @@
 -- The lines at a fault, by cases.
-use Rattle.std.specs.Prelude.{Bool, None, nat_le}
-use Rattle.std.proofs.Common.{◌≡◌, arith, ℕ, ◌+◌, ◌<◌, ◌≤◌, List, [], ◌∷◌, ◌++◌, length, map, refl, subst, sym}
-use Rattle.std.proofs.lemmas.Bool.{cond-false, cond-true, le-leb, lt-leb}
+use Rattle.std.specs.Prelude.{Bool, None, Option, nat_le}
+use Rattle.std.proofs.Common.{◌≡◌, arith, ℕ, ◌+◌, ◌<◌, ◌≤◌, List, [], ◌∷◌, ◌++◌, length, map, ap, refl, subst, sym}
+use Rattle.std.proofs.lemmas.Bool.{cond-false, cond-true, le-leb, lt-leb, ne_eqb, or_from}
 use Rattle.packed.specs.declared.code.FaultCode.{FaultCode}
 use Rattle.packed.specs.Number.{little_endian}
 use Rattle.packed.specs.Offsets.{part}
@@ -10,6 +10,8 @@ use Rattle.cli_lines.specs.Lines.{Part}
 use Rattle.cli_regions.specs.Kept.{seen, seen_what}
 use Rattle.cli_regions.specs.Regions.{Region}
 use Rattle.cli_regions.specs.declared.searches.Structure.{Structure}
+use Rattle.table_schema.specs.declared.coded.Coded.{Coded}
+use Rattle.cli_found.specs.Kept.{lead_at, lead_of}
 use Rattle.cli_found.specs.Found.{AreFound, AreOf, AreOfCell, cell_of, field_lines, field_size, innermost, offset_line, value_line}
 
 -- the last structure is the innermost one
@@ -40,3 +42,17 @@ module _ (rule : FaultCode) (bytes : List ℕ) (offset : ℕ) where
     pub found_cell : (lines : List (List Part)) → field_size rule < 1 → AreOfCell rule input bytes offset (innermost structures) lines → AreFound rule input bytes offset structures lines
     found_cell lines none are =
         subst (λ (b : Bool). AreOf b rule input bytes offset structures lines) (sym (lt-leb 1 (field_size rule) none)) are
+
+module _ (bytes : List ℕ) (offset : ℕ) (coded : Option Coded) (size : ℕ) where
+  -- a number of one, two or four bytes, and of another size
+  pub lead_of_one : size ≡ 1 → lead_at bytes offset 1 coded ≡ lead_of bytes offset size coded
+  lead_of_one is = sym (ap (λ n. lead_of bytes offset n coded) is)
+
+  pub lead_of_two : size ≡ 2 → lead_at bytes offset 2 coded ≡ lead_of bytes offset size coded
+  lead_of_two is = sym (ap (λ n. lead_of bytes offset n coded) is)
+
+  pub lead_of_four : size ≡ 4 → lead_at bytes offset 4 coded ≡ lead_of bytes offset size coded
+  lead_of_four is = sym (ap (λ n. lead_of bytes offset n coded) is)
+
+  pub no_lead : (size ≡ 1 → ⊥) → (size ≡ 2 → ⊥) → (size ≡ 4 → ⊥) → None ≡ lead_of bytes offset size coded
+  no_lead one two four = sym (cond-false _ _ _ (or_from _ _ (ne_eqb size 1 one) (or_from _ _ (ne_eqb size 2 two) (ne_eqb size 4 four))))

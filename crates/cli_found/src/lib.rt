@@ -1,7 +1,7 @@
 //! Says what number is at a fault and what its rule compares it with: a line of `clim check --where` (ECMA-335 II.22 to II.25).
 //!
 //! [`print_found`] prints the number in the header field or the cell at the offset of a fault, and beside it the size of what
-//! a cell refers to, or the number that must come before it.
+//! a cell refers to, or the number that must come before it. [`number_of`] reads the number that a structure is.
 //!
 //! ```text
 //! print_found(rt.alloc(), rule, &file, Input::File, fault.offset, &structures, &mut out);
@@ -12,4 +12,5 @@
 mod limits;
 mod lines;
 
-pub use lines::print_found;
+pub use limits::{coded_of, kind_of};
+pub use lines::{Lead, number_of, print_found};

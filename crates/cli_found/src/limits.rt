@@ -33,7 +33,7 @@ pub(crate) struct Limit<'a> {
 }
 
 /// The kind of the column of a cell.
-pub(crate) fn kind_of(cell: TableCell) -> ColumnKind
+pub fn kind_of(cell: TableCell) -> ColumnKind
     ensures { result ≡ kind_of cell }
 {
     match columns(cell.table).get(cell.column) {
@@ -43,7 +43,7 @@ pub(crate) fn kind_of(cell: TableCell) -> ColumnKind
 }
 
 /// The coded index of a column of a kind, if it is one.
-pub(crate) fn coded_of(kind: ColumnKind) -> Option<Coded>
+pub fn coded_of(kind: ColumnKind) -> Option<Coded>
     ensures { result ≡ coded_of kind }
 {
     match kind {

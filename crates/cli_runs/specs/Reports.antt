@@ -196,7 +196,7 @@ module _ (Out : Type 0 → List (List Part) → Type 0) where
     abbrev pub IsLocated : ℕ → FoundAt → Type 0
     IsLocated offset found =
         (structures : List Region) × AreStructuresAt request.input Entries bytes offset structures × (found ≡ found_of structures)
-        × HasContents found request.input bytes offset (λ contents. AreOut (where_lines structures ++ contents))
+        × HasContents structures request.input bytes offset (λ contents. AreOut (where_lines structures ++ contents))
 
     -- the lines of the headers went out
     abbrev pub AreHeadsOut : Type 0

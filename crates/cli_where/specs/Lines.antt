@@ -12,7 +12,7 @@ use Rattle.schema.specs.ColumnNames.{column_names_of}
 use Rattle.schema.specs.declared.located_cells.TableCell.{TableCell}
 use Rattle.cli_lines.specs.declared.names.Name.TheVariants as name
 use Rattle.cli_lines.specs.Lines.{Part, byte, field, hex, member, note, number, plain, units, word}
-use Rattle.cli_regions.specs.Regions.{Region, What, cell, entry, user_string, words}
+use Rattle.cli_regions.specs.Regions.{Region, What, cell, entry, scalar, user_string, words}
 use Rattle.cli_where.specs.Entries.{kind_of}
 use Rattle.cli_where.specs.UserStrings.{Entry, user_token}
 
@@ -56,6 +56,7 @@ entry_word _ = codes "blob"
 -- what a structure is: an entry by its stream and the cell that names it, a user string by its stream and its token
 abbrev pub what_parts : What → List Part
 what_parts (words of) = field name.Structure (plain of) ∷ []
+what_parts (scalar of) = field name.Structure (plain of) ∷ []
 what_parts (cell of) = cell_or_padding (is_padding (kind_of of)) of
 what_parts (entry heap of) =
     field name.Structure (plain (entry_word heap)) ∷ member name.Stream (plain (stream_name heap)) ∷ word (codes " of table ") ∷ cell_parts of

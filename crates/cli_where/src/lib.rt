@@ -23,6 +23,7 @@ mod report;
 mod strings;
 mod structure_lines;
 mod user_strings;
+mod values;
 mod walk;
 
 pub use cli_regions::{Structure, What};

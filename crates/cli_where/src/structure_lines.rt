@@ -49,7 +49,7 @@ fn is_counted(column: &Column) -> bool
 
 /// The number of the column of a cell, from 0. Padding has none, and is not counted.
 #[tactic(auto, using(std::proofs::lemmas::List::take_min))]
-fn column_number(cell: TableCell) -> usize
+pub(crate) fn column_number(cell: TableCell) -> usize
     ensures { result ≡ column_number cell }
 {
     let columns = columns(cell.table);
@@ -176,7 +176,7 @@ fn print_structure<W: Write>(alloc: Global, of: Structure<'_>, out: &mut Printer
     ensures { Prints out.old out.new (structure_line (seen of.entry) ∷ []) }
 {
     match of.what {
-        What::Words(words) => print_words(alloc, of, words, out),
+        What::Words(words) | What::Scalar(words) => print_words(alloc, of, words, out),
         What::Cell(cell) if is_padding(cell) => print_padding(of, cell, out),
         What::Cell(cell) => print_cell(of, cell, out),
         What::Entry(heap, cell) => print_entry(of, heap, cell, out),

@@ -188,12 +188,20 @@ fn input_of(bare: bool) -> Input {
     if bare { Input::BareRoot } else { Input::File }
 }
 
-/// What is printed of a byte of a file that breaks no rule, and whether a structure has it.
+/// The lines of structures in a text: all but that of a number.
+fn structure_lines(text: &str) -> &str {
+    match text.find("\n0x") {
+        Some(at) => &text[..at + 1],
+        None => text,
+    }
+}
+
+/// What is printed of the structures that have a byte of a file that breaks no rule, and whether one has it.
 pub fn printed(rt: &HostRuntime, bare: bool, file: &[u8], offset: u64) -> Result<(Found, String), Fail> {
     let (Ok(found), text) = located(rt.alloc(), Form::Text, input_of(bare), file, offset)? else {
         return Err(Fail::from("a fault"));
     };
-    Ok((found, text))
+    Ok((found, format!(in rt.alloc(); "{}", structure_lines(&text))?))
 }
 
 /// Whether the lines of a byte are these.
@@ -250,6 +258,44 @@ fn prints_the_cells_of_each_table(rt: HostRuntime) -> Result<(), Fail> {
     for (offset, line) in cases {
         let lines = format!(in rt.alloc(); "0 200 root\n80 92 stream #~\n{line}")?;
         assert!(rt; is_printed(&rt, true, &TWO_TYPES, offset, &lines)?);
+    }
+    Ok(())
+}
+
+/// A cell, and a field of at most four bytes, have a line of their number, and of what it means.
+#[test]
+fn prints_the_number_and_its_meaning(rt: HostRuntime) -> Result<(), Fail> {
+    let mut builder = RootBuilder::new(rt.alloc());
+    builder.row(0x02, b"\x01\0\0\0\x01\0\0\0\0\0\x01\0\x01\0")?;
+    builder.row(0x04, b"\0\0\x01\0\x01\0")?;
+    builder.row(0x0B, b"\x08\0\x04\0\x04\0")?;
+    builder.heap("#Strings", b"\0F\0\0")?;
+    builder.heap("#Blob", b"\0\x02\x06\x08\x04\x01\0\0\0\0\0\0")?;
+    let root = builder.finish()?;
+    let Some(start) = root.as_slice().windows(14).position(|it| it == b"\x01\0\0\0\x01\0\0\0\0\0\x01\0\x01\0".as_slice()) else {
+        return Err("no row".into());
+    };
+    for (at, first, words) in [
+        (2, 0, "value 1 (0x1)"),
+        (4, 4, "value 1 (0x1) \"F\""),
+        (6, 6, "value 0 (0x0) \"\""),
+        (9, 8, "value 0 (tag 0, row 0) null"),
+        (10, 10, "value 1 (0x1) +1"),
+        (18, 18, "value 1 (0x1) 0608"),
+        (22, 22, "value 4 (tag 0, row 1) 04000001"),
+        (24, 24, "value 4 (0x4) 01000000"),
+    ] {
+        let (_, text) = located(rt.alloc(), Form::Text, Input::BareRoot, &root, (start + at) as u64)?;
+        let line = format!(in rt.alloc(); "\n0x{:x}: {words}\n", start + first)?;
+        assert!(rt; text.ends_with(line.as_str()), "{text}");
+    }
+    let (_, text) = located(rt.alloc(), Form::JsonLines, Input::BareRoot, &root, (start + 4) as u64)?;
+    let line = format!(in rt.alloc(); "\n{{\"offset\":{},\"value\":1,\"TypeName\":\"F\"}}\n", start + 4)?;
+    assert!(rt; text.ends_with(line.as_str()), "{text}");
+    // Padding and a field of eight bytes have none.
+    for at in [start + 21, start - 20] {
+        let (_, text) = located(rt.alloc(), Form::Text, Input::BareRoot, &root, at as u64)?;
+        assert!(rt; !text.contains("value"), "{text}");
     }
     Ok(())
 }
@@ -366,13 +412,13 @@ fn ends_with_1_if_nothing_has_the_byte(rt: HostRuntime) -> Result<(), Fail> {
     fs::write(&rt, "where.dll", image().as_slice())?;
     let hint = "  hint: FILE has 1024 bytes\n";
     for (offset, status, lines, hints) in [
-        ("520", 0, "512 512 section 1\n520 72 cli header\n520 4 cli header Cb\n", ""),
-        ("00520", 0, "512 512 section 1\n520 72 cli header\n520 4 cli header Cb\n", ""),
-        ("0x208", 0, "512 512 section 1\n520 72 cli header\n520 4 cli header Cb\n", ""),
+        ("520", 0, "512 512 section 1\n520 72 cli header\n520 4 cli header Cb\n0x208: value 72 (0x48)\n", ""),
+        ("00520", 0, "512 512 section 1\n520 72 cli header\n520 4 cli header Cb\n0x208: value 72 (0x48)\n", ""),
+        ("0x208", 0, "512 512 section 1\n520 72 cli header\n520 4 cli header Cb\n0x208: value 72 (0x48)\n", ""),
         (
             "0x000000000000000000208",
             0,
-            "512 512 section 1\n520 72 cli header\n520 4 cli header Cb\n",
+            "512 512 section 1\n520 72 cli header\n520 4 cli header Cb\n0x208: value 72 (0x48)\n",
             "",
         ),
         ("0", 0, "0 64 ms-dos header\n0 2 ms-dos header Signature\n", ""),

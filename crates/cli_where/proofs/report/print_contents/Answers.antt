@@ -1,29 +1,33 @@
-use Rattle.std.proofs.Common.{subst, sym}
+use Rattle.std.proofs.Common.{◌∷◌, ◌++◌, ◌≤◌, [], ℕ, List, absurd, length, map, subst, suc, sym, arith}
 use Rattle.cli_input.specs.Checked.{IsModelOf}
 use Rattle.cli_input.specs.declared.opened.Input.{Input}
+use Rattle.cli_input.specs.declared.opened.Input.TheVariants.{BareRoot, File}
+use Rattle.metadata.specs.Metadata.{Metadata}
+use Rattle.metadata.specs.Model.{IsModelOfFile}
+use Rattle.cli_header.specs.declared.header.CliHeader.{CliHeader}
+use Rattle.cli_contents.specs.Lines.{AreOfResources, method_lines}
+use Rattle.cli_lines.specs.Lines.{Part}
 use Rattle.cli_lines.specs.Printed.{Prints}
+use Rattle.cli_regions.specs.Kept.{seen}
+use Rattle.cli_regions.specs.declared.searches.Structure.{Structure}
 use Rattle.cli_where.specs.Located.{HasContents}
-use Rattle.cli_where.specs.declared.report.Found.{Found}
-use Rattle.cli_where.specs.declared.report.Found.TheVariants.{Something}
+use Rattle.cli_where.specs.Values.{value_lines}
 use Rattle.cli_where.proofs.report.print_contents.Goals as goal
 
-pub returns-in-Nothing : goal.returns-in-Nothing
-returns-in-Nothing g c =
-    let Printed : Found → Type 0 = λ found. HasContents found c.args.input c.args.bytes.now c.args.offset (λ lines. Prints c.args.out.now c.args.out.now lines) in
-    subst Printed (sym c.in-Nothing.is) (c.lines_follow.ensures.nothing _)
+none : (structures : List Structure) (input : Input) (bytes : List ℕ) (offset : ℕ) (P : List (List Part) → Type 0) → length structures ≡ 0 → P []
+    → HasContents (map seen structures) input bytes offset P
+none [] input bytes offset P is printed = printed
+none (of ∷ later) input bytes offset P is printed = absurd (omega (arith, is))
 
-pub returns-in-BareRoot : goal.returns-in-BareRoot
-returns-in-BareRoot g c =
-    let Printed : Found → Input → Type 0 = λ found input. HasContents found input c.args.bytes.now c.args.offset (λ lines. Prints c.args.out.now c.args.out.now lines) in
-    subst (λ (found : Found). Printed found c.args.input) (sym c.in-Something.is)
-    (subst (λ (input : Input). Printed Something input) (sym c.in-BareRoot.is) (c.lines_follow.ensures.nothing _))
+of_root : (structures : List Structure) (bytes : List ℕ) (offset : ℕ) (P : List (List Part) → Type 0) → 1 ≤ length structures
+    → ((model : Metadata) → IsModelOf BareRoot bytes model → P (value_lines model bytes (map seen structures)))
+    → HasContents (map seen structures) BareRoot bytes offset P
+of_root [] bytes offset P some printed = absurd (omega (arith, some))
+of_root (of ∷ later) bytes offset P some printed = printed
 
-pub returns-in-File : goal.returns-in-File
-returns-in-File g c =
-    let Printed : Found → Input → Type 0 = λ found input. HasContents found input c.args.bytes.now c.args.offset (λ lines. Prints c.args.out.now c.print_resource.new.out lines) in
-    subst (λ (found : Found). Printed found c.args.input) (sym c.in-Something.is)
-    (subst (λ (input : Input). Printed Something input) (sym c.in-File.is) (λ header model file.
-    let model_of = subst (λ (input : Input). IsModelOf input c.args.bytes.now model) (sym c.in-File.is) (header, file) in
-    let is = c.requires model model_of in
-    let resource = c.print_resource.ensures header model file is in
-    (resource.0, resource.1, c.lines_follow.ensures.more _ _ _ _ _ (c.print_methods.ensures file.image file.is_image model is) resource.2)))
+of_file : (structures : List Structure) (bytes : List ℕ) (offset : ℕ) (P : List (List Part) → Type 0) → 1 ≤ length structures
+    → ((header : CliHeader) (model : Metadata) → (file : IsModelOfFile bytes header model) → (resources : List (List Part)) × AreOfResources bytes header model offset resources
+    × P (value_lines model bytes (map seen structures) ++ (method_lines file.image model offset ++ resources)))
+    → HasContents (map seen structures) File bytes offset P
+of_file [] bytes offset P some printed = absurd (omega (arith, some))
+of_file (of ∷ later) bytes offset P some printed = printed
