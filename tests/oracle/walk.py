@@ -3,9 +3,9 @@
 import bisect
 import json
 
-# The number of cells of a heap entry, and of methods, that have a line.
-MOST_CELLS = MOST_METHODS = 10
-# The largest number of sections of a file whose methods have lines.
+# The number of cells of a heap entry, of methods, and of fields with data, that have a line.
+MOST_CELLS = MOST_METHODS = MOST_FIELDS = 10
+# The largest number of sections of a file whose methods and fields have lines.
 MOST_SECTIONS = 96
 # The number of data sections of a method body that are looked at.
 MOST_DATA = 64
@@ -114,6 +114,14 @@ TABLE_STREAM = [
     ("Reserved", 4), ("MajorVersion", 1), ("MinorVersion", 1), ("HeapSizes", 1), ("Reserved", 1), ("Valid", 8), ("Sorted", 8),
 ]
 
+# The fields of at most four bytes that may be texts. Fields of more than four bytes are no numbers, either.
+NO_NUMBERS = {"ms-dos header Signature", "root header Version", "stream header Name"}
+# The size of a value of a simple type in bytes (II.23.1.16).
+SIZES = {
+    0x02: 1, 0x03: 2, 0x04: 1, 0x05: 1, 0x06: 2, 0x07: 2, 0x08: 4, 0x09: 4, 0x0A: 8, 0x0B: 8, 0x0C: 4, 0x0D: 8,
+}
+VALUE_TYPE = 0x11
+
 # The heap of each kind of index: its bit in HeapSizes, and its name (II.24.2.6).
 HEAPS = {"text": (0, b"#Strings"), "guid": (1, b"#GUID"), "blob": (2, b"#Blob")}
 
@@ -154,10 +162,12 @@ def structure_line(line):
     """The line of text that says the same as a line of JSON; None if an object has other members than those of its kind."""
     value = json.loads(line)
     keys = list(value)
+    if keys[:2] == ["offset", "value"]:
+        return f"0x{value['offset']:x}: value {value['value']}"
     what = value["structure"]
     if keys[3:] == ["stream", "token"]:
         what = f"{what} {value['token']}" if value["stream"] == "#US" else None
-    elif what in ("method", "resource") and keys[3:] == ["token", "name"]:
+    elif what in ("method", "field", "resource") and keys[3:] == ["token", "name"]:
         what = f"{what} {value['token']} {escaped(value['name'].encode())}"
     elif what == "padding" and keys[3:] == ["table", "row"]:
         what = f"table {NUMBERS[value['table']]:02X} {value['table']} row {value['row']} padding"
@@ -182,6 +192,7 @@ class Walk:
     def __init__(self, data, bare, offsets, layer=None):
         self.data, self.offsets = data, sorted(set(offsets))
         self.lines = {offset: [] for offset in self.offsets}
+        self.numbers = {}
         self.layout, self.counts, self.streams, self.resources = {}, {}, {}, None
         known = LAST_LAYER + 1 if layer is None else layer
         root, size = 0, len(data)
@@ -195,8 +206,10 @@ class Walk:
         if layer is None:
             self.entries()
             self.user_strings()
+            self.values()
             if not bare:
                 self.methods()
+                self.field_data()
                 self.resource()
 
     def within(self, start, size):
@@ -208,10 +221,25 @@ class Walk:
         for offset in self.within(start, size):
             self.lines[offset].append(f"{start} {size} {what}")
 
+    def put_number(self, start, size, bits=0):
+        """Keeps the number that is the last structure so far, and the number of bits of its tag if it is a coded index."""
+        for offset in self.within(start, size):
+            self.numbers[offset] = len(self.lines[offset]), start, size, bits
+
     def fields(self, word, start, fields):
         for name, size in fields:
             self.put(start, size, f"{word} {name}")
+            if size in (1, 2, 4) and f"{word} {name}" not in NO_NUMBERS:
+                self.put_number(start, size)
             start += size
+
+    def values(self):
+        """The number that the last structure is, without what it means."""
+        for offset, (count, start, size, bits) in self.numbers.items():
+            if len(self.lines[offset]) == count:
+                of = number(self.data, start, size)
+                means = f"tag {of % (1 << bits)}, row {of >> bits}" if bits else f"0x{of:x}"
+                self.lines[offset].append(f"0x{start:x}: value {of} ({means})")
 
     def file_offset(self, address):
         """The file offset of an address in the memory of the image (II.25.3)."""
@@ -315,6 +343,7 @@ class Walk:
         for table, (name, _) in TABLES.items():
             if valid >> table & 1:
                 self.put(at, 4, f"row count {table:02X} {name}")
+                self.put_number(at, 4)
                 counts[table] = number(data, at, 4)
                 at += 4
 
@@ -333,9 +362,11 @@ class Walk:
             self.layout[table] = at, columns
             for offset in self.within(at, row_width * counts[table]):
                 row, left = divmod(offset - at, row_width)
-                for index, (column, _, size) in enumerate(columns):
+                for index, (column, kind, size) in enumerate(columns):
                     if left < size:
                         self.lines[offset].append(f"{offset - left} {size} {cell_words(table, row + 1, index, column)}")
+                        if column != "padding":
+                            self.numbers[offset] = len(self.lines[offset]), offset - left, size, CODED.get(kind, (0, ""))[0]
                         break
                     left -= size
             at += row_width * counts[table]
@@ -401,6 +432,43 @@ class Walk:
                 if self.lines[offset] and counts[offset] < MOST_METHODS:
                     counts[offset] += 1
                     self.lines[offset].append(f"{at[0]} {size} method {0x06000000 + row:08x} {escaped(name)}")
+
+    def data_size(self, signature):
+        """The size of data by the signature of its field (II.23.2.4), which is one simple type or one type of this file."""
+        start = self.streams.get(b"#Blob", (0, 0))[0] + signature
+        length, own = packed(self.data, start)
+        blob = self.data[start + own:start + own + length]
+        if len(blob) == 2:
+            return SIZES.get(blob[1], 0)
+        if len(blob) < 3 or blob[1] != VALUE_TYPE:
+            return 0
+        token, own = packed(blob, 2)
+        if len(blob) != 2 + own or token & 3:
+            return 0
+        for row in range(1, self.counts[0x0F] + 1):
+            cells = {column: cell for _, column, _, cell in self.cells(0x0F, row)}
+            if cells["Parent"] == token >> 2:
+                return cells["ClassSize"]
+        return 0
+
+    def field_data(self):
+        """The fields whose data contains a byte (II.22.18). Of data of a size that is not known it is the first byte."""
+        counts, addresses = dict.fromkeys(self.offsets, 0), {}
+        if len(self.sections) > MOST_SECTIONS:
+            return
+        for row in range(1, self.counts[0x1D] + 1):
+            cells = {column: cell for _, column, _, cell in self.cells(0x1D, row)}
+            addresses.setdefault(cells["Field"], cells["RVA"])
+        for row, address in sorted(addresses.items()):
+            cells = {column: cell for _, column, _, cell in self.cells(0x04, row)}
+            at = [raw + address - start for start, size, raw in self.sections if start <= address < start + size]
+            if not at or at[0] >= len(self.data):
+                continue
+            size = self.data_size(cells["Signature"])
+            for offset in self.within(at[0], size or 1):
+                if self.lines[offset] and counts[offset] < MOST_FIELDS:
+                    counts[offset] += 1
+                    self.lines[offset].append(f"{at[0]} {size} field {0x04000000 + row:08x} {escaped(self.text(cells['Name']))}")
 
     def text(self, cell):
         """The bytes of a text of #Strings (II.24.2.3)."""

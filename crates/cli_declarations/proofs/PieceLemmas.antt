@@ -9,8 +9,8 @@ use Rattle.cli_declarations.specs.Layouts.{parts_of}
 use Rattle.cli_declarations.specs.Parts.{IsPartText, Part}
 use Rattle.cli_declarations.specs.Shown.{IsWithin, shown}
 use Rattle.cli_declarations.specs.Texts.{AreTexts, Gains}
-use Rattle.declarations.specs.FlagWords.{Word, shown_word, word_text, words_text}
-use Rattle.declarations.specs.declared.flag_words.FlagWord.{FlagWord}
+use Rattle.type_heads.specs.FlagWords.{Word, shown_word, word_text, words_text}
+use Rattle.type_heads.specs.declared.flag_words.FlagWord.{FlagWord}
 use Rattle.cli_declarations.specs.declared.layouts.Piece.{Piece}
 use Rattle.cli_declarations.proofs.LayoutLemmas.{at_index, parts_within}
 use Rattle.cli_declarations.proofs.TextLemmas.{gains_more, items_more}

@@ -4,7 +4,7 @@ use Rattle.table_schema.specs.declared.table.TableId.{TableId}
 use Rattle.table_schema.specs.declared.table.TableId.TheVariants.{Assembly, AssemblyRef, Module, ModuleRef, File, ManifestResource, TypeDef, Field, MethodDef, InterfaceImpl, GenericParam, GenericParamConstraint, ExportedType, MethodImpl, MethodSemantics, Event, Property, ImplMap, DeclSecurity, CustomAttribute, TypeRef, MemberRef, Param}
 use Rattle.table_schema.specs.declared.token.Token.{Token}
 use Rattle.metadata.specs.Metadata.{Metadata}
-use Rattle.declarations.specs.declared.flag_words.FlagTable.TheVariants as table
+use Rattle.type_heads.specs.declared.flag_words.FlagTable.TheVariants as table
 use Rattle.navigation.specs.declared.links.Link.TheVariants as link
 use Rattle.cli_declarations.specs.Texts.{AreTexts}
 use Rattle.cli_declarations.specs.Parts.{IsPartText, Part, word, flags, text, number, quoted_after, bytes_after, key, first_bytes, token_after, signature, declaration, own_name, name_after, eight_digits, guid_comment, action, linked_by, listed, own_reference, reference_after, attribute_value}

@@ -26,7 +26,7 @@ use Rattle.full_names.specs.RowNames.{IsRowNameBy}
 use Rattle.full_names.specs.Texts.{ArePiecesText, IsFullNameBy, IsPieceText}
 use Rattle.declarations.specs.Descriptors.{descriptor_in, descriptor_text}
 use Rattle.marshal_descriptors.specs.Values.{Descriptor}
-use Rattle.declarations.specs.Declarations.{IsDeclarationBy, IsPropertyDeclarationBy, IsReference}
+use Rattle.declarations.specs.Declarations.{IsMethodHead, IsPropertyDeclarationBy, IsReference}
 use Rattle.navigation.specs.declared.links.Link.{Link}
 use Rattle.navigation.specs.declared.links.Link.TheVariants as link_of
 use Rattle.navigation.specs.Linked.{first_linked, linked}
@@ -36,9 +36,9 @@ use Rattle.type_heads.specs.Heads.{AreListed, IsInHead, enclosed}
 use Rattle.cli_values.specs.Actions.{action_text}
 use Rattle.cli_values.specs.Constants.{constant_text, value_limit}
 use Rattle.cli_values.specs.Constants.{bytes_text as value_bytes_text}
-use Rattle.declarations.specs.FlagWords.{words_of, words_text}
-use Rattle.declarations.specs.declared.flag_words.FlagTable.{FlagTable}
-use Rattle.declarations.specs.declared.flag_words.FlagTable.TheVariants as table_of
+use Rattle.type_heads.specs.FlagWords.{words_of, words_text}
+use Rattle.type_heads.specs.declared.flag_words.FlagTable.{FlagTable}
+use Rattle.type_heads.specs.declared.flag_words.FlagTable.TheVariants as table_of
 
 -- a part of the line of a row; numbers are indexes of cells in the row
 pub data Part : Type 0 where
@@ -155,10 +155,10 @@ abbrev pub IsSignatureOf : Metadata → Cell → List ℕ → Type 0
 IsSignatureOf model (Sig of) out = IsSignatureText model of out
 IsSignatureOf model _ out = out ≡ []
 
--- the declaration of a method, with its full name and the names of its parameters, up to the limit (II.15.3)
+-- the declaration of a method, with its full name, its generic parameters and the names of its parameters, up to the limit (II.15.3)
 abbrev pub IsMethodText : Metadata → ℕ → List ℕ → Type 0
 IsMethodText model row out =
-    (method : Method) × (cell_in model MethodDef row 4 ≡ Sig (method_body method)) × (plain : List ℕ) × IsDeclarationBy Written model row method plain × (out ≡ cut_text plain)
+    (method : Method) × (cell_in model MethodDef row 4 ≡ Sig (method_body method)) × (plain : List ℕ) × IsMethodHead Written model row method plain × (out ≡ cut_text plain)
 
 -- the declaration of a property, with its full name, up to the limit (II.17)
 abbrev pub IsPropertyText : Metadata → ℕ → List ℕ → Type 0

@@ -3,9 +3,9 @@ ghost use Rattle.std.specs.Prelude.{◌≡◌, map};
 ghost use Rattle.cli_declarations.specs.Layouts.{parts_of};
 ghost use Rattle.cli_declarations.specs.Shown.{shown};
 
-use declarations::FlagTable;
 use navigation::Link;
 use opening::TableId;
+use type_heads::FlagTable;
 
 /// A piece of the line of a row. Numbers are indexes of cells in the row, from 0.
 #[derive(Clone, Copy)]

@@ -4,7 +4,7 @@ ghost use Rattle.table_schema.specs.CellColumns.{cell_count};
 ghost use Rattle.table_schema.specs.declared.table.TableId.TheVariants.{Param};
 ghost use Rattle.metadata.specs.Metadata.{Metadata, cell_in};
 ghost use Rattle.metadata.specs.Model.{IsModel};
-ghost use Rattle.declarations.specs.FlagWords.{shown_word, word_text, words_of, words_text};
+ghost use Rattle.type_heads.specs.FlagWords.{shown_word, word_text, words_of, words_text};
 ghost use Rattle.opening.specs.Views.{row_count};
 ghost use Rattle.cli_lines.specs.Texts.{escaped_bytes};
 ghost use Rattle.table_schema.specs.Tokens.{token_text};
@@ -24,13 +24,14 @@ use crate::signature_sink::{push_declaration, push_signature};
 use cli_values::{
     push_action, push_decimal, push_eight_digits, push_hexadecimal, push_value_bytes,
 };
-use declarations::{FlagTable, FlagWord, words_of, write_reference};
+use declarations::write_reference;
 use full_names::write_row_name;
 use heap_entries::guid_text;
 use navigation::{Neighbours, method_of_param};
 use opening::{TableId, Token};
 use std::alloc::AllocError;
 use std::fmt::Write;
+use type_heads::{FlagTable, FlagWord, words_of};
 
 /// The cell of the position of a parameter (II.22.33).
 const SEQUENCE: usize = 1;

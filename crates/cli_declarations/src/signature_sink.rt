@@ -74,7 +74,7 @@ pub(crate) fn push_signature(
     }
 }
 
-/// Appends the declaration of a method, with its full name and the names of its parameters.
+/// Appends the declaration of a method, with its full name, its generic parameters and the names of its parameters.
 fn push_method(
     source: &Neighbours<'_, '_>,
     row: u32,

@@ -1,5 +1,6 @@
 mod MarshalLemmas
 mod ParamLemmas
+mod GenericLemmas
 mod ParamExists
 mod ParamNames
 mod ClassNames

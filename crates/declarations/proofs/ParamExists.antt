@@ -7,7 +7,7 @@ use Rattle.table_schema.specs.declared.table.TableId.TheVariants.{Param}
 use Rattle.table_schema.specs.declared.column.ColumnKind.TheVariants as kind
 use Rattle.table_schema.specs.CellColumns.{cell_columns}
 use Rattle.table_schema.specs.declared.token.Token.{Token}
-use Rattle.sig_text.specs.SignatureText.{Piece, word, number, signed, name, method_name, param_flags, param_name}
+use Rattle.sig_text.specs.SignatureText.{Piece, word, number, signed, name, method_name, generic_params, param_flags, param_name}
 use Rattle.metadata.specs.Cell.{Cell, Number, Text}
 use Rattle.metadata.specs.Kinds.{IsOfKind}
 use Rattle.metadata.specs.Lookups.{HasRow}
@@ -21,9 +21,10 @@ use Rattle.full_names.specs.Texts.{ArePiecesText}
 use Rattle.full_names.proofs.NameExists.{HasText, any_name, first_row, is_text}
 use Rattle.navigation.specs.declared.links.Link.TheVariants as link
 use Rattle.navigation.specs.Linked.{first_linked}
-use Rattle.declarations.specs.Declarations.{IsDeclaredPiece, IsFlagsOf, IsMarshalOf, IsNameOf, IsParamAt, IsParamRow, IsParamText, after_space, before_space, marshal_by, param_token, position_in, position_of, spaced}
-use Rattle.declarations.specs.FlagWords.{leading_words, words_of}
-use Rattle.declarations.specs.declared.flag_words.FlagTable.TheVariants as flag_table
+use Rattle.type_heads.specs.FlagWords.{leading_words, words_of}
+use Rattle.type_heads.specs.declared.flag_words.FlagTable.TheVariants as flag_table
+use Rattle.type_heads.proofs.HeadLemmas.{generics_text}
+use Rattle.declarations.specs.Declarations.{IsDeclaredPiece, IsFlagsOf, IsGenerics, IsMarshalOf, IsNameOf, IsParamAt, IsParamRow, IsParamText, after_space, arity_text, before_space, marshal_by, param_token, position_in, position_of, spaced}
 
 is_number : (cell : Cell) → IsOfKind kind.U16 cell → cell ≡ Number (position_of cell)
 is_number (Number value) of = refl
@@ -101,12 +102,18 @@ module _ (model : Metadata) (valid : IsValid model) (first past position : ℕ) 
 
 -- ---- the pieces of a declaration
 
-module _ (scopes : Scopes) (model : Metadata) (valid : IsValid model) (class : Token) (named : HasText (IsRowNameBy scopes model class)) (own : List ℕ) (first past : ℕ) where
-  declared_piece : (piece : Piece) → HasText (IsDeclaredPiece scopes model class own first past piece)
+generics_exist : (scopes : Scopes) (model : Metadata) → IsValid model → (rows : List ℕ) (n : ℕ) → HasText (IsGenerics scopes model rows n)
+generics_exist scopes model valid [] n = (arity_text n, refl)
+generics_exist scopes model valid (row ∷ rows) n =
+    let params = generics_text scopes model valid (row ∷ rows) in (codes "<" ++ (params.0 ++ codes ">"), (params.0, params.1, refl))
+
+module _ (scopes : Scopes) (model : Metadata) (valid : IsValid model) (class : Token) (named : HasText (IsRowNameBy scopes model class)) (own : List ℕ) (first past : ℕ) (generics : List ℕ) where
+  declared_piece : (piece : Piece) → HasText (IsDeclaredPiece scopes model class own first past generics piece)
   declared_piece method_name =
       let result = marshal_exists model valid first past 0 before_space in
       let member = named.0 ++ (codes "::" ++ name_text Member own) in
       (result.0 ++ member, (result.0, result.1, member, (named.0, named.1, refl), refl))
+  declared_piece (generic_params n) = generics_exist scopes model valid generics n
   declared_piece (param_flags position) = flags_exist model valid first past position
   declared_piece (param_name position) =
       let marshal = marshal_exists model valid first past position after_space in
@@ -117,7 +124,7 @@ module _ (scopes : Scopes) (model : Metadata) (valid : IsValid model) (class : T
   declared_piece (signed of) = (signed_decimal of, refl)
   declared_piece (name token) = any_name model valid scopes token
 
-  pub declared_texts : (pieces : List Piece) → HasText (ArePiecesText (IsDeclaredPiece scopes model class own first past) pieces)
+  pub declared_texts : (pieces : List Piece) → HasText (ArePiecesText (IsDeclaredPiece scopes model class own first past generics) pieces)
   declared_texts [] = ([], refl)
   declared_texts (piece ∷ pieces) =
       let one = declared_piece piece in

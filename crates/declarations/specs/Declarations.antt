@@ -1,19 +1,21 @@
 -- The declarations of methods and properties, and references to methods and fields (ECMA-335 II.15.3, II.17, II.22.25, II.22.33).
-use Rattle.std.specs.Prelude.{◌≡◌, ◌≢◌, ℕ, ◌+◌, ◌≤◌, ◌<◌, ◌↔◌, ◌⊎◌, List, [], ◌∷◌, ◌++◌, Option, None, Some, codes}
+use Rattle.std.specs.Prelude.{◌≡◌, ◌≢◌, ℕ, ◌+◌, ◌≤◌, ◌<◌, ◌↔◌, ◌⊎◌, ⊤, List, [], ◌∷◌, ◌++◌, map, Option, None, Some, codes}
+use Rattle.std.specs.Fmt.{decimal}
 use Rattle.std.specs.List.{filter}
 use Rattle.table_schema.specs.declared.table.TableId.TheVariants.{TypeDef, MethodDef, MemberRef, Param, Property, FieldMarshal}
 use Rattle.table_schema.specs.declared.table.TableId.{TableId}
 use Rattle.table_schema.specs.declared.token.Token.{Token}
 use Rattle.sig_grammar.specs.Syntax.{Body, Method}
 use Rattle.sig_text.specs.Declares.{member_text}
-use Rattle.sig_text.specs.SignatureText.{Piece, method_name, param_flags, param_name, declared_text}
+use Rattle.sig_text.specs.SignatureText.{Piece, method_name, generic_params, param_flags, param_name, declared_text}
 use Rattle.metadata.specs.Cell.{Cell, Text, Number, Bytes, Sig}
 use Rattle.metadata.specs.Metadata.{Metadata, cell_in}
+use Rattle.metadata.specs.Model.{IsModel}
 use Rattle.metadata.specs.Lookups.{HasRow, IsRun}
 use Rattle.metadata_source.specs.declared.member_lists.MemberList.TheVariants as list
 use Rattle.navigation.specs.declared.links.Link.TheVariants as link
-use Rattle.navigation.specs.Linked.{first_linked}
-use Rattle.navigation.specs.Keyed.{has_key, keyed_rows}
+use Rattle.navigation.specs.Linked.{first_linked, linked}
+use Rattle.navigation.specs.Keyed.{has_key, keyed_rows, row_of}
 use Rattle.navigation.specs.Owners.{Owns}
 use Rattle.navigation.specs.declared.keyed.KeyedRow.{KeyedRow}
 use Rattle.full_names.specs.declared.limit.Scopes.{Scopes}
@@ -22,9 +24,11 @@ use Rattle.full_names.specs.declared.quoted.NameKind.TheVariants.{Identifier, Me
 use Rattle.full_names.specs.Quoted.{name_text}
 use Rattle.full_names.specs.RowNames.{IsParent, IsRowNameBy, IsTypeOfMethod, IsTypeOfProperty}
 use Rattle.full_names.specs.Texts.{ArePiecesText, IsFullNameBy, IsPieceText}
-use Rattle.declarations.specs.declared.flag_words.FlagTable.TheVariants as flag_table
+use Rattle.type_heads.specs.declared.flag_words.FlagTable.TheVariants as flag_table
+use Rattle.type_heads.specs.FlagWords.{leading_words, words_of}
+use Rattle.type_heads.specs.Heads.{AreListed, IsInHead}
+use Rattle.declarations.specs.declared.links.Links.{Links}
 use Rattle.declarations.specs.Descriptors.{marshal_text}
-use Rattle.declarations.specs.FlagWords.{leading_words, words_of}
 
 -- the position in a cell, and that of a row of Param (II.22.33)
 abbrev pub position_of : Cell → ℕ
@@ -108,18 +112,37 @@ IsMemberOfClass scopes model class own text = (of : List ℕ) × IsRowNameBy sco
 abbrev pub IsPair : (List ℕ → Type 0) → (List ℕ → Type 0) → List ℕ → Type 0
 IsPair is_first is_second text = (a : List ℕ) × is_first a × (b : List ℕ) × is_second b × (text ≡ a ++ b)
 
--- the pieces of a declaration: of a member of a class, with its own name, and the run of its parameters. Before its name is how the
--- result is marshalled, and before the name of a parameter how this is (II.15.3, II.15.4)
-abbrev pub IsDeclaredPiece : Scopes → Metadata → Token → List ℕ → ℕ → ℕ → Piece → List ℕ → Type 0
-IsDeclaredPiece scopes model class own first past method_name text =
-    IsPair (IsParamText (IsMarshalOf before_space) model first past 0) (IsMemberOfClass scopes model class own) text
-IsDeclaredPiece scopes model class own first past (param_flags position) text = IsParamText IsFlagsOf model first past position text
-IsDeclaredPiece scopes model class own first past (param_name position) text =
-    IsPair (IsParamText (IsMarshalOf after_space) model first past position) (IsParamText IsNameOf model first past position) text
-IsDeclaredPiece scopes model class own first past piece text = IsPieceText (IsFullNameBy scopes model) piece text
+-- the generic parameters of a method by their rows, with their flags and constraints (II.10.1.7, II.15.1), or their number if there are no rows
+abbrev pub arity_text : ℕ → List ℕ
+arity_text n = codes "<[" ++ (decimal n ++ codes "]>")
 
--- the text of the declaration of a method that has this signature
-pub record IsDeclarationBy (scopes : Scopes) (model : Metadata) (row : ℕ) (method : Method) (text : List ℕ) : Type 0 where
+abbrev pub IsGenerics : Scopes → Metadata → List ℕ → ℕ → List ℕ → Type 0
+IsGenerics scopes model [] n text = text ≡ arity_text n
+IsGenerics scopes model (row ∷ rows) n text =
+    (params : List ℕ) × AreListed (IsInHead scopes model link.GenericParams) [] (row ∷ rows) params × (text ≡ codes "<" ++ (params ++ codes ">"))
+
+-- the rows that are known of the generic parameters of a method, and the model in which they are known
+abbrev pub generic_rows : Option Links → List ℕ
+generic_rows None = []
+generic_rows (Some of) = map row_of of.generics.now
+
+abbrev pub AreLinksOf : Metadata → Option Links → Type 0
+AreLinksOf model None = ⊤
+AreLinksOf model (Some of) = IsModel of.neighbours.now.view.now model
+
+-- the pieces of a declaration: of a member of a class, with its own name, the run of its parameters, and the rows of its generic
+-- parameters. Before its name is how the result is marshalled, and before the name of a parameter how this is (II.15.3, II.15.4)
+abbrev pub IsDeclaredPiece : Scopes → Metadata → Token → List ℕ → ℕ → ℕ → List ℕ → Piece → List ℕ → Type 0
+IsDeclaredPiece scopes model class own first past generics method_name text =
+    IsPair (IsParamText (IsMarshalOf before_space) model first past 0) (IsMemberOfClass scopes model class own) text
+IsDeclaredPiece scopes model class own first past generics (generic_params n) text = IsGenerics scopes model generics n text
+IsDeclaredPiece scopes model class own first past generics (param_flags position) text = IsParamText IsFlagsOf model first past position text
+IsDeclaredPiece scopes model class own first past generics (param_name position) text =
+    IsPair (IsParamText (IsMarshalOf after_space) model first past position) (IsParamText IsNameOf model first past position) text
+IsDeclaredPiece scopes model class own first past generics piece text = IsPieceText (IsFullNameBy scopes model) piece text
+
+-- the text of the declaration of a method that has this signature, with the generic parameters in these rows
+pub record IsDeclarationWith (generics : List ℕ) (scopes : Scopes) (model : Metadata) (row : ℕ) (method : Method) (text : List ℕ) : Type 0 where
   pub class : ℕ
   pub owner : Owns model list.Methods class row
   pub own : List ℕ
@@ -127,7 +150,14 @@ pub record IsDeclarationBy (scopes : Scopes) (model : Metadata) (row : ℕ) (met
   pub first : ℕ
   pub past : ℕ
   pub params : IsRun model MethodDef 5 Param row first past
-  pub pieces : ArePiecesText (IsDeclaredPiece scopes model (record { table = TypeDef; row = class }) own first past) (declared_text method) text
+  pub pieces : ArePiecesText (IsDeclaredPiece scopes model (record { table = TypeDef; row = class }) own first past generics) (declared_text method) text
+
+-- the same with the number of its generic parameters, and with those that refer to the method (II.15.1, II.22.20)
+abbrev pub IsDeclarationBy : Scopes → Metadata → ℕ → Method → List ℕ → Type 0
+IsDeclarationBy = IsDeclarationWith []
+
+abbrev pub IsMethodHead : Scopes → Metadata → ℕ → Method → List ℕ → Type 0
+IsMethodHead scopes model row = IsDeclarationWith (linked model link.GenericParams (record { table = MethodDef; row = row })) scopes model row
 
 abbrev pub IsDeclaration : Metadata → ℕ → Method → List ℕ → Type 0
 IsDeclaration = IsDeclarationBy Omitted
@@ -138,7 +168,7 @@ pub record IsPropertyDeclarationBy (scopes : Scopes) (model : Metadata) (row : �
   pub member : IsTypeOfProperty model row class
   pub own : List ℕ
   pub is_named : cell_in model Property row 1 ≡ Text own
-  pub pieces : ArePiecesText (IsDeclaredPiece scopes model class own 0 0) (declared_text form) text
+  pub pieces : ArePiecesText (IsDeclaredPiece scopes model class own 0 0 []) (declared_text form) text
 
 abbrev pub IsPropertyDeclaration : Metadata → ℕ → Method → List ℕ → Type 0
 IsPropertyDeclaration = IsPropertyDeclarationBy Omitted
@@ -161,7 +191,7 @@ pub record IsReferenceTo (scopes : Scopes) (model : Metadata) (table : TableId) 
   pub owner : IsClassOf model table row class
   pub own : List ℕ
   pub is_named : cell_in model table row name_cell ≡ Text own
-  pub pieces : ArePiecesText (IsDeclaredPiece scopes model class own 0 0) (member_text signature) text
+  pub pieces : ArePiecesText (IsDeclaredPiece scopes model class own 0 0 []) (member_text signature) text
 
 -- the same with the signature in a cell
 abbrev pub IsReferenceBy : Scopes → Metadata → TableId → ℕ → ℕ → ℕ → List ℕ → Type 0

@@ -1,6 +1,6 @@
 //! Declarations of methods and properties, references to methods and fields, and texts of signatures, in the notation of
-//! ILAsm (ECMA-335 II.15.3, II.17), with the names that `full_names` writes. The words of flags (II.23.1). Of a method,
-//! eight bytes are allocated for each row of Param, and the bytes of signatures that are held as values.
+//! ILAsm (ECMA-335 II.15.3, II.17), with the names that `full_names` writes. Of a method, eight bytes are allocated for each
+//! row of Param, and the bytes of signatures that are held as values.
 //!
 //! ```text
 //! write_method(alloc, &view, method, &mut out)?; // string Hello.Greeter::Greet(string name, int32 times)
@@ -9,7 +9,8 @@
 #![tactic(auto)]
 
 mod descriptors;
-mod flag_words;
+mod generics;
+mod links;
 mod method_text;
 mod methods;
 mod params;
@@ -17,9 +18,7 @@ mod references;
 mod signature_text;
 
 pub use descriptors::{descriptor_in, write_descriptor};
-pub use flag_words::{FlagTable, FlagWord, words_of};
 pub use full_names::{Limit, NoLimit, ReadCells, ReadMetadata, TableId, TextError, Token};
 pub use methods::{write_method, write_method_of, write_method_within, write_property_within};
-pub use params::write_flags;
 pub use references::write_reference;
 pub use signature_text::write_signature_text;

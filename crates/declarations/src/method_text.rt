@@ -6,11 +6,11 @@ ghost use Rattle.full_names.specs.Names.{Wrote};
 ghost use Rattle.full_names.specs.TextEnd.{IsWhole};
 ghost use Rattle.full_names.specs.RowNames.{IsRowNameBy};
 ghost use Rattle.full_names.specs.Texts.{ArePiecesText};
-ghost use Rattle.declarations.specs.Declarations.{AreParams, IsDeclaredPiece, IsMarshalOf, IsMemberOfClass, IsNameOf, IsPair, IsParamText, after_space, before_space};
+ghost use Rattle.declarations.specs.Declarations.{AreLinksOf, AreParams, IsDeclaredPiece, IsMarshalOf, IsMemberOfClass, IsNameOf, IsPair, IsParamText, after_space, before_space, generic_rows};
 
 use crate::descriptors::{write_after_space, write_before_space};
-use crate::flag_words::FlagTable;
-use crate::params::{Params, write_flags, write_spaced};
+use crate::generics::write_generics;
+use crate::params::{Params, write_spaced};
 use full_names::{
     Limit, TextEnd, TextError, keep, keep_refusal, write_full_name_within, write_number,
     write_own_name, write_row_name, write_signed, write_text,
@@ -20,6 +20,7 @@ use sig_text::{MethodSink, TextSink, write_declaration};
 use std::alloc::Global;
 use std::fmt;
 use table_schema::Token;
+use type_heads::{FlagTable, write_flags};
 
 /// What the declaration of a method, a property or a field has besides its signature.
 #[derive(Clone, Copy)]
@@ -77,14 +78,14 @@ impl<S: ReadCells, W: fmt::Write, L: Limit<W>> TextSink for MethodText<'_, '_, S
     ghost use Rattle.metadata.specs.Metadata.{Metadata};
     ghost use Rattle.full_names.specs.Names.{Wrote};
     ghost use Rattle.full_names.specs.TextEnd.{IsWhole};
-    ghost use Rattle.declarations.specs.Declarations.{AreParams, IsDeclaredPiece};
+    ghost use Rattle.declarations.specs.Declarations.{AreLinksOf, AreParams, IsDeclaredPiece, generic_rows};
 
     ghost refused = { λ s. is_some s.ended };
 
     ghost gives = { λ s piece taken t.
         (taken ≡ true → (t.ended ≡ s.ended) × (t.params.now ≡ s.params.now) × (t.of ≡ s.of) × (t.writer.ghost_name ≡ s.writer.ghost_name)
-        × ((model : Metadata) → S.shows s.params.now.source.now model → AreParams model s.of.first s.of.past s.params.now.rows.items
-        → Wrote W.write_str_gives s.writer.now (IsDeclaredPiece L.scopes model s.of.class s.of.name.now s.of.first s.of.past piece) t.writer.now))
+        × ((model : Metadata) → S.shows s.params.now.source.now model → AreLinksOf model s.params.now.links → AreParams model s.of.first s.of.past s.params.now.rows.items
+        → Wrote W.write_str_gives s.writer.now (IsDeclaredPiece L.scopes model s.of.class s.of.name.now s.of.first s.of.past (generic_rows s.params.now.links) piece) t.writer.now))
         × (taken ≡ false → IsWhole t.ended → (t.writer.ghost_name ≡ s.writer.ghost_name)
         × ((text : List ℕ) → W.write_str_gives s.writer.now text t.writer.now)) };
 
@@ -125,6 +126,17 @@ impl<S: ReadCells, W: fmt::Write, L: Limit<W>> MethodSink for MethodText<'_, '_,
             self.alloc,
             self.params,
             self.of,
+            self.limit,
+            self.writer,
+        );
+        keep(&mut self.ended, written)
+    }
+
+    fn generic_params(&mut self, count: u32) -> Option<()> {
+        let written = write_generics(
+            self.alloc,
+            self.params.links,
+            count,
             self.limit,
             self.writer,
         );
@@ -192,11 +204,12 @@ pub fn put_declaration<S: ReadCells, W: fmt::Write, L: Limit<W>>(
     sink: &mut MethodText<'_, '_, S, W, L>,
     bytes: &[u8],
 )
-    ensures { (model : Metadata) → S.shows sink.old.params.now.source.now model → (signature : Body) → Declares signature bytes.now
+    ensures { (model : Metadata) → S.shows sink.old.params.now.source.now model → AreLinksOf model sink.old.params.now.links
+        → (signature : Body) → Declares signature bytes.now
         → AreParams model sink.old.of.first sink.old.of.past sink.old.params.now.rows.items → (text : List ℕ) → IsRowNameBy L.scopes model sink.old.of.class text
         → sink.old.ended ≡ None → IsWhole sink.new.ended
         → (sink.new.writer.ghost_name ≡ sink.old.writer.ghost_name) × Wrote W.write_str_gives sink.old.writer.now
-        (ArePiecesText (IsDeclaredPiece L.scopes model sink.old.of.class sink.old.of.name.now sink.old.of.first sink.old.of.past) (member_text signature))
+        (ArePiecesText (IsDeclaredPiece L.scopes model sink.old.of.class sink.old.of.name.now sink.old.of.first sink.old.of.past (generic_rows sink.old.params.now.links)) (member_text signature))
         sink.new.writer.now }
 {
     sink.params.source.holds_one();

@@ -1,4 +1,4 @@
-ghost use Rattle.std.specs.Prelude.{◌≡◌, ◌≤◌, ℕ, Bool, List, IfSome, OnOk};
+ghost use Rattle.std.specs.Prelude.{◌≡◌, ◌≤◌, ℕ, Bool, List, OnOk};
 ghost use Rattle.table_schema.specs.declared.table.TableId.TheVariants.{MethodDef, Property};
 ghost use Rattle.sig_grammar.specs.Syntax.{Body, Method, Slot, method_body, property};
 ghost use Rattle.sig_text.specs.Declares.{Declares, as_method, member_text};
@@ -9,8 +9,9 @@ ghost use Rattle.opening.specs.Views.{row_count};
 ghost use Rattle.full_names.specs.Names.{Wrote};
 ghost use Rattle.full_names.specs.RowNames.{IsRowNameBy};
 ghost use Rattle.full_names.specs.Texts.{ArePiecesText};
-ghost use Rattle.declarations.specs.Declarations.{IsDeclaration, IsDeclarationBy, IsDeclaredPiece, IsPropertyDeclarationBy};
+ghost use Rattle.declarations.specs.Declarations.{AreLinksOf, IsDeclaration, IsDeclarationBy, IsDeclarationWith, IsDeclaredPiece, IsMethodHead, IsPropertyDeclarationBy, generic_rows};
 
+use crate::links::Links;
 use crate::method_text::{Declared, MethodText, put_declaration};
 use crate::params::Params;
 use full_names::{Limit, NoLimit, TextError, bytes_of, result_of};
@@ -37,15 +38,16 @@ const PROPERTY_SIGNATURE: usize = 2;
 pub(crate) fn write_declared<S: ReadCells, W: fmt::Write, L: Limit<W>>(
     alloc: Global,
     source: &S,
-    links: Option<&Neighbours<'_, '_>>,
+    links: Option<Links<'_>>,
     of: Declared<'_>,
     bytes: &[u8],
     limit: &L,
     out: &mut W,
 ) -> Result<(), TextError>
-    requires linked { ∥ IfSome links (λ at. (model : Metadata) → S.shows source.now model → IsModel at.now.view.now model) ∥₁ }
-    ensures { (model : Metadata) → S.shows source.now model → (signature : Body) → Declares signature bytes.now → (text : List ℕ) → IsRowNameBy L.scopes model of.entry.class text
-        → OnOk result (Wrote W.write_str_gives out.old (ArePiecesText (IsDeclaredPiece L.scopes model of.entry.class of.entry.name.now of.entry.first of.entry.past) (member_text signature)) out.new) }
+    requires linked { ∥ ((model : Metadata) → S.shows source.now model → AreLinksOf model links) ∥₁ }
+    ensures { (model : Metadata) → S.shows source.now model → AreLinksOf model links.entry → (signature : Body) → Declares signature bytes.now
+        → (text : List ℕ) → IsRowNameBy L.scopes model of.entry.class text
+        → OnOk result (Wrote W.write_str_gives out.old (ArePiecesText (IsDeclaredPiece L.scopes model of.entry.class of.entry.name.now of.entry.first of.entry.past (generic_rows links.entry)) (member_text signature)) out.new) }
 {
     let params = Params::new(alloc, source, links, of.first..of.past)?;
     let mut sink = MethodText::new(alloc, &params, of, limit, out);
@@ -99,8 +101,9 @@ pub fn write_method_within<S: ReadCells, W: fmt::Write, L: Limit<W>>(
     write_method_by(alloc, source, None, row, limit, out)
 }
 
-/// Writes a method of a view as [`write_method_within`] does. Rows of FieldMarshal that are not in order are found by binary
-/// search too.
+/// Writes a method of a view as [`write_method_within`] does, but with its generic parameters in place of their number (II.10.1.7,
+/// II.15.1), if rows of GenericParam refer to it: `void Hello.Greeter::Greet<(Hello.IGreeter) T>(!!0 other)`. Rows of FieldMarshal
+/// that are not in order are found by binary search too.
 ///
 /// # Errors
 ///
@@ -115,26 +118,27 @@ pub fn write_method_of<W: fmt::Write, L: Limit<W>>(
     requires first { 1 ≤ row }
     requires last { row ≤ row_count source.now.view.now MethodDef }
     ensures text { (model : Metadata) → IsModel source.now.view.now model → (method : Method) → cell_in model MethodDef row 4 ≡ Sig (method_body method)
-        → OnOk result (Wrote W.write_str_gives out.old (IsDeclarationBy L.scopes model row method) out.new) }
+        → OnOk result (Wrote W.write_str_gives out.old (IsMethodHead L.scopes model row method) out.new) }
 {
-    write_method_by(alloc, source, Some(source), row, limit, out)
+    let links = Links::new(source, row);
+    write_method_by(alloc, source, Some(links), row, limit, out)
 }
 
-/// Writes a method, with the references of its view if they are known.
+/// Writes a method, with the rows that refer to it and its parameters if they are known.
 #[tactic(auto, unfolding(table_schema::specs::CellColumns::cell_columns))]
 fn write_method_by<S: ReadCells, W: fmt::Write, L: Limit<W>>(
     alloc: Global,
     source: &S,
-    links: Option<&Neighbours<'_, '_>>,
+    links: Option<Links<'_>>,
     row: u32,
     limit: &L,
     out: &mut W,
 ) -> Result<(), TextError>
     requires first { 1 ≤ row }
     requires last { row ≤ S.row_count source.now MethodDef }
-    requires linked { ∥ IfSome links (λ of. (model : Metadata) → S.shows source.now model → IsModel of.now.view.now model) ∥₁ }
-    ensures text { (model : Metadata) → S.shows source.now model → (method : Method) → cell_in model MethodDef row 4 ≡ Sig (method_body method)
-        → OnOk result (Wrote W.write_str_gives out.old (IsDeclarationBy L.scopes model row method) out.new) }
+    requires linked { ∥ ((model : Metadata) → S.shows source.now model → AreLinksOf model links) ∥₁ }
+    ensures text { (model : Metadata) → S.shows source.now model → AreLinksOf model links.entry → (method : Method) → cell_in model MethodDef row 4 ≡ Sig (method_body method)
+        → OnOk result (Wrote W.write_str_gives out.old (IsDeclarationWith (generic_rows links.entry) L.scopes model row method) out.new) }
 {
     sig_values::laws::shortest_encodes();
     source.holds_one();

@@ -5,17 +5,15 @@ ghost use Rattle.std.specs.List.{filter};
 ghost use Rattle.std.specs.List.Sorted.{IsNonDecreasingBy};
 ghost use Rattle.table_schema.specs.declared.table.TableId.TheVariants.{FieldMarshal, Param};
 ghost use Rattle.metadata.specs.Metadata.{Metadata, cell_in};
-ghost use Rattle.metadata.specs.Model.{IsModel};
 ghost use Rattle.navigation.specs.declared.links.Link.TheVariants as link;
 ghost use Rattle.navigation.specs.Linked.{first_linked};
 ghost use Rattle.navigation.specs.Keyed.{has_key, key_of, keyed_rows};
-ghost use Rattle.declarations.specs.Declarations.{bytes_of, param_token, position_in, spaced};
-ghost use Rattle.declarations.specs.FlagWords.{leading_text, leading_words, shown_word, words_of};
+ghost use Rattle.declarations.specs.Declarations.{AreLinksOf, bytes_of, param_token, position_in, spaced};
 
-use crate::flag_words::{FlagTable, FlagWord, words_of};
+use crate::links::Links;
 use full_names::{Limit, NameKind, write_name, write_text};
 use metadata_source::rows_by_key;
-use navigation::{KeyedRow, Link, Neighbours, ReadCells, cells, sort_by_key, with_key};
+use navigation::{KeyedRow, Link, ReadCells, cells, sort_by_key, with_key};
 use reading::CellRef;
 use std::alloc::{AllocError, Global};
 use std::fmt;
@@ -51,14 +49,10 @@ fn row_by_key<S: ReadCells>(source: &S, param: u32) -> Option<u32>
 }
 
 /// The same, by the references of a view if they are known.
-fn marshal_row<S: ReadCells>(
-    source: &S,
-    links: Option<&Neighbours<'_, '_>>,
-    param: u32,
-) -> Option<u32>
+fn marshal_row<S: ReadCells>(source: &S, links: Option<Links<'_>>, param: u32) -> Option<u32>
     requires first { 1 ≤ param }
     requires last { param ≤ S.row_count source.now Param }
-    requires linked { ∥ IfSome links (λ of. (model : Metadata) → S.shows source.now model → IsModel of.now.view.now model) ∥₁ }
+    requires linked { ∥ ((model : Metadata) → S.shows source.now model → AreLinksOf model links) ∥₁ }
     ensures row { (model : Metadata) → S.shows source.now model → result ≡ first_linked model link.Marshalling (param_token param) }
     ensures there { IfSome result (λ row. (1 ≤ row) × (row ≤ S.row_count source.now FieldMarshal)) }
 {
@@ -70,7 +64,7 @@ fn marshal_row<S: ReadCells>(
         row: param,
     };
     match links {
-        Some(neighbours) => neighbours.first_linked(Link::Marshalling, token),
+        Some(of) => of.neighbours.first_linked(Link::Marshalling, token),
         None => row_by_key(source, param),
     }
 }
@@ -116,9 +110,10 @@ fn read_positions<S: ReadCells>(
 pub struct Params<'s, S: ReadCells> {
     /// The metadata of the rows.
     pub source: &'s S,
-    links: Option<&'s Neighbours<'s, 's>>,
+    /// The rows that refer to the method and its parameters, if they are known.
+    pub links: Option<Links<'s>>,
     rows: Vec<KeyedRow>,
-    ghost linked: { ∥ IfSome links (λ of. (model : Metadata) → S.shows source.now model → IsModel of.now.view.now model) ∥₁ },
+    ghost linked: { ∥ ((model : Metadata) → S.shows source.now model → AreLinksOf model links) ∥₁ },
     ghost sorted: { IsNonDecreasingBy key_of rows.items },
     ghost within: { (key : ℕ) → All (λ param. (1 ≤ param.row) × (param.row ≤ S.row_count source.now Param)) (filter (has_key key) rows.items) },
 }
@@ -126,21 +121,21 @@ pub struct Params<'s, S: ReadCells> {
 impl<'s, S: ReadCells> Params<'s, S> {
     ghost use Rattle.std.specs.Prelude.{◌≡◌, ◌≤◌, ℕ, List, IfOk, IfSome, option_map};
     ghost use Rattle.metadata.specs.Metadata.{Metadata};
-    ghost use Rattle.metadata.specs.Model.{IsModel};
     ghost use Rattle.table_schema.specs.declared.table.TableId.TheVariants.{Param};
-    ghost use Rattle.declarations.specs.Declarations.{AreParams, IsFlagsOf, IsMarshalOf, IsNameOf, IsParamRow, IsParamText, marshalled, spaced};
-    ghost use Rattle.declarations.specs.FlagWords.{leading_words, words_of};
-    ghost use Rattle.declarations.specs.declared.flag_words.FlagTable.TheVariants as table;
+    ghost use Rattle.declarations.specs.Declarations.{AreLinksOf, AreParams, IsFlagsOf, IsMarshalOf, IsNameOf, IsParamRow, IsParamText, marshalled, spaced};
+    ghost use Rattle.type_heads.specs.FlagWords.{leading_words, words_of};
+    ghost use Rattle.type_heads.specs.declared.flag_words.FlagTable.TheVariants as table;
 
     /// Sorts the rows of Param from one on to before another by their positions. It fails only if out of memory.
     pub fn new(
         alloc: Global,
         source: &'s S,
-        links: Option<&'s Neighbours<'s, 's>>,
+        links: Option<Links<'s>>,
         rows: Range<u32>,
     ) -> Result<Params<'s, S>, AllocError>
-        requires linked { ∥ IfSome links (λ of. (model : Metadata) → S.shows source.now model → IsModel of.now.view.now model) ∥₁ }
+        requires linked { ∥ ((model : Metadata) → S.shows source.now model → AreLinksOf model links) ∥₁ }
         ensures source { IfOk result (λ params. params.source.now ≡ source.now) }
+        ensures links { IfOk result (λ params. params.links ≡ links.entry) }
         ensures rows { (model : Metadata) → S.shows source.now model → IfOk result (λ params. AreParams model rows.start rows.«end» params.rows.items) }
     {
         source.holds_one();
@@ -202,27 +197,6 @@ impl<'s, S: ReadCells> Params<'s, S> {
             None => 0,
         }
     }
-}
-
-/// Writes a word and a space, if the flags have its value.
-fn write_flag<W: fmt::Write>(out: &mut W, flags: u32, word: FlagWord) -> fmt::Result
-    ensures { OnOk result (WritesInCalls W.write_str_gives out.old (leading_text flags (shown_word word)) out.new) }
-{
-    if flags & word.mask != word.value {
-        return Ok(());
-    }
-    write_text(out, word.text)?;
-    write_text(out, " ")
-}
-
-/// Writes the words of flags (II.10.1.7, II.15.4), a space after each.
-pub fn write_flags<W: fmt::Write>(out: &mut W, of: FlagTable, flags: u32) -> fmt::Result
-    ensures { OnOk result (WritesInCalls W.write_str_gives out.old (leading_words flags (words_of of)) out.new) }
-{
-    for word in words_of(of) {
-        write_flag(out, flags, *word)?;
-    }
-    Ok(())
 }
 
 /// Writes a space and a name, unless the name is empty.

@@ -15,7 +15,7 @@ use Rattle.table_schema.specs.declared.column.SigKind.TheVariants as column
 use Rattle.table_schema.specs.declared.coded.Coded.TheVariants as coded
 use Rattle.table_schema.specs.CellColumns.{cell_columns, cell_count}
 use Rattle.sig_grammar.specs.Syntax.{Body}
-use Rattle.sig_text.specs.SignatureText.{Piece, word, number, signed, name, method_name, param_flags, param_name, text_of}
+use Rattle.sig_text.specs.SignatureText.{Piece, word, number, signed, name, method_name, generic_params, param_flags, param_name, text_of}
 use Rattle.metadata.specs.Cell.{Cell, Text, Ref}
 use Rattle.metadata.specs.Kinds.{IsOfKind}
 use Rattle.metadata.specs.KeyOrder.{IsKeyOrdered, key_in}
@@ -256,6 +256,7 @@ piece_text is_name named (number of) is = (decimal of, refl)
 piece_text is_name named (signed of) is = (signed_decimal of, refl)
 piece_text is_name named (name token) is = named token
 piece_text is_name named method_name is = absurd is
+piece_text is_name named (generic_params n) is = absurd is
 piece_text is_name named (param_flags position) is = absurd is
 piece_text is_name named (param_name position) is = absurd is
 

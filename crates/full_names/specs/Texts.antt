@@ -4,7 +4,7 @@ use Rattle.std.specs.Fmt.{decimal, signed_decimal}
 use Rattle.table_schema.specs.declared.table.TableId.TheVariants.{TypeDef, TypeRef, TypeSpec}
 use Rattle.table_schema.specs.declared.token.Token.{Token}
 use Rattle.sig_grammar.specs.Syntax.{Body}
-use Rattle.sig_text.specs.SignatureText.{Piece, word, number, signed, name, method_name, param_flags, param_name, text_of}
+use Rattle.sig_text.specs.SignatureText.{Piece, word, number, signed, name, method_name, generic_params, param_flags, param_name, text_of}
 use Rattle.metadata.specs.Cell.{Sig}
 use Rattle.metadata.specs.Metadata.{Metadata, cell_in}
 use Rattle.metadata.specs.Lookups.{HasRow}
@@ -29,6 +29,7 @@ IsPieceText is_name (number of) text = text ≡ decimal of
 IsPieceText is_name (signed of) text = text ≡ signed_decimal of
 IsPieceText is_name (name token) text = is_name token text
 IsPieceText is_name method_name text = ⊥
+IsPieceText is_name (generic_params n) text = ⊥
 IsPieceText is_name (param_flags position) text = ⊥
 IsPieceText is_name (param_name position) text = ⊥
 

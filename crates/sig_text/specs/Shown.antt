@@ -10,7 +10,7 @@ use Rattle.sig_grammar.specs.declared.element.Element.{Element}
 use Rattle.sig_grammar.specs.declared.body.Prefix.{Prefix}
 use Rattle.sig_grammar.specs.ElementTypes.{VOID, PTR, BYREF, VALUETYPE, CLASS, VAR, ARRAY, GENERICINST, TYPEDBYREF, FNPTR, SZARRAY, MVAR, SENTINEL}
 use Rattle.sig_grammar.specs.Reading.{number_at, signed_at, index_at, prefix_at, head_is, element_of}
-use Rattle.sig_text.specs.SignatureText.{Piece, word, number, name, method_name, param_flags, param_name, comma, following, prefix_text, element_text, kind_text, dimension_text, written_dimensions, rank_text, mark_text, flag_text, call_text, arity_text}
+use Rattle.sig_text.specs.SignatureText.{Piece, word, number, name, method_name, param_flags, param_name, comma, following, prefix_text, element_text, kind_text, dimension_text, written_dimensions, rank_text, mark_text, flag_text, call_text, arity_text, generics_text}
 
 -- the pieces of what is at the start, and the bytes after it
 abbrev pub Shown : Type 0
@@ -228,7 +228,7 @@ declared_shown core b =
     let generic = generic_or first.0 first.1 in
     let count = number_or generic.1 in
     let ret = slot_shown core count.1 in
-    code_text first.0 ++ (ret.0 ++ (word (codes " ") ∷ (method_name ∷ (arity_text generic.0 ++ (word (codes "(") ∷ (named_slots_shown core [] 1 count.0 ret.1 ++ word (codes ")") ∷ []))))))
+    code_text first.0 ++ (ret.0 ++ (word (codes " ") ∷ (method_name ∷ (generics_text generic.0 ++ (word (codes "(") ∷ (named_slots_shown core [] 1 count.0 ret.1 ++ word (codes ")") ∷ []))))))
 
 unfoldable pub member_shown : CoreShown → List ℕ → List Piece
 member_shown core b =

@@ -12,13 +12,14 @@ use Rattle.sig_grammar.specs.Conventions.{convention_of}
 use Rattle.sig_grammar.specs.Syntax.{Core, simple, void_pointer, pointer, vector, array, class, value, var, mvar, instance, function, Typed, typed, Types, no_types, type_then, Content, typed_ref, plain, by_ref, Slot, slot, Slots, no_slots, slot_then, Ret, some_ret, void_ret, Method, method, ArrayShape, LocalVariable, local, Body, field, method_body, property, locals, instance_body, type_spec}
 
 -- What a sink receives: a text, a number in decimal digits, and the name of a row. In a declaration also the name of the
--- method, and of the parameter at a position its flags, and a space and its name.
+-- method, its generic parameters by their number, and of the parameter at a position its flags, and a space and its name.
 pub data Piece : Type 0 where
   word : List ℕ → Piece
   number : ℕ → Piece
   signed : ℤ → Piece
   name : Token → Piece
   method_name : Piece
+  generic_params : ℕ → Piece
   param_flags : ℕ → Piece
   param_name : ℕ → Piece
 
@@ -117,10 +118,15 @@ abbrev pub call_text : ℕ → Bool → Bool → List Piece
 call_text kind this explicit =
     flag_text this (codes "instance ") ++ (flag_text explicit (codes "explicit ") ++ word (convention_text (convention_of kind)) ∷ [])
 
--- the number of generic parameters
+-- the number of generic parameters of a method that is pointed to
 abbrev pub arity_text : Option ℕ → List Piece
 arity_text None = []
 arity_text (Some n) = word (codes "<[") ∷ number n ∷ word (codes "]>") ∷ []
+
+-- the generic parameters of the method that is declared
+abbrev pub generics_text : Option ℕ → List Piece
+generics_text None = []
+generics_text (Some n) = generic_params n ∷ []
 
 -- SENTINEL, before the first of the variable arguments; and the number of parameters before it, after one of them
 abbrev pub sentinel_text : Option ℕ → List Piece
@@ -193,7 +199,7 @@ text_of (locals variables) = word (codes "(") ∷ (listed local_text [] variable
 text_of (instance_body args) = word (codes "<") ∷ (listed typed_text [] args ++ word (codes ">") ∷ [])
 text_of (type_spec ret) = ret_text ret
 
--- ---- the declaration of a method (II.15.3) or of a property (II.17): its name stands in it, and the flags and the names of its parameters
+-- ---- the declaration of a method (II.15.3) or of a property (II.17): its name and its generic parameters stand in it, and the flags and the names of its parameters
 
 -- parameters with their flags and names, and SENTINEL after the given number of them; positions are counted from 1
 abbrev pub named_slots_text : List Piece → ℕ → Slots → Option ℕ → List Piece
@@ -203,4 +209,4 @@ named_slots_text before position (slot_then s ss) sentinel =
 
 abbrev pub declared_text : Method → List Piece
 declared_text (method kind this explicit generic ret params sentinel) =
-    call_text kind this explicit ++ (ret_text ret ++ (word (codes " ") ∷ (method_name ∷ (arity_text generic ++ (word (codes "(") ∷ (named_slots_text [] 1 params sentinel ++ word (codes ")") ∷ []))))))
+    call_text kind this explicit ++ (ret_text ret ++ (word (codes " ") ∷ (method_name ∷ (generics_text generic ++ (word (codes "(") ∷ (named_slots_text [] 1 params sentinel ++ word (codes ")") ∷ []))))))

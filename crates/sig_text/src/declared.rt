@@ -4,28 +4,34 @@ ghost use Rattle.sig_text.specs.Declares.{Declares, member_text};
 ghost use Rattle.sig_text.specs.Receives.{Receives};
 ghost use Rattle.sig_text.specs.Refused.{refused_after};
 ghost use Rattle.sig_text.specs.Shown.{core_shown, named_slots_shown, declared_shown, member_shown};
-ghost use Rattle.sig_text.specs.SignatureText.{Piece, method_name, param_flags, param_name};
+ghost use Rattle.sig_text.specs.SignatureText.{Piece, method_name, generic_params, generics_text, param_flags, param_name};
 ghost use Rattle.sig_text.specs.Wrote.{Wrote};
 
 use crate::head::{byte, generic, number, sentinel};
 use crate::sink::TextSink;
-use crate::types::{arity, convention, slot};
+use crate::types::{convention, slot};
 use crate::words::{put_if, put_text, result_of};
 use sig_grammar::DEPTH_LIMIT;
 
 /// The first byte of the signature of a field (II.23.2.4).
 const FIELD: u8 = 0x06;
 
-/// A sink that also knows the name of one method, property or field, and the flags and the names of its parameters.
+/// A sink that also knows the name of one method, property or field, its generic parameters, and the flags and the names of its
+/// parameters.
 pub trait MethodSink: TextSink {
     ghost use Rattle.std.specs.Prelude.{◌≡◌, is_some};
     ghost use Rattle.sig_text.specs.Refused.{refused_after};
-    ghost use Rattle.sig_text.specs.SignatureText.{method_name as method_piece, param_flags as flags_piece, param_name as param_piece};
+    ghost use Rattle.sig_text.specs.SignatureText.{method_name as method_piece, generic_params as generics_piece, param_flags as flags_piece, param_name as param_piece};
 
     /// The name of the method, the property or the field.
     fn method_name(&mut self) -> Option<()>
         ensures refusal { Self.refused self.new ≡ refused_after result (Self.refused self.old) }
         ensures piece { Self.gives self.old method_piece (is_some result) self.new };
+
+    /// The generic parameters of the method, in brackets, or their number.
+    fn generic_params(&mut self, count: u32) -> Option<()>
+        ensures refusal { Self.refused self.new ≡ refused_after result (Self.refused self.old) }
+        ensures piece { Self.gives self.old (generics_piece count) (is_some result) self.new };
 
     /// The flags of a parameter, by its position from 1 on, each with a space after it. The positions come in ascending
     /// order.
@@ -47,6 +53,26 @@ fn put_method_name<S: MethodSink>(sink: &mut S, taken: &mut bool)
 {
     if *taken {
         *taken = sink.method_name().is_some();
+    }
+}
+
+/// Writes the generic parameters of the method.
+#[tactic(auto, using(crate::proofs::Chains::one, crate::proofs::Chains::shut))]
+fn put_generic_params<S: MethodSink>(sink: &mut S, taken: &mut bool, count: u32)
+    ensures { Wrote S.refused S.gives sink.old taken.old (generic_params count ∷ []) sink.new taken.new }
+{
+    if *taken {
+        *taken = sink.generic_params(count).is_some();
+    }
+}
+
+/// Writes the generic parameters of the method, if it is generic.
+fn generics<S: MethodSink>(sink: &mut S, taken: &mut bool, generic: Option<u32>)
+    ensures { Wrote S.refused S.gives sink.old taken.old (generics_text generic) sink.new taken.new }
+{
+    match generic {
+        None => {}
+        Some(count) => put_generic_params(sink, taken, count),
     }
 }
 
@@ -99,7 +125,7 @@ fn declaration<S: MethodSink>(sink: &mut S, taken: &mut bool, bytes: &[u8])
     let tail = slot(sink, taken, tail, DEPTH_LIMIT);
     put_text(sink, taken, " ");
     put_method_name(sink, taken);
-    arity(sink, taken, generic);
+    generics(sink, taken, generic);
     put_text(sink, taken, "(");
     params(sink, taken, tail, count);
     put_text(sink, taken, ")");
@@ -120,11 +146,11 @@ fn member<S: MethodSink>(sink: &mut S, taken: &mut bool, bytes: &[u8])
 }
 
 /// Writes what all the bytes together encode, as it is declared: a method or a property (II.15.3, II.17, II.23.2.1,
-/// II.23.2.5), with its calling convention, its result or its type, its name, and its parameters with their flags and
+/// II.23.2.5), with its calling convention, its result or its type, its name, its generic parameters, and its parameters with their flags and
 /// names; or what a MemberRef refers to (II.22.25), a method with `...` before its variable arguments, or a field, with its
 /// type and its name.
 ///
-/// `instance void Name<[1]>(!!0 first, [out] int32&)` is a generic method of an instance, whose second parameter has no
+/// `instance void Name<T>(!!0 first, [out] int32&)` is a generic method of an instance, whose second parameter has no
 /// name. The bytes are not checked: if they encode none of these, it is not specified which pieces the sink receives.
 ///
 /// # Errors

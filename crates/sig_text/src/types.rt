@@ -279,8 +279,8 @@ pub fn convention<S: TextSink>(sink: &mut S, taken: &mut bool, code: u8)
     );
 }
 
-/// Writes the number of generic parameters, if the method is generic.
-pub fn arity<S: TextSink>(sink: &mut S, taken: &mut bool, generic: Option<u32>)
+/// Writes the number of generic parameters, if the method that is pointed to is generic.
+fn arity<S: TextSink>(sink: &mut S, taken: &mut bool, generic: Option<u32>)
     ensures { Wrote S.refused S.gives sink.old taken.old (arity_text generic) sink.new taken.new }
 {
     match generic {

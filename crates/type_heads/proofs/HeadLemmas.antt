@@ -21,8 +21,8 @@ use Rattle.navigation.specs.declared.links.Link.TheVariants as link_of
 use Rattle.navigation.specs.Cells.{reference_in}
 use Rattle.navigation.specs.Keyed.{row_of}
 use Rattle.navigation.specs.Linked.{linked, table_of}
-use Rattle.declarations.specs.FlagWords.{leading_words, words_of}
-use Rattle.declarations.specs.declared.flag_words.FlagTable.TheVariants as flags
+use Rattle.type_heads.specs.FlagWords.{leading_words, words_of}
+use Rattle.type_heads.specs.declared.flag_words.FlagTable.TheVariants as flags
 use Rattle.type_heads.specs.Heads.{AreConstraints, AreListed, IsGenericParam, IsInHead, IsTypeName, IsTypeOf, enclosed, flags_in, name_in, param_token}
 
 -- each table that refers has a second cell
@@ -65,6 +65,10 @@ module _ (scopes : Scopes) (model : Metadata) (valid : IsValid model) where
       let words = leading_words (flags_in (cell_in model GenericParam row 1)) (words_of flags.Generic) in
       let name = name_text Identifier (name_in (cell_in model GenericParam row 3)) in
       (words ++ (constraints ++ name), (constraints, (types.0, types.1, refl), refl))
+
+-- each list of generic parameters has a text
+pub generics_text : (scopes : Scopes) (model : Metadata) → IsValid model → (rows : List ℕ) → HasText (AreListed (IsInHead scopes model link_of.GenericParams) [] rows)
+generics_text scopes model valid rows = listed_texts (IsInHead scopes model link_of.GenericParams) (param_text scopes model valid) [] rows
 
 -- ---- rows one after another
 

@@ -1,1 +1,2 @@
+mod FlagLemmas
 pub mod HeadLemmas

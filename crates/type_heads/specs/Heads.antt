@@ -13,8 +13,8 @@ use Rattle.full_names.specs.declared.limit.Scopes.{Scopes}
 use Rattle.full_names.specs.declared.quoted.NameKind.TheVariants.{Identifier}
 use Rattle.full_names.specs.Quoted.{name_text}
 use Rattle.full_names.specs.Texts.{IsFullNameBy}
-use Rattle.declarations.specs.FlagWords.{leading_words, words_of}
-use Rattle.declarations.specs.declared.flag_words.FlagTable.TheVariants as flags
+use Rattle.type_heads.specs.FlagWords.{leading_words, words_of}
+use Rattle.type_heads.specs.declared.flag_words.FlagTable.TheVariants as flags
 
 -- the texts of rows, with commas between them; a word is before the first
 abbrev pub AreListed : (ℕ → List ℕ → Type 0) → List ℕ → List ℕ → List ℕ → Type 0

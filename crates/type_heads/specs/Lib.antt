@@ -1,1 +1,2 @@
+pub mod FlagWords
 pub mod Heads

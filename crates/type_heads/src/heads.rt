@@ -11,7 +11,7 @@ ghost use Rattle.navigation.specs.Linked.{table_of};
 ghost use Rattle.opening.specs.Views.{row_count};
 ghost use Rattle.type_heads.specs.Heads.{AreConstraints, AreListed, IsGenericParam, IsInHead, IsTypeOf};
 
-use declarations::{FlagTable, write_flags};
+use crate::flag_words::{FlagTable, write_flags};
 use full_names::{Limit, NameKind, TextError, write_full_name_within, write_name, write_text};
 use navigation::{KeyedRow, Link, Neighbours, cells};
 use opening::{CellRef, TableId, Token};

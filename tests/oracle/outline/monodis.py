@@ -116,9 +116,8 @@ class Reader:
         if not of_method:
             self.types[-1].params = names
         for *parts, name in params:
-            if not of_method:
-                shown = sorted(no_kinds(self.show(it, names)) for it in parts)
-                self.add("generic parameter in the head", " ".join([*shown, self.quoted.show(name)]))
+            shown = sorted(no_kinds(self.show(it, names)) for it in parts)
+            self.add("generic parameter in the head", " ".join([*shown, self.quoted.show(name)]) + f" of {owner}" * of_method)
             flags = sorted(it for it in parts if not it.startswith("("))
             self.add("generic parameter", f"{' '.join([*flags, self.quoted.show(name)])} of {owner}")
             for it in [it for part in parts if part.startswith("(") for it in split_list(part[1:-1])]:

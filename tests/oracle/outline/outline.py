@@ -38,6 +38,17 @@ def method_of(text):
     return split_outside(no_kinds(head), " ")[-1]
 
 
+def without_generics(text):
+    """A method with the number of its generic parameters for them, and these."""
+    start = opening(text, len(text) - 1)
+    head = text[:start]
+    if not head.endswith(">") or head.endswith("]>"):
+        return text, []
+    at = opening(head, len(head) - 1)
+    params = split_list(head[at + 1:-1])
+    return f"{head[:at]}<[{len(params)}]>{text[start:]}", params
+
+
 class Reader:
     """Reads the lines one by one. A type is followed by its members."""
 
@@ -47,7 +58,8 @@ class Reader:
         self.declared, self.type, self.mapped, self.owners = defaultdict(list), "", "", {}
         for line in text.splitlines():
             line, _, self.token = self.quoted.hide(line).rpartition("  // ")
-            self.read(line)
+            # monodis prints this in the body.
+            self.read(line.removesuffix(" .entrypoint"))
 
     def add(self, kind, text):
         self.declared[self.quoted.show(self.type), kind].append(plain(self.quoted.show(text)))
@@ -78,11 +90,15 @@ class Reader:
         # monodis does not print the type of what belongs to no type.
         if self.quoted.show(self.type) != "<Module>":
             self.add("class", f"{flags} extends {no_kinds(extends)}")
-        for it in split_list(params[:-1]):
-            *parts, name = split_outside(it, " ")
-            self.add("generic parameter in the head", " ".join([*sorted(no_kinds(it) for it in parts), name]))
+        self.add_in_head(split_list(params[:-1]))
         for it in split_list(interfaces):
             self.add("interface in the head", no_kinds(it))
+
+    def add_in_head(self, params, of=""):
+        """Adds the generic parameters of a type or a method."""
+        for it in params:
+            *parts, name = split_outside(it, " ")
+            self.add("generic parameter in the head", " ".join([*sorted(no_kinds(it) for it in parts), name]) + of)
 
     def own(self, text):
         """A text without the type before the name of its member."""
@@ -99,8 +115,11 @@ class Reader:
         self.mapped = word[1:]
         if word == ".method":
             code = CODE.search(tail)
-            self.add("method", f"{flags} {self.own(tail[:code.start() + 1])} {ordered(code[1])}")
-            self.add_marshal(how, method_of(tail[:code.start() + 1]).rpartition("::")[2])
+            called, params = without_generics(tail[:code.start() + 1])
+            name = method_of(called).rpartition("::")[2]
+            self.add("method", f"{flags} {self.own(called)} {ordered(code[1])}")
+            self.add_in_head(params, f" of {name}")
+            self.add_marshal(how, name)
         else:
             self.add(word[1:], f"{flags} {self.own(tail)}")
             self.add_marshal(how, self.own(tail).rpartition(" ")[2])

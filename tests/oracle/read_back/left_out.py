@@ -1,7 +1,9 @@
 """The words for flags and actions, and what the lines of `clim outline` and `clim refs` leave out: bits of flags, and cells."""
 
+import re
+
 from named import KEYS
-from notation import CODES, SIZES
+from notation import CODES, GENERIC, SIZES, forms, one_of
 
 # The words for the bits under a mask, by their value there (II.23.1). Bits after an exclamation mark have no word: what they are.
 TYPE = """7:private,public,nested_public,nested_private,nested_family,nested_assembly,nested_famandassem,nested_famorassem 18:auto,sequential,explicit
@@ -57,12 +59,19 @@ def is_other(rows, row):
     return size % 2 > 0 if row["Type"] == CODES["string"] else size != VALUE_SIZES.get(row["Type"])
 
 
+def has_other_generics(rows, row):
+    """Whether the signature of a generic method does not have the number of the rows of its generic parameters."""
+    found, signature = rows.referring["GenericParam", row["token"]], bytes.fromhex(row["Signature"]["blob"])
+    return bool(found and signature[0] & GENERIC) and not re.match(one_of(forms(len(found))), signature[1:], re.DOTALL)
+
+
 # The table, the columns or all of them, why a line leaves their cells out, and of which rows.
 LEFT_OUT = [
     ("Module", "Generation EncId EncBaseId", "edit and continue", always),
     ("TypeDef", "FieldList MethodList", "compared as the owners of members", always),
     ("MethodDef", "RVA", "where the body is", always),
     ("MethodDef", "ParamList", "compared as the owners of parameters", always),
+    ("MethodDef", "Signature", "the number of generic parameters, which is not that of their rows", has_other_generics),
     ("Param", "", "the result", lambda rows, row: row["Sequence"] == 0),
     ("Param", "", "no parameter has this position", lambda rows, row: row["Sequence"] > rows.params.get(row["owner"], 0)),
     ("Param", "", "neither a name nor flags with words", lambda rows, row: not row["Name"] and not row["Flags"] & 0x0013),

@@ -20,7 +20,7 @@ LINES = {
     "AssemblyRef": [rf"\.assembly extern<Flags> <Name> \{{ {VERSION}(?: <key> = \(<PublicKeyOrToken>\))? \}}"],
     "Module": [r"\.module <Name>(?: /\* \{<Mvid>\} \*/)?"],
     "ModuleRef": [r"\.module extern <Name>"],
-    "File": [r"\.file<Flags> <Name>"],
+    "File": [r"\.file<Flags> <Name>(?: \.entrypoint)?"],
     "ManifestResource": [r"\.mresource<Flags> <Name>"],
     "ExportedType": [r"\.class extern<Flags> <own>(?= in |$)", [" in <given> ", "Implementation"]],
     "TypeDef": [
@@ -31,7 +31,7 @@ LINES = {
         r"  \.field(?: \[<FieldLayout_Offset>\])?<Flags> ", "declaration", [" = ", "constant"],
         "(?: at D_<FieldRVA_RVA>)?",
     ],
-    "MethodDef": [r"  \.method<Flags> ", "declaration", "<ImplFlags>"],
+    "MethodDef": [r"  \.method<Flags> ", "declaration", "<ImplFlags>", r"(?: \.entrypoint)?"],
     "Property": [r"  \.property<Flags> ", "declaration", [" = ", "constant"]],
     "Event": [r"  \.event<EventFlags>", [f" (?!{PATH}::{MEMBER}$)", "EventType"], " ", "member"],
     "MethodSemantics": ["   <Semantics> ", "Method", " of ", "Association"],
@@ -152,7 +152,7 @@ class Line:
             self.put(row, column, lambda value: (None if value and table_of(value) == "Module" else value) in found)
 
     def listed(self, table, column, owner, read, begin, end):
-        """A list in the head of a type: reads what each row of a table is that refers to an owner."""
+        """A list in the head of a type or a method: reads what each row of a table is that refers to an owner."""
         tokens = self.rows.referring[table, owner]
         if bool(tokens) != bool(self.reader.take(begin)):
             raise ValueError(f"a list of {len(tokens)} rows of {table}")
@@ -165,6 +165,13 @@ class Line:
     def generic_params(self):
         left = iter(self.rows.referring["GenericParam", self.token])
         self.listed("GenericParam", "Name", self.token, lambda: self.generic_param(next(left)), "<", ">")
+
+    def generics_of_method(self):
+        """The number of generic parameters of a method. Those of a method without the byte for them have no list."""
+        if not self.reader.take(r"(?=<)"):
+            return 0
+        self.generic_params()
+        return len(self.rows.referring["GenericParam", self.token])
 
     def generic_param(self, token):
         """A generic parameter: the words of its flags, its constraints, and its name, which is returned in a list."""
@@ -196,7 +203,8 @@ class Line:
 
     def declaration(self):
         is_property = self.table == "Property"
-        self.matching("Type" if is_property else "Signature", self.reader.signature(self.member, PROPERTY if is_property else 0))
+        generics = self.generics_of_method if self.table == "MethodDef" else int
+        self.matching("Type" if is_property else "Signature", self.reader.signature(self.member, PROPERTY if is_property else 0, generics))
         self.rows.params[self.token] = len(self.reader.params) if self.table == "MethodDef" else 0
         for position, (found, name) in enumerate(self.reader.params if self.table == "MethodDef" else (), 1):
             if found or name:

@@ -144,21 +144,25 @@ class Reader:
         name = self.take(f" ({WORD})")
         return sentinel + of, words, plain(name[1]) if name else ""
 
-    def signature(self, read_name, first=0):
-        """A method or a field (II.23.2.1 to II.23.2.4). The flags and the names of parameters are kept."""
+    def signature(self, read_name, first=0, read_generics=int):
+        """A method or a field (II.23.2.1 to II.23.2.4). The flags and the names of parameters are kept. Where a method is declared
+        its generic parameters are read, and their number is returned.
+        """
         first |= 0x20 * bool(self.take("instance ")) | 0x40 * bool(self.take("explicit "))
         first |= CONVENTIONS.index(self.take("vararg |unmanaged (?:(?:cdecl|stdcall|thiscall|fastcall) )?|")[0])
         result = self.type()
         self.want(" ")
         read_name()
-        arity = self.take(r"<\[(\d+)\]>")
-        if not arity and not self.take(r"(?=\()"):
+        given = self.take(r"<\[(\d+)\]>")
+        arity = int(given[1]) if given else read_generics()
+        if not given and not arity and not self.take(r"(?=\()"):
             return code(FIELD | first) + result
         self.want(r"\(")
         params = self.listed(self.param, r"\)")
         self.params = [it[1:] for it in params]
-        counts = forms(int(arity[1]))[:1] if arity else []
-        return code(first | GENERIC * bool(arity)) + b"".join([*counts, forms(len(params))[0], result, *(it[0] for it in params)])
+        is_generic = bool(given or arity)
+        counts = forms(arity)[:1] if is_generic else []
+        return code(first | GENERIC * is_generic) + b"".join([*counts, forms(len(params))[0], result, *(it[0] for it in params)])
 
     def qualified(self):
         """The name of a member, and the rows of the type or the module before it."""

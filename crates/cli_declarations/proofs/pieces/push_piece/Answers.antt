@@ -11,7 +11,7 @@ use Rattle.cli_declarations.specs.Shown.{shown}
 use Rattle.cli_values.specs.Actions.{action_text}
 use Rattle.cli_values.specs.Constants.{bytes_text as value_bytes_text}
 use Rattle.cli_declarations.specs.Texts.{Gains}
-use Rattle.declarations.specs.FlagWords.{words_of, words_text}
+use Rattle.type_heads.specs.FlagWords.{words_of, words_text}
 use Rattle.cli_declarations.proofs.PieceLemmas.{on_ok, part_gains}
 use Rattle.cli_declarations.proofs.pieces.push_piece.Goals as goal
 

@@ -1,5 +1,5 @@
 use Rattle.std.proofs.Common.{string_bytes, ◌≡◌, ◌++◌, take}
-use Rattle.declarations.specs.FlagWords.{words_of, words_text}
+use Rattle.type_heads.specs.FlagWords.{words_of, words_text}
 use Rattle.cli_declarations.proofs.pieces.push_words.Given as goal
 
 abbrev pub invariant-loop-word : goal.invariant-loop-word

@@ -23,7 +23,7 @@ returns g c = record {
       let map = c.type_of_property.ensures.sound model shown in
       let type = type_named g.L.Limit.scopes model (c.holds_one.ensures.valid model shown) c.type_of_property.result in
       on_wrote g.W.Write.write_str_gives _ (IsPropertyDeclarationBy g.L.Limit.scopes model c.args.row (as_method this of params)) _ _ c.write_declared.result
-      (c.write_declared.ensures model shown (property this of params) (inr (inl bytes)) type.0 type.1)
+      (c.write_declared.ensures model shown tt (property this of params) (inr (inl bytes)) type.0 type.1)
       (λ text pieces. record {
         class = record { table = _; row = c.type_of_property.result };
         member = (c.type_of_property.result, map.0, map.1, map.2, refl);

@@ -1,9 +1,8 @@
-use Rattle.std.proofs.Common.{IfSome, subst}
+use Rattle.std.proofs.Common.{subst}
 use Rattle.std.proofs.Math.Logic.{∥∥₁_elim, ∥∥₁_map}
 use Rattle.std.proofs.Props.{props}
 use Rattle.table_schema.specs.declared.table.TableId.TheVariants.{FieldMarshal}
-use Rattle.metadata.specs.Metadata.{Metadata}
-use Rattle.metadata.specs.Model.{IsModel}
+use Rattle.declarations.specs.Declarations.{AreLinksOf}
 use Rattle.declarations.proofs.MarshalLemmas.{first_there}
 use Rattle.declarations.proofs.params.marshal_row.Goals as goal
 
@@ -11,7 +10,7 @@ pub returns-in-Some-clause-row : goal.returns-in-Some-clause-row
 returns-in-Some-clause-row g c = λ model shown.
     ∥∥₁_elim c.requires.linked (hlevel props) (λ linked.
     c.first_linked.ensures.row model
-    ((subst (λ links. IfSome links (λ of. (m : Metadata) → g.S.ReadMetadata.shows c.args.source.now m → IsModel of.now.view.now m)) c.in-Some.is linked) model shown))
+    (subst (λ links. AreLinksOf model links) c.in-Some.is (linked model shown)))
 
 pub returns-in-Some-clause-there : goal.returns-in-Some-clause-there
 returns-in-Some-clause-there g c =

@@ -20,7 +20,7 @@ returns g c = λ model shown.
     let bytes : Encodes kind.MemberRef one.0 c.bytes_of.result.now = rw c.bytes_of.ensures
     (encoded_by model (c.holds_one.ensures.valid model shown) kind.MemberRef (c.shortest_encodes.ensures kind.MemberRef) MemberRef c.args.row 2 there (omega arith) refl c.in_ok-bytes.bytes (c.in_ok-bytes.ensures model shown) one.0 one.1) in
     let of = c.class_of_member.ensures.named model shown g.L.Limit.scopes in
-    on_wrote g.W.Write.write_str_gives _ (IsReferenceBy g.L.Limit.scopes model MemberRef c.args.row 1 2) _ _ c.write_declared.result (c.write_declared.ensures model shown one.0 (inr (inr bytes)) of.0 of.1)
+    on_wrote g.W.Write.write_str_gives _ (IsReferenceBy g.L.Limit.scopes model MemberRef c.args.row 1 2) _ _ c.write_declared.result (c.write_declared.ensures model shown tt one.0 (inr (inr bytes)) of.0 of.1)
     (λ text pieces. (
       one.0,
       one.1,

@@ -21,7 +21,7 @@ returns g c = λ model shown.
     let bytes : Encodes kind.MethodDef one.0 c.bytes_of.result.now = rw c.bytes_of.ensures
     (encoded_by model (c.holds_one.ensures.valid model shown) kind.MethodDef (c.shortest_encodes.ensures kind.MethodDef) MethodDef c.args.row 4 there (omega arith) refl c.in_ok-bytes.bytes (c.in_ok-bytes.ensures model shown) one.0 one.1) in
     let of = type_named g.L.Limit.scopes model (c.holds_one.ensures.valid model shown) c.type_of_method.result in
-    on_wrote g.W.Write.write_str_gives _ (IsReferenceBy g.L.Limit.scopes model MethodDef c.args.row 3 4) _ _ c.write_declared.result (c.write_declared.ensures model shown one.0 (inl bytes) of.0 of.1)
+    on_wrote g.W.Write.write_str_gives _ (IsReferenceBy g.L.Limit.scopes model MethodDef c.args.row 3 4) _ _ c.write_declared.result (c.write_declared.ensures model shown tt one.0 (inl bytes) of.0 of.1)
     (λ text pieces. (
       one.0,
       one.1,

@@ -1,7 +1,7 @@
 use Rattle.std.proofs.Common.{refl, sym, ◌∙◌}
 use Rattle.full_names.proofs.PieceLemmas.{on_taken}
-use Rattle.declarations.specs.FlagWords.{leading_words, words_of}
-use Rattle.declarations.specs.declared.flag_words.FlagTable.TheVariants as table
+use Rattle.type_heads.specs.FlagWords.{leading_words, words_of}
+use Rattle.type_heads.specs.declared.flag_words.FlagTable.TheVariants as table
 use Rattle.declarations.proofs.method_text.MethodTextMethodSink.param_flags.Goals as goal
 
 pub returns-clause-piece : goal.returns-clause-piece
@@ -11,7 +11,7 @@ returns-clause-piece g c = (
     refl,
     refl,
     refl,
-    λ model shown params.
+    λ model shown links params.
         let of = c.args.self.now.of in (
           leading_words c.flags.result (words_of table.Param),
           c.flags.ensures model shown of.first of.past params,

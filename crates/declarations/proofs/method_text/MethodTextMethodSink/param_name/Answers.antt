@@ -9,7 +9,7 @@ returns-clause-piece g c = (
     refl,
     refl,
     refl,
-    λ model shown params.
+    λ model shown links params.
         let of = c.args.self.now.of in
         on_taken c.write_param-written.result (sym c.keep_refusal.ensures.taken ∙ taken) (c.write_param-written.ensures model shown of.first of.past params),
   ),

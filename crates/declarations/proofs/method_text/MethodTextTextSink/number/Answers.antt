@@ -5,6 +5,6 @@ use Rattle.declarations.proofs.method_text.MethodTextTextSink.number.Goals as go
 
 pub returns-clause-piece : goal.returns-clause-piece
 returns-clause-piece g c = (
-  λ taken. (c.keep_refusal.ensures.kept taken, refl, refl, refl, λ model shown params. (decimal c.args.number, refl, on_taken c.write_number-written.result (sym c.keep_refusal.ensures.taken ∙ taken) c.write_number-written.ensures)),
+  λ taken. (c.keep_refusal.ensures.kept taken, refl, refl, refl, λ model shown links params. (decimal c.args.number, refl, on_taken c.write_number-written.result (sym c.keep_refusal.ensures.taken ∙ taken) c.write_number-written.ensures)),
   λ refused whole. absurd (c.keep_refusal.ensures.failed refused whole),
 )

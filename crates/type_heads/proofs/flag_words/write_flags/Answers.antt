@@ -2,9 +2,9 @@ use Rattle.std.proofs.Common.{◌≡◌, ◌∙◌, ◌≤◌, List, ap, length,
 use Rattle.std.specs.Fmt.{WritesInCalls}
 use Rattle.std.proofs.lemmas.List.{length-map, take_all}
 use Rattle.full_names.proofs.TextLemmas.{writes_nothing}
-use Rattle.declarations.specs.FlagWords.{Word, leading_words, shown_word, words_of}
-use Rattle.declarations.proofs.ParamLemmas.{word_more}
-use Rattle.declarations.proofs.params.write_flags.Goals as goal
+use Rattle.type_heads.specs.FlagWords.{Word, leading_words, shown_word, words_of}
+use Rattle.type_heads.proofs.FlagLemmas.{word_more}
+use Rattle.type_heads.proofs.flag_words.write_flags.Goals as goal
 
 pub loop-word-init : goal.loop-word-init
 loop-word-init g c = writes_nothing g.W.Write.write_str_gives c.args.out.now

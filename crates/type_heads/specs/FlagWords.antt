@@ -1,9 +1,9 @@
 -- The words that stand for bits of flags (ECMA-335 II.23.1).
 use Rattle.std.specs.Prelude.{ℕ, ◌==◌, if◌then◌else◌, bit_and, List, [], ◌∷◌, ◌++◌, codes}
 use Rattle.std.specs.List.{flat_map}
-use Rattle.declarations.specs.declared.flag_words.FlagTable.{FlagTable}
-use Rattle.declarations.specs.declared.flag_words.FlagTable.TheVariants as table
-use Rattle.declarations.specs.declared.flag_words.FlagWord.{FlagWord}
+use Rattle.type_heads.specs.declared.flag_words.FlagTable.{FlagTable}
+use Rattle.type_heads.specs.declared.flag_words.FlagTable.TheVariants as table
+use Rattle.type_heads.specs.declared.flag_words.FlagWord.{FlagWord}
 
 -- a word: it is written if the bits of the flags under a mask have this value
 pub record Word : Type 0 where

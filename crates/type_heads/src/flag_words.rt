@@ -1,5 +1,9 @@
-ghost use Rattle.std.specs.Prelude.{◌≡◌, map};
-ghost use Rattle.declarations.specs.FlagWords.{shown_word, words_of};
+ghost use Rattle.std.specs.Prelude.{◌≡◌, map, OnOk};
+ghost use Rattle.std.specs.Fmt.{WritesInCalls};
+ghost use Rattle.type_heads.specs.FlagWords.{leading_text, leading_words, shown_word, words_of};
+
+use full_names::write_text;
+use std::fmt;
 
 /// A word of ILAsm for bits of flags (II.23.1).
 #[derive(Clone, Copy)]
@@ -156,4 +160,25 @@ pub fn words_of(of: FlagTable) -> &'static [FlagWord]
         FlagTable::Param => PARAM,
         FlagTable::Import => IMPORT,
     }
+}
+
+/// Writes a word and a space, if the flags have its value.
+fn write_flag<W: fmt::Write>(out: &mut W, flags: u32, word: FlagWord) -> fmt::Result
+    ensures { OnOk result (WritesInCalls W.write_str_gives out.old (leading_text flags (shown_word word)) out.new) }
+{
+    if flags & word.mask != word.value {
+        return Ok(());
+    }
+    write_text(out, word.text)?;
+    write_text(out, " ")
+}
+
+/// Writes the words of flags (II.10.1.7, II.15.4), a space after each.
+pub fn write_flags<W: fmt::Write>(out: &mut W, of: FlagTable, flags: u32) -> fmt::Result
+    ensures { OnOk result (WritesInCalls W.write_str_gives out.old (leading_words flags (words_of of)) out.new) }
+{
+    for word in words_of(of) {
+        write_flag(out, flags, *word)?;
+    }
+    Ok(())
 }

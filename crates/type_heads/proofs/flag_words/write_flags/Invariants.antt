@@ -1,7 +1,7 @@
 use Rattle.std.proofs.Common.{take}
 use Rattle.std.specs.Fmt.{WritesInCalls}
-use Rattle.declarations.specs.FlagWords.{leading_words, words_of}
-use Rattle.declarations.proofs.params.write_flags.Given as goal
+use Rattle.type_heads.specs.FlagWords.{leading_words, words_of}
+use Rattle.type_heads.proofs.flag_words.write_flags.Given as goal
 
 -- the words before this one are written
 abbrev pub invariant-loop-word : goal.invariant-loop-word
