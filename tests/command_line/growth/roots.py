@@ -62,6 +62,11 @@ def parameters_of(count):
     return blob_of(b"\0" + packed(count) + b"\x01" + INT32 * count)
 
 
+def generic_method(count):
+    """The signature of a method with this number of generic parameters, without parameters."""
+    return blob_of(b"\x10" + packed(count) + b"\0\x01")
+
+
 def generic_of(count):
     """A type: the second row of TypeDef with arguments, which are all the first row."""
     return b"\x15\x12\x08" + packed(count) + b"\x12\x04" * count
@@ -370,12 +375,12 @@ def attributes_with_a_long_signature(size):
 
 
 def attributes_of_strings(size):
-    """Attributes with a constructor that takes the greatest number of strings that is looked at, and a value that has none."""
-    return own_attributes(size, 8, blob_of(b"\x20\x40\x01" + b"\x0e" * 64), blob_of(b"\1\0\0\0"))
+    """Attributes with a constructor that takes the greatest number of strings that is looked at. A byte after them makes them none."""
+    return own_attributes(size, 8, blob_of(b"\x20\x40\x01" + b"\x0e" * 64), blob_of(b"\1\0" + bytes(64 + 3)))
 
 
 def attributes_of_enums(size):
-    """The same, with enums in place of the strings."""
+    """The same of enums, whose values are read."""
     return own_attributes(size, 8, blob_of(b"\x20\x40\x01" + b"\x11\x04" * 64), blob_of(b"\1\0" + bytes(258)))
 
 
@@ -719,6 +724,22 @@ def long_names_of_generic_parameters(size):
     rows = {"TypeDef": [type_row()], "MethodDef": [method_row()]}
     rows["GenericParam"] = [(0, 0, coded("TypeOrMethodDef", "MethodDef", 1), 1)] * (size // 40)
     return Root(rows, heap(b"a" * (size // 2), b"\0"), heap(METHOD))
+
+
+def long_names_in_the_heads_of_methods(size):
+    """A method whose generic parameters and their constraints all have one long name, which the method and its type have too."""
+    rows = {"TypeDef": [type_row()], "MethodDef": [method_row()]}
+    rows["GenericParam"] = [(0, 0, coded("TypeOrMethodDef", "MethodDef", 1), 1)] * (size // 80)
+    rows["GenericParamConstraint"] = [(1, coded("TypeDefOrRef", "TypeDef", 1))] * (size // 80)
+    return Root(rows, heap(b"a" * (size // 2), b"\0"), heap(generic_method(size // 80)))
+
+
+def short_names_in_the_heads_of_methods(size):
+    """Methods whose generic parameters are in the reverse order, and have no name."""
+    count = size // 24
+    rows = {"TypeDef": [type_row()], "MethodDef": [method_row(name=0)] * count}
+    rows["GenericParam"] = [(0, 0, coded("TypeOrMethodDef", "MethodDef", it), 0) for it in range(count, 0, -1)]
+    return Root(rows, heap(b"a\0"), heap(generic_method(1)))
 
 
 def long_names_in_the_heads_of_types(size):
