@@ -1,7 +1,7 @@
 -- The lines of what the metadata of a file names in the file: bodies of methods, and resources.
 use Rattle.std.specs.Prelude.{◌≡◌, ℕ, nat_le, if◌then◌else◌, List, [], ◌∷◌, codes, length, map, take}
 use Rattle.cli_header.specs.declared.header.CliHeader.{CliHeader}
-use Rattle.table_schema.specs.declared.table.TableId.TheVariants.{ManifestResource, MethodDef}
+use Rattle.table_schema.specs.declared.table.TableId.TheVariants.{Field, ManifestResource, MethodDef}
 use Rattle.table_schema.specs.declared.token.Token.{Token}
 use Rattle.pe.specs.Headers.{section_count}
 use Rattle.pe.specs.Image.{Image}
@@ -12,7 +12,9 @@ use Rattle.cli_lines.specs.Lines.{Part, field, number, plain, text, token, word}
 use Rattle.cli_lines.specs.declared.names.Name.TheVariants as name
 use Rattle.cli_declarations.specs.Parts.{text_of, token_at}
 use Rattle.cli_contents.specs.Bodies.{bodies_at}
+use Rattle.cli_contents.specs.FieldData.{data_at}
 use Rattle.cli_contents.specs.declared.bodies.Body.{Body}
+use Rattle.cli_contents.specs.declared.field_data.FieldData.{FieldData}
 
 -- something with this name: where it is in the file, its size, what it is, and its token
 unfoldable pub content_line : ℕ → ℕ → List ℕ → Token → List ℕ → List Part
@@ -27,7 +29,7 @@ abbrev pub method_line : Metadata → Body → List Part
 method_line model body =
     content_line body.start body.size (codes "method") (token_at MethodDef body.row) (text_of (cell_in model MethodDef body.row 3))
 
--- the number of methods that are printed
+-- the number of methods that are printed, and that of fields
 abbrev pub method_limit : ℕ
 method_limit = 10
 
@@ -42,6 +44,19 @@ section_limit = 96
 -- These lines, and none of a file with more sections.
 abbrev pub method_lines : Image → Metadata → ℕ → List (List Part)
 method_lines image model offset = if nat_le (section_count image.bytes) section_limit then first_methods image model offset else []
+
+-- ---- fields with data (II.22.18)
+
+abbrev pub field_line : Metadata → Body → List Part
+field_line model of = content_line of.start of.size (codes "field") (token_at Field of.row) (text_of (cell_in model Field of.row 1))
+
+-- the lines of the first of these fields whose data contains the byte at an offset of a file
+abbrev pub first_fields : Image → Metadata → List FieldData → ℕ → List (List Part)
+first_fields image model fields offset = map (field_line model) (take method_limit (data_at image fields offset))
+
+-- These lines, and none of a file with more sections.
+abbrev pub field_lines : Image → Metadata → List FieldData → ℕ → List (List Part)
+field_lines image model fields offset = if nat_le (section_count image.bytes) section_limit then first_fields image model fields offset else []
 
 -- ---- resources (II.22.24)
 

@@ -20,14 +20,14 @@ const IMPL_FLAGS: usize = 1;
 /// The number of the types of code, of which the first is CIL (II.23.1.10).
 const CODE_TYPES: u32 = 4;
 
-/// The body of a method in a file (II.25.4).
+/// The body of a method in a file (II.25.4), or the data of a field (II.22.18).
 #[derive(Clone, Copy, PartialEq, Eq)]
 pub struct Body {
-    /// The row of the method, from 1.
+    /// The row of the method or of the field, from 1.
     pub row: u32,
-    /// The file offset of its header.
+    /// The file offset of its first byte.
     pub start: usize,
-    /// Its number of bytes, with its header and its data sections.
+    /// Its number of bytes: that of a body with its header and its data sections, and of data 0 if it is not known.
     pub size: usize,
 }
 
@@ -96,7 +96,7 @@ fn body_with(pe: &Pe<'_>, view: &View<'_>, row: u32, offset: u64) -> Option<Body
 }
 
 /// Appends a body, if there is one.
-fn keep(body: Option<Body>, found: &mut Vec<Body>) -> Result<(), AllocError>
+pub(crate) fn keep(body: Option<Body>, found: &mut Vec<Body>) -> Result<(), AllocError>
     ensures { OnOk result (found.new.items ≡ found.old.items ++ listed body) }
 {
     match body {

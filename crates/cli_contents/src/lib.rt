@@ -1,9 +1,11 @@
-//! What the metadata of a file names at a byte of the file: the methods whose bodies contain it, and the resource whose content
-//! contains it. These are lines of `clim where` (ECMA-335 II.22.24, II.22.26, II.25.4).
+//! What the metadata of a file names at a byte of the file: the methods whose bodies contain it, the fields whose data contains
+//! it, and the resource whose content contains it. These are lines of `clim where` (ECMA-335 II.22.18, II.22.24, II.22.26,
+//! II.25.4).
 //!
-//! [`body_of`] finds the body of a method, [`print_methods`] prints a line for each method whose body contains a byte, and
-//! [`print_resource`] the line of a resource. The time is linear in the number of resources, and in that of methods for each
-//! section; of a file with more than 96 sections no methods are printed.
+//! [`body_of`] finds the body of a method, [`print_methods`] prints a line for each method whose body contains a byte,
+//! [`print_fields`] one for each field whose data does, and [`print_resource`] the line of a resource. The time is linear in the
+//! number of resources, and in that of methods and fields for each section; of a file with more than 96 sections no methods
+//! and no fields are printed.
 //!
 //! ```text
 //! print_methods(rt.alloc(), &file, &view, 0x2d4, &mut out);
@@ -14,9 +16,13 @@
 #![tactic(auto)]
 
 mod bodies;
+mod field_data;
+mod field_lines;
 mod lines;
 mod resource_line;
 
 pub use bodies::{Body, bodies_at, body_of};
+pub use field_data::FieldData;
+pub use field_lines::print_fields;
 pub use lines::print_methods;
 pub use resource_line::print_resource;

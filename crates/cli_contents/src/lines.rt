@@ -22,8 +22,8 @@ use pe::{Pe, read_pe};
 use std::alloc::Global;
 use std::io::Write;
 
-/// The number of methods that are printed.
-const LIMIT: usize = 10;
+/// The number of methods that are printed, and that of fields.
+pub(crate) const LIMIT: usize = 10;
 
 /// The largest number of sections of a file whose methods are printed: that of Windows' loader, by Microsoft's PE format.
 const SECTION_LIMIT: usize = 96;
@@ -110,7 +110,7 @@ fn print_found<W: Write>(
 }
 
 /// Whether a file has no more than 96 sections.
-fn has_few_sections(file: &[u8]) -> bool
+pub(crate) fn has_few_sections(file: &[u8]) -> bool
     requires { AllHold (rules_of_image file.now) }
     ensures { result ≡ nat_le (section_count file.now) section_limit }
 {

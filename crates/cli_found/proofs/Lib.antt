@@ -1,1 +1,3 @@
 mod FoundLemmas
+mod FlagLemmas
+mod ValueLemmas

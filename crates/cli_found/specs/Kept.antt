@@ -1,5 +1,8 @@
 -- What a program keeps of a line, for private clauses.
-use Rattle.std.specs.Prelude.{◌≡◌, ◌⊎◌, ℕ, List, [], Option, None, Some}
+use Rattle.std.specs.Prelude.{◌≡◌, ◌⊎◌, ◌+◌, ◌==◌, ◌||◌, ℕ, Bool, nat_le, if◌then◌else◌, List, [], length, Option, None, Some}
+use Rattle.packed.specs.Number.{little_endian}
+use Rattle.packed.specs.Offsets.{part}
+use Rattle.table_schema.specs.declared.coded.Coded.{Coded}
 use Rattle.cli_lines.specs.Lines.{Part}
 use Rattle.cli_lines.specs.Shown.{shown_value}
 use Rattle.cli_found.specs.Found.{limit_parts, offset_text, value_text}
@@ -16,6 +19,18 @@ start_text start = offset_text start.offset
 
 abbrev pub lead_text : Lead → List ℕ
 lead_text lead = value_text lead.offset lead.number lead.coded
+
+-- the sizes of numbers in cells, and in the fields of headers but for the longest ones
+abbrev pub is_size : ℕ → Bool
+is_size size = size == 1 || size == 2 || size == 4
+
+-- the number at an offset, if the bytes have it
+abbrev pub lead_at : List ℕ → ℕ → ℕ → Option Coded → Option Lead
+lead_at bytes offset size coded =
+    if nat_le (offset + size) (length bytes) then Some (record { offset = offset; number = little_endian (part bytes offset size); coded = coded }) else None
+
+abbrev pub lead_of : List ℕ → ℕ → ℕ → Option Coded → Option Lead
+lead_of bytes offset size coded = if is_size size then lead_at bytes offset size coded else None
 
 -- the sizes of numbers in headers
 abbrev pub IsFieldSize : ℕ → Type 0

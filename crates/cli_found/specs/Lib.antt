@@ -1,2 +1,5 @@
+pub mod Columns
 pub mod Found
 pub mod Kept
+pub mod Flags
+pub mod Values

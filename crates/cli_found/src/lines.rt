@@ -6,7 +6,7 @@ ghost use Rattle.cli_lines.specs.Lines.{Part as ThePart};
 ghost use Rattle.cli_lines.specs.Printed.{Prints};
 ghost use Rattle.cli_regions.specs.Kept.{seen, seen_what};
 ghost use Rattle.cli_found.specs.Found.{AreFound, AreOfCell, cell_lines, cell_of, field_lines, field_size, innermost, offset_line, offset_text, value_line};
-ghost use Rattle.cli_found.specs.Kept.{IsFieldSize, lead_text, shown_limit, start_text};
+ghost use Rattle.cli_found.specs.Kept.{IsFieldSize, lead_at, lead_of, lead_text, shown_limit, start_text};
 
 use crate::limits::{Limit, coded_of, kind_of, limit_of, number_in, row_of, tag_of};
 use cli_faults::FaultCode;
@@ -23,12 +23,16 @@ use std::fmt;
 use std::io::Write;
 use table_schema::Coded;
 
-/// What a line begins with: an offset, the number there, and its tag and row if it is a coded index.
+/// What the line of a number begins with. Its text is `0x78: value 17 (0x11)`, or `0x7a: value 5 (tag 1, row 2)` if the number is
+/// a coded index.
 #[derive(Clone, Copy)]
-struct Lead {
-    offset: u64,
-    number: u64,
-    coded: Option<Coded>,
+pub(crate) struct Lead {
+    /// The offset of the number in the file.
+    pub offset: u64,
+    /// The number.
+    pub number: u64,
+    /// The kind of the coded index that it is, if it is one.
+    pub coded: Option<Coded>,
 }
 
 impl fmt::Display for Lead {
@@ -180,6 +184,35 @@ fn number_at(bytes: &[u8], offset: usize, size: usize) -> u64
     }
 }
 
+/// The number of a size at an offset, if the bytes have it.
+fn lead_at(bytes: &[u8], offset: u64, size: usize, coded: Option<Coded>) -> Option<Lead>
+    requires { IsFieldSize size }
+    ensures { result ≡ lead_at bytes.now offset size coded }
+{
+    if has_bytes(bytes, offset, size) {
+        let number = number_at(bytes, offset as usize, size);
+        Some(Lead {
+            offset,
+            number,
+            coded,
+        })
+    } else {
+        None
+    }
+}
+
+/// The number that the bytes at an offset are; `None` if they are not one, two or four bytes, or the file ends before.
+pub(crate) fn number_of(bytes: &[u8], offset: u64, size: u64, coded: Option<Coded>) -> Option<Lead>
+    ensures { result ≡ lead_of bytes.now offset size coded }
+{
+    match size {
+        1 => lead_at(bytes, offset, 1, coded),
+        2 => lead_at(bytes, offset, 2, coded),
+        4 => lead_at(bytes, offset, 4, coded),
+        _ => None,
+    }
+}
+
 /// Prints the line of a number in a header, or that of its offset if the bytes end before it.
 fn print_field<W: Write>(
     alloc: Global,
@@ -235,7 +268,7 @@ fn cell_of(what: What<'_>) -> Option<TableCell>
 {
     match what {
         What::Cell(cell) => Some(cell),
-        What::Words(_) | What::Entry(_, _) | What::UserString(_) => None,
+        What::Words(_) | What::Scalar(_) | What::Entry(_, _) | What::UserString(_) => None,
     }
 }
 

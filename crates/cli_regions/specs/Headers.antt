@@ -11,7 +11,7 @@ use Rattle.table_schema.specs.Tables.{tables, table_number, table_name}
 use Rattle.schema.specs.Header.{has_bit, valid_of}
 use Rattle.cli_faults.specs.Escaped.{escaped_text}
 use Rattle.cli_faults.specs.Hexadecimal.{upper_hexadecimal}
-use Rattle.cli_regions.specs.Regions.{Region, region}
+use Rattle.cli_regions.specs.Regions.{Region, field_region, region}
 use Rattle.cli_regions.specs.Fields.{fields_from, header_regions}
 use Rattle.cli_regions.specs.declared.fields.TheConstants.{AFTER_VERSION, BEFORE_NAME, BEFORE_VERSION, TABLE_STREAM}
 
@@ -56,7 +56,7 @@ count_size valid table = if has_bit valid table then 4 else 0
 abbrev pub counts_from : ℕ → ℕ → List TableId → List Region
 counts_from valid start [] = []
 counts_from valid start (table ∷ more) =
-    region start (count_size valid table) (codes "row count" ++ (codes " " ++ table_words table)) ∷ counts_from valid (start + count_size valid table) more
+    field_region start (count_size valid table) (codes "row count" ++ (codes " " ++ table_words table)) ∷ counts_from valid (start + count_size valid table) more
 
 -- the fields of a table stream, and then the row counts of the tables that Valid names (II.24.2.6)
 unfoldable pub table_stream_regions : ℕ → List ℕ → List Region

@@ -4,7 +4,7 @@ use Rattle.pe.specs.Headers.{lfanew, optional_header_size, section_count, sectio
 use Rattle.cli_faults.specs.Escaped.{escaped_text}
 use Rattle.cli_regions.specs.Headers.{table_words}
 use Rattle.cli_regions.specs.PeHeaders.{numbered, section_header_regions, section_regions}
-use Rattle.cli_regions.specs.Regions.{Region, What as TheWhat, cell, entry, regions_at, user_string, words}
+use Rattle.cli_regions.specs.Regions.{Region, What as TheWhat, cell, entry, regions_at, scalar, user_string, words}
 use Rattle.cli_regions.specs.declared.sections.SectionPart.{SectionPart}
 use Rattle.cli_regions.specs.declared.sections.SectionPart.TheVariants.{Header, Bytes}
 use Rattle.cli_regions.specs.declared.searches.Name.{Name}
@@ -27,6 +27,7 @@ words_text of = of.word.now ++ name_text of.name
 
 abbrev pub seen_what : What → TheWhat
 seen_what (what.Words of) = words (words_text of)
+seen_what (what.Scalar of) = scalar (words_text of)
 seen_what (what.Cell of) = cell of
 seen_what (what.Entry heap of) = entry heap of
 seen_what (what.UserString token) = user_string token

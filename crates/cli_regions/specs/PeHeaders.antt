@@ -6,14 +6,14 @@ use Rattle.packed.specs.Offsets.{part}
 use Rattle.root.specs.Fields.{before_nul}
 use Rattle.pe.specs.Headers.{directory_count, lfanew, magic, optional_header_size, section_at, section_count, sections_offset, wider}
 use Rattle.cli_faults.specs.Escaped.{escaped_text}
-use Rattle.cli_regions.specs.Regions.{Region, region}
+use Rattle.cli_regions.specs.Regions.{Region, field_region, region}
 use Rattle.cli_regions.specs.Fields.{Field, fields_from, header_regions}
 use Rattle.cli_regions.specs.declared.fields.TheConstants.{DIRECTORIES, DIRECTORY_FIELDS, FILE_HEADER, PE32, PE32_PLUS, SECTION_HEADER}
 
 -- the MS-DOS header, of which the standard names `MZ` and lfanew (II.25.2.1)
 unfoldable pub dos_header_regions : List Region
 dos_header_regions =
-    region 0 64 (codes "ms-dos header") ∷ region 0 2 (codes "ms-dos header Signature") ∷ region 0x3C 4 (codes "ms-dos header lfanew") ∷ []
+    region 0 64 (codes "ms-dos header") ∷ region 0 2 (codes "ms-dos header Signature") ∷ field_region 0x3C 4 (codes "ms-dos header lfanew") ∷ []
 
 -- the PE signature at this offset (II.25.2.1), and the PE file header after it with its fields (II.25.2.2)
 unfoldable pub file_header_regions : ℕ → List Region

@@ -1,11 +1,12 @@
 -- Structures as ranges of bytes of a file, and those that contain a byte.
-use Rattle.std.specs.Prelude.{ℕ, ◌-◌, ◌&&◌, Bool, nat_le, nat_lt, List, filter}
+use Rattle.std.specs.Prelude.{ℕ, ◌-◌, ◌&&◌, Bool, nat_le, nat_lt, if◌then◌else◌, List, filter}
 use Rattle.root.specs.declared.kind.Kind.{Kind}
 use Rattle.schema.specs.declared.located_cells.TableCell.{TableCell}
 
--- what a structure is: words; a cell; the entry of a heap that a cell refers to; or the user string with a token
+-- what a structure is: words; words of a field that is one number; a cell; the entry of a heap that a cell refers to; or the user string with a token
 pub data What : Type 0 where
   words : List ℕ → What
+  scalar : List ℕ → What
   cell : TableCell → What
   entry : Kind → TableCell → What
   user_string : ℕ → What
@@ -18,6 +19,13 @@ pub record Region : Type 0 where
 
 abbrev pub region : ℕ → ℕ → List ℕ → Region
 region start size of = record { start = start; size = size; what = words of }
+
+-- a field: one number, unless it is longer than four bytes
+abbrev pub field_what : ℕ → List ℕ → What
+field_what size of = if nat_le size 4 then scalar of else words of
+
+abbrev pub field_region : ℕ → ℕ → List ℕ → Region
+field_region start size of = record { start = start; size = size; what = field_what size of }
 
 -- a structure of this size contains the byte at an offset of the file
 abbrev pub has_byte : ℕ → ℕ → ℕ → Bool

@@ -159,7 +159,7 @@ pub(crate) fn find_fields(word: &'static str, start: u64, fields: &[Field], foun
     let mut next = start;
     for field in fields {
         let (name, size) = *field;
-        found.look(next, size as u64, word, Name::Plain(name));
+        found.look_field(next, size as u64, word, Name::Plain(name));
         next += size as u64;
     }
 }

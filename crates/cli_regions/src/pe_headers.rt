@@ -88,7 +88,7 @@ pub(crate) fn find_dos_header(found: &mut Search<'_>)
     let lfanew = LFANEW as u64;
     found.look(0, DOS_HEADER_SIZE, word, Name::Empty);
     found.look(0, DOS_SIGNATURE_SIZE, word, Name::Plain("Signature"));
-    found.look(lfanew, LFANEW_SIZE, word, Name::Plain("lfanew"));
+    found.look_field(lfanew, LFANEW_SIZE, word, Name::Plain("lfanew"));
 }
 
 /// Looks at the PE signature, the PE file header and its fields (II.25.2.2).

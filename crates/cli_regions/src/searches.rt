@@ -1,7 +1,7 @@
 //! Looks for the structures that contain a byte.
 ghost use Rattle.std.specs.Prelude.{◌≡◌, ◌∷◌, [], ◌++◌, IfOk, None, Some, map};
-ghost use Rattle.cli_regions.specs.Kept.{Adds, Joins, name_text, seen, words_text};
-ghost use Rattle.cli_regions.specs.Regions.{has_byte, region};
+ghost use Rattle.cli_regions.specs.Kept.{Adds, Joins, name_text, seen, seen_what, words_text};
+ghost use Rattle.cli_regions.specs.Regions.{field_region, field_what, has_byte, region};
 
 use cli_faults::{Escaped, EscapedBytes};
 use root::Kind;
@@ -61,8 +61,10 @@ impl fmt::Display for Words<'_> {
 /// What a structure is.
 #[derive(Clone, Copy)]
 pub enum What<'a> {
-    /// A header, a field, a section, a stream or a row count.
+    /// A header, a field, a section or a stream.
     Words(Words<'a>),
+    /// A field of a header, or a row count, that is one number.
+    Scalar(Words<'a>),
     /// A cell (II.22).
     Cell(TableCell),
     /// The entry of a heap that a cell refers to (II.24.2.3 to II.24.2.5).
@@ -80,6 +82,20 @@ pub struct Structure<'a> {
     pub size: u64,
     /// What it is.
     pub what: What<'a>,
+}
+
+/// The size of the longest field that is one number, in bytes. A longer one is a name, an address and a size, or bits.
+const LONGEST_NUMBER: u64 = 4;
+
+/// What a field of a size is.
+fn field_what(words: Words<'_>, size: u64) -> What<'_>
+    ensures { seen_what result ≡ field_what size (words_text words.entry) }
+{
+    if size <= LONGEST_NUMBER {
+        What::Scalar(words)
+    } else {
+        What::Words(words)
+    }
 }
 
 /// Whether a structure contains the byte at an offset.
@@ -166,6 +182,17 @@ impl<'a> Search<'a> {
             start,
             size,
             what: What::Words(Words { word, name }),
+        });
+    }
+
+    /// Keeps a field with a word and a name if it contains the byte.
+    pub(crate) fn look_field(&mut self, start: u64, size: u64, word: &'static str, name: Name<'a>)
+        ensures { Adds self.old self.new (field_region start size (word.now ++ name_text name.entry) ∷ []) }
+    {
+        self.look_at(Structure {
+            start,
+            size,
+            what: field_what(Words { word, name }, size),
         });
     }
 

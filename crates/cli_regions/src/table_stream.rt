@@ -38,7 +38,7 @@ fn find_row_counts(valid: u64, start: u64, found: &mut Search<'_>)
     let mut next = start;
     for table in TableId::all() {
         let size = count_size(valid, *table);
-        found.look(next, size, "row count", Name::Table(*table));
+        found.look_field(next, size, "row count", Name::Table(*table));
         next += size;
     }
 }

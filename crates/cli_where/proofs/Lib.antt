@@ -2,3 +2,4 @@ pub mod FindLemmas
 pub mod EntryLemmas
 pub mod NamedLemmas
 pub mod UserLemmas
+pub mod FieldLemmas

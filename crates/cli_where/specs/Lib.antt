@@ -4,4 +4,5 @@ pub mod Cells
 pub mod Kept
 pub mod Where
 pub mod Lines
+pub mod FieldData
 pub mod Located

@@ -1,32 +1,23 @@
 -- The lines of structures, and those of user strings (ECMA-335 II.22, II.24.2 and III.1.9).
-use Rattle.std.specs.Prelude.{ℕ, Bool, true, false, not, List, [], ◌∷◌, Option, None, Some, codes, count_by, slice_index_or, take}
+use Rattle.std.specs.Prelude.{ℕ, Bool, true, false, List, [], ◌∷◌, Option, None, Some, codes, slice_index_or}
 use Rattle.root.specs.declared.kind.Kind.{Kind}
 use Rattle.root.specs.declared.kind.Kind.TheVariants.{Strings, Guids, UserStrings}
 use Rattle.root.specs.Streams.{stream_name}
 use Rattle.heap_entries.specs.Entries.{UserText}
-use Rattle.table_schema.specs.declared.column.Column.{Column}
 use Rattle.table_schema.specs.CellColumns.{is_padding}
-use Rattle.table_schema.specs.Columns.{columns_of}
 use Rattle.table_schema.specs.Tables.{table_name, table_number}
 use Rattle.schema.specs.ColumnNames.{column_names_of}
 use Rattle.schema.specs.declared.located_cells.TableCell.{TableCell}
 use Rattle.cli_lines.specs.declared.names.Name.TheVariants as name
 use Rattle.cli_lines.specs.Lines.{Part, byte, field, hex, member, note, number, plain, units, word}
-use Rattle.cli_regions.specs.Regions.{Region, What, cell, entry, user_string, words}
+use Rattle.cli_regions.specs.Regions.{Region, What, cell, entry, scalar, user_string, words}
+use Rattle.cli_found.specs.Columns.{column_number}
 use Rattle.cli_where.specs.Entries.{kind_of}
 use Rattle.cli_where.specs.UserStrings.{Entry, user_token}
 
 -- the name of the column of a cell
 abbrev pub column_name : TableCell → List ℕ
 column_name of = slice_index_or (column_names_of of.table) of.column []
-
--- a column is one of the standard's, and no padding (II.22.9)
-abbrev pub is_counted : Column → Bool
-is_counted column = not (is_padding column.kind)
-
--- the number of a column, from 0: that of the columns before it, without padding
-abbrev pub column_number : TableCell → ℕ
-column_number of = count_by is_counted (take of.column (columns_of of.table))
 
 -- the table, the row from 1, and what is in the row
 abbrev pub parts_of_row : ℕ → List ℕ → ℕ → List Part → List Part
@@ -56,6 +47,7 @@ entry_word _ = codes "blob"
 -- what a structure is: an entry by its stream and the cell that names it, a user string by its stream and its token
 abbrev pub what_parts : What → List Part
 what_parts (words of) = field name.Structure (plain of) ∷ []
+what_parts (scalar of) = field name.Structure (plain of) ∷ []
 what_parts (cell of) = cell_or_padding (is_padding (kind_of of)) of
 what_parts (entry heap of) =
     field name.Structure (plain (entry_word heap)) ∷ member name.Stream (plain (stream_name heap)) ∷ word (codes " of table ") ∷ cell_parts of

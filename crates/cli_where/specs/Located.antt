@@ -9,14 +9,16 @@ use Rattle.metadata.specs.Metadata.{Metadata}
 use Rattle.metadata.specs.Model.{IsModelOfFile}
 use Rattle.cli_input.specs.Checked.{IsModelOf, IsWhole, rules_of}
 use Rattle.cli_input.specs.declared.opened.Input.{Input}
-use Rattle.cli_input.specs.declared.opened.Input.TheVariants.{File}
+use Rattle.cli_input.specs.declared.opened.Input.TheVariants.{BareRoot, File}
 use Rattle.cli_header.specs.declared.header.CliHeader.{CliHeader}
-use Rattle.cli_contents.specs.Lines.{AreOfResources, method_lines}
+use Rattle.cli_contents.specs.Lines.{AreOfResources, field_lines, method_lines}
 use Rattle.cli_lines.specs.Lines.{Part, word}
 use Rattle.cli_lines.specs.Printed.{Printed, Prints}
 use Rattle.cli_regions.specs.Regions.{Region}
+use Rattle.cli_where.specs.FieldData.{all_fields}
 use Rattle.cli_where.specs.Lines.{entry_lines, structure_line}
 use Rattle.cli_where.specs.UserStrings.{AreEntries, Entry}
+use Rattle.cli_found.specs.Values.{value_lines}
 use Rattle.cli_where.specs.Where.{AreStructuresAt}
 use Rattle.cli_where.specs.declared.report.Found.{Found}
 use Rattle.cli_where.specs.declared.report.Found.TheVariants.{Something, Nothing}
@@ -32,19 +34,22 @@ abbrev pub where_lines : List Region → List (List Part)
 where_lines [] = (word (codes "nothing") ∷ []) ∷ []
 where_lines (first ∷ later) = map structure_line (first ∷ later)
 
--- This is true of the lines of the methods of a file whose bodies contain the byte at an offset (II.25.4), and of the resource
--- whose content contains it (II.22.24), if a structure contains it. A bare root has no contents.
-abbrev pub HasContents : Found → Input → List ℕ → ℕ → (List (List Part) → Type 0) → Type 0
-HasContents Something File bytes offset P =
+-- This is true of the line of the number that the last of the structures is, and of those of the methods of a file whose bodies
+-- contain the byte at an offset (II.25.4), of the fields whose data contains it (II.22.18), and of the resource whose content
+-- contains it (II.22.24), if there is a structure. A bare root has no contents.
+abbrev pub HasContents : List Region → Input → List ℕ → ℕ → (List (List Part) → Type 0) → Type 0
+HasContents [] input bytes offset P = P []
+HasContents (of ∷ later) File bytes offset P =
     (header : CliHeader) (model : Metadata) → (file : IsModelOfFile bytes header model)
-    → (resources : List (List Part)) × AreOfResources bytes header model offset resources × P (method_lines file.image model offset ++ resources)
-HasContents found input bytes offset P = P []
+    → (resources : List (List Part)) × AreOfResources bytes header model offset resources
+    × P (value_lines model bytes (of ∷ later) ++ (method_lines file.image model offset ++ (field_lines file.image model (all_fields model) offset ++ resources)))
+HasContents (of ∷ later) BareRoot bytes offset P = (model : Metadata) → IsModelOf BareRoot bytes model → P (value_lines model bytes (of ∷ later))
 
 -- the lines of the structures that contain the byte at an offset were printed, and those of contents; or memory ran out before
 abbrev pub HasFound : {W : Type 0} → Input → List ℕ → ℕ → Printed W → Printed W → Result Found Failure → Type 0
 HasFound input bytes offset old new (Ok found) =
     (structures : List Region) × AreStructuresAt input Entries bytes offset structures × (found ≡ found_of structures)
-    × HasContents found input bytes offset (λ contents. Prints old new (where_lines structures ++ contents))
+    × HasContents structures input bytes offset (λ contents. Prints old new (where_lines structures ++ contents))
 HasFound input bytes offset old new (Err failure) = (failure ≡ OutOfMemory) × (new ≡ old)
 
 -- The bytes have a model, and the lines were printed; or memory ran out before; or a rule is broken, and the lines of the

@@ -18,6 +18,7 @@
 
 mod cells;
 mod entries;
+mod field_data;
 mod named_entries;
 mod report;
 mod strings;

@@ -8,10 +8,12 @@ ghost use Rattle.metadata.specs.Model.{IsModel};
 ghost use Rattle.packed.specs.Rule.{FirstBroken};
 ghost use Rattle.cli_where.specs.Located.{HasContents, HasFound, IsLocated, found_of, where_lines};
 
+use crate::field_data::print_data;
 use crate::structure_lines::print_structures;
 use crate::walk::{Reach, structures_at};
 use cli_contents::{print_methods, print_resource};
 use cli_faults::Failure;
+use cli_found::print_value;
 use cli_input::{Input, open};
 use cli_lines::Part::Word;
 use cli_lines::Printer;
@@ -64,7 +66,11 @@ fn print_found<W: Write>(
 ///   first ten cells that refer to one. The NUL of a string and the packed length of a blob count (II.24.2.3 to II.24.2.5);
 /// - the user string that contains the byte, with its token, if `clim strings` walks over it (II.24.2.4, III.1.9). A string
 ///   that ends in the zeros with which `#US` is padded has only the bytes before them;
+/// - the number that the last of these structures is, if it is a cell or a field of at most four bytes: in decimal and in
+///   hexadecimal, or with its tag and row, and the words of flags (II.23.1), or what `clim show` prints of the cell if its
+///   number stands for something else;
 /// - the first ten methods of a file whose bodies contain the byte (II.25.4), of a file with at most 96 sections;
+/// - the first ten fields of such a file whose data contains the byte (II.22.18);
 /// - the first resource of a file whose content contains the byte (II.22.24).
 ///
 /// If no structure contains the byte, or the offset is not before the end, it prints `nothing`, or no line of JSON. Of bytes
@@ -90,30 +96,32 @@ pub fn print_where<W: Write>(
     }
 }
 
-/// Prints the methods and the resource of a file that contain the byte at an offset, if a structure contains it. A bare root has
-/// no contents.
+/// Prints the number that the last structure is, and the methods, the field data and the resource of a file that contain the byte
+/// at an offset, if there is a structure. A bare root has no contents.
 fn print_contents<W: Write>(
     alloc: Global,
     bytes: &[u8],
     input: Input,
-    found: Found,
     view: &View<'_>,
     offset: u64,
+    structures: &[Structure<'_>],
     out: &mut Printer<'_, W>,
 )
     requires { (model : Metadata) → IsModelOf input bytes.now model → IsModel view.now model }
-    ensures { HasContents found input bytes.now offset (λ lines. Prints out.old out.new lines) }
+    ensures { HasContents (map seen structures.now) input bytes.now offset (λ lines. Prints out.old out.new lines) }
 {
     cli_lines::laws::lines_follow::<W>();
-    match found {
-        Found::Nothing => {}
-        Found::Something => match input {
-            Input::BareRoot => {}
-            Input::File => {
-                print_methods(alloc, bytes, view, offset, out);
-                print_resource(bytes, view, offset, out);
-            }
-        },
+    if structures.is_empty() {
+        return;
+    }
+    print_value(alloc, bytes, view, structures, out);
+    match input {
+        Input::BareRoot => {}
+        Input::File => {
+            print_methods(alloc, bytes, view, offset, out);
+            print_data(alloc, bytes, view, offset, out);
+            print_resource(bytes, view, offset, out);
+        }
     }
 }
 
@@ -133,7 +141,7 @@ fn print_entire<W: Write>(
     match structures_at(alloc, bytes, input, Reach::Entries, offset) {
         Ok(structures) => {
             let found = print_found(alloc, &structures, out);
-            print_contents(alloc, bytes, input, found, view, offset, out);
+            print_contents(alloc, bytes, input, view, offset, &structures, out);
             Ok(found)
         }
         Err(_) => Err(Failure::OutOfMemory),

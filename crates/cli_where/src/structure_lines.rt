@@ -2,11 +2,12 @@
 ghost use Rattle.std.specs.Prelude.{◌≡◌, ◌∷◌, [], false, map, true};
 ghost use Rattle.cli_lines.specs.Printed.{Prints};
 ghost use Rattle.cli_regions.specs.Kept.{seen, words_text};
-ghost use Rattle.cli_regions.specs.Regions.{cell as a_cell, entry, user_string, words as some_words};
+ghost use Rattle.cli_regions.specs.Regions.{cell as a_cell, entry, scalar, user_string, words as some_words};
 ghost use Rattle.table_schema.specs.CellColumns.{is_padding};
 ghost use Rattle.cli_where.specs.Entries.{kind_of};
-ghost use Rattle.cli_where.specs.Lines.{column_name, column_number, entry_word, is_counted, line_with, structure_line};
+ghost use Rattle.cli_where.specs.Lines.{column_name, entry_word, line_with, structure_line};
 
+use cli_found::{column_number, is_counted};
 use cli_lines::Part::{Field, Member, Note, Word};
 use cli_lines::Value::{Byte, Hex, Number, Plain};
 use cli_lines::{Name, Printer};
@@ -15,7 +16,7 @@ use root::Kind;
 use schema::{TableCell, column_names};
 use std::alloc::Global;
 use std::io::Write;
-use table_schema::{Column, ColumnKind, columns};
+use table_schema::columns;
 
 /// A line: the offset and the size of a structure, and parts that say what it is.
 macro_rules! line {
@@ -38,23 +39,6 @@ fn column_name(cell: TableCell) -> &'static str
         Some(name) => name,
         None => "",
     }
-}
-
-/// Whether a column is one of the standard's, and no padding (II.22.9).
-fn is_counted(column: &Column) -> bool
-    ensures { result ≡ is_counted column.now }
-{
-    !matches!(column.kind, ColumnKind::Padding)
-}
-
-/// The number of the column of a cell, from 0. Padding has none, and is not counted.
-#[tactic(auto, using(std::proofs::lemmas::List::take_min))]
-fn column_number(cell: TableCell) -> usize
-    ensures { result ≡ column_number cell }
-{
-    let columns = columns(cell.table);
-    let (before, _) = columns.split_at(cell.column.min(columns.len()));
-    before.iter().filter(|column| is_counted(column)).count()
 }
 
 /// Whether a cell is the padding of its row (II.22.9).
@@ -86,7 +70,8 @@ fn print_words<W: Write>(
     words: Words<'_>,
     out: &mut Printer<'_, W>,
 )
-    ensures { Prints out.old out.new (line_with of.entry.start of.entry.size (some_words (words_text words.entry)) ∷ []) }
+    ensures words { Prints out.old out.new (line_with of.entry.start of.entry.size (some_words (words_text words.entry)) ∷ []) }
+    ensures scalar { Prints out.old out.new (line_with of.entry.start of.entry.size (scalar (words_text words.entry)) ∷ []) }
 {
     match words.to_string(alloc) {
         Ok(text) => out.line(line![of; Field(Name::Structure, Plain(&text))]),
@@ -177,6 +162,7 @@ fn print_structure<W: Write>(alloc: Global, of: Structure<'_>, out: &mut Printer
 {
     match of.what {
         What::Words(words) => print_words(alloc, of, words, out),
+        What::Scalar(words) => print_words(alloc, of, words, out),
         What::Cell(cell) if is_padding(cell) => print_padding(of, cell, out),
         What::Cell(cell) => print_cell(of, cell, out),
         What::Entry(heap, cell) => print_entry(of, heap, cell, out),

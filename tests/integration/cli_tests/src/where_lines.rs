@@ -188,12 +188,20 @@ fn input_of(bare: bool) -> Input {
     if bare { Input::BareRoot } else { Input::File }
 }
 
-/// What is printed of a byte of a file that breaks no rule, and whether a structure has it.
+/// The lines of structures in a text: all but that of a number.
+fn structure_lines(text: &str) -> &str {
+    match text.find("\n0x") {
+        Some(at) => &text[..at + 1],
+        None => text,
+    }
+}
+
+/// What is printed of the structures that have a byte of a file that breaks no rule, and whether one has it.
 pub fn printed(rt: &HostRuntime, bare: bool, file: &[u8], offset: u64) -> Result<(Found, String), Fail> {
     let (Ok(found), text) = located(rt.alloc(), Form::Text, input_of(bare), file, offset)? else {
         return Err(Fail::from("a fault"));
     };
-    Ok((found, text))
+    Ok((found, format!(in rt.alloc(); "{}", structure_lines(&text))?))
 }
 
 /// Whether the lines of a byte are these.
@@ -251,6 +259,90 @@ fn prints_the_cells_of_each_table(rt: HostRuntime) -> Result<(), Fail> {
         let lines = format!(in rt.alloc(); "0 200 root\n80 92 stream #~\n{line}")?;
         assert!(rt; is_printed(&rt, true, &TWO_TYPES, offset, &lines)?);
     }
+    Ok(())
+}
+
+/// A cell, and a field of at most four bytes, have a line of their number, and of what it means.
+#[test]
+fn prints_the_number_and_its_meaning(rt: HostRuntime) -> Result<(), Fail> {
+    let mut builder = RootBuilder::new(rt.alloc());
+    builder.row(0x02, b"\x01\0\0\0\x01\0\0\0\0\0\x01\0\x01\0")?;
+    builder.row(0x04, b"\0\0\x01\0\x01\0")?;
+    builder.row(0x0B, b"\x08\0\x04\0\x04\0")?;
+    builder.heap("#Strings", b"\0F\0\0")?;
+    builder.heap("#Blob", b"\0\x02\x06\x08\x04\x01\0\0\0\0\0\0")?;
+    let root = builder.finish()?;
+    let Some(start) = root.as_slice().windows(14).position(|it| it == b"\x01\0\0\0\x01\0\0\0\0\0\x01\0\x01\0".as_slice()) else {
+        return Err("no row".into());
+    };
+    for (at, first, words) in [
+        (2, 0, "value 1 (0x1) public auto ansi"),
+        (14, 14, "value 0 (0x0) compilercontrolled"),
+        (20, 20, "value 8 (0x8)"),
+        (4, 4, "value 1 (0x1) \"F\""),
+        (6, 6, "value 0 (0x0) \"\""),
+        (9, 8, "value 0 (tag 0, row 0) null"),
+        (10, 10, "value 1 (0x1) +1"),
+        (18, 18, "value 1 (0x1) <0608>"),
+        (22, 22, "value 4 (tag 0, row 1) 04000001"),
+        (24, 24, "value 4 (0x4) <01000000>"),
+    ] {
+        let (_, text) = located(rt.alloc(), Form::Text, Input::BareRoot, &root, (start + at) as u64)?;
+        let line = format!(in rt.alloc(); "\n0x{:x}: {words}\n", start + first)?;
+        assert!(rt; text.ends_with(line.as_str()), "{text}");
+    }
+    let (_, text) = located(rt.alloc(), Form::JsonLines, Input::BareRoot, &root, (start + 4) as u64)?;
+    let line = format!(in rt.alloc(); "\n{{\"offset\":{},\"value\":1,\"TypeName\":\"F\"}}\n", start + 4)?;
+    assert!(rt; text.ends_with(line.as_str()), "{text}");
+    // Padding and a field of eight bytes have none.
+    for at in [start + 21, start - 20] {
+        let (_, text) = located(rt.alloc(), Form::Text, Input::BareRoot, &root, at as u64)?;
+        assert!(rt; !text.contains("value"), "{text}");
+    }
+    Ok(())
+}
+
+/// A file with three fields that have data: of a simple type, of a type of the file with a size, and of a type without one.
+fn file_with_data(alloc: Global) -> Result<[u8; 1024], Fail> {
+    let mut builder = RootBuilder::new(alloc);
+    builder.row(0x02, b"\0\0\0\0\x07\0\0\0\0\0\x01\0\x01\0")?;
+    builder.row(0x02, b"\0\0\0\0\x07\0\0\0\0\0\x04\0\x01\0")?;
+    builder.row(0x04, b"\0\0\x01\0\x01\0")?;
+    builder.row(0x04, b"\0\0\x03\0\x04\0")?;
+    builder.row(0x04, b"\0\0\x05\0\x08\0")?;
+    builder.row(0x0F, b"\x01\0\x06\0\0\0\x02\0")?;
+    builder.row(0x1D, b"\xF0\x21\0\0\x01\0")?;
+    builder.row(0x1D, b"\xF4\x21\0\0\x02\0")?;
+    builder.row(0x1D, b"\xFC\x21\0\0\x03\0")?;
+    builder.heap("#Strings", b"\0a\0b\0c\0S\0\0\0\0")?;
+    builder.heap("#Blob", b"\0\x02\x06\x08\x03\x06\x11\x08\x02\x06\x0E\0")?;
+    let root = builder.finish()?;
+    let mut file = image();
+    write_at(&mut file, 0x250, &root);
+    write_at(&mut file, 0x214, &(root.len() as u32).to_le_bytes());
+    Ok(file)
+}
+
+/// Data has the size of its type. If that is not known, only its first byte has the line.
+#[test]
+fn prints_the_fields_whose_data_contains_the_byte(rt: HostRuntime) -> Result<(), Fail> {
+    let file = file_with_data(rt.alloc())?;
+    for (offset, line) in [
+        (0x3EF, ""),
+        (0x3F0, "1008 4 field 04000001 a\n"),
+        (0x3F3, "1008 4 field 04000001 a\n"),
+        (0x3F4, "1012 6 field 04000002 b\n"),
+        (0x3F9, "1012 6 field 04000002 b\n"),
+        (0x3FA, ""),
+        (0x3FC, "1020 0 field 04000003 c\n"),
+        (0x3FD, ""),
+    ] {
+        let (_, text) = located(rt.alloc(), Form::Text, Input::File, &file, offset)?;
+        let lines = format!(in rt.alloc(); "512 512 section 1\n{line}")?;
+        assert_eq!(rt; text.as_str(), lines.as_str());
+    }
+    let (_, text) = located(rt.alloc(), Form::JsonLines, Input::File, &file, 0x3F0)?;
+    assert!(rt; text.ends_with("\n{\"offset\":1008,\"size\":4,\"structure\":\"field\",\"token\":\"04000001\",\"name\":\"a\"}\n"), "{text}");
     Ok(())
 }
 
@@ -366,13 +458,13 @@ fn ends_with_1_if_nothing_has_the_byte(rt: HostRuntime) -> Result<(), Fail> {
     fs::write(&rt, "where.dll", image().as_slice())?;
     let hint = "  hint: FILE has 1024 bytes\n";
     for (offset, status, lines, hints) in [
-        ("520", 0, "512 512 section 1\n520 72 cli header\n520 4 cli header Cb\n", ""),
-        ("00520", 0, "512 512 section 1\n520 72 cli header\n520 4 cli header Cb\n", ""),
-        ("0x208", 0, "512 512 section 1\n520 72 cli header\n520 4 cli header Cb\n", ""),
+        ("520", 0, "512 512 section 1\n520 72 cli header\n520 4 cli header Cb\n0x208: value 72 (0x48)\n", ""),
+        ("00520", 0, "512 512 section 1\n520 72 cli header\n520 4 cli header Cb\n0x208: value 72 (0x48)\n", ""),
+        ("0x208", 0, "512 512 section 1\n520 72 cli header\n520 4 cli header Cb\n0x208: value 72 (0x48)\n", ""),
         (
             "0x000000000000000000208",
             0,
-            "512 512 section 1\n520 72 cli header\n520 4 cli header Cb\n",
+            "512 512 section 1\n520 72 cli header\n520 4 cli header Cb\n0x208: value 72 (0x48)\n",
             "",
         ),
         ("0", 0, "0 64 ms-dos header\n0 2 ms-dos header Signature\n", ""),

@@ -11,7 +11,7 @@ pub loop-field-preserved : goal.loop-field-preserved
 loop-field-preserved c =
     let loop = c.loop-field in
     record {
-      left = more_left _ _ loop.invariant.left (ap (λ left. fields_from c.args.word.now loop.next (map seen_field left)) (drop_more c.args.fields.now loop.field-index _ c.loop-field-test.true)) c.look.ensures;
+      left = more_left _ _ loop.invariant.left (ap (λ left. fields_from c.args.word.now loop.next (map seen_field left)) (drop_more c.args.fields.now loop.field-index _ c.loop-field-test.true)) c.look_field.ensures;
       low = omega (arith, loop.invariant.low);
     }
 

@@ -3,7 +3,7 @@ use Rattle.std.proofs.lemmas.List.{drop_all}
 use Rattle.table_schema.specs.declared.table.TableId.TheVariants.{Module}
 use Rattle.table_schema.specs.Tables.{tables}
 use Rattle.cli_regions.specs.Headers.{counts_from, table_words}
-use Rattle.cli_regions.specs.Regions.{region}
+use Rattle.cli_regions.specs.Regions.{field_region}
 use Rattle.cli_regions.proofs.LoopLemmas.{first_left, more_left, none_left}
 use Rattle.cli_regions.proofs.table_stream.find_row_counts.Goals as goal
 
@@ -19,8 +19,8 @@ loop-table-preserved c =
     record {
       left = more_left _ _ loop.invariant.left
           (ap (counts_from c.args.valid loop.next) (first_left items tables i Module c.all-table-items.ensures.value c.loop-table-test.true)
-          ∙ (λ k. region loop.next (size k) (codes "row count" ++ (codes " " ++ table_words (get_or items i Module))) ∷ counts_from c.args.valid (loop.next + size k) (drop (i + 1) tables)))
-          c.look.ensures;
+          ∙ (λ k. field_region loop.next (size k) (codes "row count" ++ (codes " " ++ table_words (get_or items i Module))) ∷ counts_from c.args.valid (loop.next + size k) (drop (i + 1) tables)))
+          c.look_field.ensures;
       low = omega (arith, loop.invariant.low, c.count_size-size.ensures.few);
     }
 

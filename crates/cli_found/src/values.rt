@@ -1,0 +1,198 @@
+//! Prints the number that a structure is, and what it means.
+ghost use Rattle.std.specs.Prelude.{◌≡◌, ◌≤◌, ◌<◌, ◌∷◌, ◌++◌, [], IsTrue, map};
+ghost use Rattle.table_schema.specs.CellColumns.{cell_count};
+ghost use Rattle.metadata.specs.Metadata.{Metadata};
+ghost use Rattle.metadata.specs.Model.{IsModel};
+ghost use Rattle.cli_lines.specs.Printed.{Adds, Prints};
+ghost use Rattle.cli_regions.specs.Kept.{seen, seen_what};
+ghost use Rattle.cli_found.specs.Found.{value_line};
+ghost use Rattle.cli_found.specs.Kept.{lead_text};
+ghost use Rattle.opening.specs.Views.{row_count};
+ghost use Rattle.cli_found.specs.Columns.{column_number};
+ghost use Rattle.cli_found.specs.Values.{cell_lead, has_cell, lead_in, lead_line, lines_of, meaning, meaning_in, reference, refers, value_lines};
+
+use crate::columns::column_number;
+use crate::flags::{flags_at, print_flags};
+use crate::limits::{coded_of, kind_of};
+use crate::lines::{Lead, number_of};
+use cli_cells::{Names, print_cell};
+use cli_lines::Part::{Member, Word};
+use cli_lines::Value::Number;
+use cli_lines::{Name, Printer};
+use cli_regions::{Structure, What};
+use opening::{CellCursor, View};
+use schema::TableCell;
+use std::alloc::Global;
+use std::io::Write;
+use table_schema::{ColumnKind, cell_count};
+
+/// Whether the number in a column of a kind stands for something else.
+fn refers(kind: ColumnKind) -> bool
+    ensures { result ≡ refers kind }
+{
+    !matches!(
+        kind,
+        ColumnKind::U8 | ColumnKind::U16 | ColumnKind::U32 | ColumnKind::Padding
+    )
+}
+
+/// Whether the tables have a cell, which is no padding.
+fn has_cell(view: &View<'_>, cell: TableCell) -> bool
+    ensures value { (model : Metadata) → IsModel view.now model → result ≡ has_cell model cell }
+    ensures there { IsTrue result → (1 ≤ cell.row) × (cell.row ≤ row_count view.now cell.table) × (column_number cell < cell_count cell.table) }
+{
+    1 <= cell.row
+        && cell.row <= view.count(cell.table)
+        && column_number(cell) < cell_count(cell.table)
+}
+
+/// Adds what a cell refers to, if its number stands for something else.
+fn print_reference<W: Write>(
+    alloc: Global,
+    view: &View<'_>,
+    cell: TableCell,
+    out: &mut Printer<'_, W>,
+)
+    ensures { (model : Metadata) → IsModel view.now model → Adds out.old out.new (reference model cell) }
+{
+    cli_lines::laws::parts_follow::<W>();
+    if !refers(kind_of(cell)) {
+        return;
+    }
+    if !has_cell(view, cell) {
+        return;
+    }
+    let cell_index = column_number(cell);
+    print_cell(
+        alloc,
+        Names::Hidden,
+        Name::Cell(cell.table, cell_index),
+        &mut CellCursor::new(view),
+        cell.table,
+        cell.row,
+        cell_index,
+        out,
+    );
+}
+
+/// Adds what a number in a cell means: the words of flags, or what it refers to.
+fn print_meaning<W: Write>(
+    alloc: Global,
+    view: &View<'_>,
+    cell: TableCell,
+    number: u64,
+    out: &mut Printer<'_, W>,
+)
+    ensures { (model : Metadata) → IsModel view.now model → Adds out.old out.new (meaning model cell number) }
+{
+    match flags_at(cell.table, cell.column) {
+        Some(of) => {
+            let named = Name::Cell(cell.table, column_number(cell));
+            print_flags(alloc, named, of, number, out);
+        }
+        None => print_reference(alloc, view, cell, out),
+    }
+}
+
+/// Adds what the number that a structure is means, if it is a cell.
+fn print_what<W: Write>(
+    alloc: Global,
+    view: &View<'_>,
+    what: What<'_>,
+    number: u64,
+    out: &mut Printer<'_, W>,
+)
+    ensures { (model : Metadata) → IsModel view.now model → Adds out.old out.new (meaning_in model (seen_what what.entry) number) }
+{
+    cli_lines::laws::parts_follow::<W>();
+    match what {
+        What::Cell(cell) => print_meaning(alloc, view, cell, number, out),
+        _ => {}
+    }
+}
+
+/// Prints the line of a number, which begins with this text.
+#[tactic(auto, unfolding(crate::specs::Found::value_line))]
+fn print_lead<W: Write>(
+    alloc: Global,
+    view: &View<'_>,
+    lead: Lead,
+    text: &str,
+    what: What<'_>,
+    out: &mut Printer<'_, W>,
+)
+    requires { text.now ≡ lead_text lead }
+    ensures { (model : Metadata) → IsModel view.now model → Prints out.old out.new (lead_line model (seen_what what.entry) lead ∷ []) }
+{
+    cli_lines::laws::parts_follow::<W>();
+    out.begin(&[
+        Member(Name::Offset, Number(lead.offset)),
+        Word(text),
+        Member(Name::Value, Number(lead.number)),
+    ]);
+    print_what(alloc, view, what, lead.number, out);
+    out.end();
+}
+
+/// The number that a cell is; padding is none (II.22.9).
+fn cell_lead(bytes: &[u8], of: Structure<'_>, kind: ColumnKind) -> Option<Lead>
+    ensures { result ≡ cell_lead bytes.now (seen of.entry) kind }
+{
+    match kind {
+        ColumnKind::Padding => None,
+        _ => number_of(bytes, of.start, of.size, coded_of(kind)),
+    }
+}
+
+/// The number that a structure is, if it is one.
+fn lead_in(bytes: &[u8], of: Structure<'_>) -> Option<Lead>
+    ensures { result ≡ lead_in bytes.now (seen of.entry) (seen_what of.entry.what) }
+{
+    match of.what {
+        What::Scalar(_) => number_of(bytes, of.start, of.size, None),
+        What::Cell(cell) => cell_lead(bytes, of, kind_of(cell)),
+        _ => None,
+    }
+}
+
+/// Prints the line of the number that a structure is, if it is one.
+fn print_number<W: Write>(
+    alloc: Global,
+    bytes: &[u8],
+    view: &View<'_>,
+    of: Structure<'_>,
+    out: &mut Printer<'_, W>,
+)
+    ensures { (model : Metadata) → IsModel view.now model → Prints out.old out.new (lines_of model bytes.now (seen of.entry)) }
+{
+    cli_lines::laws::lines_follow::<W>();
+    match lead_in(bytes, of) {
+        Some(lead) => match lead.to_string(alloc) {
+            Ok(text) => print_lead(alloc, view, lead, &text, of.what, out),
+            Err(_) => out.fail(),
+        },
+        None => {}
+    }
+}
+
+/// Prints the line of the number that the last structure is: the offset of its first byte in hexadecimal, and the number in
+/// decimal and in hexadecimal, or with its tag and row if it is a coded index (II.24.2.6). The words of flags follow (II.23.1),
+/// and if the number in a cell stands for something else, what `clim show` prints of it. A structure that is no cell and no
+/// field of at most four bytes has no line.
+///
+/// In JSON it is `{"offset":674,"value":17,"TypeName":"A"}`.
+pub fn print_value<W: Write>(
+    alloc: Global,
+    bytes: &[u8],
+    view: &View<'_>,
+    structures: &[Structure<'_>],
+    out: &mut Printer<'_, W>,
+)
+    ensures { (model : Metadata) → IsModel view.now model → Prints out.old out.new (value_lines model bytes.now (map seen structures.now)) }
+{
+    cli_lines::laws::lines_follow::<W>();
+    match structures.split_last() {
+        Some((last, _)) => print_number(alloc, bytes, view, *last, out),
+        None => {}
+    }
+}

@@ -1,0 +1,80 @@
+-- The fields with data, and the sizes of the data (ECMA-335 II.22.8, II.22.18 and II.23.1.16).
+use Rattle.std.specs.Prelude.{ℕ, ◌+◌, ◌-◌, nat_le, if◌then◌else◌, List, [], ◌∷◌, Option, None, Some}
+use Rattle.std.specs.List.{flat_map, range_with_len}
+use Rattle.table_schema.specs.declared.table.TableId.{TableId}
+use Rattle.table_schema.specs.declared.table.TableId.TheVariants.{ClassLayout, Field, FieldRVA, TypeDef}
+use Rattle.sig_grammar.specs.declared.element.Element.{Element}
+use Rattle.sig_grammar.specs.declared.element.Element.TheVariants.{Boolean, Char, I1, U1, I2, U2, I4, U4, I8, U8, R4, R8, String, I, U, Object}
+use Rattle.sig_items.specs.declared.item.Item.{Item}
+use Rattle.sig_items.specs.declared.item.Item.TheVariants as item
+use Rattle.metadata.specs.Metadata.{Metadata, cell_in, count_in}
+use Rattle.navigation.specs.Linked.{first_linked}
+use Rattle.navigation.specs.declared.links.Link.TheVariants as link_of
+use Rattle.attribute_constructors.specs.Signatures.{items_in}
+use Rattle.cli_declarations.specs.Parts.{number_of, token_at}
+use Rattle.cli_contents.specs.declared.field_data.FieldData.{FieldData}
+
+-- the number of bytes of a value of a simple type (II.23.1.16); 0 if it depends on the machine, or if the value is elsewhere
+abbrev pub element_size : Element → ℕ
+element_size Boolean = 1
+element_size Char = 2
+element_size I1 = 1
+element_size U1 = 1
+element_size I2 = 2
+element_size U2 = 2
+element_size I4 = 4
+element_size U4 = 4
+element_size I8 = 8
+element_size U8 = 8
+element_size R4 = 4
+element_size R8 = 8
+element_size String = 0
+element_size I = 0
+element_size U = 0
+element_size Object = 0
+
+-- ClassSize in a row of ClassLayout (II.22.8); 0 if there is no row
+abbrev pub layout_size : Metadata → Option ℕ → ℕ
+layout_size model None = 0
+layout_size model (Some row) = number_of (cell_in model ClassLayout row 1)
+
+-- that of a type of this file
+abbrev pub class_size : Metadata → TableId → ℕ → ℕ
+class_size model TypeDef row =
+    if nat_le row (count_in model TypeDef) then layout_size model (first_linked model link_of.TypeLayouts (token_at TypeDef row)) else 0
+class_size model _ row = 0
+
+-- the type of a field (II.23.2.4), if it has no modifiers and is one item: no array, no pointer and no generic instance
+abbrev pub field_type : List Item → Option Item
+field_type (item.Field ∷ of ∷ []) = Some of
+field_type _ = None
+
+abbrev pub type_size : Metadata → Option Item → ℕ
+type_size model (Some (item.Simple of)) = element_size of
+type_size model (Some (item.Value of)) = class_size model of.table of.row
+type_size model _ = 0
+
+-- the number of bytes of a field by its type; 0 if it is not known
+abbrev pub data_size : Metadata → ℕ → ℕ
+data_size model field = type_size model (field_type (items_in (cell_in model Field field 2)))
+
+-- the data of a field at the address in a row of FieldRVA, if there is a row
+abbrev pub data_by : Metadata → ℕ → Option ℕ → Option FieldData
+data_by model field None = None
+data_by model field (Some row) =
+    Some (record { row = field; rva = number_of (cell_in model FieldRVA row 0); size = data_size model field })
+
+abbrev pub data_of : Metadata → ℕ → Option FieldData
+data_of model field = data_by model field (first_linked model link_of.FieldData (token_at Field field))
+
+abbrev pub listed : Option FieldData → List FieldData
+listed None = []
+listed (Some stored) = stored ∷ []
+
+-- those of the rows from one on and before another
+unfoldable pub fields_from : Metadata → ℕ → ℕ → List FieldData
+fields_from model first past = flat_map (λ field. listed (data_of model field)) (range_with_len first (past - first))
+
+-- the data of all fields that have data, in the order of the fields
+abbrev pub all_fields : Metadata → List FieldData
+all_fields model = fields_from model 1 (count_in model Field + 1)

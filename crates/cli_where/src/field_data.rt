@@ -1,0 +1,216 @@
+//! The fields with data, and the sizes of the data (II.22.8, II.22.18).
+ghost use Rattle.std.specs.Prelude.{◌≡◌, ◌≤◌, ◌++◌, All, IfOk, IfSome, OnOk};
+ghost use Rattle.table_schema.specs.declared.column.SigKind.TheVariants as column;
+ghost use Rattle.table_schema.specs.declared.table.TableId.TheVariants.{ClassLayout, Field, TypeDef};
+ghost use Rattle.sig_grammar.specs.Syntax.{Body};
+ghost use Rattle.sig_grammar.specs.Encodes.{Encodes};
+ghost use Rattle.sig_items.specs.ItemsOf.{items_of};
+ghost use Rattle.metadata.specs.Metadata.{Metadata, cell_in};
+ghost use Rattle.metadata.specs.Model.{IsModel};
+ghost use Rattle.opening.specs.Views.{row_count};
+ghost use Rattle.pe.specs.Image.{Image, IsImage};
+ghost use Rattle.attribute_constructors.specs.Signatures.{items_in};
+ghost use Rattle.cli_contents.specs.Lines.{field_lines};
+ghost use Rattle.cli_lines.specs.Printed.{Prints};
+ghost use Rattle.cli_where.specs.FieldData.{all_fields, class_size, data_of, data_size, element_size, field_type, layout_size, listed, type_size};
+
+use cli_contents::{FieldData, print_fields};
+use cli_declarations::number;
+use cli_lines::Printer;
+use navigation::{Link, Neighbours};
+use opening::{CellRef, TableId, Token, View};
+use sig_grammar::Element;
+use sig_items::{Item, Items};
+use std::alloc::{AllocError, Global};
+use std::io::Write;
+use table_schema::SigKind;
+
+/// The cell of the address of data (II.22.18).
+const RVA: usize = 0;
+
+/// The cell of the size of a type (II.22.8).
+const CLASS_SIZE: usize = 1;
+
+/// The cell of the signature of a field (II.22.15).
+const SIGNATURE: usize = 2;
+
+/// No signature of two items has more bytes: each item has at most 64.
+const LONGEST: usize = 128;
+
+/// The size of a value of a simple type in bytes (II.23.1.16); 0 if it depends on the machine, or if the value is elsewhere.
+fn element_size(of: Element) -> u32
+    ensures { result ≡ element_size of }
+{
+    match of {
+        Element::Boolean | Element::I1 | Element::U1 => 1,
+        Element::Char | Element::I2 | Element::U2 => 2,
+        Element::I4 | Element::U4 | Element::R4 => 4,
+        Element::I8 | Element::U8 | Element::R8 => 8,
+        Element::String | Element::I | Element::U | Element::Object => 0,
+    }
+}
+
+/// ClassSize in a row of ClassLayout; 0 if there is no row.
+#[tactic(auto, unfolding(table_schema::specs::CellColumns::cell_columns))]
+fn layout_size(view: &View<'_>, layout: Option<u32>) -> u32
+    requires { IfSome layout (λ row. (1 ≤ row) × (row ≤ row_count view.now ClassLayout)) }
+    ensures { (model : Metadata) → IsModel view.now model → result ≡ layout_size model layout }
+{
+    match layout {
+        Some(row) => number(view, TableId::ClassLayout, row, CLASS_SIZE),
+        None => 0,
+    }
+}
+
+/// The size of the type in a row of TypeDef, by its row of ClassLayout; 0 if it has none.
+fn size_in(source: &Neighbours<'_, '_>, row: u32) -> u32
+    ensures { (model : Metadata) → IsModel source.now.view.now model → result ≡ class_size model TypeDef row }
+{
+    let table = TableId::TypeDef;
+    if row <= source.view.count(table) {
+        let layout = source.first_linked(Link::TypeLayouts, Token { table, row });
+        layout_size(source.view, layout)
+    } else {
+        0
+    }
+}
+
+/// The size of a type of this file; 0 if it is not known.
+fn class_size(source: &Neighbours<'_, '_>, of: Token) -> u32
+    ensures { (model : Metadata) → IsModel source.now.view.now model → result ≡ class_size model of.table of.row }
+{
+    match of.table {
+        TableId::TypeDef => size_in(source, of.row),
+        _ => 0,
+    }
+}
+
+/// The type of a field by the items of its signature, if it is one item.
+fn field_type(mut items: Items<'_>) -> Option<Item>
+    ensures { result ≡ field_type items.entry }
+{
+    let Item::Field = items.next()? else {
+        return None;
+    };
+    let of = items.next()?;
+    match items.next() {
+        Some(_) => None,
+        None => Some(of),
+    }
+}
+
+/// The same of the signature in a blob. A longer one has too many items.
+fn type_in(blob: &[u8]) -> Option<Item>
+    ensures { (signature : Body) → Encodes column.Field signature blob.now → result ≡ field_type (items_of signature) }
+{
+    sig_values::laws::encoded_is_encodable();
+    sig_items::laws::items_are_encoded();
+    if blob.len() > LONGEST {
+        return None;
+    }
+    match Items::of(blob, SigKind::Field) {
+        Some(items) => field_type(items),
+        None => None,
+    }
+}
+
+/// The same of a field.
+#[tactic(auto, unfolding(table_schema::specs::CellColumns::cell_columns))]
+fn type_of_field(view: &View<'_>, field: u32) -> Option<Item>
+    requires first { 1 ≤ field }
+    requires last { field ≤ row_count view.now Field }
+    ensures { (model : Metadata) → IsModel view.now model → result ≡ field_type (items_in (cell_in model Field field 2)) }
+{
+    match view.cell(TableId::Field, field, SIGNATURE) {
+        CellRef::Sig(blob) => type_in(blob),
+        _ => None,
+    }
+}
+
+/// The size of a type; 0 if it is not known.
+fn type_size(source: &Neighbours<'_, '_>, of: Option<Item>) -> u32
+    ensures { (model : Metadata) → IsModel source.now.view.now model → result ≡ type_size model of }
+{
+    match of {
+        Some(Item::Simple(of)) => element_size(of),
+        Some(Item::Value(of)) => class_size(source, of),
+        _ => 0,
+    }
+}
+
+/// The number of bytes of a field by its type; 0 if it is not known.
+fn data_size(source: &Neighbours<'_, '_>, field: u32) -> u32
+    requires first { 1 ≤ field }
+    requires last { field ≤ row_count source.now.view.now Field }
+    ensures { (model : Metadata) → IsModel source.now.view.now model → result ≡ data_size model field }
+{
+    type_size(source, type_of_field(source.view, field))
+}
+
+/// The data of a field, if it has data. If it has more than one row of FieldRVA, it is that of the first.
+#[tactic(auto, unfolding(table_schema::specs::CellColumns::cell_columns))]
+fn data_of(source: &Neighbours<'_, '_>, field: u32) -> Option<FieldData>
+    requires first { 1 ≤ field }
+    requires last { field ≤ row_count source.now.view.now Field }
+    ensures stored { (model : Metadata) → IsModel source.now.view.now model → result ≡ data_of model field }
+    ensures row { IfSome result (λ stored. stored.row ≡ field) }
+{
+    let table = TableId::Field;
+    // The table has at most 0xFFFFFF rows.
+    let _count = source.view.count(table);
+    let row = source.first_linked(Link::FieldData, Token { table, row: field })?;
+    Some(FieldData {
+        row: field,
+        rva: number(source.view, TableId::FieldRVA, row, RVA),
+        size: data_size(source, field),
+    })
+}
+
+/// Appends data, if there is some.
+fn keep(stored: Option<FieldData>, found: &mut Vec<FieldData>) -> Result<(), AllocError>
+    ensures { OnOk result (found.new.items ≡ found.old.items ++ listed stored) }
+{
+    match stored {
+        Some(stored) => Ok(found.push(stored)?),
+        None => Ok(()),
+    }
+}
+
+/// The data of all fields that have data, in the order of the fields.
+fn all_fields(alloc: Global, source: &Neighbours<'_, '_>) -> Result<Vec<FieldData>, AllocError>
+    ensures fields { IfOk result (λ found. (model : Metadata) → IsModel source.now.view.now model → found.items ≡ all_fields model) }
+    ensures rows { IfOk result (λ found. All (λ stored. (1 ≤ stored.row) × (stored.row ≤ row_count source.now.view.now Field)) found.items) }
+{
+    let mut found = Vec::new(alloc);
+    let count = source.view.count(TableId::Field);
+    for field in 1..count + 1 {
+        keep(data_of(source, field), &mut found)?;
+    }
+    Ok(found)
+}
+
+/// The data of all fields of a view.
+fn fields_of(alloc: Global, view: &View<'_>) -> Result<Vec<FieldData>, AllocError>
+    ensures fields { IfOk result (λ found. (model : Metadata) → IsModel view.now model → found.items ≡ all_fields model) }
+    ensures rows { IfOk result (λ found. All (λ stored. (1 ≤ stored.row) × (stored.row ≤ row_count view.now Field)) found.items) }
+{
+    let source = Neighbours::new(alloc, view)?;
+    all_fields(alloc, &source)
+}
+
+/// Prints a line for each of the first ten fields of a file whose data contains the byte at an offset (II.22.18).
+pub(crate) fn print_data<W: Write>(
+    alloc: Global,
+    file: &[u8],
+    view: &View<'_>,
+    offset: u64,
+    out: &mut Printer<'_, W>,
+)
+    ensures { (image : Image) → IsImage file.now image → (model : Metadata) → IsModel view.now model
+        → Prints out.old out.new (field_lines image model (all_fields model) offset) }
+{
+    match fields_of(alloc, view) {
+        Ok(fields) => print_fields(alloc, file, view, &fields, offset, out),
+        Err(_) => out.fail(),
+    }
+}
