@@ -1,5 +1,5 @@
 -- What the arguments ask the program to do.
-use Rattle.std.specs.Prelude.{◌≡◌, ℕ, ◌%◌, ◌^◌, Bool, true, false, List, [], ◌∷◌, ◌++◌, ◌||◌, Option, Some, None, is_some, Result, Ok, Err, IsOkAnd, MatchOption, MatchResult, codes, if◌then◌else◌, map}
+use Rattle.std.specs.Prelude.{◌≡◌, ℕ, Bool, true, false, List, [], ◌∷◌, ◌++◌, ◌||◌, Option, Some, None, is_some, Result, Ok, Err, IsOkAnd, MatchOption, MatchResult, codes, if◌then◌else◌, map}
 use Rattle.std.specs.List.{All}
 use Rattle.std.specs.Borrow.{Bor}
 use Rattle.std.specs.Str.{bytes_eq}
@@ -14,11 +14,12 @@ use Rattle.cli_faults.specs.declared.failure.Failure.{Failure}
 use Rattle.cli_faults.specs.declared.failure.Failure.TheVariants as failed
 use Rattle.cli_faults.specs.declared.usage_error.UsageError.TheVariants as wrong
 use Rattle.table_schema.specs.declared.table.TableId.{TableId}
+use Rattle.table_schema.specs.declared.token.Token.{Token}
 use Rattle.comparison.specs.declared.ignored.IgnoredColumns.{IgnoredColumns}
 use Rattle.cli_cells.specs.declared.row_lines.Names.{Names}
 use Rattle.cli_cells.specs.declared.row_lines.Names.TheVariants.{Hidden, Shown}
 use Rattle.cli_names.specs.Names.{NamesCode, NamesTable}
-use Rattle.cli_names.specs.Numbers.{IsHexNumber, IsOffset, IsTypeToken, digits_of}
+use Rattle.cli_names.specs.Numbers.{IsHexNumber, IsOffset, IsRowToken, digits_of}
 use Rattle.cli_input.specs.declared.opened.Input.{Input}
 use Rattle.cli_input.specs.declared.opened.Input.TheVariants.{BareRoot, File}
 use Rattle.cli_lines.specs.declared.parts.Form.{Form}
@@ -185,10 +186,10 @@ IsShow ask result =
     MatchResult result (λ made. (table : Option TableId) × IsTableNamed ask.part table × (made ≡ show_of ask.until_fault (names_of ask.names) table))
     (NamesNoTable ask.part)
 
--- the argument names this type: by its token, or else by its path
-abbrev pub NamesType : List ℕ → Subject → Type 0
-NamesType word (subject.Row row) = IsTypeToken (digits_of word) × (row ≡ digits_value 16 (digits_of word) % 2 ^ 24)
-NamesType word (subject.Path path) = (¬ IsTypeToken (digits_of word)) × (path.now ≡ word)
+-- the argument names this row: by its token, or else that of a type by its path
+abbrev pub NamesSubject : List ℕ → Subject → Type 0
+NamesSubject word (subject.Row token) = IsRowToken (digits_of word) token
+NamesSubject word (subject.Path path) = ((token : Token) → ¬ IsRowToken (digits_of word) token) × (path.now ≡ word)
 
 -- what an outline shows, by whether the arguments have `--no-tokens`, `--public` and `--sorted`
 abbrev pub tokens_of : Bool → Tokens
@@ -204,13 +205,18 @@ sorting_of true = sorting.ByName
 sorting_of false = sorting.ByRow
 
 abbrev pub options_of : Bool → Bool → Bool → OutlineOptions
-options_of no_tokens public sorted = record { tokens = tokens_of no_tokens; rows = shown_of public; sorting = sorting_of sorted }
+options_of no_tokens public sorted = record { tokens = tokens_of no_tokens; rows = shown_of public; sorting = sorting_of sorted; entry = None }
 
--- the report of `outline`: that of the type that the argument names, or of all if there is none
+-- the report of `outline`: that of the row that the argument names, or of all if there is none
 abbrev pub IsOutline : OutlineOptions → Option (Bor (List ℕ)) → Report → Type 0
 IsOutline options part made =
-    MatchOption part (made ≡ report.Listing (listing.Outline options))
-    (λ given. (named : Subject) × NamesType given.now named × (made ≡ report.OutlineOf named options))
+    MatchOption part (made ≡ report.Outline options)
+    (λ given. (named : Subject) × NamesSubject given.now named × (made ≡ report.OutlineOf named options))
+
+-- the report of `refs`: that of the type that the argument names, or of all if there is none
+abbrev pub IsRefs : Option (Bor (List ℕ)) → Report → Type 0
+IsRefs part made =
+    MatchOption part (made ≡ report.Listing listing.Refs) (λ given. (named : Subject) × NamesSubject given.now named × (made ≡ report.RefsOf named))
 
 -- the arguments are tokens, with these numbers
 abbrev pub AreTokens : List (Bor (List ℕ)) → List ℕ → Type 0
@@ -337,7 +343,7 @@ IsTask word.Check ask result = result ≡ report_task ask (Ok (report.Check (ver
 IsTask word.Show ask result = IsReportTask ask (IsShow ask) result
 IsTask word.Types ask result = result ≡ report_task ask (Ok (report.Listing listing.Types))
 IsTask word.Outline ask result = IsReportTask ask (λ made. IsOkAnd made (IsOutline (options_of ask.no_tokens ask.public ask.sorted) ask.part)) result
-IsTask word.Refs ask result = result ≡ report_task ask (Ok (report.Listing listing.Refs))
+IsTask word.Refs ask result = IsReportTask ask (λ made. IsOkAnd made (IsRefs ask.part)) result
 IsTask word.Resources ask result = result ≡ resources_task ask
 IsTask word.Strings ask result = result ≡ report_task ask (Ok report.Strings)
 IsTask word.Token ask result = IsReportTask ask (IsTokens ask.tokens.items) result

@@ -1,6 +1,6 @@
 //! What the arguments ask the program to do.
 ghost use Rattle.std.specs.Prelude.{◌≡◌, IfErr, IfOk};
-ghost use Rattle.cli.specs.Tasks.{AreTokens, IsCompareTask, IsExplainTask, IsFirstNoToken, IsOutline, IsShow, IsTableNamed, IsTask, IsTokens, IsWhere, NamesNoTable, NamesType, directories_of, embed_task, extract_task, form_of, input_of, is_plural, list_task, named_task, names_of, naming_of, options_of, output_of, paths_of, report_task, request_of, resources_task, rewrite_task, root_of, separator_of, strong_name_of, verdict_of};
+ghost use Rattle.cli.specs.Tasks.{AreTokens, IsCompareTask, IsExplainTask, IsFirstNoToken, IsOutline, IsRefs, IsShow, IsTableNamed, IsTask, IsTokens, IsWhere, NamesNoTable, NamesSubject, directories_of, embed_task, extract_task, form_of, input_of, is_plural, list_task, named_task, names_of, naming_of, options_of, output_of, paths_of, report_task, request_of, resources_task, rewrite_task, root_of, separator_of, strong_name_of, verdict_of};
 
 use crate::columns::columns_of;
 use cli_arguments::{Ask, Subcommand};
@@ -8,7 +8,7 @@ use cli_cells::Names;
 use cli_faults::{Failure, UsageError};
 use cli_input::Input;
 use cli_lines::Form;
-use cli_names::{code_of, offset_of, table_of, token_of, type_row_of};
+use cli_names::{code_of, offset_of, row_of, table_of, token_of};
 use cli_nearest::{nearest_code, nearest_column, nearest_table};
 use cli_outline::{OutlineOptions, Rows, Sorting, Subject, Tokens};
 use cli_roots::{CompareOptions, EmbedOptions, Output};
@@ -51,7 +51,7 @@ pub(crate) fn task_of<'a>(alloc: Global, ask: &'a Ask<'a>) -> Result<Task<'a>, F
         Subcommand::Show => on_files(ask, show_of(alloc, ask)),
         Subcommand::Types => on_files(ask, Ok(Report::Listing(Listing::Types))),
         Subcommand::Outline => on_files(ask, Ok(outline_of(ask.part, options_of(ask)))),
-        Subcommand::Refs => on_files(ask, Ok(Report::Listing(Listing::Refs))),
+        Subcommand::Refs => on_files(ask, Ok(refs_of(ask.part))),
         Subcommand::Resources => resources_of(ask),
         Subcommand::Strings => on_files(ask, Ok(Report::Strings)),
         Subcommand::Token => on_files(ask, tokens_of(alloc, ask.tokens.as_slice())),
@@ -273,25 +273,36 @@ fn options_of(ask: &Ask<'_>) -> OutlineOptions
         tokens,
         rows,
         sorting,
+        entry: None,
     }
 }
 
-/// The report of `outline`: the type that the argument names, or all if there is no argument.
+/// The report of `outline`: the type or the other row that the argument names, or all if there is no argument.
 fn outline_of<'a>(part: Option<&'a str>, options: OutlineOptions) -> Report<'a>
     ensures { IsOutline options part.entry result }
 {
     match part {
-        Some(word) => Report::OutlineOf(type_named(word), options),
-        None => Report::Listing(Listing::Outline(options)),
+        Some(word) => Report::OutlineOf(subject_named(word), options),
+        None => Report::Outline(options),
     }
 }
 
-/// The type that an argument names: by its token, or else by its path.
-fn type_named<'a>(word: &'a str) -> Subject<'a>
-    ensures { NamesType word.now result }
+/// The report of `refs`: the type that the argument names, or all if there is no argument.
+fn refs_of<'a>(part: Option<&'a str>) -> Report<'a>
+    ensures { IsRefs part.entry result }
 {
-    match type_row_of(word) {
-        Some(row) => Subject::Row(row),
+    match part {
+        Some(word) => Report::RefsOf(subject_named(word)),
+        None => Report::Listing(Listing::Refs),
+    }
+}
+
+/// The row that an argument names: by its token, or else that of a type by its path.
+fn subject_named<'a>(word: &'a str) -> Subject<'a>
+    ensures { NamesSubject word.now result }
+{
+    match row_of(word) {
+        Some(token) => Subject::Row(token),
         None => Subject::Path(word),
     }
 }

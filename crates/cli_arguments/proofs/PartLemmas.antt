@@ -60,12 +60,12 @@ given_some (word ∷ words) false is some = refl
 pub part_if : (of : Subcommand) (P Q : Type 0) (word : Text) → (P → Q) → IsPart of P word → IsPart of Q word
 part_if Show P Q word is part = (is part.0, part.1)
 part_if Outline P Q word is part = (is part.0, part.1)
+part_if Refs P Q word is part = (is part.0, part.1)
 part_if Where P Q word is part = tt
 part_if Root P Q word is part = part
 part_if Info P Q word is part = part
 part_if Check P Q word is part = part
 part_if Types P Q word is part = part
-part_if Refs P Q word is part = part
 part_if Resources P Q word is part = part
 part_if Strings P Q word is part = part
 part_if Token P Q word is part = part

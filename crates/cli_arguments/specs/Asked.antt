@@ -7,7 +7,7 @@ use Rattle.clap.specs.Words.{Row, Text, all_of, first_of, one_of, subcommand_of}
 use Rattle.cli_arguments.specs.CommandLine.{clim, name_of, subcommands}
 use Rattle.cli_arguments.specs.declared.asked.Ask.{Ask}
 use Rattle.cli_arguments.specs.declared.asked.Subcommand.{Subcommand}
-use Rattle.cli_arguments.specs.declared.asked.Subcommand.TheVariants.{Show, Outline, Where}
+use Rattle.cli_arguments.specs.declared.asked.Subcommand.TheVariants.{Show, Outline, Refs, Where}
 
 -- the subcommand with this name
 abbrev pub subcommand_named : Text → Option Subcommand
@@ -49,10 +49,11 @@ abbrev pub TakesList : List Row → Type 0
 TakesList rows = (one_of (codes "null") rows ≡ Some (codes "true")) ⊎ IsSome (first_of (codes "files-from") rows)
 
 -- The last argument of the subcommand says what to print, where it matters whether there are files besides. Of `show` it is a
--- TABLE if it has no dash, dot or slash; of `outline` a NAME unless it has the form of a path; of `where` always the OFFSET.
+-- TABLE if it has no dash, dot or slash; of `outline` and `refs` a NAME unless it has the form of a path; of `where` always the OFFSET.
 abbrev pub IsPart : Subcommand → Type 0 → Text → Type 0
 IsPart Show HasFiles word = HasFiles × IsPlainWord word
 IsPart Outline HasFiles word = HasFiles × (is_path word ≡ false)
+IsPart Refs HasFiles word = HasFiles × (is_path word ≡ false)
 IsPart Where HasFiles word = Unit {0}
 IsPart of HasFiles word = ⊥
 

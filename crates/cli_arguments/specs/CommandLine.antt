@@ -132,13 +132,13 @@ rules_of Info = files ∷ bare ∷ budget ∷ files_from ∷ null ∷ recursive 
 -- `check [--bare] [--budget N] [--files-from LIST] [-0] [-r] [-q] [--json] [--where] [FILE]..`
 rules_of Check = files ∷ bare ∷ budget ∷ files_from ∷ null ∷ recursive ∷ quiet ∷ json ∷ flag (codes "where") ∷ []
 -- `show [--bare] [--budget N] [--files-from LIST] [-0] [-r] [--json] [--names] [--until-fault] [FILE].. [TABLE]`; here, of
--- `outline` and of `where` the last argument is among the values of FILE
+-- `outline`, `refs` and `where` the last argument is among the values of FILE
 rules_of Show = files ∷ bare ∷ budget ∷ files_from ∷ null ∷ recursive ∷ json ∷ flag (codes "names") ∷ until_fault ∷ []
 -- `types [--bare] [--budget N] [--files-from LIST] [-0] [-r] [--json] [FILE]..`
 rules_of Types = files ∷ bare ∷ budget ∷ files_from ∷ null ∷ recursive ∷ json ∷ []
 -- `outline [--bare] [--budget N] [--files-from LIST] [-0] [-r] [--json] [--no-tokens] [--public] [--sorted] [FILE].. [NAME]`
 rules_of Outline = files ∷ bare ∷ budget ∷ files_from ∷ null ∷ recursive ∷ json ∷ flag (codes "no-tokens") ∷ flag (codes "public") ∷ flag (codes "sorted") ∷ []
--- `refs [--bare] [--budget N] [--files-from LIST] [-0] [-r] [--json] [FILE]..`
+-- `refs [--bare] [--budget N] [--files-from LIST] [-0] [-r] [--json] [FILE].. [NAME]`
 rules_of Refs = files ∷ bare ∷ budget ∷ files_from ∷ null ∷ recursive ∷ json ∷ []
 -- `resources [--budget N] [--files-from LIST] [-0] [-r] [--json] [--extract NAME] [FILE]..`
 rules_of Resources = files ∷ budget ∷ files_from ∷ null ∷ recursive ∷ json ∷ option (codes "extract") ∷ []

@@ -20,8 +20,8 @@ pub struct Ask<'a> {
     pub ignored: Vec<&'a str>,
     /// The largest number of bytes of texts and signatures that may be checked of each file, if given.
     pub budget: Option<u64>,
-    /// What to print of the files, as it was given after them: the table of `show`, the type of `outline`, the offset of
-    /// `where`.
+    /// What to print of the files, as it was given after them: the table of `show`, the row of `outline`, the type of
+    /// `refs`, the offset of `where`.
     pub part: Option<&'a str>,
     /// Whether to print JSON Lines instead of text.
     pub json: bool,
@@ -70,9 +70,9 @@ pub enum Subcommand {
     Show,
     /// `types`: print the types, with the number of their fields and methods.
     Types,
-    /// `outline`: print the declarations of the assembly, or of one type.
+    /// `outline`: print the declarations of the assembly, or of one type or row.
     Outline,
-    /// `refs`: print what the assembly refers to in other modules.
+    /// `refs`: print what the assembly refers to in other modules, or what of one type.
     Refs,
     /// `resources`: print where the resources are, or the content of one.
     Resources,

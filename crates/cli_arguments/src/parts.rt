@@ -50,7 +50,7 @@ fn is_part(subcommand: Subcommand, has_files: bool, word: &str) -> bool
 {
     match subcommand {
         Subcommand::Show => has_files && is_plain_word(word),
-        Subcommand::Outline => has_files && !is_path(word),
+        Subcommand::Outline | Subcommand::Refs => has_files && !is_path(word),
         Subcommand::Where => true,
         _ => false,
     }

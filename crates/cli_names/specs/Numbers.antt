@@ -1,7 +1,9 @@
 -- The arguments that are numbers.
-use Rattle.std.specs.Prelude.{if◌then◌else◌, drop, take, ◌≡◌, ◌⊎◌, ℕ, ◌<◌, ◌≤◌, ◌^◌, ◌/◌, List, ◌++◌, codes, length}
+use Rattle.std.specs.Prelude.{if◌then◌else◌, drop, take, ◌≡◌, ◌⊎◌, ℕ, ◌<◌, ◌≤◌, ◌^◌, List, ◌++◌, codes, length}
 use Rattle.std.specs.Str.{bytes_eq}
 use Rattle.std.specs.Str.Parse.{IsNumeral, digits_value}
+use Rattle.table_schema.specs.declared.token.Token.{Token}
+use Rattle.table_schema.specs.Tokens.{IsToken}
 
 -- one to eight hexadecimal digits, in either case
 abbrev pub IsHexNumber : List ℕ → Type 0
@@ -11,9 +13,9 @@ IsHexNumber word = IsNumeral 16 word × (length word ≤ 8)
 abbrev pub digits_of : List ℕ → List ℕ
 digits_of word = if bytes_eq (take 2 word) (codes "0x") then drop 2 word else word
 
--- eight hexadecimal digits of a token of TypeDef, table 2 (II.22.37, III.1.9)
-abbrev pub IsTypeToken : List ℕ → Type 0
-IsTypeToken digits = IsNumeral 16 digits × (length digits ≡ 8) × (digits_value 16 digits / 2 ^ 24 ≡ 2)
+-- eight hexadecimal digits of a token (III.1.9)
+abbrev pub IsRowToken : List ℕ → Token → Type 0
+IsRowToken digits token = IsNumeral 16 digits × (length digits ≡ 8) × IsToken (digits_value 16 digits) token
 
 -- three decimal digits
 abbrev pub IsCodeNumber : List ℕ → Type 0

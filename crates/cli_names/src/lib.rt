@@ -1,6 +1,6 @@
 //! What an argument of `clim` names.
 //!
-//! [`token_of`], [`offset_of`] and [`type_row_of`] read numbers, [`code_of`] and [`table_of`] find a fault and a table by
+//! [`token_of`], [`offset_of`] and [`row_of`] read numbers, [`code_of`] and [`table_of`] find a fault and a table by
 //! number or name, and [`names_of_type`] takes the full name of a type apart. Nothing here allocates.
 //!
 //! ```text
@@ -14,4 +14,4 @@ mod names;
 mod numbers;
 
 pub use names::{code_of, names_of_type, table_of};
-pub use numbers::{offset_of, token_of, type_row_of};
+pub use numbers::{offset_of, row_of, token_of};

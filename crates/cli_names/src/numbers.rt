@@ -1,13 +1,11 @@
 //! Parses the numbers in arguments.
-ghost use Rattle.std.specs.Prelude.{◌≡◌, ◌<◌, ◌^◌, ◌%◌, ◌≤◌, ℕ, MatchOption};
+ghost use Rattle.std.specs.Prelude.{◌≡◌, ◌<◌, ◌^◌, ◌≤◌, ℕ, IfNone, IfSome, MatchOption};
 ghost use Rattle.std.specs.Option.{SomeIff};
 ghost use Rattle.std.specs.Str.Parse.{IsNumeral, digits_value};
-ghost use Rattle.cli_names.specs.Numbers.{IsCodeNumber, IsHexNumber, IsOffset, IsTableNumber, IsTypeToken, digits_of};
+ghost use Rattle.table_schema.specs.declared.token.Token.{Token as TheToken};
+ghost use Rattle.cli_names.specs.Numbers.{IsCodeNumber, IsHexNumber, IsOffset, IsRowToken, IsTableNumber, digits_of};
 
-use table_schema::TableId;
-
-/// The number of rows that a token can name in a table: its high byte is the table (III.1.9).
-const ROWS: u32 = 1 << 24;
+use table_schema::Token;
 
 /// The number with these one to eight hexadecimal digits, in either case; `None` for any other argument.
 pub fn token_of(word: &str) -> Option<u32>
@@ -29,26 +27,25 @@ fn digits_of(word: &str) -> &str
     digits
 }
 
-/// The row of the token of a type with these eight hexadecimal digits, in either case, of which the first two are `02`
-/// (II.22.37). They may stand after `0x`. `None` for any other argument.
-pub fn type_row_of(word: &str) -> Option<u32>
-    ensures { SomeIff result (IsTypeToken (digits_of word.now)) (digits_value 16 (digits_of word.now) % 2 ^ 24) }
+/// The token with these eight hexadecimal digits, in either case, of which the first two are the number of a table (III.1.9).
+/// They may stand after `0x`. `None` for any other argument.
+pub fn row_of(word: &str) -> Option<Token>
+    ensures sound { IfSome result (IsRowToken (digits_of word.now)) }
+    ensures none { IfNone result ((token : TheToken) → ¬ IsRowToken (digits_of word.now) token) }
 {
-    type_row(digits_of(word))
+    row_with(digits_of(word))
 }
 
-/// The row of the token of a type with these eight hexadecimal digits; `None` for any other text.
-fn type_row(digits: &str) -> Option<u32>
-    ensures { SomeIff result (IsTypeToken digits.now) (digits_value 16 digits.now % 2 ^ 24) }
+/// The token with these eight hexadecimal digits; `None` for any other text.
+fn row_with(digits: &str) -> Option<Token>
+    ensures sound { IfSome result (IsRowToken digits.now) }
+    ensures none { IfNone result ((token : TheToken) → ¬ IsRowToken digits.now token) }
 {
     if digits.len() != 8 {
         return None;
     }
-    let token = token_of(digits)?;
-    if token / ROWS != u32::from(TableId::TypeDef.number()) {
-        return None;
-    }
-    Some(token % ROWS)
+    let number = token_of(digits)?;
+    Token::from_u32(number)
 }
 
 /// The number with these three decimal digits; `None` for any other argument.

@@ -17,4 +17,4 @@ mod several_types;
 
 pub use missing_row::report_missing_row;
 pub use nearest::{nearest_code, nearest_column, nearest_command, nearest_table};
-pub use nearest_type::report_missing_type;
+pub use nearest_type::{Types, report_missing_type};

@@ -1,7 +1,6 @@
 //! The type whose name is nearest to one that no type has.
 ghost use Rattle.std.specs.Prelude.{◌≤◌, ◌<◌};
 ghost use Rattle.table_schema.specs.CellColumns.{cell_count};
-ghost use Rattle.table_schema.specs.declared.table.TableId.TheVariants.{TypeDef};
 ghost use Rattle.opening.specs.Views.{HasModel, row_count};
 
 use crate::nearest::{LONGEST_NAME, edits_below, is_far, limit_of};
@@ -56,16 +55,13 @@ impl fmt::Display for MissingType<'_> {
     }
 }
 
-/// Whether a text of a row of TypeDef is as short as a name that can be near. It looks at no more bytes than that.
-fn is_short(view: &View<'_>, row: u32, cell: usize) -> bool
+/// Whether a text of a row is as short as a name that can be near. It looks at no more bytes than that.
+fn is_short(view: &View<'_>, table: TableId, row: u32, cell: usize) -> bool
     requires first { 1 ≤ row }
-    requires last { row ≤ row_count view.now TypeDef }
-    requires cell { cell < cell_count TypeDef }
+    requires last { row ≤ row_count view.now table }
+    requires cell { cell < cell_count table }
 {
-    match (
-        view.index_in_heap(TableId::TypeDef, row, cell),
-        view.strings_heap(),
-    ) {
+    match (view.index_in_heap(table, row, cell), view.strings_heap()) {
         (Some(index), Some(heap)) if index > 0 => match heap.split_at_checked(index as usize) {
             Some((_, text)) => text.iter().take(LONGEST_NAME + 1).any(|byte| *byte == 0),
             None => false,
@@ -74,19 +70,44 @@ fn is_short(view: &View<'_>, row: u32, cell: usize) -> bool
     }
 }
 
-/// The names of the type in a row of TypeDef; `None` if they are too long to be near.
-#[tactic(auto, unfolding(table_schema::specs::CellColumns::cell_columns))]
-fn names_at<'a>(view: &View<'a>, row: u32) -> Option<TypeName<'a>>
+/// Types that have names.
+#[derive(Clone, Copy)]
+pub enum Types {
+    /// Those of the assembly (II.22.37).
+    Declared,
+    /// Those of other modules that it refers to (II.22.38).
+    Referred,
+}
+
+impl Types {
+    ghost use Rattle.std.specs.Prelude.{◌<◌};
+    ghost use Rattle.table_schema.specs.CellColumns.{cell_count};
+
+    /// Their table. The cells of the names have the same indexes in both.
+    #[tactic(auto, unfolding(table_schema::specs::CellColumns::cell_columns))]
+    fn table(self) -> TableId
+        ensures { 2 < cell_count result }
+    {
+        match self {
+            Types::Declared => TableId::TypeDef,
+            Types::Referred => TableId::TypeRef,
+        }
+    }
+}
+
+/// The names of the type in a row of TypeDef or TypeRef; `None` if they are too long to be near.
+fn names_at<'a>(view: &View<'a>, table: TableId, row: u32) -> Option<TypeName<'a>>
     requires model { HasModel view.now }
     requires first { 1 ≤ row }
-    requires last { row ≤ row_count view.now TypeDef }
+    requires last { row ≤ row_count view.now table }
+    requires cells { 2 < cell_count table }
 {
-    if !is_short(view, row, NAMESPACE) || !is_short(view, row, NAME) {
+    if !is_short(view, table, row, NAMESPACE) || !is_short(view, table, row, NAME) {
         return None;
     }
     Some(TypeName {
-        namespace: text(view, TableId::TypeDef, row, NAMESPACE),
-        name: text(view, TableId::TypeDef, row, NAME),
+        namespace: text(view, table, row, NAMESPACE),
+        name: text(view, table, row, NAME),
     })
 }
 
@@ -119,14 +140,20 @@ fn pairs_of(wanted: TypeName<'_>, found: TypeName<'_>) -> usize {
 
 /// The names of the type that are nearest to those that are wanted; `None` if all are far. Of several the first ones. In a
 /// large file only the first types are compared, up to [`MOST_PAIRS`] pairs of bytes.
-fn nearest_type<'a>(alloc: Global, view: &View<'a>, wanted: TypeName<'_>) -> Option<TypeName<'a>>
+fn nearest_type<'a>(
+    alloc: Global,
+    view: &View<'a>,
+    types: Types,
+    wanted: TypeName<'_>,
+) -> Option<TypeName<'a>>
     requires model { HasModel view.now }
 {
+    let table = types.table();
     let mut limit = limit_of(wanted.name, wanted.namespace.len());
     let mut pairs = MOST_PAIRS;
     let mut nearest = None;
-    for earlier in 0..view.count(TableId::TypeDef) {
-        let Some(found) = names_at(view, earlier + 1) else {
+    for earlier in 0..view.count(table) {
+        let Some(found) = names_at(view, table, earlier + 1) else {
             continue;
         };
         if is_far(wanted.name, found.name, limit) {
@@ -154,23 +181,24 @@ fn wanted_names<'a>(path: &'a str) -> TypeName<'a> {
     TypeName { namespace, name }
 }
 
-/// Reports that no type has this path, or that there is no such row if none was given. If several types have this name, their
-/// full names follow. Otherwise a hint follows with that of the nearest type, unless all are far. It looks at each type twice.
+/// Reports that no type has this path, or that there is no such row if none was given. If several types of the assembly have
+/// this name, their full names follow. Otherwise a hint follows with that of the nearest type, unless all are far. It looks at each type twice.
 /// If the report cannot be written, nothing else changes.
 pub fn report_missing_type<E: Write>(
     alloc: Global,
     bytes: &[u8],
     input: Input,
+    types: Types,
     path: Option<&str>,
     err: &mut E,
 ) {
     let nearest = match (path, open(bytes, input)) {
         (Some(path), Ok(view)) => {
-            if let Some(several) = several_types(alloc, &view, path) {
+            if let (Types::Declared, Some(several)) = (types, several_types(alloc, &view, path)) {
                 let _ = send_message(alloc, &several, err);
                 return;
             }
-            nearest_type(alloc, &view, wanted_names(path))
+            nearest_type(alloc, &view, types, wanted_names(path))
         }
         _ => None,
     };

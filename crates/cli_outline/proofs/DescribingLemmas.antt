@@ -28,7 +28,7 @@ describing_append model class (x ∷ xs) ys a b are more = (
 
 -- ---- the test of a declaring type
 
-table_decides : (a b : TableId) → Decides (tables.eq-value.it a b) (a ≡ b)
+pub table_decides : (a b : TableId) → Decides (tables.eq-value.it a b) (a ≡ b)
 table_decides a b = (λ h. same_true table.the_type tt a b h, λ e. true_same table.the_type a b e)
 
 token_same : (a b : Token) → a.table ≡ b.table → a.row ≡ b.row → a ≡ b

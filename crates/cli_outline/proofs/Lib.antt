@@ -3,3 +3,5 @@ pub mod PrintedLemmas
 pub mod RunLemmas
 mod DescribingLemmas
 mod OrderLemmas
+mod ReferenceLemmas
+mod SubjectLemmas

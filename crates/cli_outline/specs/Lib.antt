@@ -3,5 +3,6 @@ pub mod Describing
 pub mod Orders
 pub mod Outline
 pub mod Printed
+pub mod References
 pub mod Shown
 pub mod Subjects

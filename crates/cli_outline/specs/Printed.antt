@@ -1,5 +1,5 @@
 -- What a printer was asked to print of the outline.
-use Rattle.std.specs.Prelude.{◌≡◌, ◌⊎◌, ℕ, List, [], ◌∷◌, ◌++◌, Option, None, IsSome}
+use Rattle.std.specs.Prelude.{◌≡◌, ◌≢◌, ◌⊎◌, ℕ, List, [], ◌∷◌, ◌++◌, codes, Option, None, Some, IsSome}
 use Rattle.table_schema.specs.declared.token.Token.{Token}
 use Rattle.metadata.specs.Metadata.{Metadata}
 use Rattle.full_names.specs.RowNames.{IsMemberOf}
@@ -10,10 +10,19 @@ use Rattle.cli_outline.specs.Declarations.{declaration_line, has_directive}
 use Rattle.cli_outline.specs.Shown.{shown_rows}
 use Rattle.cli_declarations.specs.Layouts.{IsDeclared}
 
+-- the directive of the entry point (II.6.2.3, II.15.4.1.2) follows the declaration of the row that is it
+abbrev pub IsEntryText : Option Token → Token → List ℕ → Type 0
+IsEntryText entry of text = ((entry ≡ Some of) × (text ≡ codes " .entrypoint")) ⊎ ((entry ≢ Some of) × (text ≡ []))
+
+-- the text of the line of a row
+abbrev pub IsRowText : OutlineOptions → Metadata → Token → List ℕ → Type 0
+IsRowText options model of text =
+    (declared after : List ℕ) × IsDeclared model of declared × IsEntryText options.entry of after × (text ≡ declared ++ after)
+
 -- the line of a row
 abbrev pub IsLine : OutlineOptions → Metadata → Token → List Part → Type 0
 IsLine options model of line =
-    (text : List ℕ) × IsDeclared model of text × (class : Option Token) × IsMemberOf model of.table of.row class
+    (text : List ℕ) × IsRowText options model of text × (class : Option Token) × IsMemberOf model of.table of.row class
     × (line ≡ declaration_line options.tokens of class (has_directive model of) text)
 
 -- the lines of rows, one after another

@@ -1,7 +1,7 @@
 //! The outline of an assembly: its declarations in the notation of ILAsm (ECMA-335 II.5 to II.22), one per line.
 //!
-//! [`print_outline`] prints the outline of a view, [`print_outline_of`] that of one type, and [`print_refs`] what a view
-//! refers to in other modules. [`OutlineOptions`] says what is shown. `specs/Outline.antt` says which
+//! [`print_outline`] prints the outline of a view, [`print_outline_of`] that of one type or row, [`print_refs`] what a view refers
+//! to in other modules, and [`print_refs_of`] what of one type. [`OutlineOptions`] says what is shown. `specs/Outline.antt` says which
 //! rows can have a line, `specs/Orders.antt` in which order, and `specs/Shown.antt` which of them have one. `specs/Layouts.antt` says what the declaration of a row is, as a list of parts,
 //! `specs/Parts.antt` what the text of a part is, and `specs/Declarations.antt` what the line of a declaration is. It is
 //! proved that these lines are printed and nothing else.
@@ -22,9 +22,11 @@ mod mapped;
 mod orders;
 mod outcome;
 mod outline;
+mod references;
 mod source;
 
 pub use cli_paths::Subject;
 pub use outcome::Outcome;
 pub use outline::{print_outline, print_outline_of, print_refs};
+pub use references::print_refs_of;
 pub use source::{OutlineOptions, Rows, Sorting, Tokens};

@@ -1,5 +1,5 @@
 //! The line of a declaration.
-ghost use Rattle.std.specs.Prelude.{◌≡◌, ◌≤◌, ◌∷◌, [], string_bytes, true};
+ghost use Rattle.std.specs.Prelude.{◌≡◌, ◌≤◌, ◌∷◌, [], OnOk, string_bytes, true};
 ghost use Rattle.std.specs.List.{before_first, position};
 ghost use Rattle.metadata.specs.Metadata.{Metadata};
 ghost use Rattle.metadata.specs.Model.{IsModel};
@@ -9,7 +9,7 @@ ghost use Rattle.cli_lines.specs.Printed.{Prints};
 ghost use Rattle.cli_lines.specs.Shown.{shown};
 ghost use Rattle.full_names.specs.RowNames.{IsMemberOf};
 ghost use Rattle.cli_outline.specs.Declarations.{comment_mark, comment_token, declaration_line, directive_part, ends_word, has_directive, json_line, text_line, type_part};
-ghost use Rattle.cli_outline.specs.Printed.{PrintsRows};
+ghost use Rattle.cli_outline.specs.Printed.{IsRowText, PrintsRows};
 ghost use Rattle.cli_outline.specs.Shown.{is_shown};
 ghost use Rattle.cli_outline.specs.declared.source.Tokens.{Tokens as TheTokens};
 
@@ -20,6 +20,7 @@ use cli_lines::Part::{Member, Note, Word};
 use cli_lines::Value::{self, Plain, Text};
 use cli_lines::{Form, Name, Part, Printer};
 use opening::{TableId, Token, View};
+use std::alloc::AllocError;
 use std::io::Write;
 
 /// The cell of the flags of an accessor (II.22.28).
@@ -27,6 +28,9 @@ const SEMANTICS: usize = 0;
 
 /// The flags of accessors that have a word (II.23.1.12).
 const KNOWN_SEMANTICS: u32 = 0x3F;
+
+/// The directive of the entry point (II.6.2.3, II.15.4.1.2).
+const ENTRY_POINT: &str = " .entrypoint";
 
 /// The length of the first word of a declaration, which a space or a parenthesis ends.
 fn end_of_word(text: &[u8]) -> Option<usize>
@@ -148,6 +152,27 @@ fn print_named<W: Write>(
     }
 }
 
+/// Makes a text the declaration of a row, and marks the entry point.
+///
+/// # Errors
+///
+/// Out of memory. The text is unspecified then.
+fn declare_row(
+    source: &Source<'_, '_>,
+    token: Token,
+    declared: &mut Declared,
+) -> Result<(), AllocError>
+    requires first { 1 ≤ token.row }
+    requires last { token.row ≤ row_count source.now.neighbours.view.now token.table }
+    ensures { (model : Metadata) → IsModel source.now.neighbours.view.now model → OnOk result (IsRowText source.now.options model token (string_bytes declared.new.text)) }
+{
+    declare(&source.neighbours, token, declared)?;
+    if source.options.entry == Some(token) {
+        declared.text.push_str(ENTRY_POINT)?;
+    }
+    Ok(())
+}
+
 /// Prints the line of a row: of a member of a type, if that is given.
 pub(crate) fn print_line<W: Write>(
     source: &Source<'_, '_>,
@@ -162,7 +187,7 @@ pub(crate) fn print_line<W: Write>(
     requires shown { (model : Metadata) → IsModel source.now.neighbours.view.now model → is_shown source.now.options model token ≡ true }
     ensures { (model : Metadata) → IsModel source.now.neighbours.view.now model → PrintsRows source.now.options model out.old out.new (token ∷ []) }
 {
-    match declare(&source.neighbours, token, declared) {
+    match declare_row(source, token, declared) {
         Ok(()) => match out.form() {
             Form::Text | Form::Letters => {
                 print_text(source.options.tokens, token, &declared.text, out)

@@ -1,10 +1,10 @@
-/// What became of the outline of one type.
+/// What became of the outline of one type or another row.
 #[derive(Clone, Copy, PartialEq, Eq)]
 pub enum Outcome {
     /// Its lines are printed.
     Printed,
-    /// No type is the subject. Nothing is printed.
+    /// No row is the subject, or the row has no declaration. Nothing is printed.
     NoSuchType,
-    /// Memory ran out before the type was found. Nothing is printed.
+    /// Memory ran out before the row was found. Nothing is printed.
     OutOfMemory,
 }

@@ -13,7 +13,7 @@ ghost use Rattle.cli_outline.specs.Describing.{PrintsType};
 ghost use Rattle.cli_outline.specs.Outline.{all_rows, class_by, class_rows, each_from, first_tables, last_tables, members, outline_rows, ref_tables, refs_rows, row_by, row_of, run_start};
 ghost use Rattle.cli_outline.specs.Orders.{AreOutlineRows, row_in};
 ghost use Rattle.cli_outline.specs.Printed.{PrintsRows, PrintsSome};
-ghost use Rattle.cli_outline.specs.Subjects.{PrintsNone, PrintsSubject};
+ghost use Rattle.cli_outline.specs.Subjects.{PrintsAlone, PrintsNone, PrintsSubject};
 
 use crate::describing::print_describing;
 use crate::laws::{ranges_follow, rows_follow};
@@ -252,8 +252,8 @@ fn print_all<W: Write>(source: &Source<'_, '_>, declared: &mut Declared, out: &m
 /// property come its accessors. Then come the rows of other tables, such as the parameters with default values and the
 /// interfaces of types. EventMap, PropertyMap and MethodSemantics may be in any order: their rows are sorted once.
 ///
-/// With [`Sorting::ByName`] the types stand in the order of their names, and so do of each its fields, its methods, its events
-/// and its properties, and the rows of each other table. Of one name, and of rows without one, the order is that of the bytes of
+/// With [`ByName`](crate::Sorting::ByName) the types stand in the order of their names, and so do the fields, methods, events and
+/// properties of each, and the rows of each other table. Of one name, and of rows without one, the order is that of the bytes of
 /// their declarations. Of name and declaration the first 64 bytes are compared, and 32 MiB more of all that are put in order
 /// together. Each row is named and declared once more for it, and the memory is that of these bytes, the longest line, and
 /// some 60 bytes for each row that is put in order.
@@ -334,9 +334,35 @@ fn print_type<W: Write>(
     }
 }
 
+/// Prints the declaration of a row of another table than TypeDef, if it has one.
+fn print_alone<W: Write>(
+    alloc: Global,
+    view: &View<'_>,
+    token: Token,
+    options: OutlineOptions,
+    out: &mut Printer<'_, W>,
+) -> Outcome
+    requires first { 1 ≤ token.row }
+    requires last { token.row ≤ row_count view.now token.table }
+    ensures printed { (model : Metadata) → IsModel view.now model → PrintsAlone options model token out.old out.new result }
+    ensures untouched { PrintsNone out.old out.new result }
+{
+    match Source::new(alloc, view, options) {
+        Ok(source) => {
+            if !source.declares(token) {
+                return Outcome::NoSuchType;
+            }
+            print_row(&source, None, token, &mut Declared::new(alloc), out);
+            Outcome::Printed
+        }
+        Err(_) => Outcome::OutOfMemory,
+    }
+}
+
 /// Prints the outline of one type of a view: the line of the type, and below it those of its fields, methods, events and
 /// properties, as [`print_outline`] does. Last come the interfaces, generic parameters, constraints, overrides, imports,
 /// permission sets and attributes of the type, its members and their parameters: for this it takes one pass over these tables.
+/// Of a row of another table it prints the line that [`print_outline`] or [`print_refs`] prints of it.
 pub fn print_outline_of<W: Write>(
     alloc: Global,
     view: &View<'_>,
@@ -348,9 +374,12 @@ pub fn print_outline_of<W: Write>(
     ensures untouched { PrintsNone out.old out.new result }
 {
     match found_row(alloc, view, subject) {
-        Ok(Some(row)) => {
-            print_type(alloc, view, row, options, out);
-            Outcome::Printed
+        Ok(Some(token)) => {
+            if token.table == TableId::TypeDef {
+                print_type(alloc, view, token.row, options, out);
+                return Outcome::Printed;
+            }
+            print_alone(alloc, view, token, options, out)
         }
         Ok(None) => Outcome::NoSuchType,
         Err(_) => Outcome::OutOfMemory,

@@ -5,6 +5,7 @@ ghost use Rattle.metadata.specs.Metadata.{Metadata};
 ghost use Rattle.metadata.specs.Model.{IsModel};
 ghost use Rattle.cli_outline.specs.Orders.{AreRowsIn, KeepsRuns, row_in};
 ghost use Rattle.cli_outline.specs.Shown.{asked};
+ghost use Rattle.cli_outline.specs.Subjects.{is_declared_in};
 
 use crate::orders::{TableOrder, orders_by_name, rows_of};
 use navigation::{Link, Neighbours};
@@ -51,6 +52,8 @@ pub struct OutlineOptions {
     pub rows: Rows,
     /// In which order they stand.
     pub sorting: Sorting,
+    /// The method or the file that the program starts in (II.25.3.3.2), if it is known. Its line says so.
+    pub entry: Option<Token>,
 }
 
 /// A view with what finds the neighbours of its rows, and what is shown of it.
@@ -68,6 +71,38 @@ pub(crate) struct Source<'v, 'a> {
     ghost asked: { options.rows ≡ asked visible },
     ghost within: { AreRowsIn neighbours.view.now orders.items },
     ghost kept: { (model : Metadata) → IsModel neighbours.view.now model → KeepsRuns model (row_in orders.items) },
+}
+
+/// Whether the rows of a table have declarations.
+fn is_declared_in(table: TableId) -> bool
+    ensures { result ≡ is_declared_in table }
+{
+    match table {
+        TableId::Assembly
+        | TableId::AssemblyRef
+        | TableId::Module
+        | TableId::ModuleRef
+        | TableId::File
+        | TableId::ManifestResource
+        | TableId::TypeDef
+        | TableId::Field
+        | TableId::MethodDef
+        | TableId::Param
+        | TableId::InterfaceImpl
+        | TableId::GenericParam
+        | TableId::GenericParamConstraint
+        | TableId::ExportedType
+        | TableId::MethodImpl
+        | TableId::Event
+        | TableId::Property
+        | TableId::MethodSemantics
+        | TableId::ImplMap
+        | TableId::DeclSecurity
+        | TableId::CustomAttribute
+        | TableId::TypeRef
+        | TableId::MemberRef => true,
+        _ => false,
+    }
 }
 
 /// The visible rows of a view, if only these are shown.
@@ -97,6 +132,7 @@ impl<'v, 'a> Source<'v, 'a> {
     ghost use Rattle.cli_outline.specs.declared.source.Sorting.TheVariants.{ByName};
     ghost use Rattle.cli_outline.specs.Orders.{IsOrder, row_in};
     ghost use Rattle.cli_outline.specs.Shown.{has_line, is_among, is_shown};
+    ghost use Rattle.cli_outline.specs.Subjects.{is_declared};
 
     /// What the outline of a view is printed from, in the order of the rows.
     ///
@@ -191,6 +227,14 @@ impl<'v, 'a> Source<'v, 'a> {
             }
             _ => true,
         }
+    }
+
+    /// Whether a row has a declaration of its own.
+    pub(crate) fn declares(&self, token: Token) -> bool
+        requires { token.row ≤ row_count self.now.neighbours.view.now token.table }
+        ensures { (model : Metadata) → IsModel self.now.neighbours.view.now model → result ≡ is_declared model token }
+    {
+        is_declared_in(token.table) && self.has_line(token)
     }
 
     /// Whether a row is among those that are asked for.

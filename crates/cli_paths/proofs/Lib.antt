@@ -1,2 +1,3 @@
 mod PathLemmas
+mod RefLemmas
 mod SubjectLemmas

@@ -44,7 +44,7 @@ last_dot (x ∷ a) (y ∷ b) n m p q e =
     let same = last_dot a b n m p q tail in
     (λ i. head i ∷ same.0 i, same.1)
 
-one_name : (part a b n m : List ℕ) → IsFullName part a n → IsFullName part b m → (a ≡ b) × (n ≡ m)
+pub one_name : (part a b n m : List ℕ) → IsFullName part a n → IsFullName part b m → (a ≡ b) × (n ≡ m)
 one_name part a b n m p q =
     elim p.1 [
       | inl x ↦

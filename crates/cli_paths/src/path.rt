@@ -22,7 +22,7 @@ const NAME: usize = 1;
 const NAMESPACE: usize = 2;
 
 /// The parts of a path.
-fn parts_of<'p>(alloc: Global, path: &'p str) -> Result<Vec<&'p str>, AllocError>
+pub(crate) fn parts_of<'p>(alloc: Global, path: &'p str) -> Result<Vec<&'p str>, AllocError>
     ensures { IfOk result (λ parts. map (λ part. part.now) parts.items ≡ slice_split is_slash path.now) }
 {
     path.split('/').collect(alloc)

@@ -10,7 +10,7 @@ use Rattle.table_schema.specs.declared.token.Token.{Token}
 use Rattle.cli_faults.specs.declared.failure.Failure.{Failure}
 use Rattle.cli_faults.specs.declared.stop.Stop.TheVariants.{Failed}
 use Rattle.cli_info.specs.InfoLines.{AreFacts, info_lines}
-use Rattle.cli_input.specs.Checked.{IsWhole, rules_of}
+use Rattle.cli_input.specs.Checked.{IsModelOf, IsWhole, rules_of}
 use Rattle.cli_input.specs.Heads.{AreHeads, HasHeads, rules_of_heads}
 use Rattle.cli_lines.specs.Printed.{Printed, Prints}
 use Rattle.cli_outline.specs.declared.source.OutlineOptions.{OutlineOptions}
@@ -19,7 +19,8 @@ use Rattle.cli_where.specs.Located.{AreListed}
 use Rattle.cli_print.specs.RootLines.{heads_lines}
 use Rattle.cli_runs.specs.Printing.{Hands, HasPrinted}
 use Rattle.cli_runs.specs.Reports.{AreDeclared, AreSomeDeclared, IsListed, OfModel, ended_at, ended_by}
-use Rattle.cli_input.specs.declared.opened.Input.TheVariants.{File}
+use Rattle.cli_input.specs.declared.opened.Input.{Input}
+use Rattle.cli_input.specs.declared.opened.Input.TheVariants.{BareRoot, File}
 use Rattle.metadata.specs.Model.{IsModelOfFile}
 use Rattle.resources.specs.Resources.{Where}
 use Rattle.cli_resources.specs.ResourceLines.{AreLocations, resource_lines}
@@ -60,6 +61,11 @@ module _ {W : Type 0} (request : Request) (name bytes : List ℕ) (old new : Pri
       → OnOk done (OfModel request.input bytes (IsListed (Hands old new) of)) → HasPrinted request name bytes old new (report.Listing of) (ended_by done)
   listing_ended of (Ok done) first same printed = printed
   listing_ended of (Err found) first same printed = (first, same)
+
+-- the model of bytes with a header
+pub model_of_facts : (input : Input) (bytes : List ℕ) (header : Option CliHeader) (model : Metadata) → AreFacts input bytes header model → IsModelOf input bytes model
+model_of_facts BareRoot bytes header model are = are.1
+model_of_facts File bytes header model are = (are.0, are.2)
 
 -- the rows of an outline were handed to a printer
 pub declared : {W : Type 0} (options : OutlineOptions) (old new : Printed W) (model : Metadata) (rows : List Token) → PrintsRows options model old new rows → AreDeclared (Hands old new) options model rows

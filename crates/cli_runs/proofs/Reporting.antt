@@ -1,5 +1,5 @@
 -- What a printer was asked to print of a report, and what went out of it.
-use Rattle.std.proofs.Common.{◌≡◌, ◌≢◌, ℕ, List, [], ◌++◌, Option, None, Some, Result, Ok, Err, append-nil, refl, sym, subst, inl, inr}
+use Rattle.std.proofs.Common.{◌≡◌, ◌≢◌, ℕ, List, [], ◌∷◌, ◌++◌, Option, None, Some, Result, Ok, Err, append-nil, refl, sym, subst, inl, inr}
 use Rattle.std.specs.Prelude.{IfErr, IsSome, OnOk}
 use Rattle.std.specs.Result.{result_and}
 use Rattle.std.specs.Io.KnownBytes.{Appends}
@@ -16,9 +16,8 @@ use Rattle.cli_lines.specs.Printed.{Asked, Printed}
 use Rattle.cli_sending.specs.Sent.{Sent}
 use Rattle.cli_regions.specs.Regions.{Region}
 use Rattle.cli_where.specs.Located.{HasContents, where_lines}
-use Rattle.cli_where.specs.declared.report.Found.{Found as FoundAt}
-use Rattle.cli_where.specs.declared.report.Found.TheVariants.{Nothing, Something}
 use Rattle.cli_outline.specs.declared.source.OutlineOptions.{OutlineOptions}
+use Rattle.cli_runs.specs.Entries.{entered}
 use Rattle.cli_runs.specs.Printing.{AreNone, Hands, HasPrinted}
 use Rattle.cli_runs.specs.Reports.{AreDeclared, AreNamed, AreOut, AreSomeDeclared, HasEnded, IsFaultOut, IsListed, IsPrinted, IsStopped, OfModel, everything, lead_of, style_of, verdict_lines}
 use Rattle.cli_runs.specs.Runs.{AreCut, AreSent, IsReported}
@@ -33,14 +32,14 @@ use Rattle.cli_runs.specs.declared.report.Verdict.{Verdict}
 use Rattle.cli_runs.specs.declared.report.Verdict.TheVariants as verdict
 
 -- what follows from what is true of the lines of contents
-pub contents_weaker : (found : FoundAt) (input : Input) (bytes : List ℕ) (offset : ℕ) (P Q : List (List Part) → Type 0) → ((lines : List (List Part)) → P lines → Q lines)
-    → HasContents found input bytes offset P → HasContents found input bytes offset Q
-contents_weaker Something File bytes offset P Q follows has = λ header model file.
-    let of = has header model file in
-    (of.0, of.1, follows _ of.2)
-contents_weaker Something BareRoot bytes offset P Q follows has = follows _ has
-contents_weaker Nothing File bytes offset P Q follows has = follows _ has
-contents_weaker Nothing BareRoot bytes offset P Q follows has = follows _ has
+pub contents_weaker : (structures : List Region) (input : Input) (bytes : List ℕ) (offset : ℕ) (P Q : List (List Part) → Type 0) → ((lines : List (List Part)) → P lines → Q lines)
+    → HasContents structures input bytes offset P → HasContents structures input bytes offset Q
+contents_weaker [] File bytes offset P Q follows has = follows _ has
+contents_weaker [] BareRoot bytes offset P Q follows has = follows _ has
+contents_weaker (of ∷ later) File bytes offset P Q follows has = λ header model file.
+    let is = has header model file in
+    (is.0, is.1, follows _ is.2)
+contents_weaker (of ∷ later) BareRoot bytes offset P Q follows has = λ model is. follows _ (has model is)
 
 -- ---- what went out of a report, if each of its lines does
 
@@ -52,17 +51,16 @@ module _ (P Q : Type 0 → List (List Part) → Type 0) (weaker : (all : Type 0)
   some_weaker options model Are (inl out) = inl (out.0, out.1, declared_weaker options model _ out.2)
   some_weaker options model Are (inr out) = inr (weaker _ _ out)
 
-  where_weaker : (found : FoundAt) (input : Input) (bytes : List ℕ) (offset : ℕ) (structures : List Region)
-      → HasContents found input bytes offset (λ contents. AreOut P (where_lines structures ++ contents))
-      → HasContents found input bytes offset (λ contents. AreOut Q (where_lines structures ++ contents))
-  where_weaker found input bytes offset structures has =
-      contents_weaker found input bytes offset (λ contents. AreOut P (where_lines structures ++ contents)) (λ contents. AreOut Q (where_lines structures ++ contents))
+  where_weaker : (input : Input) (bytes : List ℕ) (offset : ℕ) (structures : List Region)
+      → HasContents structures input bytes offset (λ contents. AreOut P (where_lines structures ++ contents))
+      → HasContents structures input bytes offset (λ contents. AreOut Q (where_lines structures ++ contents))
+  where_weaker input bytes offset structures has =
+      contents_weaker structures input bytes offset (λ contents. AreOut P (where_lines structures ++ contents)) (λ contents. AreOut Q (where_lines structures ++ contents))
       (λ lines are. weaker (Unit {0}) (where_lines structures ++ lines) are) has
 
   listed_weaker : (of : Listing) (model : Metadata) → IsListed P of model → IsListed Q of model
   listed_weaker (listing.Show table names) model out = weaker _ _ out
   listed_weaker listing.Types model out = weaker _ _ out
-  listed_weaker (listing.Outline options) model out = some_weaker options model _ out
   listed_weaker listing.Refs model out = declared_weaker everything model _ out
 
   fault_weaker : (of : Verdict) (input : Input) (bytes : List ℕ) (file : Option (List ℕ)) (found : Fault) → IsFaultOut P of input bytes file found → IsFaultOut Q of input bytes file found
@@ -84,10 +82,14 @@ module _ (P Q : Type 0 → List (List Part) → Type 0) (weaker : (all : Type 0)
     printed_weaker (report.Listing of) out = (out.0, (λ model is. listed_weaker of model (out.1 model is)))
     printed_weaker (report.Check of) out = (out.0, weaker _ _ out.1)
     printed_weaker (report.ShowUntilFault table names) out = (out.0, (λ model is. weaker _ _ (out.1 model is)))
+    printed_weaker (report.Outline options) out =
+        (out.0, (λ header model are. let at = out.1 header model are in (at.0, at.1, some_weaker (entered options at.0) model _ at.2)))
     printed_weaker (report.OutlineOf subject options) out =
-        (out.0, (λ model is. let at = out.1 model is in (at.0, at.1, some_weaker options model _ at.2)))
+        (out.0, (λ header model are. let at = out.1 header model are in (at.0, at.1, (at.2.0, at.2.1, at.2.2, some_weaker (entered options at.0) model _ at.2.3))))
+    printed_weaker (report.RefsOf subject) out =
+        (out.0, (λ model is. let at = out.1 model is in (at.0, (at.1.0, at.1.1, declared_weaker everything model _ at.1.2))))
     printed_weaker (report.Tokens numbers) out = (out.0, out.1, out.2, named_weaker numbers.items out.3)
-    printed_weaker (report.Where offset) out = (out.0, (out.1.0, out.1.1, out.1.2, where_weaker Something request.input bytes offset out.1.0 out.1.3))
+    printed_weaker (report.Where offset) out = (out.0, (out.1.0, out.1.1, out.1.2, where_weaker request.input bytes offset out.1.0 out.1.3))
     printed_weaker report.Digest out = (out.0, out.1, weaker _ _ out.2)
 
     stopped_weaker : (of : Report) (why : Stop) → IsStopped P request name bytes of why → IsStopped Q request name bytes of why
@@ -96,7 +98,7 @@ module _ (P Q : Type 0 → List (List Part) → Type 0) (weaker : (all : Type 0)
     stopped_weaker (report.ShowUntilFault table names) why out = (out.0, out.1, out.2, (out.3.0, out.3.1, weaker _ _ out.3.2))
     stopped_weaker (report.Tokens numbers) why out =
         (out.0, out.1, out.2, out.3, out.4, out.5, out.6, out.7, out.8, named_weaker out.3 out.9)
-    stopped_weaker (report.Where offset) why (inl out) = inl (out.0, out.1, (out.2.0, out.2.1, out.2.2, where_weaker Nothing request.input bytes offset out.2.0 out.2.3))
+    stopped_weaker (report.Where offset) why (inl out) = inl (out.0, out.1, (out.2.0, out.2.1, out.2.2, where_weaker request.input bytes offset out.2.0 out.2.3))
     stopped_weaker (report.Where offset) why (inr out) = inr (out.0, out.1, out.2, (out.3.0, out.3.1, weaker _ _ out.3.2))
     stopped_weaker _ why out = absurd out
 

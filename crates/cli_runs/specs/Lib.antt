@@ -1,4 +1,5 @@
 pub mod Extracted
 pub mod Printing
+pub mod Entries
 pub mod Reports
 pub mod Runs

@@ -35,11 +35,13 @@ use Rattle.cli_cells.specs.Before.{AreLinesBefore}
 use Rattle.cli_cells.specs.RowLines.{show_lines}
 use Rattle.cli_cells.specs.TokenLines.{AreTokenLines, IsNamed}
 use Rattle.cli_info.specs.InfoLines.{AreFacts, info_lines}
-use Rattle.cli_outline.specs.Describing.{AreTypeRows}
 use Rattle.cli_outline.specs.Orders.{AreOutlineRows}
 use Rattle.cli_outline.specs.Outline.{refs_rows}
 use Rattle.cli_outline.specs.Printed.{AreLines}
+use Rattle.cli_outline.specs.References.{AreRefsOf}
 use Rattle.cli_outline.specs.Shown.{shown_rows}
+use Rattle.cli_outline.specs.Subjects.{AreSubjectRows, is_declared}
+use Rattle.cli_paths.specs.Refs.{HasSome, IsMeantRef}
 use Rattle.cli_paths.specs.Subjects.{IsSubject}
 use Rattle.cli_outline.specs.declared.source.OutlineOptions.{OutlineOptions}
 use Rattle.cli_outline.specs.declared.source.Rows.TheVariants as rows_of
@@ -62,6 +64,7 @@ use Rattle.cli_where.specs.declared.report.Found.TheVariants.{Nothing, Something
 use Rattle.cli_where.specs.declared.walk.Reach.TheVariants.{Cells, Entries}
 use Rattle.cli_roots.specs.Budget.{IsSpent}
 use Rattle.cli_roots.specs.Rewritten.{IsRewritten, ReportsUnwritten}
+use Rattle.cli_runs.specs.Entries.{OfEntered, entered}
 use Rattle.cli_runs.specs.declared.report.Ended.{Ended}
 use Rattle.cli_runs.specs.declared.report.Ended.TheVariants.{Printed, Refused, Stopped}
 use Rattle.cli_runs.specs.declared.report.Listing.{Listing}
@@ -139,8 +142,11 @@ IsRefused request bytes of BudgetSpent = IsSpent request.budget request.input by
 IsRefused request bytes report.Root (Failed (Fault found)) = FirstBroken (rules_of_heads request.input bytes) found
 IsRefused request bytes (report.Check verdict) (Failed (Fault found)) =
     (is_reported verdict request.form request.naming ≡ true) × FirstBroken (rules_of request.input bytes) found
-IsRefused request bytes (report.OutlineOf subject options) NoSuchType = OfModel request.input bytes (λ model. (row : ℕ) → ¬ IsSubject model subject row)
+IsRefused request bytes (report.OutlineOf subject options) NoSuchType =
+    OfModel request.input bytes (λ model. (of : Token) → IsSubject model subject of → is_declared model of ≡ false)
 IsRefused request bytes (report.OutlineOf subject options) (Failed OutOfMemory) = IsWhole request.input bytes
+IsRefused request bytes (report.RefsOf subject) NoSuchType = OfModel request.input bytes (λ model. ¬ HasSome model (IsMeantRef model subject))
+IsRefused request bytes (report.RefsOf subject) (Failed OutOfMemory) = IsWhole request.input bytes
 IsRefused request bytes (report.Check Explained) (Failed OutOfMemory) = Unit {0}
 IsRefused request bytes report.Strings (Failed OutOfMemory) = Unit {0}
 IsRefused request bytes report.Resources (Failed (Fault found)) = FirstBroken (rules_of_file bytes) found
@@ -155,7 +161,7 @@ IsRefused request bytes of stop = ⊥
 
 -- an outline that shows everything, in the order of the rows
 abbrev pub everything : OutlineOptions
-everything = record { tokens = Shown; rows = rows_of.All; sorting = ByRow }
+everything = record { tokens = Shown; rows = rows_of.All; sorting = ByRow; entry = None }
 
 -- `Out All lines`: these lines went out, and they are all lines of the report if `All` holds
 module _ (Out : Type 0 → List (List Part) → Type 0) where
@@ -172,6 +178,10 @@ module _ (Out : Type 0 → List (List Part) → Type 0) where
   abbrev pub AreSomeDeclared : OutlineOptions → Metadata → (List Token → Type 0) → Type 0
   AreSomeDeclared options model Are = ((rows : List Token) × Are rows × AreDeclared options model rows) ⊎ Out ⊥ []
 
+  -- with these options
+  abbrev pub IsDeclaredBy : Metadata → OutlineOptions → (OutlineOptions → List Token → Type 0) → Type 0
+  IsDeclaredBy model options Are = AreSomeDeclared options model (Are options)
+
   -- what numbers name in a model went out
   abbrev pub AreNamed : List ℕ → Metadata → Type 0
   AreNamed numbers model = (lines : List (List Part)) × AreTokenLines model numbers lines × AreOut lines
@@ -180,7 +190,6 @@ module _ (Out : Type 0 → List (List Part) → Type 0) where
   abbrev pub IsListed : Listing → Metadata → Type 0
   IsListed (listing.Show table names) model = AreOut (show_lines names model (tables_of table))
   IsListed listing.Types model = AreOut (types_lines model)
-  IsListed (listing.Outline options) model = AreSomeDeclared options model (AreOutlineRows options model)
   IsListed listing.Refs model = AreDeclared everything model (refs_rows model)
 
   -- this fault went out, with what is asked about it
@@ -196,7 +205,7 @@ module _ (Out : Type 0 → List (List Part) → Type 0) where
     abbrev pub IsLocated : ℕ → FoundAt → Type 0
     IsLocated offset found =
         (structures : List Region) × AreStructuresAt request.input Entries bytes offset structures × (found ≡ found_of structures)
-        × HasContents found request.input bytes offset (λ contents. AreOut (where_lines structures ++ contents))
+        × HasContents structures request.input bytes offset (λ contents. AreOut (where_lines structures ++ contents))
 
     -- the lines of the headers went out
     abbrev pub AreHeadsOut : Type 0
@@ -220,8 +229,13 @@ module _ (Out : Type 0 → List (List Part) → Type 0) where
     IsPrinted (report.Listing listing) = OfModel request.input bytes (IsListed listing)
     IsPrinted (report.Check verdict) = IsWhole request.input bytes × AreOut (verdict_lines verdict (label request.naming name) None)
     IsPrinted (report.ShowUntilFault table names) = OfModel request.input bytes (IsListed (listing.Show table names))
+    IsPrinted (report.Outline options) = OfEntered request.input bytes (λ entry model. IsDeclaredBy model (entered options entry) (λ by. AreOutlineRows by model))
     IsPrinted (report.OutlineOf subject options) =
-        OfModel request.input bytes (λ model. (row : ℕ) × IsSubject model subject row × AreSomeDeclared options model (AreTypeRows options model row))
+        OfEntered request.input bytes
+        (λ entry model. (of : Token) × IsSubject model subject of × (is_declared model of ≡ true) × IsDeclaredBy model (entered options entry) (λ by. AreSubjectRows by model of))
+    IsPrinted (report.RefsOf subject) =
+        OfModel request.input bytes
+        (λ model. HasSome model (IsMeantRef model subject) × ((found : List Token) × AreRefsOf model subject found × AreDeclared everything model found))
     IsPrinted (report.Tokens numbers) =
         (root : List ℕ) × IsOpened request.input bytes root × All (IsNamed root) numbers.items × OfModel request.input bytes (AreNamed numbers.items)
     IsPrinted (report.Where offset) = IsWhole request.input bytes × IsLocated offset Something

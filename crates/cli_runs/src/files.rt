@@ -10,7 +10,7 @@ use crate::report::{Directories, Ended, Naming, Report, Request};
 use crate::tree::{report_others, run_tree};
 use cli_faults::{Failure, Stop};
 use cli_files::{STANDARD_INPUT, Stopped, out_of_memory, read_into, status};
-use cli_nearest::{report_missing_row, report_missing_type};
+use cli_nearest::{Types, report_missing_row, report_missing_type};
 use cli_outline::Subject;
 use cli_walk::{Unread, refuse};
 use std::alloc::{AllocError, Global};
@@ -236,12 +236,20 @@ fn report_end<E: Write>(
     }
 }
 
-/// The path of a type, if it is asked for by that.
-fn path_of(subject: Subject<'_>) -> Option<&str> {
-    match subject {
+/// Reports that no type of these is the subject.
+fn report_missing<E: Write>(
+    alloc: Global,
+    request: &Request<'_>,
+    types: Types,
+    subject: Subject<'_>,
+    bytes: &[u8],
+    err: &mut E,
+) {
+    let path = match subject {
         Subject::Path(path) => Some(path),
         Subject::Row(_) => None,
-    }
+    };
+    report_missing_type(alloc, bytes, request.input, types, path, err);
 }
 
 /// Reports to `err` why a report on a file stopped, and returns the exit code. If no type of the only file has the name that was
@@ -260,7 +268,11 @@ fn report_stop<E: Write>(
 {
     match (&stop, &request.report, request.naming) {
         (Stop::NoSuchType, Report::OutlineOf(subject, _), Naming::Alone) => {
-            report_missing_type(alloc, bytes, request.input, path_of(*subject), err);
+            report_missing(alloc, request, Types::Declared, *subject, bytes, err);
+            stop.status()
+        }
+        (Stop::NoSuchType, Report::RefsOf(subject), Naming::Alone) => {
+            report_missing(alloc, request, Types::Referred, *subject, bytes, err);
             stop.status()
         }
         (Stop::Failed(Failure::NoSuchRow), Report::Tokens(numbers), _) => {

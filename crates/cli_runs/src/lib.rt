@@ -10,6 +10,7 @@
 //! ```
 #![tactic(auto)]
 
+mod entry;
 mod explain;
 mod extract;
 mod files;

@@ -9,6 +9,7 @@ ghost use Rattle.metadata.specs.Metadata.{Metadata};
 ghost use Rattle.metadata.specs.Model.{IsModel};
 ghost use Rattle.packed.specs.Rule.{FirstBroken};
 
+use crate::entry::{entered, open_entered};
 use crate::print_check::print_check;
 use crate::report::{Ended, Listing, Report, Request, ended_at, ended_by};
 use cli_cells::{Names, print_show, print_tokens, print_until_fault};
@@ -18,7 +19,7 @@ use cli_input::{Input, open};
 use cli_lines::Printer;
 use cli_outline::{
     Outcome, OutlineOptions, Rows, Sorting, Subject, Tokens, print_outline, print_outline_of,
-    print_refs,
+    print_refs, print_refs_of,
 };
 use cli_print::{print_digest, print_root, print_root_until_fault, print_types};
 use cli_resources::print_resources;
@@ -57,9 +58,11 @@ pub(crate) fn print_report<'a, W: Write>(
         Report::ShowUntilFault(table, names) => {
             print_first_rows(alloc, request, table, *names, name, bytes, out)
         }
+        Report::Outline(options) => print_all(alloc, request, *options, name, bytes, out),
         Report::OutlineOf(subject, options) => {
-            print_type(alloc, request, *subject, *options, name, bytes, out)
+            print_row(alloc, request, *subject, *options, name, bytes, out)
         }
+        Report::RefsOf(subject) => print_type_refs(alloc, request, *subject, name, bytes, out),
         Report::Tokens(numbers) => print_named(alloc, request, numbers, name, bytes, out),
         Report::Where(offset) => print_at(alloc, request, *offset, name, bytes, out),
         Report::Digest => print_digest_of(alloc, request, name, bytes, out),
@@ -99,7 +102,6 @@ fn print_view<W: Write>(alloc: Global, listing: Listing, view: &View<'_>, out: &
     match listing {
         Listing::Show(table, names) => print_show(alloc, view, tables_of(&table), names, out),
         Listing::Types => print_types(view, out),
-        Listing::Outline(options) => print_outline(alloc, view, options, out),
         Listing::Refs => print_refs(alloc, view, everything(), out),
     }
 }
@@ -112,6 +114,7 @@ fn everything() -> OutlineOptions
         tokens: Tokens::Shown,
         rows: Rows::All,
         sorting: Sorting::ByRow,
+        entry: None,
     }
 }
 
@@ -175,8 +178,28 @@ fn print_first_rows<'a, W: Write>(
     }
 }
 
-/// Prints the declarations of one type.
-fn print_type<'a, W: Write>(
+/// Prints the declarations.
+fn print_all<'a, W: Write>(
+    alloc: Global,
+    request: &Request<'_>,
+    options: OutlineOptions,
+    name: &str,
+    bytes: &[u8],
+    out: &mut Printer<'_, W>,
+) -> Ended<'a>
+    ensures { HasPrinted request.now name.now bytes.now out.old out.new (report.Outline options) result }
+{
+    match open_entered(bytes, request.input) {
+        Ok((entry, view)) => {
+            print_outline(alloc, &view, entered(options, entry), out);
+            Ended::Printed
+        }
+        Err(fault) => Ended::Refused(Stop::Failed(Failure::Fault(fault))),
+    }
+}
+
+/// Prints the declarations of one type, or of another row.
+fn print_row<'a, W: Write>(
     alloc: Global,
     request: &Request<'_>,
     subject: Subject<'_>,
@@ -187,8 +210,31 @@ fn print_type<'a, W: Write>(
 ) -> Ended<'a>
     ensures { HasPrinted request.now name.now bytes.now out.old out.new (report.OutlineOf subject.entry options) result }
 {
+    match open_entered(bytes, request.input) {
+        Ok((entry, view)) => {
+            match print_outline_of(alloc, &view, subject, entered(options, entry), out) {
+                Outcome::Printed => Ended::Printed,
+                Outcome::NoSuchType => Ended::Refused(Stop::NoSuchType),
+                Outcome::OutOfMemory => Ended::Refused(Stop::Failed(Failure::OutOfMemory)),
+            }
+        }
+        Err(fault) => Ended::Refused(Stop::Failed(Failure::Fault(fault))),
+    }
+}
+
+/// Prints what is referred to of one type of other modules.
+fn print_type_refs<'a, W: Write>(
+    alloc: Global,
+    request: &Request<'_>,
+    subject: Subject<'_>,
+    name: &str,
+    bytes: &[u8],
+    out: &mut Printer<'_, W>,
+) -> Ended<'a>
+    ensures { HasPrinted request.now name.now bytes.now out.old out.new (report.RefsOf subject.entry) result }
+{
     match open(bytes, request.input) {
-        Ok(view) => match print_outline_of(alloc, &view, subject, options, out) {
+        Ok(view) => match print_refs_of(alloc, &view, subject, everything(), out) {
             Outcome::Printed => Ended::Printed,
             Outcome::NoSuchType => Ended::Refused(Stop::NoSuchType),
             Outcome::OutOfMemory => Ended::Refused(Stop::Failed(Failure::OutOfMemory)),

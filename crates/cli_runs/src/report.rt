@@ -18,8 +18,6 @@ pub enum Listing {
     Show(Option<TableId>, Names),
     /// The types, one per line (II.22.37).
     Types,
-    /// The declarations.
-    Outline(OutlineOptions),
     /// What is referred to in other modules.
     Refs,
 }
@@ -54,8 +52,12 @@ pub enum Report<'a> {
     Check(Verdict),
     /// The rows of all tables, or of one, that come before its first broken rule.
     ShowUntilFault(Option<TableId>, Names),
-    /// The declarations of one type.
+    /// The declarations.
+    Outline(OutlineOptions),
+    /// The declarations of one type, or of another row.
     OutlineOf(Subject<'a>, OutlineOptions),
+    /// What is referred to of one type of other modules.
+    RefsOf(Subject<'a>),
     /// The row or the user string that each of these tokens names.
     Tokens(Vec<u32>),
     /// What has the byte at this offset.

@@ -5,7 +5,7 @@ pub(crate) const USAGE: Usage<'static> = Usage {
     name: "outline",
     about: "Print the declarations of the assembly, or of one type",
     arguments: &[
-        argument!["FILE" AnyNumber "The files to read, then the type to print alone, if it is one"],
+        argument!["FILE" AnyNumber "The files to read, then the type or the row to print alone, if any"],
         BARE,
         BUDGET,
         FILES_FROM,
@@ -51,13 +51,21 @@ alone. A nested type follows the type that encloses it and a slash, as in
 quotes; a name with a dot or a slash of its own is found by its token. If
 several types have the same full name, the first one is printed. If no type has
 it, a NAME without a dot or a slash stands for the only type of this name, in
-any namespace or type. Eight hexadecimal digits that begin with 02 are a token
-instead. Only that type, its fields, methods, events and properties are printed,
-and then the default values of parameters, interfaces, generic parameters,
-constraints, overrides, imports, permission sets and attributes of these and of
-the methods' parameters. If FILE has no such type, 'no such type' is written to
-standard error, and the exit status is 1. If several types have the name, the
-first 20 of them are listed instead.
+any namespace or type. Only that type, its fields, methods, events and
+properties are printed, and then the default values of parameters, interfaces,
+generic parameters, constraints, overrides, imports, permission sets and
+attributes of these and of the methods' parameters. If FILE has no such type,
+'no such type' is written to standard error, and the exit status is 1. If
+several types have the name, the first 20 of them are listed instead.
+
+Eight hexadecimal digits that begin with the number of a table are a token
+instead. That of TypeDef (02) stands for the type. Of a row of another table the
+line is printed that it has here or in 'clim refs'. A row without such a line,
+as that of a TypeSpec or of a parameter without a default value, is reported as
+'no such type'.
+
+The method or the file that the CLI header of FILE names as the entry point has
+'.entrypoint' at the end of its declaration (II.25.3.3.2). A bare root has none.
 
 '--no-tokens' leaves the comment with the token away, so that 'diff' compares
 the outlines of two versions.
@@ -97,5 +105,7 @@ Examples:
     .field private int32 N.C::b  // 04000002
     .method public void N.C::M() cil managed  // 06000001
   $ clim outline --bare two_types.root 02000001
-  .class private auto ansi '<Module>'  // 02000001",
+  .class private auto ansi '<Module>'  // 02000001
+  $ clim outline --bare two_types.root 04000002
+    .field private int32 N.C::b  // 04000002",
 };

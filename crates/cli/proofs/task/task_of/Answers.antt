@@ -25,3 +25,7 @@ returns-in-Token c =
 pub returns-in-Where : goal.returns-in-Where
 returns-in-Where c =
     subst (λ (of : Subcommand). IsTask of c.args.ask.now c.on_files-in-Where.result) (sym c.in-Where.is) (c.where_of.result, c.where_of.ensures, c.on_files-in-Where.ensures)
+
+pub returns-in-Refs : goal.returns-in-Refs
+returns-in-Refs c =
+    subst (λ (of : Subcommand). IsTask of c.args.ask.now c.on_files-in-Refs.result) (sym c.in-Refs.is) (Ok c.refs_of.result, c.refs_of.ensures, c.on_files-in-Refs.ensures)

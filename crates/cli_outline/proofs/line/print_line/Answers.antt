@@ -11,7 +11,7 @@ pub returns-in-Text : goal.returns-in-Text
 returns-in-Text g c = λ model is.
     let options = c.args.source.now.options in
     let of = c.args.token in
-    let text = string_bytes c.declare.new.declared.text in
+    let text = string_bytes c.declare_row.new.declared.text in
     row_printed options model c.args.out.now c.print_text.new.out of _ (c.requires.shown model is) (text, c.in-Ok.ensures model is, c.args.class, c.requires.member model is, refl)
     (text_printed c.args.out.now c.print_text.new.out options.tokens of c.args.class (has_directive model of) text
     (λ json. elim c.in-Text.is [
@@ -24,7 +24,7 @@ pub returns-in-JsonLines : goal.returns-in-JsonLines
 returns-in-JsonLines g c = λ model is.
     let options = c.args.source.now.options in
     let of = c.args.token in
-    let text = string_bytes c.declare.new.declared.text in
+    let text = string_bytes c.declare_row.new.declared.text in
     row_printed options model c.args.out.now c.print_named.new.out of _ (c.requires.shown model is) (text, c.in-Ok.ensures model is, c.args.class, c.requires.member model is, refl)
     (subst (λ (directive : Bool). Prints c.args.out.now c.print_named.new.out (declaration_line options.tokens of c.args.class directive text ∷ []))
     (c.has_directive-has_directive.ensures model is) (c.print_named.ensures (sym c.form.ensures ∙ c.in-JsonLines.is) options.tokens))

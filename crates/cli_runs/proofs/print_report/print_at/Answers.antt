@@ -1,9 +1,7 @@
-use Rattle.std.proofs.Common.{◌++◌, ◌∙◌, List, inl, refl, subst, sym}
+use Rattle.std.proofs.Common.{◌++◌, ◌∙◌, List, inl, refl, sym}
 use Rattle.cli_lines.specs.Lines.{Part}
 use Rattle.cli_lines.specs.Printed.{Prints}
-use Rattle.cli_where.specs.Located.{HasContents, where_lines}
-use Rattle.cli_where.specs.declared.report.Found.{Found}
-use Rattle.cli_where.specs.declared.report.Found.TheVariants.{Nothing, Something}
+use Rattle.cli_where.specs.Located.{where_lines}
 use Rattle.cli_runs.proofs.Reporting.{contents_weaker}
 use Rattle.cli_runs.specs.Printing.{Hands}
 use Rattle.cli_runs.specs.Reports.{AreOut}
@@ -14,14 +12,13 @@ returns-in-Ok-Something g c =
     let found = c.in-Ok-Something.ensures.1 in
     let is = c.in-Ok-Something.field-0-is in
     let P : List (List Part) → Type 0 = λ contents. Prints c.args.out.now c.print_where.new.out (where_lines found.0 ++ contents) in
-    let Q : List (List Part) → Type 0 = λ contents. AreOut (Hands c.args.out.now c.print_where.new.out) (where_lines found.0 ++ contents) in
-    let Has : Found → Type 0 = λ f. HasContents f c.args.request.now.input c.args.bytes.now c.args.offset P in (
+    let Q : List (List Part) → Type 0 = λ contents. AreOut (Hands c.args.out.now c.print_where.new.out) (where_lines found.0 ++ contents) in (
       c.in-Ok-Something.ensures.0,
       (
         found.0,
         found.1,
         sym is ∙ found.2,
-        contents_weaker Something c.args.request.now.input c.args.bytes.now c.args.offset P Q (λ lines are. (are, (λ live. tt))) (subst Has is found.3),
+        contents_weaker found.0 c.args.request.now.input c.args.bytes.now c.args.offset P Q (λ lines are. (are, (λ live. tt))) found.3,
       ),
     )
 
@@ -31,7 +28,6 @@ returns-in-Ok-Nothing g c =
     let is = c.in-Ok-Nothing.field-0-is in
     let P : List (List Part) → Type 0 = λ contents. Prints c.args.out.now c.print_where.new.out (where_lines found.0 ++ contents) in
     let Q : List (List Part) → Type 0 = λ contents. AreOut (Hands c.args.out.now c.print_where.new.out) (where_lines found.0 ++ contents) in
-    let Has : Found → Type 0 = λ f. HasContents f c.args.request.now.input c.args.bytes.now c.args.offset P in
     inl (
       refl,
       c.in-Ok-Nothing.ensures.0,
@@ -39,6 +35,6 @@ returns-in-Ok-Nothing g c =
         found.0,
         found.1,
         sym is ∙ found.2,
-        contents_weaker Nothing c.args.request.now.input c.args.bytes.now c.args.offset P Q (λ lines are. (are, (λ live. tt))) (subst Has is found.3),
+        contents_weaker found.0 c.args.request.now.input c.args.bytes.now c.args.offset P Q (λ lines are. (are, (λ live. tt))) found.3,
       ),
     )

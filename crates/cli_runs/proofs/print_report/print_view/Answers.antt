@@ -3,7 +3,7 @@ use Rattle.cli_outline.specs.Outline.{refs_rows}
 use Rattle.cli_outline.specs.Printed.{PrintsRows}
 use Rattle.cli_outline.specs.declared.source.OutlineOptions.{OutlineOptions}
 use Rattle.cli_runs.specs.Reports.{everything}
-use Rattle.cli_runs.proofs.Printings.{declared, some_declared}
+use Rattle.cli_runs.proofs.Printings.{declared}
 use Rattle.cli_runs.proofs.print_report.print_view.Goals as goal
 
 pub returns-in-Show : goal.returns-in-Show
@@ -11,9 +11,6 @@ returns-in-Show g c model is = rw c.in-Show.is (rw c.tables_of.ensures at (c.pri
 
 pub returns-in-Types : goal.returns-in-Types
 returns-in-Types g c model is = rw c.in-Types.is (c.print_types.ensures model is, (λ live. tt))
-
-pub returns-in-Outline : goal.returns-in-Outline
-returns-in-Outline g c model is = rw c.in-Outline.is (some_declared c.in-Outline.options c.args.out.now c.print_outline.new.out model _ (c.print_outline.ensures model is))
 
 pub returns-in-Refs : goal.returns-in-Refs
 returns-in-Refs g c model is = rw c.in-Refs.is (declared everything c.args.out.now c.print_refs.new.out model _

@@ -1,0 +1,181 @@
+-- The types of other modules that an argument means, and what belongs to them.
+use Rattle.std.proofs.Common.{◌≡◌, ◌∙◌, ◌↔◌, ◌==◌, Bool, true, false, cond, IsTrue, ℕ, zero, suc, ◌<◌, List, [], ◌∷◌, ◌++◌, Option, None, Some, get_or, length, map, refl, ap, sym, subst, arith}
+use Rattle.std.specs.Borrow.{Bor}
+use Rattle.std.specs.Prelude.{IfNone, IfSome, is_some, not, option_map, slice_index_or}
+use Rattle.std.proofs.lemmas.List.{get_or_default, length-map}
+use Rattle.std.proofs.Math.ListN.{get_or-map}
+use Rattle.packed.specs.Packed.{IsPacked}
+use Rattle.packed.specs.Prefix.{unsigned_at}
+use Rattle.table_schema.specs.declared.column.SigKind.TheVariants as column
+use Rattle.table_schema.specs.declared.coded.Coded.TheVariants.{TypeDefOrRef}
+use Rattle.table_schema.specs.declared.table.TableId.{TableId}
+use Rattle.table_schema.specs.declared.table.TableId.TheVariants.{TypeRef}
+use Rattle.table_schema.specs.declared.token.Token.{Token}
+use Rattle.table_schema.specs.CodedIndexes.{IsCoded}
+use Rattle.sig_grammar.specs.declared.element.Element.{Element}
+use Rattle.sig_grammar.specs.declared.element.Element.TheVariants.{Boolean, Char, I1, U1, I2, U2, I4, U4, I8, U8, R4, R8, String, I, U, Object}
+use Rattle.sig_grammar.specs.declared.types.Modifier.{Modifier}
+use Rattle.sig_grammar.specs.ElementTypes.{CMOD_OPT, CMOD_REQD, element_code}
+use Rattle.sig_grammar.specs.Encodes.{Encodes}
+use Rattle.sig_grammar.specs.Grammar.{content_parts, core_parts, count_types, method_parts, modifiers_parts, named_code, shape_parts, typed_parts, types_parts}
+use Rattle.sig_grammar.specs.Parts.{EncodesParts, IsIndex, Part, byte, index, number}
+use Rattle.sig_grammar.specs.Reading.{index_at, number_at, token_of}
+use Rattle.sig_grammar.specs.Syntax.{Body, Core, array, by_ref, class, field, function, instance, instance_body, locals, method_body, mvar, plain, pointer, property, simple, slot, some_ret, type_spec, typed_ref, value, var, vector, void_pointer, void_ret}
+use Rattle.metadata.specs.Cell.{Cell, Ref, Text}
+use Rattle.metadata.specs.Lookups.{HasRow}
+use Rattle.metadata.specs.Metadata.{Metadata, cell_in}
+use Rattle.navigation.specs.Nesting.{IsScope}
+use Rattle.cli_names.specs.Names.{IsFullName}
+use Rattle.cli_paths.specs.declared.refs.Wanted.{Wanted}
+use Rattle.cli_paths.specs.Refs.{BelongsTo, HasRefName, IsRefAt, IsWantedRef, generic_at, generic_of, type_of_ref}
+use Rattle.cli_paths.proofs.PathLemmas.{one_name}
+
+-- a text is the full name of one type
+module _ (model : Metadata) (part a n : List ℕ) (row : ℕ) (full : IsFullName part a n) where
+  pub ref_namespace : cell_in model TypeRef row 1 ≡ Text n → (test : Bool) → IsTrue test ↔ (cell_in model TypeRef row 2 ≡ Text a) → IsTrue test ↔ HasRefName model part row
+  ref_namespace named test iff =
+      (λ yes. (a, n, full, named, iff.0 yes), λ own. iff.1 (own.4 ∙ ap (λ t. Text t) (one_name part own.0 a own.1 n own.2 full).0))
+
+  pub ref_no_name : (test : Bool) → test ≡ false → IsTrue test ↔ (cell_in model TypeRef row 1 ≡ Text n) → IsTrue test ↔ HasRefName model part row
+  ref_no_name test fails iff =
+      (λ yes. absurd cc, λ own. iff.1 (own.3 ∙ ap (λ t. Text t) (one_name part own.0 a own.1 n own.2 full).1))
+
+-- at most one TypeRef encloses another
+row_of : Cell → ℕ
+row_of (Ref (Some token)) = token.row
+row_of _ = 0
+
+one_scope : (model : Metadata) (row a b : ℕ) → IsScope model row a → IsScope model row b → a ≡ b
+unfolding row_of
+one_scope model row a b p q = ap row_of (sym p ∙ q)
+
+module _ (model : Metadata) (parts : List (List ℕ)) where
+  -- the enclosing TypeRef is looked at next
+  pub ref_step : (k row outer : ℕ) → HasRefName model (slice_index_or parts (suc k) []) row → IsScope model row outer → IsRefAt model parts (suc k) row ↔ IsRefAt model parts k outer
+  ref_step k row outer name scope =
+      (λ at. subst (λ (o : ℕ). IsRefAt model parts k o) (one_scope model row at.1.0 outer at.1.1 scope) at.1.2, λ at. (name, (outer, scope, at)))
+
+  pub ref_named : (k row : ℕ) → IsRefAt model parts k row → HasRefName model (slice_index_or parts k []) row
+  ref_named zero row at = at.0
+  ref_named (suc k) row at = at.0
+
+  pub ref_scoped : (k row : ℕ) → IsRefAt model parts (suc k) row → ((outer : ℕ) → ¬ IsScope model row outer) → ⊥
+  ref_scoped k row at none = none at.1.0 at.1.1
+
+  -- no other TypeRef encloses it
+  pub none_decides : (row : ℕ) (found : Option ℕ) (test : Bool) → is_some found ≡ not test → IfSome found (IsScope model row) → IfNone found ((outer : ℕ) → ¬ IsScope model row outer)
+      → IsTrue test ↔ ((outer : ℕ) → ¬ IsScope model row outer)
+  none_decides row None true is some none = ((λ yes. none), (λ outermost. refl))
+  none_decides row None false is some none = absurd cc
+  none_decides row (Some outer) true is some none = absurd cc
+  none_decides row (Some outer) false is some none = ((λ yes. absurd cc), (λ outermost. absurd (outermost outer some)))
+
+-- a part of a path, as a list of texts has it
+pub part_text : (parts : List (Bor (List ℕ))) (k : ℕ) (d : Bor (List ℕ)) → k < length parts
+    → slice_index_or (map (λ (part : Bor (List ℕ)). part.now) parts) k [] ≡ (get_or parts k d).now
+part_text parts k d lt =
+    let long = length-map parts (λ (part : Bor (List ℕ)). part.now) in
+    get_or_default (map (λ (part : Bor (List ℕ)). part.now) parts) k [] d.now (omega (arith, long, lt)) ∙ get_or-map (λ (part : Bor (List ℕ)). part.now) parts k d
+
+-- ---- the generic type in the bytes of a signature
+
+-- what is read of the first bytes
+read_head : (c : ℕ) (tail : List ℕ) → (c == 0x15) ≡ false → generic_at (c ∷ tail) ≡ None
+read_head c [] differs = refl
+read_head c (d ∷ tail) differs = ap (λ (t : Bool). cond t (option_map (λ read. read.0) (index_at tail)) None) differs
+
+-- bytes that begin with another byte are those of no instance
+other_head : (c : ℕ) (parts : List Part) (bytes : List ℕ) → (c == 0x15) ≡ false → EncodesParts (byte c ∷ parts) bytes → generic_at bytes ≡ None
+other_head c parts bytes differs encodes =
+    let whole : bytes ≡ c ∷ encodes.1 = encodes.2 ∙ ap (λ (h : List ℕ). h ++ encodes.1) encodes.3 in
+    ap generic_at whole ∙ read_head c encodes.1 differs
+
+element_differs : (element : Element) → (element_code element == 0x15) ≡ false
+element_differs Boolean = refl
+element_differs Char = refl
+element_differs I1 = refl
+element_differs U1 = refl
+element_differs I2 = refl
+element_differs U2 = refl
+element_differs I4 = refl
+element_differs U4 = refl
+element_differs I8 = refl
+element_differs U8 = refl
+element_differs R4 = refl
+element_differs R8 = refl
+element_differs String = refl
+element_differs I = refl
+element_differs U = refl
+element_differs Object = refl
+
+modifier_differs : (required : Bool) → (cond required CMOD_REQD CMOD_OPT == 0x15) ≡ false
+modifier_differs true = refl
+modifier_differs false = refl
+
+modified_read : (m : Modifier) (ms : List Modifier) (parts : List Part) (bytes : List ℕ) → EncodesParts (modifiers_parts (m ∷ ms) ++ parts) bytes → generic_at bytes ≡ None
+modified_read m ms parts bytes encodes =
+    other_head (cond m.required CMOD_REQD CMOD_OPT) (index m.of ∷ (modifiers_parts ms ++ parts)) bytes (modifier_differs m.required) encodes
+
+module _ (numbers : (n : ℕ) (prefix tail : List ℕ) → IsPacked n prefix → unsigned_at (prefix ++ tail) ≡ Some (n, length prefix))
+    (indexes : (number : ℕ) (token : Token) → IsCoded TypeDefOrRef number token.table token.row → token_of number ≡ Some token) where
+  index_read : (token : Token) (head tail : List ℕ) → IsIndex token head → option_map (λ (read : Token × List ℕ). read.0) (index_at (head ++ tail)) ≡ Some token
+  unfolding index_at number_at
+  index_read token head tail is = rw (numbers is.number head tail is.packed, indexes is.number token is.coded) refl
+
+  instance_read : (is_value : Bool) (of : Token) (parts : List Part) (bytes : List ℕ) → EncodesParts (byte 0x15 ∷ byte (named_code is_value) ∷ index of ∷ parts) bytes
+      → generic_at bytes ≡ Some of
+  instance_read is_value of parts bytes encodes =
+      let second = encodes.4 in
+      let third = second.4 in
+      let whole : bytes ≡ 0x15 ∷ named_code is_value ∷ (third.0 ++ third.1) =
+      encodes.2 ∙ ap (λ (h : List ℕ). h ++ encodes.1) encodes.3
+      ∙ ap (λ (t : List ℕ). 0x15 ∷ t) (second.2 ∙ ap (λ (h : List ℕ). h ++ second.1) second.3 ∙ ap (λ (t : List ℕ). named_code is_value ∷ t) third.2) in
+      ap generic_at whole ∙ index_read of third.0 third.1 third.3
+
+  core_read : (core : Core) (bytes : List ℕ) → EncodesParts (core_parts core) bytes → generic_at bytes ≡ generic_of (type_spec (some_ret (slot [] (plain core))))
+  core_read (simple element) bytes encodes = other_head (element_code element) [] bytes (element_differs element) encodes
+  core_read (void_pointer modifiers) bytes encodes = other_head 0x0F (modifiers_parts modifiers ++ byte 0x01 ∷ []) bytes refl encodes
+  core_read (pointer modifiers to) bytes encodes = other_head 0x0F (modifiers_parts modifiers ++ core_parts to) bytes refl encodes
+  core_read (vector of) bytes encodes = other_head 0x1D (typed_parts of) bytes refl encodes
+  core_read (array of shape) bytes encodes = other_head 0x14 (typed_parts of ++ shape_parts shape) bytes refl encodes
+  core_read (class of) bytes encodes = other_head 0x12 (index of ∷ []) bytes refl encodes
+  core_read (value of) bytes encodes = other_head 0x11 (index of ∷ []) bytes refl encodes
+  core_read (var n) bytes encodes = other_head 0x13 (number n ∷ []) bytes refl encodes
+  core_read (mvar n) bytes encodes = other_head 0x1E (number n ∷ []) bytes refl encodes
+  core_read (instance is_value of args) bytes encodes = instance_read is_value of (number (count_types args) ∷ types_parts args) bytes encodes
+  core_read (function m) bytes encodes = other_head 0x1B (method_parts m) bytes refl encodes
+
+  pub generic_read : (signature : Body) (bytes : List ℕ) → Encodes column.TypeSpec signature bytes → generic_at bytes ≡ generic_of signature
+  generic_read (type_spec (some_ret (slot [] typed_ref))) bytes encodes = other_head 0x16 [] bytes refl encodes.parts
+  generic_read (type_spec (some_ret (slot [] (plain core)))) bytes encodes = core_read core bytes encodes.parts
+  generic_read (type_spec (some_ret (slot [] (by_ref modifiers core)))) bytes encodes = other_head 0x10 (modifiers_parts modifiers ++ core_parts core) bytes refl encodes.parts
+  generic_read (type_spec (some_ret (slot (m ∷ ms) content))) bytes encodes = modified_read m ms (content_parts content) bytes encodes.parts
+  generic_read (type_spec (void_ret [])) bytes encodes = other_head 0x01 [] bytes refl encodes.parts
+  generic_read (type_spec (void_ret (m ∷ ms))) bytes encodes = modified_read m ms (byte 0x01 ∷ []) bytes encodes.parts
+  generic_read (field s) bytes encodes = absurd encodes.column
+  generic_read (method_body m) bytes encodes = absurd encodes.column
+  generic_read (property this of params) bytes encodes = absurd encodes.column
+  generic_read (locals variables) bytes encodes = absurd encodes.column
+  generic_read (instance_body args) bytes encodes = absurd encodes.column
+
+-- ---- what belongs to a TypeRef that is wanted
+
+abbrev token_in : TableId → ℕ → Token
+token_in table row = record { table = table; row = row }
+
+abbrev row_in : Option Token → ℕ
+row_in None = 0
+row_in (Some token) = token.row
+
+same_ref : (a b : ℕ) → Some (token_in TypeRef a) ≡ Some (token_in TypeRef b) → a ≡ b
+same_ref a b same = ap row_in same
+
+pub belongs_by : (model : Metadata) (wanted : Wanted) (of found : Token) → type_of_ref model of.table of.row ≡ Some found → found.table ≡ TypeRef → (test : Bool)
+    → IsTrue test ↔ (HasRow model TypeRef found.row × IsWantedRef model wanted found.row) → IsTrue test ↔ BelongsTo model (IsWantedRef model wanted) of
+belongs_by model wanted of found is types test decides =
+    let whole : Some found ≡ Some (token_in TypeRef found.row) = ap (λ (t : TableId). Some (token_in t found.row)) types in (
+      (λ yes. let at = decides.0 yes in (found.row, is ∙ whole, at.0, at.1)),
+      (λ belongs.
+          let same = same_ref belongs.0 found.row (sym belongs.1 ∙ is ∙ whole) in
+          decides.1 (subst (λ (r : ℕ). HasRow model TypeRef r) same belongs.2, subst (λ (r : ℕ). IsWantedRef model wanted r) same belongs.3)),
+    )
