@@ -4,7 +4,7 @@ use crate::runs::answer;
 use cli_input::{Input, open};
 use cli_lines::{Form, Printer};
 use cli_outline::{OutlineOptions, Rows, Sorting, Tokens, print_outline, print_refs};
-use sample_roots::RootBuilder;
+use sample_roots::{RootBuilder, TWO_TYPES, image, write_at};
 use std::alloc::Global;
 use std::fs;
 use std::test::Fail;
@@ -151,6 +151,7 @@ fn leaves_tokens_out_of_text(rt: HostRuntime) -> Result<(), Fail> {
         tokens: Tokens::Hidden,
         rows: Rows::All,
         sorting: Sorting::ByRow,
+        entry: None,
     };
     let whole = outline_of(&rt, root.as_slice())?;
     let mut lines = String::new(alloc);
@@ -573,6 +574,209 @@ fn prints_references_with_their_scopes(rt: HostRuntime) -> Result<(), Fail> {
     print_refs(rt.alloc(), &view, OutlineOptions::default(), &mut printer);
     assert!(rt; printer.finish().1.is_ok());
     assert_eq!(rt; str::from_utf8(out.as_slice()), Ok(lines));
+    Ok(())
+}
+
+/// The token at the end of a line.
+fn token_of(line: &str) -> Result<&str, Fail> {
+    let (_, token) = line.rsplit_once("  // ").ok_or("no token")?;
+    Ok(token)
+}
+
+/// Each row of another table than TypeDef has the same line alone, by its token.
+#[test]
+fn prints_each_row_alone(rt: HostRuntime) -> Result<(), Fail> {
+    let alloc = rt.alloc();
+    let properties = root_of_properties(alloc, [[2, 0, 1, 0], [3, 0, 2, 0]], &[GETTER])?;
+    let references = root_of_references(alloc)?;
+    let names = root_of_names(alloc)?;
+    let mut rows = 0;
+    for (root, report) in [(&properties, "outline"), (&names, "outline"), (&references, "refs")] {
+        let text = printed(&rt, root.as_slice(), &["clim", report, "--bare", "o.root"])?;
+        let json = printed(&rt, root.as_slice(), &["clim", report, "--bare", "--json", "o.root"])?;
+        for (line, value) in text.as_str().lines().zip(json.as_str().lines()) {
+            let token = token_of(line)?;
+            if token.starts_with("02") {
+                continue;
+            }
+            let words = ["clim", "outline", "--bare", "o.root", token];
+            assert_eq!(rt; printed(&rt, root.as_slice(), &words)?.as_str().lines().next(), Some(line));
+            let words = ["clim", "outline", "--bare", "--json", "o.root", token];
+            assert_eq!(rt; printed(&rt, root.as_slice(), &words)?.as_str().lines().next(), Some(value));
+            rows += 1;
+        }
+    }
+    assert_eq!(rt; rows, 24);
+    Ok(())
+}
+
+/// The exit code, the output and the messages of a command on a root.
+fn answered(
+    rt: &HostRuntime,
+    root: &[u8],
+    words: &[&str],
+) -> Result<(u8, String, String), Fail> {
+    fs::write(rt, "o.root", root)?;
+    let said = answer(rt, words)?;
+    fs::remove_file(rt, "o.root")?;
+    Ok(said)
+}
+
+/// A row without a line is reported: a map, a type of a signature, and a parameter without a default value. So is a row that
+/// does not exist. A row that is not visible has no line with `--public`.
+#[test]
+fn reports_rows_without_lines(rt: HostRuntime) -> Result<(), Fail> {
+    let mut root = RootBuilder::new(rt.alloc());
+    root.row(0x02, b"\0\0\0\0\x07\0\x05\0\0\0\x01\0\x01\0")?;
+    root.row(0x06, b"\0\0\0\0\0\0\x16\0\x09\0\x09\0\x01\0")?;
+    root.row(0x08, b"\0\0\x01\0\x07\0")?;
+    root.row(0x1B, b"\x11\0")?;
+    root.heap("#Strings", TEXTS)?;
+    root.heap("#Blob", b"\0\x03\x20\0\x08\x03\x28\0\x08\x03\0\0\x01\x02\x01\0\0\x01\x08")?;
+    let root = root.finish()?;
+    for token in ["08000001", "1b000001", "1b000002", "15000001", "06000002", "06000000"] {
+        let words = ["clim", "outline", "--bare", "o.root", token];
+        let (status, out, err) = answered(&rt, root.as_slice(), &words)?;
+        assert_eq!(rt; (status, out.as_str(), err.as_str()), (1, "", "no such type\n"), "{token}");
+    }
+    let words = ["clim", "outline", "--bare", "--public", "o.root", "06000001"];
+    let (status, out, err) = answered(&rt, root.as_slice(), &words)?;
+    assert_eq!(rt; (status, out.as_str(), err.as_str()), (0, "", ""));
+    let words = ["clim", "outline", "--bare", "--no-tokens", "--sorted", "o.root", "06000001"];
+    let (status, out, err) = answered(&rt, root.as_slice(), &words)?;
+    assert_eq!(rt; (status, out.as_str(), err.as_str()), (0, "  .method public static void N.C::M() cil managed\n", ""));
+    Ok(())
+}
+
+/// Blobs: `void ()` at 1, `class N.C<int32>` at 5, `class N.C[]` at 11, `valuetype N.C<int32>` at 15, and `class N.C` with a modifier
+/// at 21.
+const INSTANCES: &[u8] =
+    b"\0\x03\0\0\x01\x05\x15\x12\x05\x01\x08\x03\x1D\x12\x05\x05\x15\x11\x05\x01\x08\x07\x20\x05\x15\x12\x05\x01\x08";
+
+/// `N.C` of two modules and a type within the first; and members of these, of instances of the first, of an array of it and of a
+/// module (II.22.25, II.22.38, II.23.2.14).
+fn root_of_instances(alloc: Global) -> Result<Vec<u8>, Fail> {
+    let mut root = RootBuilder::new(alloc);
+    root.row(0x01, b"\x05\0\x07\0\x05\0")?;
+    root.row(0x01, b"\x07\0\x09\0\0\0")?;
+    root.row(0x01, b"\x09\0\x07\0\x05\0")?;
+    for class in [0x09, 0x0C, 0x11, 0x14, 0x19, 0x0A, 0x1C, 0x24] {
+        root.row(0x0A, &[class, 0, 0x09, 0, 0x01, 0])?;
+    }
+    root.row(0x1A, b"\x15\0")?;
+    root.row(0x1A, b"\x13\0")?;
+    for signature in [5, 11, 15, 21] {
+        root.row(0x1B, &[signature, 0])?;
+    }
+    root.heap("#Strings", TEXTS)?;
+    root.heap("#Blob", INSTANCES)?;
+    Ok(root.finish()?)
+}
+
+/// What is referred to of a type: that of each scope, and its members, also those of its instances.
+#[test]
+fn prints_references_of_one_type(rt: HostRuntime) -> Result<(), Fail> {
+    let root = root_of_instances(rt.alloc())?;
+    let whole = printed(&rt, root.as_slice(), &["clim", "refs", "--bare", "o.root"])?;
+    let json = printed(&rt, root.as_slice(), &["clim", "refs", "--bare", "--json", "o.root"])?;
+    for (name, tokens) in [
+        ("N.C", ["01000001", "01000003", "0a000001", "0a000002", "0a000005", "0a000007"].as_slice()),
+        ("N.C/M", &["01000002", "0a000003"]),
+        ("01000001", &["01000001", "0a000001", "0a000002", "0a000007"]),
+        ("0x01000002", &["01000002", "0a000003"]),
+        ("01000003", &["01000003", "0a000005"]),
+    ] {
+        for (lines, word) in [(&whole, "--bare"), (&json, "--json")] {
+            let mut wanted = String::new(rt.alloc());
+            for (line, text) in lines.as_str().lines().zip(whole.as_str().lines()) {
+                if tokens.contains(&token_of(text)?) {
+                    wanted.push_str(line)?;
+                    wanted.push('\n')?;
+                }
+            }
+            let words: &[&str] = match word {
+                "--json" => &["clim", "refs", "--bare", "--json", "o.root", name],
+                _ => &["clim", "refs", "--bare", "o.root", name],
+            };
+            let text = printed(&rt, root.as_slice(), words)?;
+            assert_eq!(rt; text.as_str(), wanted.as_str(), "{name}");
+        }
+    }
+    const NEAR: &str = "no such type\n  hint: the nearest name is 'N.C'\n";
+    for (name, said) in [
+        ("N.D", NEAR),
+        ("C", NEAR),
+        ("M", "no such type\n  hint: the nearest name is 'M'\n"),
+        ("N.C/M/M", "no such type\n  hint: the nearest name is 'M'\n"),
+        ("01000004", "no such type\n"),
+        ("0a000001", "no such type\n"),
+        ("02000001", "no such type\n"),
+    ] {
+        let words = ["clim", "refs", "--bare", "o.root", name];
+        let (status, out, err) = answered(&rt, root.as_slice(), &words)?;
+        assert_eq!(rt; (status, out.as_str(), err.as_str()), (1, "", said), "{name}");
+    }
+    let words = ["clim", "refs", "--bare", "o.root", "N.C"];
+    let (status, out, err) = answered(&rt, &root.as_slice()[..9], &words)?;
+    assert!(rt; status == 1 && out.is_empty() && err.starts_with("fault 3 "), "{err}");
+    Ok(())
+}
+
+/// The scopes of TypeRefs go in a circle: a path ends all the same.
+#[test]
+fn ends_in_a_circle_of_scopes(rt: HostRuntime) -> Result<(), Fail> {
+    let mut root = RootBuilder::new(rt.alloc());
+    root.row(0x01, b"\x0B\0\x07\0\0\0")?;
+    root.row(0x01, b"\x07\0\x07\0\0\0")?;
+    root.heap("#Strings", TEXTS)?;
+    let root = root.finish()?;
+    for name in ["C", "C/C", "C/C/C", "C/C/C/C/C/C/C/C/C"] {
+        let words = ["clim", "refs", "--bare", "o.root", name];
+        let (status, out, err) = answered(&rt, root.as_slice(), &words)?;
+        assert!(rt; status == 1 && out.is_empty() && err.starts_with("no such type\n"), "{name}: {err}");
+    }
+    Ok(())
+}
+
+/// A file with this root, whose CLI header has these flags and this entry point (II.25.3.3).
+fn file_with_entry(root: &[u8], flags: u8, entry: [u8; 4]) -> [u8; 1024] {
+    let mut file = image();
+    write_at(&mut file, 0x214, &(root.len() as u32).to_le_bytes());
+    write_at(&mut file, 0x218, &[flags]);
+    write_at(&mut file, 0x21C, &entry);
+    write_at(&mut file, 0x250, root);
+    file
+}
+
+/// The method or the file that is the entry point is marked, unless the entry point is native.
+#[test]
+fn marks_the_entry_point(rt: HostRuntime) -> Result<(), Fail> {
+    const METHOD: [u8; 4] = [1, 0, 0, 6];
+    const MARKED: &str = "  .method public void N.C::M() cil managed .entrypoint  // 06000001\n";
+    const PLAIN: &str = "  .method public void N.C::M() cil managed  // 06000001\n";
+    for (flags, entry, line) in
+        [(1, METHOD, MARKED), (0x10, METHOD, PLAIN), (0x11, METHOD, PLAIN), (1, [0; 4], PLAIN)]
+    {
+        let file = file_with_entry(&TWO_TYPES, flags, entry);
+        let whole = printed(&rt, &file, &["clim", "outline", "o.root"])?;
+        assert!(rt; whole.as_str().ends_with(line), "{whole}");
+        let alone = printed(&rt, &file, &["clim", "outline", "o.root", "06000001"])?;
+        assert_eq!(rt; alone.as_str(), line);
+        let class = printed(&rt, &file, &["clim", "outline", "o.root", "N.C"])?;
+        assert!(rt; class.as_str().ends_with(line), "{class}");
+    }
+    let file = file_with_entry(&TWO_TYPES, 1, METHOD);
+    let json = printed(&rt, &file, &["clim", "outline", "--json", "o.root", "06000001"])?;
+    const VALUE: &str = "{\"token\":\"06000001\",\"type\":\"02000002\",\"directive\":\".method\",\"text\":\".method public void N.C::M() cil managed .entrypoint\"}\n";
+    assert_eq!(rt; json.as_str(), VALUE);
+    let bare = printed(&rt, &TWO_TYPES, &["clim", "outline", "--bare", "o.root", "06000001"])?;
+    assert_eq!(rt; bare.as_str(), PLAIN);
+    let mut root = RootBuilder::new(rt.alloc());
+    root.row(0x26, b"\0\0\0\0\x15\0\0\0")?;
+    root.heap("#Strings", TEXTS)?;
+    let file = file_with_entry(root.finish()?.as_slice(), 1, [1, 0, 0, 0x26]);
+    let whole = printed(&rt, &file, &["clim", "outline", "o.root"])?;
+    assert_eq!(rt; whole.as_str(), ".file k.dll .entrypoint  // 26000001\n");
     Ok(())
 }
 

@@ -19,6 +19,8 @@ mod cli_escapes;
 #[cfg(test)]
 mod cli_faults;
 #[cfg(test)]
+mod cli_generics;
+#[cfg(test)]
 mod cli_lines;
 #[cfg(test)]
 mod cli_outline;

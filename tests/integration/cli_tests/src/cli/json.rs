@@ -159,6 +159,7 @@ fn prints_json_of_one_type_and_of_one_byte(rt: HostRuntime) -> Result<(), Fail> 
     let cell = r##"{"offset":0,"size":200,"structure":"root"}
 {"offset":80,"size":92,"structure":"stream #~"}
 {"offset":148,"size":2,"structure":"cell","table":"Field","row":1,"column":"Signature"}
+{"offset":148,"value":1,"Signature":{"blob":"0608","text":"int32"}}
 "##;
     let blob = r##"{"offset":0,"size":200,"structure":"root"}
 {"offset":192,"size":8,"structure":"stream #Blob"}

@@ -144,6 +144,7 @@ one.root: 128 16 guid of table 00 Module row 1 column 2 Mvid
 types.root: 0 200 root
 types.root: 80 92 stream #~
 types.root: 128 2 table 02 TypeDef row 1 column 5 MethodList
+types.root: 0x80: value 1 (0x1) +1
 ",
         OTHER,
     ),
@@ -152,8 +153,10 @@ types.root: 128 2 table 02 TypeDef row 1 column 5 MethodList
         0,
         "{\"file\":\"one.root\",\"offset\":0,\"size\":144,\"structure\":\"root\"}
 {\"file\":\"one.root\",\"offset\":0,\"size\":4,\"structure\":\"root header Signature\"}
+{\"file\":\"one.root\",\"offset\":0,\"value\":1112167234}
 {\"file\":\"one.root\",\"offset\":0,\"size\":144,\"structure\":\"root\"}
 {\"file\":\"one.root\",\"offset\":0,\"size\":4,\"structure\":\"root header Signature\"}
+{\"file\":\"one.root\",\"offset\":0,\"value\":1112167234}
 ",
         "",
     ),

@@ -13,6 +13,8 @@ const CLASS: &str = "\
   .method public void N.C::M() cil managed  // 06000001
 ";
 
+const METHOD: &str = "  .method public void N.C::M() cil managed  // 06000001\n";
+
 const NONE: &str = "no such type\n";
 
 /// The same with the type whose name is nearest.
@@ -47,6 +49,12 @@ fn outlines_one_type(rt: HostRuntime) -> Result<(), Fail> {
         ("N.C.", (1, "", NONE)),
         (".N.C", (1, "", NEAR)),
         ("", (1, "", NEAR)),
+        ("06000001", (0, METHOD, "")),
+        ("0x06000001", (0, METHOD, "")),
+        ("06000000", (1, "", NONE)),
+        ("06000002", (1, "", NONE)),
+        ("0A000001", (1, "", NONE)),
+        ("70000001", (1, "", NONE)),
         ("02000003", (1, "", NONE)),
         ("02000000", (1, "", NONE)),
         ("2000002", (1, "", NONE)),

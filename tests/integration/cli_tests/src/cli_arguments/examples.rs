@@ -46,7 +46,7 @@ fn print_what_help_reports(rt: HostRuntime) -> Result<(), Fail> {
         ("check", 4),
         ("show", 3),
         ("types", 3),
-        ("outline", 3),
+        ("outline", 4),
         ("strings", 1),
         ("token", 3),
         ("where", 2),
