@@ -951,11 +951,11 @@ def resources_elsewhere(size):
     return resources_of(b"", [], heap(b"a" * (size // 2), b"\0"), rows)
 
 
-def field_data(size, parents):
-    """A file whose fields have data before the root, each of a type of its own. Rows of ClassLayout have these parents."""
+def field_data(size, parents, class_size=1):
+    """A file whose fields have data before the root, each of a type of its own. Rows of ClassLayout have these parents, and this size."""
     count = size // 56
     rows = {"TypeDef": [type_row()] * count, "Field": [(0, 1, 1 + 7 * number) for number in range(count)]}
-    rows["ClassLayout"] = [(0, 1, it) for it in parents(count)]
+    rows["ClassLayout"] = [(0, class_size, it) for it in parents(count)]
     rows["FieldRVA"] = [(ADDRESS + CLI_HEADER, number) for number in range(1, count + 1)]
     blobs = heap(*[b"\x06\x06\x11" + packed(number << 2) for number in range(1, count + 1)])
     return image_of(Root(rows, b"\0a\0", blobs).encoded(), bytes(4))
@@ -963,6 +963,11 @@ def field_data(size, parents):
 
 def layouts_in_order(size):
     return field_data(size, lambda count: range(1, count + 1))
+
+
+def data_of_the_size_of_the_file(size):
+    """Each byte after the data of one field is in that of all."""
+    return field_data(size, lambda count: range(count, 0, -1), 2 * size)
 
 
 def layouts_out_of_order(size):
