@@ -72,7 +72,7 @@ some_parts (p ∷ ps) =
     let later = some_parts ps in
     omega (arith, e, first, later)
 
-pub few_parts : (ps : List Part) → length (flat_map short_part ps) ≤ 4 * length ps
+few_parts : (ps : List Part) → length (flat_map short_part ps) ≤ 4 * length ps
 few_parts [] = omega arith
 few_parts (p ∷ ps) =
     let e = length-append (short_part p) (flat_map short_part ps) in
@@ -86,7 +86,7 @@ head_parts : (generic : Option ℕ) (params : ℕ) → length (generic_parts gen
 head_parts None params = omega arith
 head_parts (Some n) params = omega arith
 
-pub few_of_item : (i : Item) → length (item_parts i) ≤ 4
+few_of_item : (i : Item) → length (item_parts i) ≤ 4
 few_of_item (item.Method head) = let few = head_parts head.generic head.params in omega (arith, few)
 few_of_item _ = omega arith
 
@@ -99,15 +99,10 @@ few_items (i ∷ items) =
     let later = few_items items in
     omega (arith, e, first, parts, later)
 
-pub canonical_encoding : (kind : SigKind) (s : Body) (b : List ℕ) → Encodes kind s b → flat_map encoded_item (items_of s) ≡ short s → length b ≤ 4 * length (flat_map encoded_item (items_of s))
-canonical_encoding kind s b is same =
+pub short_encoding : (kind : SigKind) (s : Body) (b : List ℕ) → Encodes kind s b → flat_map encoded_item (items_of s) ≡ short s → length b ≤ 64 * length (items_of s)
+short_encoding kind s b is same =
     let parts = parts_short (body_parts s) b is.parts in
     let some = some_parts (body_parts s) in
     let e = ap length same in
-    omega (arith, parts, some, e)
-
-pub short_encoding : (kind : SigKind) (s : Body) (b : List ℕ) → Encodes kind s b → flat_map encoded_item (items_of s) ≡ short s → length b ≤ 64 * length (items_of s)
-short_encoding kind s b is same =
-    let canonical = canonical_encoding kind s b is same in
     let items = few_items (items_of s) in
-    omega (arith, canonical, items)
+    omega (arith, parts, some, e, items)

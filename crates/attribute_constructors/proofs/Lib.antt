@@ -1,5 +1,4 @@
 pub mod LengthLemmas
 pub mod TypeLemmas
 pub mod ParamLemmas
-pub mod StringLemmas
 pub mod OwnerLemmas

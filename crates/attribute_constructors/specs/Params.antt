@@ -1,9 +1,7 @@
 -- The types of the parameters of a constructor of attributes (ECMA-335 II.22.10, II.23.3).
-use Rattle.std.specs.Prelude.{ℕ, ◌&&◌, nat_le, Bool, true, false, not, if◌then◌else◌, List, [], ◌∷◌, ◌++◌, length, codes, replicate, Option, None, Some, option_map, option_and_then}
-use Rattle.std.specs.List.{list_all}
+use Rattle.std.specs.Prelude.{ℕ, ◌&&◌, nat_le, Bool, true, false, not, if◌then◌else◌, List, [], ◌∷◌, ◌++◌, length, codes, Option, None, Some, option_map, option_and_then}
 use Rattle.table_schema.specs.declared.table.TableId.{TableId}
 use Rattle.table_schema.specs.declared.table.TableId.TheVariants.{MemberRef, MethodDef}
-use Rattle.sig_grammar.specs.declared.element.Element.TheVariants.{String}
 use Rattle.sig_items.specs.declared.item.Item.{Item}
 use Rattle.sig_items.specs.declared.item.Item.TheVariants as item
 use Rattle.attribute_values.specs.declared.types.ElementType.{ElementType}
@@ -61,29 +59,3 @@ abbrev pub params_of_constructor : Metadata → TableId → ℕ → Option (List
 params_of_constructor model MethodDef row = params_in model (items_in (cell_in model MethodDef row 4))
 params_of_constructor model MemberRef row = params_in model (items_in (cell_in model MemberRef row 2))
 params_of_constructor model _ row = None
-
--- ---- strings
-
-abbrev pub is_string : ArgumentType → Bool
-is_string (One (Simple String)) = true
-is_string _ = false
-
--- these types, if all are strings and there are at most `most`
-abbrev pub if_strings : ℕ → Option (List ArgumentType) → Option (List ArgumentType)
-if_strings most None = None
-if_strings most (Some types) = if list_all is_string types && nat_le (length types) most then Some types else None
-
--- the same by the items of parameters, and by those of a method without a result; for private clauses
-abbrev pub is_string_item : Item → Bool
-is_string_item (item.Simple String) = true
-is_string_item _ = false
-
-abbrev pub strings : ℕ → List ArgumentType
-strings count = replicate count (One (Simple String))
-
-abbrev pub strings_from : ℕ → List Item → Option (List ArgumentType)
-strings_from most items = if list_all is_string_item items && nat_le (length items) most then Some (strings (length items)) else None
-
-abbrev pub strings_in : ℕ → List Item → Option (List ArgumentType)
-strings_in most (head ∷ result ∷ items) = if is_method head && is_void result then strings_from most items else None
-strings_in most _ = None

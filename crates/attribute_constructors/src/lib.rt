@@ -6,8 +6,7 @@
 //! instance field (II.14.3), if that is among its first 16 fields; an enum of another file, any other type, and more than 64
 //! parameters have no types here. Nothing here allocates. Of a signature at most 8,320 bytes are read, and the names of a type
 //! only up to the first byte that differs. The fields of a type are found by binary search at most with `Neighbours`; with a
-//! view alone a null start is followed to the next one. [`strings_of`] reads at most 384 bytes, and stops at the first
-//! parameter that is no string.
+//! view alone a null start is followed to the next one.
 //!
 //! ```text
 //! let params = params_of(&source, constructor)?;
@@ -20,11 +19,9 @@ mod enums;
 mod params;
 mod read_view;
 mod signatures;
-mod strings;
 mod system_types;
 
 pub use constructors::{constructor, type_of};
 pub use params::Params;
 pub use read_view::ReadView;
 pub use signatures::params_of;
-pub use strings::strings_of;

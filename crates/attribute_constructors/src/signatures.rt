@@ -21,24 +21,24 @@ use sig_items::{Item, Items};
 use table_schema::SigKind;
 
 /// The index of the cell with the signature of a method (II.22.26).
-pub(crate) const METHOD_SIGNATURE: usize = 4;
+const METHOD_SIGNATURE: usize = 4;
 
 /// The index of the cell with the signature of a MemberRef (II.22.25).
-pub(crate) const MEMBER_SIGNATURE: usize = 2;
+const MEMBER_SIGNATURE: usize = 2;
 
 /// No signature with a head, a result and the items of 64 parameters, at most two each, has more bytes: each item has at most
 /// 64.
 const LONGEST: usize = 8320;
 
 /// Whether an item is the head of a method.
-pub(crate) fn is_method(item: Item) -> bool
+fn is_method(item: Item) -> bool
     ensures { result ≡ is_method item }
 {
     matches!(item, Item::Method(_))
 }
 
 /// Whether an item is VOID.
-pub(crate) fn is_void(item: Item) -> bool
+fn is_void(item: Item) -> bool
     ensures { result ≡ is_void item }
 {
     matches!(item, Item::Void)

@@ -3,4 +3,3 @@ pub mod HeaderLemmas
 pub mod TokenLemmas
 pub mod QuoteLemmas
 pub mod TextLemmas
-pub mod StringLemmas

@@ -15,7 +15,7 @@ ghost use Rattle.cli_info.specs.Attributes.{argument_parts, attribute_line, attr
 ghost use Rattle.cli_info.specs.Texts.{string_in, texts_in};
 
 use crate::texts::{string_in, texts_in};
-use attribute_constructors::{constructor, strings_of, type_of};
+use attribute_constructors::{constructor, params_of, type_of};
 use attribute_values::{Argument, ArgumentType, Item, Items};
 use cli_declarations::{bytes, text};
 use cli_lines::Part::{Field, Member, Note, Word};
@@ -31,9 +31,6 @@ use std::io::Write;
 const PARENT: usize = 0;
 
 const VALUE: usize = 2;
-
-/// The bytes of a value besides its arguments: the prolog, and the number of named ones (II.23.3).
-const AROUND_ARGUMENTS: usize = 4;
 
 /// A text in quotes, or `null`.
 fn quoted_or_null(text: Option<&str>) -> Value<'_>
@@ -234,8 +231,7 @@ fn print_texts<W: Write>(
     }
 }
 
-/// Prints the line of an attribute with this constructor and this value, if all arguments are strings. No more parameters are
-/// read than the value has bytes for.
+/// Prints the line of an attribute with this constructor and this value, if all arguments are strings.
 fn print_value<W: Write>(
     source: &Neighbours<'_, '_>,
     of: Token,
@@ -247,9 +243,8 @@ fn print_value<W: Write>(
     ensures { (model : Metadata) → IsModel source.now.view.now model → Prints out.old out.new (lines_of_value model (Some of) value.now) }
 {
     cli_lines::laws::lines_follow::<W>();
-    let most = value.len().saturating_sub(AROUND_ARGUMENTS);
-    match strings_of(source, of, most) {
-        Some(params) => print_texts(source, of, params, value, out),
+    match params_of(source, of) {
+        Some(params) => print_texts(source, of, params.as_slice(), value, out),
         None => {}
     }
 }
