@@ -11,7 +11,7 @@ use Rattle.metadata.specs.Metadata.{Metadata, cell_in}
 use Rattle.navigation.specs.Cells.{reference_in}
 use Rattle.cli_declarations.specs.Parts.{bytes_of}
 use Rattle.cli_lines.specs.Lines.{Part}
-use Rattle.cli_info.specs.Attributes.{attribute_lines, attributes_after, is_assembly, is_assembly_table, lines_of_items, lines_of_type, lines_of_value}
+use Rattle.cli_info.specs.Attributes.{attribute_limit, attribute_lines, is_assembly_table, is_own, lines_of_items, lines_of_rows, lines_of_type, more_lines, own_after}
 
 pub other_table : (table : TableId) → (table ≡ Assembly → ⊥) → is_assembly_table table ≡ false
 other_table Assembly not = absurd (not refl)
@@ -22,31 +22,73 @@ other_type model TypeDef row items a b = absurd (a refl)
 other_type model TypeRef row items a b = absurd (b refl)
 other_type model _ row items a b = refl
 
-module _ (model : Metadata) (row : ℕ) (parent : Option Token) (is : cell_in model CustomAttribute row 0 ≡ Ref parent) where
-  abbrev own_lines : List (List Part)
-  own_lines = lines_of_value model (reference_in (cell_in model CustomAttribute row 1)) (bytes_of (cell_in model CustomAttribute row 2))
-
-  pub other_parent : is_assembly parent ≡ false → [] ≡ attribute_lines model row
-  unfolding attribute_lines
-  other_parent other = sym (ap (λ b. cond b own_lines []) (ap (λ (c : Cell). is_assembly (reference_in c)) is ∙ other))
-
-  pub own_parent : is_assembly parent ≡ true → own_lines ≡ attribute_lines model row
-  unfolding attribute_lines
-  own_parent own = sym (ap (λ b. cond b own_lines []) (ap (λ (c : Cell). is_assembly (reference_in c)) is ∙ own))
-
 pub no_items : (model : Metadata) (class : Option Token) → [] ≡ lines_of_items model class None
 no_items model None = refl
 no_items model (Some class) = refl
 
-module _ (model : Metadata) (earlier count : ℕ) where
-  pub attributes_more : earlier < count → attribute_lines model (earlier + 1) ++ attributes_after model (earlier + 1) count ≡ attributes_after model earlier count
-  unfolding attributes_after
-  attributes_more within =
-      let e : suc (count - (earlier + 1)) ≡ count - earlier = omega (arith, within) in
-      ap (λ n. flat_map (attribute_lines model) (range_with_len (earlier + 1) n)) e
+-- ---- the rows that are attributes of the assembly
 
-  pub attributes_none : count ≤ earlier → [] ≡ attributes_after model earlier count
-  unfolding attributes_after
-  attributes_none within =
-      let e : 0 ≡ count - earlier = omega (arith, within) in
-      ap (λ n. flat_map (attribute_lines model) (range_with_len (earlier + 1) n)) e
+module _ (model : Metadata) (earlier count : ℕ) where
+  after_own : earlier < count → is_own model (earlier + 1) ≡ true → own_after model earlier count ≡ (earlier + 1) ∷ own_after model (earlier + 1) count
+  unfolding own_after
+  after_own within is =
+      let e : count - earlier ≡ suc (count - (earlier + 1)) = omega (arith, within) in
+      let later = own_after model (earlier + 1) count in
+      ap (λ n. filter (is_own model) (range_with_len (earlier + 1) n)) e ∙ (λ i. cond (is i) ((earlier + 1) ∷ later) later)
+
+  after_other : earlier < count → is_own model (earlier + 1) ≡ false → own_after model earlier count ≡ own_after model (earlier + 1) count
+  unfolding own_after
+  after_other within is =
+      let e : count - earlier ≡ suc (count - (earlier + 1)) = omega (arith, within) in
+      let later = own_after model (earlier + 1) count in
+      ap (λ n. filter (is_own model) (range_with_len (earlier + 1) n)) e ∙ (λ i. cond (is i) ((earlier + 1) ∷ later) later)
+
+  after_all : count ≤ earlier → own_after model earlier count ≡ []
+  unfolding own_after
+  after_all past =
+      let e : count - earlier ≡ 0 = omega (arith, past) in
+      ap (λ n. filter (is_own model) (range_with_len (earlier + 1) n)) e
+
+-- ---- the lines that are left after a number of attributes
+
+unfoldable pub lines_after : Metadata → ℕ → List ℕ → List (List Part)
+lines_after model own rows = flat_map (attribute_lines model) (take (attribute_limit - own) rows) ++ more_lines (own + length rows - attribute_limit)
+
+pub lines_of_all : (model : Metadata) (rows : List ℕ) → lines_after model 0 rows ≡ lines_of_rows model rows
+unfolding lines_after
+lines_of_all model rows = refl
+
+module _ (model : Metadata) (own earlier count : ℕ) where
+  abbrev rows : List ℕ
+  rows = own_after model (earlier + 1) count
+
+  pub one_printed : earlier < count → is_own model (earlier + 1) ≡ true → own < 1024
+      → attribute_lines model (earlier + 1) ++ lines_after model (own + 1) rows ≡ lines_after model own (own_after model earlier count)
+  unfolding lines_after
+  one_printed within is few =
+      let line = attribute_lines model (earlier + 1) in
+      let lines = flat_map (attribute_lines model) (take (attribute_limit - (own + 1)) rows) in
+      let first : suc (attribute_limit - (own + 1)) ≡ attribute_limit - own = omega (arith, few) in
+      let more : own + 1 + length rows - attribute_limit ≡ own + suc (length rows) - attribute_limit = omega arith in
+      sym (append_assoc line lines (more_lines (own + 1 + length rows - attribute_limit)))
+      ∙ (λ i. flat_map (attribute_lines model) (take (first i) ((earlier + 1) ∷ rows)) ++ more_lines (more i))
+      ∙ sym (ap (lines_after model own) (after_own model earlier count within is))
+
+  pub one_more : earlier < count → is_own model (earlier + 1) ≡ true → 1024 ≤ own → lines_after model (own + 1) rows ≡ lines_after model own (own_after model earlier count)
+  unfolding lines_after
+  one_more within is many =
+      let none : attribute_limit - (own + 1) ≡ 0 = omega (arith, many) in
+      let other : 0 ≡ attribute_limit - own = omega (arith, many) in
+      let more : own + 1 + length rows - attribute_limit ≡ own + suc (length rows) - attribute_limit = omega arith in
+      (λ i. flat_map (attribute_lines model) (take (none i) rows) ++ more_lines (more i))
+      ∙ ap (λ n. flat_map (attribute_lines model) (take n ((earlier + 1) ∷ rows)) ++ more_lines (own + suc (length rows) - attribute_limit)) other
+      ∙ sym (ap (lines_after model own) (after_own model earlier count within is))
+
+  pub no_more : earlier < count → is_own model (earlier + 1) ≡ false → lines_after model own rows ≡ lines_after model own (own_after model earlier count)
+  no_more within is = sym (ap (lines_after model own) (after_other model earlier count within is))
+
+  pub all_printed : count ≤ earlier → more_lines (own - 1024) ≡ lines_after model own (own_after model earlier count)
+  unfolding lines_after
+  all_printed past =
+      let e : own - 1024 ≡ own + 0 - attribute_limit = omega arith in
+      ap more_lines e ∙ sym (ap (lines_after model own) (after_all model earlier count past))

@@ -1,5 +1,5 @@
 -- The custom attributes of the assembly whose arguments are all strings (ECMA-335 II.22.10 and II.23.3).
-use Rattle.std.specs.Prelude.{ℕ, ◌+◌, ◌-◌, ◌==◌, ◌&&◌, Bool, true, false, if◌then◌else◌, List, [], ◌∷◌, ◌++◌, codes, flat_map, Option, None, Some, option_and_then}
+use Rattle.std.specs.Prelude.{ℕ, ◌+◌, ◌-◌, ◌==◌, ◌&&◌, Bool, true, false, if◌then◌else◌, List, [], ◌∷◌, ◌++◌, codes, filter, flat_map, length, take, Option, None, Some, option_and_then}
 use Rattle.std.specs.List.{range_with_len}
 use Rattle.table_schema.specs.declared.table.TableId.{TableId}
 use Rattle.table_schema.specs.declared.table.TableId.TheVariants.{Assembly, CustomAttribute, TypeDef, TypeRef}
@@ -77,18 +77,32 @@ abbrev pub is_assembly : Option Token → Bool
 is_assembly None = false
 is_assembly (Some of) = is_assembly_table of.table && of.row == 1
 
--- The line of an attribute. Left out are attributes of anything but the assembly, those whose constructor takes no arguments or
--- has no types here, those whose type is no row of TypeDef or TypeRef, and those whose value is too long, does not fit the
--- constructor, or has an argument that is no string.
+-- whether a row is an attribute of the assembly
+abbrev pub is_own : Metadata → ℕ → Bool
+is_own model row = is_assembly (reference_in (cell_in model CustomAttribute row 0))
+
+-- The line of an attribute. Left out are those whose constructor takes no arguments or has no types here, those whose type is no
+-- row of TypeDef or TypeRef, and those whose value is too long, does not fit the constructor, or has an argument that is no string.
 unfoldable pub attribute_lines : Metadata → ℕ → List (List Part)
-attribute_lines model row =
-    if is_assembly (reference_in (cell_in model CustomAttribute row 0))
-    then lines_of_value model (reference_in (cell_in model CustomAttribute row 1)) (bytes_of (cell_in model CustomAttribute row 2)) else []
+attribute_lines model row = lines_of_value model (reference_in (cell_in model CustomAttribute row 1)) (bytes_of (cell_in model CustomAttribute row 2))
 
--- those of the rows after the first ones
-unfoldable pub attributes_after : Metadata → ℕ → ℕ → List (List Part)
-attributes_after model earlier count = flat_map (attribute_lines model) (range_with_len (earlier + 1) (count - earlier))
+-- the attributes of the assembly in the rows after the first ones, in order
+unfoldable pub own_after : Metadata → ℕ → ℕ → List ℕ
+own_after model earlier count = filter (is_own model) (range_with_len (earlier + 1) (count - earlier))
 
--- those of all rows, in order
+-- the largest number of attributes that are read
+abbrev pub attribute_limit : ℕ
+attribute_limit = 1024
+
+-- the number of attributes that are not read, if there are any
+abbrev pub more_lines : ℕ → List (List Part)
+more_lines 0 = []
+more_lines number = (member name.Directive (plain (codes "attributes")) ∷ word (codes "more attributes ") ∷ field name.Left (line.number number) ∷ []) ∷ []
+
+-- the lines of the first of these attributes, and the number of the others
+abbrev pub lines_of_rows : Metadata → List ℕ → List (List Part)
+lines_of_rows model rows = flat_map (attribute_lines model) (take attribute_limit rows) ++ more_lines (length rows - attribute_limit)
+
+-- those of all attributes of the assembly
 abbrev pub attributes_lines : Metadata → List (List Part)
-attributes_lines model = attributes_after model 0 (count_in model CustomAttribute)
+attributes_lines model = lines_of_rows model (own_after model 0 (count_in model CustomAttribute))

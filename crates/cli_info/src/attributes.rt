@@ -1,5 +1,5 @@
 //! Prints the attributes of the assembly whose arguments are all strings (II.22.10 and II.23.3).
-ghost use Rattle.std.specs.Prelude.{◌≡◌, ◌≤◌, ◌<◌, ◌∷◌, [], Some, flat_map, option_map};
+ghost use Rattle.std.specs.Prelude.{◌≡◌, ◌≤◌, ◌<◌, ◌-◌, ◌∷◌, [], Some, flat_map, option_map};
 ghost use Rattle.table_schema.specs.declared.table.TableId.TheVariants.{CustomAttribute};
 ghost use Rattle.table_schema.specs.CellColumns.{cell_count};
 ghost use Rattle.attribute_values.specs.Views.{head_view, view};
@@ -11,7 +11,7 @@ ghost use Rattle.cli_print.specs.TypeLines.{dot_after};
 ghost use Rattle.cli_lines.specs.Printed.{Adds, Prints};
 ghost use Rattle.cli_lines.specs.Shown.{shown_value};
 ghost use Rattle.attribute_constructors.specs.Constructors.{type_of};
-ghost use Rattle.cli_info.specs.Attributes.{argument_parts, attribute_line, attribute_lines, attributes_lines, first_parts, is_assembly, is_assembly_table, item_parts, items_parts, lines_of_items, lines_of_type, lines_of_value, quoted_or_null, string_parts};
+ghost use Rattle.cli_info.specs.Attributes.{argument_parts, attribute_line, attribute_lines, attributes_lines, first_parts, is_assembly, is_assembly_table, is_own, item_parts, items_parts, lines_of_items, lines_of_type, lines_of_value, more_lines, quoted_or_null, string_parts};
 ghost use Rattle.cli_info.specs.Texts.{string_in, texts_in};
 
 use crate::texts::{string_in, texts_in};
@@ -19,7 +19,7 @@ use attribute_constructors::{constructor, params_of, type_of};
 use attribute_values::{Argument, ArgumentType, Item, Items};
 use cli_declarations::{bytes, text};
 use cli_lines::Part::{Field, Member, Note, Word};
-use cli_lines::Value::{Null, Plain, Quoted, Text};
+use cli_lines::Value::{Null, Number, Plain, Quoted, Text};
 use cli_lines::{Name, Printer, Value};
 use cli_print::{NAME, NAMESPACE};
 use navigation::{Neighbours, cells};
@@ -31,6 +31,9 @@ use std::io::Write;
 const PARENT: usize = 0;
 
 const VALUE: usize = 2;
+
+/// The largest number of attributes of the assembly that are read. Many rows can share a constructor and a value that take long.
+const ATTRIBUTE_LIMIT: u32 = 1024;
 
 /// A text in quotes, or `null`.
 fn quoted_or_null(text: Option<&str>) -> Value<'_>
@@ -266,6 +269,16 @@ fn is_assembly(of: Option<Token>) -> bool
     }
 }
 
+/// Whether a row is an attribute of the assembly.
+#[tactic(auto, unfolding(table_schema::specs::CellColumns::cell_columns))]
+fn is_own(source: &Neighbours<'_, '_>, row: u32) -> bool
+    requires first { 1 ≤ row }
+    requires last { row ≤ row_count source.now.view.now CustomAttribute }
+    ensures { (model : Metadata) → IsModel source.now.view.now model → result ≡ is_own model row }
+{
+    is_assembly(cells::reference(source, TableId::CustomAttribute, row, PARENT))
+}
+
 /// Prints the line of the attribute in a row, if it has one.
 #[tactic(auto, unfolding(crate::specs::Attributes::attribute_lines, table_schema::specs::CellColumns::cell_columns))]
 fn print_attribute<W: Write>(source: &Neighbours<'_, '_>, row: u32, out: &mut Printer<'_, W>)
@@ -274,9 +287,6 @@ fn print_attribute<W: Write>(source: &Neighbours<'_, '_>, row: u32, out: &mut Pr
     ensures { (model : Metadata) → IsModel source.now.view.now model → Prints out.old out.new (attribute_lines model row) }
 {
     cli_lines::laws::lines_follow::<W>();
-    if !is_assembly(cells::reference(source, TableId::CustomAttribute, row, PARENT)) {
-        return;
-    }
     match constructor(source.view, row) {
         Some(of) => {
             let value = bytes(source.view, TableId::CustomAttribute, row, VALUE);
@@ -286,14 +296,35 @@ fn print_attribute<W: Write>(source: &Neighbours<'_, '_>, row: u32, out: &mut Pr
     }
 }
 
-/// Prints the lines of all attributes.
+/// Prints the number of attributes that are not read, if there are any.
+fn print_more<W: Write>(number: u32, out: &mut Printer<'_, W>)
+    ensures { Prints out.old out.new (more_lines number) }
+{
+    cli_lines::laws::lines_follow::<W>();
+    if number > 0 {
+        out.line(&[
+            Member(Name::Directive, Plain("attributes")),
+            Word("more attributes "),
+            Field(Name::Left, Number(number as u64)),
+        ]);
+    }
+}
+
+/// Prints the lines of the first attributes of the assembly, and the number of the others.
 fn print_rows<W: Write>(source: &Neighbours<'_, '_>, out: &mut Printer<'_, W>)
     ensures { (model : Metadata) → IsModel source.now.view.now model → Prints out.old out.new (attributes_lines model) }
 {
     cli_lines::laws::lines_follow::<W>();
+    let mut own = 0;
     for earlier in 0..source.view.count(TableId::CustomAttribute) {
-        print_attribute(source, earlier + 1, out);
+        if is_own(source, earlier + 1) {
+            if own < ATTRIBUTE_LIMIT {
+                print_attribute(source, earlier + 1, out);
+            }
+            own += 1;
+        }
     }
+    print_more(own.saturating_sub(ATTRIBUTE_LIMIT), out);
 }
 
 /// Prints the attributes of the assembly whose arguments are all strings.

@@ -5,26 +5,20 @@ use Rattle.metadata.specs.Metadata.{cell_in}
 use Rattle.cli_declarations.specs.Parts.{bytes_of}
 use Rattle.cli_lines.specs.Lines.{Part}
 use Rattle.cli_lines.specs.Printed.{Prints}
-use Rattle.cli_info.specs.Attributes.{lines_of_value}
-use Rattle.cli_info.proofs.AttributeLemmas.{other_parent, own_parent}
+use Rattle.cli_info.specs.Attributes.{attribute_lines, lines_of_value}
 use Rattle.cli_info.proofs.attributes.print_attribute.Goals as goal
 
-pub returns-then-not-is_assembly : goal.returns-then-not-is_assembly
-returns-then-not-is_assembly g c = λ model is.
-    let other = other_parent model c.args.row c.reference.result (c.reference.ensures.value model is) (sym c.is_assembly.ensures ∙ c.if-not-is_assembly.true) in
-    subst (λ (lines : List (List Part)). Prints c.args.out.now c.args.out.now lines) other (c.lines_follow.ensures.nothing c.args.out.now)
-
 pub returns-in-Some : goal.returns-in-Some
+unfolding attribute_lines
 returns-in-Some g c = λ model is.
-    let own = own_parent model c.args.row c.reference.result (c.reference.ensures.value model is) (sym c.is_assembly.ensures ∙ c.if-not-is_assembly.false) in
     let of = sym c.in-Some.is ∙ c.constructor.ensures.value model is in
     let value = c.bytes-value.ensures model is in
-    subst (λ (lines : List (List Part)). Prints c.args.out.now c.print_value.new.out lines) ((λ i. lines_of_value model (of i) (value i)) ∙ own)
+    subst (λ (lines : List (List Part)). Prints c.args.out.now c.print_value.new.out lines) (λ i. lines_of_value model (of i) (value i))
     (c.print_value.ensures model is)
 
 pub returns-in-None : goal.returns-in-None
+unfolding attribute_lines
 returns-in-None g c = λ model is.
-    let own = own_parent model c.args.row c.reference.result (c.reference.ensures.value model is) (sym c.is_assembly.ensures ∙ c.if-not-is_assembly.false) in
     let none = sym c.in-None.is ∙ c.constructor.ensures.value model is in
     subst (λ (lines : List (List Part)). Prints c.args.out.now c.args.out.now lines)
-    (ap (λ (of : Option Token). lines_of_value model of (bytes_of (cell_in model CustomAttribute c.args.row 2))) none ∙ own) (c.lines_follow.ensures.nothing c.args.out.now)
+    (ap (λ (of : Option Token). lines_of_value model of (bytes_of (cell_in model CustomAttribute c.args.row 2))) none) (c.lines_follow.ensures.nothing c.args.out.now)

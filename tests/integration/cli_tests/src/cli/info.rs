@@ -122,8 +122,9 @@ const ATTRIBUTES_JSON: &str = "\
 {\"directive\":\"attribute\",\"namespace\":\"\",\"name\":\"B\",\"text\":null}
 ";
 
-/// A root with attributes of a type, of the assembly by a method and by a MemberRef, and of the assembly with a number.
-fn root_of_own_attributes(alloc: Global) -> Result<Vec<u8>, AllocError> {
+/// A root with attributes of a type, of the assembly by a method and by a MemberRef, and `last` ones of the assembly with a
+/// number.
+fn root_of_own_attributes(alloc: Global, last: usize) -> Result<Vec<u8>, AllocError> {
     let mut root = RootBuilder::new(alloc);
     root.row(0x01, b"\0\0\x05\0\0\0")?;
     root.row(0x02, b"\0\0\0\0\x03\0\x01\0\0\0\x01\0\x01\0")?;
@@ -133,7 +134,9 @@ fn root_of_own_attributes(alloc: Global) -> Result<Vec<u8>, AllocError> {
     root.row(0x0C, b"\x23\0\x0A\0\x11\0")?;
     root.row(0x0C, b"\x2E\0\x0A\0\x11\0")?;
     root.row(0x0C, b"\x2E\0\x0B\0\x1F\0")?;
-    root.row(0x0C, b"\x2E\0\x13\0\x1F\0")?;
+    for _ in 0..last {
+        root.row(0x0C, b"\x2E\0\x13\0\x1F\0")?;
+    }
     root.row(0x20, b"\x04\x80\0\0\0\0\0\0\0\0\0\0\0\0\0\0\0\0\x03\0\0\0")?;
     root.heap("#Strings", b"\0N\0A\0B\0.ctor\0")?;
     root.heap(
@@ -145,17 +148,23 @@ fn root_of_own_attributes(alloc: Global) -> Result<Vec<u8>, AllocError> {
 
 #[test]
 fn prints_attributes_of_strings(rt: HostRuntime) -> Result<(), Fail> {
-    let root = root_of_own_attributes(rt.alloc())?;
+    let root = root_of_own_attributes(rt.alloc(), 1022)?;
     fs::write(&rt, "attributes.root", root.as_slice())?;
+    let root = root_of_own_attributes(rt.alloc(), 1023)?;
+    fs::write(&rt, "more.root", root.as_slice())?;
     for (words, want) in [
         (["clim", "info", "--bare", "attributes.root"].as_slice(), ATTRIBUTES),
         (&["clim", "info", "--bare", "--json", "attributes.root"], ATTRIBUTES_JSON),
+        (&["clim", "info", "--bare", "more.root"], "\nattribute B null \"a\"\nmore attributes 1\n"),
+        (&["clim", "info", "--bare", "--json", "more.root"], "}\n{\"directive\":\"attributes\",\"left\":1}\n"),
     ] {
         let (status, out, err) = answer(&rt, words)?;
         assert!(rt; out.ends_with(want));
         assert_eq!(rt; (status, err.as_str()), (0, ""));
     }
-    fs::remove_file(&rt, "attributes.root")?;
+    for file in ["attributes.root", "more.root"] {
+        fs::remove_file(&rt, file)?;
+    }
     Ok(())
 }
 

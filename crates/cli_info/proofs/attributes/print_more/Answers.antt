@@ -1,0 +1,13 @@
+use Rattle.std.proofs.Common.{◌≡◌, List, arith, ap, subst, suc}
+use Rattle.cli_lines.specs.Lines.{Part}
+use Rattle.cli_lines.specs.Printed.{Prints}
+use Rattle.cli_info.specs.Attributes.{more_lines}
+use Rattle.cli_info.proofs.attributes.print_more.Goals as goal
+
+pub returns-then-number-gt0 : goal.returns-then-number-gt0
+returns-then-number-gt0 g c = ?
+
+pub returns-else-number-gt0 : goal.returns-else-number-gt0
+returns-else-number-gt0 g c =
+    let none : 0 ≡ c.args.number = omega (arith, c.if-number-gt0.false) in
+    subst (λ (lines : List (List Part)). Prints c.args.out.now c.args.out.now lines) (ap more_lines none) (c.lines_follow.ensures.nothing c.args.out.now)
