@@ -1,17 +1,15 @@
 -- The attributes of the assembly, by the tables of their types and by their rows.
-use Rattle.std.proofs.Common.{◌≡◌, ◌∙◌, ◌≤◌, ◌<◌, ◌+◌, ◌-◌, ℕ, suc, true, false, Option, None, Some, List, [], cond, ap, arith, refl, sym}
-use Rattle.std.specs.Prelude.{◌++◌, flat_map}
+use Rattle.std.proofs.Common.{◌≡◌, ◌∙◌, ◌≤◌, ◌<◌, ◌+◌, ◌-◌, ℕ, zero, suc, true, false, Option, None, Some, List, [], ◌∷◌, cond, length, take, ap, arith, refl, sym}
+use Rattle.std.proofs.lemmas.List.{append_assoc}
+use Rattle.std.specs.Prelude.{◌++◌, filter, flat_map}
 use Rattle.std.specs.List.{range_with_len}
 use Rattle.table_schema.specs.declared.table.TableId.{TableId}
 use Rattle.table_schema.specs.declared.table.TableId.TheVariants.{Assembly, CustomAttribute, TypeDef, TypeRef}
 use Rattle.table_schema.specs.declared.token.Token.{Token}
 use Rattle.attribute_values.specs.Items.{Item}
-use Rattle.metadata.specs.Cell.{Cell, Ref}
-use Rattle.metadata.specs.Metadata.{Metadata, cell_in}
-use Rattle.navigation.specs.Cells.{reference_in}
-use Rattle.cli_declarations.specs.Parts.{bytes_of}
+use Rattle.metadata.specs.Metadata.{Metadata}
 use Rattle.cli_lines.specs.Lines.{Part}
-use Rattle.cli_info.specs.Attributes.{attribute_limit, attribute_lines, is_assembly_table, is_own, lines_of_items, lines_of_rows, lines_of_type, more_lines, own_after}
+use Rattle.cli_info.specs.Attributes.{attribute_limit, attribute_lines, is_assembly_table, is_own, lines_of_items, lines_of_rows, lines_of_type, more_line, more_lines, own_after}
 
 pub other_table : (table : TableId) → (table ≡ Assembly → ⊥) → is_assembly_table table ≡ false
 other_table Assembly not = absurd (not refl)
@@ -29,21 +27,21 @@ no_items model (Some class) = refl
 -- ---- the rows that are attributes of the assembly
 
 module _ (model : Metadata) (earlier count : ℕ) where
-  after_own : earlier < count → is_own model (earlier + 1) ≡ true → own_after model earlier count ≡ (earlier + 1) ∷ own_after model (earlier + 1) count
+  pub after_own : earlier < count → is_own model (earlier + 1) ≡ true → own_after model earlier count ≡ (earlier + 1) ∷ own_after model (earlier + 1) count
   unfolding own_after
   after_own within is =
       let e : count - earlier ≡ suc (count - (earlier + 1)) = omega (arith, within) in
       let later = own_after model (earlier + 1) count in
       ap (λ n. filter (is_own model) (range_with_len (earlier + 1) n)) e ∙ (λ i. cond (is i) ((earlier + 1) ∷ later) later)
 
-  after_other : earlier < count → is_own model (earlier + 1) ≡ false → own_after model earlier count ≡ own_after model (earlier + 1) count
+  pub after_other : earlier < count → is_own model (earlier + 1) ≡ false → own_after model earlier count ≡ own_after model (earlier + 1) count
   unfolding own_after
   after_other within is =
       let e : count - earlier ≡ suc (count - (earlier + 1)) = omega (arith, within) in
       let later = own_after model (earlier + 1) count in
       ap (λ n. filter (is_own model) (range_with_len (earlier + 1) n)) e ∙ (λ i. cond (is i) ((earlier + 1) ∷ later) later)
 
-  after_all : count ≤ earlier → own_after model earlier count ≡ []
+  pub after_all : count ≤ earlier → own_after model earlier count ≡ []
   unfolding own_after
   after_all past =
       let e : count - earlier ≡ 0 = omega (arith, past) in
@@ -56,39 +54,39 @@ lines_after model own rows = flat_map (attribute_lines model) (take (attribute_l
 
 pub lines_of_all : (model : Metadata) (rows : List ℕ) → lines_after model 0 rows ≡ lines_of_rows model rows
 unfolding lines_after
-lines_of_all model rows = refl
+lines_of_all model rows =
+    let e : 0 + length rows ≡ length rows = omega arith in
+    ap (λ n. flat_map (attribute_lines model) (take attribute_limit rows) ++ more_lines (n - attribute_limit)) e
 
-module _ (model : Metadata) (own earlier count : ℕ) where
-  abbrev rows : List ℕ
-  rows = own_after model (earlier + 1) count
-
-  pub one_printed : earlier < count → is_own model (earlier + 1) ≡ true → own < 1024
-      → attribute_lines model (earlier + 1) ++ lines_after model (own + 1) rows ≡ lines_after model own (own_after model earlier count)
+module _ (model : Metadata) (own row : ℕ) (rows : List ℕ) where
+  pub one_printed : own < 256 → attribute_lines model row ++ lines_after model (own + 1) rows ≡ lines_after model own (row ∷ rows)
   unfolding lines_after
-  one_printed within is few =
-      let line = attribute_lines model (earlier + 1) in
+  one_printed few =
       let lines = flat_map (attribute_lines model) (take (attribute_limit - (own + 1)) rows) in
       let first : suc (attribute_limit - (own + 1)) ≡ attribute_limit - own = omega (arith, few) in
       let more : own + 1 + length rows - attribute_limit ≡ own + suc (length rows) - attribute_limit = omega arith in
-      sym (append_assoc line lines (more_lines (own + 1 + length rows - attribute_limit)))
-      ∙ (λ i. flat_map (attribute_lines model) (take (first i) ((earlier + 1) ∷ rows)) ++ more_lines (more i))
-      ∙ sym (ap (lines_after model own) (after_own model earlier count within is))
+      sym (append_assoc (attribute_lines model row) lines (more_lines (own + 1 + length rows - attribute_limit)))
+      ∙ (λ i. flat_map (attribute_lines model) (take (first i) (row ∷ rows)) ++ more_lines (more i))
 
-  pub one_more : earlier < count → is_own model (earlier + 1) ≡ true → 1024 ≤ own → lines_after model (own + 1) rows ≡ lines_after model own (own_after model earlier count)
+  pub one_more : 256 ≤ own → lines_after model (own + 1) rows ≡ lines_after model own (row ∷ rows)
   unfolding lines_after
-  one_more within is many =
+  one_more many =
       let none : attribute_limit - (own + 1) ≡ 0 = omega (arith, many) in
       let other : 0 ≡ attribute_limit - own = omega (arith, many) in
       let more : own + 1 + length rows - attribute_limit ≡ own + suc (length rows) - attribute_limit = omega arith in
       (λ i. flat_map (attribute_lines model) (take (none i) rows) ++ more_lines (more i))
-      ∙ ap (λ n. flat_map (attribute_lines model) (take n ((earlier + 1) ∷ rows)) ++ more_lines (own + suc (length rows) - attribute_limit)) other
-      ∙ sym (ap (lines_after model own) (after_own model earlier count within is))
+      ∙ ap (λ n. flat_map (attribute_lines model) (take n (row ∷ rows)) ++ more_lines (own + suc (length rows) - attribute_limit)) other
 
-  pub no_more : earlier < count → is_own model (earlier + 1) ≡ false → lines_after model own rows ≡ lines_after model own (own_after model earlier count)
-  no_more within is = sym (ap (lines_after model own) (after_other model earlier count within is))
+none_taken : (n : ℕ) → [] ≡ take {A = ℕ} n []
+none_taken zero = refl
+none_taken (suc n) = refl
 
-  pub all_printed : count ≤ earlier → more_lines (own - 1024) ≡ lines_after model own (own_after model earlier count)
-  unfolding lines_after
-  all_printed past =
-      let e : own - 1024 ≡ own + 0 - attribute_limit = omega arith in
-      ap more_lines e ∙ sym (ap (lines_after model own) (after_all model earlier count past))
+pub all_printed : (model : Metadata) (own : ℕ) → more_lines (own - 256) ≡ lines_after model own []
+unfolding lines_after
+all_printed model own =
+    let e : own - 256 ≡ own + 0 - attribute_limit = omega arith in
+    ap more_lines e ∙ ap (λ rows. flat_map (attribute_lines model) rows ++ more_lines (own + 0 - attribute_limit)) (none_taken (attribute_limit - own))
+
+pub some_more : (number : ℕ) → 0 < number → more_line number ∷ [] ≡ more_lines number
+some_more zero some = absurd (omega (arith, some))
+some_more (suc n) some = refl

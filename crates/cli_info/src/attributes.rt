@@ -33,7 +33,7 @@ const PARENT: usize = 0;
 const VALUE: usize = 2;
 
 /// The largest number of attributes of the assembly that are read. Many rows can share a constructor and a value that take long.
-const ATTRIBUTE_LIMIT: u32 = 1024;
+const ATTRIBUTE_LIMIT: u32 = 256;
 
 /// A text in quotes, or `null`.
 fn quoted_or_null(text: Option<&str>) -> Value<'_>

@@ -31,7 +31,7 @@ const MVID: usize = 2;
 
 /// Prints what one wants to know first: the identity of the assembly; its module; the version of the runtime; the headers,
 /// unless the bytes are a bare root; the numbers of types, methods, fields and resources; the identity of each assembly that it
-/// refers to; and each attribute of the assembly whose arguments are strings. Of more than 1,024 attributes the first ones are
+/// refers to; and each attribute of the assembly whose arguments are strings. Of more than 256 attributes the first ones are
 /// read, and the number of the others is printed.
 ///
 /// Its time is that of the lines, and of the SHA-1 of each key, of which at most 2,080 bytes are read for a row; a key that is

@@ -370,12 +370,12 @@ def attributes_with_a_long_signature(size):
 
 
 def attributes_of_strings(size):
-    """Attributes with a constructor that takes the greatest number of strings that is looked at, and a value that has none."""
-    return own_attributes(size, 8, blob_of(b"\x20\x40\x01" + b"\x0e" * 64), blob_of(b"\1\0\0\0"))
+    """Attributes with a constructor that takes the greatest number of strings that is looked at. A byte after them makes them none."""
+    return own_attributes(size, 8, blob_of(b"\x20\x40\x01" + b"\x0e" * 64), blob_of(b"\1\0" + bytes(64 + 3)))
 
 
 def attributes_of_enums(size):
-    """The same, with enums in place of the strings."""
+    """The same of enums, whose values are read."""
     return own_attributes(size, 8, blob_of(b"\x20\x40\x01" + b"\x11\x04" * 64), blob_of(b"\1\0" + bytes(258)))
 
 

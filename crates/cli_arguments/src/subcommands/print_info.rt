@@ -25,7 +25,7 @@ Each line begins with a word for what follows it:
              if all arguments are strings; one with a value of more than 1,024
              bytes has no line
   more       the number of custom attributes of the assembly after the first
-             1,024, which are not read; no line if there are none
+             256, which are not read; no line if there are none
 With '--bare' there are no lines from 'format' to 'signature'. Texts are escaped
 like those of 'clim show', but not quoted: a name may have commas. '--json' has
 it apart. PublicKeyToken is computed from the key; it is '?' if the key has more

@@ -1,11 +1,13 @@
-use Rattle.std.proofs.Common.{◌≡◌, List, arith, ap, subst, suc}
+use Rattle.std.proofs.Common.{◌≡◌, List, arith, ap, subst}
 use Rattle.cli_lines.specs.Lines.{Part}
 use Rattle.cli_lines.specs.Printed.{Prints}
 use Rattle.cli_info.specs.Attributes.{more_lines}
+use Rattle.cli_info.proofs.AttributeLemmas.{some_more}
 use Rattle.cli_info.proofs.attributes.print_more.Goals as goal
 
 pub returns-then-number-gt0 : goal.returns-then-number-gt0
-returns-then-number-gt0 g c = ?
+returns-then-number-gt0 g c =
+    subst (λ (lines : List (List Part)). Prints c.args.out.now c.line.new.self lines) (some_more c.args.number c.if-number-gt0.true) c.line.ensures
 
 pub returns-else-number-gt0 : goal.returns-else-number-gt0
 returns-else-number-gt0 g c =

@@ -148,9 +148,9 @@ fn root_of_own_attributes(alloc: Global, last: usize) -> Result<Vec<u8>, AllocEr
 
 #[test]
 fn prints_attributes_of_strings(rt: HostRuntime) -> Result<(), Fail> {
-    let root = root_of_own_attributes(rt.alloc(), 1022)?;
+    let root = root_of_own_attributes(rt.alloc(), 254)?;
     fs::write(&rt, "attributes.root", root.as_slice())?;
-    let root = root_of_own_attributes(rt.alloc(), 1023)?;
+    let root = root_of_own_attributes(rt.alloc(), 255)?;
     fs::write(&rt, "more.root", root.as_slice())?;
     for (words, want) in [
         (["clim", "info", "--bare", "attributes.root"].as_slice(), ATTRIBUTES),
