@@ -26,7 +26,7 @@ loop-earlier-preserved g c =
     let before = c.loop-earlier in
     let own = before.invariant.own in
     elim c.if-is_own.branch [
-      then-is_own w ↦ record {
+      | then-is_own w ↦ record {
         own = let one = w.own-is in omega (arith, own, one);
         printed = λ model later is printed.
             let all = count_in model CustomAttribute in
@@ -38,15 +38,15 @@ loop-earlier-preserved g c =
             before.invariant.printed model later is
             (subst (λ (found : List ℕ). Prints before.out later (lines_after model before.own found)) (sym (after_own model before.earlier all within (sym (c.is_own.ensures model is) ∙ w.if-is_own.true)))
             (elim w.if-own-lt-ATTRIBUTE_LIMIT.branch [
-              then-own-lt-ATTRIBUTE_LIMIT v ↦
-                subst (λ (lines : List (List Part)). Prints before.out later lines) (one_printed model before.own (before.earlier + 1) rows v.if-own-lt-ATTRIBUTE_LIMIT.true)
-                (c.lines_follow.ensures.more _ _ _ _ _ (v.print_attribute.ensures model is) (subst (λ (out : Printed _). Prints out later (lines_after model (before.own + 1) rows)) v.out-is next))
-            | else-own-lt-ATTRIBUTE_LIMIT v ↦
-                subst (λ (lines : List (List Part)). Prints before.out later lines) (one_more model before.own (before.earlier + 1) rows v.if-own-lt-ATTRIBUTE_LIMIT.false)
-                (subst (λ (out : Printed _). Prints out later (lines_after model (before.own + 1) rows)) v.out-is next)
+              | then-own-lt-ATTRIBUTE_LIMIT v ↦
+                  subst (λ (lines : List (List Part)). Prints before.out later lines) (one_printed model before.own (before.earlier + 1) rows v.if-own-lt-ATTRIBUTE_LIMIT.true)
+                  (c.lines_follow.ensures.more _ _ _ _ _ (v.print_attribute.ensures model is) (subst (λ (out : Printed _). Prints out later (lines_after model (before.own + 1) rows)) v.out-is next))
+              | else-own-lt-ATTRIBUTE_LIMIT v ↦
+                  subst (λ (lines : List (List Part)). Prints before.out later lines) (one_more model before.own (before.earlier + 1) rows v.if-own-lt-ATTRIBUTE_LIMIT.false)
+                  (subst (λ (out : Printed _). Prints out later (lines_after model (before.own + 1) rows)) v.out-is next)
             ]));
       }
-    | else-is_own w ↦ record {
+      | else-is_own w ↦ record {
         own = let same = w.own-is in omega (arith, own, same);
         printed = λ model later is printed.
             let all = count_in model CustomAttribute in
