@@ -3,7 +3,7 @@ use Rattle.std.specs.Prelude.{ℕ, List, ◌∷◌, ◌++◌, codes}
 use Rattle.std.specs.declared.io.ErrorKind.{ErrorKind}
 use Rattle.std.specs.declared.io.ErrorKind.TheVariants as cause
 use Rattle.cli_faults.specs.declared.file_error.Reason.{Reason}
-use Rattle.cli_faults.specs.declared.file_error.Reason.TheVariants.{NoSuchFile, Directory, PermissionDenied, NoSpace, Leftover, StandardOutput, Input, ClosedPipe, TooLong, Circle, Other}
+use Rattle.cli_faults.specs.declared.file_error.Reason.TheVariants.{NoSuchFile, Directory, PermissionDenied, NoSpace, Leftover, StandardOutput, Input, ClosedPipe, TooLong, Circle, LongList, Other}
 use Rattle.cli_faults.specs.declared.file_error.FileError.{FileError}
 use Rattle.cli_faults.specs.Escaped.{escaped_text}
 
@@ -32,6 +32,7 @@ reason_text Input = codes "FILE itself, which cannot be replaced"
 reason_text ClosedPipe = codes "a closed pipe"
 reason_text TooLong = codes "the path is too long"
 reason_text Circle = codes "a circle of links"
+reason_text LongList = codes "the list has more than 2^30 bytes"
 reason_text Other = codes "another error of the system"
 
 -- the path, and then a line with the reason

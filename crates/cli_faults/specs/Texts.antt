@@ -1,5 +1,5 @@
 -- The lines that report failures.
-use Rattle.std.specs.Prelude.{ℕ, List, [], ◌∷◌, ◌++◌, codes, Option, None, Some}
+use Rattle.std.specs.Prelude.{ℕ, List, [], ◌∷◌, ◌++◌, codes, decimal, Option, None, Some}
 use Rattle.std.specs.Borrow.{Bor}
 use Rattle.packed.specs.Codes.{fault_text, name_of, number_of_code}
 use Rattle.packed.specs.declared.code.FaultCode.{FaultCode}
@@ -14,7 +14,7 @@ use Rattle.cli_faults.specs.declared.misfit.Misfit.TheVariants.{Unlike, Headers,
 use Rattle.cli_faults.specs.declared.usage_error.Nearest.{Nearest}
 use Rattle.cli_faults.specs.declared.usage_error.Nearest.TheVariants as nearest
 use Rattle.cli_faults.specs.declared.usage_error.UsageError.{UsageError}
-use Rattle.cli_faults.specs.declared.usage_error.UsageError.TheVariants.{NoToken, NoCode, NoFile, FilesAndList, OutputIsDash, ExtractAlone, NoTable, NoOffset, NoColumn}
+use Rattle.cli_faults.specs.declared.usage_error.UsageError.TheVariants.{NotText, NoToken, NoCode, NoFile, FilesAndList, OutputIsDash, ExtractAlone, NoTable, NoOffset, NoColumn}
 
 -- the line of a hint, after a line feed; nothing without a name
 abbrev pub nearest_text : Nearest → List ℕ
@@ -42,6 +42,7 @@ hint_of_column (Some column) = hint_with (table_name column.0 ++ codes "." ++ co
 -- the line that reports an argument that is wrong, without its line feed; arguments in it are escaped, and a line with a
 -- hint follows if a name is near
 abbrev pub usage_text : UsageError → List ℕ
+usage_text (NotText number) = codes "error: argument " ++ decimal number ++ codes " is not UTF-8"
 usage_text (NoToken word) = codes "error: HEX is one to eight hexadecimal digits, as '06001d06', not '" ++ escaped_text word.now ++ codes "'"
 usage_text (NoCode word code) =
     codes "error: CODE is the number or the name of a fault, which 'clim explain' lists, not '" ++ escaped_text word.now ++ codes "'" ++ hint_of_code code

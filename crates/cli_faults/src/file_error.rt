@@ -63,6 +63,8 @@ pub enum Reason {
     TooLong,
     /// The links on the path lead to one another.
     Circle,
+    /// A list of names has more than 2^30 bytes.
+    LongList,
     /// Any other error.
     Other,
 }
@@ -105,6 +107,7 @@ impl fmt::Display for Reason {
             Reason::ClosedPipe => "a closed pipe",
             Reason::TooLong => "the path is too long",
             Reason::Circle => "a circle of links",
+            Reason::LongList => "the list has more than 2^30 bytes",
             Reason::Other => "another error of the system",
         })
     }

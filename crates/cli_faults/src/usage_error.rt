@@ -11,6 +11,8 @@ use table_schema::TableId;
 /// the line feed. Arguments in it are [`Escaped`].
 #[derive(Clone, Copy, PartialEq, Eq)]
 pub enum UsageError<'a> {
+    /// The argument with this number is not UTF-8, counted from 1 after the name of the program.
+    NotText(usize),
     /// The argument is not a token.
     NoToken(&'a str),
     /// The argument is not the number or the name of a fault. The rule with the nearest name, if one is near.
@@ -96,6 +98,7 @@ impl fmt::Display for UsageError<'_> {
 
     fn fmt<W: fmt::Write>(&self, f: &mut fmt::Formatter<W>) -> fmt::Result {
         match self {
+            UsageError::NotText(number) => write!(f, "error: argument {number} is not UTF-8"),
             UsageError::NoToken(word) => write!(
                 f,
                 "error: HEX is one to eight hexadecimal digits, as '06001d06', not '{}'",

@@ -71,7 +71,7 @@ fn read_list<'a, R: Files + Input + AllocGlobal>(
     if list.len() as u64 > LIMIT {
         return Err(Failure::CannotRead(FileError {
             path,
-            reason: Reason::Other,
+            reason: Reason::LongList,
         }));
     }
     Ok(list)

@@ -10,7 +10,7 @@ use std::{env, io};
 fn main(rt: HostRuntime) -> ExitCode {
     let status = match run(&rt) {
         Ok(status) => status,
-        Err(error) => refuse_words(rt.alloc(), &error, &mut rt.stderr()),
+        Err(error) => refuse_words(&rt, &error, &mut rt.stderr()),
     };
     ExitCode::from(status)
 }

@@ -89,7 +89,7 @@ fn stands_full_devices(rt: HostRuntime) -> Result<(), Fail> {
         (ErrorKind::OutOfMemory, 3, "error: out of memory\n"),
     ] {
         let mut err = Vec::new(rt.alloc());
-        assert_eq!(rt; refuse_words(rt.alloc(), &io::Error::from(kind), &mut err), status);
+        assert_eq!(rt; refuse_words(&rt, &io::Error::from(kind), &mut err), status);
         assert_eq!(rt; err.as_slice(), reported.as_bytes());
     }
     Ok(())
