@@ -87,8 +87,10 @@ class Rows:
         return self.tables[table_of(token)][int(token[2:], 16) - 1]
 
     def is_unclear(self, row):
-        """Why the line of a row, or of one that it refers to, is not clear, if it is not."""
-        return next((self.unclear[it] for it in row.values() if isinstance(it, str) and it in self.unclear), None)
+        """Why the line of a row, or of one that it refers to, is not clear, if it is not. A parameter is named by its method."""
+        tokens = [it for it in row.values() if isinstance(it, str)]
+        owners = [self.owners.get(it) for it in tokens]
+        return next((self.unclear[it] for it in tokens + owners if it in self.unclear), None)
 
     # ---- types
 
