@@ -5,7 +5,6 @@ use Rattle.std.proofs.lemmas.Option.{same_Some}
 use Rattle.std.specs.Coded.{le_prop}
 use Rattle.std.specs.Prelude.{⊤, Contains, IfSome}
 use Rattle.table_schema.specs.declared.table.TableId.{TableId}
-use Rattle.table_schema.specs.declared.table.TableId.TheVariants.{TypeDef}
 use Rattle.table_schema.specs.declared.token.Token.{Token}
 use Rattle.table_schema.specs.declared.column.ColumnKind.{ColumnKind}
 use Rattle.table_schema.specs.declared.column.ColumnKind.TheVariants as kind
@@ -18,39 +17,33 @@ use Rattle.metadata.specs.Valid.{IsValid, MayRefer, kind_at, nullable_at}
 use Rattle.reading.specs.declared.cell_ref.CellRef.{CellRef}
 use Rattle.reading.specs.declared.cell_ref.CellRef.TheVariants as seen
 use Rattle.reading.specs.Shown.{Shows}
-use Rattle.navigation.specs.Nesting.{type_token}
 
--- a reference to a type, which is not null
-abbrev pub IsTypeRow : Metadata → Option Token → Type 0
-IsTypeRow model None = ⊥
-IsTypeRow model (Some token) = (token ≡ type_token token.row) × HasRow model TypeDef token.row
+-- a reference to a row of a table, which is not null
+abbrev pub IsTo : Metadata → TableId → Option Token → Type 0
+IsTo model of None = ⊥
+IsTo model of (Some token) = (token ≡ record { table = of; row = token.row }) × HasRow model of token.row
 
-only_type : (token : Token) → Contains (Some TypeDef ∷ []) (Some token.table) → TypeDef ≡ token.table
-only_type token (zero, within, is) = same_Some TypeDef token.table is
-only_type token (suc k, within, is) = absurd (omega arith)
+only_table : (of : TableId) (token : Token) → Contains (Some of ∷ []) (Some token.table) → of ≡ token.table
+only_table of token (zero, within, is) = same_Some of token.table is
+only_table of token (suc k, within, is) = absurd (omega arith)
 
-type_of : (token : Token) → TypeDef ≡ token.table → token ≡ type_token token.row
-type_of token same = ap (λ (t : TableId). record { table = t; row = token.row }) (sym same)
+is_to : (model : Metadata) (of : TableId) (reference : Option Token) → IsOfKind (kind.Row of) (Ref reference) → MayRefer model false (Ref reference) → IsTo model of reference
+is_to model of None of_kind refers = absurd cc
+is_to model of (Some token) of_kind refers =
+    let same = sym (only_table of token of_kind) in
+    (ap (λ (t : TableId). record { table = t; row = token.row }) same, subst (λ (t : TableId). HasRow model t token.row) same refers)
 
-row_of_type : (model : Metadata) (reference : Option Token) → IsOfKind (kind.Row TypeDef) (Ref reference) → MayRefer model false (Ref reference)
-    → IsTypeRow model reference
-row_of_type model None of_kind refers = absurd cc
-row_of_type model (Some token) of_kind refers =
-    let same = only_type token of_kind in
-    let P : TableId → Type 0 = λ t. HasRow model t token.row in
-    (type_of token same, subst P (sym same) refers)
-
--- in a column of types that allows no null, a reference is to a type
-pub to_type : (model : Metadata) → IsValid model → (table : TableId) (row cell : ℕ) → HasRow model table row → cell < cell_count table
-    → kind_at table cell ≡ kind.Row TypeDef → nullable_at table cell ≡ false
-    → (reference found : Option Token) → cell_in model table row cell ≡ Ref reference → reference ≡ found → IsTypeRow model found
-to_type model valid table row cell there within is_row not_null reference found is same =
+-- in a column of rows of a table that allows no null, a reference is to a row of the table
+pub to_row : (model : Metadata) → IsValid model → (of table : TableId) (row cell : ℕ) → HasRow model table row → cell < cell_count table
+    → kind_at table cell ≡ kind.Row of → nullable_at table cell ≡ false
+    → (reference found : Option Token) → cell_in model table row cell ≡ Ref reference → reference ≡ found → IsTo model of found
+to_row model valid of table row cell there within is_row not_null reference found is same =
     let held = valid.cells table row cell there within in
     let P : ColumnKind → Type 0 = λ k. IsOfKind k (Ref reference) in
     let Q : Cell → Type 0 = λ c. IsOfKind (kind_at table cell) c in
     let R : Bool → Type 0 = λ b. MayRefer model b (Ref reference) in
     let T : Cell → Type 0 = λ c. MayRefer model (nullable_at table cell) c in
-    subst (IsTypeRow model) same (row_of_type model reference (subst P is_row (subst Q is held.of_kind)) (subst R not_null (subst T is held.refers)))
+    subst (IsTo model of) same (is_to model of reference (subst P is_row (subst Q is held.of_kind)) (subst R not_null (subst T is held.refers)))
 
 -- a reference that is not null is to a row that exists
 pub refers_to : (model : Metadata) → IsValid model → (table : TableId) (row cell : ℕ) → HasRow model table row → cell < cell_count table

@@ -1,7 +1,7 @@
 -- The references of a root and of its model have the same numbers.
 use Rattle.std.proofs.Common.{◌≡◌, ◌∙◌, ℕ, ◌<◌, ◌≤◌, ◌==◌, inl, inr, Bool, false, List, refl, sym, ap, arith}
 use Rattle.table_schema.specs.declared.table.TableId.{TableId}
-use Rattle.table_schema.specs.declared.table.TableId.TheVariants.{TypeDef, EventMap, PropertyMap, MethodSemantics, Constant, ClassLayout, FieldLayout, FieldRVA, FieldMarshal, InterfaceImpl, GenericParam, GenericParamConstraint}
+use Rattle.table_schema.specs.declared.table.TableId.TheVariants.{TypeDef, EventMap, PropertyMap}
 use Rattle.table_schema.specs.declared.token.Token.{Token}
 use Rattle.table_schema.specs.declared.column.ColumnKind.TheVariants as kind
 use Rattle.table_schema.specs.CellColumns.{cell_columns, cell_count, column_of}
@@ -16,7 +16,7 @@ use Rattle.metadata.specs.Stands.{Refers}
 use Rattle.reading.specs.KeyRows.{rows_that}
 use Rattle.navigation.specs.declared.links.Link.{Link}
 use Rattle.navigation.specs.declared.links.Link.TheVariants as link_of
-use Rattle.navigation.specs.Linked.{link_in, linked, number_in, number_to, table_of}
+use Rattle.navigation.specs.Linked.{cell_of, link_in, linked, number_in, number_to, table_of}
 use Rattle.navigation.proofs.LinkLemmas.{rows_same}
 
 -- a number in a column of types is that of the reference
@@ -35,15 +35,7 @@ module _ (root : List ℕ) (model : Metadata)
   numbers_are_one link_of.Events row first last = of_type (source_of root) (number_in root link_of.Events row) (cell_in model EventMap row 0) (cells EventMap row 0 first last (omega arith))
   numbers_are_one link_of.Properties row first last =
       of_type (source_of root) (number_in root link_of.Properties row) (cell_in model PropertyMap row 0) (cells PropertyMap row 0 first last (omega arith))
-  numbers_are_one link_of.Accessors row first last = keys MethodSemantics 2 row (record { within = omega arith; key = refl }) first last
-  numbers_are_one link_of.Constants row first last = keys Constant 1 row (record { within = omega arith; key = refl }) first last
-  numbers_are_one link_of.TypeLayouts row first last = keys ClassLayout 2 row (record { within = omega arith; key = refl }) first last
-  numbers_are_one link_of.FieldOffsets row first last = keys FieldLayout 1 row (record { within = omega arith; key = refl }) first last
-  numbers_are_one link_of.FieldData row first last = keys FieldRVA 1 row (record { within = omega arith; key = refl }) first last
-  numbers_are_one link_of.Marshalling row first last = keys FieldMarshal 0 row (record { within = omega arith; key = refl }) first last
-  numbers_are_one link_of.Interfaces row first last = keys InterfaceImpl 0 row (record { within = omega arith; key = refl }) first last
-  numbers_are_one link_of.GenericParams row first last = keys GenericParam 2 row (record { within = omega arith; key = refl }) first last
-  numbers_are_one link_of.Constraints row first last = keys GenericParamConstraint 0 row (record { within = omega arith; key = refl }) first last
+  numbers_are_one of row first last = keys (table_of of) (cell_of of) row (record { within = omega arith; key = refl }) first last
 
   -- so the same rows refer to a row
   pub rows_linked : (of : Link) (number : ℕ) (token : Token) → number ≡ number_to of token

@@ -1,9 +1,10 @@
 -- The rows of NestedClass with a key are those of a nested type, and the first row of an ascending list is the least.
-use Rattle.std.proofs.Common.{◌≡◌, ℕ, zero, suc, ◌<◌, ◌≤◌, ◌↔◌, List, [], ◌∷◌, Option, Some, None, IfSome, IfNone, MatchOption, refl, sym, ◌∙◌, ap, subst, arith, add-one}
+use Rattle.std.proofs.Common.{◌≡◌, ℕ, zero, suc, ◌≤◌, ◌↔◌, List, [], ◌∷◌, Option, Some, None, IfSome, IfNone, MatchOption, refl, sym, ◌∙◌, ap, subst, arith}
 use Rattle.std.proofs.Math.Logic.{∥∥₁_elim}
 use Rattle.std.specs.Coded.{le_prop}
 use Rattle.std.specs.List.{Contains}
 use Rattle.std.specs.List.Sorted.{IsStrictlyIncreasing}
+use Rattle.std.proofs.lemmas.List.Kept.{AllPairs-from_increasing}
 use Rattle.table_schema.specs.declared.table.TableId.TheVariants.{NestedClass}
 use Rattle.table_schema.specs.CellColumns.{cell_columns}
 use Rattle.metadata.specs.Metadata.{Metadata, count_in, cell_in}
@@ -35,16 +36,9 @@ keyed : (model : Metadata) (class row : ℕ) → IsNesting model class row → H
 keyed model class row (there, is) = (there, (0, key_cell, is))
 
 -- the first of an ascending list is its least
-rising_tail : (x y : ℕ) (ys : List ℕ) → IsStrictlyIncreasing (x ∷ (y ∷ ys)) → IsStrictlyIncreasing (y ∷ ys)
-rising_tail x y ys rise = λ k within. rw add-one (rw add-one at (rise (suc k) (omega arith)))
-
 least : (x : ℕ) (tail : List ℕ) → IsStrictlyIncreasing (x ∷ tail) → (row : ℕ) → Contains (x ∷ tail) row → x ≤ row
 least x tail rise row (zero, within, is) = omega arith
-least x [] rise row (suc k, within, is) = absurd (omega arith)
-least x (y ∷ ys) rise row (suc k, within, is) =
-    let more = least y ys (rising_tail x y ys rise) row (k, omega arith, is) in
-    let step : x < y = rise 0 (omega arith) in
-    omega arith
+least x tail rise row (suc k, within, is) = let less = AllPairs-from_increasing (x ∷ tail) rise 0 (suc k) row (omega arith) within in omega (arith, less, is)
 
 module _ (model : Metadata) (class : ℕ) (rows left : List ℕ) (ascending : IsStrictlyIncreasing rows)
     (keyed_rows : (row : ℕ) → Contains rows row ↔ HasTypeKey model class row) where

@@ -2,14 +2,12 @@
 //!
 //! Rows count from 1. A cell is named by its index in its row, from 0 on.
 ghost use Rattle.std.specs.Prelude.{◌≡◌, ◌≤◌, ◌<◌, IfSome, None, Some, false};
-ghost use Rattle.table_schema.specs.declared.table.TableId.TheVariants.{TypeDef};
 ghost use Rattle.table_schema.specs.declared.column.ColumnKind.TheVariants as kind;
 ghost use Rattle.table_schema.specs.CellColumns.{cell_count};
 ghost use Rattle.metadata.specs.Cell.{Number, Text, Ref};
 ghost use Rattle.metadata.specs.Kinds.{IsOfKind};
 ghost use Rattle.metadata.specs.Metadata.{Metadata, cell_in};
 ghost use Rattle.metadata.specs.Valid.{kind_at, nullable_at};
-ghost use Rattle.navigation.specs.Nesting.{type_token};
 
 use metadata_source::ReadCells;
 use reading::CellRef;
@@ -31,20 +29,20 @@ pub fn reference<S: ReadCells>(source: &S, table: TableId, row: u32, cell: usize
     }
 }
 
-/// The type that a cell names, as a row of TypeDef, in a column of types that allows no null.
-pub(crate) fn type_row<S: ReadCells>(source: &S, table: TableId, row: u32, cell: usize) -> u32
+/// The row of a table that a cell names, in a column of these rows that allows no null.
+pub fn target<S: ReadCells>(source: &S, of: TableId, table: TableId, row: u32, cell: usize) -> u32
     requires first { 1 ≤ row }
     requires last { row ≤ S.row_count source.now table }
     requires cell { cell < cell_count table }
-    requires kind { kind_at table cell ≡ kind.Row TypeDef }
+    requires kind { kind_at table cell ≡ kind.Row of }
     requires named { nullable_at table cell ≡ false }
-    ensures value { (model : Metadata) → S.shows source.now model → cell_in model table row cell ≡ Ref (Some (type_token result)) }
+    ensures value { (model : Metadata) → S.shows source.now model → cell_in model table row cell ≡ Ref (Some (record { table = of; row = result })) }
     ensures first { 1 ≤ result }
-    ensures last { result ≤ S.row_count source.now TypeDef }
+    ensures last { result ≤ S.row_count source.now of }
 {
     source.holds_one();
     match reference(source, table, row, cell) {
-        Some(class) => class.row,
+        Some(found) => found.row,
         None => unreachable!(),
     }
 }

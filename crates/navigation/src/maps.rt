@@ -30,7 +30,7 @@ fn type_of_map<S: ReadCells>(source: &S, table: TableId, row: u32) -> u32
     ensures last { result ≤ S.row_count source.now TypeDef }
 {
     source.holds_one();
-    cells::type_row(source, table, row, PARENT)
+    cells::target(source, TableId::TypeDef, table, row, PARENT)
 }
 
 /// The first row of EventMap or PropertyMap that is of a type; `None` if there is none.

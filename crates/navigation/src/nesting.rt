@@ -39,8 +39,9 @@ pub fn enclosing_type<S: ReadCells>(source: &S, row: u32) -> Option<u32>
     ensures last { IfSome result (λ outer. outer ≤ S.row_count source.now TypeDef) }
 {
     source.holds_one();
+    let table = TableId::NestedClass;
     match first_nesting(source, row) {
-        Some(nesting) => Some(cells::type_row(source, TableId::NestedClass, nesting, ENCLOSING)),
+        Some(nesting) => Some(cells::target(source, TableId::TypeDef, table, nesting, ENCLOSING)),
         None => None,
     }
 }

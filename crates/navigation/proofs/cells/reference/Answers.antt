@@ -23,8 +23,7 @@ pub returns-clause-there : goal.returns-clause-there
 returns-clause-there g c = referred (g.S.ReadMetadata.row_count c.args.source.now) c.in-Ref.reference (∥∥₁_map c.holds_one.ensures.shown (λ some.
     let model = some.0 in
     let count = c.holds_one.ensures.rows model some.1 c.args.table in
-    let last = c.requires.last in
-    let there : HasRow model c.args.table c.args.row = (c.requires.first, omega (arith, count, last)) in (
+    let there : HasRow model c.args.table c.args.row = (c.requires.first, omega (arith, count, c.requires.last)) in (
       model,
       c.holds_one.ensures.rows model some.1,
       λ of is. refers_to model (c.holds_one.ensures.valid model some.1) c.args.table c.args.row c.args.cell there

@@ -24,6 +24,5 @@ returns c =
     let count = c.count-count.ensures.rows ∙ ap (λ t. row_count c.args.view.now t) c.table.ensures in
     let some : 1 ≤ c.count-count.result + 1 = omega arith in
     let last = c.loop-row.auto.row-end some in
-    let past = c.loop-row-test.false in
-    let all : c.loop-row.row - 1 ≡ row_count c.args.view.now (table_of c.args.link) = omega (arith, last, past, count) in
+    let all : c.loop-row.row - 1 ≡ row_count c.args.view.now (table_of c.args.link) = omega (arith, last, c.loop-row-test.false, count) in
     c.loop-row.invariant ∙ ap (λ n. keyed_rows (number_in c.args.view.now c.args.link) 1 n) all

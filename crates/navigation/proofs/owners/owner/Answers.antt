@@ -38,14 +38,13 @@ returns-clause-sound g c = λ model shown.
     let there = c.holds_one.ensures.rows model shown (owner_of c.args.list) in
     let members = c.holds_one.ensures.rows model shown (member_of c.args.list) in
     let last = c.requires.last in
-    let first = c.loop-past.invariant.first in
     let ordered = c.loop-past.invariant.ordered in
     let within = c.loop-past.invariant.within in
     let ends = c.loop-past-test.false in
     let low = c.loop-past.low in
     let next : c.loop-past.past ≡ low + 1 = omega arith in
     let Q : ℕ → Type 0 = λ past. past ≤ count_in model (owner_of c.args.list) → c.args.member < start_of model c.args.list past in
-    owns model (c.holds_one.ensures.valid model shown) c.args.list low c.args.member first (omega arith) (omega arith)
+    owns model (c.holds_one.ensures.valid model shown) c.args.list low c.args.member c.loop-past.invariant.first (omega arith) (omega arith)
     (c.loop-past.invariant.from model shown) (subst Q next (c.loop-past.invariant.to model shown))
 
 pub returns-clause-one : goal.returns-clause-one
@@ -53,12 +52,11 @@ returns-clause-one g c = λ model shown.
     let there = c.holds_one.ensures.rows model shown (owner_of c.args.list) in
     let members = c.holds_one.ensures.rows model shown (member_of c.args.list) in
     let last = c.requires.last in
-    let first = c.loop-past.invariant.first in
     let ordered = c.loop-past.invariant.ordered in
     let within = c.loop-past.invariant.within in
     let ends = c.loop-past-test.false in
     let low = c.loop-past.low in
     let next : c.loop-past.past ≡ low + 1 = omega arith in
     let Q : ℕ → Type 0 = λ past. past ≤ count_in model (owner_of c.args.list) → c.args.member < start_of model c.args.list past in
-    owns_alone model (c.holds_one.ensures.valid model shown) c.args.list low c.args.member first (omega arith) (omega arith)
+    owns_alone model (c.holds_one.ensures.valid model shown) c.args.list low c.args.member c.loop-past.invariant.first (omega arith) (omega arith)
     (c.loop-past.invariant.from model shown) (subst Q next (c.loop-past.invariant.to model shown))

@@ -1,7 +1,11 @@
-use Rattle.std.proofs.Common.{◌≡◌, ◌∙◌, ℕ, ◌+◌, List, length, ap, sym, subst, arith}
+use Rattle.std.proofs.Common.{◌∙◌, ℕ, ◌+◌, List, length, ap, sym, subst, arith}
 use Rattle.std.proofs.lemmas.List.{length_push}
+use Rattle.table_schema.specs.declared.table.TableId.TheVariants.{NestedClass}
+use Rattle.table_schema.specs.CellColumns.{column_of}
+use Rattle.metadata.specs.Source.{number_of}
+use Rattle.metadata.specs.SourceAt.{source_of}
 use Rattle.navigation.specs.Starts.{AreNestedKeys}
-use Rattle.navigation.proofs.StartLemmas.{keys_more}
+use Rattle.navigation.proofs.StartLemmas.{one_more}
 use Rattle.navigation.proofs.starts.nested_keys.Goals as goal
 
 pub loop-earlier-init : goal.loop-earlier-init
@@ -18,5 +22,5 @@ loop-earlier-preserved c =
     record {
       long = ap length pushed ∙ length_push keys key ∙ ap (λ n. n + 1) c.loop-earlier.invariant.long;
       are = subst (λ (xs : List ℕ). AreNestedKeys c.args.view.now xs) (sym pushed)
-          (keys_more c.args.view.now keys key c.loop-earlier.earlier c.loop-earlier.invariant.long c.loop-earlier.invariant.are (sym c.key.ensures));
+          (one_more (λ k. number_of (source_of c.args.view.now) NestedClass (k + 1) (column_of NestedClass 0)) keys key c.loop-earlier.earlier c.loop-earlier.invariant.long c.loop-earlier.invariant.are (sym c.key.ensures));
     }

@@ -1,12 +1,13 @@
 use Rattle.std.proofs.Common.{◌≡◌, ◌∙◌, ℕ, ◌+◌, ◌≤◌, List, length, ap, sym, subst, arith}
 use Rattle.table_schema.specs.declared.table.TableId.{TableId}
 use Rattle.std.proofs.lemmas.List.{length_push}
+use Rattle.metadata.specs.Metadata.{cell_in}
 use Rattle.metadata.specs.Model.{IsModel}
 use Rattle.metadata.specs.Valid.{start_in}
-use Rattle.metadata_source.specs.MemberLists.{owner_of}
+use Rattle.metadata_source.specs.MemberLists.{cell_of, owner_of}
 use Rattle.opening.specs.Views.{row_count}
 use Rattle.navigation.specs.Starts.{AreStarts}
-use Rattle.navigation.proofs.StartLemmas.{starts_more}
+use Rattle.navigation.proofs.StartLemmas.{one_more}
 use Rattle.navigation.proofs.starts.starts_of.Goals as goal
 
 pub loop-earlier-init : goal.loop-earlier-init
@@ -36,8 +37,8 @@ loop-earlier-preserved c =
     record {
       same = c.run-run.ensures.same ∙ c.loop-earlier.invariant.same;
       long = ap length pushed ∙ length_push starts start ∙ ap (λ n. n + 1) c.loop-earlier.invariant.long;
-      are = subst (λ (xs : List ℕ). AreStarts root list xs) (sym pushed) (starts_more root list starts start c.loop-earlier.earlier c.loop-earlier.invariant.long c.loop-earlier.invariant.are
-          (λ model is.
+      are = subst (λ (xs : List ℕ). AreStarts root list xs) (sym pushed) (λ model is.
           let there : IsModel c.loop-earlier.cells model = subst (λ (r : List ℕ). IsModel r model) (sym c.loop-earlier.invariant.same) is in
-          ap start_in (c.run-run.ensures.run model there).start));
+          one_more (λ k. start_in (cell_in model (owner_of list) (k + 1) (cell_of list))) starts start c.loop-earlier.earlier c.loop-earlier.invariant.long (c.loop-earlier.invariant.are model is)
+          (ap start_in (c.run-run.ensures.run model there).start));
     }

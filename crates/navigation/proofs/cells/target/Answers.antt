@@ -3,12 +3,11 @@ use Rattle.std.proofs.Math.Logic.{∥∥₁_elim}
 use Rattle.std.proofs.lemmas.Grind.{not_there}
 use Rattle.std.specs.Coded.{le_prop}
 use Rattle.table_schema.specs.declared.column.ColumnKind.{ColumnKind}
-use Rattle.table_schema.specs.declared.table.TableId.TheVariants.{TypeDef}
 use Rattle.table_schema.specs.declared.token.Token.{Token}
 use Rattle.metadata.specs.Cell.{Ref}
 use Rattle.metadata.specs.Kinds.{IsOfKind}
-use Rattle.navigation.proofs.CellLemmas.{to_type}
-use Rattle.navigation.proofs.cells.type_row.Goals as goal
+use Rattle.navigation.proofs.CellLemmas.{to_row}
+use Rattle.navigation.proofs.cells.target.Goals as goal
 
 pub reference-requires-clause-kind : goal.reference-requires-clause-kind
 reference-requires-clause-kind g c = subst (λ (k : ColumnKind). IsOfKind k (Ref None)) (sym c.requires.kind) (search rules)
@@ -16,24 +15,21 @@ reference-requires-clause-kind g c = subst (λ (k : ColumnKind). IsOfKind k (Ref
 pub unreachable-requires : goal.unreachable-requires
 unreachable-requires g c = not_there c.holds_one.ensures.shown (λ some.
     let count = c.holds_one.ensures.rows some.0 some.1 c.args.table in
-    let last = c.requires.last in
-    to_type some.0 (c.holds_one.ensures.valid some.0 some.1) c.args.table c.args.row c.args.cell (c.requires.first, omega (arith, count, last)) c.requires.cell
+    to_row some.0 (c.holds_one.ensures.valid some.0 some.1) c.args.of c.args.table c.args.row c.args.cell (c.requires.first, omega (arith, count, c.requires.last)) c.requires.cell
     c.requires.kind c.requires.named c.reference.result None (c.reference.ensures.value some.0 some.1) c.in-None.is)
 
 pub returns-clause-value : goal.returns-clause-value
 returns-clause-value g c = λ model shown.
     let count = c.holds_one.ensures.rows model shown c.args.table in
-    let last = c.requires.last in
-    let is = to_type model (c.holds_one.ensures.valid model shown) c.args.table c.args.row c.args.cell (c.requires.first, omega (arith, count, last)) c.requires.cell
-    c.requires.kind c.requires.named c.reference.result (Some c.in-Some.class) (c.reference.ensures.value model shown) c.in-Some.is in
+    let is = to_row model (c.holds_one.ensures.valid model shown) c.args.of c.args.table c.args.row c.args.cell (c.requires.first, omega (arith, count, c.requires.last)) c.requires.cell
+    c.requires.kind c.requires.named c.reference.result (Some c.in-Some.found) (c.reference.ensures.value model shown) c.in-Some.is in
     c.reference.ensures.value model shown ∙ ap (λ (r : Option Token). Ref r) c.in-Some.is ∙ ap (λ (t : Token). Ref (Some t)) is.0
 
 pub returns-clause-last : goal.returns-clause-last
 returns-clause-last g c = ∥∥₁_elim c.holds_one.ensures.shown le_prop (λ some.
     let count = c.holds_one.ensures.rows some.0 some.1 c.args.table in
-    let types = c.holds_one.ensures.rows some.0 some.1 TypeDef in
-    let last = c.requires.last in
-    let is = to_type some.0 (c.holds_one.ensures.valid some.0 some.1) c.args.table c.args.row c.args.cell (c.requires.first, omega (arith, count, last)) c.requires.cell
-    c.requires.kind c.requires.named c.reference.result (Some c.in-Some.class) (c.reference.ensures.value some.0 some.1) c.in-Some.is in
+    let targets = c.holds_one.ensures.rows some.0 some.1 c.args.of in
+    let is = to_row some.0 (c.holds_one.ensures.valid some.0 some.1) c.args.of c.args.table c.args.row c.args.cell (c.requires.first, omega (arith, count, c.requires.last)) c.requires.cell
+    c.requires.kind c.requires.named c.reference.result (Some c.in-Some.found) (c.reference.ensures.value some.0 some.1) c.in-Some.is in
     let within = is.1.1 in
-    omega (arith, types, within))
+    omega (arith, targets, within))
