@@ -10,6 +10,7 @@ use Rattle.table_schema.specs.declared.table.TableId.TheVariants.{TypeDef, TypeR
 use Rattle.table_schema.specs.contracts.table.TableId as tables
 use Rattle.table_schema.specs.contracts.table.TableIdPartialEq.TheImpl as equal
 use Rattle.table_schema.specs.declared.token.Token.{Token}
+use Rattle.table_schema.specs.declared.column.ColumnKind.{ColumnKind}
 use Rattle.table_schema.specs.declared.column.ColumnKind.TheVariants as kind
 use Rattle.table_schema.specs.declared.column.SigKind.TheVariants as column
 use Rattle.table_schema.specs.declared.coded.Coded.TheVariants as coded
@@ -21,7 +22,7 @@ use Rattle.metadata.specs.Kinds.{IsOfKind}
 use Rattle.metadata.specs.KeyOrder.{IsKeyOrdered, key_in}
 use Rattle.metadata.specs.Lookups.{HasRow, IsKeyCell}
 use Rattle.metadata.specs.Metadata.{Metadata, cell_in, count_in}
-use Rattle.metadata.specs.Valid.{IsValid, MayRefer, nullable_at}
+use Rattle.metadata.specs.Valid.{IsValid, MayRefer, kind_at, nullable_at}
 use Rattle.navigation.specs.Nesting.{IsEnclosed, IsFirstNesting, IsNesting, IsScope, type_token}
 use Rattle.full_names.specs.declared.limit.Scopes.{Scopes}
 use Rattle.full_names.specs.declared.limit.Scopes.TheVariants.{Omitted, Written}
@@ -192,18 +193,13 @@ pub is_text : (cell : Cell) → IsOfKind kind.Text cell → (text : List ℕ) ×
 is_text (Text text) of = (text, refl)
 is_text _ of = absurd of
 
-pub own_def : (model : Metadata) → IsValid model → (row : ℕ) → HasRow model TypeDef row → HasText (IsOwnText model TypeDef row)
-unfolding cell_columns
-own_def model valid row there =
-    let own = is_text (cell_in model TypeDef row 1) (valid.cells TypeDef row 1 there (omega arith)).of_kind in
-    let space = is_text (cell_in model TypeDef row 2) (valid.cells TypeDef row 2 there (omega arith)).of_kind in
-    (type_text space.0 own.0, (space.0, own.0, space.1, own.1, refl))
-
-pub own_ref : (model : Metadata) → IsValid model → (row : ℕ) → HasRow model TypeRef row → HasText (IsOwnText model TypeRef row)
-unfolding cell_columns
-own_ref model valid row there =
-    let own = is_text (cell_in model TypeRef row 1) (valid.cells TypeRef row 1 there (omega arith)).of_kind in
-    let space = is_text (cell_in model TypeRef row 2) (valid.cells TypeRef row 2 there (omega arith)).of_kind in
+pub own_text : (model : Metadata) → IsValid model → (table : TableId) (row : ℕ) → HasRow model table row → 2 < cell_count table
+    → kind_at table 1 ≡ kind.Text → kind_at table 2 ≡ kind.Text → HasText (IsOwnText model table row)
+own_text model valid table row there cells of_name of_space =
+    let text : (cell : ℕ) → cell < cell_count table → kind_at table cell ≡ kind.Text → (text : List ℕ) × (cell_in model table row cell ≡ Text text) =
+    λ cell within of. is_text (cell_in model table row cell) (subst (λ (k : ColumnKind). IsOfKind k (cell_in model table row cell)) of (valid.cells table row cell there within).of_kind) in
+    let own = text 1 (omega (arith, cells)) of_name in
+    let space = text 2 cells of_space in
     (type_text space.0 own.0, (space.0, own.0, space.1, own.1, refl))
 
 module _ (is_outside : ℕ → ℕ → Type 0) (is_own : ℕ → List ℕ → Type 0) (is_row : ℕ → Type 0)
@@ -260,6 +256,13 @@ piece_text is_name named (generic_params n) is = absurd is
 piece_text is_name named (param_flags position) is = absurd is
 piece_text is_name named (param_name position) is = absurd is
 
+pub pieces_text : (is_name : Token → List ℕ → Type 0) → ((token : Token) → HasText (is_name token)) → (pieces : List Piece) → ArePlain pieces → HasText (ArePiecesText (IsPieceText is_name) pieces)
+pieces_text is_name named [] are = ([], refl)
+pieces_text is_name named (piece ∷ pieces) are =
+    let first = piece_text is_name named piece are.0 in
+    let tail = pieces_text is_name named pieces are.1 in
+    (first.0 ++ tail.0, (first.0, first.1, tail.0, tail.1, refl))
+
 module _ (model : Metadata) (valid : IsValid model) where
   stays_def : (row outer : ℕ) → HasRow model TypeDef row → IsOuter model row outer → HasRow model TypeDef outer
   unfolding cell_columns
@@ -270,10 +273,13 @@ module _ (model : Metadata) (valid : IsValid model) where
   stays_ref row outer there is = exists_in model valid TypeRef row 0 there (omega arith) (record { table = TypeRef; row = outer }) is
 
   type_def_text : (row : ℕ) → HasRow model TypeDef row → HasText (IsTypeDefText model 64 row)
-  type_def_text = chain (IsOuter model) (IsOwnText model TypeDef) (HasRow model TypeDef) (outside_def model) stays_def (own_def model valid) 64
+  unfolding cell_columns
+  type_def_text = chain (IsOuter model) (IsOwnText model TypeDef) (HasRow model TypeDef) (outside_def model) stays_def (λ row there. own_text model valid TypeDef row there (omega arith) refl refl) 64
 
   type_ref_text : (row : ℕ) → HasRow model TypeRef row → HasText (IsTypeRefText model 64 row)
-  type_ref_text = chain (IsScope model) (IsOwnText model TypeRef) (HasRow model TypeRef) (λ row. refers_into TypeRef (cell_in model TypeRef row 0)) stays_ref (own_ref model valid) 64
+  unfolding cell_columns
+  type_ref_text =
+      chain (IsScope model) (IsOwnText model TypeRef) (HasRow model TypeRef) (λ row. refers_into TypeRef (cell_in model TypeRef row 0)) stays_ref (λ row there. own_text model valid TypeRef row there (omega arith) refl refl) 64
 
   -- the scope of a type of another module
   may_be : (row : ℕ) → HasRow model TypeRef row → (scope : Option Token) × (cell_in model TypeRef row 0 ≡ Ref scope) × IsThere model scope
@@ -319,13 +325,6 @@ module _ (model : Metadata) (valid : IsValid model) where
       ]
     ]
   ]
-
-  pub pieces_text : (is_name : Token → List ℕ → Type 0) → ((token : Token) → HasText (is_name token)) → (pieces : List Piece) → ArePlain pieces → HasText (ArePiecesText (IsPieceText is_name) pieces)
-  pieces_text is_name named [] are = ([], refl)
-  pieces_text is_name named (piece ∷ pieces) are =
-      let first = piece_text is_name named piece are.0 in
-      let tail = pieces_text is_name named pieces are.1 in
-      (first.0 ++ tail.0, (first.0, first.1, tail.0, tail.1, refl))
 
   type_spec_text : (scopes : Scopes) (signature : Body) → HasText (IsTypeSpecText scopes model signature)
   type_spec_text scopes signature = pieces_text (IsInnerName scopes model) (inner_name scopes) (text_of signature) (text_is_plain signature)

@@ -1,5 +1,5 @@
 -- The text of a name determines the name.
-use Rattle.std.proofs.Common.{◌≡◌, ◌∙◌, ℕ, zero, suc, ◌+◌, ◌-◌, ◌/◌, ◌%◌, ◌<◌, ◌≤◌, Bool, true, false, T, eqb, eqb→eq, eq-zero-or-pos, IsTrue, cond, List, [], ◌∷◌, ◌++◌, ◌⊎◌, inl, inr, length, get_or, take, drop, append-nil, drop-cons, refl, ap, sym, subst, append_assoc, arith}
+use Rattle.std.proofs.Common.{◌≡◌, ◌∙◌, ℕ, zero, suc, ◌+◌, ◌-◌, ◌/◌, ◌%◌, ◌<◌, ◌≤◌, Bool, true, false, T, eq-zero-or-pos, IsTrue, cond, List, [], ◌∷◌, ◌++◌, ◌⊎◌, inl, inr, length, get_or, drop, refl, ap, sym, subst, append_assoc, arith}
 use lib.Ieee.Fits.{and_l, and_r}
 use Rattle.std.specs.Prelude.{◌&&◌, ◌||◌, ◌==◌, not, nat_le, codes, if◌then◌else◌, slice_get, Option, Some, None}
 use Rattle.std.specs.Char.{is_ascii_digit}
@@ -9,9 +9,8 @@ use Rattle.std.specs.Str.{bytes_eq}
 use Rattle.std.proofs.lemmas.Bool.{and_from, and_parts, cases_Bool, or_cases, or_left, or_right}
 use Rattle.std.proofs.lemmas.Bool.Decides.{nat_tests}
 use Rattle.std.proofs.lemmas.Fmt.{hex_byte}
-use Rattle.std.proofs.lemmas.Grind.{flat_map-append}
 use Rattle.std.proofs.lemmas.List.Elements.{All-head, All-tail}
-use Rattle.std.proofs.lemmas.List.{drop_all, drop_more, take-append-drop, take_more}
+use Rattle.std.proofs.lemmas.List.{drop_all, drop_more}
 use Rattle.std.proofs.lemmas.Slice.Eq.{bytes_eq-Decides}
 use Rattle.table_schema.specs.Tokens.{hexadecimal}
 use Rattle.full_names.specs.declared.quoted.TheConstants.{ROLES}
@@ -44,44 +43,38 @@ dotted_end position text i le = ap (is_dotted_from position) (drop_all i text le
 
 -- ---- the role of each byte in an identifier
 
-abbrev role : ℕ → ℕ
-role byte = if begins_identifier byte then 50 else (if is_in_identifier byte then 49 else 48)
+abbrev agree : Bool → Bool → Bool
+agree true b = b
+agree false b = not b
+
+agree_same : (a b : Bool) → T (agree a b) → a ≡ b
+agree_same true true are = refl
+agree_same false false are = refl
+agree_same true false are = absurd are
+agree_same false true are = absurd are
 
 abbrev are_roles : ℕ → Bool
 are_roles zero = true
-are_roles (suc n) = eqb (get_or ROLES n 0) (role n) && are_roles n
+are_roles (suc n) = agree (get_or ROLES n 0 == 50) (begins_identifier n) && (agree (not (get_or ROLES n 0 == 48)) (is_in_identifier n) && are_roles n)
 
-role_below : (count byte : ℕ) → T (are_roles count) → byte < count → get_or ROLES byte 0 ≡ role byte
+role_below : (count byte : ℕ) → T (are_roles count) → byte < count → ((get_or ROLES byte 0 == 50) ≡ begins_identifier byte) × (not (get_or ROLES byte 0 == 48) ≡ is_in_identifier byte)
 role_below zero byte are few = absurd (omega arith)
 role_below (suc count) byte are few =
+    let begins = agree (get_or ROLES count 0 == 50) (begins_identifier count) in
+    let within = agree (not (get_or ROLES count 0 == 48)) (is_in_identifier count) in
+    let others = and_r begins (within && are_roles count) are in
     elim (eq-zero-or-pos (count - byte)) [
-      | inl none ↦ let last : byte ≡ count = omega arith in rw last (eqb→eq _ _ (and_l _ (are_roles count) are))
-      | inr more ↦ role_below count byte (and_r _ (are_roles count) are) (omega arith)
+      | inl none ↦
+          let last : byte ≡ count = omega arith in
+          rw last (agree_same _ _ (and_l begins (within && are_roles count) are), agree_same _ _ (and_l within (are_roles count) others))
+      | inr more ↦ role_below count byte (and_r within (are_roles count) others) (omega arith)
     ]
 
-begins_role : (byte : ℕ) → (role byte == 50) ≡ begins_identifier byte
-begins_role byte = elim (cases_Bool (begins_identifier byte)) [
-  | inl begins ↦ ap (λ t. cond t 50 (cond (is_in_identifier byte) 49 48) == 50) begins ∙ sym begins
-  | inr not_one ↦ elim (cases_Bool (is_in_identifier byte)) [
-    | inl within ↦ ap (λ t. cond t 50 (cond (is_in_identifier byte) 49 48) == 50) not_one ∙ ap (λ t. cond t 49 48 == 50) within ∙ sym not_one
-    | inr other ↦ ap (λ t. cond t 50 (cond (is_in_identifier byte) 49 48) == 50) not_one ∙ ap (λ t. cond t 49 48 == 50) other ∙ sym not_one
-  ]
-]
-
-within_role : (byte : ℕ) → not (role byte == 48) ≡ is_in_identifier byte
-within_role byte = elim (cases_Bool (begins_identifier byte)) [
-  | inl begins ↦ ap (λ t. not (cond t 50 (cond (is_in_identifier byte) 49 48) == 48)) begins ∙ sym (or_left (begins_identifier byte) (is_ascii_digit byte) begins)
-  | inr not_one ↦ elim (cases_Bool (is_in_identifier byte)) [
-    | inl within ↦ ap (λ t. not (cond t 50 (cond (is_in_identifier byte) 49 48) == 48)) not_one ∙ ap (λ t. not (cond t 49 48 == 48)) within ∙ sym within
-    | inr other ↦ ap (λ t. not (cond t 50 (cond (is_in_identifier byte) 49 48) == 48)) not_one ∙ ap (λ t. not (cond t 49 48 == 48)) other ∙ sym other
-  ]
-]
-
 pub begins_at : (byte : ℕ) → byte < 256 → (get_or ROLES byte 0 == 50) ≡ begins_identifier byte
-begins_at byte small = ap (λ n. n == 50) (role_below 256 byte tt small) ∙ begins_role byte
+begins_at byte small = (role_below 256 byte tt small).0
 
 pub within_at : (byte : ℕ) → byte < 256 → not (get_or ROLES byte 0 == 48) ≡ is_in_identifier byte
-within_at byte small = ap (λ n. not (n == 48)) (role_below 256 byte tt small) ∙ within_role byte
+within_at byte small = (role_below 256 byte tt small).1
 
 -- a byte of an identifier is no dot
 not_dot : (byte : ℕ) → is_in_identifier byte ≡ true → (byte == 46) ≡ false
@@ -93,9 +86,6 @@ not_dot byte within = elim (cases_Bool (byte == 46)) [
 pub within_after : (byte : ℕ) → is_in_identifier byte ≡ true → Some Within ≡ position_after Within byte
 within_after byte within =
     sym (ap (λ t. cond t (Some Start) (cond (is_in_identifier byte) (Some Within) None)) (not_dot byte within) ∙ ap (λ t. cond t (Some Within) None) within)
-
-pub other_after : (byte : ℕ) → is_in_identifier byte ≡ false → (if byte == 46 then Some Start else None) ≡ position_after Within byte
-other_after byte other = ap (λ t. cond (byte == 46) (Some Start) (cond t (Some Within) None)) (sym other)
 
 -- an identifier: a byte that begins one, and bytes of one
 abbrev no_dot : List ℕ → Bool
@@ -385,16 +375,6 @@ verbatim_text [] are = refl
 verbatim_text (byte ∷ bytes) are =
     ap (λ ys. byte ∷ ys) (verbatim_text bytes (λ k lt. are (suc k) (omega arith)))
     ∙ ap (λ xs. xs ++ quoted_bytes bytes) (sym (first_of_two (is_verbatim byte) (byte ∷ []) (92 ∷ 120 ∷ hexadecimal 2 byte) (are 0 (omega arith))))
-
--- one more byte between quotes
-pub one_more : (bytes : List ℕ) (i : ℕ) → i < length bytes → quoted_bytes (take i bytes) ++ quoted_byte (get_or bytes i 0) ≡ quoted_bytes (take (i + 1) bytes)
-one_more bytes i lt =
-    let one = get_or bytes i 0 in
-    sym (ap quoted_bytes (take_more bytes i 0 lt) ∙ flat_map-append quoted_byte (take i bytes) (one ∷ []) ∙ ap (λ t. quoted_bytes (take i bytes) ++ t) (append-nil (quoted_byte one)))
-
--- the bytes before and after one
-pub both_parts : (bytes : List ℕ) (i : ℕ) → quoted_bytes (take i bytes) ++ quoted_bytes (drop i bytes) ≡ quoted_bytes bytes
-both_parts bytes i = sym (flat_map-append quoted_byte (take i bytes) (drop i bytes)) ∙ ap quoted_bytes (take-append-drop i bytes)
 
 pub type_alone : (space name : List ℕ) → length space ≡ 0 → name_text Identifier name ≡ type_text space name
 type_alone [] name none = refl

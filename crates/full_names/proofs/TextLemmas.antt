@@ -1,7 +1,9 @@
 -- The text of a chain of types, from the texts that were written one after another.
-use Rattle.std.proofs.Common.{◌≡◌, ℕ, zero, suc, ◌-◌, List, [], ◌∷◌, ◌++◌, append-nil, inl, inr, OnOk, Ok, Err, Result, refl, sym, ◌∙◌, ap, subst, arith}
+use Rattle.std.proofs.Common.{◌≡◌, ◌<◌, ◌≤◌, ℕ, zero, suc, ◌+◌, ◌-◌, drop, get_or, length, take, List, [], ◌∷◌, ◌++◌, append-nil, inl, inr, OnOk, Ok, Err, Result, refl, sym, ◌∙◌, ap, subst, arith}
 use Rattle.std.proofs.lemmas.List.Folds.{concat-append}
-use Rattle.std.specs.List.{FoldsTo, concat}
+use Rattle.std.proofs.lemmas.Grind.{flat_map-append}
+use Rattle.std.proofs.lemmas.List.{take-append-drop, take_all, take_more}
+use Rattle.std.specs.List.{FoldsTo, concat, flat_map}
 use Rattle.std.specs.Prelude.{codes}
 use Rattle.std.specs.Fmt.{WritesInCalls}
 use Rattle.std.specs.declared.fmt.Error.{Error}
@@ -35,6 +37,23 @@ module _ {W : Type 0} (took : W → List ℕ → W → Type 0) where
   pub writes_same : (w : W) (a b : List ℕ) (v : W) (result : Result (Unit {0}) Error) → a ≡ b → OnOk result (WritesInCalls took w a v) → OnOk result (WritesInCalls took w b v)
   writes_same w a b v (Ok done) same p = subst (λ (t : List ℕ). WritesInCalls took w t v) same p
   writes_same w a b v (Err e) same p = tt
+
+  -- the texts of bytes, one after another, up to this byte
+  module _ (text_of : ℕ → List ℕ) (bytes : List ℕ) (i : ℕ) (w v : W) (before : WritesInCalls took w (flat_map text_of (take i bytes)) v) where
+    pub one_byte_more : (u : W) → i < length bytes → WritesInCalls took v (text_of (get_or bytes i 0)) u → WritesInCalls took w (flat_map text_of (take (i + 1) bytes)) u
+    one_byte_more u lt one =
+        let byte = get_or bytes i 0 in
+        let text = sym (ap (flat_map text_of) (take_more bytes i 0 lt) ∙ flat_map-append text_of (take i bytes) (byte ∷ []) ∙ ap (λ t. flat_map text_of (take i bytes) ++ t) (append-nil (text_of byte))) in
+        subst (λ (t : List ℕ). WritesInCalls took w t u) text (writes_append w (flat_map text_of (take i bytes)) v (text_of byte) u before one)
+
+    pub other_bytes_passed : ((text : List ℕ) → took v text v) → WritesInCalls took w (flat_map text_of bytes) v
+    other_bytes_passed reached =
+        let tail = flat_map text_of (drop i bytes) in
+        subst (λ (t : List ℕ). WritesInCalls took w t v) (sym (flat_map-append text_of (take i bytes) (drop i bytes)) ∙ ap (flat_map text_of) (take-append-drop i bytes))
+        (writes_append w (flat_map text_of (take i bytes)) v tail v before (writes_once v tail v (reached tail)))
+
+    pub all_bytes : length bytes ≤ i → WritesInCalls took w (flat_map text_of bytes) v
+    all_bytes le = subst (λ (t : List ℕ). WritesInCalls took w t v) (ap (flat_map text_of) (take_all i bytes le)) before
 
   module _ (is_outside : ℕ → ℕ → Type 0) (is_own : ℕ → List ℕ → Type 0) (w : W) where
     pub chain_left_out : (result : Result (Unit {0}) Error) (v : W) (row depth : ℕ) → depth ≡ 0 → OnOk result (WritesInCalls took w (codes "..") v)

@@ -1,6 +1,9 @@
-ghost use Rattle.std.specs.Prelude.{◌≤◌, ℕ, IfNone, IfSome, OnOk};
+ghost use Rattle.std.specs.Prelude.{◌≡◌, ◌≤◌, ◌<◌, ℕ, IfNone, IfSome, OnOk};
+ghost use Rattle.table_schema.specs.CellColumns.{cell_count};
+ghost use Rattle.table_schema.specs.declared.column.ColumnKind.TheVariants as kind;
 ghost use Rattle.table_schema.specs.declared.table.TableId.TheVariants.{TypeDef, TypeRef};
 ghost use Rattle.metadata.specs.Metadata.{Metadata};
+ghost use Rattle.metadata.specs.Valid.{kind_at};
 ghost use Rattle.full_names.specs.Names.{IsOuter, IsOwnText, IsTypeDefText, IsTypeRefText, Wrote};
 
 use crate::limit::{Limit, NoLimit};
@@ -19,25 +22,28 @@ const NAME: usize = 1;
 /// The cell of a type's namespace (II.22.37, II.22.38).
 const NAMESPACE: usize = 2;
 
-/// Writes the name of a type of this module without those of the types that enclose it, unless the limit is reached.
-#[tactic(auto, unfolding(table_schema::specs::CellColumns::cell_columns))]
-fn write_own_def<S: ReadCells, W: fmt::Write, L: Limit<W>>(
+/// Writes the name of a type without those of the types that enclose it, unless the limit is reached.
+fn write_own<S: ReadCells, W: fmt::Write, L: Limit<W>>(
     source: &S,
+    table: TableId,
     row: u32,
     limit: &L,
     out: &mut W,
 ) -> fmt::Result
     requires first { 1 ≤ row }
-    requires last { row ≤ S.row_count source.now TypeDef }
+    requires last { row ≤ S.row_count source.now table }
+    requires cells { 2 < cell_count table }
+    requires name { kind_at table 1 ≡ kind.Text }
+    requires namespace { kind_at table 2 ≡ kind.Text }
     ensures { (model : Metadata) → S.shows source.now model
-        → OnOk result (Wrote W.write_str_gives out.old (IsOwnText model TypeDef row) out.new) }
+        → OnOk result (Wrote W.write_str_gives out.old (IsOwnText model table row) out.new) }
 {
     source.holds_one();
     if limit.is_reached(out) {
         return Ok(());
     }
-    let namespace = cells::text(source, TableId::TypeDef, row, NAMESPACE);
-    let name = cells::text(source, TableId::TypeDef, row, NAME);
+    let namespace = cells::text(source, table, row, NAMESPACE);
+    let name = cells::text(source, table, row, NAME);
     write_type_name(out, namespace, name, limit)
 }
 
@@ -73,6 +79,7 @@ pub fn write_type_def<S: ReadCells, W: fmt::Write>(
 
 /// Writes the name of a type as [`write_type_def`] does, up to a limit: when it is reached, the names of the types of the
 /// chain are passed over.
+#[tactic(auto, unfolding(table_schema::specs::CellColumns::cell_columns))]
 pub fn write_type_def_within<S: ReadCells, W: fmt::Write, L: Limit<W>>(
     source: &S,
     row: u32,
@@ -89,33 +96,11 @@ pub fn write_type_def_within<S: ReadCells, W: fmt::Write, L: Limit<W>>(
         return write_left_out(out);
     }
     let Some(outer) = outer_type(source, row) else {
-        return write_own_def(source, row, limit, out);
+        return write_own(source, TableId::TypeDef, row, limit, out);
     };
     write_type_def_within(source, outer, limit, out, depth - 1)?;
     write_slash(out)?;
-    write_own_def(source, row, limit, out)
-}
-
-/// Writes the name of a type of another module without those of the types that enclose it, unless the limit is reached.
-#[tactic(auto, unfolding(table_schema::specs::CellColumns::cell_columns))]
-fn write_own_ref<S: ReadCells, W: fmt::Write, L: Limit<W>>(
-    source: &S,
-    row: u32,
-    limit: &L,
-    out: &mut W,
-) -> fmt::Result
-    requires first { 1 ≤ row }
-    requires last { row ≤ S.row_count source.now TypeRef }
-    ensures { (model : Metadata) → S.shows source.now model
-        → OnOk result (Wrote W.write_str_gives out.old (IsOwnText model TypeRef row) out.new) }
-{
-    source.holds_one();
-    if limit.is_reached(out) {
-        return Ok(());
-    }
-    let namespace = cells::text(source, TableId::TypeRef, row, NAMESPACE);
-    let name = cells::text(source, TableId::TypeRef, row, NAME);
-    write_type_name(out, namespace, name, limit)
+    write_own(source, TableId::TypeDef, row, limit, out)
 }
 
 /// Writes the name of a type of another module, after those of the types that enclose it, up to `depth` types.
@@ -135,6 +120,7 @@ pub fn write_type_ref<S: ReadCells, W: fmt::Write>(
 
 /// Writes the name of a type as [`write_type_ref`] does, up to a limit: when it is reached, the names of the types of the
 /// chain are passed over.
+#[tactic(auto, unfolding(table_schema::specs::CellColumns::cell_columns))]
 pub fn write_type_ref_within<S: ReadCells, W: fmt::Write, L: Limit<W>>(
     source: &S,
     row: u32,
@@ -151,9 +137,9 @@ pub fn write_type_ref_within<S: ReadCells, W: fmt::Write, L: Limit<W>>(
         return write_left_out(out);
     }
     let Some(outer) = enclosing_type_ref(source, row) else {
-        return write_own_ref(source, row, limit, out);
+        return write_own(source, TableId::TypeRef, row, limit, out);
     };
     write_type_ref_within(source, outer, limit, out, depth - 1)?;
     write_slash(out)?;
-    write_own_ref(source, row, limit, out)
+    write_own(source, TableId::TypeRef, row, limit, out)
 }

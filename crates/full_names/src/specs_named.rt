@@ -7,13 +7,13 @@ ghost use Rattle.full_names.specs.Names.{IsTypeDefText, IsTypeRefText, Wrote};
 ghost use Rattle.full_names.specs.Scopes.{IsTypeRefName};
 ghost use Rattle.full_names.specs.Texts.{IsFullName, IsFullNameBy, IsTypeSpecText};
 
-use crate::inner_names::{TypeSpecText, put_type_spec};
+use crate::inner_names::InnerNames;
 use crate::limit::{Limit, NoLimit};
 use crate::names::{DEPTH, write_type_def_within};
 use crate::parts::write_left_out;
 use crate::scopes::write_type_ref_name;
 use crate::signature_bytes::bytes_of;
-use crate::text_end::result_of;
+use crate::signature_text::write_signature;
 use crate::text_error::TextError;
 use navigation::ReadCells;
 use sig_text::TokenNames;
@@ -127,12 +127,5 @@ fn write_type_spec<S: ReadCells, W: fmt::Write, L: Limit<W>>(
     source.holds_one();
     let kind = SigKind::TypeSpec;
     let bytes = source.signature(alloc, kind, TableId::TypeSpec, row, TYPE_SIGNATURE)?;
-    let mut sink = TypeSpecText {
-        source,
-        writer: out,
-        limit,
-        ended: None,
-    };
-    put_type_spec(&mut sink, bytes_of(&bytes));
-    result_of(sink.ended)
+    write_signature(&InnerNames, source, bytes_of(&bytes), kind, limit, out)
 }

@@ -1,5 +1,5 @@
 use Rattle.std.proofs.Common.{◌∙◌, sym}
-use Rattle.full_names.proofs.QuotedLemmas.{other_after, within_after}
+use Rattle.full_names.proofs.QuotedLemmas.{within_after}
 use Rattle.full_names.proofs.quoted.position_within.Goals as goal
 
 pub returns-then-is_in_identifier : goal.returns-then-is_in_identifier

@@ -6,6 +6,5 @@ use Rattle.full_names.proofs.quoted.write_quoted.Goals as goal
 
 pub returns-then-are_verbatim : goal.returns-then-are_verbatim
 returns-then-are_verbatim g c =
-    let text = c.args.text.now in
     let plain = subst (λ (t : List ℕ). t ≡ quoted_bytes t) c.as_bytes.ensures.value (verbatim_text c.as_bytes.result.now (c.if-are_verbatim.ensures refl)) in
-    writes_same g.W.Write.write_str_gives c.args.out.now text (quoted_bytes text) c.write.new.self c.write.result plain c.write.ensures.writes
+    writes_same g.W.Write.write_str_gives c.args.out.now c.args.text.now (quoted_bytes c.args.text.now) c.write.new.self c.write.result plain c.write.ensures.writes

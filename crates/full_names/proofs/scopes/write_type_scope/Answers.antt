@@ -10,8 +10,7 @@ use Rattle.full_names.proofs.scopes.write_type_scope.Goals as goal
 pub returns-then-is_reached : goal.returns-then-is_reached
 returns-then-is_reached g c = λ model shown.
     let rows = c.holds_one.ensures.rows model shown TypeRef in
-    let last = c.requires.last in
-    let there : HasRow model TypeRef c.args.row = (c.requires.first, omega (arith, rows, last)) in
+    let there : HasRow model TypeRef c.args.row = (c.requires.first, omega (arith, rows, c.requires.last)) in
     passed_over g.W.Write.write_str_gives c.args.out.now (IsTypeScope model c.args.row) (c.if-is_reached.ensures refl) (type_scope model (c.holds_one.ensures.valid model shown) c.args.row there)
 
 pub returns-in-Some : goal.returns-in-Some

@@ -1,7 +1,7 @@
 use Rattle.std.proofs.Common.{refl, sym, ◌∙◌}
 use Rattle.std.specs.Fmt.{decimal}
 use Rattle.full_names.proofs.PieceLemmas.{on_taken}
-use Rattle.full_names.proofs.inner_names.TypeSpecTextTextSink.number.Goals as goal
+use Rattle.full_names.proofs.signature_text.SignatureTextTextSink.number.Goals as goal
 
 pub returns-clause-piece : goal.returns-clause-piece
 returns-clause-piece g c = (

@@ -1,6 +1,6 @@
 use Rattle.std.proofs.Common.{refl, sym, ◌∙◌}
 use Rattle.full_names.proofs.PieceLemmas.{on_taken}
-use Rattle.full_names.proofs.inner_names.TypeSpecTextTextSink.text.Goals as goal
+use Rattle.full_names.proofs.signature_text.SignatureTextTextSink.text.Goals as goal
 
 pub returns-then-is_reached-clause-piece : goal.returns-then-is_reached-clause-piece
 returns-then-is_reached-clause-piece g c = (λ taken. absurd cc, λ refused whole. (refl, λ text. c.if-is_reached.ensures refl text))

@@ -3,7 +3,7 @@ use Rattle.std.proofs.lemmas.Int.{ints}
 use mir.Val.{SFits, of_z, to_z}
 use Rattle.std.specs.Fmt.{signed_decimal}
 use Rattle.full_names.proofs.PieceLemmas.{on_taken}
-use Rattle.full_names.proofs.inner_names.TypeSpecTextTextSink.signed.Goals as goal
+use Rattle.full_names.proofs.signature_text.SignatureTextTextSink.signed.Goals as goal
 
 pub returns-clause-piece : goal.returns-clause-piece
 returns-clause-piece g c =
