@@ -1,4 +1,4 @@
-use Rattle.std.proofs.Common.{◌≡◌, [], length, sym}
+use Rattle.std.proofs.Common.{[], length, sym}
 use Rattle.std.specs.Prelude.{codes}
 use Rattle.full_names.proofs.TextLemmas.{writes_nothing}
 use Rattle.navigation.specs.declared.links.Link.TheVariants as link_of

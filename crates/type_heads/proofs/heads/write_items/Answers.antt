@@ -1,6 +1,5 @@
-use Rattle.std.proofs.Common.{◌≤◌, [], List, ℕ, map, subst, sym}
-use Rattle.std.specs.Prelude.{All, OnOk}
-use Rattle.full_names.specs.Names.{Wrote}
+use Rattle.std.proofs.Common.{◌≤◌, [], map, subst, sym}
+use Rattle.std.specs.Prelude.{All}
 use Rattle.full_names.proofs.PieceLemmas.{on_wrote}
 use Rattle.navigation.specs.declared.keyed.KeyedRow.{KeyedRow}
 use Rattle.navigation.specs.declared.links.Link.{Link}

@@ -1,4 +1,4 @@
-use Rattle.std.proofs.Common.{◌≡◌, ◌∙◌, ℕ, [], Option, Some, None, refl, subst, sym}
+use Rattle.std.proofs.Common.{◌≡◌, ◌∙◌, [], Option, Some, None, refl, subst, sym}
 use Rattle.table_schema.specs.declared.token.Token.{Token}
 use Rattle.metadata.specs.Metadata.{cell_in}
 use Rattle.full_names.specs.Texts.{IsFullNameBy}
