@@ -1,13 +1,10 @@
 -- What a writer took in several calls, and the texts of a descriptor that are there.
-use Rattle.std.proofs.Common.{◌∙◌, ◌+◌, ◌<◌, append-nil, get_or, take, drop, sym, ap, ◌≡◌, ℕ, List, [], ◌∷◌, ◌++◌, ◌⊎◌, inl, inr, false, length, OnOk, Ok, Err, Result, refl, subst}
+use Rattle.std.proofs.Common.{◌+◌, ◌≡◌, ℕ, List, [], ◌∷◌, ◌++◌, ◌⊎◌, inl, inr, false, length, OnOk, Ok, Err, Result, refl, subst}
 use Rattle.std.specs.Prelude.{codes, ◌==◌}
 use Rattle.std.specs.Fmt.{WritesInCalls}
 use Rattle.std.specs.declared.fmt.Error.{Error}
 use Rattle.full_names.proofs.TextLemmas.{writes_append}
-use Rattle.std.proofs.lemmas.Grind.{flat_map-append}
-use Rattle.std.proofs.lemmas.List.{take-append-drop, take_more}
-use Rattle.table_schema.specs.Tokens.{hexadecimal}
-use Rattle.declarations.specs.Descriptors.{bytes_text, library_text, quoted_text, type_after}
+use Rattle.declarations.specs.Descriptors.{library_text, quoted_text, type_after}
 
 -- what was written before the last call, by another name for it, and by the last call
 pub writes_then : {W : Type 0} (took : W → List ℕ → W → Type 0) {w : W} {a : List ℕ} {v : W} (prefix b : List ℕ) (u : W) (result : Result (Unit {0}) Error) → a ≡ prefix
@@ -26,13 +23,3 @@ library_there [] [] (inr some) = absurd cc
 library_there [] (c ∷ unmanaged) some = refl
 library_there (c ∷ guid) [] some = refl
 library_there (c ∷ guid) (d ∷ unmanaged) some = refl
-
--- one more byte in hexadecimal
-pub one_more : (bytes : List ℕ) (i : ℕ) → i < length bytes → bytes_text (take i bytes) ++ hexadecimal 2 (get_or bytes i 0) ≡ bytes_text (take (i + 1) bytes)
-one_more bytes i lt =
-    let one = get_or bytes i 0 in
-    sym (ap bytes_text (take_more bytes i 0 lt) ∙ flat_map-append (hexadecimal 2) (take i bytes) (one ∷ []) ∙ ap (λ t. bytes_text (take i bytes) ++ t) (append-nil (hexadecimal 2 one)))
-
--- the bytes before and after one
-pub both_parts : (bytes : List ℕ) (i : ℕ) → bytes_text (take i bytes) ++ bytes_text (drop i bytes) ≡ bytes_text bytes
-both_parts bytes i = sym (flat_map-append (hexadecimal 2) (take i bytes) (drop i bytes)) ∙ ap bytes_text (take-append-drop i bytes)

@@ -1,8 +1,9 @@
 -- The first row of FieldMarshal that refers to a parameter.
-use Rattle.std.proofs.Common.{◌≡◌, ◌∙◌, ℕ, zero, suc, ◌+◌, ◌<◌, ◌≤◌, ◌↔◌, inl, inr, Bool, true, false, List, [], ◌∷◌, Option, Some, None, IfSome, MatchOption, refl, sym, ap, subst, arith, add-one}
+use Rattle.std.proofs.Common.{◌≡◌, ◌∙◌, ℕ, zero, suc, ◌+◌, ◌<◌, ◌≤◌, ◌↔◌, inl, inr, Bool, true, false, List, [], ◌∷◌, Option, Some, None, IfSome, MatchOption, refl, sym, ap, subst, arith}
 use Rattle.std.specs.Prelude.{◌==◌, slice_get}
 use Rattle.std.specs.List.{Contains}
 use Rattle.std.specs.List.Sorted.{IsStrictlyIncreasing}
+use Rattle.std.proofs.lemmas.List.Kept.{AllPairs-from_increasing}
 use Rattle.std.proofs.lemmas.Bool.{cases_Bool, cases_eq, eqb-true, eq-eqb}
 use Rattle.std.proofs.Math.Logic.{∥∥₁_elim}
 use Rattle.std.specs.Coded.{le_prop}
@@ -49,16 +50,9 @@ within_that test row (suc left) = elim (cases_Bool (test row)) [
     wider (Some x) h = (omega (arith, h.0), omega (arith, h.1))
 
 -- the first of an ascending list is its least
-rising_tail : (x y : ℕ) (ys : List ℕ) → IsStrictlyIncreasing (x ∷ (y ∷ ys)) → IsStrictlyIncreasing (y ∷ ys)
-rising_tail x y ys rise = λ k within. rw add-one (rw add-one at (rise (suc k) (omega arith)))
-
 least : (x : ℕ) (tail : List ℕ) → IsStrictlyIncreasing (x ∷ tail) → (row : ℕ) → Contains (x ∷ tail) row → x ≤ row
 least x tail rise row (zero, within, is) = omega arith
-least x [] rise row (suc k, within, is) = absurd (omega arith)
-least x (y ∷ ys) rise row (suc k, within, is) =
-    let more = least y ys (rising_tail x y ys rise) row (k, omega arith, is) in
-    let step : x < y = rise 0 (omega arith) in
-    omega arith
+least x tail rise row (suc k, within, is) = let less = AllPairs-from_increasing (x ∷ tail) rise 0 (suc k) row (omega arith) within in omega (arith, less, is)
 
 -- ---- rows of FieldMarshal
 

@@ -1,96 +1,37 @@
-ghost use Rattle.std.specs.Prelude.{◌≡◌, None, OnOk};
+ghost use Rattle.std.specs.Prelude.{OnOk};
 ghost use Rattle.sig_grammar.specs.Syntax.{Body};
 ghost use Rattle.sig_grammar.specs.Encodes.{Encodes};
 ghost use Rattle.sig_text.specs.SignatureText.{text_of};
 ghost use Rattle.metadata.specs.Metadata.{Metadata};
 ghost use Rattle.full_names.specs.Names.{Wrote};
-ghost use Rattle.full_names.specs.TextEnd.{IsWhole};
 ghost use Rattle.full_names.specs.Texts.{ArePiecesText, IsFullNameBy, IsPieceText};
 
-use full_names::{
-    Limit, TextEnd, TextError, keep, keep_refusal, result_of, write_full_name_within, write_number,
-    write_signed, write_text,
-};
+use full_names::{Limit, TextError, WriteNames, write_full_name_within, write_signature};
 use navigation::ReadCells;
-use sig_text::{TextSink, write_encoded};
 use std::alloc::Global;
 use std::fmt;
 use table_schema::{SigKind, Token};
 
-/// A sink for the text of a signature.
-#[derive(Drop)]
-pub struct SignatureText<'s, 'w, S, W, L> {
-    /// For the bytes of TypeSpecs that are held as values.
-    pub alloc: Global,
-    /// The metadata of the types.
-    pub source: &'s S,
-    /// The target of the text.
-    pub writer: &'w mut W,
-    /// Up to where the text is needed.
-    pub limit: &'s L,
-    /// Why it takes no more, if it does not.
-    pub ended: Option<TextEnd>,
+/// The full names of types, with the allocator for the bytes of TypeSpecs that are held as values.
+#[derive(Clone, Copy)]
+struct FullNames {
+    alloc: Global,
 }
 
-impl<S: ReadCells, W: fmt::Write, L: Limit<W>> TextSink for SignatureText<'_, '_, S, W, L> {
-    ghost use Rattle.std.specs.Prelude.{◌≡◌, ℕ, List, false, true, is_some};
-    ghost use Rattle.metadata.specs.Metadata.{Metadata};
-    ghost use Rattle.full_names.specs.Names.{Wrote};
-    ghost use Rattle.full_names.specs.TextEnd.{IsWhole};
-    ghost use Rattle.full_names.specs.Texts.{IsFullNameBy, IsPieceText};
+impl<S: ReadCells, W: fmt::Write, L: Limit<W>> WriteNames<S, W, L> for FullNames {
+    ghost use Rattle.full_names.specs.Texts.{IsFullNameBy};
 
-    ghost refused = { λ s. is_some s.ended };
+    ghost is_name = { λ model token text. IsFullNameBy L.scopes model token text };
 
-    ghost gives = { λ s piece taken t.
-        (taken ≡ true → (t.ended ≡ s.ended) × (t.source.now ≡ s.source.now) × (t.writer.ghost_name ≡ s.writer.ghost_name)
-        × ((model : Metadata) → S.shows s.source.now model
-        → Wrote W.write_str_gives s.writer.now (IsPieceText (IsFullNameBy L.scopes model) piece) t.writer.now))
-        × (taken ≡ false → IsWhole t.ended → (t.writer.ghost_name ≡ s.writer.ghost_name)
-        × ((text : List ℕ) → W.write_str_gives s.writer.now text t.writer.now)) };
-
-    fn text(&mut self, text: &str) -> Option<()> {
-        if self.limit.is_reached(self.writer) {
-            self.ended = Some(TextEnd::Limit);
-            return None;
-        }
-        let written = write_text(self.writer, text);
-        keep_refusal(&mut self.ended, written)
+    fn write_token(
+        &self,
+        source: &S,
+        token: Token,
+        limit: &L,
+        out: &mut W,
+    ) -> Result<(), TextError> {
+        write_full_name_within(self.alloc, source, token, limit, out)
     }
-
-    fn number(&mut self, number: u32) -> Option<()> {
-        let written = write_number(self.writer, number);
-        keep_refusal(&mut self.ended, written)
-    }
-
-    fn signed(&mut self, value: i64) -> Option<()> {
-        let written = write_signed(self.writer, value);
-        keep_refusal(&mut self.ended, written)
-    }
-
-    fn name(&mut self, token: Token) -> Option<()> {
-        let written = write_full_name_within(
-            self.alloc,
-            self.source,
-            token,
-            self.limit,
-            self.writer,
-        );
-        keep(&mut self.ended, written)
-    }
-}
-
-/// Puts the text of a signature into its sink, from its bytes in a column of a kind.
-fn put_signature<S: ReadCells, W: fmt::Write, L: Limit<W>>(
-    sink: &mut SignatureText<'_, '_, S, W, L>,
-    bytes: &[u8],
-    kind: SigKind,
-)
-    ensures { (model : Metadata) → S.shows sink.old.source.now model → (signature : Body) → Encodes kind signature bytes.now
-        → sink.old.ended ≡ None → IsWhole sink.new.ended → (sink.new.writer.ghost_name ≡ sink.old.writer.ghost_name)
-        × Wrote W.write_str_gives sink.old.writer.now (ArePiecesText (IsPieceText (IsFullNameBy L.scopes model)) (text_of signature)) sink.new.writer.now }
-{
-    sink.source.holds_one();
-    let _ = write_encoded(sink, bytes, kind);
 }
 
 /// Writes a signature in the notation of ILAsm (II.7.1, II.15.3), from its bytes in a column of a kind, with the names of
@@ -111,13 +52,6 @@ pub fn write_signature_text<S: ReadCells, W: fmt::Write, L: Limit<W>>(
     ensures { (model : Metadata) → S.shows source.now model → (signature : Body) → Encodes kind signature bytes.now
         → OnOk result (Wrote W.write_str_gives out.old (ArePiecesText (IsPieceText (IsFullNameBy L.scopes model)) (text_of signature)) out.new) }
 {
-    let mut sink = SignatureText {
-        alloc,
-        source,
-        writer: out,
-        limit,
-        ended: None,
-    };
-    put_signature(&mut sink, bytes, kind);
-    result_of(sink.ended)
+    source.holds_one();
+    write_signature(&FullNames { alloc }, source, bytes, kind, limit, out)
 }

@@ -10,8 +10,6 @@ pub returns-in_ok-write_marshal-in-Some : goal.returns-in_ok-write_marshal-in-So
 returns-in_ok-write_marshal-in-Some g c =
     let took = g.W.Write.write_str_gives in
     let text = marshal_text c.in-Some.blob.now in
-    let end = c.write.new.self in
-    let result = c.write.result in
-    writes_same took c.args.out.now (before_space text) (marshalled before_space (option_map (λ of. of.now) c.args.blob)) end result
+    writes_same took c.args.out.now (before_space text) (marshalled before_space (option_map (λ of. of.now) c.args.blob)) c.write.new.self c.write.result
     (sym (ap (λ o. marshalled before_space (option_map (λ of. of.now) o)) c.in-Some.is))
-    (writes_then took text (codes " ") end result refl c.in_ok-write_marshal-in-Some.ensures c.write.ensures.writes)
+    (writes_then took text (codes " ") c.write.new.self c.write.result refl c.in_ok-write_marshal-in-Some.ensures c.write.ensures.writes)

@@ -7,10 +7,9 @@ use Rattle.declarations.proofs.descriptors.write_custom.Goals as goal
 pub returns : goal.returns
 returns g c =
     let took = g.W.Write.write_str_gives in
-    let of = c.args.custom in
-    let library = library_text of.guid.now of.unmanaged.now in
-    let marshaler = quoted_text of.marshaler.now in
-    let cookie = quoted_text of.cookie.now in
+    let library = library_text c.args.custom.guid.now c.args.custom.unmanaged.now in
+    let marshaler = quoted_text c.args.custom.marshaler.now in
+    let cookie = quoted_text c.args.custom.cookie.now in
     let end = c.write-3.new.self in
     let result = c.write-3.result in
     let after_marshaler = codes ", " ++ (cookie ++ codes ")") in

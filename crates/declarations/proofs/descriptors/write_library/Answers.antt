@@ -16,10 +16,8 @@ returns g c =
       | else-is_empty-via-then-is_empty+else-is_empty-2 w ↦ inr (sym w.is_empty-then-is_empty.ensures ∙ w.if-is_empty-2.false)
       | else-is_empty-via-else-is_empty w ↦ inl (sym c.is_empty.ensures ∙ w.if-is_empty.false)
     ] in
-    let end = c.write-2.new.self in
-    let result = c.write-2.result in
-    writes_same took c.args.out.now (guid ++ (codes ", " ++ (unmanaged ++ codes ", "))) (library_text c.args.guid.now c.args.unmanaged.now) end result
+    writes_same took c.args.out.now (guid ++ (codes ", " ++ (unmanaged ++ codes ", "))) (library_text c.args.guid.now c.args.unmanaged.now) c.write-2.new.self c.write-2.result
     (library_there c.args.guid.now c.args.unmanaged.now some)
-    (writes_then took guid (codes ", " ++ (unmanaged ++ codes ", ")) end result refl c.in_ok-write_in_quotes.ensures
-    (writes_then took (codes ", ") (unmanaged ++ codes ", ") end result refl c.in_ok-write.ensures.writes
-    (writes_then took unmanaged (codes ", ") end result refl c.in_ok-write_in_quotes-2.ensures c.write-2.ensures.writes)))
+    (writes_then took guid (codes ", " ++ (unmanaged ++ codes ", ")) c.write-2.new.self c.write-2.result refl c.in_ok-write_in_quotes.ensures
+    (writes_then took (codes ", ") (unmanaged ++ codes ", ") c.write-2.new.self c.write-2.result refl c.in_ok-write.ensures.writes
+    (writes_then took unmanaged (codes ", ") c.write-2.new.self c.write-2.result refl c.in_ok-write_in_quotes-2.ensures c.write-2.ensures.writes)))

@@ -8,7 +8,5 @@ pub returns : goal.returns
 returns g c =
     let took = g.W.Write.write_str_gives in
     let text = content_text (descriptor_in c.args.blob.now) c.args.blob.now in
-    let end = c.write-2.new.self in
-    let result = c.write-2.result in
-    writes_then took (codes "marshal(") (text ++ codes ")") end result refl c.in_ok-write.ensures.writes
-    (writes_then took text (codes ")") end result refl c.in_ok-write_content.ensures c.write-2.ensures.writes)
+    writes_then took (codes "marshal(") (text ++ codes ")") c.write-2.new.self c.write-2.result refl c.in_ok-write.ensures.writes
+    (writes_then took text (codes ")") c.write-2.new.self c.write-2.result refl c.in_ok-write_content.ensures c.write-2.ensures.writes)

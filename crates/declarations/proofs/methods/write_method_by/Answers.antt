@@ -15,8 +15,7 @@ unfolding cell_columns
 returns g c = record {
   text = λ model shown links method is.
       let rows = c.holds_one.ensures.rows model shown MethodDef in
-      let last = c.requires.last in
-      let there : HasRow model MethodDef c.args.row = (c.requires.first, omega (arith, rows, last)) in
+      let there : HasRow model MethodDef c.args.row = (c.requires.first, omega (arith, rows, c.requires.last)) in
       let bytes : Encodes kind.MethodDef (method_body method) c.bytes_of.result.now = rw c.bytes_of.ensures
       (encoded_by model (c.holds_one.ensures.valid model shown) kind.MethodDef (c.shortest_encodes.ensures kind.MethodDef) MethodDef c.args.row 4 there (omega arith) refl c.in_ok-bytes.bytes (c.in_ok-bytes.ensures model shown) (method_body method) is) in
       let of = type_named g.L.Limit.scopes model (c.holds_one.ensures.valid model shown) c.type_of_method.result in

@@ -16,8 +16,7 @@ unfolding cell_columns
 returns g c = record {
   text = λ model shown this of params is.
       let rows = c.holds_one.ensures.rows model shown Property in
-      let last = c.requires.last in
-      let there : HasRow model Property c.args.row = (c.requires.first, omega (arith, rows, last)) in
+      let there : HasRow model Property c.args.row = (c.requires.first, omega (arith, rows, c.requires.last)) in
       let bytes : Encodes kind.Property (property this of params) c.bytes_of.result.now = rw c.bytes_of.ensures
       (encoded_by model (c.holds_one.ensures.valid model shown) kind.Property (c.shortest_encodes.ensures kind.Property) Property c.args.row 2 there (omega arith) refl c.in_ok-bytes.bytes (c.in_ok-bytes.ensures model shown) (property this of params) is) in
       let map = c.type_of_property.ensures.sound model shown in

@@ -11,9 +11,8 @@ use Rattle.declarations.proofs.params.write_spaced.Goals as goal
 pub returns-then-is_empty : goal.returns-then-is_empty
 returns-then-is_empty g c =
     let took = g.W.Write.write_str_gives in
-    let name = c.args.name.now in
-    let none : (length name == 0) ≡ true = sym c.is_empty.ensures ∙ c.if-is_empty.true in
-    subst (λ (t : List ℕ). WritesInCalls took c.args.out.now t c.args.out.now) (sym (spaced_alone name (search rules))) (writes_nothing took c.args.out.now)
+    let none : (length c.args.name.now == 0) ≡ true = sym c.is_empty.ensures ∙ c.if-is_empty.true in
+    subst (λ (t : List ℕ). WritesInCalls took c.args.out.now t c.args.out.now) (sym (spaced_alone c.args.name.now (search rules))) (writes_nothing took c.args.out.now)
 
 pub returns : goal.returns
 returns g c =

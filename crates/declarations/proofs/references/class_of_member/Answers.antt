@@ -30,6 +30,5 @@ returns-in_default-clause-class g c = λ model shown. (
 pub returns-in_default-clause-named : goal.returns-in_default-clause-named
 returns-in_default-clause-named g c = λ model shown scopes.
     let rows = c.holds_one.ensures.rows model shown MemberRef in
-    let last = c.requires.last in
-    let there : HasRow model MemberRef c.args.row = (c.requires.first, omega (arith, rows, last)) in
+    let there : HasRow model MemberRef c.args.row = (c.requires.first, omega (arith, rows, c.requires.last)) in
     parent_named scopes model (c.holds_one.ensures.valid model shown) c.args.row c.member_parent-parent.result there (c.member_parent-parent.ensures.parent model shown) c.in_default.not-MethodDef

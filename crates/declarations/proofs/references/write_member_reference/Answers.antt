@@ -13,8 +13,7 @@ pub returns : goal.returns
 unfolding cell_columns
 returns g c = λ model shown.
     let rows = c.holds_one.ensures.rows model shown MemberRef in
-    let last = c.requires.last in
-    let there : HasRow model MemberRef c.args.row = (c.requires.first, omega (arith, rows, last)) in
+    let there : HasRow model MemberRef c.args.row = (c.requires.first, omega (arith, rows, c.requires.last)) in
     let cell = (c.holds_one.ensures.valid model shown).cells MemberRef c.args.row 2 there (omega arith) in
     let one = signature_of kind.MemberRef (cell_in model MemberRef c.args.row 2) cell.of_kind in
     let bytes : Encodes kind.MemberRef one.0 c.bytes_of.result.now = rw c.bytes_of.ensures

@@ -14,8 +14,7 @@ pub returns : goal.returns
 unfolding cell_columns
 returns g c = λ model shown.
     let rows = c.holds_one.ensures.rows model shown MethodDef in
-    let last = c.requires.last in
-    let there : HasRow model MethodDef c.args.row = (c.requires.first, omega (arith, rows, last)) in
+    let there : HasRow model MethodDef c.args.row = (c.requires.first, omega (arith, rows, c.requires.last)) in
     let cell = (c.holds_one.ensures.valid model shown).cells MethodDef c.args.row 4 there (omega arith) in
     let one = signature_of kind.MethodDef (cell_in model MethodDef c.args.row 4) cell.of_kind in
     let bytes : Encodes kind.MethodDef one.0 c.bytes_of.result.now = rw c.bytes_of.ensures

@@ -1,13 +1,5 @@
-use Rattle.std.proofs.Common.{refl, sym, subst, rules}
-use Rattle.sig_text.specs.SignatureText.{text_of}
-use Rattle.full_names.specs.Names.{Wrote}
-use Rattle.full_names.specs.Texts.{ArePiecesText, IsFullNameBy, IsPieceText}
-use Rattle.full_names.proofs.PieceLemmas.{ok_then}
+use Rattle.full_names.proofs.NameExists.{any_name}
 use Rattle.declarations.proofs.signature_text.write_signature_text.Goals as goal
 
 pub returns : goal.returns
-returns g c = λ model shown signature encodes.
-    ok_then c.result_of.result c.result_of.ensures (λ whole.
-    let both = c.put_signature.ensures model shown signature encodes refl whole in
-    let same = sym both.0 in
-    subst (Wrote g.W.Write.write_str_gives c.args.out.now (ArePiecesText (IsPieceText (IsFullNameBy g.L.Limit.scopes model)) (text_of signature))) (search rules) both.1)
+returns g c = λ model shown. c.write_signature.ensures model shown (any_name model (c.holds_one.ensures.valid model shown) g.L.Limit.scopes)

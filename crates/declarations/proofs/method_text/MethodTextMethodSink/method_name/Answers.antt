@@ -4,14 +4,6 @@ use Rattle.declarations.proofs.method_text.MethodTextMethodSink.method_name.Goal
 
 pub returns-clause-piece : goal.returns-clause-piece
 returns-clause-piece g c = (
-  λ taken. (
-    c.keep.ensures.kept taken,
-    refl,
-    refl,
-    refl,
-    λ model shown links params.
-        let of = c.args.self.now.of in
-        on_taken c.write_marshalled_member-written.result (sym c.keep.ensures.taken ∙ taken) (c.write_marshalled_member-written.ensures model shown of.first of.past params),
-  ),
+  λ taken. (c.keep.ensures.kept taken, refl, refl, refl, λ model shown links params. on_taken c.write_marshalled_member-written.result (sym c.keep.ensures.taken ∙ taken) (c.write_marshalled_member-written.ensures model shown c.args.self.now.of.first c.args.self.now.of.past params)),
   λ refused whole. absurd (c.keep.ensures.failed refused whole),
 )

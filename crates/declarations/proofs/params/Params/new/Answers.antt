@@ -8,16 +8,14 @@ use Rattle.declarations.proofs.params.Params.new.Goals as goal
 
 pub returns-clause-rows : goal.returns-clause-rows
 returns-clause-rows g c = λ model shown.
-    let first = c.min-first.result in
-    let past = c.max-past.result in
     let rows = c.holds_one.ensures.rows model shown Param in
     let count = c.count.ensures.rows in
     let least = c.min.ensures in
     let end = c.max-past.ensures in
     let most = c.max.ensures in
     let begin = c.min-first.ensures in (
-      first,
-      past - first,
+      c.min-first.result,
+      c.max-past.result - c.min-first.result,
       λ position. c.in_ok-sort_by_key.ensures.stable position ∙ ap (λ (rows : List KeyedRow). filter (has_key position) rows) (c.in_ok-found.ensures.rows model shown),
       λ row. (
         λ is.

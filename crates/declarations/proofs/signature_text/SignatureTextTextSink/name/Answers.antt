@@ -1,9 +1,0 @@
-use Rattle.std.proofs.Common.{refl, sym, ◌∙◌}
-use Rattle.full_names.proofs.PieceLemmas.{on_taken}
-use Rattle.declarations.proofs.signature_text.SignatureTextTextSink.name.Goals as goal
-
-pub returns-clause-piece : goal.returns-clause-piece
-returns-clause-piece g c = (
-  λ taken. (c.keep.ensures.kept taken, refl, refl, λ model shown. on_taken c.write_full_name_within-written.result (sym c.keep.ensures.taken ∙ taken) (c.write_full_name_within-written.ensures.name model shown)),
-  λ refused whole. absurd (c.keep.ensures.failed refused whole),
-)
