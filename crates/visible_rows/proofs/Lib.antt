@@ -1,5 +1,4 @@
 pub mod OuterLemmas
 mod OwnerLemmas
 mod ResultLemmas
-mod TargetLemmas
 mod TypeLemmas

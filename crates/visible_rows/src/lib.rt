@@ -14,7 +14,6 @@ mod access;
 mod accessors;
 mod members;
 mod outers;
-mod targets;
 mod types;
 mod visible;
 

@@ -7,7 +7,7 @@ ghost use Rattle.opening.specs.Views.{row_count};
 ghost use Rattle.visible_rows.specs.Visible.{AreVisibleTypes, is_visible_accessor, is_visible_field, is_visible_method};
 
 use crate::access::{access, is_open_member};
-use crate::targets::target;
+use navigation::cells::target;
 use navigation::{Neighbours, ReadMetadata, type_of_field, type_of_method};
 use opening::TableId;
 

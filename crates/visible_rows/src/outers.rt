@@ -4,7 +4,7 @@ ghost use Rattle.table_schema.specs.declared.table.TableId.TheVariants.{TypeDef}
 ghost use Rattle.opening.specs.Views.{row_count};
 ghost use Rattle.visible_rows.specs.Visible.{AreOuters};
 
-use crate::targets::target;
+use navigation::cells::target;
 use opening::{TableId, View};
 use std::alloc::{AllocError, Global};
 

@@ -7,16 +7,13 @@ use Rattle.declaring_types.proofs.part.part_of.Goals as goal
 
 pub returns-in-TypeDef : goal.returns-in-TypeDef
 returns-in-TypeDef c = λ model is.
-    let of = c.args.of in
-    subst (λ (t : TableId). IsPartOf model t of.row (Some of)) (sym c.in-TypeDef.is) (λ i. Some (record { table = c.in-TypeDef.is i; row = of.row }))
+    subst (λ (t : TableId). IsPartOf model t c.args.of.row (Some c.args.of)) (sym c.in-TypeDef.is) (λ i. Some (record { table = c.in-TypeDef.is i; row = c.args.of.row }))
 
 pub returns-in-Param : goal.returns-in-Param
 returns-in-Param c = λ model is.
-    let of = c.args.of in
-    let method = c.method_of.result in
     let class = c.type_of_member.result in
-    let member = subst (λ (t : TableId). IsMemberOf model t method.row class) c.method_of.ensures.table (c.type_of_member.ensures.member model is) in
-    subst (λ (t : TableId). IsPartOf model t of.row class) (sym c.in-Param.is) (method.row, c.method_of.ensures.method model is, member)
+    let member = subst (λ (t : TableId). IsMemberOf model t c.method_of.result.row class) c.method_of.ensures.table (c.type_of_member.ensures.member model is) in
+    subst (λ (t : TableId). IsPartOf model t c.args.of.row class) (sym c.in-Param.is) (c.method_of.result.row, c.method_of.ensures.method model is, member)
 
 pub returns-in_default : goal.returns-in_default
 returns-in_default c = λ model is.

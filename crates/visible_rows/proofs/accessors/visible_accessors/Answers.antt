@@ -20,9 +20,7 @@ loop-earlier-preserved c =
 
 pub returns : goal.returns
 returns c =
-    let last = c.loop-earlier.auto.earlier-end in
-    let past = c.loop-earlier-test.false in
-    let all : c.loop-earlier.earlier ≡ row_count c.args.source.now.view.now c.args.table = omega (arith, last, past, c.count-count.ensures.rows) in
+    let all : c.loop-earlier.earlier ≡ row_count c.args.source.now.view.now c.args.table = omega (arith, c.loop-earlier.auto.earlier-end, c.loop-earlier-test.false, c.count-count.ensures.rows) in
     record {
       long = c.loop-earlier.invariant.long ∙ all;
       are = λ model is. c.loop-earlier.invariant.are model is ∙ ap (λ n. map (has_visible_accessor c.args.table model) (range_with_len 1 n)) all;

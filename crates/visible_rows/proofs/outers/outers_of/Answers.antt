@@ -3,6 +3,7 @@ use Rattle.std.specs.List.{range_with_len}
 use Rattle.std.proofs.lemmas.List.{get_or-replicate, length-replicate}
 use Rattle.table_schema.specs.declared.table.TableId.TheVariants.{NestedClass}
 use Rattle.metadata.specs.Metadata.{count_in}
+use Rattle.metadata.specs.Valid.{row_in}
 use Rattle.visible_rows.specs.Visible.{outer_among}
 use Rattle.visible_rows.proofs.OuterLemmas.{AreAmong, outers_more}
 use Rattle.visible_rows.proofs.outers.outers_of.Goals as goal
@@ -32,7 +33,7 @@ loop-later-preserved c =
       are = λ model is.
           subst (λ (rows : List ℕ). AreAmong model rows (set c.loop-later.outers.items (c.target-nested.result - 1) c.target-outer.result)) (sym more)
           (outers_more model (range_with_len (count + 1 - later) later) c.loop-later.outers.items row c.target-nested.result c.target-outer.result
-          (c.target-nested.ensures.value model is) (c.target-outer.ensures.value model is) c.target-nested.ensures.first (c.loop-later.invariant.are model is));
+          (sym (ap row_in (c.target-nested.ensures.value model is))) (sym (ap row_in (c.target-outer.ensures.value model is))) c.target-nested.ensures.first (c.loop-later.invariant.are model is));
     }
 
 pub returns-clause-outers : goal.returns-clause-outers

@@ -38,9 +38,7 @@ loop-earlier-preserved c =
 
 pub returns : goal.returns
 returns c =
-    let last = c.loop-earlier.auto.earlier-end in
-    let past = c.loop-earlier-test.false in
-    let all : c.loop-earlier.earlier ≡ row_count c.args.view.now TypeDef = omega (arith, last, past, c.count-count.ensures.rows) in
+    let all : c.loop-earlier.earlier ≡ row_count c.args.view.now TypeDef = omega (arith, c.loop-earlier.auto.earlier-end, c.loop-earlier-test.false, c.count-count.ensures.rows) in
     record {
       long = c.loop-earlier.invariant.long ∙ ap (λ n. n + 1) all;
       are = λ model is. c.loop-earlier.invariant.are model is ∙ ap (λ n. map (is_visible_type model) (range_with_len 0 (n + 1))) all;
