@@ -1,6 +1,5 @@
 -- The values of a pool.
-use Rattle.std.proofs.Common.{◌≡◌, ℕ, ◌<◌, true, false, List, [], ◌∷◌, ◌++◌, length, refl, arith}
-use Rattle.heap_pools.specs.Distinct.{is_among, pooled}
+use Rattle.heap_pools.proofs.Prelude.{◌≡◌, ℕ, ◌<◌, true, false, List, [], ◌∷◌, ◌++◌, length, refl, arith, is_among, pooled}
 
 -- adding a value that is there keeps the entries; a new value is appended
 pub pooled_there : (entries : List (List ℕ)) (value : List ℕ) → is_among entries value ≡ true → pooled entries value ≡ entries

@@ -1,19 +1,9 @@
 -- A pooled value is found again at its index in the heap.
 use Rattle.std.proofs.Common.{◌≡◌, ℕ, zero, suc, ◌+◌, ◌-◌, ◌*◌, ◌^◌, ◌<◌, ◌≤◌, true, false, not, ◌&&◌, ◌||◌, cond, true≢false, List, [], ◌∷◌, ◌++◌, length, flat_map, All, Contains, IsUtf8, Some, refl, sym, ap, subst, ◌∙◌, ◌⊎◌, inl, inr, ⊎_elim, arith, length-append, append_assoc, nat_lt}
-use Rattle.std.specs.List.{list_any, position_or_len}
-use Rattle.std.specs.Str.{bytes_eq}
-use Rattle.std.specs.Cmp.Lexicographic.{same_text}
-use Rattle.std.proofs.lemmas.Bool.{and_parts, cases_Bool, cases_lt, false≢true, not-false, not-true}
-use Rattle.std.proofs.lemmas.Bool.Decides.{nat_tests}
-use Rattle.std.proofs.lemmas.Cmp.{nat_list_eq_equiv}
-use Rattle.std.proofs.lemmas.List.Elements.{All-head, All-tail}
+use Rattle.heap_pools.proofs.Prelude.{list_any, position_or_len, bytes_eq, same_text, and_parts, cases_Bool, cases_lt, false≢true, not-false, not-true, nat_tests, nat_list_eq_equiv, All-head, All-tail, is_among, distinct, ends_with, HasNoNul, IsText, IsBlob, IsGuid, ended, is_holder, holders, text_from, text_heap, text_index}
 use Rattle.packed.specs.Packed.{IsPacked, short_unsigned}
 use Rattle.heap_pools.specs.BlobHeap.{counted, blob_heap, blob_from, blob_index}
-use Rattle.heap_pools.specs.Distinct.{is_among, distinct}
-use Rattle.heap_pools.specs.Ending.{ends_with}
-use Rattle.heap_entries.specs.Entries.{HasNoNul, IsText, IsBlob, IsGuid}
 use Rattle.heap_pools.specs.GuidHeap.{guid_heap, guid_index}
-use Rattle.heap_pools.specs.TextHeap.{ended, is_holder, holders, text_from, text_heap, text_index}
 use Rattle.heap_pools.proofs.EndingLemmas.{ends_parts, ends_from}
 use Rattle.heap_pools.proofs.MemberLemmas.{IsIn, in_any, any_in, in_filter, in_distinct, among_in, in_from_contains}
 use Rattle.heap_pools.proofs.RunLemmas.{ends_trans}

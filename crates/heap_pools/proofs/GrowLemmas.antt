@@ -1,12 +1,8 @@
 -- Growing pools: entries stay, and so do their offsets.
 use Rattle.std.proofs.Common.{◌≡◌, ℕ, ◌+◌, ◌≤◌, Bool, true, false, ◌||◌, cond, List, [], ◌∷◌, ◌++◌, length, flat_map, Contains, Option, Some, None, ◌⊎◌, inl, inr, refl, sym, ap, ◌∙◌, ⊎_elim, arith, append_assoc, length-append}
-use Rattle.std.specs.List.{position_or_len}
-use Rattle.std.specs.Str.{bytes_eq}
-use Rattle.std.proofs.lemmas.Bool.{cases_Bool, false≢true}
-use Rattle.std.proofs.lemmas.List.{append-nil}
+use Rattle.heap_pools.proofs.Prelude.{position_or_len, bytes_eq, cases_Bool, false≢true, append-nil, is_among, first_uses, distinct, pooled}
 use Rattle.std.proofs.lemmas.List.Concat.{flat_map-append}
 use Rattle.heap_pools.specs.BlobHeap.{blob_from, blob_heap, blob_index, counted}
-use Rattle.heap_pools.specs.Distinct.{is_among, first_uses, distinct, pooled}
 use Rattle.heap_pools.specs.GuidHeap.{given, guid_heap, guid_index, pooled_guid}
 use Rattle.heap_pools.proofs.DistinctLemmas.{pooled_there}
 use Rattle.heap_pools.proofs.MemberLemmas.{among_in, in_distinct, in_from_contains, distinct-push}

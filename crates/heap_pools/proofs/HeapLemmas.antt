@@ -1,9 +1,5 @@
 -- The heap of the flagged texts, extended by one use index.
-use Rattle.std.proofs.Common.{◌≡◌, ℕ, zero, suc, ◌+◌, ◌<◌, ◌≤◌, max, Bool, true, false, List, [], ◌∷◌, ◌++◌, length, take, drop, get_or, slice_index_or, refl, sym, ap, ◌∙◌, ⊎_elim, true≢false, arith, length-append, add-one}
-use Rattle.std.proofs.lemmas.Bool.{cases_lt, false≢true}
-use Rattle.std.proofs.lemmas.List.{append_assoc, get_or_push, get_or_append_left, drop_at, take_at}
-use Rattle.heap_pools.specs.TextHeap.{ended, text_heap}
-use Rattle.heap_pools.specs.Ranking.{used_at, flagged}
+use Rattle.heap_pools.proofs.Prelude.{◌≡◌, ℕ, zero, suc, ◌+◌, ◌<◌, ◌≤◌, max, Bool, true, false, List, [], ◌∷◌, ◌++◌, length, take, drop, get_or, slice_index_or, refl, sym, ap, ◌∙◌, ⊎_elim, true≢false, arith, length-append, add-one, cases_lt, false≢true, append_assoc, get_or_push, get_or_append_left, drop_at, take_at, ended, text_heap, used_at, flagged}
 use Rattle.heap_pools.proofs.PlanLemmas.{flagged_split}
 
 pub ended-append : (a b : List (List ℕ)) → ended (a ++ b) ≡ ended a ++ ended b

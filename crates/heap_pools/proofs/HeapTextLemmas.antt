@@ -1,9 +1,5 @@
 -- The texts of a strings heap: the bytes before a NUL.
-use Rattle.std.proofs.Common.{◌≡◌, ◌≢◌, ℕ, zero, suc, ◌+◌, ◌-◌, ◌<◌, ◌≤◌, cond, List, [], ◌∷◌, ◌++◌, length, take, drop, slice_index, slice_index_or, inl, inr, refl, sym, ap, subst, ◌∙◌, ⊎_elim, arith, length-drop}
-use Rattle.std.proofs.lemmas.Bool.Decides.{eqb_tells}
-use Rattle.std.proofs.lemmas.List.{drop_at, drop-drop, nil_from_length, ext_get_or, get_or-map, length-map}
-use Rattle.std.proofs.lemmas.List.Elements.{All-head, All-tail, All-cons, All-nil}
-use Rattle.heap_entries.specs.Entries.{HasNoNul, IsText}
+use Rattle.heap_pools.proofs.Prelude.{◌≡◌, ◌≢◌, ℕ, zero, suc, ◌+◌, ◌-◌, ◌<◌, ◌≤◌, cond, List, [], ◌∷◌, ◌++◌, length, take, drop, slice_index, slice_index_or, inl, inr, refl, sym, ap, subst, ◌∙◌, ⊎_elim, arith, length-drop, eqb_tells, drop_at, drop-drop, nil_from_length, ext_get_or, get_or-map, length-map, All-head, All-tail, All-cons, All-nil, HasNoNul, IsText}
 use Rattle.heap_pools.specs.HeapTexts.{before_nul, heap_text, texts_at}
 
 at_nul : (byte : ℕ) (bytes : List ℕ) → byte ≡ 0 → before_nul (byte ∷ bytes) ≡ []

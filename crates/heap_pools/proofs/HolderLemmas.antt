@@ -1,15 +1,6 @@
 -- The heap of the texts used first is not longer than the heap of all: each of its entries is at the end of a
 -- different entry there.
-use Rattle.std.proofs.Common.{◌≡◌, ℕ, ◌<◌, ◌≤◌, Bool, true, false, not, ◌&&◌, cond, true≢false, List, [], ◌∷◌, ◌++◌, length, filter, drop, ◌⊎◌, inl, inr, refl, sym, ap, subst, ◌∙◌, ⊎_elim, arith, length-append}
-use Rattle.std.specs.List.{list_any}
-use Rattle.std.specs.Str.{bytes_eq}
-use Rattle.std.specs.Cmp.Lexicographic.{same_text}
-use Rattle.std.proofs.lemmas.Bool.{cases_Bool, cond_both, not-true, or_parts}
-use Rattle.std.proofs.lemmas.Cmp.{nat_list_eq_equiv}
-use Rattle.std.proofs.lemmas.List.Elements.{Contains-append_left}
-use Rattle.heap_pools.specs.Distinct.{is_among, first_uses, distinct}
-use Rattle.heap_pools.specs.Ending.{ends_with}
-use Rattle.heap_pools.specs.TextHeap.{is_holder, holders, ended, text_heap}
+use Rattle.heap_pools.proofs.Prelude.{◌≡◌, ℕ, ◌<◌, ◌≤◌, Bool, true, false, not, ◌&&◌, cond, true≢false, List, [], ◌∷◌, ◌++◌, length, filter, drop, ◌⊎◌, inl, inr, refl, sym, ap, subst, ◌∙◌, ⊎_elim, arith, length-append, list_any, bytes_eq, same_text, cases_Bool, cond_both, not-true, or_parts, nat_list_eq_equiv, Contains-append_left, is_among, first_uses, distinct, ends_with, is_holder, holders, ended, text_heap}
 use Rattle.heap_pools.proofs.EndingLemmas.{ends_parts, ends_from, ends_length}
 use Rattle.heap_pools.proofs.FoundLemmas.{held}
 use Rattle.heap_pools.proofs.HeapLemmas.{ended-append}

@@ -16,6 +16,7 @@ pub mod MergeLemmas
 pub mod NumberLemmas
 pub mod PlanLemmas
 pub mod PoolLemmas
+pub mod Prelude
 pub mod RunLemmas
 pub mod StartUseLemmas
 pub mod UseLemmas

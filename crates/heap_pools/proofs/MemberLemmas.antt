@@ -1,13 +1,6 @@
 -- Values in lists, and in the list of the distinct ones.
 use Rattle.std.proofs.Common.{◌≡◌, ℕ, zero, suc, ◌<◌, Bool, true, false, ◌||◌, cond, true≢false, List, [], ◌∷◌, ◌++◌, length, filter, Contains, refl, sym, ap, subst, ◌∙◌, ◌⊎◌, inl, inr, ⊎_elim, arith, append_assoc}
-use Rattle.std.specs.List.{list_any}
-use Rattle.std.specs.Str.{bytes_eq}
-use Rattle.std.specs.Cmp.Lexicographic.{same_text}
-use Rattle.std.proofs.lemmas.Bool.{cases_Bool, cond_both, false≢true, or_from, or_left, or_right}
-use Rattle.std.proofs.lemmas.Cmp.{nat_list_eq_equiv}
-use Rattle.std.proofs.lemmas.List.{append-nil}
-use Rattle.std.proofs.lemmas.List.Folds.{list_any-append}
-use Rattle.heap_pools.specs.Distinct.{is_among, first_uses, distinct, pooled}
+use Rattle.heap_pools.proofs.Prelude.{list_any, bytes_eq, same_text, cases_Bool, cond_both, false≢true, or_from, or_left, or_right, nat_list_eq_equiv, append-nil, list_any-append, is_among, first_uses, distinct, pooled}
 
 -- a list contains a value
 abbrev pub IsIn : {X : Type 0} → X → List X → Type 0

@@ -1,18 +1,5 @@
 -- From the first uses to the heap of the holders.
-use Rattle.std.proofs.Common.{◌≡◌, ℕ, zero, suc, ◌+◌, ◌-◌, ◌<◌, ◌≤◌, Bool, true, false, not, ◌&&◌, ◌||◌, cond, List, [], ◌∷◌, ◌++◌, length, take, get_or, filter, slice_index_or, refl, sym, ap, subst, ◌∙◌, ⊎_elim, true≢false, arith, length-append}
-use Rattle.std.specs.List.{list_any}
-use Rattle.std.specs.Str.{bytes_eq}
-use Rattle.std.specs.Cmp.Lexicographic.{same_text}
-use Rattle.std.specs.declared.cmp.Ordering.TheVariants.{Less}
-use Rattle.std.proofs.lemmas.Bool.{and_parts, and_right, cases_Bool, cases_lt, false_from_ne_true, false≢true, not-true}
-use Rattle.std.proofs.lemmas.Cmp.{nat_list_eq_equiv}
-use Rattle.std.proofs.lemmas.List.{append_assoc, append-nil, get_or_default}
-use Rattle.std.proofs.lemmas.List.Folds.{Any-from_list_any, list_any_at}
-use Rattle.heap_pools.specs.Ending.{ends_with}
-use Rattle.heap_pools.specs.EndingOrder.{ending_cmp}
-use Rattle.heap_pools.specs.Distinct.{is_among, first_uses}
-use Rattle.heap_pools.specs.TextHeap.{is_holder, ended, text_from}
-use Rattle.heap_pools.specs.Ranking.{TextUse, text_at, use_index_at, used_at, AreFirstUses, IsTop, IsRun, FindsHolder, flagged}
+use Rattle.heap_pools.proofs.Prelude.{◌≡◌, ℕ, zero, suc, ◌+◌, ◌-◌, ◌<◌, ◌≤◌, Bool, true, false, not, ◌&&◌, ◌||◌, cond, List, [], ◌∷◌, ◌++◌, length, take, get_or, filter, slice_index_or, refl, sym, ap, subst, ◌∙◌, ⊎_elim, true≢false, arith, length-append, list_any, bytes_eq, same_text, Less, and_parts, and_right, cases_Bool, cases_lt, false_from_ne_true, false≢true, not-true, nat_list_eq_equiv, append_assoc, append-nil, get_or_default, Any-from_list_any, list_any_at, ends_with, ending_cmp, is_among, first_uses, is_holder, ended, text_from, TextUse, text_at, use_index_at, used_at, AreFirstUses, IsTop, IsRun, FindsHolder, flagged}
 use Rattle.heap_pools.proofs.EndingLemmas.{ends_from, ends_length, ends_itself, ends_cases, ends_between, not_both, not_itself}
 
 -- the index of an element that passes a test

@@ -1,17 +1,7 @@
 -- StartUses in a strings heap: the texts at them, and the first use index of each start.
-use Rattle.std.proofs.Common.{◌≡◌, ◌≢◌, ℕ, ◌+◌, ◌<◌, List, [], ◌∷◌, ◌++◌, All, length, set, slice_index, sym, ap, subst, ◌∙◌, ⊎_elim, arith}
-use Rattle.std.specs.Borrow.{Bor}
-use Rattle.std.specs.List.Sorted.{IsPermutation}
-use Rattle.std.proofs.lemmas.Bool.{cases_eq}
-use Rattle.std.proofs.lemmas.List.{length-map, length-set, ext_get_or, get_or-map, get_or_push, get_or_append_left, get_or_default, get_or-set_same, get_or-set_other}
-use Rattle.std.proofs.lemmas.List.Elements.{All-from_get_or, Contains-get_or}
-use Rattle.std.proofs.lemmas.List.Sorted.{All-permutation, Contains-permutation}
-use Rattle.heap_entries.specs.Entries.{HasNoNul}
+use Rattle.heap_pools.proofs.Prelude.{◌≡◌, ◌≢◌, ℕ, ◌+◌, ◌<◌, List, [], ◌∷◌, ◌++◌, All, length, set, slice_index, sym, ap, subst, ◌∙◌, ⊎_elim, arith, Bor, IsPermutation, cases_eq, length-map, length-set, ext_get_or, get_or-map, get_or_push, get_or_append_left, get_or_default, get_or-set_same, get_or-set_other, All-from_get_or, Contains-get_or, All-permutation, Contains-permutation, HasNoNul, start_use_at, AreStartUses, used_at, bytes_of}
 use Rattle.heap_pools.specs.declared.heap_texts.StartUse.{StartUse}
 use Rattle.heap_pools.specs.HeapTexts.{heap_text, texts_at}
-use Rattle.heap_pools.specs.StartUses.{start_use_at, AreStartUses}
-use Rattle.heap_pools.specs.Ranking.{used_at}
-use Rattle.heap_pools.specs.Uses.{bytes_of}
 use Rattle.heap_pools.proofs.FirstLemmas.{last_cases}
 use Rattle.heap_pools.proofs.HeapTextLemmas.{heap_text_plain}
 use Rattle.heap_pools.proofs.UseLemmas.{used_read, no_text}

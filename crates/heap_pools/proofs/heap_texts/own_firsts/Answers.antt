@@ -1,5 +1,4 @@
-use Rattle.std.proofs.Common.{arith}
-use Rattle.std.proofs.lemmas.Grind.{common_steps}
+use Rattle.heap_pools.proofs.Prelude.{arith, common_steps}
 use Rattle.heap_pools.proofs.heap_texts.own_firsts.Goals as goal
 
 pub loop-use_index-preserved : goal.loop-use_index-preserved

@@ -1,7 +1,5 @@
-use Rattle.std.proofs.Common.{◌≡◌, ◌-◌, ◌≤◌, length, drop, refl, sym, ap, ◌∙◌, arith}
+use Rattle.heap_pools.proofs.Prelude.{◌≡◌, ◌-◌, ◌≤◌, length, drop, refl, sym, ap, ◌∙◌, arith, start_use_at, bytes_of}
 use Rattle.heap_pools.specs.HeapTexts.{heap_text}
-use Rattle.heap_pools.specs.StartUses.{start_use_at}
-use Rattle.heap_pools.specs.Uses.{bytes_of}
 use Rattle.heap_pools.proofs.HeapTextLemmas.{heap_text_drop, heap_text_none}
 use Rattle.heap_pools.proofs.StartUseLemmas.{texts_more, texts_all}
 use Rattle.heap_pools.proofs.UseLemmas.{length-bytes}

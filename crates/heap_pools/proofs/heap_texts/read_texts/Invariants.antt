@@ -1,8 +1,5 @@
-use Rattle.std.proofs.Common.{◌≡◌, ◌<◌, ℕ, length, vec_len}
+use Rattle.heap_pools.proofs.Prelude.{◌≡◌, ◌<◌, ℕ, length, vec_len, start_use_at, used_at, bytes_of}
 use Rattle.heap_pools.specs.HeapTexts.{heap_text}
-use Rattle.heap_pools.specs.StartUses.{start_use_at}
-use Rattle.heap_pools.specs.Ranking.{used_at}
-use Rattle.heap_pools.specs.Uses.{bytes_of}
 use Rattle.heap_pools.proofs.heap_texts.read_texts.Given as goal
 
 abbrev pub invariant-loop-start_use : goal.invariant-loop-start_use

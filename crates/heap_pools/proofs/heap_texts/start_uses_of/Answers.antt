@@ -1,5 +1,4 @@
-use Rattle.std.proofs.Common.{◌≡◌, length, slice_index, refl, sym, subst, arith}
-use Rattle.heap_pools.specs.StartUses.{start_use_at}
+use Rattle.heap_pools.proofs.Prelude.{◌≡◌, length, slice_index, refl, sym, subst, arith, start_use_at}
 use Rattle.heap_pools.proofs.StartUseLemmas.{IsStartUse, start_use_more, start_uses_sorted}
 use Rattle.heap_pools.proofs.heap_texts.start_uses_of.Goals as goal
 

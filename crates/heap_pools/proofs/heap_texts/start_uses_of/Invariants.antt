@@ -1,5 +1,4 @@
-use Rattle.std.proofs.Common.{◌≡◌, ◌<◌, ℕ, vec_len}
-use Rattle.heap_pools.specs.StartUses.{start_use_at}
+use Rattle.heap_pools.proofs.Prelude.{◌≡◌, ◌<◌, ℕ, vec_len, start_use_at}
 use Rattle.heap_pools.proofs.StartUseLemmas.{IsStartUse}
 use Rattle.heap_pools.proofs.heap_texts.start_uses_of.Given as goal
 

@@ -1,5 +1,4 @@
-use Rattle.std.proofs.Common.{length, drop, take, sym, ap, subst, ◌∙◌, arith, eq-eqb}
-use Rattle.std.proofs.lemmas.Bool.{eqb-true}
+use Rattle.heap_pools.proofs.Prelude.{length, drop, take, sym, ap, subst, ◌∙◌, arith, eq-eqb, eqb-true}
 use Rattle.memchr.specs.Find.{NoneBefore, Nowhere, Passes, is_byte}
 use Rattle.heap_pools.proofs.HeapTextLemmas.{before_first, before_none, heap_text_none, heap_text_past, heap_text_some}
 use Rattle.heap_pools.proofs.heap_texts.text_in_heap.Goals as goal
