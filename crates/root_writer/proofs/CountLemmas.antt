@@ -1,15 +1,5 @@
 -- The bits of the tables that have rows, table by table.
-use Rattle.std.proofs.Common.{◌≡◌, ℕ, ◌+◌, ◌<◌, ◌≤◌, Bool, List, [], ◌∷◌, ◌++◌, length, get_or, drop, cond, ltb, refl, ap, sym, ◌∙◌, arith}
-use Rattle.std.proofs.Math.Path.{fun_ext}
-use Rattle.std.proofs.lemmas.List.{drop_all, get_or-map}
-use Rattle.std.proofs.lemmas.List.Sums.{sum_by-drop_more}
-use Rattle.table_schema.specs.declared.table.TableId.{TableId}
-use Rattle.table_schema.specs.declared.table.TableId.TheVariants.{Module}
-use Rattle.table_schema.specs.Tables.{tables, table_index_of}
-use Rattle.schema.specs.Sizes.{Sizes, count_of}
-use Rattle.schema.specs.LaidOut.{number_bytes, bits_of, counts_bytes}
-use Rattle.metadata.specs.Metadata.{Metadata, count_in}
-use Rattle.root_writer.specs.TableStream.{has_rows, sizes_of}
+use Rattle.root_writer.proofs.Prelude.{◌≡◌, ℕ, ◌+◌, ◌<◌, ◌≤◌, Bool, List, [], ◌∷◌, ◌++◌, length, get_or, drop, cond, ltb, refl, ap, sym, ◌∙◌, arith, fun_ext, drop_all, get_or-map, sum_by-drop_more, TableId, Module, tables, table_index_of, Sizes, count_of, number_bytes, bits_of, counts_bytes, Metadata, count_in, has_rows, sizes_of}
 use Rattle.root_writer.specs.TableHeader.{is_counted, bit_if}
 
 pub more_bits : (sizes : Sizes) (items : List TableId) (i valid next total : ℕ) → items ≡ tables → i < length items

@@ -1,24 +1,7 @@
 -- The laws of the crates below, as one record.
-use Rattle.std.proofs.Common.{◌≡◌, ℕ, ◌+◌, ◌-◌, ◌*◌, ◌^◌, ◌<◌, ◌≤◌, Bool, true, List, [], ◌++◌, length, get_or, All, Contains, IsUtf8, ◌⊎◌, Some}
-use Rattle.packed.specs.Number.{IsNumber}
-use Rattle.table_schema.specs.declared.table.TableId.{TableId}
-use Rattle.table_schema.specs.declared.table.TableId.TheVariants.{Module}
-use Rattle.table_schema.specs.declared.coded.Coded.{Coded}
-use Rattle.table_schema.specs.declared.column.Column.{Column}
+use Rattle.root_writer.proofs.Prelude.{◌≡◌, ℕ, ◌+◌, ◌-◌, ◌*◌, ◌^◌, ◌<◌, ◌≤◌, Bool, true, List, [], ◌++◌, length, get_or, All, Contains, IsUtf8, ◌⊎◌, Some, IsNumber, TableId, Module, Coded, Column, tables, table_index_of, table_number, columns_of, column_at, key_of, IsReference, MayBeNull, tables_of, tag_bits, Sizes, number_bytes, row_bytes, bits_of, fields_of, FitRow, blob_heap, blob_index, distinct, HasNoNul, IsBlob, IsGuid, IsText, guid_heap, guid_index, holders, text_heap, text_index, Body, Holds, Encodes, IsEncodable, short}
 use Rattle.table_schema.specs.declared.column.SigKind.{SigKind}
-use Rattle.table_schema.specs.Tables.{tables, table_index_of, table_number}
-use Rattle.table_schema.specs.Columns.{columns_of, column_at, key_of, IsReference, MayBeNull}
-use Rattle.table_schema.specs.CodedIndexes.{tables_of, tag_bits}
-use Rattle.schema.specs.Sizes.{Sizes}
-use Rattle.schema.specs.LaidOut.{number_bytes, row_bytes, bits_of, fields_of, FitRow}
 use Rattle.schema.specs.Header.{has_bit}
-use Rattle.heap_pools.specs.BlobHeap.{blob_heap, blob_index}
-use Rattle.heap_pools.specs.Distinct.{distinct}
-use Rattle.heap_entries.specs.Entries.{HasNoNul, IsBlob, IsGuid, IsText}
-use Rattle.heap_pools.specs.GuidHeap.{guid_heap, guid_index}
-use Rattle.heap_pools.specs.TextHeap.{holders, text_heap, text_index}
-use Rattle.sig_grammar.specs.Syntax.{Body}
-use Rattle.sig_grammar.specs.Encodes.{Holds, Encodes, IsEncodable, short}
 
 pub record Facts : Type 0 where
   pub text : (used : List (List ℕ)) (text tail : List ℕ) → Contains used text → HasNoNul text → IsUtf8 text

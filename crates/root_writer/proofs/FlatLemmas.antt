@@ -1,19 +1,7 @@
 -- The numbers of tables as one list, and by table, row and column.
-use Rattle.std.proofs.Common.{◌≡◌, ℕ, ◌+◌, ◌*◌, List, [], ◌∷◌, ◌++◌, length, map, take, drop, refl, sym, ap, ◌∙◌, length-append, arith}
+use Rattle.root_writer.proofs.Prelude.{◌≡◌, ℕ, ◌+◌, ◌*◌, List, [], ◌∷◌, ◌++◌, length, map, take, drop, refl, sym, ap, ◌∙◌, length-append, arith, AllByRecursion, length-map, sum_by-cons, Column, TableId, tables, columns_of, Sizes, count_of, Cell, Metadata, rows_of, count_in, Pools, pools_of, cell_number, numbers_of, table_numbers, numbers}
 use Rattle.std.specs.Prelude.{flat_map, sum_by}
-use Rattle.std.specs.List.{AllByRecursion}
 use Rattle.std.proofs.Math.Seq.{take-append_seam, drop-append_seam}
-use Rattle.std.proofs.lemmas.List.{length-map}
-use Rattle.std.proofs.lemmas.List.Sums.{sum_by-cons}
-use Rattle.table_schema.specs.declared.column.Column.{Column}
-use Rattle.table_schema.specs.declared.table.TableId.{TableId}
-use Rattle.table_schema.specs.Tables.{tables}
-use Rattle.table_schema.specs.Columns.{columns_of}
-use Rattle.schema.specs.Sizes.{Sizes, count_of}
-use Rattle.metadata.specs.Cell.{Cell}
-use Rattle.metadata.specs.Metadata.{Metadata, rows_of, count_in}
-use Rattle.root_writer.specs.Pools.{Pools, pools_of}
-use Rattle.root_writer.specs.Numbers.{cell_number, numbers_of, table_numbers, numbers}
 use Rattle.root_writer.specs.Flat.{cells_of, rows_in, table_in, tables_in}
 use Rattle.root_writer.specs.Numbered.{flat}
 use Rattle.root_writer.proofs.Rows.{length-numbers_by}

@@ -1,15 +1,5 @@
 -- The lengths of stream headers, and the headers by the sizes of the streams.
-use Rattle.std.proofs.Common.{◌≡◌, ℕ, ◌+◌, ◌≤◌, List, [], ◌∷◌, ◌++◌, length, refl, sym, ap, ◌∙◌, arith, length-append, lit≤, drop, filter, ltb, cond}
-use Rattle.std.proofs.lemmas.List.{drop_all}
-use Rattle.std.proofs.lemmas.List.Sums.{sum_by-cons}
-use Rattle.std.specs.Prelude.{sum_by}
-use Rattle.std.specs.List.{flat_map}
-use Rattle.root.specs.declared.kind.Kind.{Kind}
-use Rattle.root.specs.declared.kind.Kind.TheVariants.{Tables}
-use Rattle.root.specs.Streams.{stream_name}
-use Rattle.schema.specs.LaidOut.{number_bytes}
-use Rattle.root_writer.specs.Canonical.{ended, prefix, directory, root_of}
-use Rattle.root_writer.specs.Heading.{header_length, sized_header, sized_directory, heading_size, heading}
+use Rattle.root_writer.proofs.Prelude.{◌≡◌, ℕ, ◌+◌, ◌≤◌, List, [], ◌∷◌, ◌++◌, length, refl, sym, ap, ◌∙◌, arith, length-append, lit≤, drop, filter, ltb, cond, drop_all, sum_by-cons, sum_by, flat_map, Kind, Tables, stream_name, number_bytes, ended, prefix, directory, root_of, header_length, sized_header, sized_directory, heading_size, heading}
 
 pub name_short : (kind : Kind) → length (stream_name kind) ≤ 8
 name_short Tables = lit≤ tt

@@ -1,10 +1,5 @@
 -- The streams that have bytes, kind by kind.
-use Rattle.std.proofs.Common.{◌≡◌, ℕ, ◌+◌, ◌<◌, ◌≤◌, Bool, true, false, cond, ltb, List, [], ◌∷◌, ◌++◌, length, get_or, set, take, drop, filter, sym, ap, ◌∙◌, append_assoc, arith}
-use Rattle.std.proofs.lemmas.Bool.Decides.{nat_tests}
-use Rattle.std.proofs.lemmas.List.{drop_more, take_more_set}
-use Rattle.root.specs.declared.kind.Kind.{Kind}
-use Rattle.root.specs.declared.kind.Kind.TheVariants.{Tables}
-use Rattle.root_writer.specs.Heading.{kinds_in_order}
+use Rattle.root_writer.proofs.Prelude.{◌≡◌, ℕ, ◌+◌, ◌<◌, ◌≤◌, Bool, true, false, cond, ltb, List, [], ◌∷◌, ◌++◌, length, get_or, set, take, drop, filter, sym, ap, ◌∙◌, append_assoc, arith, nat_tests, drop_more, take_more_set, Kind, Tables, kinds_in_order}
 
 pub has_bytes : (count size : ℕ) → count ≡ size → 0 < count → ltb 0 size ≡ true
 has_bytes count size same some = grind (arith, nat_tests)
@@ -16,9 +11,8 @@ next_kind : (test : Kind → Bool) (i : ℕ) (answer : Bool) → i < 5 → test 
     → filter test (drop i kinds_in_order)
     ≡ cond answer (get_or kinds_in_order i Tables ∷ filter test (drop (i + 1) kinds_in_order)) (filter test (drop (i + 1) kinds_in_order))
 next_kind test i answer below is =
-    let kind = get_or kinds_in_order i Tables in
     let tail = filter test (drop (i + 1) kinds_in_order) in
-    ap (filter test) (drop_more kinds_in_order i Tables below) ∙ ap (λ b. cond b (kind ∷ tail) tail) is
+    ap (filter test) (drop_more kinds_in_order i Tables below) ∙ ap (λ b. cond b (get_or kinds_in_order i Tables ∷ tail) tail) is
 
 pub kept : (test : Kind → Bool) (kinds whole : List Kind) (count i : ℕ) → i < 5 → count < length kinds → test (get_or kinds_in_order i Tables) ≡ true
     → take count kinds ++ filter test (drop i kinds_in_order) ≡ whole

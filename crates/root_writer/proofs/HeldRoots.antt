@@ -1,24 +1,8 @@
 -- The cells of a valid model by the kinds of their columns, in the form that the laws of writing need.
-use Rattle.std.proofs.Common.{◌≡◌, ℕ, zero, suc, ◌-◌, ◌+◌, ◌^◌, ◌<◌, ◌≤◌, ◌⊎◌, Bool, true, List, [], ◌∷◌, length, get_or, Option, Some, None, IfSome, IsUtf8, Contains, refl, subst, inl, inr, ◌∙◌, arith}
-use Rattle.std.specs.List.{AllByRecursion}
-use Rattle.std.proofs.lemmas.List.Elements.{All-from_get_or, recursion_from_All}
-use Rattle.heap_entries.specs.Entries.{HasNoNul}
-use Rattle.table_schema.specs.declared.table.TableId.{TableId}
-use Rattle.table_schema.specs.declared.token.Token.{Token}
-use Rattle.table_schema.specs.declared.column.ColumnKind.{ColumnKind}
+use Rattle.root_writer.proofs.Prelude.{◌≡◌, ℕ, zero, suc, ◌-◌, ◌+◌, ◌^◌, ◌<◌, ◌≤◌, ◌⊎◌, Bool, true, List, [], ◌∷◌, length, get_or, Option, Some, None, IfSome, IsUtf8, Contains, refl, subst, inl, inr, ◌∙◌, arith, AllByRecursion, All-from_get_or, recursion_from_All, HasNoNul, TableId, Token, ColumnKind, table_index_of, column_at, cell_count, column_of, tables_of, Body, Holds, IsEncodable, tokens, Cell, Number, Text, Bytes, Guid, Ref, Start, Sig, Metadata, rows_of, row_of, count_in, cell_in, table_at, AreFrom, IsValid}
 use Rattle.table_schema.specs.declared.column.ColumnKind.TheVariants as kind
-use Rattle.table_schema.specs.Tables.{table_index_of}
-use Rattle.table_schema.specs.Columns.{column_at}
-use Rattle.table_schema.specs.CellColumns.{cell_count, column_of}
-use Rattle.table_schema.specs.CodedIndexes.{tables_of}
-use Rattle.sig_grammar.specs.Syntax.{Body}
-use Rattle.sig_grammar.specs.Encodes.{Holds, IsEncodable, tokens}
-use Rattle.metadata.specs.Cell.{Cell, Number, Text, Bytes, Guid, Ref, Start, Sig}
 use Rattle.metadata.specs.Kinds.{IsTo}
-use Rattle.metadata.specs.Metadata.{Metadata, rows_of, row_of, count_in, cell_in}
-use Rattle.metadata.specs.Rows.{table_at, AreFrom}
 use Rattle.metadata.specs.Valid as valid
-use Rattle.metadata.specs.Valid.{IsValid}
 use Rattle.root_writer.proofs.Lists.{are_from}
 use Rattle.root_writer.proofs.Facts.{Facts}
 use Rattle.table_schema.proofs.TableFacts.{table_index_at}

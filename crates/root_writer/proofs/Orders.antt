@@ -1,31 +1,7 @@
 -- The tables whose Sorted bit is set are in order of their keys, and nested types follow their enclosing types.
-use Rattle.std.proofs.Common.{◌≡◌, ℕ, ◌+◌, ◌-◌, ◌%◌, ◌^◌, ◌<◌, ◌≤◌, Bool, true, false, lit<, List, [], map, length, get_or, Contains, refl, sym, ap, subst, ◌∙◌, inl, inr, Option, Some, None, arith}
-use Rattle.std.specs.Prelude.{slice_index}
-use Rattle.std.specs.List.{position_or_len}
-use Rattle.std.proofs.lemmas.List.{length-map, get_or-map}
-use Rattle.std.proofs.Math.Nat.{mod-eq_of_lt, one-le-pow}
-use Rattle.table_schema.specs.declared.table.TableId.{TableId}
-use Rattle.table_schema.specs.declared.table.TableId.TheVariants.{NestedClass, TypeDef}
-use Rattle.table_schema.specs.declared.coded.Coded.{Coded}
-use Rattle.table_schema.specs.declared.column.Column.{Column}
-use Rattle.table_schema.specs.declared.column.ColumnKind.{ColumnKind}
+use Rattle.root_writer.proofs.Prelude.{◌≡◌, ℕ, ◌+◌, ◌-◌, ◌%◌, ◌^◌, ◌<◌, ◌≤◌, Bool, true, false, lit<, List, [], map, length, get_or, Contains, refl, sym, ap, subst, ◌∙◌, inl, inr, Option, Some, None, arith, slice_index, position_or_len, length-map, get_or-map, mod-eq_of_lt, one-le-pow, TableId, NestedClass, TypeDef, Coded, Column, ColumnKind, columns_of, column_at, key_of, col, IsReference, tables_of, tag_bits, count_of, kind_width, row_index_width, coded_width, width_of, is_table, Cell, Number, Metadata, rows_of, count_in, cell_in, number_of, is_padding, cell_columns, cell_count, column_of, table_at, IsKeyCell, is_said_sorted, IsByKey, AreByKey, AreNested, Pools, pools_of, cell_number, numbers_by, rises, is_by_key, table_keys, is_sorted, sizes_of, row_in, IsValid}
 use Rattle.table_schema.specs.declared.column.ColumnKind.TheVariants as kind
-use Rattle.table_schema.specs.Columns.{columns_of, column_at, key_of, col, IsReference}
-use Rattle.table_schema.specs.CodedIndexes.{tables_of, tag_bits}
-use Rattle.schema.specs.Sizes.{count_of, kind_width, row_index_width, coded_width, width_of}
-use Rattle.sig_grammar.specs.Parts.{is_table}
-use Rattle.metadata.specs.Cell.{Cell, Number}
-use Rattle.metadata.specs.Metadata.{Metadata, rows_of, count_in, cell_in}
-use Rattle.metadata.specs.Source.{number_of}
-use Rattle.table_schema.specs.CellColumns.{is_padding, cell_columns, cell_count, column_of}
-use Rattle.metadata.specs.Rows.{table_at}
-use Rattle.metadata.specs.Lookups.{IsKeyCell}
 use Rattle.metadata.specs.KeyOrder.{key_number, key_in, IsKeyOrdered}
-use Rattle.metadata.specs.RowRules.{is_said_sorted, IsByKey, AreByKey, AreNested}
-use Rattle.root_writer.specs.Pools.{Pools, pools_of}
-use Rattle.root_writer.specs.Numbers.{cell_number, numbers_by}
-use Rattle.root_writer.specs.TableStream.{rises, is_by_key, table_keys, is_sorted, sizes_of}
-use Rattle.metadata.specs.Valid.{row_in, IsValid}
 use Rattle.root_writer.proofs.HeldRoots.{MayRefer, IsValidCell, row_long, cell_valid}
 use Rattle.root_writer.proofs.Facts.{Facts}
 use Rattle.root_writer.proofs.Widths.{count_is, row_fits, coded_fits, tag_found}

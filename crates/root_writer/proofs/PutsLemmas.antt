@@ -1,6 +1,5 @@
 -- Bytes that are written in sequence.
-use Rattle.std.proofs.Common.{List, ℕ, ◌++◌, ap, ◌∙◌, append_assoc, length-append, arith}
-use Rattle.root_writer.specs.Written.{Written, Puts}
+use Rattle.root_writer.proofs.Prelude.{List, ℕ, ◌++◌, ap, ◌∙◌, append_assoc, length-append, arith, Written, Puts}
 
 pub puts_then : {old middle new : Written} {first second : List ℕ} → Puts old middle first → Puts middle new second → Puts old new (first ++ second)
 puts_then {old} {middle} {new} {first} {second} a b = record {

@@ -1,21 +1,8 @@
 -- The cells of a valid model can be numbered.
-use Rattle.std.proofs.Common.{◌≡◌, ℕ, ◌+◌, ◌-◌, ◌<◌, ◌≤◌, Bool, List, [], length, get_or, Some, sym, ap, subst, ◌∙◌, arith}
+use Rattle.root_writer.proofs.Prelude.{◌≡◌, ℕ, ◌+◌, ◌-◌, ◌<◌, ◌≤◌, Bool, List, [], length, get_or, Some, sym, ap, subst, ◌∙◌, arith, All-from_get_or, All-from_recursion, recursion_from_All, TableId, ColumnKind, Module, tables, cell_count, HasNoNul, Body, Cell, Number, Text, Bytes, Ref, Sig, HasRow, Metadata, rows_of, count_in, cell_in, IsValid, IsValidCell, kind_at, nullable_at, used, texts_of}
 use Rattle.std.specs.Prelude.{flat_map}
 use Rattle.std.specs.List.{All, AllByRecursion}
-use Rattle.std.proofs.lemmas.List.Elements.{All-from_get_or, All-from_recursion, recursion_from_All}
-use Rattle.table_schema.specs.declared.table.TableId.{TableId}
-use Rattle.table_schema.specs.declared.column.ColumnKind.{ColumnKind}
 use Rattle.table_schema.specs.declared.column.ColumnKind.TheVariants as kind
-use Rattle.table_schema.specs.declared.table.TableId.TheVariants.{Module}
-use Rattle.table_schema.specs.Tables.{tables}
-use Rattle.table_schema.specs.CellColumns.{cell_count}
-use Rattle.heap_entries.specs.Entries.{HasNoNul}
-use Rattle.sig_grammar.specs.Syntax.{Body}
-use Rattle.metadata.specs.Cell.{Cell, Number, Text, Bytes, Ref, Sig}
-use Rattle.metadata.specs.Lookups.{HasRow}
-use Rattle.metadata.specs.Metadata.{Metadata, rows_of, count_in, cell_in}
-use Rattle.metadata.specs.Valid.{IsValid, IsValidCell, kind_at, nullable_at}
-use Rattle.root_writer.specs.Pools.{used, texts_of}
 use Rattle.root_writer.proofs.Lists.{all_flat_map}
 use Rattle.table_schema.proofs.TableFacts.{table_index_at}
 use Rattle.root_writer.specs.Numbered.{CanBeNumbered}

@@ -1,14 +1,5 @@
 -- The bytes of a whole root, stream by stream.
-use Rattle.std.proofs.Common.{◌≡◌, ℕ, ◌+◌, ◌<◌, ◌≤◌, List, [], ◌++◌, length, get_or, drop, refl, sym, ap, length-append, arith}
-use Rattle.std.proofs.lemmas.List.{drop_all, drop_more}
-use Rattle.std.specs.List.{flat_map}
-use Rattle.root.specs.declared.kind.Kind.{Kind}
-use Rattle.root.specs.declared.kind.Kind.TheVariants.{Tables, Strings, UserStrings, Guids, Blobs}
-use Rattle.heap_entries.specs.Padding.{zero_padded}
-use Rattle.metadata.specs.Metadata.{Metadata}
-use Rattle.root_writer.specs.Canonical.{stream}
-use Rattle.root_writer.specs.Written.{Written, Puts}
-use Rattle.root_writer.specs.Heading.{size_of, heading}
+use Rattle.root_writer.proofs.Prelude.{◌≡◌, ℕ, ◌+◌, ◌<◌, ◌≤◌, List, [], ◌++◌, length, get_or, drop, refl, sym, ap, length-append, arith, drop_all, drop_more, flat_map, Kind, Tables, Strings, UserStrings, Guids, Blobs, zero_padded, Metadata, stream, Written, Puts, size_of, heading}
 use Rattle.root_writer.specs.Root.{content, kinds_of, root_bytes, ArePartsOf}
 use Rattle.root_writer.specs.declared.root_parts.RootParts.{RootParts}
 use Rattle.root_writer.proofs.RowLemmas.{IsPutting, put_next}

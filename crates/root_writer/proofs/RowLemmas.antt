@@ -1,11 +1,7 @@
 -- The bytes of a row, column by column.
 use Rattle.std.proofs.Common.{◌≡◌, ℕ, zero, suc, ◌+◌, ◌-◌, ◌*◌, ◌/◌, ◌<◌, ◌≤◌, List, [], ◌∷◌, ◌++◌, length, get_or, take, drop, add-one, refl, sym, ap, ◌∙◌, append-nil, append_assoc, length-append, length-drop, arith}
-use Rattle.std.proofs.lemmas.List.{drop_all, drop_more}
-use Rattle.table_schema.specs.declared.column.Column.{Column}
-use Rattle.schema.specs.Sizes.{Sizes, width_of}
-use Rattle.schema.specs.LaidOut.{number_bytes, row_bytes, rows_bytes}
+use Rattle.root_writer.proofs.Prelude.{drop_all, drop_more, Column, Sizes, width_of, number_bytes, row_bytes, rows_bytes, Written, Puts}
 use Rattle.root_writer.specs.Flat.{rows_in}
-use Rattle.root_writer.specs.Written.{Written, Puts}
 
 -- the bytes left to write complete the whole, and there is room for them
 pub record IsPutting (start now : Written) (left all : List ℕ) : Type 0 where

@@ -1,20 +1,5 @@
 -- The numbers of a row: one per column, one for each cell, each truncated to the width of its column.
-use Rattle.std.proofs.Common.{◌≡◌, ℕ, zero, suc, ◌+◌, ◌-◌, ◌%◌, ◌^◌, ◌<◌, ◌≤◌, Bool, true, false, cond, List, [], ◌∷◌, ◌++◌, map, length, get_or, refl, sym, ap, subst, ◌∙◌, arith}
-use Rattle.std.proofs.lemmas.List.{length-map, get_or-map}
-use Rattle.table_schema.specs.declared.table.TableId.{TableId}
-use Rattle.table_schema.specs.declared.table.TableId.TheVariants.{Module}
-use Rattle.table_schema.specs.declared.column.Column.{Column}
-use Rattle.table_schema.specs.declared.column.ColumnKind.{ColumnKind}
-use Rattle.table_schema.specs.Tables.{tables, table_index_of}
-use Rattle.table_schema.specs.Columns.{columns_of}
-use Rattle.schema.specs.Sizes.{Sizes, width_of}
-use Rattle.schema.specs.LaidOut.{row_bytes, rows_bytes, tables_bytes, FitRows, FitTables, fields_of, number_in}
-use Rattle.metadata.specs.Cell.{Cell}
-use Rattle.metadata.specs.Metadata.{Metadata, rows_of, count_in}
-use Rattle.table_schema.specs.CellColumns.{is_padding, indexes_from}
-use Rattle.root_writer.specs.Pools.{Pools, pools_of}
-use Rattle.root_writer.specs.Numbers.{cell_number, with_next, numbers_by, numbers_of, table_numbers, numbers}
-use Rattle.root_writer.specs.TableStream.{sizes_of}
+use Rattle.root_writer.proofs.Prelude.{◌≡◌, ℕ, zero, suc, ◌+◌, ◌-◌, ◌%◌, ◌^◌, ◌<◌, ◌≤◌, Bool, true, false, cond, List, [], ◌∷◌, ◌++◌, map, length, get_or, refl, sym, ap, subst, ◌∙◌, arith, length-map, get_or-map, TableId, Module, Column, ColumnKind, tables, table_index_of, columns_of, Sizes, width_of, row_bytes, rows_bytes, tables_bytes, FitRows, FitTables, fields_of, number_in, Cell, Metadata, rows_of, count_in, is_padding, indexes_from, Pools, pools_of, cell_number, with_next, numbers_by, numbers_of, table_numbers, numbers, sizes_of}
 use Rattle.root_writer.proofs.Facts.{Facts}
 
 -- ---- one number per column

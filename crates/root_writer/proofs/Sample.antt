@@ -1,21 +1,9 @@
 -- Parts of canonical roots, by computation. The tests compare whole roots.
-use Rattle.std.proofs.Common.{◌≡◌, ℕ, length, ◌++◌, List, [], ◌∷◌, refl, Some}
+use Rattle.root_writer.proofs.Prelude.{◌≡◌, ℕ, length, ◌++◌, List, [], ◌∷◌, refl, Some, TypeDef, TypeRef, Field, MethodDef, Module, Constant, Assembly, PropertyMap, tables, columns_of, Sizes, row_bytes, bits_of, is_holder, counted, Cell, Number, Bytes, Ref, Start, Metadata, Pools, used, cell_number, numbers_of, wide_bit, sizes_of}
 use Rattle.std.specs.Prelude.{replicate}
-use Rattle.table_schema.specs.declared.table.TableId.TheVariants.{TypeDef, TypeRef, Field, MethodDef, Module, Constant, Assembly, PropertyMap}
 use Rattle.table_schema.specs.declared.coded.Coded.TheVariants.{TypeDefOrRef}
 use Rattle.table_schema.specs.declared.column.ColumnKind.TheVariants as kind
-use Rattle.table_schema.specs.Tables.{tables}
-use Rattle.table_schema.specs.Columns.{columns_of}
-use Rattle.schema.specs.Sizes.{Sizes}
-use Rattle.schema.specs.LaidOut.{row_bytes, bits_of}
 use Rattle.heap_pools.specs.Ending.{ends_with}
-use Rattle.heap_pools.specs.TextHeap.{is_holder}
-use Rattle.heap_pools.specs.BlobHeap.{counted}
-use Rattle.metadata.specs.Cell.{Cell, Number, Bytes, Ref, Start}
-use Rattle.metadata.specs.Metadata.{Metadata}
-use Rattle.root_writer.specs.Pools.{Pools, used}
-use Rattle.root_writer.specs.Numbers.{cell_number, numbers_of}
-use Rattle.root_writer.specs.TableStream.{wide_bit, sizes_of}
 
 -- attributes of the assembly, of the assembly again, and of the module, so that their parents are 46, 46 and 39
 abbrev attribute : Cell → List Cell

@@ -1,31 +1,6 @@
 -- The number of a cell encodes the cell, kind by kind.
-use Rattle.std.proofs.Common.{◌≡◌, ℕ, ◌+◌, ◌*◌, ◌%◌, ◌^◌, ◌<◌, ◌≤◌, Bool, true, ltb, List, [], ◌∷◌, length, Contains, All, IsUtf8, refl, sym, ap, ◌∙◌, ◌⊎◌, inl, inr, Option, Some, None, IfSome, arith}
-use Rattle.std.specs.Prelude.{slice_get}
-use Rattle.std.specs.List.{position_or_len}
-use Rattle.std.proofs.lemmas.Bool.{cond_both}
-use Rattle.std.proofs.lemmas.Nat.{pow_pos}
-use Rattle.std.proofs.Math.Nat.{mod-eq_of_lt}
-use Rattle.table_schema.specs.declared.table.TableId.{TableId}
-use Rattle.table_schema.specs.declared.token.Token.{Token}
-use Rattle.table_schema.specs.declared.coded.Coded.{Coded}
-use Rattle.table_schema.specs.declared.column.ColumnKind.{ColumnKind}
+use Rattle.root_writer.proofs.Prelude.{◌≡◌, ℕ, ◌+◌, ◌*◌, ◌%◌, ◌^◌, ◌<◌, ◌≤◌, Bool, true, ltb, List, [], ◌∷◌, length, Contains, All, IsUtf8, refl, sym, ap, ◌∙◌, ◌⊎◌, inl, inr, Option, Some, None, IfSome, arith, slice_get, position_or_len, cond_both, pow_pos, mod-eq_of_lt, TableId, Token, Coded, ColumnKind, tables_of, tag_bits, IsCoded, count_of, narrow_or_wide, heap_width, row_index_width, coded_width, kind_width, distinct, HasNoNul, IsText, IsBlob, IsGuid, text_index, blob_index, guid_index, is_table, short, tokens, Cell, Start, Metadata, count_in, Source, IsThere, StandsFor, Refers, used, texts_of, blobs_of, guids_of, pools_of, texts_stream, blobs_stream, guids_stream, cell_number, sizes_of}
 use Rattle.table_schema.specs.declared.column.ColumnKind.TheVariants as kind
-use Rattle.table_schema.specs.CodedIndexes.{tables_of, tag_bits, IsCoded}
-use Rattle.schema.specs.Sizes.{count_of, narrow_or_wide, heap_width, row_index_width, coded_width, kind_width}
-use Rattle.heap_pools.specs.Distinct.{distinct}
-use Rattle.heap_entries.specs.Entries.{HasNoNul, IsText, IsBlob, IsGuid}
-use Rattle.heap_pools.specs.TextHeap.{text_index}
-use Rattle.heap_pools.specs.BlobHeap.{blob_index}
-use Rattle.heap_pools.specs.GuidHeap.{guid_index}
-use Rattle.sig_grammar.specs.Parts.{is_table}
-use Rattle.sig_grammar.specs.Encodes.{short, tokens}
-use Rattle.metadata.specs.Cell.{Cell, Start}
-use Rattle.metadata.specs.Metadata.{Metadata, count_in}
-use Rattle.metadata.specs.Source.{Source, IsThere}
-use Rattle.metadata.specs.Stands.{StandsFor, Refers}
-use Rattle.root_writer.specs.Pools.{used, texts_of, blobs_of, guids_of, pools_of, texts_stream, blobs_stream, guids_stream}
-use Rattle.root_writer.specs.Numbers.{cell_number}
-use Rattle.root_writer.specs.TableStream.{sizes_of}
 use Rattle.root_writer.proofs.HeldRoots.{HasRow, MayRefer, IsValidCell}
 use Rattle.root_writer.proofs.Lists.{IsIn, contains_from_in, all_weaker}
 use Rattle.root_writer.proofs.Facts.{Facts}

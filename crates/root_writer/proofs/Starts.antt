@@ -1,11 +1,5 @@
 -- The start of an owner's run can be read back from the numbers of the column.
-use Rattle.std.proofs.Common.{◌≡◌, ℕ, zero, suc, ◌+◌, ◌%◌, ◌^◌, ◌<◌, ◌≤◌, true, false, cond, eqb, ltb, leb, List, [], ◌∷◌, length, get_or, refl, sym, ap, ◌∙◌, ◌⊎◌, inl, inr, ⊎_elim, arith}
-use Rattle.std.proofs.lemmas.Bool.{cases_lt, cond_both, ltb-true, and_parts, and_from}
-use Rattle.std.proofs.lemmas.Bool.Decides.{nat_tests}
-use Rattle.std.proofs.Math.Nat.{mod-eq_of_lt}
-use Rattle.schema.specs.Sizes.{narrow_or_wide}
-use Rattle.metadata.specs.Starts.{start_from}
-use Rattle.root_writer.specs.TableStream.{rises}
+use Rattle.root_writer.proofs.Prelude.{◌≡◌, ℕ, zero, suc, ◌+◌, ◌%◌, ◌^◌, ◌<◌, ◌≤◌, true, false, cond, eqb, ltb, leb, List, [], ◌∷◌, length, get_or, refl, sym, ap, ◌∙◌, ◌⊎◌, inl, inr, ⊎_elim, arith, cases_lt, cond_both, ltb-true, and_parts, and_from, nat_tests, mod-eq_of_lt, narrow_or_wide, start_from, rises}
 
 -- the number of a start is the start; it may be 0 for the start after the last member
 pub record AreNumbered (value start : ℕ → ℕ) (end row n : ℕ) : Type 0 where

@@ -1,21 +1,10 @@
 -- Streams in sequence: their headers, and how each is found again.
-use Rattle.std.proofs.Common.{◌≡◌, ◌≢◌, ℕ, suc, ◌+◌, ◌-◌, ◌%◌, ◌^◌, ◌<◌, ◌≤◌, Bool, true, false, not, ◌&&◌, cond, List, [], ◌∷◌, ◌++◌, take, drop, length, filter, refl, sym, ap, ◌∙◌, ◌⊎◌, inl, inr, ⊎_elim, true≢false, arith, length-append, Option, Some, None, lit≤, rules, codes, replicate}
-use Rattle.std.specs.Prelude.{bytes_eq, IsSome, unwrap_or}
-use Rattle.std.specs.List.{list_any, flat_map, AllByRecursion}
+use Rattle.root_writer.proofs.Prelude.{◌≡◌, ◌≢◌, ℕ, suc, ◌+◌, ◌-◌, ◌%◌, ◌^◌, ◌<◌, ◌≤◌, Bool, true, false, not, ◌&&◌, cond, List, [], ◌∷◌, ◌++◌, take, drop, length, filter, refl, sym, ap, ◌∙◌, ◌⊎◌, inl, inr, ⊎_elim, true≢false, arith, length-append, Option, Some, None, lit≤, rules, codes, replicate, bytes_eq, IsSome, unwrap_or, list_any, flat_map, AllByRecursion, cases_Bool, false≢true, cond_both, and_parts, or_parts, not-true, not_from_false, All-from_recursion, Kind, Tables, Strings, UserStrings, Guids, Blobs, Header, stream_name, named, IsStreamName, IsHeader, AreHeaders, AllMeet, number_bytes, zero_padded, ended, stream_header, directory}
 use Rattle.std.proofs.lemmas.Str.Ascii.{IsAscii-from_all}
 use Rattle.std.specs.Option.{option_map, option_or}
-use Rattle.std.proofs.lemmas.Bool.{cases_Bool, false≢true, cond_both, and_parts, or_parts, not-true, not_from_false}
 use Rattle.std.proofs.lemmas.List.{append_assoc, length-replicate, drop_at, take_at}
 use Rattle.std.proofs.lemmas.List.Folds.{find-append}
-use Rattle.std.proofs.lemmas.List.Elements.{All-from_recursion}
 use Rattle.packed.specs.Offsets.{part}
-use Rattle.root.specs.declared.kind.Kind.{Kind}
-use Rattle.root.specs.declared.kind.Kind.TheVariants.{Tables, Strings, UserStrings, Guids, Blobs}
-use Rattle.root.specs.Streams.{Header, stream_name, named}
-use Rattle.root.specs.Root.{IsStreamName, IsHeader, AreHeaders, AllMeet}
-use Rattle.schema.specs.LaidOut.{number_bytes}
-use Rattle.heap_entries.specs.Padding.{zero_padded}
-use Rattle.root_writer.specs.Canonical.{ended, stream_header, directory}
 use Rattle.root_writer.proofs.Lists.{IsIn, from_filter}
 use Rattle.root_writer.proofs.Facts.{Facts}
 

@@ -1,27 +1,6 @@
 -- The numbers of the canonical table stream encode the cells of the model.
-use Rattle.std.proofs.Common.{◌≡◌, lit<, true≢false, ℕ, zero, suc, ◌+◌, ◌-◌, ◌%◌, ◌^◌, ◌<◌, ◌≤◌, Bool, true, false, ltb, List, [], ◌∷◌, length, get_or, refl, sym, ap, subst, ◌∙◌, ◌⊎◌, inl, inr, arith}
-use Rattle.std.proofs.lemmas.Bool.{or_parts}
-use Rattle.std.specs.List.{list_any}
-use Rattle.table_schema.specs.declared.table.TableId.{TableId}
-use Rattle.table_schema.specs.declared.table.TableId.TheVariants.{TypeDef, Field, MethodDef, Param, EventMap, Event, PropertyMap, Property}
-use Rattle.table_schema.specs.declared.column.Column.{Column}
-use Rattle.table_schema.specs.declared.column.ColumnKind.{ColumnKind}
+use Rattle.root_writer.proofs.Prelude.{◌≡◌, lit<, true≢false, ℕ, zero, suc, ◌+◌, ◌-◌, ◌%◌, ◌^◌, ◌<◌, ◌≤◌, Bool, true, false, ltb, List, [], ◌∷◌, length, get_or, refl, sym, ap, subst, ◌∙◌, ◌⊎◌, inl, inr, arith, or_parts, list_any, TableId, TypeDef, Field, MethodDef, Param, EventMap, Event, PropertyMap, Property, Column, ColumnKind, table_index_of, columns_of, column_at, col, MayBeNull, count_of, narrow_or_wide, kind_width, width_of, Cell, Number, Start, Metadata, rows_of, count_in, cell_in, Source, rows_in, number_of, start_from, start_of, StandsFor, cell_columns, cell_count, column_of, IsCell, IsRow, IsTable, table_at, IsTableAt, AreTables, IsOwned, AreOwned, used, texts_of, blobs_of, guids_of, pools_of, cell_number, sizes_of, start_in, HasOwners, IsValid}
 use Rattle.table_schema.specs.declared.column.ColumnKind.TheVariants as kind
-use Rattle.table_schema.specs.Tables.{table_index_of}
-use Rattle.table_schema.specs.Columns.{columns_of, column_at, col, MayBeNull}
-use Rattle.schema.specs.Sizes.{count_of, narrow_or_wide, kind_width, width_of}
-use Rattle.metadata.specs.Cell.{Cell, Number, Start}
-use Rattle.metadata.specs.Metadata.{Metadata, rows_of, count_in, cell_in}
-use Rattle.metadata.specs.Source.{Source, rows_in, number_of}
-use Rattle.metadata.specs.Starts.{start_from, start_of}
-use Rattle.metadata.specs.Stands.{StandsFor}
-use Rattle.table_schema.specs.CellColumns.{cell_columns, cell_count, column_of}
-use Rattle.metadata.specs.Rows.{IsCell, IsRow, IsTable, table_at, IsTableAt, AreTables}
-use Rattle.metadata.specs.RowRules.{IsOwned, AreOwned}
-use Rattle.root_writer.specs.Pools.{used, texts_of, blobs_of, guids_of, pools_of}
-use Rattle.root_writer.specs.Numbers.{cell_number}
-use Rattle.root_writer.specs.TableStream.{sizes_of}
-use Rattle.metadata.specs.Valid.{start_in, HasOwners, IsValid}
 use Rattle.root_writer.proofs.HeldRoots.{IsValidCell, row_long, cell_valid}
 use Rattle.root_writer.proofs.Lists.{in_get_or, in_three, are_from}
 use Rattle.root_writer.proofs.Facts.{Facts}
@@ -42,8 +21,7 @@ module _ (facts : Facts) (model : Metadata) (valid : IsValid model) where
       → IsUsed model (cell_in model table row cell_index)
   unfolding used
   cell_used table row cell_index first last below =
-      let many = valid.tables in
-      let rows = in_get_or model.tables (table_index_of table) [] (omega (arith, many, facts.table_index table)) in
+      let rows = in_get_or model.tables (table_index_of table) [] (omega (arith, valid.tables, facts.table_index table)) in
       let cells = in_get_or (rows_of model table) (row - 1) [] (omega arith) in
       let cell = in_get_or (cells_of model table row) cell_index (Number 0) (omega (arith, row_long facts model valid table row first last)) in
       record {

@@ -1,37 +1,7 @@
 -- The canonical root of a valid model is a root with that model.
-use Rattle.std.proofs.Common.{◌≡◌, ℕ, ◌+◌, ◌-◌, ◌%◌, ◌^◌, ◌<◌, ◌≤◌, Bool, true, false, ltb, List, [], ◌∷◌, ◌++◌, length, refl, sym, ap, subst, ◌∙◌, ◌⊎◌, inl, inr, ⊎_elim, arith, length-append, All, Option, Some, None, IfSome, replicate}
-use Rattle.std.specs.List.{AllByRecursion, flat_map, count_by}
-use Rattle.std.proofs.lemmas.Bool.{cases_Bool, cond_both}
-use Rattle.std.proofs.lemmas.Bool.Decides.{nat_tests}
-use Rattle.std.proofs.lemmas.List.{append-nil, nil_from_length}
-use Rattle.std.proofs.lemmas.List.Elements.{All-from_recursion}
-use Rattle.root.specs.declared.kind.Kind.{Kind}
-use Rattle.root.specs.declared.kind.Kind.TheVariants.{Tables, Strings, UserStrings, Guids, Blobs}
-use Rattle.root.specs.Streams.{Header}
-use Rattle.root.specs.Root.{signature, IsVersion, AreHeaders, IsRoot}
-use Rattle.packed.specs.Number.{IsNumber}
-use Rattle.heap_entries.specs.Padding.{zero_padded}
-use Rattle.heap_pools.specs.Distinct.{is_among, first_uses, distinct}
-use Rattle.table_schema.specs.declared.table.TableId.{TableId}
-use Rattle.table_schema.specs.declared.column.ColumnKind.{ColumnKind}
+use Rattle.root_writer.proofs.Prelude.{◌≡◌, ℕ, ◌+◌, ◌-◌, ◌%◌, ◌^◌, ◌<◌, ◌≤◌, Bool, true, false, ltb, List, [], ◌∷◌, ◌++◌, length, refl, sym, ap, subst, ◌∙◌, ◌⊎◌, inl, inr, ⊎_elim, arith, length-append, All, Option, Some, None, IfSome, replicate, AllByRecursion, flat_map, count_by, cases_Bool, cond_both, nat_tests, append-nil, nil_from_length, All-from_recursion, Kind, Tables, Strings, UserStrings, Guids, Blobs, Header, signature, IsVersion, AreHeaders, IsRoot, IsNumber, zero_padded, is_among, first_uses, distinct, TableId, ColumnKind, tables, column_at, header_size, number_bytes, tables_bytes, IsLaidOut, Cell, Guid, Metadata, count_in, Source, cell_count, column_of, table_at, AreTables, AreByKey, AreOwned, AreNested, IsModel, used, guids_of, numbers, has_rows, is_sorted, sizes_of, header_bytes, table_stream, stream, streams_of, ended, directory, prefix, first_offset, root_of, canonical, IsValid}
 use Rattle.table_schema.specs.declared.column.ColumnKind.TheVariants as kind
-use Rattle.table_schema.specs.Tables.{tables}
-use Rattle.table_schema.specs.Columns.{column_at}
-use Rattle.schema.specs.Sizes.{header_size}
-use Rattle.schema.specs.LaidOut.{number_bytes, tables_bytes, IsLaidOut}
-use Rattle.metadata.specs.Cell.{Cell, Guid}
-use Rattle.metadata.specs.Metadata.{Metadata, count_in}
-use Rattle.metadata.specs.Source.{Source}
-use Rattle.table_schema.specs.CellColumns.{cell_count, column_of}
-use Rattle.metadata.specs.Rows.{table_at, AreTables}
-use Rattle.metadata.specs.RowRules.{AreByKey, AreOwned, AreNested}
 use Rattle.metadata.specs.Streams.{stream_in, source_in}
-use Rattle.metadata.specs.Model.{IsModel}
-use Rattle.root_writer.specs.Pools.{used, guids_of}
-use Rattle.root_writer.specs.Numbers.{numbers}
-use Rattle.root_writer.specs.TableStream.{has_rows, is_sorted, sizes_of, header_bytes, table_stream}
-use Rattle.root_writer.specs.Canonical.{stream, streams_of, ended, directory, prefix, first_offset, root_of, canonical}
-use Rattle.metadata.specs.Valid.{IsValid}
 use Rattle.root_writer.proofs.HeldRoots.{MayRefer, IsValidCell, IsValidAt, IsValidRow, AreValidRows, tables_valid}
 use Rattle.root_writer.proofs.Lists.{IsIn, all_flat_map, all_from, all_weaker, in_filter, length-filter_le}
 use Rattle.root_writer.proofs.Facts.{Facts}

@@ -1,23 +1,6 @@
 -- The numbers of cells fit the widths of the canonical table stream.
-use Rattle.std.proofs.Common.{◌≡◌, ℕ, zero, suc, ◌+◌, ◌-◌, ◌*◌, ◌/◌, ◌%◌, ◌^◌, ◌<◌, ◌≤◌, Bool, true, false, not, cond, eqb, ltb, leb, List, [], ◌∷◌, ◌++◌, length, get_or, Contains, refl, sym, ap, subst, ◌∙◌, ◌⊎◌, inl, inr, ⊎_elim, true≢false, Option, Some, None, arith, length-append}
-use Rattle.std.specs.Prelude.{slice_get}
-use Rattle.std.specs.List.{list_all, position_or_len}
-use Rattle.std.proofs.lemmas.Bool.{cases_Bool, cases_lt, cond_both, leb-false, not-true, and_parts, ltb-true}
-use Rattle.std.proofs.lemmas.Bool.Decides.{nat_tests}
-use Rattle.std.proofs.lemmas.List.{get_or-map}
-use Rattle.std.proofs.lemmas.Nat.{mul-add-lt}
+use Rattle.root_writer.proofs.Prelude.{◌≡◌, ℕ, zero, suc, ◌+◌, ◌-◌, ◌*◌, ◌/◌, ◌%◌, ◌^◌, ◌<◌, ◌≤◌, Bool, true, false, not, cond, eqb, ltb, leb, List, [], ◌∷◌, ◌++◌, length, get_or, Contains, refl, sym, ap, subst, ◌∙◌, ◌⊎◌, inl, inr, ⊎_elim, true≢false, Option, Some, None, arith, length-append, slice_get, list_all, position_or_len, cases_Bool, cases_lt, cond_both, leb-false, not-true, and_parts, ltb-true, nat_tests, get_or-map, mul-add-lt, TableId, Module, Coded, tables, table_index_of, table_number, tables_of, tag_bits, Sizes, count_of, narrow_or_wide, heap_width, is_below, coded_width, IsText, IsBlob, IsGuid, is_table, Metadata, count_in, texts_stream, blobs_stream, guids_stream, sizes_of}
 use Rattle.packed.specs.Packed.{IsPacked}
-use Rattle.table_schema.specs.declared.table.TableId.{TableId}
-use Rattle.table_schema.specs.declared.table.TableId.TheVariants.{Module}
-use Rattle.table_schema.specs.declared.coded.Coded.{Coded}
-use Rattle.table_schema.specs.Tables.{tables, table_index_of, table_number}
-use Rattle.table_schema.specs.CodedIndexes.{tables_of, tag_bits}
-use Rattle.schema.specs.Sizes.{Sizes, count_of, narrow_or_wide, heap_width, is_below, coded_width}
-use Rattle.heap_entries.specs.Entries.{IsText, IsBlob, IsGuid}
-use Rattle.sig_grammar.specs.Parts.{is_table}
-use Rattle.metadata.specs.Metadata.{Metadata, count_in}
-use Rattle.root_writer.specs.Pools.{texts_stream, blobs_stream, guids_stream}
-use Rattle.root_writer.specs.TableStream.{sizes_of}
 use Rattle.root_writer.proofs.Lists.{IsIn, in_from_contains}
 use Rattle.root_writer.proofs.Facts.{Facts}
 

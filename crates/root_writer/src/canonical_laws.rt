@@ -8,11 +8,11 @@ ghost use Rattle.table_schema.specs.Columns.{key_of};
 ghost use Rattle.root_writer.specs.TableStream.{is_sorted};
 ghost use Rattle.root_writer.specs.Canonical.{canonical};
 
-/// The canonical root of a valid model has this model, if the root has at most 2^30 bytes.
-///
-/// A longer root has no model.
-pub fn canonical_root_has_its_model()
-    ensures { (model : Metadata) → IsValid model → length (canonical model) ≤ 2 ^ 30 → IsModel (canonical model) model }
+/// The canonical root of a valid model has this model, and reports which tables are in order of their keys.
+fn valid_models_are_encoded()
+    ensures model { (model : Metadata) → IsValid model → length (canonical model) ≤ 2 ^ 30 → IsModel (canonical model) model }
+    ensures order { (model : Metadata) → IsValid model → (table : Table) (key : ℕ) → key_of table ≡ Some key
+        → (is_sorted model table ≡ true) ↔ IsKeyOrdered model table }
 {
     heap_pools::laws::used_text_is_found();
     heap_pools::laws::pooled_blob_is_found();
@@ -25,6 +25,15 @@ pub fn canonical_root_has_its_model()
     schema::laws::numbers_are_encoded();
     schema::laws::low_bytes_stand();
     sig_values::laws::shortest_encodes();
+}
+
+/// The canonical root of a valid model has this model, if the root has at most 2^30 bytes.
+///
+/// A longer root has no model.
+pub fn canonical_root_has_its_model()
+    ensures { (model : Metadata) → IsValid model → length (canonical model) ≤ 2 ^ 30 → IsModel (canonical model) model }
+{
+    valid_models_are_encoded();
 }
 
 /// A valid model is the only model of its canonical root: every model of that root equals it. Two valid models with the
@@ -43,15 +52,5 @@ pub fn sorted_bits_report_order()
     ensures { (model : Metadata) → IsValid model → (table : Table) (key : ℕ) → key_of table ≡ Some key
         → (is_sorted model table ≡ true) ↔ IsKeyOrdered model table }
 {
-    heap_pools::laws::used_text_is_found();
-    heap_pools::laws::pooled_blob_is_found();
-    heap_pools::laws::pooled_guid_is_found();
-    heap_pools::laws::pooled_are_distinct();
-    table_schema::laws::tables_stand();
-    table_schema::laws::columns_stand();
-    table_schema::laws::tags_fit();
-    schema::laws::bits_are_known();
-    schema::laws::numbers_are_encoded();
-    schema::laws::low_bytes_stand();
-    sig_values::laws::shortest_encodes();
+    valid_models_are_encoded();
 }

@@ -1,6 +1,4 @@
-use Rattle.std.proofs.Common.{sym, subst, List, ℕ}
-use Rattle.metadata.specs.Model.{IsModel}
-use Rattle.root_writer.specs.Canonical.{canonical}
+use Rattle.root_writer.proofs.Prelude.{sym, subst, List, ℕ, IsModel, canonical}
 use Rattle.root_writer.proofs.canonical_laws.canonical_root_is_one.Goals as goal
 
 pub returns-clause-unique : goal.returns-clause-unique

@@ -1,7 +1,4 @@
-use Rattle.std.proofs.Common.{◌∙◌, sym, arith}
-use Rattle.std.proofs.lemmas.List.Sums.{sum_by-drop_more}
-use Rattle.root.specs.declared.kind.Kind.TheVariants.{Tables}
-use Rattle.root_writer.specs.Heading.{header_length}
+use Rattle.root_writer.proofs.Prelude.{◌∙◌, sym, arith, sum_by-drop_more, Tables, header_length}
 use Rattle.root_writer.proofs.HeadingLemmas.{at_end, heading_size_is, heading_is_long}
 use Rattle.root_writer.proofs.heading.heading_len.Goals as goal
 

@@ -1,7 +1,4 @@
-use Rattle.std.proofs.Common.{◌≡◌, ◌+◌, ◌*◌, ◌≤◌, length, drop}
-use Rattle.std.specs.Prelude.{sum_by}
-use Rattle.root_writer.specs.Canonical.{ended}
-use Rattle.root_writer.specs.Heading.{header_length}
+use Rattle.root_writer.proofs.Prelude.{◌≡◌, ◌+◌, ◌*◌, ◌≤◌, length, drop, sum_by, ended, header_length}
 use Rattle.root_writer.proofs.heading.heading_len.Given as goal
 
 -- together with the headers that are left this is the whole length

@@ -1,7 +1,4 @@
-use Rattle.std.proofs.Common.{[], ◌∷◌, ◌∙◌, ap}
-use Rattle.root.specs.declared.kind.Kind.TheVariants.{Tables, Strings, UserStrings, Guids, Blobs}
-use Rattle.root_writer.specs.Canonical.{stream, streams_of, root_of}
-use Rattle.root_writer.specs.Heading.{held}
+use Rattle.root_writer.proofs.Prelude.{[], ◌∷◌, ◌∙◌, ap, Tables, Strings, UserStrings, Guids, Blobs, stream, streams_of, root_of, held}
 use Rattle.root_writer.proofs.HeadingLemmas.{heading_by_size, held_by_size}
 use Rattle.root_writer.proofs.laws.canonical_roots_are_put.Goals as goal
 

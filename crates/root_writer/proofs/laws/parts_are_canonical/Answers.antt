@@ -1,7 +1,4 @@
-use Rattle.std.proofs.Common.{◌++◌, ap, sym, ◌∙◌}
-use Rattle.std.proofs.Math.Path.{fun_ext}
-use Rattle.std.specs.List.{flat_map}
-use Rattle.root_writer.specs.Heading.{size_of, heading}
+use Rattle.root_writer.proofs.Prelude.{◌++◌, ap, sym, ◌∙◌, fun_ext, flat_map, size_of, heading}
 use Rattle.root_writer.specs.Root.{content, kinds_of, root_bytes}
 use Rattle.root_writer.proofs.RootLemmas.{content_is}
 use Rattle.root_writer.proofs.laws.parts_are_canonical.Goals as goal

@@ -1,8 +1,4 @@
-use Rattle.std.proofs.Common.{ℕ, Bool, List, [], ◌∷◌, ◌++◌, ap, sym, ◌∙◌}
-use Rattle.table_schema.specs.declared.table.TableId.{TableId}
-use Rattle.table_schema.specs.Tables.{tables}
-use Rattle.schema.specs.LaidOut.{number_bytes, bits_of, counts_bytes}
-use Rattle.root_writer.specs.TableStream.{sizes_of, header_bytes}
+use Rattle.root_writer.proofs.Prelude.{ℕ, Bool, List, [], ◌∷◌, ◌++◌, ap, sym, ◌∙◌, TableId, tables, number_bytes, bits_of, counts_bytes, sizes_of, header_bytes}
 use Rattle.root_writer.specs.TableHeader.{table_header, is_counted}
 use Rattle.root_writer.proofs.CountLemmas.{has_rows_is, same_counts}
 use Rattle.root_writer.proofs.laws.table_headers_are_put.Goals as goal

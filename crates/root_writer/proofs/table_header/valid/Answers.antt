@@ -1,5 +1,4 @@
-use Rattle.std.proofs.Common.{ap, ◌∙◌, ltb, get_or, arith}
-use Rattle.table_schema.specs.declared.table.TableId.TheVariants.{Module}
+use Rattle.root_writer.proofs.Prelude.{ap, ◌∙◌, ltb, get_or, arith, Module}
 use Rattle.root_writer.specs.TableHeader.{is_counted, bit_if}
 use Rattle.root_writer.proofs.CountLemmas.{more_bits, all_bits}
 use Rattle.root_writer.proofs.table_header.valid.Goals as goal

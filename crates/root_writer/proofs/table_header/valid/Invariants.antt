@@ -1,6 +1,4 @@
-use Rattle.std.proofs.Common.{◌≡◌, ◌+◌, drop}
-use Rattle.table_schema.specs.Tables.{tables}
-use Rattle.schema.specs.LaidOut.{bits_of}
+use Rattle.root_writer.proofs.Prelude.{◌≡◌, ◌+◌, drop, tables, bits_of}
 use Rattle.root_writer.specs.TableHeader.{is_counted}
 use Rattle.root_writer.proofs.table_header.valid.Given as goal
 

@@ -1,8 +1,4 @@
-use Rattle.std.proofs.Common.{◌<◌, ◌+◌, Bool, ltb, List, ◌++◌, length, get_or, take, filter, drop, arith, ap, ◌∙◌}
-use Rattle.std.proofs.lemmas.List.{length-set}
-use Rattle.root.specs.declared.kind.Kind.{Kind}
-use Rattle.root.specs.declared.kind.Kind.TheVariants.{Tables}
-use Rattle.root_writer.specs.Heading.{size_of, kinds_in_order}
+use Rattle.root_writer.proofs.Prelude.{◌<◌, ◌+◌, Bool, ltb, List, ◌++◌, length, get_or, take, filter, drop, arith, ap, ◌∙◌, length-set, Kind, Tables, size_of, kinds_in_order}
 use Rattle.root_writer.proofs.HeldLemmas.{has_bytes, has_none, kept, passed}
 use Rattle.root_writer.proofs.held.HeldKinds.new.Goals as goal
 use Rattle.root_writer.proofs.held.HeldKinds.new.Goals.{then-size-gt0, else-size-gt0}

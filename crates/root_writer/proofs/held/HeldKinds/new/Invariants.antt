@@ -1,5 +1,4 @@
-use Rattle.std.proofs.Common.{◌≡◌, ◌≤◌, ◌++◌, length, ltb, filter, take, drop}
-use Rattle.root_writer.specs.Heading.{size_of, kinds_in_order, held}
+use Rattle.root_writer.proofs.Prelude.{◌≡◌, ◌≤◌, ◌++◌, length, ltb, filter, take, drop, size_of, kinds_in_order, held}
 use Rattle.root_writer.proofs.held.HeldKinds.new.Given as goal
 
 -- together with the kinds that are left these are all

@@ -1,6 +1,4 @@
-use Rattle.std.proofs.Common.{◌≡◌, ◌+◌, ◌≤◌, ◌++◌, length, drop}
-use Rattle.table_schema.specs.Tables.{tables}
-use Rattle.schema.specs.LaidOut.{counts_bytes}
+use Rattle.root_writer.proofs.Prelude.{◌≡◌, ◌+◌, ◌≤◌, ◌++◌, length, drop, tables, counts_bytes}
 use Rattle.root_writer.specs.TableHeader.{is_counted}
 use Rattle.root_writer.proofs.writer.Writer.put_counts.Given as goal
 

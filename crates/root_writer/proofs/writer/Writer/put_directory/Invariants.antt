@@ -1,6 +1,4 @@
-use Rattle.std.proofs.Common.{◌≡◌, ◌+◌, ◌^◌, ◌<◌, ◌≤◌, ◌++◌, length, drop}
-use Rattle.std.specs.Prelude.{sum_by}
-use Rattle.root_writer.specs.Heading.{size_of, sized_directory}
+use Rattle.root_writer.proofs.Prelude.{◌≡◌, ◌+◌, ◌^◌, ◌<◌, ◌≤◌, ◌++◌, length, drop, sum_by, size_of, sized_directory}
 use Rattle.root_writer.proofs.writer.Writer.put_directory.Given as goal
 
 -- together with the headers of the streams that are left this is the whole

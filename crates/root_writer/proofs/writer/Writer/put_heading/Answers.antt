@@ -1,7 +1,4 @@
-use Rattle.std.proofs.Common.{◌++◌, length, subst, arith, length-append}
-use Rattle.root_writer.specs.Canonical.{prefix}
-use Rattle.root_writer.specs.Heading.{size_of, sized_directory, heading_size}
-use Rattle.root_writer.specs.Written.{Puts}
+use Rattle.root_writer.proofs.Prelude.{◌++◌, length, subst, arith, length-append, prefix, size_of, sized_directory, heading_size, Puts}
 use Rattle.root_writer.proofs.PutsLemmas.{puts_then}
 use Rattle.root_writer.proofs.writer.Writer.put_heading.Goals as goal
 

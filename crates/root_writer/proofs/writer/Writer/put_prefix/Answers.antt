@@ -1,6 +1,4 @@
-use Rattle.std.proofs.Common.{refl, sym, subst, arith}
-use Rattle.schema.specs.LaidOut.{number_bytes}
-use Rattle.root_writer.specs.Written.{Puts}
+use Rattle.root_writer.proofs.Prelude.{refl, sym, subst, arith, number_bytes, Puts}
 use Rattle.root_writer.proofs.HeadingLemmas.{prefix_is_long}
 use Rattle.root_writer.proofs.PutsLemmas.{puts_then}
 use Rattle.root_writer.proofs.writer.Writer.put_prefix.Goals as goal

@@ -1,5 +1,4 @@
-use Rattle.std.proofs.Common.{drop}
-use Rattle.std.specs.List.{flat_map}
+use Rattle.root_writer.proofs.Prelude.{drop, flat_map}
 use Rattle.root_writer.specs.Root.{content, root_bytes}
 use Rattle.root_writer.proofs.RowLemmas.{IsPutting}
 use Rattle.root_writer.proofs.writer.Writer.put_root.Given as goal

@@ -1,9 +1,5 @@
-use Rattle.std.proofs.Common.{◌≡◌, ◌<◌, ◌≤◌, length, get_or, subst, arith}
+use Rattle.root_writer.proofs.Prelude.{◌≡◌, ◌<◌, ◌≤◌, length, get_or, subst, arith, columns_of, col, Sizes, width_of, number_bytes, Puts}
 use Rattle.table_schema.specs.declared.column.ColumnKind.TheVariants as kind
-use Rattle.table_schema.specs.Columns.{columns_of, col}
-use Rattle.schema.specs.Sizes.{Sizes, width_of}
-use Rattle.schema.specs.LaidOut.{number_bytes}
-use Rattle.root_writer.specs.Written.{Puts}
 use Rattle.root_writer.proofs.RowLemmas.{length-number_bytes, here_fits, put_next, put_all, row_more, row_end}
 use Rattle.root_writer.proofs.writer.Writer.put_row.Goals as goal
 

@@ -1,6 +1,4 @@
-use Rattle.std.proofs.Common.{drop}
-use Rattle.table_schema.specs.Columns.{columns_of}
-use Rattle.schema.specs.LaidOut.{row_bytes}
+use Rattle.root_writer.proofs.Prelude.{drop, columns_of, row_bytes}
 use Rattle.root_writer.proofs.RowLemmas.{IsPutting}
 use Rattle.root_writer.proofs.writer.Writer.put_row.Given as goal
 

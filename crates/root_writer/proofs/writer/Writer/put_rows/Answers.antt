@@ -1,6 +1,4 @@
-use Rattle.std.proofs.Common.{◌≡◌, ◌+◌, ◌-◌, ◌*◌, length, take, drop, ap, ◌∙◌, arith}
-use Rattle.table_schema.specs.Columns.{columns_of}
-use Rattle.schema.specs.Sizes.{Sizes, count_of}
+use Rattle.root_writer.proofs.Prelude.{◌≡◌, ◌+◌, ◌-◌, ◌*◌, length, take, drop, ap, ◌∙◌, arith, columns_of, Sizes, count_of}
 use Rattle.root_writer.proofs.RowLemmas.{here_fits, put_next, put_all, next_row, no_row, fewer}
 use Rattle.root_writer.proofs.writer.Writer.put_rows.Goals as goal
 

@@ -1,7 +1,4 @@
-use Rattle.std.proofs.Common.{◌≡◌, ◌*◌, ◌-◌, length}
-use Rattle.table_schema.specs.Columns.{columns_of}
-use Rattle.schema.specs.Sizes.{count_of}
-use Rattle.schema.specs.LaidOut.{rows_bytes}
+use Rattle.root_writer.proofs.Prelude.{◌≡◌, ◌*◌, ◌-◌, length, columns_of, count_of, rows_bytes}
 use Rattle.root_writer.specs.Flat.{rows_in, table_in}
 use Rattle.root_writer.proofs.RowLemmas.{IsPutting}
 use Rattle.root_writer.proofs.writer.Writer.put_rows.Given as goal

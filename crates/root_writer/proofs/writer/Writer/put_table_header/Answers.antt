@@ -1,6 +1,4 @@
-use Rattle.std.proofs.Common.{subst}
-use Rattle.schema.specs.LaidOut.{number_bytes}
-use Rattle.root_writer.specs.Written.{Puts}
+use Rattle.root_writer.proofs.Prelude.{subst, number_bytes, Puts}
 use Rattle.root_writer.specs.TableHeader.{table_header}
 use Rattle.root_writer.proofs.PutsLemmas.{puts_then}
 use Rattle.root_writer.proofs.writer.Writer.put_table_header.Goals as goal

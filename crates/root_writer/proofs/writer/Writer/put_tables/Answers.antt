@@ -1,9 +1,4 @@
-use Rattle.std.proofs.Common.{◌≡◌, ◌*◌, ◌<◌, ◌≤◌, List, length, get_or, take, drop, ap, ◌∙◌, length-drop, arith}
-use Rattle.table_schema.specs.declared.table.TableId.{TableId}
-use Rattle.table_schema.specs.declared.table.TableId.TheVariants.{Module}
-use Rattle.table_schema.specs.Tables.{tables}
-use Rattle.table_schema.specs.Columns.{columns_of}
-use Rattle.schema.specs.Sizes.{Sizes}
+use Rattle.root_writer.proofs.Prelude.{◌≡◌, ◌*◌, ◌<◌, ◌≤◌, List, length, get_or, take, drop, ap, ◌∙◌, length-drop, arith, TableId, Module, tables, columns_of, Sizes}
 use Rattle.root_writer.specs.Flat.{cells_of}
 use Rattle.root_writer.proofs.RowLemmas.{here_fits, put_next, put_all}
 use Rattle.root_writer.proofs.TableLemmas.{next_table, no_table, cells_more, cells_low, within, behind}
@@ -19,9 +14,8 @@ overflow_mul-count c =
 pub split_at-requires : goal.split_at-requires
 split_at-requires c =
     let sizes : Sizes = c.args.layout.now in
-    let items = c.all-table-items.result.now in
     let i = c.loop-table.table-index in
-    let table = get_or items i Module in
+    let table = get_or c.all-table-items.result.now i Module in
     let is : table ≡ get_or tables i Module = ap (λ (listed : List TableId). get_or listed i Module) c.all-table-items.ensures.value in
     let below : i < length tables = omega (arith, ap length c.all-table-items.ensures.value, c.loop-table-test.true) in
     let cells : length c.columns.result.now * c.count.result ≡ cells_of sizes table =
@@ -31,9 +25,8 @@ split_at-requires c =
 pub put_rows-requires : goal.put_rows-requires
 put_rows-requires c =
     let sizes : Sizes = c.args.layout.now in
-    let items = c.all-table-items.result.now in
     let i = c.loop-table.table-index in
-    let table = get_or items i Module in
+    let table = get_or c.all-table-items.result.now i Module in
     let is : table ≡ get_or tables i Module = ap (λ (listed : List TableId). get_or listed i Module) c.all-table-items.ensures.value in
     let below : i < length tables = omega (arith, ap length c.all-table-items.ensures.value, c.loop-table-test.true) in
     let cells : length c.columns.result.now * c.count.result ≡ cells_of sizes table =
@@ -50,9 +43,8 @@ put_rows-requires c =
 pub loop-table-preserved : goal.loop-table-preserved
 loop-table-preserved c =
     let sizes : Sizes = c.args.layout.now in
-    let items = c.all-table-items.result.now in
     let i = c.loop-table.table-index in
-    let table = get_or items i Module in
+    let table = get_or c.all-table-items.result.now i Module in
     let is : table ≡ get_or tables i Module = ap (λ (listed : List TableId). get_or listed i Module) c.all-table-items.ensures.value in
     let below : i < length tables = omega (arith, ap length c.all-table-items.ensures.value, c.loop-table-test.true) in
     let cells : length c.columns.result.now * c.count.result ≡ cells_of sizes table =

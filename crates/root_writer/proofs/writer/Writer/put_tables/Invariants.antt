@@ -1,6 +1,4 @@
-use Rattle.std.proofs.Common.{◌≡◌, length, drop}
-use Rattle.std.specs.Prelude.{sum_by}
-use Rattle.table_schema.specs.Tables.{tables}
+use Rattle.root_writer.proofs.Prelude.{◌≡◌, length, drop, sum_by, tables}
 use Rattle.root_writer.specs.Flat.{cells_of}
 use Rattle.root_writer.proofs.RowLemmas.{IsPutting}
 use Rattle.root_writer.proofs.TableLemmas.{bytes_in}
