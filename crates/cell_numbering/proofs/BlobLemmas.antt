@@ -1,9 +1,5 @@
 -- Uses that refer to kept ones, use by use.
-use Rattle.std.proofs.Common.{◌≡◌, ℕ, ◌<◌, ◌^◌, All, Contains, List, [], ◌∷◌, ◌++◌, length, map, refl, sym, ap, subst, ◌∙◌, arith}
-use Rattle.std.specs.Prelude.{slice_index}
-use Rattle.std.proofs.lemmas.List.{map_push, get_or_append_left, get_or_push, length_push, get_or-map}
-use Rattle.std.proofs.lemmas.List.Elements.{All-push, All-nil, All-weaker, All-head, All-tail, Contains-get_or}
-use Rattle.heap_pools.specs.Distinct.{distinct, pooled}
+use Rattle.cell_numbering.proofs.Prelude.{◌≡◌, ℕ, ◌<◌, ◌^◌, All, Contains, List, [], ◌∷◌, ◌++◌, length, map, refl, sym, ap, subst, ◌∙◌, arith, slice_index, map_push, get_or_append_left, get_or_push, length_push, get_or-map, All-push, All-nil, All-weaker, All-head, All-tail, Contains-get_or, distinct, pooled}
 use Rattle.cell_numbering.specs.BlobUses.{ReferTo, kept_blob}
 
 -- the laws on pools that are needed

@@ -1,22 +1,8 @@
 -- The cells of a row that are left, by the columns that are left.
-use Rattle.std.proofs.Common.{◌≡◌, ℕ, ◌+◌, ◌<◌, ◌≤◌, inl, inr, false, cond, List, [], ◌∷◌, length, get_or, drop, map, refl, sym, ap, subst, ◌∙◌, length-drop, arith}
-use Rattle.std.specs.List.{range_with_len}
-use Rattle.std.proofs.lemmas.Bool.{cases_Bool}
-use Rattle.std.proofs.lemmas.List.{drop_more, drop_all, get_or-map}
+use Rattle.cell_numbering.proofs.Prelude.{◌≡◌, ℕ, ◌+◌, ◌<◌, ◌≤◌, inl, inr, false, cond, List, [], ◌∷◌, length, get_or, drop, map, refl, sym, ap, subst, ◌∙◌, length-drop, arith, range_with_len, cases_Bool, drop_more, drop_all, get_or-map, TableId, Module, tables, table_index_of, Column, ColumnKind, columns_of, column_at, col, Cell, Number, Metadata, rows_of, kind_at, SoFar, with_cell, with_next_cell, with_row, with_rows, with_tables, is_padding, indexes_from, cell_columns, cell_count, column_of}
 use Rattle.std.proofs.lemmas.List.FromFn.{get_or-range_with_len}
-use Rattle.table_schema.specs.declared.table.TableId.{TableId}
-use Rattle.table_schema.specs.declared.table.TableId.TheVariants.{Module}
-use Rattle.table_schema.specs.Tables.{tables, table_index_of}
-use Rattle.table_schema.specs.declared.column.Column.{Column}
-use Rattle.table_schema.specs.declared.column.ColumnKind.{ColumnKind}
 use Rattle.table_schema.specs.declared.column.ColumnKind.TheVariants as kind
-use Rattle.table_schema.specs.Columns.{columns_of, column_at, col}
-use Rattle.metadata.specs.Cell.{Cell, Number}
-use Rattle.metadata.specs.Metadata.{Metadata, rows_of}
-use Rattle.metadata.specs.Valid.{kind_at}
 use Rattle.cell_numbering.specs.declared.numbers_so_far.Indexes.{Indexes}
-use Rattle.cell_numbering.specs.NumbersSoFar.{SoFar, with_cell, with_next_cell, with_row, with_rows, with_tables}
-use Rattle.table_schema.specs.CellColumns.{is_padding, indexes_from, cell_columns, cell_count, column_of}
 use Rattle.cell_numbering.specs.CellIndexes.{IsCellIndexOf}
 
 -- before the first column

@@ -1,15 +1,9 @@
 -- Uses of equal blobs, which are found in the heap that they are read from (ECMA-335 II.24.2.4).
 use Rattle.std.proofs.Common.{◌≡◌, ℕ, ◌<◌, Bool, true, false, List, [], ◌∷◌, Option, Some, length, bytes_eq, true≢false, sym, ap, subst, ◌∙◌, refl}
 use Rattle.std.proofs.lemmas.Slice.Eq.{bytes_eq-Decides}
-use Rattle.heap_entries.specs.Entries.{IsBlob}
-use Rattle.heaps.specs.EqualBlobs.{IsSameBlob}
-use Rattle.metadata.specs.Metadata.{Metadata}
+use Rattle.cell_numbering.proofs.Prelude.{IsBlob, IsSameBlob, Metadata, CellId, blobs_of, BlobUse, IsUseIn}
 use Rattle.metadata_source.specs.BlobsIn.{AreBlobsIn}
-use Rattle.metadata_source.specs.SharedBlobs.{CellId}
-use Rattle.root_writer.specs.Pools.{blobs_of}
-use Rattle.cell_numbering.specs.declared.blob_use.BlobUse.{BlobUse}
 use Rattle.cell_numbering.specs.EqualUses.{IsPlainAt, IsSameUse}
-use Rattle.cell_numbering.specs.HeapUses.{IsUseIn}
 
 -- lists that cannot differ are equal
 decided : (first second : List ℕ) (test : Bool) → bytes_eq first second ≡ test → ((first ≡ second → ⊥) → ⊥) → first ≡ second

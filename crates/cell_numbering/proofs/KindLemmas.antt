@@ -1,20 +1,9 @@
 -- Which cells are in which heap, by the kinds of their columns.
-use Rattle.std.proofs.Common.{◌≡◌, ℕ, Option, List, [], refl, sym, ap, subst, ◌∙◌}
-use Rattle.std.specs.Borrow.{Bor}
-use Rattle.table_schema.specs.declared.column.SigKind.{SigKind}
-use Rattle.table_schema.specs.declared.column.ColumnKind.{ColumnKind}
+use Rattle.cell_numbering.proofs.Prelude.{◌≡◌, ℕ, Option, List, [], refl, sym, ap, subst, ◌∙◌, Bor, SigKind, ColumnKind, Cell, Number, Text, Bytes, Guid, Ref, Start, Sig, IsOfKind, Shows, ShowsSignature, CellRef, cell_number, texts_of, blobs_of, IsInNoHeap, guid_of, SoFar, no_pools, with_blob, with_cell, with_guid, with_number, with_text}
 use Rattle.table_schema.specs.declared.column.ColumnKind.TheVariants as kind
 use Rattle.sig_grammar.specs.Syntax.{Body}
-use Rattle.metadata.specs.Cell.{Cell, Number, Text, Bytes, Guid, Ref, Start, Sig}
-use Rattle.metadata.specs.Kinds.{IsOfKind}
-use Rattle.reading.specs.Shown.{Shows, ShowsSignature}
-use Rattle.reading.specs.declared.cell_ref.CellRef.{CellRef}
 use Rattle.reading.specs.declared.cell_ref.CellRef.TheVariants as seen
-use Rattle.root_writer.specs.Numbers.{cell_number}
-use Rattle.root_writer.specs.Pools.{texts_of, blobs_of}
 use Rattle.cell_numbering.specs.declared.numbers_so_far.Indexes.{Indexes}
-use Rattle.cell_numbering.specs.HeapUses.{IsInNoHeap, guid_of}
-use Rattle.cell_numbering.specs.NumbersSoFar.{SoFar, no_pools, with_blob, with_cell, with_guid, with_number, with_text}
 
 -- ---- the number of a cell in a column of a heap is the next index
 

@@ -3,8 +3,9 @@ pub mod CellIndexLemmas
 pub mod EqualLemmas
 pub mod KindLemmas
 pub mod NumberLemmas
+pub mod PlainLemmas
+pub mod Prelude
+pub mod StartLemmas
+pub mod TextLemmas
 pub mod UseLemmas
 pub mod WrittenLemmas
-pub mod TextLemmas
-pub mod StartLemmas
-pub mod PlainLemmas

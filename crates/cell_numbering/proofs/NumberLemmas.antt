@@ -1,30 +1,6 @@
 -- The numbers of all cells are those of the canonical root, if each is the next index of its heap.
-use Rattle.std.proofs.Common.{◌≡◌, ℕ, ◌+◌, ◌-◌, Bool, true, false, cond, List, [], ◌∷◌, ◌++◌, length, get_or, map, drop, Some, None, refl, sym, ap, ◌∙◌, append_assoc, append-nil, length-append, arith}
-use Rattle.std.specs.Prelude.{slice_index, flat_map}
-use Rattle.std.specs.List.{AllByRecursion}
-use Rattle.std.proofs.Math.Path.{fun_ext}
-use Rattle.std.proofs.lemmas.List.{drop_at, drop-drop, ext_get_or, get_or-drop, get_or-map, length-map, map-append}
-use Rattle.std.proofs.lemmas.List.Concat.{flat_map-append}
-use Rattle.std.proofs.lemmas.List.Elements.{All-from_get_or, recursion_from_All}
-use Rattle.table_schema.specs.declared.column.Column.{Column}
-use Rattle.table_schema.specs.declared.column.ColumnKind.{ColumnKind}
-use Rattle.table_schema.specs.declared.table.TableId.{TableId}
-use Rattle.table_schema.specs.declared.table.TableId.TheVariants.{Module}
-use Rattle.table_schema.specs.Tables.{tables}
-use Rattle.table_schema.specs.Columns.{columns_of}
-use Rattle.table_schema.specs.CellColumns.{is_padding, indexes_from, cell_columns}
-use Rattle.heap_pools.specs.TextHeap.{text_index}
-use Rattle.heap_pools.specs.BlobHeap.{blob_index}
-use Rattle.heap_pools.specs.GuidHeap.{guid_index}
-use Rattle.metadata.specs.Cell.{Cell, Number, Text, Bytes, Guid, Ref, Start, Sig}
-use Rattle.metadata.specs.Metadata.{Metadata, rows_of}
-use Rattle.metadata.specs.Valid.{IsValid}
-use Rattle.root_writer.specs.Pools.{Pools, pools_of, texts_of, blobs_of}
-use Rattle.root_writer.specs.Numbers.{cell_number, with_next, numbers_of, table_numbers, numbers}
-use Rattle.root_writer.specs.Numbered.{flat}
+use Rattle.cell_numbering.proofs.Prelude.{◌≡◌, ℕ, ◌+◌, ◌-◌, Bool, true, false, cond, List, [], ◌∷◌, ◌++◌, length, get_or, map, drop, Some, None, refl, sym, ap, ◌∙◌, append_assoc, append-nil, length-append, arith, slice_index, flat_map, AllByRecursion, fun_ext, drop_at, drop-drop, ext_get_or, get_or-drop, get_or-map, length-map, map-append, flat_map-append, All-from_get_or, recursion_from_All, Column, ColumnKind, TableId, Module, tables, columns_of, is_padding, indexes_from, cell_columns, text_index, blob_index, guid_index, Cell, Number, Text, Bytes, Guid, Ref, Start, Sig, Metadata, rows_of, IsValid, Pools, pools_of, texts_of, blobs_of, cell_number, with_next, numbers_of, table_numbers, numbers, flat, AreIndexes, all_cells, guid_of, SoFar, none_numbered, with_number, with_cell, with_next_cell, with_row, with_rows, with_tables}
 use Rattle.cell_numbering.specs.declared.numbers_so_far.Indexes.{Indexes}
-use Rattle.cell_numbering.specs.HeapUses.{AreIndexes, all_cells, guid_of}
-use Rattle.cell_numbering.specs.NumbersSoFar.{SoFar, none_numbered, with_number, with_cell, with_next_cell, with_row, with_rows, with_tables}
 use Rattle.cell_numbering.proofs.CellIndexLemmas.{table_index_at}
 
 -- ---- the next indexes of one heap

@@ -1,20 +1,10 @@
 -- Columns whose numbers are those in the canonical root, but for null.
-use Rattle.std.proofs.Common.{◌≡◌, ◌+◌, ◌^◌, ◌<◌, ◌≤◌, ℕ, Option, Some, None, List, [], ◌∷◌, ◌++◌, length, get_or, sym, ap, subst, ◌∙◌, arith}
-use Rattle.std.specs.Prelude.{IfSome}
+use Rattle.cell_numbering.proofs.Prelude.{◌≡◌, ◌+◌, ◌^◌, ◌<◌, ◌≤◌, ℕ, Option, Some, None, List, [], ◌∷◌, ◌++◌, length, get_or, sym, ap, subst, ◌∙◌, arith, IfSome, get_or_append_left, get_or_push, TableId, ColumnKind, Cell, Ref, IsOfKind, IsNumberOf, cell_number, IsInNoHeap, no_pools}
 use Rattle.std.proofs.lemmas.Bool.Decides.{nat_tests}
-use Rattle.std.proofs.lemmas.List.{get_or_append_left, get_or_push}
 use borrow.Author.Count.{below_more}
-use Rattle.table_schema.specs.declared.table.TableId.{TableId}
 use Rattle.table_schema.specs.declared.coded.Coded.{Coded}
-use Rattle.table_schema.specs.declared.column.ColumnKind.{ColumnKind}
 use Rattle.table_schema.specs.declared.column.ColumnKind.TheVariants as kind
 use Rattle.table_schema.specs.CodedIndexes.{tag_bits}
-use Rattle.metadata.specs.Cell.{Cell, Ref}
-use Rattle.metadata.specs.Kinds.{IsOfKind}
-use Rattle.metadata_source.specs.ColumnNumbers.{IsNumberOf}
-use Rattle.root_writer.specs.Numbers.{cell_number}
-use Rattle.cell_numbering.specs.HeapUses.{IsInNoHeap}
-use Rattle.cell_numbering.specs.NumbersSoFar.{no_pools}
 use Rattle.cell_numbering.specs.PlainColumns.{IsLeast, IsPlainNumber, without_null}
 
 -- a number that is not less than the least one is kept, and another is 0

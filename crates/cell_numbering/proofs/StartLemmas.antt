@@ -1,17 +1,8 @@
 -- Groups of starts, use by use; and the plan of the texts of the groups.
-use Rattle.std.proofs.Common.{◌≡◌, ℕ, ◌<◌, ◌≤◌, ◌-◌, nat_eq, Bool, true, false, true≢false, not, ◌&&◌, Contains, List, [], ◌∷◌, ◌++◌, length, filter, map, refl, sym, ap, subst, ◌∙◌, inl, inr, ⊎_elim, arith}
-use Rattle.std.specs.Prelude.{slice_index}
-use Rattle.std.specs.List.{list_any}
+use Rattle.cell_numbering.proofs.Prelude.{◌≡◌, ℕ, ◌<◌, ◌≤◌, ◌-◌, nat_eq, Bool, true, false, true≢false, not, ◌&&◌, Contains, List, [], ◌∷◌, ◌++◌, length, filter, map, refl, sym, ap, subst, ◌∙◌, inl, inr, ⊎_elim, arith, slice_index, list_any, fun_ext, cases_Bool, cases_lt, cond_both, false_from_ne_true, drop_all, map_push, nil_from_length, get_or_append_left, get_or_push, length_push, length-map, get_or-map, All-push, All-nil, All-weaker, Contains-get_or, distinct, first_uses, is_among, pooled, heap_text, texts_at, holders, is_holder}
 use Rattle.std.specs.Str.{bytes_eq}
 use Rattle.std.specs.Cmp.Lexicographic.{pointwise}
-use Rattle.std.proofs.Math.Path.{fun_ext}
-use Rattle.std.proofs.lemmas.Bool.{cases_Bool, cases_lt, cond_both, false_from_ne_true}
-use Rattle.std.proofs.lemmas.List.{drop_all, map_push, nil_from_length, get_or_append_left, get_or_push, length_push, length-map, get_or-map}
-use Rattle.std.proofs.lemmas.List.Elements.{All-push, All-nil, All-weaker, Contains-get_or}
-use Rattle.heap_pools.specs.Distinct.{distinct, first_uses, is_among, pooled}
 use Rattle.heap_pools.specs.Ending.{ends_with}
-use Rattle.heap_pools.specs.HeapTexts.{heap_text, texts_at}
-use Rattle.heap_pools.specs.TextHeap.{holders, is_holder}
 use Rattle.heap_pools.proofs.MemberLemmas.{IsIn, any_in, in_any, in_distinct}
 use Rattle.cell_numbering.specs.StartGroups.{AreStartGroups}
 use Rattle.cell_numbering.proofs.BlobLemmas.{AreLaws, same_map, map_map}

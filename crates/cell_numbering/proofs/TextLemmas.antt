@@ -1,14 +1,7 @@
 -- The texts that cells use, one by one.
-use Rattle.std.proofs.Common.{◌≡◌, ℕ, List, [], ◌∷◌, ◌++◌, Option, Some, sym, ap, ◌∙◌}
-use Rattle.std.specs.Prelude.{unwrap_or}
-use Rattle.std.proofs.lemmas.List.{map_push}
+use Rattle.cell_numbering.proofs.Prelude.{◌≡◌, ℕ, List, [], ◌∷◌, ◌++◌, Option, Some, sym, ap, ◌∙◌, unwrap_or, map_push, IsText, heap_text, texts_at, Metadata, CellId, HasCell, cell_by_id, kind_by_id, texts_of}
 use Rattle.table_schema.specs.declared.column.ColumnKind.TheVariants as kind
-use Rattle.heap_entries.specs.Entries.{IsText}
-use Rattle.heap_pools.specs.HeapTexts.{heap_text, texts_at}
-use Rattle.metadata.specs.Metadata.{Metadata}
-use Rattle.metadata_source.specs.SharedBlobs.{CellId, HasCell, cell_by_id, kind_by_id}
 use Rattle.metadata_source.specs.TextsIn.{AreTextsIn}
-use Rattle.root_writer.specs.Pools.{texts_of}
 
 abbrev pub ReadsTexts : Type 0
 ReadsTexts = (heap : List ℕ) (index : ℕ) (text : List ℕ) → IsText heap index text → heap_text heap index ≡ text

@@ -1,29 +1,14 @@
 -- The values that cells use, cell by cell.
-use Rattle.std.proofs.Common.{◌≡◌, ℕ, zero, suc, ◌+◌, ◌<◌, ◌≤◌, ◌^◌, List, [], ◌∷◌, ◌++◌, length, get_or, take, Some, None, Option, refl, sym, ap, subst, ◌∙◌, append_assoc, append-nil, arith}
-use Rattle.std.specs.Prelude.{flat_map}
-use Rattle.std.specs.List.{AllZip}
-use Rattle.std.specs.Borrow.{Bor}
-use Rattle.std.proofs.lemmas.List.{take_more, take_all}
-use Rattle.std.proofs.lemmas.List.Concat.{flat_map-append}
-use Rattle.table_schema.specs.declared.column.SigKind.{SigKind}
-use Rattle.table_schema.specs.declared.column.ColumnKind.{ColumnKind}
+use Rattle.cell_numbering.proofs.Prelude.{◌≡◌, ℕ, zero, suc, ◌+◌, ◌<◌, ◌≤◌, ◌^◌, List, [], ◌∷◌, ◌++◌, length, get_or, take, Some, None, Option, refl, sym, ap, subst, ◌∙◌, append_assoc, append-nil, arith, flat_map, AllZip, Bor, take_more, take_all, flat_map-append, SigKind, ColumnKind, given, Cell, Bytes, Guid, Sig, Metadata, CanBeNumbered, CellId, HasCell, IsBlobKind, ShareBlob, cell_by_id, kind_by_id, texts_of, blobs_of, guids_of, used, BlobUse, AreUsesIn, GivesBlob, IsUseIn, IsUseOf, all_cells, guid_of}
 use Rattle.table_schema.specs.declared.column.ColumnKind.TheVariants as kind
-use Rattle.heap_pools.specs.GuidHeap.{given}
-use Rattle.metadata.specs.Cell.{Cell, Bytes, Guid, Sig}
-use Rattle.metadata.specs.Metadata.{Metadata}
 use Rattle.sig_grammar.specs.Encodes.{short}
-use Rattle.root_writer.specs.Numbered.{CanBeNumbered}
 use Rattle.metadata_source.specs.SignatureBytes.{AreBytesOf}
 use Rattle.metadata_source.specs.declared.signature_bytes.SignatureBytes.{SignatureBytes}
 use Rattle.metadata_source.specs.declared.signature_bytes.SignatureBytes.TheVariants.{Stored, Canonical}
-use Rattle.metadata_source.specs.SharedBlobs.{CellId, HasCell, IsBlobKind, ShareBlob, cell_by_id, kind_by_id}
-use Rattle.root_writer.specs.Pools.{texts_of, blobs_of, guids_of, used}
-use Rattle.cell_numbering.specs.declared.blob_use.BlobUse.{BlobUse}
 use Rattle.cell_numbering.specs.declared.blob_uses.BlobUses.{BlobUses}
 use Rattle.cell_numbering.specs.declared.heap_uses.HeapUses.{HeapUses}
 use Rattle.cell_numbering.specs.declared.text_uses.TextUses.{TextUses}
 use Rattle.cell_numbering.specs.BlobUses.{AreBlobUses, IsAtIndex, ReferTo}
-use Rattle.cell_numbering.specs.HeapUses.{AreUsesIn, GivesBlob, IsUseIn, IsUseOf, all_cells, guid_of}
 use Rattle.cell_numbering.specs.TextUses.{AreTextUses}
 use Rattle.cell_numbering.proofs.BlobLemmas.{AreLaws, kept_use, known_use, no_kept}
 use Rattle.cell_numbering.proofs.KindLemmas.{IsNoText}
@@ -33,15 +18,13 @@ use Rattle.cell_numbering.proofs.KindLemmas.{IsNoText}
 pub zip_append : {X Y : Type 0} (R : X → Y → Type 0) (xs : List X) (ys : List Y) (more : List X) (others : List Y) → AllZip R xs ys → AllZip R more others
     → AllZip R (xs ++ more) (ys ++ others)
 zip_append R [] [] more others first second = second
-zip_append R [] (y ∷ ys) more others first second = absurd first
-zip_append R (x ∷ xs) [] more others first second = absurd first
 zip_append R (x ∷ xs) (y ∷ ys) more others first second = (first.0, zip_append R xs ys more others first.1 second)
+zip_append R _ _ more others first second = absurd first
 
 pub zip_length : {X Y : Type 0} (R : X → Y → Type 0) (xs : List X) (ys : List Y) → AllZip R xs ys → length xs ≡ length ys
 zip_length R [] [] all = refl
-zip_length R [] (y ∷ ys) all = absurd all
-zip_length R (x ∷ xs) [] all = absurd all
 zip_length R (x ∷ xs) (y ∷ ys) all = ap suc (zip_length R xs ys all.1)
+zip_length R _ _ all = absurd all
 
 pub zip_at : {X Y : Type 0} (R : X → Y → Type 0) (xs : List X) (ys : List Y) (k : ℕ) (d : X) (e : Y) → AllZip R xs ys → k < length xs → R (get_or xs k d) (get_or ys k e)
 zip_at R [] ys k d e all below = absurd (omega (arith, below))
@@ -51,9 +34,8 @@ zip_at R (x ∷ xs) (y ∷ ys) (suc k) d e all below = zip_at R xs ys k d e all.
 
 pub zip_weaker : {X Y : Type 0} (R S : X → Y → Type 0) → ((x : X) (y : Y) → R x y → S x y) → (xs : List X) (ys : List Y) → AllZip R xs ys → AllZip S xs ys
 zip_weaker R S f [] [] all = tt
-zip_weaker R S f [] (y ∷ ys) all = absurd all
-zip_weaker R S f (x ∷ xs) [] all = absurd all
 zip_weaker R S f (x ∷ xs) (y ∷ ys) all = (f x y all.0, zip_weaker R S f xs ys all.1)
+zip_weaker R S f _ _ all = absurd all
 
 -- ---- one more cell
 

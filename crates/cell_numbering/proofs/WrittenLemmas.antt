@@ -1,18 +1,10 @@
 -- The bytes of the blobs that are written, use by use, and without those of equal ones.
 use Rattle.std.proofs.Common.{◌≡◌, ℕ, ◌+◌, ◌<◌, ◌≤◌, ◌^◌, ◌⊎◌, List, [], ◌∷◌, ◌++◌, All, length, get_or, map, take, slice_index, refl, sym, ap, subst, ◌∙◌, ⊎_elim, arith, length-take-le, get_or-take}
-use Rattle.std.specs.List.{AllZip}
-use Rattle.std.proofs.lemmas.Bool.{cases_lt}
-use Rattle.std.proofs.lemmas.List.{take_more, ext_get_or, get_or-map, get_or_append_left, get_or_push, length-map, length_push, map_push}
-use Rattle.std.proofs.lemmas.List.Elements.{All-from_get_or, All-take}
-use Rattle.heap_pools.specs.Ranking.{HasText, IsFirstUse, used_at}
+use Rattle.cell_numbering.proofs.Prelude.{AllZip, cases_lt, take_more, ext_get_or, get_or-map, get_or_append_left, get_or_push, length-map, length_push, map_push, All-from_get_or, All-take, HasText, IsFirstUse, used_at, AreFirsts, AreWritten, all_bytes, bytes_at, bytes_in, BlobUse, IsUseOf}
 use Rattle.heap_pools.proofs.FirstLemmas.{last_cases}
-use Rattle.heaps.specs.HeapPlanView.{AreFirsts}
 use Rattle.cell_numbering.specs.declared.blob_bytes.BlobBytes.{BlobBytes}
 use Rattle.cell_numbering.specs.declared.blob_bytes.BlobBytes.TheVariants.{Found}
-use Rattle.cell_numbering.specs.BlobBytes.{AreWritten, all_bytes, bytes_at, bytes_in}
-use Rattle.cell_numbering.specs.declared.blob_use.BlobUse.{BlobUse}
 use Rattle.cell_numbering.specs.EqualUses.{IsSameUse}
-use Rattle.cell_numbering.specs.HeapUses.{IsUseOf}
 use Rattle.cell_numbering.proofs.BlobLemmas.{same_map}
 use Rattle.cell_numbering.proofs.UseLemmas.{zip_at, zip_length}
 

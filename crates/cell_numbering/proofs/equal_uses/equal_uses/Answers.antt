@@ -1,6 +1,5 @@
 use Rattle.std.proofs.Common.{◌≡◌, ◌<◌, ℕ, List, [], length, slice_index, inl, inr, sym, subst, ◌∙◌, ⊎_elim, arith}
-use Rattle.heaps.specs.EqualBlobs.{AreEarlierBlobs}
-use Rattle.cell_numbering.specs.HeapUses.{IsUseIn}
+use Rattle.cell_numbering.proofs.Prelude.{AreEarlierBlobs, IsUseIn}
 use Rattle.cell_numbering.proofs.EqualLemmas.{same_blobs, same_use, stable}
 use Rattle.cell_numbering.proofs.UseLemmas.{zip_at}
 use Rattle.cell_numbering.proofs.equal_uses.equal_uses.Goals as goal
@@ -9,12 +8,11 @@ pub returns-clause-earlier : goal.returns-clause-earlier
 returns-clause-earlier g c = λ k d below.
     let uses = c.args.uses.now in
     let heap = c.in-Some.heap.now in
-    let indexes = c.in_ok-indexes.indexes.items in
     let earlier = c.in_ok-equal_blobs.field-0.items in
     let j = slice_index earlier k in
     let plain = c.in_ok-indexes.ensures.plain in
     let found = subst (λ (l : List ℕ). AreEarlierBlobs heap l earlier) c.deref.ensures.value c.in_ok-equal_blobs.ensures.earlier in
-    let long : length indexes ≡ length uses = omega (arith, c.in_ok-indexes.ensures.len, c.in_ok-indexes.indexes.ok.0) in
+    let long : length c.in_ok-indexes.indexes.items ≡ length uses = omega (arith, c.in_ok-indexes.ensures.len, c.in_ok-indexes.indexes.ok.0) in
     ⊎_elim
     (λ own. inl own)
     (λ other.

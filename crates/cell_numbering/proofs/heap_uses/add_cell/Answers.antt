@@ -1,12 +1,4 @@
-use Rattle.std.proofs.Common.{refl, sym, subst, ◌∙◌, arith}
-use Rattle.std.specs.Prelude.{flat_map}
-use Rattle.std.proofs.lemmas.Result.{on_ok_weaker}
-use Rattle.table_schema.specs.declared.column.ColumnKind.{ColumnKind}
-use Rattle.metadata.specs.Kinds.{IsOfKind}
-use Rattle.metadata.specs.Metadata.{cell_in}
-use Rattle.metadata.specs.Lookups.{HasRow}
-use Rattle.metadata.specs.Valid.{kind_at}
-use Rattle.root_writer.specs.Pools.{texts_of}
+use Rattle.cell_numbering.proofs.Prelude.{refl, sym, subst, ◌∙◌, arith, flat_map, on_ok_weaker, ColumnKind, IsOfKind, cell_in, HasRow, kind_at, texts_of}
 use Rattle.cell_numbering.proofs.KindLemmas.{IsPlainKind, has_none, plain_cell, text_alone}
 use Rattle.cell_numbering.proofs.UseLemmas.{added_text, unchanged}
 use Rattle.cell_numbering.proofs.heap_uses.add_cell.Goals as goal

@@ -1,7 +1,4 @@
-use Rattle.std.proofs.Common.{◌<◌, ◌≤◌, length, take, ◌++◌, arith}
-use Rattle.metadata.specs.Cell.{Number}
-use Rattle.metadata.specs.Metadata.{row_of}
-use Rattle.metadata.specs.Lookups.{HasRow}
+use Rattle.cell_numbering.proofs.Prelude.{◌<◌, ◌≤◌, length, take, ◌++◌, arith, Number, row_of, HasRow}
 use Rattle.cell_numbering.proofs.UseLemmas.{next_cell_in, all_cells_in, no_cells_yet}
 use Rattle.cell_numbering.proofs.heap_uses.add_row.Goals as goal
 

@@ -1,7 +1,4 @@
-use Rattle.std.proofs.Common.{List, ◌++◌, take}
-use Rattle.metadata.specs.Cell.{Cell}
-use Rattle.metadata.specs.Metadata.{Metadata, row_of}
-use Rattle.cell_numbering.specs.HeapUses.{AreUsesIn}
+use Rattle.cell_numbering.proofs.Prelude.{List, ◌++◌, take, Cell, Metadata, row_of, AreUsesIn}
 use Rattle.cell_numbering.proofs.heap_uses.add_row.Given as goal
 
 -- with the values of the first cells

@@ -1,8 +1,4 @@
-use Rattle.std.proofs.Common.{List, ◌++◌, take}
-use Rattle.std.specs.Prelude.{flat_map}
-use Rattle.metadata.specs.Cell.{Cell}
-use Rattle.metadata.specs.Metadata.{Metadata, rows_of}
-use Rattle.cell_numbering.specs.HeapUses.{AreUsesIn}
+use Rattle.cell_numbering.proofs.Prelude.{List, ◌++◌, take, flat_map, Cell, Metadata, rows_of, AreUsesIn}
 use Rattle.cell_numbering.proofs.heap_uses.add_rows.Given as goal
 
 -- with the values of the first rows

@@ -1,7 +1,5 @@
-use Rattle.std.proofs.Common.{refl, arith}
+use Rattle.cell_numbering.proofs.Prelude.{refl, arith, HasRow, CellId}
 use Rattle.table_schema.specs.declared.column.ColumnKind.TheVariants.{Signature}
-use Rattle.metadata.specs.Lookups.{HasRow}
-use Rattle.metadata_source.specs.SharedBlobs.{CellId}
 use Rattle.cell_numbering.proofs.BlobLemmas.{AreLaws}
 use Rattle.cell_numbering.proofs.UseLemmas.{added_known, added_use, signature_use}
 use Rattle.cell_numbering.proofs.heap_uses.add_signature.Goals as goal

@@ -1,15 +1,5 @@
-use Rattle.std.proofs.Common.{◌≡◌, ℕ, List, refl, sym, subst, ◌∙◌, arith}
-use Rattle.std.specs.Borrow.{Bor}
-use Rattle.table_schema.specs.declared.column.ColumnKind.{ColumnKind}
-use Rattle.metadata.specs.Cell.{Cell}
-use Rattle.metadata.specs.Kinds.{IsOfKind}
-use Rattle.metadata.specs.Metadata.{cell_in}
-use Rattle.metadata.specs.Lookups.{HasRow}
-use Rattle.metadata.specs.Valid.{kind_at}
-use Rattle.reading.specs.Shown.{Shows}
-use Rattle.reading.specs.declared.cell_ref.CellRef.{CellRef}
+use Rattle.cell_numbering.proofs.Prelude.{◌≡◌, ℕ, List, refl, sym, subst, ◌∙◌, arith, Bor, ColumnKind, Cell, IsOfKind, cell_in, HasRow, kind_at, Shows, CellRef, CellId}
 use Rattle.reading.specs.declared.cell_ref.CellRef.TheVariants as seen
-use Rattle.metadata_source.specs.SharedBlobs.{CellId}
 use Rattle.cell_numbering.proofs.KindLemmas.{has_none, no_value, only_blob, only_text}
 use Rattle.cell_numbering.proofs.BlobLemmas.{AreLaws}
 use Rattle.cell_numbering.proofs.UseLemmas.{added_guid, added_known, added_use, blob_use, unchanged}

@@ -1,10 +1,4 @@
-use Rattle.std.proofs.Common.{◌≡◌, ℕ, ◌<◌, ◌≤◌, List, [], ◌++◌, length, get_or, take, ap, subst, ◌∙◌, arith}
-use Rattle.std.specs.Prelude.{flat_map}
-use Rattle.table_schema.specs.declared.table.TableId.{TableId}
-use Rattle.table_schema.specs.declared.table.TableId.TheVariants.{Module}
-use Rattle.table_schema.specs.Tables.{table_index_of}
-use Rattle.metadata.specs.Cell.{Cell}
-use Rattle.cell_numbering.specs.HeapUses.{AreUsesIn}
+use Rattle.cell_numbering.proofs.Prelude.{◌≡◌, ℕ, ◌<◌, ◌≤◌, List, [], ◌++◌, length, get_or, take, ap, subst, ◌∙◌, arith, flat_map, TableId, Module, table_index_of, Cell, AreUsesIn}
 use Rattle.cell_numbering.proofs.CellIndexLemmas.{table_index_at}
 use Rattle.cell_numbering.proofs.UseLemmas.{next_part, all_parts, no_uses}
 use Rattle.cell_numbering.proofs.heap_uses.heap_uses.Goals as goal
@@ -16,12 +10,11 @@ pub loop-table-preserved : goal.loop-table-preserved
 loop-table-preserved g c = λ model is.
     let i = c.loop-table.table-index in
     let f = flat_map (λ (row : List Cell). row) in
-    let table = get_or c.all-table-items.result.now i Module in
     let so_far = [] ++ flat_map f (take i model.tables) in
     let full = (c.holds_one.ensures.valid model is).tables in
     let low : i < 38 = omega (arith, c.all-table-items.ensures.count, c.loop-table-test.true) in
     let below : i < length model.tables = omega (arith, low, full) in
-    let at : table_index_of table ≡ i =
+    let at : table_index_of (get_or c.all-table-items.result.now i Module) ≡ i =
     ap (λ (listed : List TableId). table_index_of (get_or listed i Module)) c.all-table-items.ensures.value ∙ table_index_at c.tables_stand.ensures.count i low in
     next_part _ model _ f [] model.tables i [] below
     (subst (λ (k : ℕ). AreUsesIn (g.S.ReadCells.heap_index c.args.source.now) model c.add_rows.new.uses (so_far ++ f (get_or model.tables k []))) at (c.in_ok-add_rows.ensures model is so_far (c.loop-table.invariant model is)))

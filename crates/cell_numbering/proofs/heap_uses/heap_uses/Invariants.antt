@@ -1,8 +1,4 @@
-use Rattle.std.proofs.Common.{List, [], ◌++◌, take}
-use Rattle.std.specs.Prelude.{flat_map}
-use Rattle.metadata.specs.Cell.{Cell}
-use Rattle.metadata.specs.Metadata.{Metadata}
-use Rattle.cell_numbering.specs.HeapUses.{AreUsesIn}
+use Rattle.cell_numbering.proofs.Prelude.{List, [], ◌++◌, take, flat_map, Cell, Metadata, AreUsesIn}
 use Rattle.cell_numbering.proofs.heap_uses.heap_uses.Given as goal
 
 -- the values of the first tables

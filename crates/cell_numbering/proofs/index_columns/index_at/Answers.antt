@@ -1,8 +1,4 @@
-use Rattle.std.proofs.Common.{◌≡◌, ◌<◌, Option, Some, None, length, sym, ap, subst, ◌∙◌, arith}
-use Rattle.std.specs.Prelude.{IfSome}
-use Rattle.std.proofs.lemmas.List.{get_or_read}
-use Rattle.rows.specs.Columns.{ColumnBytes}
-use Rattle.metadata_source.specs.ColumnNumbers.{AreIndexesIn}
+use Rattle.cell_numbering.proofs.Prelude.{◌≡◌, ◌<◌, Option, Some, None, length, sym, ap, subst, ◌∙◌, arith, IfSome, get_or_read, ColumnBytes, AreIndexesIn}
 use Rattle.cell_numbering.proofs.index_columns.index_at.Goals as goal
 
 pub number-requires : goal.number-requires

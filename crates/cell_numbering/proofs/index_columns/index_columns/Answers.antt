@@ -1,6 +1,4 @@
-use Rattle.std.proofs.Common.{◌≡◌, [], ◌∷◌, ◌++◌, length, ap, arith}
-use Rattle.std.proofs.lemmas.List.{length_push}
-use Rattle.metadata_source.specs.ColumnNumbers.{AreIndexesIn}
+use Rattle.cell_numbering.proofs.Prelude.{◌≡◌, [], ◌∷◌, ◌++◌, length, ap, arith, length_push, AreIndexesIn}
 use Rattle.cell_numbering.proofs.PlainLemmas.{one_more}
 use Rattle.cell_numbering.proofs.index_columns.index_columns.Goals as goal
 

@@ -1,7 +1,5 @@
-use Rattle.std.proofs.Common.{◌≡◌, ◌<◌, ℕ, None}
+use Rattle.cell_numbering.proofs.Prelude.{◌≡◌, ◌<◌, ℕ, None, ColumnBytes, AreIndexesIn}
 use Rattle.std.specs.Prelude.{IfSome, slice_index_or, length}
-use Rattle.rows.specs.Columns.{ColumnBytes}
-use Rattle.metadata_source.specs.ColumnNumbers.{AreIndexesIn}
 use Rattle.cell_numbering.proofs.index_columns.index_columns.Given as goal
 
 -- the columns of the first cells

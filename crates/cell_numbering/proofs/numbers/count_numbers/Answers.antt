@@ -1,6 +1,4 @@
-use Rattle.std.proofs.Common.{ℕ, ◌≤◌, ◌*◌, ap, length, get_or, arith}
-use Rattle.std.proofs.Math.Nat.{mul-le-mul_left, mul-le-mul_right}
-use Rattle.table_schema.specs.declared.table.TableId.TheVariants.{Module}
+use Rattle.cell_numbering.proofs.Prelude.{ℕ, ◌≤◌, ◌*◌, ap, length, get_or, arith, mul-le-mul_left, mul-le-mul_right, Module}
 use Rattle.cell_numbering.proofs.numbers.count_numbers.Given.{Over}
 use Rattle.cell_numbering.proofs.numbers.count_numbers.Goals as goal
 

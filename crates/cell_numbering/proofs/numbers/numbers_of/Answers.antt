@@ -1,6 +1,4 @@
-use Rattle.std.proofs.Common.{ap, ◌∙◌}
-use Rattle.table_schema.specs.Tables.{tables}
-use Rattle.cell_numbering.specs.NumbersSoFar.{SoFar, with_tables}
+use Rattle.cell_numbering.proofs.Prelude.{ap, ◌∙◌, tables, SoFar, with_tables}
 use Rattle.cell_numbering.proofs.NumberLemmas.{numbered_is}
 use Rattle.cell_numbering.proofs.numbers.numbers_of.Goals as goal
 

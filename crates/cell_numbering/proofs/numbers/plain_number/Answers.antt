@@ -1,11 +1,6 @@
-use Rattle.std.proofs.Common.{◌<◌, ◌≤◌, Option, subst, ⊎_elim, arith}
-use Rattle.std.proofs.lemmas.Bool.{cases_lt}
+use Rattle.cell_numbering.proofs.Prelude.{◌<◌, ◌≤◌, Option, subst, ⊎_elim, arith, cases_lt, Shows, CellRef, CanBeNumbered, IsInNoHeap}
 use Rattle.table_schema.specs.declared.token.Token.{Token}
 use Rattle.metadata.specs.Cell.{Cell as Says, Ref}
-use Rattle.reading.specs.Shown.{Shows}
-use Rattle.reading.specs.declared.cell_ref.CellRef.{CellRef}
-use Rattle.root_writer.specs.Numbered.{CanBeNumbered}
-use Rattle.cell_numbering.specs.HeapUses.{IsInNoHeap}
 use Rattle.cell_numbering.proofs.KindLemmas.{sig_of}
 use Rattle.cell_numbering.proofs.numbers.plain_number.Goals as goal
 

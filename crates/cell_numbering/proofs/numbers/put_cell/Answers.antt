@@ -1,15 +1,4 @@
-use Rattle.std.proofs.Common.{◌≡◌, ◌<◌, Option, None, length, sym, ap, subst, ◌∙◌, arith}
-use Rattle.std.specs.Prelude.{IfSome}
-use Rattle.std.proofs.lemmas.List.{get_or_read}
-use Rattle.std.proofs.lemmas.Grind.{not_there}
-use Rattle.std.proofs.lemmas.Result.{on_ok_weaker}
-use Rattle.table_schema.specs.declared.column.ColumnKind.{ColumnKind}
-use Rattle.metadata.specs.Metadata.{cell_in}
-use Rattle.metadata.specs.Lookups.{HasRow}
-use Rattle.metadata.specs.Valid.{kind_at}
-use Rattle.reading.specs.Shown.{Shows}
-use Rattle.root_writer.specs.Numbers.{cell_number}
-use Rattle.cell_numbering.specs.NumbersSoFar.{no_pools, with_number}
+use Rattle.cell_numbering.proofs.Prelude.{◌≡◌, ◌<◌, Option, None, length, sym, ap, subst, ◌∙◌, arith, IfSome, get_or_read, not_there, on_ok_weaker, ColumnKind, cell_in, HasRow, kind_at, Shows, cell_number, no_pools, with_number}
 use Rattle.cell_numbering.specs.PlainColumns.{IsPlainIn, IsPlainNumber, Plain, number_in}
 use Rattle.cell_numbering.proofs.KindLemmas.{IsPlainKind, next_text, next_guid, next_blob, next_signature, next_plain, plain_cell}
 use Rattle.cell_numbering.proofs.numbers.put_cell.Goals as goal

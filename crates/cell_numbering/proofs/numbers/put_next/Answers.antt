@@ -1,11 +1,5 @@
-use Rattle.std.proofs.Common.{◌≡◌, ℕ, ◌+◌, ◌<◌, false, List, get_or, drop, sym, ap, ◌∙◌, arith}
-use Rattle.table_schema.specs.declared.column.Column.{Column}
+use Rattle.cell_numbering.proofs.Prelude.{◌≡◌, ℕ, ◌+◌, ◌<◌, false, List, get_or, drop, sym, ap, ◌∙◌, arith, Column, TableId, column_at, columns_of, col, is_padding, cell_count, row_of, HasRow}
 use Rattle.table_schema.specs.declared.column.ColumnKind.TheVariants as kind
-use Rattle.table_schema.specs.declared.table.TableId.{TableId}
-use Rattle.table_schema.specs.Columns.{column_at, columns_of, col}
-use Rattle.table_schema.specs.CellColumns.{is_padding, cell_count}
-use Rattle.metadata.specs.Metadata.{row_of}
-use Rattle.metadata.specs.Lookups.{HasRow}
 use Rattle.cell_numbering.proofs.CellIndexLemmas.{unpadded, cell_index_is, next_cell, few_cells}
 use Rattle.cell_numbering.proofs.numbers.put_next.Goals as goal
 

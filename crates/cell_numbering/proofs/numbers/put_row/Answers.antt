@@ -1,6 +1,4 @@
-use Rattle.std.proofs.Common.{◌+◌, ◌<◌, ◌≤◌, length, drop, refl, sym, ap, ◌∙◌, arith}
-use Rattle.table_schema.specs.Columns.{columns_of}
-use Rattle.cell_numbering.specs.NumbersSoFar.{with_row}
+use Rattle.cell_numbering.proofs.Prelude.{◌+◌, ◌<◌, ◌≤◌, length, drop, refl, sym, ap, ◌∙◌, arith, columns_of, with_row}
 use Rattle.cell_numbering.proofs.CellIndexLemmas.{first_cell_index, row_left, row_done}
 use Rattle.cell_numbering.proofs.numbers.put_row.Goals as goal
 
@@ -23,7 +21,6 @@ loop-index-preserved g c =
 
 pub returns-clause-ok : goal.returns-clause-ok
 returns-clause-ok g c = λ model is.
-    let indexes = c.args.indexes in
     let columns = columns_of c.args.table in
     let past : length columns ≤ c.loop-index.index = omega (arith, ap length c.columns-index-end.ensures) in
-    row_done indexes columns c.loop-index.index _ c.loop-index.so_far _ past (c.loop-index.invariant.whole model is)
+    row_done c.args.indexes columns c.loop-index.index _ c.loop-index.so_far _ past (c.loop-index.invariant.whole model is)

@@ -1,7 +1,4 @@
-use Rattle.std.proofs.Common.{◌≡◌, drop}
-use Rattle.table_schema.specs.Columns.{columns_of}
-use Rattle.metadata.specs.Metadata.{Metadata, row_of}
-use Rattle.cell_numbering.specs.NumbersSoFar.{with_row}
+use Rattle.cell_numbering.proofs.Prelude.{◌≡◌, drop, columns_of, Metadata, row_of, with_row}
 use Rattle.cell_numbering.specs.CellIndexes.{IsCellIndexOf}
 use Rattle.cell_numbering.proofs.numbers.put_row.Given as goal
 

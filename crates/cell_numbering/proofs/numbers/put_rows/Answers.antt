@@ -1,7 +1,4 @@
-use Rattle.std.proofs.Common.{◌≡◌, ℕ, ◌+◌, ◌-◌, ◌<◌, ◌≤◌, [], length, get_or, drop, ap, ◌∙◌, arith}
-use Rattle.table_schema.specs.Columns.{columns_of}
-use Rattle.metadata.specs.Metadata.{rows_of}
-use Rattle.cell_numbering.specs.NumbersSoFar.{SoFar, with_row, with_rows}
+use Rattle.cell_numbering.proofs.Prelude.{◌≡◌, ℕ, ◌+◌, ◌-◌, ◌<◌, ◌≤◌, [], length, get_or, drop, ap, ◌∙◌, arith, columns_of, rows_of, SoFar, with_row, with_rows}
 use Rattle.cell_numbering.proofs.CellIndexLemmas.{rows_left, rows_done}
 use Rattle.cell_numbering.proofs.numbers.put_rows.Goals as goal
 
@@ -14,8 +11,7 @@ loop-row-preserved g c = record {
       let rows = rows_of model c.args.table in
       let i = c.loop-row.row in
       let held = c.holds_one.ensures.rows model is c.args.table in
-      let count = c.count-count.ensures.rows in
-      let below : i < length rows = omega (arith, count) in
+      let below : i < length rows = omega (arith, c.count-count.ensures.rows) in
       let back : i + 1 - 1 ≡ i = omega arith in
       ap (λ (n : SoFar). with_rows indexes columns (drop (i + 1) rows) n)
       (c.in_ok-put_row.ensures.ok model is ∙ ap (λ (k : ℕ). with_row indexes columns (get_or rows k []) c.loop-row.so_far) back)
@@ -24,9 +20,7 @@ loop-row-preserved g c = record {
 
 pub returns : goal.returns
 returns g c = λ model is.
-    let indexes = c.args.indexes in
     let rows = rows_of model c.args.table in
     let held = c.holds_one.ensures.rows model is c.args.table in
-    let count = c.count-count.ensures.rows in
-    let past : length rows ≤ c.loop-row.row = omega (arith, count) in
-    rows_done indexes (columns_of c.args.table) rows c.loop-row.row c.loop-row.so_far _ past (c.loop-row.invariant.whole model is)
+    let past : length rows ≤ c.loop-row.row = omega (arith, c.count-count.ensures.rows) in
+    rows_done c.args.indexes (columns_of c.args.table) rows c.loop-row.row c.loop-row.so_far _ past (c.loop-row.invariant.whole model is)

@@ -1,7 +1,4 @@
-use Rattle.std.proofs.Common.{◌≡◌, drop}
-use Rattle.table_schema.specs.Columns.{columns_of}
-use Rattle.metadata.specs.Metadata.{Metadata, rows_of}
-use Rattle.cell_numbering.specs.NumbersSoFar.{with_rows}
+use Rattle.cell_numbering.proofs.Prelude.{◌≡◌, drop, columns_of, Metadata, rows_of, with_rows}
 use Rattle.cell_numbering.proofs.numbers.put_rows.Given as goal
 
 -- together with the rows that are left these are all rows

@@ -1,10 +1,4 @@
-use Rattle.std.proofs.Common.{◌+◌, ◌<◌, ◌≤◌, List, length, get_or, drop, ap, ◌∙◌, arith}
-use Rattle.table_schema.specs.declared.table.TableId.{TableId}
-use Rattle.table_schema.specs.declared.table.TableId.TheVariants.{Module}
-use Rattle.table_schema.specs.Tables.{tables}
-use Rattle.table_schema.specs.Columns.{columns_of}
-use Rattle.metadata.specs.Metadata.{rows_of}
-use Rattle.cell_numbering.specs.NumbersSoFar.{SoFar, with_rows, with_tables}
+use Rattle.cell_numbering.proofs.Prelude.{◌+◌, ◌<◌, ◌≤◌, List, length, get_or, drop, ap, ◌∙◌, arith, TableId, Module, tables, columns_of, rows_of, SoFar, with_rows, with_tables}
 use Rattle.cell_numbering.proofs.CellIndexLemmas.{tables_left, tables_done}
 use Rattle.cell_numbering.proofs.numbers.put_tables.Goals as goal
 
@@ -21,7 +15,6 @@ loop-table-preserved g c = λ model is.
 
 pub returns : goal.returns
 returns g c = λ model is.
-    let indexes = c.args.indexes in
     let i = c.loop-table.table-index in
     let past : length tables ≤ i = omega (arith, ap length c.all-table-items.ensures.value, c.loop-table-test.false) in
-    tables_done indexes model i c.loop-table.so_far _ past (c.loop-table.invariant model is)
+    tables_done c.args.indexes model i c.loop-table.so_far _ past (c.loop-table.invariant model is)

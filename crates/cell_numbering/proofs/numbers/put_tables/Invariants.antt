@@ -1,7 +1,4 @@
-use Rattle.std.proofs.Common.{◌≡◌, drop}
-use Rattle.table_schema.specs.Tables.{tables}
-use Rattle.metadata.specs.Metadata.{Metadata}
-use Rattle.cell_numbering.specs.NumbersSoFar.{with_tables}
+use Rattle.cell_numbering.proofs.Prelude.{◌≡◌, drop, tables, Metadata, with_tables}
 use Rattle.cell_numbering.proofs.numbers.put_tables.Given as goal
 
 -- together with the tables that are left these are all tables

@@ -1,9 +1,4 @@
-use Rattle.std.proofs.Common.{arith, subst}
-use Rattle.table_schema.specs.declared.column.ColumnKind.{ColumnKind}
-use Rattle.rows.specs.Columns.{number_in_row}
-use Rattle.metadata.specs.Lookups.{HasRow}
-use Rattle.metadata.specs.Metadata.{cell_in}
-use Rattle.metadata.specs.Valid.{kind_at}
+use Rattle.cell_numbering.proofs.Prelude.{arith, subst, ColumnKind, number_in_row, HasRow, cell_in, kind_at}
 use Rattle.cell_numbering.specs.PlainColumns.{IsLeast}
 use Rattle.cell_numbering.proofs.PlainLemmas.{own_number}
 use Rattle.cell_numbering.proofs.plain_columns.plain_column.Goals as goal

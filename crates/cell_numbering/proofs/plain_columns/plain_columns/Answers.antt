@@ -1,5 +1,4 @@
-use Rattle.std.proofs.Common.{◌≡◌, [], ◌∷◌, ◌++◌, length, ap, arith}
-use Rattle.std.proofs.lemmas.List.{length_push}
+use Rattle.cell_numbering.proofs.Prelude.{◌≡◌, [], ◌∷◌, ◌++◌, length, ap, arith, length_push}
 use Rattle.cell_numbering.specs.PlainColumns.{IsPlainIn, Plain}
 use Rattle.cell_numbering.proofs.PlainLemmas.{one_more}
 use Rattle.cell_numbering.proofs.plain_columns.plain_columns.Goals as goal

@@ -1,6 +1,5 @@
-use Rattle.std.proofs.Common.{◌≡◌, ◌<◌, ℕ, None}
+use Rattle.cell_numbering.proofs.Prelude.{◌≡◌, ◌<◌, ℕ, None, Metadata}
 use Rattle.std.specs.Prelude.{IfSome, slice_index_or, length}
-use Rattle.metadata.specs.Metadata.{Metadata}
 use Rattle.cell_numbering.specs.PlainColumns.{IsPlainIn, Plain}
 use Rattle.cell_numbering.proofs.plain_columns.plain_columns.Given as goal
 

@@ -1,14 +1,5 @@
-use Rattle.std.proofs.Common.{◌≡◌, ◌^◌, ◌<◌, ℕ, List, All, Err, map, length, ap, sym, subst, ◌∙◌, arith}
-use Rattle.std.proofs.Math.Nat.{lt_of_not-le}
-use Rattle.std.proofs.lemmas.Result.{err_from_is_err_and}
-use Rattle.std.specs.Prelude.{slice_index}
-use Rattle.std.specs.List.{AllZip}
-use Rattle.heap_pools.specs.declared.pool_error.PoolError.TheVariants.{Full}
-use Rattle.heap_pools.specs.BlobHeap.{blob_heap, blob_index}
-use Rattle.heap_pools.specs.Distinct.{distinct}
-use Rattle.cell_numbering.specs.declared.blob_use.BlobUse.{BlobUse}
+use Rattle.cell_numbering.proofs.Prelude.{◌≡◌, ◌^◌, ◌<◌, ℕ, List, All, Err, map, length, ap, sym, subst, ◌∙◌, arith, lt_of_not-le, err_from_is_err_and, slice_index, AllZip, Full, blob_heap, blob_index, distinct, BlobUse, IsUseOf}
 use Rattle.cell_numbering.specs.EqualUses.{AreEarlierUses}
-use Rattle.cell_numbering.specs.HeapUses.{IsUseOf}
 use Rattle.cell_numbering.proofs.BlobLemmas.{indexes_are}
 use Rattle.cell_numbering.proofs.pools.blob_plan.Goals as goal
 

@@ -1,19 +1,6 @@
-use Rattle.std.proofs.Common.{◌≡◌, ◌≢◌, ◌<◌, ◌^◌, ℕ, List, [], All, Err, inl, inr, length, get_or, map, sym, ap, subst, ◌∙◌, rules}
-use Rattle.std.specs.Prelude.{flat_map}
-use Rattle.std.proofs.lemmas.Grind.{not_there}
-use Rattle.std.proofs.lemmas.List.Elements.{All-get_or, All-from_get_or}
-use Rattle.heap_entries.specs.Entries.{HasNoNul}
-use Rattle.heap_pools.specs.BlobHeap.{blob_heap, blob_index}
-use Rattle.heap_pools.specs.Distinct.{distinct}
-use Rattle.heap_pools.specs.GuidHeap.{given, guid_heap, guid_index}
-use Rattle.heap_pools.specs.TextHeap.{holders, text_heap, text_index}
-use Rattle.heap_pools.specs.declared.pool_error.PoolError.TheVariants.{Full}
-use Rattle.root_writer.specs.Pools.{blobs_of, guids_of, texts_of, used}
+use Rattle.cell_numbering.proofs.Prelude.{◌≡◌, ◌≢◌, ◌<◌, ◌^◌, ℕ, List, [], All, Err, inl, inr, length, get_or, map, sym, ap, subst, ◌∙◌, rules, flat_map, not_there, All-get_or, All-from_get_or, HasNoNul, blob_heap, blob_index, distinct, given, guid_heap, guid_index, holders, text_heap, text_index, Full, blobs_of, guids_of, texts_of, used, BlobUse, AreIndexes, IsUseIn, all_cells, guid_of, AllZip}
 use Rattle.cell_numbering.specs.declared.numbers_so_far.Indexes.{Indexes}
-use Rattle.cell_numbering.specs.declared.blob_use.BlobUse.{BlobUse}
 use Rattle.cell_numbering.specs.EqualUses.{AreEarlierUses}
-use Rattle.cell_numbering.specs.HeapUses.{AreIndexes, IsUseIn, all_cells, guid_of}
-use Rattle.std.specs.List.{AllZip}
 use Rattle.cell_numbering.specs.TextUses.{used_texts}
 use Rattle.cell_numbering.proofs.UseLemmas.{guids_are, used_is, uses_of}
 use Rattle.cell_numbering.proofs.pools.pools_of.Goals as goal
@@ -49,9 +36,8 @@ equal_uses-requires g c = λ none. not_there c.holds_one.ensures.shown (λ some.
 
 pub blob_plan-requires-clause-earlier : goal.blob_plan-requires-clause-earlier
 blob_plan-requires-clause-earlier g c =
-    let earlier = c.in_ok-earlier.earlier.items in
     subst (AreEarlierUses c.in_ok-uses.uses.blobs.kept.items) (sym c.deref-3.ensures.value)
-    (subst (λ (list : List BlobUse). AreEarlierUses list earlier) c.deref-2.ensures.value c.in_ok-earlier.ensures.earlier)
+    (subst (λ (list : List BlobUse). AreEarlierUses list c.in_ok-earlier.earlier.items) c.deref-2.ensures.value c.in_ok-earlier.ensures.earlier)
 
 pub blob_plan-requires-clause-uses : goal.blob_plan-requires-clause-uses
 blob_plan-requires-clause-uses g c = λ none. not_there c.holds_one.ensures.shown (λ some.

@@ -1,11 +1,5 @@
-use Rattle.std.proofs.Common.{◌≡◌, ◌↔◌, ◌^◌, ◌<◌, ℕ, List, Err, map, length, ap, subst, ◌∙◌}
-use Rattle.std.specs.Prelude.{IfOk}
-use Rattle.heap_pools.specs.declared.pool_error.PoolError.TheVariants.{Full}
-use Rattle.heap_pools.specs.BlobHeap.{blob_heap, blob_index}
-use Rattle.heap_pools.specs.Distinct.{distinct}
-use Rattle.heap_pools.specs.Uses.{bytes_of}
+use Rattle.cell_numbering.proofs.Prelude.{◌≡◌, ◌↔◌, ◌^◌, ◌<◌, ℕ, List, Err, map, length, ap, subst, ◌∙◌, IfOk, Full, blob_heap, blob_index, distinct, bytes_of, all_bytes}
 use Rattle.cell_numbering.specs.declared.blob_bytes.BlobBytes.{BlobBytes}
-use Rattle.cell_numbering.specs.BlobBytes.{all_bytes}
 use Rattle.cell_numbering.proofs.pools.written_plan.Goals as goal
 
 sorted : (c : goal.After-drop-bytes-2) → c.in_ok-sort_from.field-0 ≡ all_bytes c.args.written.bytes.items c.args.written.firsts.items

@@ -1,5 +1,4 @@
-use Rattle.std.proofs.Common.{◌≡◌, map, take}
-use Rattle.std.specs.Prelude.{slice_index}
+use Rattle.cell_numbering.proofs.Prelude.{◌≡◌, map, take, slice_index}
 use Rattle.cell_numbering.proofs.use_indexes.indexes_of_uses.Given as goal
 
 abbrev pub invariant-loop-value : goal.invariant-loop-value

@@ -1,11 +1,7 @@
 use Rattle.std.proofs.Common.{◌≡◌, ◌^◌, ◌<◌, ℕ, List, All, length, slice_index, sym, ap, subst, ◌∙◌, arith}
-use Rattle.heap_pools.specs.BlobHeap.{blob_heap}
-use Rattle.heap_pools.specs.Distinct.{distinct}
-use Rattle.heap_pools.specs.Uses.{bytes_of}
+use Rattle.cell_numbering.proofs.Prelude.{blob_heap, distinct, bytes_of, AreFirsts, AreWrittenAs, all_bytes, bytes_at}
 use Rattle.heap_pools.proofs.UseLemmas.{written_back}
-use Rattle.heaps.specs.HeapPlanView.{AreFirsts}
 use Rattle.cell_numbering.specs.declared.blob_bytes.BlobBytes.{BlobBytes}
-use Rattle.cell_numbering.specs.BlobBytes.{AreWrittenAs, all_bytes, bytes_at}
 use Rattle.cell_numbering.proofs.WrittenLemmas.{bytes_same, written_same}
 use Rattle.cell_numbering.proofs.written_blobs.merged.Goals as goal
 

@@ -1,14 +1,5 @@
 use Rattle.std.proofs.Common.{◌≡◌, ◌+◌, ◌<◌, ◌≤◌, ◌^◌, [], ℕ, List, All, Err, length, get_or, take, drop, slice_index, sym, ap, subst, ◌∙◌, rules, arith}
-use Rattle.std.proofs.Math.Nat.{lt_of_not-le}
-use Rattle.std.proofs.lemmas.List.{length-map, take-append-drop, take_all}
-use Rattle.heap_pools.specs.declared.pool_error.PoolError.TheVariants.{Full}
-use Rattle.heap_pools.specs.BlobHeap.{blob_heap}
-use Rattle.heap_pools.specs.Distinct.{distinct}
-use Rattle.heap_pools.specs.Ranking.{used_at}
-use Rattle.std.specs.List.{AllZip}
-use Rattle.cell_numbering.specs.declared.blob_use.BlobUse.{BlobUse}
-use Rattle.cell_numbering.specs.BlobBytes.{all_bytes, bytes_at, bytes_in}
-use Rattle.cell_numbering.specs.HeapUses.{IsUseOf}
+use Rattle.cell_numbering.proofs.Prelude.{lt_of_not-le, length-map, take-append-drop, take_all, Full, blob_heap, distinct, used_at, AllZip, BlobUse, all_bytes, bytes_at, bytes_in, IsUseOf}
 use Rattle.cell_numbering.proofs.EqualLemmas.{stable}
 use Rattle.cell_numbering.proofs.UseLemmas.{zip_at, zip_length}
 use Rattle.cell_numbering.proofs.WrittenLemmas.{earlier_blob, next_blob, short_blobs}
@@ -57,11 +48,10 @@ merged-requires-clause-short c = λ k d h. lt_of_not-le (λ long. c.requires.use
 
 pub returns-in_err-written-2-clause-full : goal.returns-in_err-written-2-clause-full
 returns-in_err-written-2-clause-full c = λ blobs all e.
-    let uses = c.args.uses.now in
     let i = c.loop-use_index.use_index in
     let after = all_bytes c.in_ok-written.written.bytes.items c.in_ok-written.written.firsts.items in
     let so_far : after ≡ take (i + 1) blobs = c.in_ok-written.ensures.same
-    ∙ next_blob uses blobs all i c.index-uses-use_index.result c.loop-use_index-test.true c.index-uses-use_index.is
+    ∙ next_blob c.args.uses.now blobs all i c.index-uses-use_index.result c.loop-use_index-test.true c.index-uses-use_index.is
     (all_bytes c.loop-use_index.written.bytes.items c.loop-use_index.written.firsts.items) (bytes_in c.in_ok-next.next) (c.loop-use_index.invariant.blobs blobs all) c.in_ok-next.ensures in
     let full : c.merged.result ≡ Err Full = search rules in
     let grows = c.heaps_grow.ensures.blobs (take (i + 1) blobs) (drop (i + 1) blobs) in
@@ -71,13 +61,11 @@ returns-in_err-written-2-clause-full c = λ blobs all e.
 
 pub loop-use_index-preserved : goal.loop-use_index-preserved
 loop-use_index-preserved c =
-    let uses = c.args.uses.now in
-    let i = c.loop-use_index.use_index in
     let after = all_bytes c.in_ok-written.written.bytes.items c.in_ok-written.written.firsts.items in
     record {
       written = c.in_ok-written-2.ensures.kept.written;
       blobs = λ blobs all. c.in_ok-written-2.ensures.kept.same ∙ c.in_ok-written.ensures.same
-          ∙ next_blob uses blobs all i c.index-uses-use_index.result c.loop-use_index-test.true c.index-uses-use_index.is
+          ∙ next_blob c.args.uses.now blobs all c.loop-use_index.use_index c.index-uses-use_index.result c.loop-use_index-test.true c.index-uses-use_index.is
           (all_bytes c.loop-use_index.written.bytes.items c.loop-use_index.written.firsts.items) (bytes_in c.in_ok-next.next) (c.loop-use_index.invariant.blobs blobs all) c.in_ok-next.ensures;
     }
 

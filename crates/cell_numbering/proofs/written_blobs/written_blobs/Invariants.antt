@@ -1,7 +1,4 @@
-use Rattle.std.proofs.Common.{◌≡◌, ℕ, List, take}
-use Rattle.std.specs.List.{AllZip}
-use Rattle.cell_numbering.specs.BlobBytes.{AreWritten, all_bytes}
-use Rattle.cell_numbering.specs.HeapUses.{IsUseOf}
+use Rattle.cell_numbering.proofs.Prelude.{◌≡◌, ℕ, List, take, AllZip, AreWritten, all_bytes, IsUseOf}
 use Rattle.cell_numbering.proofs.written_blobs.written_blobs.Given as goal
 
 abbrev pub invariant-loop-use_index : goal.invariant-loop-use_index

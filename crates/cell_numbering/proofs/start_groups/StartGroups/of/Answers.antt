@@ -1,5 +1,4 @@
-use Rattle.std.proofs.Common.{ℕ, List, [], take, subst, sym, refl}
-use Rattle.std.proofs.lemmas.List.{take_all, take_more}
+use Rattle.cell_numbering.proofs.Prelude.{ℕ, List, [], take, subst, sym, refl, take_all, take_more}
 use Rattle.cell_numbering.specs.StartGroups.{AreStartGroups}
 use Rattle.cell_numbering.proofs.StartLemmas.{no_starts}
 use Rattle.cell_numbering.proofs.start_groups.StartGroups.of.Goals as goal

@@ -1,14 +1,4 @@
-use Rattle.std.proofs.Common.{ℕ, List, [], ◌∷◌, ◌++◌, sym, ap, subst, ◌∙◌, arith}
-use Rattle.std.specs.Borrow.{Bor}
-use Rattle.std.proofs.lemmas.List.{map_push}
-use Rattle.heap_pools.specs.Uses.{bytes_of}
-use Rattle.metadata.specs.Lookups.{HasRow}
-use Rattle.metadata.specs.Metadata.{cell_in}
-use Rattle.metadata.specs.Valid.{kind_at}
-use Rattle.metadata_source.specs.SharedBlobs.{CellId}
-use Rattle.reading.specs.Shown.{Shows}
-use Rattle.reading.specs.declared.cell_ref.CellRef.{CellRef}
-use Rattle.root_writer.specs.Pools.{texts_of}
+use Rattle.cell_numbering.proofs.Prelude.{ℕ, List, [], ◌∷◌, ◌++◌, sym, ap, subst, ◌∙◌, arith, Bor, map_push, bytes_of, HasRow, cell_in, kind_at, CellId, Shows, CellRef, texts_of}
 use Rattle.cell_numbering.specs.declared.text_uses.TextUses.{TextUses}
 use Rattle.cell_numbering.specs.declared.text_uses.TextUses.TheVariants.{Indexed, Read}
 use Rattle.cell_numbering.specs.TextUses.{AreTextUses}
