@@ -1,21 +1,10 @@
 -- The row counts by table number, and the bits of the tables that are in order, table by table.
-use Rattle.std.proofs.Common.{◌≡◌, ℕ, ◌+◌, ◌<◌, ◌≤◌, Bool, true, false, List, length, get_or, drop, refl, sym, ap, ◌∙◌, arith, below_more, get_or-set_other, get_or-set_same}
+use Rattle.writer.proofs.Prelude.{◌≡◌, ℕ, ◌+◌, ◌<◌, ◌≤◌, Bool, true, false, List, length, get_or, drop, refl, sym, ap, ◌∙◌, arith, below_more, get_or-set_other, get_or-set_same, ◌↔◌, Option, Some, None, drop_all, sum_by-drop_more, TableId, Module, tables, table_number, table_index_of, key_of, bits_of, Metadata, is_by_key, table_keys, is_sorted, bit_if}
 use Rattle.std.proofs.Math.ListN.{set}
-use Rattle.std.specs.Prelude.{◌↔◌, Option, Some, None}
 use Rattle.std.specs.Option.{is_some}
-use Rattle.std.proofs.lemmas.List.{drop_all}
-use Rattle.std.proofs.lemmas.List.Sums.{sum_by-drop_more}
-use Rattle.table_schema.specs.declared.table.TableId.{TableId}
-use Rattle.table_schema.specs.declared.table.TableId.TheVariants.{Module}
-use Rattle.table_schema.specs.Tables.{tables, table_number, table_index_of}
-use Rattle.table_schema.specs.Columns.{key_of}
 use Rattle.table_schema.proofs.TableFacts.{table_index_at}
-use Rattle.schema.specs.LaidOut.{bits_of}
-use Rattle.metadata.specs.Metadata.{Metadata}
 use Rattle.metadata.specs.Valid.{IsValid}
 use Rattle.metadata.specs.KeyOrder.{IsKeyOrdered}
-use Rattle.root_writer.specs.TableStream.{is_by_key, table_keys, is_sorted}
-use Rattle.root_writer.specs.TableHeader.{bit_if}
 use Rattle.writer.proofs.StandLemmas.{TheyStand}
 
 -- ---- counts

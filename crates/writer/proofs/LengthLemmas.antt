@@ -1,14 +1,5 @@
 -- The length of a canonical root is the sum of the lengths of its headers and its streams.
-use Rattle.std.proofs.Common.{◌≡◌, ℕ, zero, suc, ◌+◌, ◌-◌, ◌%◌, ◌<◌, ◌≤◌, inl, inr, cond, ltb, List, [], ◌∷◌, ◌++◌, length, filter, replicate, refl, sym, ap, subst, ◌∙◌, length-append, arith}
-use Rattle.std.specs.Prelude.{sum_by, flat_map}
-use Rattle.std.proofs.lemmas.Bool.{cases_Bool, ltb-false}
-use Rattle.std.proofs.lemmas.List.Sums.{sum_by-cons}
-use Rattle.root.specs.declared.kind.Kind.{Kind}
-use Rattle.root.specs.declared.kind.Kind.TheVariants.{Tables, Strings, UserStrings, Guids, Blobs}
-use Rattle.heap_entries.specs.Padding.{zero_padded}
-use Rattle.metadata.specs.Metadata.{Metadata}
-use Rattle.root_writer.specs.Canonical.{canonical, stream}
-use Rattle.root_writer.specs.Heading.{held, heading, kinds_in_order}
+use Rattle.writer.proofs.Prelude.{◌≡◌, ℕ, zero, suc, ◌+◌, ◌-◌, ◌%◌, ◌<◌, ◌≤◌, inl, inr, cond, ltb, List, [], ◌∷◌, ◌++◌, length, filter, replicate, refl, sym, ap, subst, ◌∙◌, length-append, arith, sum_by, flat_map, cases_Bool, ltb-false, sum_by-cons, Kind, Tables, Strings, UserStrings, Guids, Blobs, zero_padded, Metadata, canonical, stream, held, heading, kinds_in_order}
 
 -- streams without bytes add nothing
 pub held_sum : (size : Kind → ℕ) (kinds : List Kind) → sum_by size (filter (λ kind. ltb 0 (size kind)) kinds) ≡ sum_by size kinds

@@ -1,7 +1,8 @@
+pub mod CountLemmas
 pub mod LengthLemmas
-pub mod StandLemmas
-pub mod TableLemmas
+pub mod PaddingLemmas
 pub mod PlanLemmas
 pub mod PlannedRoots
-pub mod CountLemmas
-pub mod PaddingLemmas
+pub mod Prelude
+pub mod StandLemmas
+pub mod TableLemmas

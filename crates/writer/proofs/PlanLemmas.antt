@@ -1,27 +1,9 @@
 -- A plan with the parts of a model's canonical root.
-use Rattle.std.proofs.Common.{◌≡◌, ℕ, ◌<◌, ◌≤◌, List, ◌++◌, length, map, get_or, ltb, refl, sym, ap, ◌∙◌, arith}
-use Rattle.std.specs.Prelude.{count_by}
-use Rattle.std.proofs.Math.Path.{fun_ext}
-use Rattle.table_schema.specs.declared.table.TableId.{TableId}
-use Rattle.table_schema.specs.Tables.{tables, table_number}
-use Rattle.schema.specs.Sizes.{sizes_by_number, header_size}
-use Rattle.root.specs.declared.kind.Kind.{Kind}
-use Rattle.root.specs.declared.kind.Kind.TheVariants.{Tables, Strings, UserStrings, Guids, Blobs}
-use Rattle.schema.specs.LaidOut.{tables_bytes, bits_of}
-use Rattle.metadata.specs.Metadata.{Metadata, count_in}
-use Rattle.root_writer.specs.Numbers.{numbers}
-use Rattle.root_writer.specs.TableStream.{is_sorted, sizes_of, header_bytes, table_stream}
-use Rattle.root_writer.specs.Canonical.{canonical, stream}
-use Rattle.root_writer.specs.Heading.{size_of}
+use Rattle.writer.proofs.Prelude.{◌≡◌, ℕ, ◌<◌, ◌≤◌, List, ◌++◌, length, map, get_or, ltb, refl, sym, ap, ◌∙◌, arith, count_by, fun_ext, TableId, tables, table_number, sizes_by_number, header_size, Kind, Tables, Strings, UserStrings, Guids, Blobs, tables_bytes, bits_of, Metadata, count_in, numbers, is_sorted, sizes_of, header_bytes, table_stream, canonical, stream, size_of, StreamSizes, zero_padded, text_heap, Numbered, ArePooled, AreHeapLens, IsTablesPlan}
 use Rattle.root_writer.specs.Written.{padding}
-use Rattle.root_writer.specs.declared.sizes.StreamSizes.{StreamSizes}
-use Rattle.heap_entries.specs.Padding.{zero_padded}
 use Rattle.heap_pools.specs.TextPlan.{TextPlan}
-use Rattle.heap_pools.specs.TextHeap.{text_heap}
-use Rattle.root_writer.specs.Numbered.{Numbered}
 use Rattle.writer.specs.declared.heap_lens.HeapLens.{HeapLens}
 use Rattle.writer.specs.declared.tables_plan.TablesPlan.{TablesPlan}
-use Rattle.writer.specs.Planned.{ArePooled, AreHeapLens, IsTablesPlan}
 use Rattle.writer.proofs.LengthLemmas.{padding_adds}
 
 -- the sizes of a model are those of its row counts by table number

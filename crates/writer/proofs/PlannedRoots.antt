@@ -1,10 +1,6 @@
 -- The offsets of a planned root fit four bytes.
-use Rattle.std.proofs.Common.{◌+◌, ◌^◌, ◌≤◌, length, ap, arith}
-use Rattle.std.specs.Prelude.{sum_by}
-use Rattle.metadata.specs.Metadata.{Metadata}
-use Rattle.root_writer.specs.Heading.{size_of, held, heading_size}
+use Rattle.writer.proofs.Prelude.{◌+◌, ◌^◌, ◌≤◌, length, ap, arith, sum_by, Metadata, size_of, held, heading_size, IsRootPlan}
 use Rattle.writer.specs.declared.root_plan.RootPlan.{RootPlan}
-use Rattle.writer.specs.Planned.{IsRootPlan}
 
 module _ (plan : RootPlan) (model : Metadata) (is : IsRootPlan model plan) where
   pub short : length plan.version.now ≤ 254

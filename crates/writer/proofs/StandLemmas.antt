@@ -1,8 +1,5 @@
 -- The order of the tables.
-use Rattle.std.proofs.Common.{◌≡◌, ◌<◌, length, get_or}
-use Rattle.table_schema.specs.declared.table.TableId.{TableId}
-use Rattle.table_schema.specs.declared.table.TableId.TheVariants.{Module}
-use Rattle.table_schema.specs.Tables.{tables, table_number, table_index_of}
+use Rattle.writer.proofs.Prelude.{◌≡◌, ◌<◌, length, get_or, TableId, Module, tables, table_number, table_index_of}
 
 -- the tables are listed by their indexes, in ascending order of their numbers
 pub record TheyStand : Type 0 where

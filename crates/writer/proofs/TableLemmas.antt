@@ -1,21 +1,7 @@
 -- The length of a table stream depends only on the row counts and HeapSizes.
-use Rattle.std.proofs.Common.{◌≡◌, ℕ, zero, suc, ◌+◌, ◌-◌, ◌*◌, ◌/◌, ◌<◌, ◌≤◌, inl, inr, Bool, cond, lit<, List, [], ◌∷◌, ◌++◌, length, get_or, take, drop, refl, ap, ◌∙◌, length-append, length-drop, arith}
-use Rattle.std.proofs.Math.Path.{fun_ext}
-use Rattle.std.specs.Prelude.{sum_by, count_by}
-use Rattle.std.proofs.lemmas.Bool.{cases_Bool}
-use Rattle.std.proofs.lemmas.List.{take_all, get_or-map, length-take-le}
-use Rattle.std.proofs.lemmas.List.Sums.{sum_by-cons, sum_by_more}
-use Rattle.table_schema.specs.declared.table.TableId.{TableId}
-use Rattle.table_schema.specs.declared.table.TableId.TheVariants.{Module, GenericParamConstraint}
+use Rattle.writer.proofs.Prelude.{◌≡◌, ℕ, zero, suc, ◌+◌, ◌-◌, ◌*◌, ◌/◌, ◌<◌, ◌≤◌, inl, inr, Bool, cond, lit<, List, [], ◌∷◌, ◌++◌, length, get_or, take, drop, refl, ap, ◌∙◌, length-append, length-drop, arith, fun_ext, sum_by, count_by, cases_Bool, take_all, get_or-map, length-take-le, sum_by-cons, sum_by_more, TableId, Module, GenericParamConstraint, tables, table_index_of, columns_of, Sizes, count_of, width_of, header_size, number_bytes, row_bytes, rows_bytes, tables_bytes, bits_of, counts_bytes, Metadata, count_in, numbers, has_rows, sizes_of, header_bytes}
 use Rattle.table_schema.specs.declared.column.Column.{Column}
-use Rattle.table_schema.specs.Tables.{tables, table_index_of}
-use Rattle.table_schema.specs.Columns.{columns_of}
-use Rattle.schema.specs.Sizes.{Sizes, count_of, width_of, header_size}
 use Rattle.schema.specs.Offsets.{columns_width, row_width, table_size, tables_size, row_start, tables_end}
-use Rattle.schema.specs.LaidOut.{number_bytes, row_bytes, rows_bytes, tables_bytes, bits_of, counts_bytes}
-use Rattle.metadata.specs.Metadata.{Metadata, count_in}
-use Rattle.root_writer.specs.Numbers.{numbers}
-use Rattle.root_writer.specs.TableStream.{has_rows, sizes_of, header_bytes}
 use Rattle.root_writer.specs.Flat.{cells_of, rows_in, table_in, tables_in}
 use Rattle.writer.proofs.StandLemmas.{TheyStand}
 

@@ -1,7 +1,4 @@
-use Rattle.std.proofs.Common.{◌≡◌, Result, Ok, Err, IfErr, length, sym, subst, ap, arith}
-use Rattle.std.specs.Prelude.{⊤, IsErrAnd}
-use Rattle.std.proofs.Math.Logic.{∥∥₁_map, ∥∥₁_elim}
-use Rattle.std.specs.Coded.{le_prop}
+use Rattle.writer.proofs.Prelude.{◌≡◌, Result, Ok, Err, IfErr, length, sym, subst, ap, arith, ⊤, IsErrAnd, ∥∥₁_map, ∥∥₁_elim, le_prop}
 use Rattle.writer.specs.Errors.{MatchError}
 use Rattle.writer.specs.declared.error.WriteError.{WriteError}
 use Rattle.writer.specs.declared.error.WriteError.TheVariants.{Memory}

@@ -1,5 +1,4 @@
-use Rattle.std.proofs.Common.{◌≡◌, ℕ, ◌≤◌, ◌<◌, List, Result, Ok, Err, IfOk, IfErr, length, refl, ap, arith}
-use Rattle.std.specs.Prelude.{◌↔◌, ⊤}
+use Rattle.writer.proofs.Prelude.{◌≡◌, ℕ, ◌≤◌, ◌<◌, List, Result, Ok, Err, IfOk, IfErr, length, refl, ap, arith, ◌↔◌, ⊤}
 use Rattle.writer.specs.Errors.{MatchError}
 use Rattle.writer.specs.declared.error.WriteError.{WriteError}
 use Rattle.writer.specs.declared.error.WriteError.TheVariants as error

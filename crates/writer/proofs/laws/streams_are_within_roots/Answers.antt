@@ -1,12 +1,7 @@
-use Rattle.std.proofs.Common.{◌^◌, ◌<◌, length, inl, inr, refl}
-use Rattle.root.specs.declared.kind.Kind.TheVariants.{Strings, Guids, Blobs}
-use Rattle.heap_pools.specs.TextHeap.{text_heap}
+use Rattle.writer.proofs.Prelude.{◌^◌, ◌<◌, length, inl, inr, refl, Strings, Guids, Blobs, text_heap, Metadata, canonical, IsTooLong}
 use Rattle.heap_pools.specs.BlobHeap.{blob_heap}
 use Rattle.heap_pools.specs.GuidHeap.{guid_heap}
-use Rattle.metadata.specs.Metadata.{Metadata}
 use Rattle.root_writer.specs.Pools.{pools_of}
-use Rattle.root_writer.specs.Canonical.{canonical}
-use Rattle.root_writer.specs.Numbered.{IsTooLong}
 use Rattle.writer.proofs.LengthLemmas.{ArePut, within, over}
 use Rattle.writer.proofs.laws.streams_are_within_roots.Goals as goal
 

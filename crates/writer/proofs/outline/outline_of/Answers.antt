@@ -1,6 +1,4 @@
-use Rattle.std.proofs.Common.{ap, sym, ◌∙◌, arith, length}
-use Rattle.std.proofs.Math.Logic.{∥∥₁_elim}
-use Rattle.std.specs.Coded.{le_prop}
+use Rattle.writer.proofs.Prelude.{ap, sym, ◌∙◌, arith, length, ∥∥₁_elim, le_prop}
 use Rattle.writer.proofs.PaddingLemmas.{padding_adds}
 use Rattle.writer.proofs.outline.outline_of.Goals as goal
 

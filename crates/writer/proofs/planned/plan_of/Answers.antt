@@ -1,5 +1,4 @@
-use Rattle.std.proofs.Common.{◌≡◌, ◌<◌, IfErr, length, subst}
-use Rattle.root_writer.specs.Canonical.{canonical}
+use Rattle.writer.proofs.Prelude.{◌≡◌, ◌<◌, IfErr, length, subst, canonical}
 use Rattle.writer.specs.declared.plan_error.PlanError.TheVariants.{TooLarge}
 use Rattle.writer.proofs.planned.plan_of.Goals as goal
 

@@ -1,10 +1,8 @@
-use Rattle.std.proofs.Common.{◌≡◌, Result, Ok, Err, refl, ap, ⊎_elim}
-use Rattle.std.specs.Prelude.{IsErrAnd}
+use Rattle.writer.proofs.Prelude.{◌≡◌, Result, Ok, Err, refl, ap, ⊎_elim, IsErrAnd, plan_error}
 use Rattle.heap_pools.specs.declared.pool_error.PoolError.{PoolError}
 use Rattle.heap_pools.specs.declared.pool_error.PoolError.TheVariants.{Memory, Full}
 use Rattle.writer.specs.declared.plan_error.PlanError.{PlanError}
 use Rattle.writer.specs.declared.plan_error.PlanError.TheVariants.{TooLarge}
-use Rattle.writer.specs.Planned.{plan_error}
 use Rattle.writer.proofs.planned.pools.Goals as goal
 
 -- `TooLarge` is returned only if a pool is full

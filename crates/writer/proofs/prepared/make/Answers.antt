@@ -1,18 +1,13 @@
-use Rattle.std.proofs.Common.{◌++◌, length, ap, ◌∙◌, arith}
-use Rattle.std.proofs.Math.Logic.{∥∥₁_map, ∥∥₁_elim}
-use Rattle.std.specs.Coded.{le_prop}
-use Rattle.metadata.specs.Metadata.{Metadata}
+use Rattle.writer.proofs.Prelude.{◌++◌, length, ap, ◌∙◌, arith, ∥∥₁_map, ∥∥₁_elim, le_prop, Metadata, IsRootPlan}
 use Rattle.root_writer.specs.Root.{root_bytes}
-use Rattle.writer.specs.Planned.{IsRootPlan}
 use Rattle.writer.proofs.prepared.make.Goals as goal
 
 pub put_root-requires-clause-room : goal.put_root-requires-clause-room
 put_root-requires-clause-room c =
-    let parts = c.parts_of.result in
     ∥∥₁_elim c.requires le_prop (λ some.
     omega (
       arith,
-      ap length (c.parts_are_canonical.ensures some.0 parts (c.parts_of.ensures.parts some.0 some.2)),
+      ap length (c.parts_are_canonical.ensures some.0 c.parts_of.result (c.parts_of.ensures.parts some.0 some.2)),
       some.2.len,
       c.in_ok-writer.ensures.room,
     ))

@@ -1,9 +1,5 @@
-use Rattle.std.proofs.Common.{length, ap, ◌∙◌, arith}
-use Rattle.std.proofs.Math.Logic.{∥∥₁_elim}
-use Rattle.std.specs.Coded.{le_prop}
+use Rattle.writer.proofs.Prelude.{length, ap, ◌∙◌, arith, ∥∥₁_elim, le_prop, text_heap, planned_tables}
 use native.Mathlib.Nat.{ℕ_set}
-use Rattle.heap_pools.specs.TextHeap.{text_heap}
-use Rattle.writer.specs.Planned.{planned_tables}
 use Rattle.writer.proofs.PlannedRoots.{short, low}
 use Rattle.writer.proofs.prepared.parts_of.Goals as goal
 

@@ -1,12 +1,5 @@
-use Rattle.std.proofs.Common.{◌≡◌, length, refl, sym, ap, ◌∙◌, arith}
-use Rattle.root.specs.declared.kind.Kind.{Kind}
-use Rattle.root.specs.declared.kind.Kind.TheVariants.{Tables}
-use Rattle.metadata.specs.Metadata.{Metadata}
-use Rattle.root_writer.specs.Canonical.{stream}
-use Rattle.root_writer.specs.Heading.{size_of}
-use Rattle.root_writer.specs.declared.sizes.StreamSizes.{StreamSizes}
+use Rattle.writer.proofs.Prelude.{◌≡◌, length, refl, sym, ap, ◌∙◌, arith, Kind, Tables, Metadata, stream, size_of, StreamSizes, AreHeapLens, IsTablesPlan}
 use Rattle.writer.specs.Outlined.{Describes}
-use Rattle.writer.specs.Planned.{AreHeapLens, IsTablesPlan}
 use Rattle.writer.proofs.PlanLemmas.{sizes_are, tables_over}
 use Rattle.writer.proofs.root_plan.lens_of.Goals as goal
 use Rattle.writer.proofs.root_plan.lens_of.Goals.{After-root_len-len}

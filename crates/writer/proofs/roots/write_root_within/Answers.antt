@@ -1,6 +1,5 @@
-use Rattle.std.proofs.Common.{◌≡◌, ℕ, ◌^◌, ◌≤◌, List, length, ap, sym, subst, ◌∙◌, arith}
+use Rattle.writer.proofs.Prelude.{◌≡◌, ℕ, ◌^◌, ◌≤◌, List, length, ap, sym, subst, ◌∙◌, arith, canonical}
 use Rattle.metadata.specs.Model.{IsModel}
-use Rattle.root_writer.specs.Canonical.{canonical}
 use Rattle.writer.proofs.roots.write_root_within.Goals as goal
 
 pub returns-clause-unique : goal.returns-clause-unique

@@ -1,16 +1,12 @@
-use Rattle.std.proofs.Common.{◌≡◌, ℕ, List, ap, sym, ◌∙◌, arith, length}
-use Rattle.root.specs.declared.kind.Kind.{Kind}
-use Rattle.root.specs.declared.kind.Kind.TheVariants.{Tables, Strings, UserStrings, Guids, Blobs}
-use Rattle.root_writer.specs.Heading.{size_of, held, heading, heading_size}
+use Rattle.writer.proofs.Prelude.{◌≡◌, ℕ, List, ap, sym, ◌∙◌, arith, length, Kind, Tables, Strings, UserStrings, Guids, Blobs, size_of, held, heading, heading_size}
 use Rattle.writer.proofs.LengthLemmas.{five_sum, root_long}
 use Rattle.writer.proofs.stream_lens.root_len.Goals as goal
 
 pub returns-clause-parts : goal.returns-clause-parts
 returns-clause-parts c =
-    let version = c.args.version.now in
     let size = size_of c.args.sizes.now in
     let kinds : c.as_slice.result.now ≡ held size = c.as_slice.ensures.kinds ∙ c.new-kinds.ensures in
-    let prefix = c.heading_len-len.ensures.offset size ∙ ap (heading_size version size) kinds in
+    let prefix = c.heading_len-len.ensures.offset size ∙ ap (heading_size c.args.version.now size) kinds in
     omega (arith, prefix, five_sum size)
 
 pub returns-clause-len : goal.returns-clause-len

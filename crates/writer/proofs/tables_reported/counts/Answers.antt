@@ -1,7 +1,4 @@
-use Rattle.std.proofs.Common.{◌<◌, arith, ◌∙◌, ap, get_or, List, length, length-set}
-use Rattle.table_schema.specs.declared.table.TableId.{TableId}
-use Rattle.table_schema.specs.declared.table.TableId.TheVariants.{Module}
-use Rattle.table_schema.specs.Tables.{table_number}
+use Rattle.writer.proofs.Prelude.{◌<◌, arith, ◌∙◌, ap, get_or, List, length, length-set, TableId, Module, table_number}
 use Rattle.writer.proofs.CountLemmas.{table_kept, tables_kept}
 use Rattle.writer.proofs.StandLemmas.{TheyStand}
 use Rattle.writer.proofs.tables_reported.counts.Goals as goal

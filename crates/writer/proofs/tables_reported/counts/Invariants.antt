@@ -1,6 +1,4 @@
-use Rattle.std.proofs.Common.{◌≡◌, ℕ, ◌<◌, length, get_or}
-use Rattle.table_schema.specs.declared.table.TableId.TheVariants.{Module}
-use Rattle.table_schema.specs.Tables.{table_number, tables}
+use Rattle.writer.proofs.Prelude.{◌≡◌, ℕ, ◌<◌, length, get_or, Module, table_number, tables}
 use Rattle.writer.proofs.tables_reported.counts.Given as goal
 
 abbrev pub invariant-loop-table : goal.invariant-loop-table

@@ -1,5 +1,4 @@
-use Rattle.std.proofs.Common.{sym, subst, ◌∙◌}
-use Rattle.std.specs.Prelude.{IsSome}
+use Rattle.writer.proofs.Prelude.{sym, subst, ◌∙◌, IsSome}
 use Rattle.writer.proofs.CountLemmas.{unkeyed, keyed}
 use Rattle.writer.proofs.tables_reported.is_sorted.Goals as goal
 

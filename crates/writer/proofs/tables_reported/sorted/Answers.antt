@@ -1,9 +1,4 @@
-use Rattle.std.proofs.Common.{◌+◌, ◌^◌, ◌≤◌, ap, ◌∙◌, get_or, arith}
-use Rattle.std.proofs.Math.Logic.{∥∥₁_elim}
-use Rattle.std.specs.Coded.{le_prop}
-use Rattle.table_schema.specs.declared.table.TableId.TheVariants.{Module}
-use Rattle.root_writer.specs.TableStream.{is_sorted}
-use Rattle.root_writer.specs.TableHeader.{bit_if}
+use Rattle.writer.proofs.Prelude.{◌+◌, ◌^◌, ◌≤◌, ap, ◌∙◌, get_or, arith, ∥∥₁_elim, le_prop, Module, is_sorted, bit_if}
 use Rattle.writer.proofs.CountLemmas.{more_bits, all_bits}
 use Rattle.writer.proofs.tables_reported.sorted.Goals as goal
 

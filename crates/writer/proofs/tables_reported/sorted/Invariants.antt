@@ -1,8 +1,4 @@
-use Rattle.std.proofs.Common.{◌≡◌, ◌+◌, drop}
-use Rattle.table_schema.specs.Tables.{tables}
-use Rattle.schema.specs.LaidOut.{bits_of}
-use Rattle.metadata.specs.Metadata.{Metadata}
-use Rattle.root_writer.specs.TableStream.{is_sorted}
+use Rattle.writer.proofs.Prelude.{◌≡◌, ◌+◌, drop, tables, bits_of, Metadata, is_sorted}
 use Rattle.writer.proofs.tables_reported.sorted.Given as goal
 
 -- together with the bits of the tables that are left this is the whole

@@ -1,10 +1,5 @@
-use Rattle.std.proofs.Common.{ℕ, ◌+◌, List, length, ap, ◌∙◌, arith}
-use Rattle.std.specs.Prelude.{sum_by}
-use Rattle.root.specs.declared.kind.Kind.{Kind}
-use Rattle.metadata.specs.Metadata.{Metadata}
-use Rattle.root_writer.specs.Heading.{size_of, held, heading_size}
+use Rattle.writer.proofs.Prelude.{ℕ, ◌+◌, List, length, ap, ◌∙◌, arith, sum_by, Kind, Metadata, size_of, held, heading_size, ArePooled, AreHeapLens, IsTablesPlan, planned_tables}
 use Rattle.writer.specs.Outlined.{Describes}
-use Rattle.writer.specs.Planned.{ArePooled, AreHeapLens, IsTablesPlan, planned_tables}
 use Rattle.writer.proofs.PlanLemmas.{lens_are}
 use Rattle.writer.proofs.root_plan.RootPlan.of.Goals as goal
 use Rattle.writer.proofs.root_plan.RootPlan.of.Goals.{After-lens_of}
@@ -22,7 +17,6 @@ pub returns-clause-plan : goal.returns-clause-plan
 returns-clause-plan c model described pooled =
     let at = (goal.at.returns-clause-plan c).After-lens_of in
     let lens = heaps_are at model pooled in
-    let plan = c.of-tables.result in
     let is = tables_are at model described pooled in
     let size : Kind → ℕ = size_of c.in-Some.sizes in
     let numbered = pooled.numbering.numbers in
@@ -32,7 +26,7 @@ returns-clause-plan c model described pooled =
       texts = pooled.texts;
       numbering = pooled.numbering;
       many = ap length numbered ∙ c.of-tables.ensures.many model described;
-      table_stream = ap (planned_tables plan) numbered ∙ c.of-tables.ensures.stream model described (c.heap_sizes.ensures.value model lens);
+      table_stream = ap (planned_tables c.of-tables.result) numbered ∙ c.of-tables.ensures.stream model described (c.heap_sizes.ensures.value model lens);
       tables = is;
       sizes = c.in-Some.ensures.sizes model described lens is;
       len = c.in-Some.ensures.len model described lens is;

@@ -1,15 +1,5 @@
-use Rattle.std.proofs.Common.{◌≡◌, ℕ, List, get_or, sym, ap, ◌∙◌}
-use Rattle.table_schema.specs.declared.table.TableId.{TableId}
-use Rattle.table_schema.specs.Tables.{tables, table_index_of}
-use Rattle.schema.specs.Sizes.{Sizes, count_of}
-use Rattle.schema.specs.LaidOut.{tables_bytes}
-use Rattle.metadata.specs.Metadata.{Metadata, count_in}
-use Rattle.root_writer.specs.Numbers.{numbers}
-use Rattle.root_writer.specs.TableStream.{sizes_of}
-use Rattle.root_writer.specs.TableHeader.{table_header}
-use Rattle.root_writer.specs.Numbered.{flat}
+use Rattle.writer.proofs.Prelude.{◌≡◌, ℕ, List, get_or, sym, ap, ◌∙◌, TableId, tables, table_index_of, Sizes, count_of, tables_bytes, Metadata, count_in, numbers, sizes_of, table_header, flat, IsTablesPlan}
 use Rattle.writer.specs.Outlined.{Describes}
-use Rattle.writer.specs.Planned.{IsTablesPlan}
 use Rattle.writer.proofs.StandLemmas.{TheyStand}
 use Rattle.writer.proofs.TableLemmas.{AreAlike, AreFound, count_is, stream_long, last_end, end_alike}
 use Rattle.writer.proofs.PlanLemmas.{counts_are, body_is, sorted_is, stream_is}
@@ -56,9 +46,8 @@ returns-clause-stream c model described heap_sizes =
     let at = (goal.at.returns-clause-stream c).After-row_start-len in
     let is = plan_is at model described heap_sizes in
     let layout : Sizes = c.of-layout.result in
-    let sorted = c.args.outline.now.sorted in
     let alike = λ (table : TableId). ap (λ (counts : List ℕ). get_or counts (table_index_of table) 0) is.counts in
-    let header = ap (λ n. table_header n sorted layout) is.heap_sizes ∙ ap (λ n. table_header (sizes_of model).heap_sizes n layout) is.sorted
+    let header = ap (λ n. table_header n c.args.outline.now.sorted layout) is.heap_sizes ∙ ap (λ n. table_header (sizes_of model).heap_sizes n layout) is.sorted
     ∙ sym (c.table_headers_are_put.ensures model layout is.counts) in
     let rows = ap (tables_bytes layout tables) (c.numbers_are_put.ensures.back model layout (each at model described))
     ∙ c.widths_follow_from_counts.ensures.tables layout (sizes_of model) (record { counts = alike; heap_sizes = is.widths }) tables (numbers model) in
