@@ -1,8 +1,8 @@
 -- Texts one after another, and what a writer that escapes took.
 use Rattle.std.proofs.Common.{◌≡◌, ◌∙◌, ℕ, zero, suc, ◌+◌, ◌-◌, ◌<◌, ◌≤◌, Bool, cond, eqb, ltb, List, [], ◌∷◌, ◌++◌, length, get_or, drop, take, refl, ap, sym, subst, append_assoc, append-nil, length-append, arith, ⊎_elim}
 use Rattle.std.proofs.lemmas.Bool.{cases_lt, eq-eqb, le-ltb, lt-ltb, ne_eqb}
-use Rattle.std.proofs.lemmas.List.{flat_map_more}
-use Rattle.std.proofs.Math.Seq.{drop-append_seam, take-suc}
+use Rattle.std.proofs.lemmas.List.{flat_map_more, take_more}
+use Rattle.std.proofs.Math.Seq.{drop-append_seam}
 use Rattle.std.specs.List.{flat_map, FoldsTo, concat}
 use Rattle.std.specs.Fmt.{WritesInCalls}
 use Rattle.cli_declarations.specs.Parts.{cut_mark, cut_text, text_limit}
@@ -72,9 +72,6 @@ module _ {W : Type 0} (bytes : W → List ℕ) (left begun : W → ℕ) where
       ∙ ap (λ (b : List ℕ). b ++ cond (eqb (left after) 0) (cut_mark first) []) whole
       ∙ append_assoc (bytes before) first (cond (eqb (left after) 0) (cut_mark first) [])
       ∙ ap (λ (t : Bool). bytes before ++ (first ++ cond t (cut_mark first) [])) (longer (left after) text gone)
-
-pub take_more : {X : Type 0} (xs : List X) (i : ℕ) (d : X) → i < length xs → take (i + 1) xs ≡ take i xs ++ get_or xs i d ∷ []
-take_more xs i d lt = let e : i + 1 ≡ suc i = omega arith in ap (λ n. take n xs) e ∙ take-suc xs i d lt
 
 -- one more item of a list
 module _ {X : Type 0} (is_text : X → List ℕ → Type 0) where

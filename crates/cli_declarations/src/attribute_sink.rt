@@ -3,11 +3,10 @@ ghost use Rattle.std.specs.Prelude.{◌≡◌, ◌≤◌, ◌++◌, Some, string
 ghost use Rattle.table_schema.specs.declared.table.TableId.TheVariants.{CustomAttribute};
 ghost use Rattle.attribute_values.specs.Items.{items_of};
 ghost use Rattle.attribute_values.specs.Values.{AttributeValue as TheValue};
-ghost use Rattle.attribute_text.specs.Texts.{value_text};
 ghost use Rattle.metadata.specs.Metadata.{Metadata};
 ghost use Rattle.metadata.specs.Model.{IsModel};
 ghost use Rattle.opening.specs.Views.{row_count};
-ghost use Rattle.cli_declarations.specs.Parts.{IsAttributeAt, IsAttributeText, IsValueText, bytes_value, cut_text, decoded_value, params_for};
+ghost use Rattle.cli_declarations.specs.Parts.{IsAttributeAt, IsAttributeText, IsValueText, bytes_value, decoded_value, params_for};
 ghost use Rattle.cli_declarations.specs.Texts.{Gains};
 
 use crate::cell_values::bytes;
@@ -35,25 +34,15 @@ fn push_bytes_value(blob: &[u8], declared: &mut Declared) -> Result<(), AllocErr
     push_plain(")", declared)
 }
 
-/// Appends the text of a value, up to the limit.
-fn push_items(items: Items<'_, '_>, declared: &mut Declared) -> Result<(), AllocError>
-    ensures { (v : TheValue) → items.entry ≡ items_of v
-        → OnOk result (string_bytes declared.new.text ≡ string_bytes declared.old.text ++ cut_text (value_text v)) }
-{
-    begin_text(declared);
-    match write_value(declared, items, &TextLimit) {
-        Ok(()) => end_text(declared),
-        Err(_) => Err(AllocError),
-    }
-}
-
-/// Appends a value by its items.
+/// Appends a value by its items, up to the limit.
 fn push_decoded(items: Items<'_, '_>, declared: &mut Declared) -> Result<(), AllocError>
     ensures { (v : TheValue) → items.entry ≡ items_of v
         → OnOk result (string_bytes declared.new.text ≡ string_bytes declared.old.text ++ decoded_value v) }
 {
     push_plain(" = {", declared)?;
-    push_items(items, declared)?;
+    begin_text(declared);
+    let written = write_value(declared, items, &TextLimit);
+    end_text(written, declared)?;
     push_plain(" }", declared)
 }
 

@@ -1,18 +1,25 @@
 //! The declaration of a row.
-ghost use Rattle.std.specs.Prelude.{◌≤◌, string_bytes, OnOk};
+ghost use Rattle.std.specs.Prelude.{◌≡◌, ◌≤◌, ◌∷◌, ◌++◌, ℕ, List, string_bytes, OnOk};
 ghost use Rattle.metadata.specs.Metadata.{Metadata};
 ghost use Rattle.metadata.specs.Model.{IsModel};
 ghost use Rattle.opening.specs.Views.{row_count};
-ghost use Rattle.cli_declarations.specs.Layouts.{IsDeclared};
+ghost use Rattle.cli_declarations.specs.Layouts.{IsDeclared, is_declared_in};
 ghost use Rattle.cli_declarations.specs.Parts.{IsNameText};
 ghost use Rattle.cli_declarations.specs.Texts.{Gains};
 
-use crate::declared::Declared;
+use crate::declared::{Declared, push_plain};
 use crate::layouts::pieces_of;
 use crate::pieces::{push_name, push_piece};
 use navigation::Neighbours;
-use opening::Token;
+use opening::{TableId, Token};
 use std::alloc::AllocError;
+
+/// Whether the rows of a table have declarations.
+pub fn is_declared_in(table: TableId) -> bool
+    ensures { result ≡ is_declared_in table }
+{
+    !pieces_of(table).is_empty()
+}
 
 /// Appends the declaration of a row: the pieces of its line.
 fn push_pieces(
@@ -63,4 +70,24 @@ pub fn name_row(
 {
     declared.clear();
     push_name(source, token, declared)
+}
+
+/// Makes a text the name of a row, a zero byte, and its declaration, by which rows can be put in order.
+///
+/// # Errors
+///
+/// Out of memory. The text is unspecified then.
+pub fn name_and_declare(
+    source: &Neighbours<'_, '_>,
+    token: Token,
+    declared: &mut Declared,
+) -> Result<(), AllocError>
+    requires first { 1 ≤ token.row }
+    requires last { token.row ≤ row_count source.now.view.now token.table }
+    ensures { (model : Metadata) → IsModel source.now.view.now model → OnOk result ((name text : List ℕ) × IsNameText model token name × IsDeclared model token text
+        × (string_bytes declared.new.text ≡ name ++ 0 ∷ text)) }
+{
+    name_row(source, token, declared)?;
+    push_plain("\0", declared)?;
+    push_pieces(source, token, declared)
 }

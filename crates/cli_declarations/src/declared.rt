@@ -1,8 +1,9 @@
 //! The text of a declaration.
-ghost use Rattle.std.specs.Prelude.{◌≡◌, ◌==◌, ◌+◌, ◌++◌, if◌then◌else◌, [], count_by, drop, length, take, string_bytes, OnOk};
+ghost use Rattle.std.specs.Prelude.{◌≡◌, ◌==◌, ◌++◌, count_by, drop, take, string_bytes, IsOk, OnOk};
 ghost use Rattle.full_names.specs.declared.quoted.NameKind.TheVariants.{Dotted};
 ghost use Rattle.full_names.specs.Quoted.{name_text, quoted_bytes};
-ghost use Rattle.cli_declarations.specs.Parts.{cut_mark, cut_text, is_open, text_limit};
+ghost use Rattle.cli_declarations.specs.Parts.{cut_mark, cut_text, is_open};
+ghost use Rattle.cli_declarations.specs.Texts.{Begins, Ends};
 
 use full_names::{Limit, NameKind, Scopes, write_name, write_quoted};
 use std::alloc::{AllocError, Global};
@@ -96,9 +97,7 @@ impl Limit<Declared> for TextLimit {
 
 /// Begins a text of the file.
 pub(crate) fn begin_text(declared: &mut Declared)
-    ensures same { string_bytes declared.new.text ≡ string_bytes declared.old.text }
-    ensures left { declared.new.left ≡ text_limit + 1 }
-    ensures begun { declared.new.begun ≡ length (string_bytes declared.old.text) }
+    ensures { Begins declared.old declared.new }
 {
     declared.left = LIMIT + 1;
     declared.begun = declared.text.len();
@@ -122,10 +121,7 @@ fn is_open(text: &[u8]) -> bool
 fn cut_mark(text: &[u8]) -> &'static str
     ensures { result.now ≡ cut_mark text.now }
 {
-    if is_open(text) {
-        return "'..";
-    }
-    ".."
+    if is_open(text) { "'.." } else { ".." }
 }
 
 /// The bytes of a text from an offset on.
@@ -136,11 +132,16 @@ fn bytes_from(text: &str, begun: usize) -> &[u8]
     bytes.split_at(begun.min(bytes.len())).1
 }
 
-/// Ends a text of the file: appends a mark if it was cut.
-pub(crate) fn end_text(declared: &mut Declared) -> Result<(), AllocError>
-    ensures { OnOk result (string_bytes declared.new.text ≡ string_bytes declared.old.text
-        ++ (if declared.old.left == 0 then cut_mark (drop declared.old.begun (string_bytes declared.old.text)) else [])) }
+/// Ends a text of the file that was written: appends a mark if it was cut.
+pub(crate) fn end_text<E: Drop>(
+    written: Result<(), E>,
+    declared: &mut Declared,
+) -> Result<(), AllocError>
+    ensures { OnOk result (IsOk written × Ends declared.old declared.new) }
 {
+    if written.is_err() {
+        return Err(AllocError);
+    }
     if declared.left == 0 {
         let mark = cut_mark(bytes_from(declared.text.as_str(), declared.begun));
         return push_plain(mark, declared);
@@ -153,10 +154,8 @@ pub(crate) fn push_text(name: &str, declared: &mut Declared) -> Result<(), Alloc
     ensures { OnOk result (string_bytes declared.new.text ≡ string_bytes declared.old.text ++ cut_text (name_text Dotted name.now)) }
 {
     begin_text(declared);
-    match write_name(declared, NameKind::Dotted, name, &TextLimit) {
-        Ok(()) => end_text(declared),
-        Err(_) => Err(AllocError),
-    }
+    let written = write_name(declared, NameKind::Dotted, name, &TextLimit);
+    end_text(written, declared)
 }
 
 /// Appends a text of the file as it is between quotes.
@@ -164,10 +163,8 @@ pub(crate) fn push_string(text: &str, declared: &mut Declared) -> Result<(), All
     ensures { OnOk result (string_bytes declared.new.text ≡ string_bytes declared.old.text ++ cut_text (quoted_bytes text.now)) }
 {
     begin_text(declared);
-    match write_quoted(declared, text, &TextLimit) {
-        Ok(()) => end_text(declared),
-        Err(_) => Err(AllocError),
-    }
+    let written = write_quoted(declared, text, &TextLimit);
+    end_text(written, declared)
 }
 
 /// Appends a text of the program, as it is.

@@ -1,59 +1,19 @@
 //! Appends the lists in the head of a type: its generic parameters (II.10.1.7), and the interfaces that it implements (II.12.2).
-ghost use Rattle.std.specs.Prelude.{◌≤◌, All, map, string_bytes, OnOk};
+ghost use Rattle.std.specs.Prelude.{◌≤◌, string_bytes, OnOk};
 ghost use Rattle.metadata.specs.Metadata.{Metadata};
 ghost use Rattle.metadata.specs.Model.{IsModel};
-ghost use Rattle.navigation.specs.Keyed.{row_of};
-ghost use Rattle.navigation.specs.Linked.{linked, table_of};
+ghost use Rattle.navigation.specs.Linked.{linked};
 ghost use Rattle.opening.specs.Views.{row_count};
-ghost use Rattle.cli_declarations.specs.Parts.{IsCutList, IsHeadList};
+ghost use Rattle.cli_declarations.specs.Parts.{IsHeadList};
 ghost use Rattle.cli_declarations.specs.Texts.{Gains};
 
 use crate::declared::{Declared, TextLimit, begin_text, end_text, push_plain};
-use navigation::{KeyedRow, Link, Neighbours};
+use navigation::{Link, Neighbours};
 use opening::Token;
 use std::alloc::AllocError;
 use type_heads::write_items;
 
-/// Appends what rows are in the head of the row that they refer to, up to the limit.
-fn push_items(
-    source: &Neighbours<'_, '_>,
-    link: Link,
-    rows: &[KeyedRow],
-    declared: &mut Declared,
-) -> Result<(), AllocError>
-    requires { All (λ found. (1 ≤ found.row) × (found.row ≤ row_count source.now.view.now (table_of link))) rows.now }
-    ensures { (model : Metadata) → IsModel source.now.view.now model
-        → OnOk result (Gains (IsCutList model link (map row_of rows.now)) (string_bytes declared.old.text) (string_bytes declared.new.text)) }
-{
-    begin_text(declared);
-    match write_items(declared.alloc, source, link, rows, &TextLimit, declared) {
-        Ok(()) => end_text(declared),
-        Err(_) => Err(AllocError),
-    }
-}
-
-/// Appends the same of some rows between two words; nothing if there are none.
-fn push_between(
-    source: &Neighbours<'_, '_>,
-    link: Link,
-    before: &str,
-    after: &str,
-    rows: &[KeyedRow],
-    declared: &mut Declared,
-) -> Result<(), AllocError>
-    requires { All (λ found. (1 ≤ found.row) × (found.row ≤ row_count source.now.view.now (table_of link))) rows.now }
-    ensures { (model : Metadata) → IsModel source.now.view.now model
-        → OnOk result (Gains (IsHeadList model link before.now after.now (map row_of rows.now)) (string_bytes declared.old.text) (string_bytes declared.new.text)) }
-{
-    if rows.is_empty() {
-        return Ok(());
-    }
-    push_plain(before, declared)?;
-    push_items(source, link, rows, declared)?;
-    push_plain(after, declared)
-}
-
-/// Appends what the rows that refer to a row are in its head, between two words; nothing if there are none.
+/// Appends what the rows that refer to a row are in its head, up to the limit, between two words; nothing if there are none.
 pub(crate) fn push_listed(
     source: &Neighbours<'_, '_>,
     link: Link,
@@ -69,5 +29,12 @@ pub(crate) fn push_listed(
     // The table has at most 0xFFFFFF rows.
     let _count = source.view.count(token.table);
     let rows = source.linked(link, link.number_to(token));
-    push_between(source, link, before, after, rows, declared)
+    if rows.is_empty() {
+        return Ok(());
+    }
+    push_plain(before, declared)?;
+    begin_text(declared);
+    let written = write_items(declared.alloc, source, link, rows, &TextLimit, declared);
+    end_text(written, declared)?;
+    push_plain(after, declared)
 }

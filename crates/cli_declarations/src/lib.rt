@@ -1,6 +1,6 @@
 //! The declaration of a row of an assembly, in the notation of ILAsm (ECMA-335 II.5 to II.22).
 //!
-//! [`declare`] makes a text the declaration of a row, and [`name_row`] its name. `specs/Layouts.antt` says what the
+//! [`declare`] makes a text the declaration of a row, [`name_row`] its name, and [`name_and_declare`] both. `specs/Layouts.antt` says what the
 //! declaration of a row is, as a list of parts, and `specs/Parts.antt` what the text of a part is. [`number`], [`text`],
 //! [`bytes`] and [`guid`] are the values of cells.
 //!
@@ -23,5 +23,5 @@ mod pieces;
 mod signature_sink;
 
 pub use cell_values::{bytes, guid, number, text};
-pub use declaration::{declare, name_row};
+pub use declaration::{declare, is_declared_in, name_and_declare, name_row};
 pub use declared::Declared;

@@ -15,10 +15,8 @@ fn push_descriptor(of: Descriptor<'_>, declared: &mut Declared) -> Result<(), Al
     ensures { OnOk result (string_bytes declared.new.text ≡ string_bytes declared.old.text ++ cut_text (descriptor_text (view of.entry))) }
 {
     begin_text(declared);
-    match write_descriptor(declared, of, &TextLimit) {
-        Ok(()) => end_text(declared),
-        Err(_) => Err(AllocError),
-    }
+    let written = write_descriptor(declared, of, &TextLimit);
+    end_text(written, declared)
 }
 
 /// Appends the descriptor that a blob is, or its bytes if it is none.

@@ -114,10 +114,8 @@ pub(crate) fn push_name(
         → OnOk result (Gains (IsNameText model token) (string_bytes declared.old.text) (string_bytes declared.new.text)) }
 {
     begin_text(declared);
-    match write_row_name(declared.alloc, source, token, &TextLimit, declared) {
-        Ok(()) => end_text(declared),
-        Err(_) => Err(AllocError),
-    }
+    let written = write_row_name(declared.alloc, source, token, &TextLimit, declared);
+    end_text(written, declared)
 }
 
 /// Appends a word and the name of a row, unless the reference is null.
@@ -164,10 +162,8 @@ fn push_member(
         → OnOk result (Gains (IsReferred model true token) (string_bytes declared.old.text) (string_bytes declared.new.text)) }
 {
     begin_text(declared);
-    match write_reference(declared.alloc, source, token, &TextLimit, declared) {
-        Ok(()) => end_text(declared),
-        Err(_) => Err(AllocError),
-    }
+    let written = write_reference(declared.alloc, source, token, &TextLimit, declared);
+    end_text(written, declared)
 }
 
 /// Appends the reference to a parameter: its position, and the reference to its method.

@@ -3,14 +3,12 @@
 ghost use Rattle.std.specs.Prelude.{◌≤◌, ◌<◌, string_bytes, OnOk};
 ghost use Rattle.table_schema.specs.declared.table.TableId.TheVariants.{MethodDef, Property};
 ghost use Rattle.table_schema.specs.CellColumns.{cell_count};
-ghost use Rattle.sig_grammar.specs.Syntax.{Body};
-ghost use Rattle.sig_grammar.specs.Encodes.{Encodes};
 ghost use Rattle.metadata.specs.Cell.{Cell};
 ghost use Rattle.metadata.specs.Metadata.{Metadata, cell_in};
 ghost use Rattle.metadata.specs.Model.{IsModel};
 ghost use Rattle.reading.specs.Shown.{ShowsSignature};
 ghost use Rattle.opening.specs.Views.{row_count};
-ghost use Rattle.cli_declarations.specs.Parts.{IsDeclarationAt, IsMethodText, IsPropertyText, IsSignatureOf, IsSignatureText};
+ghost use Rattle.cli_declarations.specs.Parts.{IsDeclarationAt, IsMethodText, IsPropertyText, IsSignatureOf};
 ghost use Rattle.cli_declarations.specs.Texts.{Gains};
 
 use crate::declared::{Declared, TextLimit, begin_text, end_text};
@@ -19,24 +17,7 @@ use metadata_source::kind_of;
 use navigation::Neighbours;
 use opening::{CellRef, TableId, View};
 use std::alloc::AllocError;
-use table_schema::{ColumnKind, SigKind};
-
-/// Appends the text of a signature in a blob.
-fn push_blob(
-    view: &View<'_>,
-    blob: &[u8],
-    kind: SigKind,
-    declared: &mut Declared,
-) -> Result<(), AllocError>
-    ensures { (model : Metadata) → IsModel view.now model → (signature : Body) → Encodes kind signature blob.now
-        → OnOk result (Gains (IsSignatureText model signature) (string_bytes declared.old.text) (string_bytes declared.new.text)) }
-{
-    begin_text(declared);
-    match write_signature_text(declared.alloc, view, blob, kind, &TextLimit, declared) {
-        Ok(()) => end_text(declared),
-        Err(_) => Err(AllocError),
-    }
-}
+use table_schema::ColumnKind;
 
 /// Appends the text of a signature in a blob, in a column of a kind.
 fn push_in_column(
@@ -49,7 +30,12 @@ fn push_in_column(
         → OnOk result (Gains (IsSignatureOf model cell) (string_bytes declared.old.text) (string_bytes declared.new.text)) }
 {
     match kind {
-        ColumnKind::Signature(kind) => push_blob(view, blob, kind, declared),
+        ColumnKind::Signature(kind) => {
+            begin_text(declared);
+            let alloc = declared.alloc;
+            let written = write_signature_text(alloc, view, blob, kind, &TextLimit, declared);
+            end_text(written, declared)
+        }
         _ => Ok(()),
     }
 }
@@ -88,10 +74,8 @@ fn push_method(
     metadata::laws::models_are_read();
     metadata::laws::models_of_roots_are_valid();
     begin_text(declared);
-    match write_method_of(declared.alloc, source, row, &TextLimit, declared) {
-        Ok(()) => end_text(declared),
-        Err(_) => Err(AllocError),
-    }
+    let written = write_method_of(declared.alloc, source, row, &TextLimit, declared);
+    end_text(written, declared)
 }
 
 /// Appends the declaration of a property, with its full name.
@@ -108,10 +92,8 @@ fn push_property(
     metadata::laws::models_are_read();
     metadata::laws::models_of_roots_are_valid();
     begin_text(declared);
-    match write_property_within(declared.alloc, source, row, &TextLimit, declared) {
-        Ok(()) => end_text(declared),
-        Err(_) => Err(AllocError),
-    }
+    let written = write_property_within(declared.alloc, source, row, &TextLimit, declared);
+    end_text(written, declared)
 }
 
 /// Appends the declaration of the method or the property that a row is, or nothing if it is of another table.

@@ -1,14 +1,5 @@
-use Rattle.std.proofs.Common.{string_bytes, ◌∙◌, ◌++◌, List, ℕ, length, ap, sym}
-use Rattle.full_names.specs.Quoted.{quoted_bytes}
-use Rattle.cli_declarations.specs.Parts.{cut_text}
-use Rattle.cli_declarations.specs.declared.declared.Declared.{Declared}
-use Rattle.cli_declarations.proofs.PieceLemmas.{on_ok}
-use Rattle.cli_declarations.proofs.TextLemmas.{text_cut}
+use Rattle.cli_declarations.proofs.PieceLemmas.{text_gained}
 use Rattle.cli_declarations.proofs.declared.push_string.Goals as goal
 
-pub returns-in-Ok : goal.returns-in-Ok
-returns-in-Ok c =
-    let text = quoted_bytes c.args.text.now in
-    on_ok c.end_text.result c.end_text.ensures
-    (λ e. text_cut (λ (w : Declared). string_bytes w.text) (λ (w : Declared). w.left) (λ (w : Declared). w.begun) c.begin_text.new.declared text c.write_quoted.new.out _
-    c.begin_text.ensures.left (c.begin_text.ensures.begun ∙ ap length (sym c.begin_text.ensures.same)) c.in-Ok.ensures e ∙ ap (λ (b : List ℕ). b ++ cut_text text) c.begin_text.ensures.same)
+pub returns : goal.returns
+returns c = text_gained c.args.declared.now c.begin_text.new.declared c.write_quoted-written.new.out c.end_text.new.declared c.write_quoted-written.result c.end_text.result c.begin_text.ensures c.end_text.ensures _ c.write_quoted-written.ensures
