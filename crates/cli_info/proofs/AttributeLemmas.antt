@@ -1,5 +1,5 @@
 -- The attributes of the assembly, by the tables of their types and by their rows.
-use Rattle.std.proofs.Common.{◌≡◌, ◌∙◌, ◌≤◌, ◌<◌, ◌+◌, ◌-◌, ℕ, zero, suc, true, false, Option, None, Some, List, [], ◌∷◌, cond, length, take, ap, arith, refl, sym}
+use Rattle.std.proofs.Common.{◌≡◌, ◌∙◌, ◌≤◌, ◌<◌, ◌+◌, ◌-◌, ℕ, zero, suc, Bool, false, Option, None, Some, List, [], ◌∷◌, cond, length, take, ap, arith, refl, sym}
 use Rattle.std.proofs.lemmas.List.{append_assoc}
 use Rattle.std.specs.Prelude.{◌++◌, filter, flat_map}
 use Rattle.std.specs.List.{range_with_len}
@@ -20,23 +20,17 @@ other_type model TypeDef row items a b = absurd (a refl)
 other_type model TypeRef row items a b = absurd (b refl)
 other_type model _ row items a b = refl
 
-pub no_items : (model : Metadata) (class : Option Token) → [] ≡ lines_of_items model class None
+pub no_items : (model : Metadata) (class : Option Token) → lines_of_items model class None ≡ []
 no_items model None = refl
 no_items model (Some class) = refl
 
 -- ---- the rows that are attributes of the assembly
 
 module _ (model : Metadata) (earlier count : ℕ) where
-  pub after_own : earlier < count → is_own model (earlier + 1) ≡ true → own_after model earlier count ≡ (earlier + 1) ∷ own_after model (earlier + 1) count
+  pub after_one : earlier < count → {own : Bool} → is_own model (earlier + 1) ≡ own
+      → own_after model earlier count ≡ cond own ((earlier + 1) ∷ own_after model (earlier + 1) count) (own_after model (earlier + 1) count)
   unfolding own_after
-  after_own within is =
-      let e : count - earlier ≡ suc (count - (earlier + 1)) = omega (arith, within) in
-      let later = own_after model (earlier + 1) count in
-      ap (λ n. filter (is_own model) (range_with_len (earlier + 1) n)) e ∙ (λ i. cond (is i) ((earlier + 1) ∷ later) later)
-
-  pub after_other : earlier < count → is_own model (earlier + 1) ≡ false → own_after model earlier count ≡ own_after model (earlier + 1) count
-  unfolding own_after
-  after_other within is =
+  after_one within is =
       let e : count - earlier ≡ suc (count - (earlier + 1)) = omega (arith, within) in
       let later = own_after model (earlier + 1) count in
       ap (λ n. filter (is_own model) (range_with_len (earlier + 1) n)) e ∙ (λ i. cond (is i) ((earlier + 1) ∷ later) later)

@@ -1,5 +1,4 @@
 pub mod AttributeLemmas
 pub mod HeaderLemmas
 pub mod TokenLemmas
-pub mod QuoteLemmas
 pub mod TextLemmas

@@ -94,10 +94,11 @@ own_after model earlier count = filter (is_own model) (range_with_len (earlier +
 abbrev pub attribute_limit : ℕ
 attribute_limit = 256
 
--- the number of attributes that are not read, if there are any
+-- a number of attributes that are not read
 abbrev pub more_line : ℕ → List Part
 more_line number = member name.Directive (plain (codes "attributes")) ∷ word (codes "more attributes ") ∷ field name.Left (line.number number) ∷ []
 
+-- the same, if there are any
 abbrev pub more_lines : ℕ → List (List Part)
 more_lines zero = []
 more_lines (suc others) = more_line (suc others) ∷ []

@@ -1,5 +1,5 @@
 //! Prints the attributes of the assembly whose arguments are all strings (II.22.10 and II.23.3).
-ghost use Rattle.std.specs.Prelude.{◌≡◌, ◌≤◌, ◌<◌, ◌∷◌, [], Some, flat_map, option_map};
+ghost use Rattle.std.specs.Prelude.{◌≡◌, ◌≤◌, ◌<◌, ◌∷◌, [], flat_map, option_map};
 ghost use Rattle.table_schema.specs.declared.table.TableId.TheVariants.{CustomAttribute};
 ghost use Rattle.table_schema.specs.CellColumns.{cell_count};
 ghost use Rattle.attribute_values.specs.Views.{head_view, view};
@@ -10,13 +10,12 @@ ghost use Rattle.cli_declarations.specs.Parts.{text_of};
 ghost use Rattle.cli_print.specs.TypeLines.{dot_after};
 ghost use Rattle.cli_lines.specs.Printed.{Adds, Prints};
 ghost use Rattle.cli_lines.specs.Shown.{shown_value};
-ghost use Rattle.attribute_constructors.specs.Constructors.{type_of};
-ghost use Rattle.cli_info.specs.Attributes.{argument_parts, attribute_line, attribute_lines, attributes_lines, first_parts, is_assembly, is_assembly_table, is_own, item_parts, items_parts, lines_of_items, lines_of_type, lines_of_value, more_lines, quoted_or_null, string_parts};
-ghost use Rattle.cli_info.specs.Texts.{string_in, texts_in};
+ghost use Rattle.cli_info.specs.Attributes.{argument_parts, attribute_line, attribute_lines, attributes_lines, first_parts, is_assembly, is_assembly_table, is_own, item_parts, items_parts, lines_of_type, more_lines, quoted_or_null, string_parts};
+ghost use Rattle.cli_info.specs.Texts.{string_in};
 
 use crate::texts::{string_in, texts_in};
 use attribute_constructors::{constructor, params_of, type_of};
-use attribute_values::{Argument, ArgumentType, Item, Items};
+use attribute_values::{Argument, Item, Items};
 use cli_declarations::{bytes, text};
 use cli_lines::Part::{Field, Member, Note, Word};
 use cli_lines::Value::{Null, Number, Plain, Quoted, Text};
@@ -50,12 +49,9 @@ fn print_argument<W: Write>(before: &str, argument: Argument<'_>, out: &mut Prin
     ensures { Adds out.old out.new (argument_parts before.now (string_in (head_view argument.entry))) }
 {
     cli_lines::laws::parts_follow::<W>();
-    match string_in(argument) {
-        Some(text) => {
-            out.part(&Word(before));
-            out.part(&Note(quoted_or_null(text)));
-        }
-        None => {}
+    if let Some(text) = string_in(argument) {
+        out.part(&Word(before));
+        out.part(&Note(quoted_or_null(text)));
     }
 }
 
@@ -91,12 +87,9 @@ fn print_string<W: Write>(argument: Argument<'_>, out: &mut Printer<'_, W>)
     ensures { Adds out.old out.new (string_parts (string_in (head_view argument.entry))) }
 {
     cli_lines::laws::parts_follow::<W>();
-    match string_in(argument) {
-        Some(text) => {
-            out.part(&Word(" "));
-            out.part(&Field(Name::Text, quoted_or_null(text)));
-        }
-        None => {}
+    if let Some(text) = string_in(argument) {
+        out.part(&Word(" "));
+        out.part(&Field(Name::Text, quoted_or_null(text)));
     }
 }
 
@@ -105,11 +98,8 @@ fn print_first<W: Write>(item: Item<'_>, out: &mut Printer<'_, W>)
     ensures { Adds out.old out.new (first_parts (view item.entry)) }
 {
     cli_lines::laws::parts_follow::<W>();
-    match item {
-        Item::Fixed(argument) => print_string(argument, out),
-        Item::Element(_) => {}
-        Item::NamedCount(_) => {}
-        Item::Named(_, _, _) => {}
+    if let Item::Fixed(argument) = item {
+        print_string(argument, out);
     }
 }
 
@@ -118,12 +108,9 @@ fn print_items<W: Write>(mut items: Items<'_, '_>, out: &mut Printer<'_, W>)
     ensures { Adds out.old out.new (items_parts items.entry) }
 {
     cli_lines::laws::parts_follow::<W>();
-    match items.next() {
-        Some(first) => {
-            print_first(first, out);
-            print_others(items, out);
-        }
-        None => {}
+    if let Some(first) = items.next() {
+        print_first(first, out);
+        print_others(items, out);
     }
 }
 
@@ -134,29 +121,8 @@ fn dot_after(namespace: &str) -> &'static str
     if namespace.is_empty() { "" } else { "." }
 }
 
-/// Prints the line of an attribute whose type has this name.
-#[tactic(auto, unfolding(crate::specs::Attributes::attribute_line))]
-fn print_line<'a, W: Write>(
-    namespace: &'a str,
-    name: &'a str,
-    items: Items<'_, '_>,
-    out: &mut Printer<'_, W>,
-)
-    ensures { Prints out.old out.new (attribute_line namespace.now name.now items.entry ∷ []) }
-{
-    cli_lines::laws::parts_follow::<W>();
-    out.begin(&[
-        Member(Name::Directive, Plain("attribute")),
-        Word("attribute "),
-        Field(Name::Namespace, Text(namespace)),
-        Word(dot_after(namespace)),
-        Field(Name::Name, Text(name)),
-    ]);
-    print_items(items, out);
-    out.end();
-}
-
 /// Prints the line of an attribute whose type is this row.
+#[tactic(auto, unfolding(crate::specs::Attributes::attribute_line))]
 fn print_named<W: Write>(
     view: &View<'_>,
     table: TableId,
@@ -170,9 +136,18 @@ fn print_named<W: Write>(
     ensures { (model : Metadata) → IsModel view.now model
         → Prints out.old out.new (attribute_line (text_of (cell_in model table row 2)) (text_of (cell_in model table row 1)) items.entry ∷ []) }
 {
+    cli_lines::laws::parts_follow::<W>();
     let namespace = text(view, table, row, NAMESPACE);
     let name = text(view, table, row, NAME);
-    print_line(namespace, name, items, out);
+    out.begin(&[
+        Member(Name::Directive, Plain("attribute")),
+        Word("attribute "),
+        Field(Name::Namespace, Text(namespace)),
+        Word(dot_after(namespace)),
+        Field(Name::Name, Text(name)),
+    ]);
+    print_items(items, out);
+    out.end();
 }
 
 /// Prints the line of an attribute of this type, if that is a row of TypeDef or TypeRef.
@@ -192,63 +167,6 @@ fn print_typed<W: Write>(
         TableId::TypeDef => print_named(view, TableId::TypeDef, class.row, items, out),
         TableId::TypeRef => print_named(view, TableId::TypeRef, class.row, items, out),
         _ => {}
-    }
-}
-
-/// Prints the line of an attribute with this constructor and these arguments.
-fn print_constructed<W: Write>(
-    source: &Neighbours<'_, '_>,
-    of: Token,
-    items: Items<'_, '_>,
-    out: &mut Printer<'_, W>,
-)
-    requires first { 1 ≤ of.row }
-    requires last { of.row ≤ row_count source.now.view.now of.table }
-    ensures { (model : Metadata) → IsModel source.now.view.now model
-        → Prints out.old out.new (lines_of_items model (type_of model of.table of.row) (Some items.entry)) }
-{
-    cli_lines::laws::lines_follow::<W>();
-    match type_of(source, of) {
-        Some(class) => print_typed(source.view, class, items, out),
-        None => {}
-    }
-}
-
-/// Prints the line of an attribute with this constructor, parameters and value, if all arguments are strings.
-fn print_texts<W: Write>(
-    source: &Neighbours<'_, '_>,
-    of: Token,
-    params: &[ArgumentType],
-    value: &[u8],
-    out: &mut Printer<'_, W>,
-)
-    requires first { 1 ≤ of.row }
-    requires last { of.row ≤ row_count source.now.view.now of.table }
-    ensures { (model : Metadata) → IsModel source.now.view.now model
-        → Prints out.old out.new (lines_of_items model (type_of model of.table of.row) (texts_in params.now value.now)) }
-{
-    cli_lines::laws::lines_follow::<W>();
-    match texts_in(value, params) {
-        Some(items) => print_constructed(source, of, items, out),
-        None => {}
-    }
-}
-
-/// Prints the line of an attribute with this constructor and this value, if all arguments are strings.
-fn print_value<W: Write>(
-    source: &Neighbours<'_, '_>,
-    of: Token,
-    value: &[u8],
-    out: &mut Printer<'_, W>,
-)
-    requires first { 1 ≤ of.row }
-    requires last { of.row ≤ row_count source.now.view.now of.table }
-    ensures { (model : Metadata) → IsModel source.now.view.now model → Prints out.old out.new (lines_of_value model (Some of) value.now) }
-{
-    cli_lines::laws::lines_follow::<W>();
-    match params_of(source, of) {
-        Some(params) => print_texts(source, of, params.as_slice(), value, out),
-        None => {}
     }
 }
 
@@ -287,12 +205,18 @@ fn print_attribute<W: Write>(source: &Neighbours<'_, '_>, row: u32, out: &mut Pr
     ensures { (model : Metadata) → IsModel source.now.view.now model → Prints out.old out.new (attribute_lines model row) }
 {
     cli_lines::laws::lines_follow::<W>();
-    match constructor(source.view, row) {
-        Some(of) => {
-            let value = bytes(source.view, TableId::CustomAttribute, row, VALUE);
-            print_value(source, of, value, out);
-        }
-        None => {}
+    let Some(of) = constructor(source.view, row) else {
+        return;
+    };
+    let Some(params) = params_of(source, of) else {
+        return;
+    };
+    let value = bytes(source.view, TableId::CustomAttribute, row, VALUE);
+    let Some(items) = texts_in(value, params.as_slice()) else {
+        return;
+    };
+    if let Some(class) = type_of(source, of) {
+        print_typed(source.view, class, items, out);
     }
 }
 

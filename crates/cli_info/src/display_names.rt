@@ -39,16 +39,7 @@ pub(crate) fn display_name(alloc: Global, name: &str) -> Result<String, AllocErr
 fn needs_quotes(name: &[u8]) -> bool
     ensures { result ≡ needs_quotes name.now }
 {
-    if name.starts_with(b" ") {
-        return true;
-    }
-    if name.ends_with(b" ") {
-        return true;
-    }
-    if name.contains(&b'"') {
-        return true;
-    }
-    name.contains(&b'\'')
+    name.starts_with(b" ") || name.ends_with(b" ") || name.contains(&b'"') || name.contains(&b'\'')
 }
 
 /// Writes the bytes of a name, each escaped if needed.

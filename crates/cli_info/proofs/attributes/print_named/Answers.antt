@@ -1,10 +1,17 @@
-use Rattle.std.proofs.Common.{List, [], ◌∷◌, subst}
-use Rattle.cli_lines.specs.Lines.{Part}
-use Rattle.cli_lines.specs.Printed.{Prints}
+use Rattle.std.proofs.Common.{ℕ, List, [], ◌∷◌, codes, subst}
+use Rattle.cli_lines.specs.Lines.{Part, field, member, plain, text, word}
+use Rattle.cli_lines.specs.Printed.{Begins, Prints}
+use Rattle.cli_lines.specs.declared.names.Name.TheVariants as name
 use Rattle.cli_info.specs.Attributes.{attribute_line}
 use Rattle.cli_info.proofs.attributes.print_named.Goals as goal
 
 pub returns : goal.returns
+unfolding attribute_line
 returns g c = λ model is.
-    subst (λ (line : List Part). Prints c.args.out.now c.print_line.new.out (line ∷ []))
-    (λ i. attribute_line (c.text-namespace.ensures model is i) (c.text-name.ensures model is i) c.args.items) c.print_line.ensures
+    let namespace = c.text-namespace.result.now in
+    let own = c.text-name.result.now in
+    let begun = subst (λ (dot : List ℕ). Begins c.args.out.now c.begin.new.self
+    (member name.Directive (plain (codes "attribute")) ∷ word (codes "attribute ") ∷ field name.Namespace (text namespace) ∷ word dot ∷ field name.Name (text own) ∷ [])) c.dot_after.ensures c.begin.ensures in
+    subst (λ (line : List Part). Prints c.args.out.now c.end.new.self (line ∷ []))
+    (λ i. attribute_line (c.text-namespace.ensures model is i) (c.text-name.ensures model is i) c.args.items)
+    (c.parts_follow.ensures.line _ _ _ _ _ _ begun c.print_items.ensures c.end.ensures)

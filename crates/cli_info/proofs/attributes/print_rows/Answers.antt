@@ -4,7 +4,7 @@ use Rattle.metadata.specs.Metadata.{count_in}
 use Rattle.cli_lines.specs.Lines.{Part}
 use Rattle.cli_lines.specs.Printed.{Printed, Prints}
 use Rattle.cli_info.specs.Attributes.{more_lines, own_after}
-use Rattle.cli_info.proofs.AttributeLemmas.{after_all, after_other, after_own, all_printed, lines_after, lines_of_all, one_more, one_printed}
+use Rattle.cli_info.proofs.AttributeLemmas.{after_all, after_one, all_printed, lines_after, lines_of_all, one_more, one_printed}
 use Rattle.cli_info.proofs.attributes.print_rows.Goals as goal
 use Rattle.cli_info.proofs.attributes.print_rows.Goals.{then-is_own, then-own-lt-ATTRIBUTE_LIMIT, else-own-lt-ATTRIBUTE_LIMIT, else-is_own}
 
@@ -36,7 +36,7 @@ loop-earlier-preserved g c =
             let joined = subst (λ (out : Printed _). Prints out later (lines_after model c.if-is_own.own rows)) w.out-is printed in
             let next = subst (λ (n : ℕ). Prints w.if-own-lt-ATTRIBUTE_LIMIT.out later (lines_after model n rows)) w.own-is joined in
             before.invariant.printed model later is
-            (subst (λ (found : List ℕ). Prints before.out later (lines_after model before.own found)) (sym (after_own model before.earlier all within (sym (c.is_own.ensures model is) ∙ w.if-is_own.true)))
+            (subst (λ (found : List ℕ). Prints before.out later (lines_after model before.own found)) (sym (after_one model before.earlier all within (sym (c.is_own.ensures model is) ∙ w.if-is_own.true)))
             (elim w.if-own-lt-ATTRIBUTE_LIMIT.branch [
               | then-own-lt-ATTRIBUTE_LIMIT v ↦
                   subst (λ (lines : List (List Part)). Prints before.out later lines) (one_printed model before.own (before.earlier + 1) rows v.if-own-lt-ATTRIBUTE_LIMIT.true)
@@ -56,7 +56,7 @@ loop-earlier-preserved g c =
             let joined = subst (λ (out : Printed _). Prints out later (lines_after model c.if-is_own.own rows)) w.out-is printed in
             let next = subst (λ (n : ℕ). Prints before.out later (lines_after model n rows)) w.own-is joined in
             before.invariant.printed model later is
-            (subst (λ (found : List ℕ). Prints before.out later (lines_after model before.own found)) (sym (after_other model before.earlier all within (sym (c.is_own.ensures model is) ∙ w.if-is_own.false))) next);
+            (subst (λ (found : List ℕ). Prints before.out later (lines_after model before.own found)) (sym (after_one model before.earlier all within (sym (c.is_own.ensures model is) ∙ w.if-is_own.false))) next);
       }
     ]
 
