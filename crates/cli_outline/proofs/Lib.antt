@@ -1,7 +1,6 @@
 pub mod DeclarationLemmas
 pub mod PrintedLemmas
 pub mod RunLemmas
-mod DescribingLemmas
+mod ChosenLemmas
 mod OrderLemmas
-mod ReferenceLemmas
 mod SubjectLemmas

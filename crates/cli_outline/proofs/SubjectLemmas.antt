@@ -1,19 +1,22 @@
--- What is printed of the row that is asked for.
-use Rattle.std.proofs.Common.{◌≡◌, ◌≢◌, ◌∙◌, ◌&&◌, [], ◌∷◌, true, false, inl, inr, refl, subst, sym}
+-- What is printed of the row or of the types of other modules that are asked for.
+use Rattle.std.proofs.Common.{◌≡◌, ◌≢◌, ◌∙◌, ◌&&◌, List, [], ◌∷◌, true, false, ⊎_elim, inl, inr, refl, subst, sym}
 use Rattle.table_schema.specs.declared.table.TableId.{TableId}
 use Rattle.table_schema.specs.declared.table.TableId.TheVariants.{TypeDef}
 use Rattle.table_schema.specs.declared.token.Token.{Token}
 use Rattle.metadata.specs.Metadata.{Metadata}
 use Rattle.cli_lines.specs.Printed.{Printed as Printer}
+use Rattle.cli_paths.specs.declared.refs.Wanted.{Wanted}
 use Rattle.cli_paths.specs.declared.subject.Subject.{Subject}
 use Rattle.cli_paths.specs.declared.subject.Subject.TheVariants.{Path, Row}
+use Rattle.cli_paths.specs.Refs.{BelongsTo, HasSome, IsMeantRef, IsWantedRef, Wants}
 use Rattle.cli_paths.specs.Subjects.{IsSubject}
 use Rattle.cli_outline.specs.declared.outcome.Outcome.{Outcome}
 use Rattle.cli_outline.specs.declared.outcome.Outcome.TheVariants.{NoSuchType, OutOfMemory, Printed}
 use Rattle.cli_outline.specs.declared.source.OutlineOptions.{OutlineOptions}
-use Rattle.cli_outline.specs.Describing.{PrintsType}
+use Rattle.cli_outline.specs.Chosen.{AreChosenBy, PrintsType}
 use Rattle.cli_outline.specs.Shown.{has_line}
-use Rattle.cli_outline.specs.Subjects.{PrintsAlone, PrintsRow, PrintsSubject, is_declared, is_declared_in}
+use Rattle.cli_declarations.specs.Layouts.{is_declared_in}
+use Rattle.cli_outline.specs.Subjects.{PrintsAlone, PrintsRow, PrintsSubject, is_declared}
 
 -- a type has a declaration
 pub declared_type : (model : Metadata) (of : Token) → of.table ≡ TypeDef → is_declared model of ≡ true
@@ -34,3 +37,27 @@ module _ {W : Type 0} (options : OutlineOptions) (model : Metadata) (of : Token)
   alone_printed subject Printed is not out = (of, is, out.0, inl (of ∷ [], inr (not, refl), out.1))
   alone_printed subject NoSuchType is not out = λ other also. subst (λ (t : Token). is_declared model t ≡ false) (sym (one_subject subject other is not also)) out
   alone_printed subject OutOfMemory is not out = tt
+
+-- the same rows have a property that follows from the other, and from which that follows
+chosen_same : (P Q : Token → Type 0) → ((of : Token) → P of → Q of) → ((of : Token) → Q of → P of) → (rows found : List Token) → AreChosenBy P (λ row. ¬ P row) rows found
+    → AreChosenBy Q (λ row. ¬ Q row) rows found
+chosen_same P Q to from [] found are = are
+chosen_same P Q to from (row ∷ rows) found are = (
+  are.0,
+  chosen_same P Q to from rows are.0 are.1,
+  ⊎_elim (λ it. inl (to row it.0, it.1)) (λ it. inr ((λ q. it.0 (from row q)), it.1)) are.2,
+)
+
+-- what is wanted is what is meant
+module _ (model : Metadata) (subject : Subject) (wanted : Wanted) (wants : Wants model subject wanted) where
+  pub some_meant : HasSome model (IsWantedRef model wanted) → HasSome model (IsMeantRef model subject)
+  some_meant some = (some.0, some.1, (wants some.0).0 some.2)
+
+  pub some_wanted : HasSome model (IsMeantRef model subject) → HasSome model (IsWantedRef model wanted)
+  some_wanted some = (some.0, some.1, (wants some.0).1 some.2)
+
+  pub chosen_meant : (rows found : List Token) → AreChosenBy (BelongsTo model (IsWantedRef model wanted)) (λ row. ¬ BelongsTo model (IsWantedRef model wanted) row) rows found
+      → AreChosenBy (BelongsTo model (IsMeantRef model subject)) (λ row. ¬ BelongsTo model (IsMeantRef model subject) row) rows found
+  chosen_meant rows found are =
+      chosen_same (BelongsTo model (IsWantedRef model wanted)) (BelongsTo model (IsMeantRef model subject))
+      (λ of at. (at.0, at.1, at.2, (wants at.0).0 at.3)) (λ of at. (at.0, at.1, at.2, (wants at.0).1 at.3)) rows found are

@@ -1,5 +1,5 @@
+pub mod Chosen
 pub mod Declarations
-pub mod Describing
 pub mod Orders
 pub mod Outline
 pub mod Printed

@@ -1,36 +1,27 @@
 -- What is printed of the types of other modules that are asked for (ECMA-335 II.22.25 and II.22.38).
-use Rattle.std.specs.Prelude.{◌≡◌, ◌⊎◌, List, [], ◌∷◌, ◌++◌, ⊤}
+use Rattle.std.specs.Prelude.{List, [], ◌∷◌, ⊤}
+use Rattle.std.specs.List.{flat_map}
 use Rattle.table_schema.specs.declared.table.TableId.TheVariants.{MemberRef, TypeRef}
 use Rattle.table_schema.specs.declared.token.Token.{Token}
 use Rattle.metadata.specs.Metadata.{Metadata}
 use Rattle.cli_lines.specs.Printed.{Printed as Printer}
-use Rattle.cli_paths.specs.declared.refs.Wanted.{Wanted}
 use Rattle.cli_paths.specs.declared.subject.Subject.{Subject}
-use Rattle.cli_paths.specs.Refs.{BelongsTo, HasSome, IsMeantRef, IsWantedRef}
+use Rattle.cli_paths.specs.Refs.{BelongsTo, HasSome, IsMeantRef}
 use Rattle.cli_outline.specs.declared.outcome.Outcome.{Outcome}
 use Rattle.cli_outline.specs.declared.outcome.Outcome.TheVariants.{Printed, NoSuchType, OutOfMemory}
 use Rattle.cli_outline.specs.declared.source.OutlineOptions.{OutlineOptions}
+use Rattle.cli_outline.specs.Chosen.{AreChosenBy}
 use Rattle.cli_outline.specs.Outline.{all_rows, by_row}
 use Rattle.cli_outline.specs.Printed.{PrintsRows}
 
--- those of some rows that have a property, in the same order
-abbrev pub AreChosen : (Token → Type 0) → List Token → List Token → Type 0
-AreChosen P [] found = found ≡ []
-AreChosen P (row ∷ rows) found =
-    (later : List Token) × AreChosen P rows later × ((P row × (found ≡ row ∷ later)) ⊎ ((¬ P row) × (found ≡ later)))
-
 -- the types of other modules, and the methods and fields, by table and row
 abbrev pub types_and_members : Metadata → List Token
-types_and_members model = all_rows by_row model TypeRef ++ all_rows by_row model MemberRef
+types_and_members model = flat_map (all_rows by_row model) (TypeRef ∷ MemberRef ∷ [])
 
 -- what is referred to of the types that the subject means
 abbrev pub AreRefsOf : Metadata → Subject → List Token → Type 0
-AreRefsOf model subject found = AreChosen (BelongsTo model (IsMeantRef model subject)) (types_and_members model) found
-
--- the lines of those of some rows were printed that belong to a type that is wanted; for private clauses
-abbrev pub PrintsBelonging : {W : Type 0} → OutlineOptions → Metadata → Wanted → Printer W → Printer W → List Token → Type 0
-PrintsBelonging options model wanted old new rows =
-    (found : List Token) × AreChosen (BelongsTo model (IsWantedRef model wanted)) rows found × PrintsRows options model old new found
+AreRefsOf model subject found =
+    AreChosenBy (BelongsTo model (IsMeantRef model subject)) (λ row. ¬ BelongsTo model (IsMeantRef model subject) row) (types_and_members model) found
 
 -- the lines of what is referred to were printed if the subject means some type
 abbrev pub PrintsRefs : {W : Type 0} → OutlineOptions → Metadata → Subject → Printer W → Printer W → Outcome → Type 0

@@ -1,28 +1,18 @@
 -- What is printed of the type, or of the other row, that is asked for (ECMA-335 II.22).
 use Rattle.std.specs.Prelude.{◌≡◌, ◌≢◌, ◌⊎◌, ◌&&◌, Bool, true, false, List, [], ◌∷◌, ⊤}
-use Rattle.table_schema.specs.declared.table.TableId.{TableId}
 use Rattle.table_schema.specs.declared.table.TableId.TheVariants.{TypeDef}
 use Rattle.table_schema.specs.declared.token.Token.{Token}
 use Rattle.metadata.specs.Metadata.{Metadata}
 use Rattle.cli_lines.specs.Printed.{Printed as Printer}
-use Rattle.cli_declarations.specs.Layouts.{parts_of}
-use Rattle.cli_declarations.specs.Parts.{Part}
+use Rattle.cli_declarations.specs.Layouts.{is_declared_in}
 use Rattle.cli_paths.specs.declared.subject.Subject.{Subject}
 use Rattle.cli_paths.specs.Subjects.{IsSubject}
 use Rattle.cli_outline.specs.declared.outcome.Outcome.{Outcome}
 use Rattle.cli_outline.specs.declared.outcome.Outcome.TheVariants.{Printed, NoSuchType, OutOfMemory}
 use Rattle.cli_outline.specs.declared.source.OutlineOptions.{OutlineOptions}
-use Rattle.cli_outline.specs.Describing.{AreTypeRows}
+use Rattle.cli_outline.specs.Chosen.{AreTypeRows}
 use Rattle.cli_outline.specs.Printed.{PrintsRows, PrintsSome}
 use Rattle.cli_outline.specs.Shown.{has_line}
-
-abbrev pub has_parts : List Part → Bool
-has_parts [] = false
-has_parts (first ∷ later) = true
-
--- the rows of a table have declarations
-abbrev pub is_declared_in : TableId → Bool
-is_declared_in table = has_parts (parts_of table)
 
 -- a row has a declaration of its own
 abbrev pub is_declared : Metadata → Token → Bool

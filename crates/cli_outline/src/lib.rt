@@ -15,18 +15,16 @@
 //! ```
 #![tactic(auto)]
 
-mod describing;
+mod chosen;
 mod laws;
 mod line;
 mod mapped;
 mod orders;
 mod outcome;
 mod outline;
-mod references;
 mod source;
 
 pub use cli_paths::Subject;
 pub use outcome::Outcome;
-pub use outline::{print_outline, print_outline_of, print_refs};
-pub use references::print_refs_of;
+pub use outline::{print_outline, print_outline_of, print_refs, print_refs_of};
 pub use source::{OutlineOptions, Rows, Sorting, Tokens};

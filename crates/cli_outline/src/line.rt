@@ -8,7 +8,7 @@ ghost use Rattle.cli_lines.specs.declared.parts.Form.TheVariants.{JsonLines};
 ghost use Rattle.cli_lines.specs.Printed.{Prints};
 ghost use Rattle.cli_lines.specs.Shown.{shown};
 ghost use Rattle.full_names.specs.RowNames.{IsMemberOf};
-ghost use Rattle.cli_outline.specs.Declarations.{comment_mark, comment_token, declaration_line, directive_part, ends_word, has_directive, json_line, text_line, type_part};
+ghost use Rattle.cli_outline.specs.Declarations.{declaration_line, directive_part, ends_word, has_directive, json_line, text_line, type_part};
 ghost use Rattle.cli_outline.specs.Printed.{IsRowText, PrintsRows};
 ghost use Rattle.cli_outline.specs.Shown.{is_shown};
 ghost use Rattle.cli_outline.specs.declared.source.Tokens.{Tokens as TheTokens};
@@ -84,35 +84,14 @@ fn directive_part(has_directive: bool, text: &str) -> Part<'_>
     Word("")
 }
 
-/// What separates the token of the row from a declaration.
-fn comment_mark(tokens: Tokens) -> Part<'static>
-    ensures { shown result ≡ comment_mark tokens }
-{
-    match tokens {
-        Tokens::Shown => Word("  // "),
-        Tokens::Hidden => Word(""),
-    }
-}
-
-/// The token of the row at the end of a line of text.
-fn comment_token(tokens: Tokens, of: Token) -> Part<'static>
-    ensures { shown result ≡ comment_token tokens of }
-{
-    match tokens {
-        Tokens::Shown => Note(Value::Token(of)),
-        Tokens::Hidden => Word(""),
-    }
-}
-
 /// Prints the line of a declaration as text.
 fn print_text<W: Write>(tokens: Tokens, of: Token, text: &str, out: &mut Printer<'_, W>)
     ensures { Prints out.old out.new (text_line tokens of text.now ∷ []) }
 {
-    out.line(&[
-        Note(Plain(text)),
-        comment_mark(tokens),
-        comment_token(tokens, of),
-    ]);
+    match tokens {
+        Tokens::Shown => out.line(&[Note(Plain(text)), Word("  // "), Note(Value::Token(of))]),
+        Tokens::Hidden => out.line(&[Note(Plain(text)), Word(""), Word("")]),
+    }
 }
 
 /// Prints the line of a declaration as JSON. Its text is `named`.

@@ -1,14 +1,14 @@
 //! Prints the events and the properties of types, with their accessors (II.22.12, II.22.28, II.22.35).
-ghost use Rattle.std.specs.Prelude.{◌≡◌, ◌≤◌, ◌+◌};
+ghost use Rattle.std.specs.Prelude.{◌≡◌, ◌≤◌};
 ghost use Rattle.metadata.specs.Metadata.{Metadata};
 ghost use Rattle.metadata.specs.Model.{IsModel};
 ghost use Rattle.metadata_source.specs.MemberLists.{owner_of};
 ghost use Rattle.opening.specs.Views.{row_count};
-ghost use Rattle.cli_outline.specs.Outline.{accessed_by, accessed_rows, each_from, list_of, mapped_rows, table_of, type_rows};
+ghost use Rattle.cli_outline.specs.Outline.{accessed_rows, list_of, mapped_rows, table_of, type_rows};
 ghost use Rattle.cli_outline.specs.Orders.{row_in};
 ghost use Rattle.cli_outline.specs.Printed.{PrintsRows};
 
-use crate::laws::{ranges_follow, rows_follow};
+use crate::laws::rows_follow;
 use crate::outline::{print_row, run_of};
 use crate::source::Source;
 use cli_declarations::Declared;
@@ -16,7 +16,6 @@ use cli_lines::Printer;
 use navigation::Link;
 use opening::{CellCursor, MemberList, TableId, Token};
 use std::io::Write;
-use std::ops::Range;
 
 /// What a map gives to types.
 #[derive(Clone, Copy)]
@@ -85,38 +84,12 @@ fn print_accessed<W: Write>(
     print_row(source, None, Token { table, row }, declared, out);
     let accessors = source.neighbours.linked(Link::Accessors, of.accessed(row));
     for accessor in accessors {
-        let token = Token {
-            table: TableId::MethodSemantics,
-            row: accessor.row,
-        };
-        print_row(source, None, token, declared, out);
+        let (table, row) = (TableId::MethodSemantics, accessor.row);
+        print_row(source, None, Token { table, row }, declared, out);
     }
 }
 
-/// Prints the lines of the events or properties at some positions, each with its accessors.
-fn print_all_accessed<W: Write>(
-    source: &Source<'_, '_>,
-    of: Mapped,
-    rows: Range<u32>,
-    declared: &mut Declared,
-    out: &mut Printer<'_, W>,
-)
-    requires first { 1 ≤ rows.start }
-    requires last { rows.«end» ≤ row_count source.now.neighbours.view.now (table_of of) + 1 }
-    ensures { (model : Metadata) → IsModel source.now.neighbours.view.now model → PrintsRows source.now.options model out.old out.new (each_from (accessed_by (row_in source.now.orders.items) model of) rows.start rows.«end») }
-{
-    let table = of.list().member();
-    // The table has at most 0xFFFFFF rows.
-    let _count = source.neighbours.view.count(table);
-    ranges_follow::<W>();
-    let (first, past) = (rows.start, rows.end);
-    for position in first..past {
-        let row = source.row_at(table, position);
-        print_accessed(source, of, row, declared, out);
-    }
-}
-
-/// Prints the lines of the events or the properties of a row of their map.
+/// Prints the lines of the events or the properties of a row of their map, each with its accessors.
 fn print_map<W: Write>(
     source: &Source<'_, '_>,
     cells: &mut CellCursor<'_, '_>,
@@ -131,8 +104,17 @@ fn print_map<W: Write>(
     ensures same { cells.new ≡ cells.old }
     ensures lines { (model : Metadata) → IsModel source.now.neighbours.view.now model → PrintsRows source.now.options model out.old out.new (mapped_rows (row_in source.now.orders.items) model of map) }
 {
-    let rows = run_of(cells, of.list(), map);
-    print_all_accessed(source, of, rows, declared, out);
+    rows_follow::<W>();
+    let list = of.list();
+    let rows = run_of(cells, list, map);
+    let (first, past) = (rows.start, rows.end);
+    let table = list.member();
+    // The table has at most 0xFFFFFF rows.
+    let _count = source.neighbours.view.count(table);
+    for position in first..past {
+        let row = source.row_at(table, position);
+        print_accessed(source, of, row, declared, out);
+    }
 }
 
 /// Prints the lines of the events or the properties of a type.

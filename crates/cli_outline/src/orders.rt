@@ -7,13 +7,13 @@ ghost use Rattle.metadata.specs.Model.{IsModel};
 ghost use Rattle.metadata_source.specs.declared.member_lists.MemberList.{MemberList as TheList};
 ghost use Rattle.metadata_source.specs.MemberLists.{member_of};
 ghost use Rattle.opening.specs.Views.{row_count};
-ghost use Rattle.cli_outline.specs.declared.orders.Grouping.TheVariants.{Members, Table};
+ghost use Rattle.cli_outline.specs.declared.orders.Grouping.TheVariants.{Members};
 ghost use Rattle.cli_outline.specs.declared.source.Sorting.TheVariants.{ByName};
 ghost use Rattle.cli_outline.specs.Orders.{AreGrouped, AreInOrder, AreRowsIn, IsKey, IsKeyed, IsOrder, IsRowIn, grouping_of, key_limit, keyed_cmp, row_at, row_in, row_of_keyed, rows_of};
 
 use crate::outline::run_of;
 use crate::source::Source;
-use cli_declarations::{Declared, declare, name_row};
+use cli_declarations::{Declared, name_and_declare};
 use opening::{CellCursor, MemberList, TableId, Token};
 use std::alloc::{AllocError, Global};
 use std::cmp::Ordering;
@@ -93,17 +93,13 @@ fn key_of(
     requires last { token.row ≤ row_count source.now.neighbours.view.now token.table }
     ensures { (model : Metadata) → IsModel source.now.neighbours.view.now model → IfOk result (λ key. IsKey source.now.options model limit token key.items) }
 {
-    let mut whole = Vec::new(declared.alloc);
     if !source.shows(token) {
-        return Ok(whole);
+        return Ok(Vec::new(declared.alloc));
     }
-    name_row(&source.neighbours, token, declared)?;
-    whole.extend_from_slice(declared.text.as_bytes())?;
-    whole.push(0)?;
-    declare(&source.neighbours, token, declared)?;
-    whole.extend_from_slice(declared.text.as_bytes())?;
-    whole.truncate(limit);
-    Vec::from_slice(declared.alloc, &whole)
+    name_and_declare(&source.neighbours, token, declared)?;
+    let whole = declared.text.as_bytes();
+    let (key, _) = whole.split_at(limit.min(whole.len()));
+    Vec::from_slice(declared.alloc, key)
 }
 
 /// The number of bytes of a key, by the number of rows that are put in order together.
@@ -191,22 +187,6 @@ fn members_in_order(
     Ok(order)
 }
 
-/// All rows of a table in the order of their keys.
-fn table_in_order(
-    source: &Source<'_, '_>,
-    table: TableId,
-    declared: &mut Declared,
-) -> Result<Vec<u32>, AllocError>
-    ensures within { IfOk result (λ order. All (IsRowIn source.now.neighbours.view.now table) order.items) }
-    ensures grouped { (model : Metadata) → IsModel source.now.neighbours.view.now model
-        → IfOk result (λ order. AreGrouped source.now.options model table (row_at order.items) Table) }
-{
-    let mut order = Vec::new(declared.alloc);
-    let past = source.neighbours.view.count(table) + 1;
-    push_in_order(source, table, 1..past, declared, &mut order)?;
-    Ok(order)
-}
-
 /// The rows of a table in order, by what is put in order together.
 fn rows_in_order(
     source: &Source<'_, '_>,
@@ -218,7 +198,12 @@ fn rows_in_order(
         → IfOk result (λ order. AreGrouped source.now.options model table (row_at order.items) (grouping_of table)) }
 {
     match grouping_of(table) {
-        Grouping::Table => table_in_order(source, table, declared),
+        Grouping::Table => {
+            let mut order = Vec::new(declared.alloc);
+            let past = source.neighbours.view.count(table) + 1;
+            push_in_order(source, table, 1..past, declared, &mut order)?;
+            Ok(order)
+        }
         Grouping::Members(list) => members_in_order(source, list, declared),
         Grouping::Nothing => Ok(Vec::new(declared.alloc)),
     }

@@ -1,6 +1,5 @@
 //! Prints the outline of a view.
-ghost use Rattle.std.specs.Prelude.{◌≡◌, ◌≤◌, ◌<◌, ◌+◌, ℕ, Some};
-ghost use Rattle.std.specs.List.{flat_map};
+ghost use Rattle.std.specs.Prelude.{◌≡◌, ◌≤◌, ◌+◌, Some};
 ghost use Rattle.table_schema.specs.declared.table.TableId.TheVariants.{TypeDef};
 ghost use Rattle.table_schema.specs.declared.token.Token.{Token as TheToken};
 ghost use Rattle.metadata.specs.Lookups.{IsRun};
@@ -9,21 +8,22 @@ ghost use Rattle.metadata.specs.Model.{IsModel};
 ghost use Rattle.metadata_source.specs.MemberLists.{cell_of, member_of, owner_of};
 ghost use Rattle.full_names.specs.RowNames.{IsMemberOf};
 ghost use Rattle.opening.specs.Views.{row_count};
-ghost use Rattle.cli_outline.specs.Describing.{PrintsType};
-ghost use Rattle.cli_outline.specs.Outline.{all_rows, class_by, class_rows, each_from, first_tables, last_tables, members, outline_rows, ref_tables, refs_rows, row_by, row_of, run_start};
+ghost use Rattle.cli_outline.specs.Chosen.{PrintsType};
+ghost use Rattle.cli_outline.specs.Outline.{class_by, class_rows, each_from, first_tables, last_tables, members, outline_rows, ref_tables, refs_rows, row_of, run_start};
 ghost use Rattle.cli_outline.specs.Orders.{AreOutlineRows, row_in};
 ghost use Rattle.cli_outline.specs.Printed.{PrintsRows, PrintsSome};
+ghost use Rattle.cli_outline.specs.References.{PrintsRefs};
 ghost use Rattle.cli_outline.specs.Subjects.{PrintsAlone, PrintsNone, PrintsSubject};
 
-use crate::describing::print_describing;
-use crate::laws::{ranges_follow, rows_follow};
+use crate::chosen::{Choice, print_chosen};
+use crate::laws::rows_follow;
 use crate::line::print_line;
 use crate::mapped::{Mapped, print_mapped};
 use crate::outcome::Outcome;
 use crate::source::{OutlineOptions, Source};
 use cli_declarations::Declared;
 use cli_lines::Printer;
-use cli_paths::{Subject, found_row};
+use cli_paths::{Subject, finds, found_row, wanted_types};
 use full_names::type_of_member;
 use opening::{CellCursor, MemberList, TableId, Token, View};
 use std::alloc::Global;
@@ -49,65 +49,10 @@ pub(crate) fn print_row<W: Write>(
     }
     match owner {
         Some(class) => print_line(source, Some(class), token, declared, out),
-        None => print_line(
-            source,
-            type_of_member(&source.neighbours, token),
-            token,
-            declared,
-            out,
-        ),
-    }
-}
-
-/// Prints the lines of the rows at some positions of a table. The type of members is given, or found for each.
-fn print_rows<W: Write>(
-    source: &Source<'_, '_>,
-    owner: Option<Token>,
-    table: TableId,
-    rows: Range<u32>,
-    declared: &mut Declared,
-    out: &mut Printer<'_, W>,
-)
-    requires first { 1 ≤ rows.start }
-    requires last { rows.«end» ≤ row_count source.now.neighbours.view.now table + 1 }
-    requires members { (class : TheToken) → owner ≡ Some class → (model : Metadata) → IsModel source.now.neighbours.view.now model
-        → (position : ℕ) → rows.start ≤ position → position < rows.«end» → IsMemberOf model table (row_in source.now.orders.items table position) owner }
-    ensures { (model : Metadata) → IsModel source.now.neighbours.view.now model
-        → PrintsRows source.now.options model out.old out.new (each_from (row_by (row_in source.now.orders.items) table) rows.start rows.«end») }
-{
-    ranges_follow::<W>();
-    let (first, past) = (rows.start, rows.end);
-    for position in first..past {
-        let row = source.row_at(table, position);
-        print_row(source, owner, Token { table, row }, declared, out);
-    }
-}
-
-/// Prints the lines of all rows of a table.
-fn print_table<W: Write>(
-    source: &Source<'_, '_>,
-    table: TableId,
-    declared: &mut Declared,
-    out: &mut Printer<'_, W>,
-)
-    ensures { (model : Metadata) → IsModel source.now.neighbours.view.now model → PrintsRows source.now.options model out.old out.new (all_rows (row_in source.now.orders.items) model table) }
-{
-    let count = source.neighbours.view.count(table);
-    print_rows(source, None, table, 1..count + 1, declared, out);
-}
-
-/// Prints the lines of all rows of some tables.
-fn print_tables<W: Write>(
-    source: &Source<'_, '_>,
-    tables: &[TableId],
-    declared: &mut Declared,
-    out: &mut Printer<'_, W>,
-)
-    ensures { (model : Metadata) → IsModel source.now.neighbours.view.now model → PrintsRows source.now.options model out.old out.new (flat_map (all_rows (row_in source.now.orders.items) model) tables.now) }
-{
-    rows_follow::<W>();
-    for table in tables {
-        print_table(source, *table, declared, out);
+        None => {
+            let class = type_of_member(&source.neighbours, token);
+            print_line(source, class, token, declared, out)
+        }
     }
 }
 
@@ -146,12 +91,16 @@ fn print_members<W: Write>(
     ensures lines { (model : Metadata) → IsModel source.now.neighbours.view.now model → PrintsRows source.now.options model out.old out.new (members (row_in source.now.orders.items) model list row) }
 {
     metadata::laws::models_are_read();
+    rows_follow::<W>();
     let rows = run_of(cells, list, row);
-    let class = Token {
-        table: TableId::TypeDef,
-        row,
-    };
-    print_rows(source, Some(class), list.member(), rows, declared, out);
+    let (first, past) = (rows.start, rows.end);
+    let table = TableId::TypeDef;
+    let class = Token { table, row };
+    let table = list.member();
+    for position in first..past {
+        let row = source.row_at(table, position);
+        print_row(source, Some(class), Token { table, row }, declared, out);
+    }
 }
 
 /// Prints the lines of a type, of its fields, its methods, its events and its properties.
@@ -169,10 +118,8 @@ fn print_class<W: Write>(
     ensures lines { (model : Metadata) → IsModel source.now.neighbours.view.now model → PrintsRows source.now.options model out.old out.new (class_rows (row_in source.now.orders.items) model row) }
 {
     rows_follow::<W>();
-    let class = Token {
-        table: TableId::TypeDef,
-        row,
-    };
+    let table = TableId::TypeDef;
+    let class = Token { table, row };
     print_row(source, None, class, declared, out);
     print_members(source, cells, MemberList::Fields, row, declared, out);
     print_members(source, cells, MemberList::Methods, row, declared, out);
@@ -188,7 +135,7 @@ fn print_classes<W: Write>(
 )
     ensures { (model : Metadata) → IsModel source.now.neighbours.view.now model → PrintsRows source.now.options model out.old out.new (each_from (class_by (row_in source.now.orders.items) model) 1 (count_in model TypeDef + 1)) }
 {
-    ranges_follow::<W>();
+    rows_follow::<W>();
     let mut cells = CellCursor::new(source.neighbours.view);
     let count = source.neighbours.view.count(TableId::TypeDef);
     for position in 1..count + 1 {
@@ -235,9 +182,9 @@ fn print_all<W: Write>(source: &Source<'_, '_>, declared: &mut Declared, out: &m
     ensures { (model : Metadata) → IsModel source.now.neighbours.view.now model → PrintsRows source.now.options model out.old out.new (outline_rows (row_in source.now.orders.items) model) }
 {
     rows_follow::<W>();
-    print_tables(source, first_tables(), declared, out);
+    print_chosen(source, first_tables(), Choice::All, declared, out);
     print_classes(source, declared, out);
-    print_tables(source, last_tables(), declared, out);
+    print_chosen(source, last_tables(), Choice::All, declared, out);
 }
 
 /// Prints the outline of a view: its declarations in the notation of ILAsm (II.5 to II.22), one per line. Each line ends
@@ -300,9 +247,43 @@ pub fn print_refs<W: Write>(
     ensures { (model : Metadata) → IsModel view.now model → PrintsRows options model out.old out.new (refs_rows model) }
 {
     match Source::new(alloc, view, options) {
-        Ok(source) => print_tables(&source, ref_tables(), &mut Declared::new(alloc), out),
+        Ok(source) => {
+            let mut declared = Declared::new(alloc);
+            print_chosen(&source, ref_tables(), Choice::All, &mut declared, out);
+        }
         Err(_) => out.fail(),
     }
+}
+
+/// Prints what a view refers to of one type of other modules, as [`print_refs`] prints it: the type, and its
+/// methods and fields, also those of its instances (II.22.25, II.22.38, II.23.2.14). If types of several scopes have the name,
+/// those of all.
+///
+/// Its time is that of the lines, and for each type and member that of a look at the name.
+pub fn print_refs_of<W: Write>(
+    alloc: Global,
+    view: &View<'_>,
+    subject: Subject<'_>,
+    options: OutlineOptions,
+    out: &mut Printer<'_, W>,
+) -> Outcome
+    ensures printed { (model : Metadata) → IsModel view.now model → PrintsRefs options model subject.entry out.old out.new result }
+    ensures untouched { PrintsNone out.old out.new result }
+{
+    let Ok(types) = wanted_types(alloc, subject) else {
+        return Outcome::OutOfMemory;
+    };
+    if !finds(view, &types) {
+        return Outcome::NoSuchType;
+    }
+    let Ok(source) = Source::new(alloc, view, options) else {
+        return Outcome::OutOfMemory;
+    };
+    let mut declared = Declared::new(alloc);
+    let tables = [TableId::TypeRef, TableId::MemberRef];
+    let belonging = Choice::Belonging(&types);
+    print_chosen(&source, &tables, belonging, &mut declared, out);
+    Outcome::Printed
 }
 
 /// Prints the outline of a type of a view: its line, those of its fields, methods, events and properties, and those of the rows
@@ -323,12 +304,10 @@ fn print_type<W: Write>(
         Ok(source) => {
             let mut cells = CellCursor::new(source.neighbours.view);
             let mut declared = Declared::new(alloc);
-            let class = Token {
-                table: TableId::TypeDef,
-                row,
-            };
             print_class(&source, &mut cells, row, &mut declared, out);
-            print_describing(&source, last_tables(), class, &mut declared, out);
+            let table = TableId::TypeDef;
+            let describing = Choice::Describing(Token { table, row });
+            print_chosen(&source, last_tables(), describing, &mut declared, out);
         }
         Err(_) => out.fail(),
     }

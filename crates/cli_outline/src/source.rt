@@ -5,9 +5,9 @@ ghost use Rattle.metadata.specs.Metadata.{Metadata};
 ghost use Rattle.metadata.specs.Model.{IsModel};
 ghost use Rattle.cli_outline.specs.Orders.{AreRowsIn, KeepsRuns, row_in};
 ghost use Rattle.cli_outline.specs.Shown.{asked};
-ghost use Rattle.cli_outline.specs.Subjects.{is_declared_in};
 
 use crate::orders::{TableOrder, orders_by_name, rows_of};
+use cli_declarations::is_declared_in;
 use navigation::{Link, Neighbours};
 use opening::{TableId, Token, View};
 use std::alloc::{AllocError, Global};
@@ -71,38 +71,6 @@ pub(crate) struct Source<'v, 'a> {
     ghost asked: { options.rows ≡ asked visible },
     ghost within: { AreRowsIn neighbours.view.now orders.items },
     ghost kept: { (model : Metadata) → IsModel neighbours.view.now model → KeepsRuns model (row_in orders.items) },
-}
-
-/// Whether the rows of a table have declarations.
-fn is_declared_in(table: TableId) -> bool
-    ensures { result ≡ is_declared_in table }
-{
-    match table {
-        TableId::Assembly
-        | TableId::AssemblyRef
-        | TableId::Module
-        | TableId::ModuleRef
-        | TableId::File
-        | TableId::ManifestResource
-        | TableId::TypeDef
-        | TableId::Field
-        | TableId::MethodDef
-        | TableId::Param
-        | TableId::InterfaceImpl
-        | TableId::GenericParam
-        | TableId::GenericParamConstraint
-        | TableId::ExportedType
-        | TableId::MethodImpl
-        | TableId::Event
-        | TableId::Property
-        | TableId::MethodSemantics
-        | TableId::ImplMap
-        | TableId::DeclSecurity
-        | TableId::CustomAttribute
-        | TableId::TypeRef
-        | TableId::MemberRef => true,
-        _ => false,
-    }
 }
 
 /// The visible rows of a view, if only these are shown.

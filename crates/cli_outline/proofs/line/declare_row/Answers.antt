@@ -1,7 +1,7 @@
 use Rattle.std.proofs.Common.{[], append-nil, codes, inl, inr, refl, sym}
 use Rattle.std.specs.Prelude.{string_bytes}
 use Rattle.std.proofs.lemmas.Bool.Decides.{Decides-at}
-use Rattle.cli_outline.proofs.DescribingLemmas.{some_decides}
+use Rattle.cli_outline.proofs.ChosenLemmas.{some_decides}
 use Rattle.cli_outline.proofs.line.declare_row.Goals as goal
 
 pub returns-in_ok-push_str : goal.returns-in_ok-push_str

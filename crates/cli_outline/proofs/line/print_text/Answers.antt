@@ -1,10 +1,11 @@
-use Rattle.std.proofs.Common.{◌∷◌, [], List, subst}
-use Rattle.cli_lines.specs.Lines.{Part, note, plain}
+use Rattle.std.proofs.Common.{◌∷◌, [], subst, sym}
 use Rattle.cli_lines.specs.Printed.{Prints}
+use Rattle.cli_outline.specs.Declarations.{text_line}
+use Rattle.cli_outline.specs.declared.source.Tokens.{Tokens}
 use Rattle.cli_outline.proofs.line.print_text.Goals as goal
 
-pub returns : goal.returns
-returns g c =
-    subst (λ (line : List Part). Prints c.args.out.now c.line.new.self (line ∷ []))
-    (λ i. note (plain c.args.text.now) ∷ c.comment_mark.ensures i ∷ c.comment_token.ensures i ∷ [])
-    c.line.ensures
+pub returns-in-Shown : goal.returns-in-Shown
+returns-in-Shown g c = subst (λ (t : Tokens). Prints c.args.out.now c.line.new.self (text_line t c.args.of c.args.text.now ∷ [])) (sym c.in-Shown.is) c.line.ensures
+
+pub returns-in-Hidden : goal.returns-in-Hidden
+returns-in-Hidden g c = subst (λ (t : Tokens). Prints c.args.out.now c.line-in-Hidden.new.self (text_line t c.args.of c.args.text.now ∷ [])) (sym c.in-Hidden.is) c.line-in-Hidden.ensures

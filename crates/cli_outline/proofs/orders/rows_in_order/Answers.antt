@@ -1,10 +1,24 @@
-use Rattle.std.proofs.Common.{◌≡◌, refl, subst₂, sym}
+use Rattle.std.proofs.Common.{◌≡◌, ◌∙◌, ◌++◌, [], ℕ, List, All, ◌+◌, ap, refl, subst, subst₂, sym}
 use Rattle.table_schema.specs.declared.table.TableId.{TableId}
 use Rattle.metadata_source.specs.MemberLists.{member_of}
 use Rattle.cli_outline.specs.declared.orders.Grouping.{Grouping}
-use Rattle.cli_outline.specs.Orders.{AreGrouped, row_at}
-use Rattle.cli_outline.proofs.OrderLemmas.{if_ok}
+use Rattle.cli_outline.specs.Orders.{AreGrouped, IsOrdered, IsRowIn, row_at}
+use Rattle.cli_outline.proofs.OrderLemmas.{appended, if_ok}
 use Rattle.cli_outline.proofs.orders.rows_in_order.Goals as goal
+
+pub returns-in_ok-push_in_order-in-Table-clause-within : goal.returns-in_ok-push_in_order-in-Table-clause-within
+returns-in_ok-push_in_order-in-Table-clause-within c =
+    let out = c.in_ok-push_in_order-in-Table.ensures in
+    subst (All (IsRowIn c.args.source.now.neighbours.view.now c.args.table)) (sym (out.1 ∙ ap (λ xs. xs ++ out.0) c.new-order.ensures.items)) out.2
+
+pub returns-in_ok-push_in_order-in-Table-clause-grouped : goal.returns-in_ok-push_in_order-in-Table-clause-grouped
+returns-in_ok-push_in_order-in-Table-clause-grouped c = λ model is.
+    let out = c.in_ok-push_in_order-in-Table.ensures in
+    let options = c.args.source.now.options in
+    let rows : c.push_in_order.new.order.items ≡ out.0 = out.1 ∙ ap (λ xs. xs ++ out.0) c.new-order.ensures.items in
+    let past = ap (λ n. n + 1) (c.count-past.ensures.model model is) in
+    subst (λ (grouping : Grouping). AreGrouped options model c.args.table (row_at c.push_in_order.new.order.items) grouping) c.in-Table.ensures.grouping
+    (subst₂ (λ (xs : List ℕ) (end : ℕ). IsOrdered options model c.args.table (row_at xs) 1 end) (sym rows) past (appended options model c.args.table 1 _ out.0 (out.3 model is) [] refl))
 
 pub returns-in-Members-clause-grouped : goal.returns-in-Members-clause-grouped
 returns-in-Members-clause-grouped c = λ model is.

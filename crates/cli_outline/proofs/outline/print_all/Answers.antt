@@ -2,6 +2,7 @@ use Rattle.std.proofs.Common.{ap}
 use Rattle.std.specs.List.{flat_map}
 use Rattle.cli_outline.specs.Orders.{row_in}
 use Rattle.cli_outline.specs.Outline.{all_rows, outline_rows}
+use Rattle.cli_outline.proofs.ChosenLemmas.{all_printed}
 use Rattle.cli_outline.proofs.PrintedLemmas.{rows_are}
 use Rattle.cli_outline.proofs.outline.print_all.Goals as goal
 
@@ -9,6 +10,7 @@ pub returns : goal.returns
 unfolding outline_rows
 returns g c = λ model is.
     let more = c.rows_follow.ensures.more c.args.source.now.options model in
-    let first = rows_are (ap (λ tables. flat_map (all_rows (row_in c.args.source.now.orders.items) model) tables) c.first_tables.ensures) (c.print_tables.ensures model is) in
-    let last = rows_are (ap (λ tables. flat_map (all_rows (row_in c.args.source.now.orders.items) model) tables) c.last_tables.ensures) (c.print_tables-2.ensures model is) in
+    let rows = flat_map (all_rows (row_in c.args.source.now.orders.items) model) in
+    let first = rows_are (ap rows c.first_tables.ensures) (all_printed (c.print_chosen.ensures model is)) in
+    let last = rows_are (ap rows c.last_tables.ensures) (all_printed (c.print_chosen-2.ensures model is)) in
     more _ _ _ _ _ first (more _ _ _ _ _ (c.print_classes.ensures model is) last)

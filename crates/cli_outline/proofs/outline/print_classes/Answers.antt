@@ -3,8 +3,8 @@ use Rattle.table_schema.specs.declared.table.TableId.TheVariants.{TypeDef}
 use Rattle.metadata.specs.Metadata.{count_in}
 use Rattle.opening.specs.Views.{row_count}
 use Rattle.cli_outline.specs.Orders.{row_in}
-use Rattle.cli_outline.specs.Outline.{class_by, class_rows}
-use Rattle.cli_outline.proofs.PrintedLemmas.{rows_are}
+use Rattle.cli_outline.specs.Outline.{class_by, class_rows, each_from}
+use Rattle.cli_outline.proofs.PrintedLemmas.{each_more, each_none, rows_are}
 use Rattle.cli_outline.proofs.outline.print_classes.Goals as goal
 
 pub row_at-row-requires : goal.row_at-row-requires
@@ -24,12 +24,16 @@ loop-position-preserved g c = record {
       let counted = c.count-count.ensures.model model is in
       let within : c.loop-position.position < count_in model TypeDef + 1 = omega (arith, counted, c.loop-position-test.true) in
       let own = rows_are (ap (class_rows (row_in c.args.source.now.orders.items) model) c.row_at-row.ensures.row) (c.print_class.ensures.lines model is) in
-      c.loop-position.invariant.lines model later is
-      (c.ranges_follow.ensures.more c.args.source.now.options model (class_by (row_in c.args.source.now.orders.items) model) _ _ _ c.loop-position.position (count_in model TypeDef + 1) within own printed);
+      let rows = class_by (row_in c.args.source.now.orders.items) model in
+      let past = count_in model TypeDef + 1 in
+      c.loop-position.invariant.lines model later is (rows_are (sym (each_more rows c.loop-position.position past within))
+      (c.rows_follow.ensures.more c.args.source.now.options model _ _ _ _ (each_from rows (c.loop-position.position + 1) past) own printed));
 }
 
 pub returns : goal.returns
 returns g c = λ model is.
     let counted = c.count-count.ensures.model model is in
     let past : count_in model TypeDef + 1 ≤ c.loop-position.position = omega (arith, counted, c.loop-position-test.false) in
-    c.loop-position.invariant.lines model c.loop-position.out is (c.ranges_follow.ensures.none c.args.source.now.options model (class_by (row_in c.args.source.now.orders.items) model) c.loop-position.out c.loop-position.position (count_in model TypeDef + 1) past)
+    let rows = class_by (row_in c.args.source.now.orders.items) model in
+    c.loop-position.invariant.lines model c.loop-position.out is
+    (rows_are (sym (each_none rows c.loop-position.position (count_in model TypeDef + 1) past)) (c.rows_follow.ensures.nothing c.args.source.now.options model c.loop-position.out))

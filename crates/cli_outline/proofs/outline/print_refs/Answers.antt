@@ -3,13 +3,14 @@ use Rattle.std.specs.List.{flat_map}
 use Rattle.metadata.specs.Model.{IsModel}
 use Rattle.cli_outline.specs.Orders.{row_in}
 use Rattle.cli_outline.specs.Outline.{all_rows, refs_rows}
+use Rattle.cli_outline.proofs.ChosenLemmas.{all_printed}
 use Rattle.cli_outline.proofs.PrintedLemmas.{options_are, rows_are, rows_failed}
 use Rattle.cli_outline.proofs.outline.print_refs.Goals as goal
 
 pub returns-in-Ok : goal.returns-in-Ok
 returns-in-Ok g c = λ model is.
     let of = subst (λ (root : List ℕ). IsModel root model) (sym c.in-Ok.ensures.view) is in
-    let printed = c.print_tables.ensures model of in
+    let printed = all_printed (c.print_chosen.ensures model of) in
     options_are c.in-Ok.ensures.options (rows_are (λ i. flat_map (all_rows (row_in (c.in-Ok.ensures.orders i)) model) (c.ref_tables.ensures i)) printed)
 
 pub returns-in-Err : goal.returns-in-Err

@@ -3,7 +3,7 @@ use Rattle.std.specs.List.{flat_map}
 use Rattle.table_schema.specs.declared.table.TableId.{TableId}
 use Rattle.metadata.specs.Model.{IsModel}
 use Rattle.navigation.specs.Nesting.{type_token}
-use Rattle.cli_outline.specs.Describing.{AreDescribing}
+use Rattle.cli_outline.specs.Chosen.{AreDescribing}
 use Rattle.cli_outline.specs.Orders.{row_in}
 use Rattle.cli_outline.specs.Outline.{all_rows}
 use Rattle.cli_outline.proofs.PrintedLemmas.{options_are}
@@ -12,7 +12,7 @@ use Rattle.cli_outline.proofs.outline.print_type.Goals as goal
 pub returns-in-Ok : goal.returns-in-Ok
 returns-in-Ok g c = λ model is.
     let of = subst (λ (root : List ℕ). IsModel root model) (sym c.in-Ok.ensures.view) is in
-    let found = c.print_describing.ensures model of in
+    let found = c.print_chosen.ensures model of in
     let order = row_in c.in-Ok.source.orders.items in
     inl (
       _,

@@ -3,13 +3,13 @@ use Rattle.std.specs.List.{flat_map}
 use Rattle.metadata.specs.Metadata.{Metadata}
 use Rattle.metadata.specs.Model.{IsModel}
 use Rattle.cli_lines.specs.Printed.{Printed}
-use Rattle.cli_outline.specs.Describing.{PrintsDescribing}
+use Rattle.cli_outline.specs.Chosen.{PrintsChosen}
 use Rattle.cli_outline.specs.Orders.{row_in}
 use Rattle.cli_outline.specs.Outline.{all_rows}
-use Rattle.cli_outline.proofs.describing.print_describing.Given as goal
+use Rattle.cli_outline.proofs.chosen.print_chosen.Given as goal
 
 -- the tables that are left complete the tables
 abbrev pub invariant-loop-table : goal.invariant-loop-table
 invariant-loop-table g l = (model : Metadata) (later : Printed _) → IsModel l.source.neighbours.view.now model
-    → PrintsDescribing l.source.options model l.class l.out later (flat_map (all_rows (row_in l.source.orders.items) model) (drop l.table-index l.tables))
-    → PrintsDescribing l.source.options model l.class l.initial.out later (flat_map (all_rows (row_in l.source.orders.items) model) l.tables)
+    → PrintsChosen l.source.options model l.choice l.out later (flat_map (all_rows (row_in l.source.orders.items) model) (drop l.table-index l.tables))
+    → PrintsChosen l.source.options model l.choice l.initial.out later (flat_map (all_rows (row_in l.source.orders.items) model) l.tables)

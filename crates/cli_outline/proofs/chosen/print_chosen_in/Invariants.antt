@@ -2,13 +2,13 @@ use Rattle.std.proofs.Common.{◌+◌}
 use Rattle.metadata.specs.Metadata.{Metadata, count_in}
 use Rattle.metadata.specs.Model.{IsModel}
 use Rattle.cli_lines.specs.Printed.{Printed}
-use Rattle.cli_outline.specs.Describing.{PrintsDescribing}
+use Rattle.cli_outline.specs.Chosen.{PrintsChosen}
 use Rattle.cli_outline.specs.Orders.{row_in}
 use Rattle.cli_outline.specs.Outline.{all_rows, each_from, row_by}
-use Rattle.cli_outline.proofs.describing.print_describing_in.Given as goal
+use Rattle.cli_outline.proofs.chosen.print_chosen_in.Given as goal
 
 -- the rows that are left complete those of the table
 abbrev pub invariant-loop-position : goal.invariant-loop-position
 invariant-loop-position g l = (model : Metadata) (later : Printed _) → IsModel l.source.neighbours.view.now model
-    → PrintsDescribing l.source.options model l.class l.out later (each_from (row_by (row_in l.source.orders.items) l.table) l.position (count_in model l.table + 1))
-    → PrintsDescribing l.source.options model l.class l.initial.out later (all_rows (row_in l.source.orders.items) model l.table)
+    → PrintsChosen l.source.options model l.choice l.out later (each_from (row_by (row_in l.source.orders.items) l.table) l.position (count_in model l.table + 1))
+    → PrintsChosen l.source.options model l.choice l.initial.out later (all_rows (row_in l.source.orders.items) model l.table)

@@ -2,8 +2,8 @@ use Rattle.std.proofs.Common.{List, ℕ, subst, sym}
 use Rattle.metadata.specs.Model.{IsModel}
 use Rattle.cli_outline.specs.References.{types_and_members}
 use Rattle.cli_outline.proofs.PrintedLemmas.{options_are}
-use Rattle.cli_outline.proofs.ReferenceLemmas.{belonging_more, chosen_meant, some_meant, some_wanted}
-use Rattle.cli_outline.proofs.references.print_refs_of.Goals as goal
+use Rattle.cli_outline.proofs.SubjectLemmas.{chosen_meant, some_meant, some_wanted}
+use Rattle.cli_outline.proofs.outline.print_refs_of.Goals as goal
 
 pub returns-then-not-finds-clause-printed : goal.returns-then-not-finds-clause-printed
 returns-then-not-finds-clause-printed g c = λ model is some.
@@ -16,9 +16,7 @@ returns-clause-printed g c = λ model is.
     let of = subst (λ (root : List ℕ). IsModel root model) (sym c.in-Ok-new.ensures.view) is in
     let wants = c.in-Ok.ensures model in
     let types = c.in-Ok.types in
-    let both =
-    belonging_more c.in-Ok-new.source.options model types _ _ _ _ _ (λ first second. c.rows_follow.ensures.more c.in-Ok-new.source.options model _ _ _ first second)
-    (c.print_belonging.ensures model of) (c.print_belonging-2.ensures model of) in (
+    let found = rw c.in-Ok-new.ensures.orders at (c.print_chosen.ensures model of) in (
       some_meant model c.args.subject types wants ((c.finds.ensures model is).0 c.if-not-finds.false),
-      (both.0, chosen_meant model c.args.subject types wants (types_and_members model) both.0 both.1, options_are c.in-Ok-new.ensures.options both.2),
+      (found.0, chosen_meant model c.args.subject types wants (types_and_members model) found.0 found.1, options_are c.in-Ok-new.ensures.options found.2),
     )

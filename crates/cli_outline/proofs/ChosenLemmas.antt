@@ -1,0 +1,59 @@
+-- Rows that are chosen, one after another.
+use Rattle.std.proofs.Common.{◌≡◌, ◌∙◌, ℕ, Bool, true, false, List, [], ◌∷◌, ◌++◌, Option, None, Some, ⊎_elim, ap, inl, inr, refl, subst, sym}
+use Rattle.std.specs.Bool.{Decides}
+use Rattle.std.specs.Option.{option_eq}
+use Rattle.std.proofs.lemmas.Bool.Decides.{Decides-like, Decides-and, Decides-eqb}
+use denote.Enum.Bare.{same_true, true_same}
+use Rattle.table_schema.specs.declared.table.TableId.{TableId}
+use Rattle.table_schema.specs.contracts.table.TableId as table
+use Rattle.table_schema.specs.contracts.table.TableIdPartialEq.TheImpl as tables
+use Rattle.table_schema.specs.declared.token.Token.{Token}
+use Rattle.table_schema.specs.contracts.token.TokenPartialEq.TheImpl as tokens
+use Rattle.metadata.specs.Metadata.{Metadata}
+use Rattle.declaring_types.specs.Declaring.{IsDeclaring}
+use Rattle.cli_lines.specs.Printed.{Printed}
+use Rattle.cli_outline.specs.Chosen.{AreChosenBy, IsChosen, IsDescribing, PrintsChosen}
+use Rattle.cli_outline.specs.Printed.{PrintsRows}
+use Rattle.cli_outline.specs.declared.chosen.Choice.TheVariants as choice
+use Rattle.cli_outline.specs.declared.source.OutlineOptions.{OutlineOptions}
+use Rattle.cli_outline.proofs.PrintedLemmas.{rows_are}
+
+pub chosen_append : (Yes No : Token → Type 0) (xs ys a b : List Token) → AreChosenBy Yes No xs a → AreChosenBy Yes No ys b → AreChosenBy Yes No (xs ++ ys) (a ++ b)
+chosen_append Yes No [] ys a b are more = subst (λ (found : List Token). AreChosenBy Yes No ys (found ++ b)) (sym are) more
+chosen_append Yes No (x ∷ xs) ys a b are more = (
+  are.0 ++ b,
+  chosen_append Yes No xs ys are.0 b are.1 more,
+  ⊎_elim
+      (λ it. inl (it.0, ap (λ (found : List Token). found ++ b) it.1))
+      (λ it. inr (it.0, ap (λ (found : List Token). found ++ b) it.1))
+      are.2,
+)
+
+-- all rows are chosen
+pub all_chosen : (model : Metadata) (rows found : List Token) → AreChosenBy (IsChosen model choice.All true) (IsChosen model choice.All false) rows found → found ≡ rows
+all_chosen model [] found are = are
+all_chosen model (row ∷ rows) found are = ⊎_elim (λ it. it.1 ∙ ap (λ later. row ∷ later) (all_chosen model rows are.0 are.1)) (λ it. absurd it.0) are.2
+
+pub all_printed : {W : Type 0} {options : OutlineOptions} {model : Metadata} {a b : Printed W} {rows : List Token} → PrintsChosen options model choice.All a b rows → PrintsRows options model a b rows
+all_printed {W} {options} {model} {a} {b} {rows} printed = rows_are (all_chosen model rows printed.0 printed.1) printed.2
+
+-- ---- the test of a declaring type
+
+pub table_decides : (a b : TableId) → Decides (tables.eq-value.it a b) (a ≡ b)
+table_decides a b = (λ h. same_true table.the_type tt a b h, λ e. true_same table.the_type a b e)
+
+token_same : (a b : Token) → a.table ≡ b.table → a.row ≡ b.row → a ≡ b
+token_same a b h k = ap (λ (t : TableId). record { table = t; row = a.row }) h ∙ ap (λ (n : ℕ). record { table = b.table; row = n }) k
+
+token_decides : (a b : Token) → Decides (tokens.eq-value.it a b) (a ≡ b)
+token_decides a b =
+    Decides-like _ (λ p. token_same a b p.0 p.1) (λ e. (ap (λ (t : Token). t.table) e, ap (λ (t : Token). t.row) e))
+    (Decides-and _ _ (table_decides a.table b.table) (Decides-eqb a.row b.row))
+
+pub some_decides : (found : Option Token) (class : Token) → Decides (option_eq tokens.eq-value.it found (Some class)) (found ≡ Some class)
+some_decides None class = (λ h. absurd cc, λ k. absurd cc)
+some_decides (Some of) class = Decides-like _ (λ h. ap Some h) (λ k. cc k) (token_decides of class)
+
+pub describes : (model : Metadata) (class of : Token) (found : Option Token) (test : Bool) → Decides test (found ≡ Some class) → IsDeclaring model of found → IsDescribing model class test of
+describes model class of found true decides is = subst (λ (d : Option Token). IsDeclaring model of d) (decides.0 refl) is
+describes model class of found false decides is = (found, is, λ same. let yes = decides.1 same in absurd cc)

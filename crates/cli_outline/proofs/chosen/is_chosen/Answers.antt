@@ -1,0 +1,31 @@
+use Rattle.std.proofs.Common.{Bool, true, false, refl, subst, sym}
+use Rattle.std.specs.Prelude.{◌↔◌, IsTrue}
+use Rattle.std.proofs.lemmas.Bool.Decides.{Decides-at}
+use Rattle.std.specs.Borrow.{Bor}
+use Rattle.table_schema.specs.declared.token.Token.{Token}
+use Rattle.metadata.specs.Metadata.{Metadata}
+use Rattle.cli_paths.specs.declared.refs.Wanted.{Wanted}
+use Rattle.cli_paths.specs.Refs.{BelongsTo, IsWantedRef}
+use Rattle.cli_outline.specs.Chosen.{IsChosen}
+use Rattle.cli_outline.specs.declared.chosen.Choice.{Choice}
+use Rattle.cli_outline.specs.declared.chosen.Choice.TheVariants as choice
+use Rattle.cli_outline.proofs.ChosenLemmas.{describes, some_decides}
+use Rattle.cli_outline.proofs.chosen.is_chosen.Goals as goal
+
+belonging : (model : Metadata) (wanted : Bor Wanted) (of : Token) (test : Bool) → IsTrue test ↔ BelongsTo model (IsWantedRef model wanted.now) of → IsChosen model (choice.Belonging wanted) test of
+belonging model wanted of true belongs = belongs.0 refl
+belonging model wanted of false belongs = λ is. let yes = belongs.1 is in absurd cc
+
+pub returns-in-All : goal.returns-in-All
+returns-in-All c = λ model is. subst (λ (ch : Choice). IsChosen model ch true c.args.token) (sym c.in-All.is) tt
+
+pub returns-in-Describing : goal.returns-in-Describing
+returns-in-Describing c = λ model is.
+    let found = c.declaring_type.result in
+    subst (λ (ch : Choice). IsChosen model ch c.eq.result c.args.token) (sym c.in-Describing.is)
+    (describes model c.in-Describing.class c.args.token found c.eq.result (Decides-at _ _ c.eq.ensures (some_decides found c.in-Describing.class)) (c.declaring_type.ensures model is))
+
+pub returns-in-Belonging : goal.returns-in-Belonging
+returns-in-Belonging c = λ model is.
+    subst (λ (ch : Choice). IsChosen model ch c.belongs.result c.args.token) (sym c.in-Belonging.is)
+    (belonging model c.in-Belonging.wanted c.args.token c.belongs.result (c.belongs.ensures model is))

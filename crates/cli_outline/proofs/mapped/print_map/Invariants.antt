@@ -1,0 +1,13 @@
+use Rattle.metadata.specs.Metadata.{Metadata}
+use Rattle.metadata.specs.Model.{IsModel}
+use Rattle.cli_lines.specs.Printed.{Printed}
+use Rattle.cli_outline.specs.Orders.{row_in}
+use Rattle.cli_outline.specs.Outline.{accessed_by, each_from, mapped_rows}
+use Rattle.cli_outline.specs.Printed.{PrintsRows}
+use Rattle.cli_outline.proofs.mapped.print_map.Given as goal
+
+-- the rows that are left complete those of the map
+abbrev pub invariant-loop-position : goal.invariant-loop-position
+invariant-loop-position g l = (model : Metadata) (later : Printed _) → IsModel l.source.neighbours.view.now model
+    → PrintsRows l.source.options model l.out later (each_from (accessed_by (row_in l.source.orders.items) model l.of) l.position l.past)
+    → PrintsRows l.source.options model l.initial.out later (mapped_rows (row_in l.source.orders.items) model l.of l.fn.map)

@@ -1,0 +1,94 @@
+//! Prints the rows of some tables: all, or those that are chosen.
+ghost use Rattle.std.specs.Prelude.{◌≡◌, ◌≤◌, ◌∷◌, []};
+ghost use Rattle.std.specs.List.{flat_map};
+ghost use Rattle.metadata.specs.Metadata.{Metadata};
+ghost use Rattle.metadata.specs.Model.{IsModel};
+ghost use Rattle.opening.specs.Views.{row_count};
+ghost use Rattle.cli_outline.specs.Chosen.{IsChosen, PrintsChosen};
+ghost use Rattle.cli_outline.specs.Orders.{row_in};
+ghost use Rattle.cli_outline.specs.Outline.{all_rows};
+
+use crate::laws::{choices_follow, rows_follow};
+use crate::outline::print_row;
+use crate::source::Source;
+use cli_declarations::Declared;
+use cli_lines::Printer;
+use cli_paths::{Wanted, belongs};
+use declaring_types::declaring_type;
+use opening::{TableId, Token};
+use std::io::Write;
+
+/// Which rows are printed.
+#[derive(Clone, Copy)]
+pub enum Choice<'w, 'p> {
+    /// All.
+    All,
+    /// Those that describe a type or what it declares.
+    Describing(Token),
+    /// Those that belong to a type of another module that is wanted.
+    Belonging(&'w Wanted<'p>),
+}
+
+/// Whether a row is chosen.
+fn is_chosen(source: &Source<'_, '_>, choice: Choice<'_, '_>, token: Token) -> bool
+    requires first { 1 ≤ token.row }
+    requires last { token.row ≤ row_count source.now.neighbours.view.now token.table }
+    ensures { (model : Metadata) → IsModel source.now.neighbours.view.now model → IsChosen model choice.entry result token }
+{
+    match choice {
+        Choice::All => true,
+        Choice::Describing(class) => declaring_type(&source.neighbours, token) == Some(class),
+        Choice::Belonging(wanted) => belongs(source.neighbours.view, wanted, token),
+    }
+}
+
+/// Prints the line of a row if it is chosen.
+fn print_if_chosen<W: Write>(
+    source: &Source<'_, '_>,
+    choice: Choice<'_, '_>,
+    token: Token,
+    declared: &mut Declared,
+    out: &mut Printer<'_, W>,
+)
+    requires first { 1 ≤ token.row }
+    requires last { token.row ≤ row_count source.now.neighbours.view.now token.table }
+    ensures { (model : Metadata) → IsModel source.now.neighbours.view.now model → PrintsChosen source.now.options model choice.entry out.old out.new (token ∷ []) }
+{
+    rows_follow::<W>();
+    if is_chosen(source, choice, token) {
+        print_row(source, None, token, declared, out);
+    }
+}
+
+/// Prints the lines of the rows of a table that are chosen.
+fn print_chosen_in<W: Write>(
+    source: &Source<'_, '_>,
+    table: TableId,
+    choice: Choice<'_, '_>,
+    declared: &mut Declared,
+    out: &mut Printer<'_, W>,
+)
+    ensures { (model : Metadata) → IsModel source.now.neighbours.view.now model → PrintsChosen source.now.options model choice.entry out.old out.new (all_rows (row_in source.now.orders.items) model table) }
+{
+    choices_follow::<W>();
+    for position in 1..source.neighbours.view.count(table) + 1 {
+        let row = source.row_at(table, position);
+        print_if_chosen(source, choice, Token { table, row }, declared, out);
+    }
+}
+
+/// Prints the lines of the rows of some tables that are chosen.
+pub(crate) fn print_chosen<W: Write>(
+    source: &Source<'_, '_>,
+    tables: &[TableId],
+    choice: Choice<'_, '_>,
+    declared: &mut Declared,
+    out: &mut Printer<'_, W>,
+)
+    ensures { (model : Metadata) → IsModel source.now.neighbours.view.now model → PrintsChosen source.now.options model choice.entry out.old out.new (flat_map (all_rows (row_in source.now.orders.items) model) tables.now) }
+{
+    choices_follow::<W>();
+    for table in tables {
+        print_chosen_in(source, *table, choice, declared, out);
+    }
+}
