@@ -125,7 +125,7 @@ fn contents_at(
 ) -> Result<Vec<Body>, AllocError>
     requires small { length pe.now.bytes ≤ 2 ^ 30 }
     requires rows { HasRows (row_count view.now table.Field) what }
-    ensures found { IfOk result (λ found. (model : Metadata) → IsModel view.now model → found.items ≡ contents_at what.entry pe.now model offset) }
+    ensures sound { IfOk result (λ found. (model : Metadata) → IsModel view.now model → found.items ≡ contents_at what.entry pe.now model offset) }
     ensures rows { IfOk result (λ found. AreRows (row_count view.now (table_of what.entry)) found.items) }
 {
     match what {

@@ -27,7 +27,7 @@ returns-in-Ok-contents_at g c = λ image is model shows.
     let same : c.deref.result.now ≡ found = search rules in
     let len : c.len.result ≡ length found = search rules in
     let number : c.min.result ≡ min 10 (length found) = c.min.ensures ∙ ap (min 10) len in
-    let all = c.in-Ok-contents_at.ensures.found model shows ∙ ap (λ (of : Image). contents_at what of model c.args.offset) (c.in-Ok.ensures.complete image is) in
+    let all = c.in-Ok-contents_at.ensures.sound model shows ∙ ap (λ (of : Image). contents_at what of model c.args.offset) (c.in-Ok.ensures.complete image is) in
     let first : c.split_at.result.0.now ≡ take 10 (contents_at what image model c.args.offset) =
     c.split_at.ensures.front ∙ (λ i. take (number i) (same i)) ∙ take_min 10 found ∙ ap (take 10) all in
     let bytes = ap (λ (of : Image). of.bytes) (sym (c.in-Ok.ensures.complete image is) ∙ c.in-Ok.ensures.all.1) in
