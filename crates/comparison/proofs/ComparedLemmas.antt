@@ -32,7 +32,7 @@ pub outcomes_after : (left right : List ℕ) (table : TableId) (before after : C
     → after.blobs ≡ before.blobs → AreOutcomes left right table before → IsNoted left right table noted → AreOutcomes left right table after
 outcomes_after left right table before after key noted updated blobs was is = (
   λ other more found. go other more (is_eq (key_cmp key other)) (sym (updated other) ∙ found),
-  subst (λ (names : BlobNames). AreBlobNames ((source_of left).blobs ++ (source_of right).blobs) names.names.items) (sym blobs) was.1,
+  subst (λ (names : BlobNames). AreBlobNames ((source_of left).blobs ++ (source_of right).blobs) names) (sym blobs) was.1,
 )
   where
     go : (other : ℕ × ℕ × ℕ) (more : Outcome) (same : Bool) → cond same (Some noted) (outcome_at before other) ≡ Some more → IsNoted left right table more

@@ -1,13 +1,12 @@
--- Blobs of two heaps that are joined, and the names of those that are equal (ECMA-335 II.24.2.4).
-use Rattle.std.proofs.Common.{◌≡◌, ◌∙◌, ◌↔◌, ◌+◌, ◌<◌, ◌≤◌, ◌++◌, ℕ, true, IsTrue, List, length, set, slice_index, inl, inr, ⊎_elim, sym, ap, subst, arith, append_assoc, length-append, length-set, get_or-set_same, get_or-set_other}
-use Rattle.std.proofs.lemmas.Bool.{cases_eq}
+-- Blobs of two heaps that are joined, and their windows (ECMA-335 II.24.2.4).
+use Rattle.std.proofs.Common.{◌≡◌, ◌∙◌, ◌↔◌, ◌+◌, ◌<◌, ◌≤◌, ◌++◌, ℕ, true, IsTrue, List, length, take, drop, inl, inr, sym, ap, subst, arith, append_assoc, length-append, take_at, drop_at}
 use Rattle.table_schema.specs.declared.table.TableId.{TableId}
 use Rattle.table_schema.specs.declared.column.ColumnKind.{ColumnKind}
 use Rattle.table_schema.specs.declared.column.ColumnKind.TheVariants as kind
 use Rattle.table_schema.specs.Columns.{column_at}
 use Rattle.table_schema.specs.CellColumns.{cell_count, column_of}
 use Rattle.heap_entries.specs.Entries.{IsBlob, IsCounted}
-use Rattle.heaps.specs.EqualBlobs.{AreEarlierBlobs}
+use Rattle.heaps.specs.Windows.{AreNames, window}
 use Rattle.metadata.specs.Cell.{Cell, Bytes}
 use Rattle.metadata.specs.Metadata.{Metadata, cell_in}
 use Rattle.metadata.specs.Model.{IsModel}
@@ -18,7 +17,7 @@ use Rattle.metadata.specs.Stands.{StandsFor}
 use Rattle.metadata.specs.Starts.{start_of}
 use Rattle.metadata.specs.Valid.{kind_at}
 use Rattle.opening.specs.Views.{row_count}
-use Rattle.comparison.specs.BlobNames.{AreBlobNames, AreSameBlobs}
+use Rattle.comparison.specs.BlobNames.{AreSameBlobs}
 use Rattle.comparison.specs.ComparedCells.{IsOutcome}
 use Rattle.comparison.specs.SameCells.{is_same_cell}
 
@@ -37,10 +36,6 @@ counted_left left right index blob is = record {
   counts = is.counts;
 }
 
-pub left_in : (left right : List ℕ) (index : ℕ) (blob : List ℕ) → IsBlob left index blob → IsBlob (left ++ right) index blob
-left_in left right index blob (inl none) = inl none
-left_in left right index blob (inr is) = inr (is.0, counted_left left right index blob is.1)
-
 -- a blob of the right heap is as much further on as the left heap is long
 counted_right : (left right : List ℕ) (index : ℕ) (blob : List ℕ) → IsCounted right index blob → IsCounted (left ++ right) (length left + index) blob
 counted_right left right index blob is = record {
@@ -52,44 +47,47 @@ counted_right left right index blob is = record {
   counts = is.counts;
 }
 
-pub right_in : (left right : List ℕ) (index : ℕ) (blob : List ℕ) → 0 < index → IsBlob right index blob → IsBlob (left ++ right) (length left + index) blob
-right_in left right index blob some (inl none) = absurd (omega (arith, some, none.0))
-right_in left right index blob some (inr is) = inr (omega (arith, some), counted_right left right index blob is.1)
+-- a blob at an index that is not 0 has a packed length
+in_entry : (heap : List ℕ) (index : ℕ) (blob : List ℕ) → 0 < index → IsBlob heap index blob → IsCounted heap index blob
+in_entry heap index blob some (inl none) = absurd (omega (arith, some, none.0))
+in_entry heap index blob some (inr is) = is.1
 
--- ---- names
+-- the packed length at an index, and what follows it
+pub entry_behind : (heap : List ℕ) (index : ℕ) (blob : List ℕ) (counted : IsCounted heap index blob) → drop index heap ≡ counted.count ++ (blob ++ counted.after)
+entry_behind heap index blob counted = ap (drop index) counted.whole ∙ drop_at counted.before (counted.count ++ (blob ++ counted.after)) index counted.at
 
--- blobs with one name are equal
-pub one_name : ((heap : List ℕ) (index : ℕ) (blob other : List ℕ) → IsBlob heap index blob → IsBlob heap index other → blob ≡ other)
-    → (left right names : List ℕ) (m n at : ℕ) → 0 < n → m < length names → at < length names → at ≡ length left + n → slice_index names m ≡ slice_index names at
-    → AreBlobNames (left ++ right) names → AreSameBlobs left right m n
-one_name one left right names m n at some low high at_is same named = λ blob other is also.
-    one (left ++ right) (slice_index names m) blob other
-    (named m blob low (left_in left right m blob is))
-    (subst (λ i. IsBlob (left ++ right) i other) (sym same)
-    (named at other high (subst (λ i. IsBlob (left ++ right) i other) (sym at_is) (right_in left right n other some also))))
+-- ---- windows
+
+-- a blob is the window after its packed length
+blob_window : (heap : List ℕ) (index : ℕ) (blob : List ℕ) (counted : IsCounted heap index blob) (start len : ℕ) → start ≡ index + length counted.count → len ≡ length blob
+    → window heap len start ≡ blob
+blob_window heap index blob counted start len start_is len_is =
+    let prefix = counted.before ++ counted.count in
+    let tail = blob ++ counted.after in
+    let at : length prefix ≡ start = length-append counted.before counted.count ∙ ap (λ n. n + length counted.count) counted.at ∙ sym start_is in
+    ap (take len) (ap (drop start) (counted.whole ∙ sym (append_assoc counted.before counted.count tail)) ∙ drop_at prefix tail start at)
+    ∙ take_at blob counted.after len (sym len_is)
+
+-- blobs with equal windows are equal
+pub same_windows : (left right : List ℕ) (m n start other len : ℕ) → 0 < m → 0 < n
+    → ((blob : List ℕ) (counted : IsCounted left m blob) → (start ≡ m + length counted.count) × (len ≡ length blob))
+    → ((blob : List ℕ) (counted : IsCounted right n blob) → (other ≡ n + length counted.count) × (len ≡ length blob))
+    → window (left ++ right) len start ≡ window (left ++ right) len (length left + other) → AreSameBlobs left right m n
+unfolding counted_left in_entry counted_right
+same_windows left right m n start other len low also_low at also_at same = λ blob more is also.
+    let counted = in_entry left m blob low is in
+    let also_counted = in_entry right n more also_low also in
+    let whole = left ++ right in
+    let further : length left + other ≡ (length left + n) + length also_counted.count = omega (arith, (also_at more also_counted).0) in
+    sym (blob_window whole m blob (counted_left left right m blob counted) start len (at blob counted).0 (at blob counted).1)
+    ∙ same
+    ∙ blob_window whole (length left + n) more (counted_right left right n more also_counted) (length left + other) len further (also_at more also_counted).1
 
 -- of the same heaps
-pub names_kept : (left right heap other names : List ℕ) → left ≡ heap → right ≡ other → AreBlobNames (heap ++ other) names → AreBlobNames (left ++ right) names
-names_kept left right heap other names left_is right_is named =
-    subst (λ l. AreBlobNames (l ++ right) names) (sym left_is) (subst (λ l. AreBlobNames (heap ++ l) names) (sym right_is) named)
-
--- one more index gets the name of a blob that is equal
-pub name_set : (heap names : List ℕ) (index name : ℕ) → ((blob : List ℕ) → IsBlob heap index blob → IsBlob heap name blob) → AreBlobNames heap names
-    → AreBlobNames heap (set names index name)
-name_set heap names index name same named = λ k blob within is. ⊎_elim
-    (λ (e : k ≡ index).
-    let lt : index < length names = omega (arith, within, length-set names index name, e) in
-    subst (λ i. IsBlob heap i blob) (sym (ap (slice_index (set names index name)) e ∙ get_or-set_same names index name 0 lt)) (same blob (subst (λ i. IsBlob heap i blob) e is)))
-    (λ other. subst (λ i. IsBlob heap i blob) (sym (get_or-set_other names index k name 0 other)) (named k blob (omega (arith, within, length-set names index name)) is))
-    (cases_eq k index)
-
--- the index of an earlier use has the blob of a use
-pub earlier_has : (heap indexes earlier : List ℕ) → AreEarlierBlobs heap indexes earlier → (k : ℕ) → k < length indexes
-    → (blob : List ℕ) → IsBlob heap (slice_index indexes k) blob → IsBlob heap (slice_index indexes (slice_index earlier k)) blob
-earlier_has heap indexes earlier are k within blob is = ⊎_elim
-    (λ own. subst (λ i. IsBlob heap (slice_index indexes i) blob) (sym own) is)
-    (λ other. other.1.same blob is)
-    (are k within)
+pub names_kept : (left right heap other : List ℕ) (width : ℕ) (names : List ℕ) → left ≡ heap → right ≡ other → AreNames (heap ++ other) width names
+    → AreNames (left ++ right) width names
+names_kept left right heap other width names left_is right_is named =
+    subst (λ l. AreNames (l ++ right) width names) (sym left_is) (subst (λ l. AreNames (heap ++ l) width names) (sym right_is) named)
 
 -- ---- cells
 

@@ -1,10 +1,12 @@
--- Names of blobs that are equal (ECMA-335 II.24.2.4).
-use Rattle.std.specs.Prelude.{◌≡◌, ◌<◌, ℕ, List, length, slice_index}
+-- Names of windows, by which equal blobs are found (ECMA-335 II.24.2.4).
+use Rattle.std.specs.Prelude.{◌≡◌, ℕ, List}
 use Rattle.heap_entries.specs.Entries.{IsBlob}
+use Rattle.heaps.specs.Windows.{AreNames}
+use Rattle.comparison.specs.declared.blob_names.BlobNames.{BlobNames}
 
--- the blob at an index is also at the name of the index
-abbrev pub AreBlobNames : List ℕ → List ℕ → Type 0
-AreBlobNames heap names = (index : ℕ) (blob : List ℕ) → index < length names → IsBlob heap index blob → IsBlob heap (slice_index names index) blob
+-- they are the names of the windows of a heap
+abbrev pub AreBlobNames : List ℕ → BlobNames → Type 0
+AreBlobNames heap blobs = AreNames heap blobs.windows.width blobs.windows.names.items
 
 -- the blobs at indexes of two heaps are equal
 abbrev pub AreSameBlobs : List ℕ → List ℕ → ℕ → ℕ → Type 0

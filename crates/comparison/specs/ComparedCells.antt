@@ -32,9 +32,9 @@ key_cmp a b = ordering_then (ordering_then (nat_cmp a.0 b.0) (nat_cmp a.1 b.1)) 
 abbrev pub outcome_at : ComparedCells → ℕ × ℕ × ℕ → Option Outcome
 outcome_at compared key = get key_cmp compared.outcomes key
 
--- the names are those of the blobs of two roots, whose heaps are joined
+-- the names are those of the windows of two roots, whose blob heaps are joined
 abbrev pub HasBlobNames : List ℕ → List ℕ → ComparedCells → Type 0
-HasBlobNames left right compared = AreBlobNames ((source_of left).blobs ++ (source_of right).blobs) compared.blobs.names.items
+HasBlobNames left right compared = AreBlobNames ((source_of left).blobs ++ (source_of right).blobs) compared.blobs
 
 module _ (left right : List ℕ) (table : TableId) where
   -- whether a cell is equal in each row of two roots that has these numbers in the column of the cell
@@ -48,6 +48,6 @@ module _ (left right : List ℕ) (table : TableId) where
   abbrev pub IsNoted : Outcome → Type 0
   IsNoted noted = (k : ℕ) → k < noted.count → IsOutcome noted.cell_index (noted.left + k) (noted.right + k) noted.same
 
-  -- what was noted is so, and the names are those of the blobs
+  -- what was noted is so, and the names are those of the windows
   abbrev pub AreOutcomes : ComparedCells → Type 0
   AreOutcomes compared = ((key : ℕ × ℕ × ℕ) (noted : Outcome) → outcome_at compared key ≡ Some noted → IsNoted noted) × HasBlobNames left right compared

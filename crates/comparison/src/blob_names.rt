@@ -1,60 +1,81 @@
-//! Equal blobs of two heaps, which are found without comparing their bytes (II.24.2.4).
-ghost use Rattle.std.specs.Prelude.{◌≡◌, ◌<◌, ◌++◌, ℕ, List, IfOk, IsTrue, OnOk, length};
-ghost use Rattle.heap_entries.specs.Entries.{IsBlob};
-ghost use Rattle.heaps.specs.EqualBlobs.{AreEarlierBlobs};
+//! Equal blobs of two heaps, which are found without comparing all of their bytes (II.24.2.4).
+ghost use Rattle.std.specs.Prelude.{◌≡◌, ◌≤◌, ◌<◌, ◌+◌, ◌^◌, ◌++◌, ℕ, List, IfOk, IfSome, IsTrue, OnOk, length};
+ghost use Rattle.heap_entries.specs.Entries.{IsCounted};
+ghost use Rattle.heaps.specs.Windows.{AreNames};
 ghost use Rattle.table_schema.specs.Columns.{columns_of};
 ghost use Rattle.comparison.specs.BlobNames.{AreBlobNames, AreSameBlobs};
 
-use heap_pools::own_firsts;
-use heaps::equal_blobs;
+use heaps::WindowNames;
 use opening::{Source, TableId};
+use packed::read_unsigned;
 use reading::column_at;
 use std::alloc::{AllocError, Global};
 use table_schema::{ColumnKind, columns};
 
-/// Blobs are named once this number of times the bytes of both heaps were compared. To compare fewer takes less time.
+/// Windows are named once this number of times the bytes of both heaps were compared. To compare fewer takes less time.
 const LEAST_COMPARED: usize = 64;
 
-/// Names of the blobs of two heaps that are joined, the left one first. Blobs with one name are equal.
+/// Windows get wider while there are more than this number of them for each byte of the heaps, since a step takes less time
+/// than to name windows of twice the width for this part of a byte.
+const MOST_STEPS: usize = 16;
+
+/// Windows get no wider if a blob of mean length has at most this number of them. One shorter than a window is compared byte
+/// by byte.
+const MOST_WINDOWS: usize = 64;
+
+/// Names of the windows of two blob heaps that are joined, the left one first. Blobs whose windows have the same names are
+/// equal.
 #[derive(Drop)]
 pub(crate) struct BlobNames {
-    /// For each index an index of the same blob. Empty until blobs are named.
-    pub names: Vec<usize>,
+    /// Empty until windows are named.
+    pub windows: WindowNames,
     /// The number of bytes of blobs that were compared and are equal.
     equal_bytes: usize,
+}
+
+/// Where the blob at an index that is not 0 begins, after its packed length, and the number of its bytes.
+fn span_of(heap: &[u8], index: u32) -> Option<(usize, usize)>
+    ensures within { IfSome result (λ span. (0 < index) × (span.0 ≤ length heap.now)) }
+    ensures at { IfSome result (λ span. (blob : List ℕ) (counted : IsCounted heap.now index blob) → (span.0 ≡ index + length counted.count) × (span.1 ≡ length blob)) }
+{
+    if index == 0 || index as usize > heap.len() {
+        return None;
+    }
+    let (_, tail) = heap.split_at(index as usize);
+    let (len, used) = read_unsigned(tail)?;
+    Some((index as usize + used, len as usize))
 }
 
 impl BlobNames {
     /// No names. The call does not allocate.
     pub(crate) fn new(alloc: Global) -> BlobNames
-        ensures { (heap : List ℕ) → AreBlobNames heap result.names.items }
+        ensures { (heap : List ℕ) → AreBlobNames heap result }
     {
         BlobNames {
-            names: Vec::new(alloc),
+            windows: WindowNames::new(alloc),
             equal_bytes: 0,
         }
     }
 
-    /// Whether the blobs at two indexes have one name. The left heap has this length.
-    pub(crate) fn have_one_name(&self, left_len: usize, left: u32, right: u32) -> bool
-        ensures { IsTrue result → (first second : List ℕ) → left_len ≡ length first → AreBlobNames (first ++ second) self.now.names.items
-            → AreSameBlobs first second left right }
+    /// Whether the blobs of two heaps at two indexes are equal, as far as their windows show.
+    pub(crate) fn are_equal(&self, left: &[u8], right: &[u8], indexes: (u32, u32)) -> bool
+        requires { AreBlobNames (left.now ++ right.now) self.now }
+        ensures { IsTrue result → AreSameBlobs left.now right.now indexes.0 indexes.1 }
     {
-        heap_entries::laws::entries_are_one();
-        if left == 0 || right == 0 {
-            return false;
-        }
-        let left_index = left as usize;
-        let Some(right_index) = left_len.checked_add(right as usize) else {
+        let Some((left_start, left_len)) = span_of(left, indexes.0) else {
             return false;
         };
-        if left_index >= self.names.len() || right_index >= self.names.len() {
+        let Some((right_start, right_len)) = span_of(right, indexes.1) else {
+            return false;
+        };
+        if left_len != right_len {
             return false;
         }
-        self.names[left_index] == self.names[right_index]
+        let start = left.len() + right_start;
+        self.windows.are_same(left_start, start, left_len)
     }
 
-    /// Counts the bytes of a blob that was compared and is equal. If many were, all blobs of both heaps are named, once.
+    /// Counts the bytes of a blob that was compared and is equal. If many were, the windows of both heaps are named, once.
     pub(crate) fn count_compared(
         &mut self,
         alloc: Global,
@@ -62,102 +83,76 @@ impl BlobNames {
         right: &Source<'_>,
         len: usize,
     ) -> Result<(), AllocError>
-        requires { AreBlobNames (left.now.source.blobs ++ right.now.source.blobs) self.old.names.items }
-        ensures { OnOk result (AreBlobNames (left.now.source.blobs ++ right.now.source.blobs) self.new.names.items) }
+        requires { AreBlobNames (left.now.source.blobs ++ right.now.source.blobs) self.old }
+        ensures { OnOk result (AreBlobNames (left.now.source.blobs ++ right.now.source.blobs) self.new) }
     {
         self.equal_bytes = self.equal_bytes.saturating_add(len);
         let heap_len = left.blobs().len().saturating_add(right.blobs().len());
         let is_enough = self.equal_bytes / LEAST_COMPARED > heap_len;
-        if !is_enough || !self.names.is_empty() || heap_len > u32::MAX as usize {
+        if !is_enough || !self.windows.names.is_empty() || heap_len > u32::MAX as usize {
             return Ok(());
         }
-        self.names = names_of(alloc, left, right)?;
+        self.windows = names_of(alloc, left, right)?;
         Ok(())
     }
 }
 
-/// The names of all blobs of two roots.
-fn names_of(alloc: Global, left: &Source<'_>, right: &Source<'_>) -> Result<Vec<usize>, AllocError>
-    ensures { IfOk result (λ names. AreBlobNames (left.now.source.blobs ++ right.now.source.blobs) names.items) }
+/// The names of the windows of the heaps of two roots.
+fn names_of(alloc: Global, left: &Source<'_>, right: &Source<'_>) -> Result<WindowNames, AllocError>
+    requires { length left.now.source.blobs + length right.now.source.blobs < 2 ^ 32 }
+    ensures { IfOk result (λ named. AreNames (left.now.source.blobs ++ right.now.source.blobs) named.width named.names.items) }
 {
+    let mut blobs = Blobs { count: 0, len: 0 };
+    add_blobs(&mut blobs, left);
+    add_blobs(&mut blobs, right);
     let mut heap = Vec::from_slice(alloc, left.blobs())?;
     heap.extend_from_slice(right.blobs())?;
-    let right_from = u32::try_from(left.blobs().len()).unwrap_or(u32::MAX);
-    let mut indexes = Vec::new(alloc);
-    add_blobs(&mut indexes, left, 0)?;
-    add_blobs(&mut indexes, right, right_from)?;
-    let earlier = equal_blobs(alloc, &heap, &indexes)?;
-    names_from(alloc, &heap, &indexes, &earlier)
+    WindowNames::of_heap(alloc, &heap, blobs.width_in(heap.len()))
 }
 
-/// Adds the indexes of all blobs of a root whose heap begins at an index.
-fn add_blobs(indexes: &mut Vec<u32>, source: &Source<'_>, from: u32) -> Result<(), AllocError> {
+/// The blobs that rows refer to, and the number of their bytes.
+#[derive(Clone, Copy)]
+struct Blobs {
+    count: usize,
+    len: usize,
+}
+
+impl Blobs {
+    /// The least width of windows by which all are compared in a few steps for each byte of a heap, or for each blob.
+    fn width_in(self, heap_len: usize) -> u32
+        ensures { result ≤ 2 ^ 31 }
+    {
+        let steps = self.len / heap_len.max(1) / MOST_STEPS;
+        let windows = self.len / self.count.max(1) / MOST_WINDOWS;
+        steps.min(windows).min(1 << 31) as u32
+    }
+}
+
+/// Adds the blobs of a root.
+fn add_blobs(blobs: &mut Blobs, source: &Source<'_>) {
     for table in TableId::all() {
-        add_table(indexes, source, *table, from)?;
+        add_table(blobs, source, *table);
     }
-    Ok(())
 }
 
-/// Adds the indexes of the blobs of a table.
-fn add_table(
-    indexes: &mut Vec<u32>,
-    source: &Source<'_>,
-    table: TableId,
-    from: u32,
-) -> Result<(), AllocError> {
+/// Adds the blobs of a table.
+fn add_table(blobs: &mut Blobs, source: &Source<'_>, table: TableId) {
     for column in 0..columns(table).len() {
-        add_column(indexes, source, table, column, from)?;
-    }
-    Ok(())
-}
-
-/// Adds the indexes of the blobs of a column, if it is one of blobs.
-fn add_column(
-    indexes: &mut Vec<u32>,
-    source: &Source<'_>,
-    table: TableId,
-    column: usize,
-    from: u32,
-) -> Result<(), AllocError>
-    requires { column < length (columns_of table) }
-{
-    let ColumnKind::Blob = column_at(table, column).kind else {
-        return Ok(());
-    };
-    for earlier in 0..source.count(table) {
-        let index = source.number(table, earlier + 1, column);
-        if index > 0 {
-            indexes.push(index.saturating_add(from))?;
+        if let ColumnKind::Blob = column_at(table, column).kind {
+            add_column(blobs, source, table, column);
         }
     }
-    Ok(())
 }
 
-/// The name of each index, from an earlier use of an equal blob for each use of an index.
-fn names_from(
-    alloc: Global,
-    heap: &[u8],
-    indexes: &[u32],
-    earlier: &[usize],
-) -> Result<Vec<usize>, AllocError>
-    requires len { length earlier.now ≡ length indexes.now }
-    requires earlier { AreEarlierBlobs heap.now indexes.now earlier.now }
-    ensures { IfOk result (λ names. AreBlobNames heap.now names.items) }
+/// Adds the blobs of a column.
+fn add_column(blobs: &mut Blobs, source: &Source<'_>, table: TableId, column: usize)
+    requires { column < length (columns_of table) }
 {
-    let mut names = own_firsts(alloc, heap.len())?;
-    for use_index in 0..indexes.len() {
-        set_name(&mut names, indexes[use_index], indexes[earlier[use_index]]);
-    }
-    Ok(names)
-}
-
-/// Names the blob at an index by that of another one.
-#[tactic(auto, using(crate::proofs::NameLemmas::name_set))]
-fn set_name(names: &mut Vec<usize>, index: u32, name: u32)
-    ensures { (heap : List ℕ) → ((blob : List ℕ) → IsBlob heap index blob → IsBlob heap name blob) → AreBlobNames heap names.old.items
-        → AreBlobNames heap names.new.items }
-{
-    if (index as usize) < names.len() {
-        names[index as usize] = name as usize;
+    for earlier in 0..source.count(table) {
+        let index = source.number(table, earlier + 1, column);
+        if let Some((_, len)) = span_of(source.blobs(), index) {
+            blobs.count = blobs.count.saturating_add(1);
+            blobs.len = blobs.len.saturating_add(len);
+        }
     }
 }

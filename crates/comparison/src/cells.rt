@@ -24,7 +24,7 @@ use table_schema::cell_count;
 /// If the roots have the same bytes, no cell is read. Otherwise each cell is read at most once, until `limit` are found,
 /// and none of a table or a row whose bytes show that it is the same. A signature is decoded only if its blobs have other
 /// bytes. Values that rows of a table name again are compared once, unless they are short, and texts up to one NUL together.
-/// Equal blobs of all tables are found together, once many that overlap were compared.
+/// Blobs of all tables are compared in longer steps, once many that overlap were compared.
 ///
 /// # Errors
 ///

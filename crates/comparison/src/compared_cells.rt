@@ -46,11 +46,11 @@ fn key_of(cell_index: usize, left: u32, right: u32) -> (usize, u32, u32) {
 }
 
 /// Whether cells of a table are equal, by the index of the cell in its row and the numbers of its column in the two roots.
-/// So the value that many rows name is compared once. Blobs are also known to be equal by their names, in all tables.
+/// So the value that many rows name is compared once. Blobs are also known to be equal by their windows, in all tables.
 #[derive(Drop)]
 pub(crate) struct ComparedCells {
     outcomes: BTreeMap<(usize, u32, u32), Outcome>,
-    /// The names of the blobs of both roots.
+    /// The names of the windows of both blob heaps.
     pub blobs: BlobNames,
 }
 
@@ -65,16 +65,16 @@ impl ComparedCells {
         }
     }
 
-    /// Forgets the cells of the table before. The names of the blobs are kept.
+    /// Forgets the cells of the table before. The names of windows are kept.
     pub(crate) fn begin_table(&mut self, alloc: Global)
         ensures { (left right : List ℕ) (table : Table) → HasBlobNames left right self.old → AreOutcomes left right table self.new }
     {
         self.outcomes = BTreeMap::new(alloc);
     }
 
-    /// Whether nothing was noted and no blob is named.
+    /// Whether nothing was noted and no window is named.
     pub(crate) fn is_empty(&self) -> bool {
-        self.outcomes.is_empty() && self.blobs.names.is_empty()
+        self.outcomes.is_empty() && self.blobs.windows.names.is_empty()
     }
 
     /// Whether the cells with these numbers are equal; `None` if that was not noted.

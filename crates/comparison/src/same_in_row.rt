@@ -65,7 +65,7 @@ fn numbers_of(
     (left_number, right_number)
 }
 
-/// Whether the cells with two numbers are blobs with one name, and so equal.
+/// Whether the cells with two numbers are blobs whose windows have the same names, and so equal.
 fn is_named_same(
     left: &CellCursor<'_, '_>,
     right: &CellCursor<'_, '_>,
@@ -80,19 +80,19 @@ fn is_named_same(
 {
     metadata::laws::models_are_read();
     laws::cells_are_tested();
-    if compared.blobs.names.is_empty() {
+    if compared.blobs.windows.names.is_empty() {
         return false;
     }
     let ColumnKind::Blob = kind_of(table, cell_index) else {
         return false;
     };
     let left_heap = left.view().source().blobs();
-    let names = &compared.blobs;
-    names.have_one_name(left_heap.len(), numbers.0, numbers.1)
+    let right_heap = right.view().source().blobs();
+    compared.blobs.are_equal(left_heap, right_heap, numbers)
 }
 
 /// Whether a cell of a row is equal in two views, if that was noted of an earlier row with the same numbers, or if both
-/// are blobs with one name.
+/// are blobs whose windows have the same names.
 fn known_in_row(
     left: &CellCursor<'_, '_>,
     right: &CellCursor<'_, '_>,
@@ -186,7 +186,7 @@ fn note_in_row(
     })
 }
 
-/// Counts the bytes of a blob that is equal in two views, so that blobs are named after many of them.
+/// Counts the bytes of a blob that is equal in two views, so that windows are named after many of them.
 fn count_blob(
     alloc: Global,
     left: &CellCursor<'_, '_>,

@@ -11,7 +11,7 @@
 //! once: it has the bytes and the indexes of the pool to which the same values were added in turn. It sorts and does not
 //! hash, so its time does not depend on who chose the values. The length of the heap is known, and `Full` is returned,
 //! before the heap is allocated. [`equal_blobs`] spares it the comparison of blobs that overlap in the heap that they are
-//! read from. A [`UserHeap`] holds each user string that is pushed, and returns its offset, by which
+//! read from; by [`WindowNames`] two parts of a heap are compared in a few steps. A [`UserHeap`] holds each user string that is pushed, and returns its offset, by which
 //! the code of methods names it. `laws.rt` states that pooled values are read back, and that blobs and GUIDs keep their
 //! index as a pool grows.
 //!
@@ -32,6 +32,7 @@ pub mod laws;
 mod overlaps;
 mod user_heap;
 mod user_laws;
+mod window_names;
 mod windows;
 
 pub use blob_pool::{BlobPool, write_blob};
@@ -45,3 +46,4 @@ pub use heap_pools::{HEAP_LIMIT, PoolError, SortedTexts, TextPool};
 pub use overlaps::equal_blobs;
 pub use packed::{Fault, FaultCode};
 pub use user_heap::UserHeap;
+pub use window_names::WindowNames;

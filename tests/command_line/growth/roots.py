@@ -981,6 +981,41 @@ def layouts_of_one_type(size):
 # ---- two roots, for compare
 
 
+def beside_other_bytes(indexes, blobs):
+    """Rows with these blobs, and the same ones in a heap that ends with other bytes."""
+    return files_of(indexes, blobs), files_of(indexes, blobs + bytes(4))
+
+
+def blobs_in_a_row(size, count, part):
+    """This number of equal blobs, each with this part of the bytes, in a heap of the others."""
+    length = int(part * size)
+    return range(1, 4 * count, 4), heap(packed(length) * ((4 * count + length) // 4 + 2))
+
+
+def few_blobs_of_most_of_a_heap(size):
+    return beside_other_bytes(*blobs_in_a_row(size, size // 500, 0.96))
+
+
+def many_blobs_of_most_of_a_heap(size):
+    return beside_other_bytes(*blobs_in_a_row(size, size // 100, 0.8))
+
+
+def many_blobs_of_half_a_heap(size):
+    return beside_other_bytes(*blobs_in_a_row(size, size // 50, 0.35))
+
+
+def many_blobs_of_a_heap_at_other_indexes(size):
+    """Equal blobs of most of a heap. Each is at another distance from that of its row in the second root."""
+    indexes, blobs = blobs_in_a_row(size, size // 100, 0.8)
+    return files_of(indexes, blobs), files_of([indexes[number - 1] for number in mixed(len(indexes))], blobs)
+
+
+def many_blobs_to_the_end_of_a_heap(size):
+    """Blobs that begin one after another, in a heap of which all bytes after the first ones are in each."""
+    parts = size // 5
+    return beside_other_bytes(range(1, 4 * (size // 100), 4), heap(*[packed(4 * (parts - number) - 4) for number in range(parts)]))
+
+
 def one_signature_in_two_forms(size):
     """Rows that name one signature, which has a longer encoding in the second root."""
     rows = {"StandAloneSig": [(1,)] * (size // 8)}

@@ -1,5 +1,5 @@
 use crate::heaps::pools::next_below;
-use heaps::{blob, equal_blobs};
+use heaps::{WindowNames, blob, equal_blobs};
 use std::alloc::Global;
 use std::test::Fail;
 
@@ -95,5 +95,38 @@ fn leaves_other_blobs_alone(rt: HostRuntime) -> Result<(), Fail> {
     }
     let earlier = equal_blobs(rt.alloc(), &[], &[7, 7])?;
     assert!(rt; earlier.as_slice() == [0, 1].as_slice());
+    Ok(())
+}
+
+/// Whether the bytes of a heap from two positions on are equal.
+fn are_equal_parts(heap: &[u8], first: usize, second: usize, len: usize) -> bool {
+    heap[first..first + len] == heap[second..second + len]
+}
+
+#[test]
+fn finds_equal_parts_by_windows(rt: HostRuntime) -> Result<(), Fail> {
+    let mut state = 1;
+    for least in 0..20 {
+        let heap = repeating_heap(rt.alloc(), &mut state)?;
+        let named = WindowNames::of_heap(rt.alloc(), &heap, least)?;
+        assert_eq!(rt; named.width, least.max(1).next_power_of_two());
+        for _ in 0..400 {
+            let first = next_below(&mut state, 100);
+            let second = next_below(&mut state, 100);
+            let len = next_below(&mut state, 100);
+            let is_found = len >= named.width as usize && are_equal_parts(&heap, first, second, len);
+            assert!(rt; named.are_same(first, second, len) == is_found, "{heap:?} {first} {second} {len}");
+        }
+    }
+    Ok(())
+}
+
+#[test]
+fn finds_no_equal_parts_that_are_short_or_not_in_the_heap(rt: HostRuntime) -> Result<(), Fail> {
+    let named = WindowNames::of_heap(rt.alloc(), &[7; 32], 4)?;
+    assert!(rt; named.are_same(0, 1, 31) && named.are_same(0, 1, 4));
+    assert!(rt; !named.are_same(0, 1, 3) && !named.are_same(0, 1, 32) && !named.are_same(33, 0, 4));
+    assert!(rt; !named.are_same(usize::MAX, 0, 4) && !named.are_same(0, 1, usize::MAX));
+    assert!(rt; !WindowNames::new(rt.alloc()).are_same(0, 0, 0));
     Ok(())
 }
