@@ -2,8 +2,7 @@
 use Rattle.std.proofs.Common.{◌≡◌, ◌≢◌, ℕ, zero, suc, ◌≤◌, Bool, true, false, cond, eqb, Option, Some, None, List, [], ◌∷◌, length, refl, sym, ap, ap₂, ◌∙◌, subst, arith, IfSome}
 use Rattle.std.specs.Prelude.{ℤ}
 use Rattle.std.specs.List.{AllByRecursion}
-use Rattle.std.proofs.lemmas.Bool.{eqb-true, eqb-false}
-use Rattle.std.proofs.Math.Dec.{eqb-suc-zero}
+use Rattle.std.proofs.lemmas.Bool.{eqb-true, eqb-false, ne_eqb}
 use Rattle.table_schema.specs.declared.token.Token.{Token}
 use Rattle.sig_grammar.specs.declared.element.Element.{Element}
 use Rattle.sig_grammar.specs.declared.types.Modifier.{Modifier}
@@ -14,13 +13,10 @@ use Rattle.sig_grammar.specs.Parts.{Part, byte, number, index}
 use Rattle.sig_grammar.specs.Grammar.{named_code, core_parts, typed_parts, modifiers_parts, shape_parts, method_parts}
 use Rattle.sig_grammar.specs.Limits.{core_depth, types_depth, content_depth, ret_depth, method_depth, IsCore, AreTypes, IsArrayShape, IsCoreWithin, IsTypedWithin}
 use Rattle.sig_grammar.specs.Reading.{Reader, change, both, deep, number_at, signed_at, typed_at, target_at, pointer_to, named_at, instance_at, instance_from, counted_within, shape_at, shape_from, shape_with, array_at, array_from, method_at, core_by, core_or, core_at, element_of}
-use Rattle.sig_values.proofs.Readers.{IsBytes, Head, Takes, Reads, head_byte, behind_byte, change_reads, then_reads, unless_reads}
+use Rattle.sig_values.proofs.Readers.{IsBytes, Head, Takes, Reads, head_byte, behind_byte, change_reads, then_reads, unless_reads, NumbersAreRead, Any, number_parts, number_reads, signed_parts, signed_reads, index_parts, index_reads, both_reads, both_parts, BothGood, counted_reads, counted_parts, within_reads}
 use Rattle.sig_grammar.proofs.OptionLemmas.{IfSome-map, IfSome-cond}
-use Rattle.sig_values.proofs.Numbers.{NumbersAreRead, Any, number_parts, number_reads, signed_parts, signed_reads, index_parts, index_reads}
-use Rattle.sig_values.proofs.Lists.{both_reads, both_parts, BothGood, counted_reads, counted_parts, within_reads}
 use Rattle.sig_grammar.proofs.FromLists.{count-types_from, parts-types_from, types_good}
-use Rattle.sig_values.proofs.Codes.{element_found, element_again}
-use Rattle.sig_values.proofs.Contents.{typed_reads, target_reads, void_parts, VoidGood, Modified}
+use Rattle.sig_values.proofs.Codes.{element_found, element_again, typed_reads, target_reads, void_parts, VoidGood, Modified}
 use Rattle.sig_values.proofs.Methods.{method_reads, IsMethodOf}
 
 -- ---- lists of types
@@ -63,10 +59,6 @@ named_reads = record { found = found; only = only }
 
 -- ---- shapes of arrays
 
-not_zero : (n : ℕ) → 1 ≤ n → eqb n 0 ≡ false
-not_zero zero h = absurd (omega arith)
-not_zero (suc n) h = eqb-suc-zero n
-
 abbrev bounds_parts : List ℕ × List ℤ → List Part
 bounds_parts x = both_parts (counted_parts number_parts) (counted_parts signed_parts) x
 
@@ -90,7 +82,7 @@ pub shape_reads : NumbersAreRead → Reads shape_at shape_parts IsArrayShape
 unfolding shape_at
 shape_reads known =
     then_reads shape_from (λ v. v.rank) (λ v. bounds_parts (v.sizes, v.low)) (λ n v. IsShapeOf n v × (eqb n 0 ≡ false)) (number_reads known) (λ n any. shape_of known n) up
-    (λ v good. (tt, ((refl, (good.1, good.2)), not_zero v.rank good.0)))
+    (λ v good. (tt, ((refl, (good.1, good.2)), ne_eqb v.rank 0 (λ e. omega (arith, good.0)))))
   where
     up : (n : ℕ) (v : ArrayShape) → Any n → IsShapeOf n v × (eqb n 0 ≡ false) → IsArrayShape v × (v.rank ≡ n)
     up n v any good =
@@ -111,12 +103,7 @@ deep_only (suc d) r b h = refl
 
 -- the depth of each type is at least 1
 core_some : (c : Core) → 1 ≤ core_depth c
-core_some (pointer modifiers to) = omega arith
 core_some (vector of) = omega arith
-core_some (array of shape) = omega arith
-core_some (instance is_value of args) = omega arith
-core_some (function m) = omega arith
-core_some (void_pointer modifiers) = omega arith
 core_some _ = omega arith
 
 method_some : (m : Method) → 1 ≤ method_depth m

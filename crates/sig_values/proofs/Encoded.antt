@@ -16,7 +16,7 @@ use Rattle.sig_grammar.specs.declared.body.Prefix.{Prefix}
 use Rattle.sig_grammar.specs.declared.body.Prefix.TheVariants.{Mod, Pinned}
 use Rattle.sig_grammar.specs.ElementTypes.{element_code}
 use Rattle.sig_grammar.specs.Syntax.{Core, simple, void_pointer, pointer, vector, array, instance, function, Typed, typed, Types, no_types, type_then, Content, typed_ref, plain, by_ref, Slot, slot, Slots, no_slots, slot_then, Ret, some_ret, void_ret, Method, method, ArrayShape, LocalVariable, local, Body, field, method_body, property, locals, instance_body, type_spec}
-use Rattle.sig_grammar.specs.Parts.{Part, byte, number, signed, index, IsIndex, EncodesPart, EncodesParts, short_part, is_table, index_number, HasEncoding, part_tokens}
+use Rattle.sig_grammar.specs.Parts.{Part, byte, number, signed, index, EncodesPart, EncodesParts, short_part, is_table, index_number, HasEncoding, part_tokens}
 use Rattle.sig_grammar.specs.Grammar.{list_parts, modifier_parts, modifiers_parts, numbers_parts, bounds_parts, shape_parts, named_code, flag, method_code, generic_parts, core_parts, typed_parts, types_parts, content_parts, slot_parts, slots_parts, ret_parts, method_parts, prefix_parts, prefixes_parts, local_parts, body_parts}
 use Rattle.sig_grammar.specs.Limits.{IsMethodKind, IsCore, IsTyped, AreTypes, IsContent, IsSlot, AreSlots, IsRet, IsMethod, IsTypedWithin, IsSlotWithin, IsLocalWithin, IsBodyWithin}
 use Rattle.sig_grammar.specs.Encodes.{Encodes, IsEncodable, short, tokens}
@@ -130,14 +130,11 @@ local_small : (v : LocalVariable) → IsLocalWithin 128 v → AreSmall (local_pa
 local_small (local prefixes content) h =
     small-append (prefixes_parts prefixes) (content_parts content) (every_small prefix_parts prefix_small prefixes) (content_small content h.1)
 
-property_code_small : (this : Bool) → 0x08 + flag this 0x20 < 256
-property_code_small this = omega (arith, flag_small this 0x20)
-
 body_small : (s : Body) → IsBodyWithin 128 s → AreSmall (body_parts s)
 body_small (field s) h = (omega arith, slot_small s h.1)
 body_small (method_body m) h = method_small m h.1
 body_small (property this of params) h =
-    (property_code_small this, (tt, small-append (slot_parts of) (list_parts slot_parts params) (slot_small of h.0.1) (list_small (IsSlotWithin 128) slot_parts (λ s k. slot_small s k.1) params h.1)))
+    (omega (arith, flag_small this 0x20), (tt, small-append (slot_parts of) (list_parts slot_parts params) (slot_small of h.0.1) (list_small (IsSlotWithin 128) slot_parts (λ s k. slot_small s k.1) params h.1)))
 body_small (locals variables) h = (omega arith, (tt, list_small (IsLocalWithin 128) local_parts local_small variables h))
 body_small (instance_body args) h = (omega arith, (tt, list_small (IsTypedWithin 128) typed_parts (λ t k. typed_small t k.1) args h))
 body_small (type_spec ret) h = ret_small ret h.1
@@ -158,14 +155,11 @@ tag_is t n is = let same = listed_tag is.tag t.table is.listed in let equal = is
 
 module _ (unsigned_least : (n : ℕ) (s : List ℕ) → IsPacked n s → length (short_unsigned n) ≤ length s)
     (signed_least : (z : ℤ) (s : List ℕ) → IsPackedSigned z s → length (short_signed z) ≤ length s) where
-  index_least : (t : Token) (s : List ℕ) → IsIndex t s → length (short_part (index t)) ≤ length s
-  index_least t s is = let same = tag_is t is.number is.coded in rw same (unsigned_least is.number s is.packed)
-
   part_least : (p : Part) (s : List ℕ) → EncodesPart p s → length (short_part p) ≤ length s
   part_least (byte c) s is = rw is (omega arith)
   part_least (number n) s is = unsigned_least n s is
   part_least (signed z) s is = signed_least z s is
-  part_least (index t) s is = index_least t s is
+  part_least (index t) s is = let same = tag_is t is.number is.coded in rw same (unsigned_least is.number s is.packed)
 
   parts_least : (ps : List Part) (b : List ℕ) → EncodesParts ps b → length (flat_map short_part ps) ≤ length b
   parts_least [] b is = omega arith
@@ -176,18 +170,15 @@ module _ (unsigned_least : (n : ℕ) (s : List ℕ) → IsPacked n s → length 
   encoded_shorter kind s b h = parts_least (body_parts s) b h.parts
 
   module _ (unsigned_below : (n : ℕ) (s : List ℕ) → IsPacked n s → n < 2 ^ 29) (signed_fits : (z : ℤ) (s : List ℕ) → IsPackedSigned z s → FitsBits 29 z) where
-    index_has : (t : Token) (s : List ℕ) → IsIndex t s → HasEncoding (index t)
-    index_has t s is =
-        let same = tag_is t is.number is.coded in
-        let below = unsigned_below is.number s is.packed in
-        let equal = is.coded.equal in
-        (subst (λ (n : ℕ). IsCoded TypeDefOrRef n t.table t.row) (sym same) is.coded, omega arith)
-
     part_has : (p : Part) (s : List ℕ) → IsSmall p → EncodesPart p s → HasEncoding p
     part_has (byte c) s small is = small
     part_has (number n) s small is = unsigned_below n s is
     part_has (signed z) s small is = signed_fits z s is
-    part_has (index t) s small is = index_has t s is
+    part_has (index t) s small is =
+        let same = tag_is t is.number is.coded in
+        let below = unsigned_below is.number s is.packed in
+        let equal = is.coded.equal in
+        (subst (λ (n : ℕ). IsCoded TypeDefOrRef n t.table t.row) (sym same) is.coded, omega arith)
 
     parts_have : (ps : List Part) (b : List ℕ) → AreSmall ps → EncodesParts ps b → AllByRecursion HasEncoding ps
     parts_have [] b small is = tt

@@ -9,10 +9,8 @@ use Rattle.sig_grammar.specs.declared.body.Prefix.TheVariants.{Mod, Pinned}
 use Rattle.sig_grammar.specs.Parts.{Part, byte}
 use Rattle.sig_grammar.specs.Grammar.{list_parts, modifier_parts, prefix_parts}
 use Rattle.sig_grammar.specs.Reading.{Reader, Optional, items_then, leading_within, leading_at, index_at, modifier_after, modifier_at, prefix_of, prefix_at, both}
-use Rattle.sig_values.proofs.Readers.{IsBytes, Head, Head-append, Head-split, Takes, Reads}
+use Rattle.sig_values.proofs.Readers.{IsBytes, Head, Head-append, Head-split, Takes, Reads, both_parts, BothGood, pair_reads, NumbersAreRead, Any, index_parts, index_reads}
 use Rattle.sig_grammar.proofs.OptionLemmas.{IfSome-bind, IfSome-map, IfSome-cond}
-use Rattle.sig_values.proofs.Lists.{both_parts, BothGood, pair_reads}
-use Rattle.sig_values.proofs.Numbers.{NumbersAreRead, Any, index_parts, index_reads}
 
 -- the first byte passes the test
 abbrev pub begins : (ℕ → Bool) → List ℕ → Bool

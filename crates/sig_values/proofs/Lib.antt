@@ -1,12 +1,8 @@
 pub mod Bodies
 pub mod Codes
-pub mod Contents
 pub mod Cores
 pub mod FirstBad
 pub mod Leading
-pub mod Lists
 pub mod Methods
-pub mod Numbers
 pub mod Readers
 pub mod Encoded
-pub mod Whole

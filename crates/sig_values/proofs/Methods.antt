@@ -9,13 +9,11 @@ use Rattle.sig_grammar.specs.Parts.{Part, number}
 use Rattle.sig_grammar.specs.Grammar.{core_parts, slot_parts, slots_parts, ret_parts, method_parts, generic_parts, method_code, flag, count_slots}
 use Rattle.sig_grammar.specs.Limits.{slots_depth, method_depth, AreSlots, IsMethod, IsMethodKind, IsSentinel, HasOwnSentinel, IsCoreWithin, IsSlotWithin, IsRetWithin}
 use Rattle.sig_grammar.specs.Reading.{Reader, number_at, head_is, slot_at, ret_at, params_at, generic_at, takes_sentinel, is_method_code, method_from, method_at}
-use Rattle.sig_values.proofs.Readers.{IsBytes, Head, Head-append, Head-split, Takes, Reads, head_byte, behind_byte}
+use Rattle.sig_values.proofs.Readers.{IsBytes, Head, Head-append, Head-split, Takes, Reads, head_byte, behind_byte, NumbersAreRead, Any, number_parts, number_reads}
 use Rattle.sig_grammar.proofs.OptionLemmas.{IfSome-bind, IfSome-map, IfSome-cond}
-use Rattle.sig_values.proofs.Numbers.{NumbersAreRead, Any, number_parts, number_reads}
 use Rattle.sig_values.proofs.Leading.{begins-heads, no}
 use Rattle.sig_grammar.proofs.FromLists.{count-slots_from, slots_good}
-use Rattle.sig_values.proofs.Codes.{slot_no_sentinel, no_head}
-use Rattle.sig_values.proofs.Contents.{slot_reads, ret_reads}
+use Rattle.sig_values.proofs.Codes.{slot_no_sentinel, no_head, slot_reads, ret_reads}
 
 -- ---- lists of parameters
 

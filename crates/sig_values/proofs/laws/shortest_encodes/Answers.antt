@@ -1,4 +1,4 @@
-use Rattle.sig_values.proofs.Whole.{short_is_encoding}
+use Rattle.sig_values.proofs.Bodies.{short_is_encoding}
 use Rattle.sig_values.proofs.laws.shortest_encodes.Goals as goal
 
 pub returns : goal.returns

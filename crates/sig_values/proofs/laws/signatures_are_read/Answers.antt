@@ -1,6 +1,5 @@
-use Rattle.sig_values.proofs.Numbers.{NumbersAreRead}
-use Rattle.sig_values.proofs.Readers.{IsBytes-from_each}
-use Rattle.sig_values.proofs.Whole.{encoded_read, read_encoded, one_signature}
+use Rattle.sig_values.proofs.Readers.{NumbersAreRead, IsBytes-from_each}
+use Rattle.sig_values.proofs.Bodies.{encoded_read, read_encoded, one_signature}
 use Rattle.sig_values.proofs.laws.signatures_are_read.Goals as goal
 
 known : goal.After-numbers_are_read → NumbersAreRead
