@@ -110,3 +110,6 @@ module _ {S : Type 0} (step : Item → S → Result S S) (d : ℕ) (s : S) (m : 
       (λ i. run step (rule (is i) ++ part (byte (k i)) ∷ (parts_items (generic_parts (out-MethodSig m).generic)
       ++ part (number (number_is i)) ∷ (ret_items (ret_of (out-MethodSig m).ret) d ++ slots_items (slots_from (map slot_of (l i))) (out-MethodSig m).sentinel d))) s)
       ∙ sym (ap (λ (v : sig.Method). run step (method_items v d) s) (view_method m))
+
+-- the forms of a core
+pub ruleset first_forms = (run_simple, run_void_pointer, run_pointer, run_vector, run_array, run_class, run_value, run_var, run_mvar, run_instance, run_function)

@@ -1,6 +1,7 @@
 -- One value of a list, and the values after it, as loops read them.
-use Rattle.std.proofs.Common.{◌≡◌, ◌∙◌, ℕ, zero, suc, ◌+◌, ◌-◌, ◌<◌, ◌≤◌, Bool, Option, Some, None, Result, Ok, Err, List, [], ◌∷◌, ◌++◌, length, get_or, drop, map, refl, sym, ap, arith, add-one, drop-cons, ⊎_elim}
+use Rattle.std.proofs.Common.{◌≡◌, ◌∙◌, ℕ, suc, ◌+◌, ◌-◌, ◌<◌, ◌≤◌, Bool, Option, Some, None, Result, Ok, Err, List, [], ◌∷◌, ◌++◌, length, get_or, drop, map, refl, sym, ap, arith, add-one, drop-cons, ⊎_elim}
 use Rattle.sig_grammar.specs.Parts.{Part}
+use Rattle.std.proofs.lemmas.List.{drop_all}
 use Rattle.std.proofs.lemmas.Bool.{eq-eqb, ne_eqb, lt-ltb, le-ltb, cases_order}
 use Rattle.sig_grammar.specs.declared.types.TypeSig.{TypeSig}
 use Rattle.sig_grammar.specs.declared.types.Slot.{Slot}
@@ -11,13 +12,6 @@ use Rattle.sig_grammar.specs.Grammar.{list_parts, count_types, count_slots}
 use Rattle.sig_encoder.specs.Run.{after, then, run}
 use Rattle.sig_encoder.specs.Items.{Item, parts_items, typed_items, types_items, slots_items, param_items, stands_at, behind, local_items, locals_items}
 use Rattle.sig_encoder.proofs.Steps.{run_both, items_both, run_none}
-
--- nothing follows the last value of a list
-pub drop_end : {A : Type 0} (xs : List A) (i : ℕ) → length xs ≤ i → drop i xs ≡ []
-drop_end [] zero le = refl
-drop_end [] (suc i) le = refl
-drop_end (y ∷ xs) zero le = absurd (omega arith)
-drop_end (y ∷ xs) (suc i) le = drop_end xs i (omega arith)
 
 -- the value at the index, and the values after it
 pub drop_next : {A : Type 0} (xs : List A) (i : ℕ) (x : A) → i < length xs → x ≡ get_or xs i x → drop i xs ≡ x ∷ drop (i + 1) xs
@@ -33,7 +27,7 @@ list_next step parts xs i d sink lt =
 
 pub list_end : {A S : Type 0} (step : Item → S → Result S S) (parts : A → List Part) (xs : List A) (i : ℕ) (sink : S) → length xs ≤ i
     → run step (parts_items (list_parts parts (drop i xs))) sink ≡ Ok sink
-list_end step parts xs i sink le = rw (drop_end xs i le) (run_none step sink)
+list_end step parts xs i sink le = rw (drop_all i xs le) (run_none step sink)
 
 pub ruleset list_steps = (list_next, list_end)
 
@@ -55,7 +49,7 @@ types_next step xs i x depth sink lt e = rw (drop_next xs i x lt e) (run_both st
 
 pub types_end : {S : Type 0} (step : Item → S → Result S S) (xs : List TypeSig) (i depth : ℕ) (sink : S) → length xs ≤ i
     → run step (types_items (types_from (map type_of (drop i xs))) depth) sink ≡ Ok sink
-types_end step xs i depth sink le = rw (drop_end xs i le) (run_none step sink)
+types_end step xs i depth sink le = rw (drop_all i xs le) (run_none step sink)
 
 split_param : (sentinel : Option ℕ) (i depth : ℕ) (s : sig.Slot) (ss : sig.Slots)
     → slots_items (sig.slot_then s ss) (behind sentinel i) depth ≡ param_items (stands_at sentinel i) s depth ++ slots_items ss (behind sentinel (i + 1)) depth
@@ -88,7 +82,7 @@ params_next step xs i x sentinel depth sink marked lt e at =
 
 pub params_end : {S : Type 0} (step : Item → S → Result S S) (xs : List Slot) (i : ℕ) (sentinel : Option ℕ) (depth : ℕ) (sink : S) → length xs ≤ i
     → run step (slots_items (slots_from (map slot_of (drop i xs))) sentinel depth) sink ≡ Ok sink
-params_end step xs i sentinel depth sink le = rw (drop_end xs i le) (run_none step sink)
+params_end step xs i sentinel depth sink le = rw (drop_all i xs le) (run_none step sink)
 
 pub params_start : (sentinel : Option ℕ) → behind sentinel 0 ≡ sentinel
 params_start None = refl
@@ -111,7 +105,7 @@ pub locals_next : {S : Type 0} (step : Item → S → Result S S) (xs : List Loc
 locals_next step xs i x depth sink lt e = rw (drop_next xs i x lt e) (run_both step (local_items (local_of x) depth) (locals_items (map local_of (drop (i + 1) xs)) depth) sink)
 
 pub locals_end : {S : Type 0} (step : Item → S → Result S S) (xs : List Local) (i depth : ℕ) (sink : S) → length xs ≤ i → run step (locals_items (map local_of (drop i xs)) depth) sink ≡ Ok sink
-locals_end step xs i depth sink le = rw (drop_end xs i le) (run_none step sink)
+locals_end step xs i depth sink le = rw (drop_all i xs le) (run_none step sink)
 
 pub ruleset each_type = (types_next, types_end)
 

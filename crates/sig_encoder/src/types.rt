@@ -44,6 +44,7 @@ fn visit_core<S: PartSink>(sink: &mut S, core: &Core, depth: u8) -> Option<()>
 
 /// Visits a core whose level was already counted.
 #[cycle(walk)]
+#[tactic(auto, using(crate::proofs::Forms::first_forms))]
 fn visit_first<S: PartSink>(sink: &mut S, core: &Core, depth: u8) -> Option<()>
     ensures { after result sink.new ≡ run S.step (first_items (core_of core.now) depth) sink.old }
 {
@@ -94,6 +95,7 @@ fn visit_void_pointer<S: PartSink>(sink: &mut S, modifiers: &[Modifier], depth: 
 
 /// Visits a pointer to a type.
 #[cycle(walk)]
+#[tactic(auto, using(crate::proofs::Steps::steps))]
 fn visit_pointer<S: PartSink>(
     sink: &mut S,
     modifiers: &[Modifier],
@@ -109,6 +111,7 @@ fn visit_pointer<S: PartSink>(
 
 /// Visits an array of one dimension.
 #[cycle(walk)]
+#[tactic(auto, using(crate::proofs::Steps::steps))]
 fn visit_vector<S: PartSink>(sink: &mut S, of: &TypeSig, depth: u8) -> Option<()>
     ensures { after result sink.new ≡ run S.step (first_items (sig.vector (type_of of.now)) depth) sink.old }
 {
@@ -118,6 +121,7 @@ fn visit_vector<S: PartSink>(sink: &mut S, of: &TypeSig, depth: u8) -> Option<()
 
 /// Visits an array with a shape (II.23.2.13).
 #[cycle(walk)]
+#[tactic(auto, using(crate::proofs::Steps::steps))]
 fn visit_array<S: PartSink>(sink: &mut S, of: &TypeSig, shape: &Shape, depth: u8) -> Option<()>
     ensures { after result sink.new ≡ run S.step (first_items (sig.array (type_of of.now) (shape_of shape.now)) depth) sink.old }
 {
@@ -128,6 +132,7 @@ fn visit_array<S: PartSink>(sink: &mut S, of: &TypeSig, shape: &Shape, depth: u8
 
 /// Visits an instance of a generic type.
 #[cycle(walk)]
+#[tactic(auto, using(crate::proofs::Steps::steps, crate::proofs::Loops::types_count))]
 fn visit_instance<S: PartSink>(
     sink: &mut S,
     value: bool,
@@ -146,6 +151,7 @@ fn visit_instance<S: PartSink>(
 
 /// Visits a pointer to a method.
 #[cycle(walk)]
+#[tactic(auto, using(crate::proofs::Steps::steps))]
 fn visit_function<S: PartSink>(sink: &mut S, method: &MethodSig, depth: u8) -> Option<()>
     ensures { after result sink.new ≡ run S.step (first_items (sig.function (method_of method.now)) depth) sink.old }
 {
