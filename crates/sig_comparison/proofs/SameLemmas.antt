@@ -28,7 +28,6 @@ use Rattle.sig_grammar.specs.declared.types.Core.{Core-F, out-Core, roll-Core, r
 use Rattle.sig_grammar.specs.declared.types.Core.TheOpen as layers
 use Rattle.sig_grammar.specs.declared.types.Core.TheVariants.{rolls-Simple, rolls-Pointer, rolls-Vector, rolls-Array, rolls-Class, rolls-Value, rolls-Var, rolls-MVar, rolls-Instance, rolls-Function}
 use Rattle.sig_grammar.specs.declared.types.SlotKind as kinds
-use Rattle.sig_grammar.specs.declared.types.SlotKind.{SlotKind-F, out-SlotKind, roll-SlotKind, roll-out-SlotKind}
 use Rattle.sig_grammar.specs.Views.{core_of, shape_of, types_from, slots_from}
 use Rattle.sig_grammar.specs.Syntax as sig
 use Rattle.sig_grammar.proofs.ViewLemmas.{view_simple, view_void_pointer, view_pointer, view_vector, view_array, view_class, view_value, view_var, view_mvar, view_instance, view_function}
