@@ -1,17 +1,55 @@
--- Items at the start, one by one, as the pass skips them: modifiers, and modifiers with PINNED.
-use Rattle.std.proofs.Common.{◌≡◌, ℕ, ◌<◌, Bool, true, false, cond, eqb, Option, Some, None, List, [], ◌∷◌, length, refl, sym, ap, ◌∙◌, subst, IfSome}
-use Rattle.std.specs.Prelude.{◌||◌, if◌then◌else◌, option_map, option_and_then}
+-- One modifier at the start, and one modifier or PINNED.
+use Rattle.std.proofs.Common.{◌≡◌, ◌≢◌, ℕ, Bool, true, false, cond, eqb, ◌||◌, Some, None, List, ◌∷◌, refl, subst, ◌<◌, Option, [], length, ap, ◌∙◌, IfSome}
+use Rattle.std.specs.Prelude.{option_map, if◌then◌else◌, option_and_then}
+use Rattle.std.proofs.lemmas.Bool.{ne_eqb, eqb-true, eqb-false}
 use Rattle.table_schema.specs.declared.token.Token.{Token}
 use Rattle.sig_grammar.specs.declared.types.Modifier.{Modifier}
-use Rattle.sig_grammar.specs.declared.body.Prefix.{Prefix}
+use Rattle.sig_grammar.specs.declared.body.Prefix.TheVariants.{Mod, Pinned}
+use Rattle.sig_grammar.specs.Reading.{index_at, modifier_at, modifier_after, starts_modifier, prefix_of, prefix_at, starts_prefix, Optional, leading_at, modifiers_at, prefixes_at}
 use Rattle.sig_grammar.specs.Parts.{Part}
 use Rattle.sig_grammar.specs.Grammar.{list_parts, modifier_parts, prefix_parts}
-use Rattle.sig_grammar.specs.Reading.{Optional, index_at, prefix_of, leading_at, modifier_at, modifiers_at, prefix_at, prefixes_at, starts_modifier, starts_prefix}
 use Rattle.sig_grammar.proofs.Items.{Stepping, ShorterItem, leading_is, modifier_steps, prefix_steps}
-use Rattle.sig_grammar.specs.declared.body.Prefix.TheVariants.{Mod, Pinned}
 use Rattle.sig_recogniser.specs.Skips.{Left, noted, passed, skip_index, skip_modifiers, skip_prefixes}
-use Rattle.sig_recogniser.proofs.Heads.{modifier_found, modifier_none}
 use Rattle.sig_recogniser.proofs.Noted.{index_parts, noted-none, noted_parts, noted_parts-append}
+
+modifier_is : (c : ℕ) (b tail : List ℕ) → starts_modifier b ≡ true → b ≡ c ∷ tail → modifier_at b ≡ modifier_after (eqb c 0x1F) tail
+unfolding modifier_at
+modifier_is c b tail starts h = let s = subst (λ (t : List ℕ). starts_modifier t ≡ true) h starts in rw h (at_test (eqb c 0x1F) (eqb c 0x20) s)
+  where
+    at_test : (p q : Bool) → (p || q) ≡ true → cond p (modifier_after true tail) (cond q (modifier_after false tail) (Some (None, c ∷ tail))) ≡ modifier_after p tail
+    at_test true q h = refl
+    at_test false true h = refl
+    at_test false false h = absurd cc
+
+pub modifier_found : (c : ℕ) (b tail next : List ℕ) (of : Token) → starts_modifier b ≡ true → b ≡ c ∷ tail → index_at tail ≡ Some (of, next) → modifier_at b ≡ Some (Some (record { required = eqb c 0x1F; of = of }), next)
+modifier_found c b tail next of starts h e = let m = modifier_is c b tail starts h in rw (m, e) refl
+
+pub modifier_none : (c : ℕ) (b tail : List ℕ) → starts_modifier b ≡ true → b ≡ c ∷ tail → index_at tail ≡ None → modifier_at b ≡ None
+modifier_none c b tail starts h e = let m = modifier_is c b tail starts h in rw (m, e) refl
+
+-- ---- with PINNED
+
+pub pinned_found : (c : ℕ) (b tail : List ℕ) → b ≡ c ∷ tail → c ≡ 0x45 → prefix_at b ≡ Some (Some Pinned, tail)
+unfolding prefix_at
+pinned_found c b tail h e = rw (h, e) refl
+
+pub prefix_starts : (c : ℕ) (b tail : List ℕ) → b ≡ c ∷ tail → c ≢ 0x45 → starts_prefix b ≡ true → starts_modifier b ≡ true
+prefix_starts c b tail h e s =
+    let other = ne_eqb c 0x45 e in
+    let starts = subst (λ (t : List ℕ). starts_prefix t ≡ true) h s in
+    rw h (subst (λ (p : Bool). (p || (eqb c 0x1F || eqb c 0x20)) ≡ true) other starts)
+
+prefix_is : (c : ℕ) (b tail : List ℕ) → b ≡ c ∷ tail → c ≢ 0x45 → prefix_at b ≡ option_map prefix_of (modifier_at b)
+unfolding prefix_at
+prefix_is c b tail h e = let other = ne_eqb c 0x45 e in rw (h, other) refl
+
+pub prefix_found : (c : ℕ) (b tail next : List ℕ) (m : Modifier) → b ≡ c ∷ tail → c ≢ 0x45 → modifier_at b ≡ Some (Some m, next) → prefix_at b ≡ Some (Some (Mod m), next)
+prefix_found c b tail next m h e f = let i = prefix_is c b tail h e in rw (i, f) refl
+
+pub prefix_none : (c : ℕ) (b tail : List ℕ) → b ≡ c ∷ tail → c ≢ 0x45 → modifier_at b ≡ None → prefix_at b ≡ None
+prefix_none c b tail h e f = let i = prefix_is c b tail h e in rw (i, f) refl
+
+-- ---- items at the start, one by one, as the pass skips them: modifiers, and modifiers with PINNED
 
 module _ {A : Type 0} (r : Optional A) (starts : List ℕ → Bool) (steps : Stepping r starts) where
   item_shorter : (b c : List ℕ) (x : A) → r b ≡ Some (Some x, c) → length c < length b
@@ -36,31 +74,9 @@ module _ {A : Type 0} (r : Optional A) (starts : List ℕ → Bool) (steps : Ste
 
 -- ---- the loops over modifiers, and over modifiers with PINNED
 
-pub modifier_shorter : (b c : List ℕ) (x : Modifier) → modifier_at b ≡ Some (Some x, c) → length c < length b
-modifier_shorter b c x e = item_shorter modifier_at starts_modifier modifier_steps b c x e
-
-pub modifiers_next : (counts b c : List ℕ) (bad : Option Token) (x : Modifier) → modifier_at b ≡ Some (Some x, c) → skip_modifiers counts (b, bad) ≡ skip_modifiers counts (c, noted_parts counts bad (modifier_parts x))
-unfolding skip_modifiers modifiers_at
-modifiers_next counts b c bad x e = items_next modifier_at starts_modifier modifier_steps modifier_parts counts b c bad x e
-
-pub modifiers_bad : (counts b : List ℕ) (bad : Option Token) → modifier_at b ≡ None → skip_modifiers counts (b, bad) ≡ None
-unfolding skip_modifiers modifiers_at
-modifiers_bad counts b bad e = items_bad modifier_at starts_modifier modifier_steps modifier_parts counts b bad e
-
 pub modifiers_end : (counts b : List ℕ) (bad : Option Token) → starts_modifier b ≡ false → skip_modifiers counts (b, bad) ≡ Some (b, bad)
 unfolding skip_modifiers modifiers_at
 modifiers_end counts b bad h = items_end modifier_at starts_modifier modifier_steps modifier_parts counts b bad h
-
-pub prefix_shorter : (b c : List ℕ) (x : Prefix) → prefix_at b ≡ Some (Some x, c) → length c < length b
-prefix_shorter b c x e = item_shorter prefix_at starts_prefix prefix_steps b c x e
-
-pub prefixes_next : (counts b c : List ℕ) (bad : Option Token) (x : Prefix) → prefix_at b ≡ Some (Some x, c) → skip_prefixes counts (b, bad) ≡ skip_prefixes counts (c, noted_parts counts bad (prefix_parts x))
-unfolding skip_prefixes prefixes_at
-prefixes_next counts b c bad x e = items_next prefix_at starts_prefix prefix_steps prefix_parts counts b c bad x e
-
-pub prefixes_bad : (counts b : List ℕ) (bad : Option Token) → prefix_at b ≡ None → skip_prefixes counts (b, bad) ≡ None
-unfolding skip_prefixes prefixes_at
-prefixes_bad counts b bad e = items_bad prefix_at starts_prefix prefix_steps prefix_parts counts b bad e
 
 pub prefixes_end : (counts b : List ℕ) (bad : Option Token) → starts_prefix b ≡ false → skip_prefixes counts (b, bad) ≡ Some (b, bad)
 unfolding skip_prefixes prefixes_at
@@ -72,95 +88,57 @@ noted_one : (counts : List ℕ) (bad : Option Token) (required : Bool) (of : Tok
 noted_one counts bad true of = refl
 noted_one counts bad false of = refl
 
-pub modifier_step : (counts : List ℕ) (c : ℕ) (b : List ℕ) (bad : Option Token) → starts_modifier (c ∷ b) ≡ true → skip_modifiers counts (c ∷ b, bad) ≡ option_and_then (skip_modifiers counts) (skip_index counts (b, bad))
-unfolding skip_index
-modifier_step counts c b bad starts = of_index (index_at b) refl
+pub modifier_moves : (counts b t : List ℕ) (c : ℕ) (bad now : Option Token) (o : Option Left) → starts_modifier b ≡ true → b ≡ c ∷ t → now ≡ bad → o ≡ skip_index counts (t, now) → skip_modifiers counts (b, bad) ≡ option_and_then (skip_modifiers counts) o
+unfolding skip_index skip_modifiers modifiers_at
+modifier_moves counts b t c bad now o starts h e f = rw (f, e) (of_index (index_at t) refl)
   where
-    of_index : (o : Option (Token × List ℕ)) → index_at b ≡ o → skip_modifiers counts (c ∷ b, bad) ≡ option_and_then (skip_modifiers counts) (option_map {U = Left} (λ x. (x.1, noted counts bad (x.0 ∷ []))) o)
-    of_index None e = modifiers_bad counts (c ∷ b) bad (modifier_none c (c ∷ b) b starts refl e)
-    of_index (Some x) e =
-        modifiers_next counts (c ∷ b) x.1 bad _ (modifier_found c (c ∷ b) b x.1 x.0 starts refl e) ∙ ap (λ (t : Option Token). skip_modifiers counts (x.1, t)) (noted_one counts bad (eqb c 0x1F) x.0)
+    of_index : (x : Option (Token × List ℕ)) → index_at t ≡ x → skip_modifiers counts (b, bad) ≡ option_and_then (skip_modifiers counts) (option_map {U = Left} (λ y. (y.1, noted counts bad (y.0 ∷ []))) x)
+    of_index None g = unfold skip_modifiers modifiers_at in items_bad modifier_at starts_modifier modifier_steps modifier_parts counts b bad (modifier_none c b t starts h g)
+    of_index (Some x) g =
+        unfold skip_modifiers modifiers_at in items_next modifier_at starts_modifier modifier_steps modifier_parts counts b x.1 bad _ (modifier_found c b t x.1 x.0 starts h g) ∙ ap (λ (z : Option Token). skip_modifiers counts (x.1, z)) (noted_one counts bad (eqb c 0x1F) x.0)
 
-pub modifier_left : (counts : List ℕ) (c : ℕ) (b t : List ℕ) (bad worse : Option Token) → starts_modifier (c ∷ b) ≡ true → skip_index counts (b, bad) ≡ Some (t, worse) → length t < length (c ∷ b)
+pub modifier_shrinks : (counts b t u : List ℕ) (c : ℕ) (bad now worse : Option Token) → starts_modifier b ≡ true → b ≡ c ∷ t → now ≡ bad → ◌≡◌ {A = Option Left} (Some (u, worse)) (skip_index counts (t, now)) → length u < length b
 unfolding skip_index
-modifier_left counts c b t bad worse starts h = of_index (index_at b) refl h
+modifier_shrinks counts b t u c bad now worse starts h e f = of_index (index_at t) refl f
   where
-    of_index : (o : Option (Token × List ℕ)) → index_at b ≡ o → option_map {U = Left} (λ x. (x.1, noted counts bad (x.0 ∷ []))) o ≡ Some (t, worse) → length t < length (c ∷ b)
-    of_index None e h = absurd cc
-    of_index (Some x) e h =
-        let pair : ◌≡◌ {A = Left} (x.1, noted counts bad (x.0 ∷ [])) (t, worse) = cc in
-        let same : x.1 ≡ t = ap (λ (p : Left). p.0) pair in
-        modifier_shorter (c ∷ b) t _ (modifier_found c (c ∷ b) b t x.0 starts refl (e ∙ ap (λ (t : List ℕ). Some (x.0, t)) same))
+    of_index : (x : Option (Token × List ℕ)) → index_at t ≡ x → ◌≡◌ {A = Option Left} (Some (u, worse)) (option_map {U = Left} (λ y. (y.1, noted counts now (y.0 ∷ []))) x) → length u < length b
+    of_index None g k = absurd cc
+    of_index (Some x) g k =
+        let pair : ◌≡◌ {A = Left} (u, worse) (x.1, noted counts now (x.0 ∷ [])) = cc in
+        let same : u ≡ x.1 = ap (λ (p : Left). p.0) pair in
+        rw same (item_shorter modifier_at starts_modifier modifier_steps b x.1 _ (modifier_found c b t x.1 x.0 starts h g))
 
 -- PINNED or a modifier by its first byte, and what follows it
 abbrev pub prefix_tail : List ℕ → ℕ → Left → Option Left
 prefix_tail counts c here = if eqb c 0x45 then Some here else skip_index counts here
 
-prefix_starts_modifier : (c : ℕ) (b : List ℕ) → eqb c 0x45 ≡ false → starts_prefix (c ∷ b) ≡ true → starts_modifier (c ∷ b) ≡ true
-prefix_starts_modifier c b other starts = subst (λ (p : Bool). (p || (eqb c 0x1F || eqb c 0x20)) ≡ true) other starts
+other_none : (c : ℕ) (b t : List ℕ) → b ≡ c ∷ t → c ≢ 0x45 → starts_prefix b ≡ true → index_at t ≡ None → prefix_at b ≡ None
+other_none c b t h other starts e = prefix_none c b t h other (modifier_none c b t (prefix_starts c b t h other starts) h e)
 
-prefix_other : (c : ℕ) (b : List ℕ) → eqb c 0x45 ≡ false → prefix_at (c ∷ b) ≡ option_map prefix_of (modifier_at (c ∷ b))
-unfolding prefix_at
-prefix_other c b other = rw other refl
+other_found : (c : ℕ) (b t u : List ℕ) (of : Token) → b ≡ c ∷ t → c ≢ 0x45 → starts_prefix b ≡ true → index_at t ≡ Some (of, u) → prefix_at b ≡ Some (Some (Mod (record { required = eqb c 0x1F; of = of })), u)
+other_found c b t u of h other starts e = prefix_found c b t u _ h other (modifier_found c b t u of (prefix_starts c b t h other starts) h e)
 
-prefix_pinned : (c : ℕ) (b : List ℕ) → eqb c 0x45 ≡ true → prefix_at (c ∷ b) ≡ Some (Some Pinned, b)
-unfolding prefix_at
-prefix_pinned c b pinned = rw pinned refl
-
-prefix_other_none : (c : ℕ) (b : List ℕ) → eqb c 0x45 ≡ false → starts_prefix (c ∷ b) ≡ true → index_at b ≡ None → prefix_at (c ∷ b) ≡ None
-prefix_other_none c b other starts e =
-    prefix_other c b other ∙ ap (λ (o : Option (Option Modifier × List ℕ)). option_map prefix_of o) (modifier_none c (c ∷ b) b (prefix_starts_modifier c b other starts) refl e)
-
-prefix_other_found : (c : ℕ) (b t : List ℕ) (of : Token) → eqb c 0x45 ≡ false → starts_prefix (c ∷ b) ≡ true → index_at b ≡ Some (of, t) → prefix_at (c ∷ b) ≡ Some (Some (Mod (record { required = eqb c 0x1F; of = of })), t)
-prefix_other_found c b t of other starts e =
-    prefix_other c b other ∙ ap (λ (o : Option (Option Modifier × List ℕ)). option_map prefix_of o) (modifier_found c (c ∷ b) b t of (prefix_starts_modifier c b other starts) refl e)
-
-pub prefix_step : (counts : List ℕ) (c : ℕ) (b : List ℕ) (bad : Option Token) → starts_prefix (c ∷ b) ≡ true → skip_prefixes counts (c ∷ b, bad) ≡ option_and_then (skip_prefixes counts) (prefix_tail counts c (b, bad))
-unfolding skip_index
-prefix_step counts c b bad starts = of_code (eqb c 0x45) refl (index_at b) refl
-  where
-    of_code : (p : Bool) → eqb c 0x45 ≡ p → (o : Option (Token × List ℕ)) → index_at b ≡ o → skip_prefixes counts (c ∷ b, bad) ≡ option_and_then (skip_prefixes counts) (cond {A = Option Left} p (Some (b, bad)) (option_map {U = Left} (λ x. (x.1, noted counts bad (x.0 ∷ []))) o))
-    of_code true pinned o e = prefixes_next counts (c ∷ b) b bad Pinned (prefix_pinned c b pinned) ∙ ap (λ (t : Option Token). skip_prefixes counts (b, t)) (noted-none counts bad)
-    of_code false other None e = prefixes_bad counts (c ∷ b) bad (prefix_other_none c b other starts e)
-    of_code false other (Some x) e =
-        prefixes_next counts (c ∷ b) x.1 bad _ (prefix_other_found c b x.1 x.0 other starts e) ∙ ap (λ (t : Option Token). skip_prefixes counts (x.1, t)) (noted_one counts bad (eqb c 0x1F) x.0)
-
-pub prefix_left : (counts : List ℕ) (c : ℕ) (b t : List ℕ) (bad worse : Option Token) → starts_prefix (c ∷ b) ≡ true → prefix_tail counts c (b, bad) ≡ Some (t, worse) → length t < length (c ∷ b)
-unfolding skip_index
-prefix_left counts c b t bad worse starts h = of_code (eqb c 0x45) refl (index_at b) refl h
-  where
-    of_code : (p : Bool) → eqb c 0x45 ≡ p → (o : Option (Token × List ℕ)) → index_at b ≡ o → cond {A = Option Left} p (Some (b, bad)) (option_map {U = Left} (λ x. (x.1, noted counts bad (x.0 ∷ []))) o) ≡ Some (t, worse) → length t < length (c ∷ b)
-    of_code true pinned o e h =
-        let pair : ◌≡◌ {A = Left} (b, bad) (t, worse) = cc in
-        let same : b ≡ t = ap (λ (p : Left). p.0) pair in
-        prefix_shorter (c ∷ b) t Pinned (prefix_pinned c b pinned ∙ ap (λ (t : List ℕ). Some (Some Pinned, t)) same)
-    of_code false other None e h = absurd cc
-    of_code false other (Some x) e h =
-        let pair : ◌≡◌ {A = Left} (x.1, noted counts bad (x.0 ∷ [])) (t, worse) = cc in
-        let same : x.1 ≡ t = ap (λ (p : Left). p.0) pair in
-        prefix_shorter (c ∷ b) t _ (prefix_other_found c b t x.0 other starts (e ∙ ap (λ (t : List ℕ). Some (x.0, t)) same))
-
--- the same in a list of bytes
-pub modifier_moves : (counts b t : List ℕ) (c : ℕ) (bad now : Option Token) (o : Option Left) → starts_modifier b ≡ true → b ≡ c ∷ t → now ≡ bad → o ≡ skip_index counts (t, now) → skip_modifiers counts (b, bad) ≡ option_and_then (skip_modifiers counts) o
-modifier_moves counts b t c bad now o starts h e f =
-    let same : starts_modifier (c ∷ t) ≡ true = subst (λ (x : List ℕ). starts_modifier x ≡ true) h starts in
-    rw (f, e, h) (modifier_step counts c t bad same)
-
-pub modifier_shrinks : (counts b t u : List ℕ) (c : ℕ) (bad now worse : Option Token) → starts_modifier b ≡ true → b ≡ c ∷ t → now ≡ bad → ◌≡◌ {A = Option Left} (Some (u, worse)) (skip_index counts (t, now)) → length u < length b
-modifier_shrinks counts b t u c bad now worse starts h e f =
-    let same : starts_modifier (c ∷ t) ≡ true = subst (λ (x : List ℕ). starts_modifier x ≡ true) h starts in
-    rw h (modifier_left counts c t u now worse same (sym f))
-
--- the same in a list of bytes
 pub prefix_moves : (counts b t : List ℕ) (c : ℕ) (bad now : Option Token) (o : Option Left) → starts_prefix b ≡ true → b ≡ c ∷ t → now ≡ bad → o ≡ prefix_tail counts c (t, now) → skip_prefixes counts (b, bad) ≡ option_and_then (skip_prefixes counts) o
-prefix_moves counts b t c bad now o starts h e f =
-    let same : starts_prefix (c ∷ t) ≡ true = subst (λ (x : List ℕ). starts_prefix x ≡ true) h starts in
-    rw (f, e, h) (prefix_step counts c t bad same)
+unfolding skip_index skip_prefixes prefixes_at
+prefix_moves counts b t c bad now o starts h e f = rw (f, e) (of_code (eqb c 0x45) refl (index_at t) refl)
+  where
+    of_code : (p : Bool) → eqb c 0x45 ≡ p → (x : Option (Token × List ℕ)) → index_at t ≡ x → skip_prefixes counts (b, bad) ≡ option_and_then (skip_prefixes counts) (cond {A = Option Left} p (Some (t, bad)) (option_map {U = Left} (λ y. (y.1, noted counts bad (y.0 ∷ []))) x))
+    of_code true pinned x g = unfold skip_prefixes prefixes_at in items_next prefix_at starts_prefix prefix_steps prefix_parts counts b t bad Pinned (pinned_found c b t h (eqb-true c 0x45 pinned)) ∙ ap (λ (z : Option Token). skip_prefixes counts (t, z)) (noted-none counts bad)
+    of_code false other None g = unfold skip_prefixes prefixes_at in items_bad prefix_at starts_prefix prefix_steps prefix_parts counts b bad (other_none c b t h (eqb-false c 0x45 other) starts g)
+    of_code false other (Some x) g =
+        unfold skip_prefixes prefixes_at in items_next prefix_at starts_prefix prefix_steps prefix_parts counts b x.1 bad _ (other_found c b t x.1 x.0 h (eqb-false c 0x45 other) starts g) ∙ ap (λ (z : Option Token). skip_prefixes counts (x.1, z)) (noted_one counts bad (eqb c 0x1F) x.0)
 
 pub prefix_shrinks : (counts b t u : List ℕ) (c : ℕ) (bad now worse : Option Token) → starts_prefix b ≡ true → b ≡ c ∷ t → now ≡ bad → ◌≡◌ {A = Option Left} (Some (u, worse)) (prefix_tail counts c (t, now)) → length u < length b
-prefix_shrinks counts b t u c bad now worse starts h e f =
-    let same : starts_prefix (c ∷ t) ≡ true = subst (λ (x : List ℕ). starts_prefix x ≡ true) h starts in
-    rw h (prefix_left counts c t u now worse same (sym f))
+unfolding skip_index
+prefix_shrinks counts b t u c bad now worse starts h e f = of_code (eqb c 0x45) refl (index_at t) refl f
+  where
+    of_code : (p : Bool) → eqb c 0x45 ≡ p → (x : Option (Token × List ℕ)) → index_at t ≡ x → ◌≡◌ {A = Option Left} (Some (u, worse)) (cond {A = Option Left} p (Some (t, now)) (option_map {U = Left} (λ y. (y.1, noted counts now (y.0 ∷ []))) x)) → length u < length b
+    of_code true pinned x g k = let pair : ◌≡◌ {A = Left} (u, worse) (t, now) = cc in rw (ap (λ (p : Left). p.0) pair) (item_shorter prefix_at starts_prefix prefix_steps b t Pinned (pinned_found c b t h (eqb-true c 0x45 pinned)))
+    of_code false other None g k = absurd cc
+    of_code false other (Some x) g k =
+        let pair : ◌≡◌ {A = Left} (u, worse) (x.1, noted counts now (x.0 ∷ [])) = cc in
+        let same : u ≡ x.1 = ap (λ (p : Left). p.0) pair in
+        rw same (item_shorter prefix_at starts_prefix prefix_steps b x.1 _ (other_found c b t x.1 x.0 h (eqb-false c 0x45 other) starts g))
 
 -- ---- one index
 

@@ -1,7 +1,6 @@
-pub mod Heads
+pub mod ItemLemmas
 pub mod Loops
 pub mod Noted
 pub mod Positions
-pub mod ItemLemmas
 pub mod Passes
 pub mod Recognised

@@ -1,5 +1,5 @@
 -- Skipping step by step, as loops and depth tests do it.
-use Rattle.std.proofs.Common.{◌≡◌, ℕ, zero, suc, ◌+◌, ◌-◌, ◌<◌, ◌≤◌, ◌&&◌, Bool, not, cond, Option, Some, None, is_some, List, [], ◌∷◌, refl, arith}
+use Rattle.std.proofs.Common.{◌≡◌, ℕ, zero, suc, ◌+◌, ◌-◌, ◌<◌, ◌≤◌, ◌&&◌, Bool, false, not, cond, Option, Some, None, is_some, List, [], ◌∷◌, refl, arith}
 use Rattle.std.specs.Prelude.{option_and_then}
 use Rattle.table_schema.specs.declared.token.Token.{Token}
 use Rattle.table_schema.specs.declared.column.SigKind.{SigKind}
@@ -26,6 +26,16 @@ pub skip_params_end : (counts : List ℕ) (nested : Skip) (allowed : Bool) (n k 
 unfolding skip_params
 skip_params_end counts nested allowed n k here le = let none : n - k ≡ 0 = omega arith in rw none refl
 
+-- parameters without SENTINEL are values one after another
+pub skip_params_plain : (counts : List ℕ) (nested : Skip) (n : ℕ) (here : Left) → skip_params counts nested false n here ≡ skip_many (skip_slot counts nested) n here
+unfolding skip_params skip_many
+skip_params_plain counts nested zero here = refl
+skip_params_plain counts nested (suc n) here = of_slot (skip_slot counts nested here) (skip_params_plain counts nested n)
+  where
+    of_slot : (o : Option Left) → ((x : Left) → skip_params counts nested false n x ≡ skip_many (skip_slot counts nested) n x) → option_and_then (skip_params counts nested false n) o ≡ option_and_then (skip_many (skip_slot counts nested) n) o
+    of_slot None more = refl
+    of_slot (Some x) more = more x
+
 -- a core at the depth that is left
 abbrev pub skip_next : List ℕ → ℕ → Skip
 skip_next counts d ([], bad) = None
@@ -50,9 +60,4 @@ skip_deep_some (suc d) inner here h = refl
 pub skip_body_end : (counts : List ℕ) (kind : SigKind) (nested : Skip) (b : List ℕ) (bad : Option Token) → b ≡ [] → skip_body counts kind nested (b, bad) ≡ None
 unfolding skip_body skip_method skip_ret skip_modifiers skip_void_or modifiers_at leading_at leading_within
 skip_body_end counts column.Field nested b bad h = rw h refl
-skip_body_end counts column.MethodDef nested b bad h = rw h refl
-skip_body_end counts column.MemberRef nested b bad h = rw h refl
-skip_body_end counts column.StandAlone nested b bad h = rw h refl
-skip_body_end counts column.Property nested b bad h = rw h refl
-skip_body_end counts column.TypeSpec nested b bad h = rw h refl
-skip_body_end counts column.Instance nested b bad h = rw h refl
+skip_body_end counts _ nested b bad h = rw h refl

@@ -3,7 +3,7 @@ ghost use Rattle.sig_recogniser.specs.Skips.{left, skip_core, skip_many, skip_sl
 
 use crate::position::{Position, byte, number};
 use crate::type_index::after_prefixes;
-use crate::walk::{after_content, after_method, after_ret, after_slot, after_types};
+use crate::walk::{after_content, after_method, after_params, after_ret, after_slot, after_types};
 use table_schema::SigKind;
 
 /// The position after a local variable (II.23.2.6).
@@ -35,25 +35,6 @@ fn after_locals(
     Some(here)
 }
 
-/// The position after `count` parameters of a property.
-#[tactic(auto, using(crate::proofs::Loops::skip_many_next, crate::proofs::Loops::skip_many_end))]
-fn after_slots(
-    bytes: &[u8],
-    here: Position,
-    count: u32,
-    depth: u8,
-    counts: &[u32; 45],
-) -> Option<Position>
-    requires { length bytes.now < 2 ^ 29 }
-    ensures { option_map (left bytes.now) result ≡ skip_many (skip_slot counts.now (skip_core counts.now depth)) count (left bytes.now here) }
-{
-    let mut here = here;
-    for done in 0..count {
-        here = after_slot(bytes, here, depth, counts)?;
-    }
-    Some(here)
-}
-
 /// The position after the local variables of a method, whose first byte was read (II.23.2.6).
 #[tactic(auto, unfolding(crate::specs::Skips::skip_counted))]
 fn after_variables(bytes: &[u8], here: Position, depth: u8, counts: &[u32; 45]) -> Option<Position>
@@ -75,14 +56,14 @@ fn after_arguments(bytes: &[u8], here: Position, depth: u8, counts: &[u32; 45]) 
 }
 
 /// The position after a property, whose first byte was read (II.23.2.5).
-#[tactic(auto, unfolding(crate::specs::Skips::skip_headed))]
+#[tactic(auto, using(crate::proofs::Loops::skip_params_plain), unfolding(crate::specs::Skips::skip_headed))]
 fn after_property(bytes: &[u8], here: Position, depth: u8, counts: &[u32; 45]) -> Option<Position>
     requires { length bytes.now < 2 ^ 29 }
     ensures { option_map (left bytes.now) result ≡ skip_headed (skip_slot counts.now (skip_core counts.now depth)) (left bytes.now here) }
 {
     let (count, here) = number(bytes, here)?;
     let here = after_slot(bytes, here, depth, counts)?;
-    after_slots(bytes, here, count, depth, counts)
+    after_params(bytes, here, count, false, depth, counts)
 }
 
 /// The position after the signature at the start, in a column of a kind.

@@ -15,7 +15,7 @@ pub fn has_modifier(bytes: &[u8]) -> bool
 
 /// The custom modifier at the start (II.23.2.7), and the remaining bytes. Call it after [`has_modifier`].
 /// `None` if no type index follows the modifier's code.
-#[tactic(auto, using(crate::proofs::Heads::modifier_found, crate::proofs::Heads::modifier_none))]
+#[tactic(auto, using(crate::proofs::ItemLemmas::modifier_found, crate::proofs::ItemLemmas::modifier_none))]
 pub fn modifier(bytes: &[u8]) -> Option<(Modifier, &[u8])>
     requires { starts_modifier bytes.now ≡ true }
     ensures { option_map (λ x. (Some x.0, x.1.now)) result ≡ modifier_at bytes.now }
@@ -36,7 +36,7 @@ pub fn has_prefix(bytes: &[u8]) -> bool
 
 /// The custom modifier or PINNED at the start (II.23.2.6), and the remaining bytes. Call it after
 /// [`has_prefix`]. `None` if no type index follows a modifier's code.
-#[tactic(auto, using(crate::proofs::Heads::prefix_starts, crate::proofs::Heads::prefix_none))]
+#[tactic(auto, using(crate::proofs::ItemLemmas::prefix_starts, crate::proofs::ItemLemmas::prefix_none))]
 pub fn prefix(bytes: &[u8]) -> Option<(Prefix, &[u8])>
     requires { starts_prefix bytes.now ≡ true }
     ensures { option_map (λ x. (Some x.0, x.1.now)) result ≡ prefix_at bytes.now }

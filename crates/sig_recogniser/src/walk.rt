@@ -253,7 +253,7 @@ pub fn after_ret(bytes: &[u8], here: Position, depth: u8, counts: &[u32; 45]) ->
 /// The position after `count` parameters, with SENTINEL before one of them if it is allowed.
 #[cycle(walk)]
 #[tactic(auto, using(crate::proofs::Loops::skip_params_next, crate::proofs::Loops::skip_params_end))]
-fn after_params(
+pub fn after_params(
     bytes: &[u8],
     here: Position,
     count: u32,

@@ -1,5 +1,5 @@
 use Rattle.std.proofs.Common.{◌≡◌, ◌≢◌, sym, rules}
-use Rattle.sig_recogniser.proofs.Heads.{pinned_found, prefix_found}
+use Rattle.sig_recogniser.proofs.ItemLemmas.{pinned_found, prefix_found}
 use Rattle.sig_recogniser.proofs.items.prefix.Goals as goal
 
 pub returns-then-code-eq-PINNED : goal.returns-then-code-eq-PINNED

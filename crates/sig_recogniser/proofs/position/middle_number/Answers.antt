@@ -1,4 +1,4 @@
-use Rattle.std.proofs.Common.{◌<◌, ◌≤◌, rules, arith}
+use Rattle.std.proofs.Common.{◌<◌, ◌≤◌, arith}
 use Rattle.sig_recogniser.proofs.Positions.{number_two}
 use Rattle.sig_recogniser.proofs.position.middle_number.Goals as goal
 

@@ -1,4 +1,4 @@
-use Rattle.std.proofs.Common.{◌<◌, ◌≤◌, rules, arith}
+use Rattle.std.proofs.Common.{◌<◌, ◌≤◌, arith}
 use Rattle.sig_recogniser.proofs.Positions.{number_four}
 use Rattle.sig_recogniser.proofs.position.wide_number.Goals as goal
 

@@ -1,7 +1,6 @@
-use Rattle.std.proofs.Common.{◌≡◌, ◌∙◌, ℕ, ◌<◌, ◌^◌, Option, Some, true, false, eqb, List, length, get_or, ap, sym, rules, arith}
-use Rattle.table_schema.specs.declared.token.Token.{Token}
+use Rattle.std.proofs.Common.{◌≡◌, ◌∙◌, ℕ, ◌<◌, ◌^◌, true, false, eqb, List, length, get_or, ap, sym, rules, arith}
 use Rattle.sig_recogniser.specs.Skips.{remains, bad_token as noted_token}
-use Rattle.sig_recogniser.proofs.Recognised.{IsFirstBad, walked, walked_only, not_at_end, refused}
+use Rattle.sig_recogniser.proofs.Recognised.{walked, walked_only, not_at_end, refused}
 use Rattle.sig_recogniser.proofs.whole.recognise_first_bad.Goals as goal
 
 pub returns-in_err-end-clause-complete : goal.returns-in_err-end-clause-complete
