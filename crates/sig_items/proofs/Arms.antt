@@ -18,9 +18,10 @@ use Rattle.sig_items.specs.declared.position.Frame.TheVariants as frame
 use Rattle.sig_items.specs.ItemsOf.{prefix_item, core_items, typed_items, content_items, slot_items, ret_items, local_items, shape_items, method_items}
 use Rattle.sig_items.specs.Positions.{Reported, joined, item_then, position_at, frame_at, core_reported, code_reported, instance_reported, content_reported, method_reported, types_reported, void_items, target_items, IsLed}
 use Rattle.sig_items.proofs.Joins.{changed, paired, both_items, fused, item_fused, item_reported, joined_both}
+use Rattle.sig_grammar.proofs.FromLists.{count-types_from}
 use Rattle.sig_grammar.proofs.Items.{modifier_steps, prefix_steps}
 use Rattle.sig_items.proofs.Leading.{led_at, led_next, led_none, led_end}
-use Rattle.sig_items.proofs.Counts.{counted_item, count_types_from, types_from_items}
+use Rattle.sig_items.proofs.Counts.{counted_item, types_from_items}
 
 -- ---- a core, by its first byte
 
@@ -55,26 +56,20 @@ code_pointer (suc d) c b code lt = rw code (sym (item_fused item.Pointer target_
     same (ms, None) = refl
     same (ms, Some to) = refl
 
-pub code_pointer_none : (d c : ℕ) (b : List ℕ) → c ≡ 0x0F → d ≡ 0 → code_reported d c b ≡ None
-unfolding code_reported core_by
-code_pointer_none d c b code e = rw (code, e) refl
-
 pub code_function : (d c : ℕ) (b : List ℕ) → c ≡ 0x1B → 0 < d → code_reported d c b ≡ item_then item.Function (position_at (position.Method d) b)
 unfolding code_reported core_by position_at method_reported
 code_function zero c b code lt = absurd (omega arith)
 code_function (suc d) c b code lt = rw code (sym (item_fused item.Function method_items sig.function core_items (λ x. refl) (method_at true (core_at (suc d)) b)))
 
-pub code_function_none : (d c : ℕ) (b : List ℕ) → c ≡ 0x1B → d ≡ 0 → code_reported d c b ≡ None
-unfolding code_reported core_by
-code_function_none d c b code e = rw (code, e) refl
-
 -- the items after the code of a pointer and after that of a function, at any depth
 pub pointer_reported : (d c : ℕ) (b : List ℕ) (t : Reported) → c ≡ 0x0F → (d ≡ 0 → t ≡ None) → (0 < d → t ≡ item_then item.Pointer (position_at (position.Target d) b)) → t ≡ code_reported d c b
-pointer_reported zero c b t code none reported = none refl ∙ sym (code_pointer_none zero c b code refl)
+unfolding code_reported core_by
+pointer_reported zero c b t code none reported = rw code (none refl)
 pointer_reported (suc d) c b t code none reported = reported (omega arith) ∙ sym (code_pointer (suc d) c b code (omega arith))
 
 pub function_reported : (d c : ℕ) (b : List ℕ) (t : Reported) → c ≡ 0x1B → (d ≡ 0 → t ≡ None) → (0 < d → t ≡ item_then item.Function (position_at (position.Method d) b)) → t ≡ code_reported d c b
-function_reported zero c b t code none reported = none refl ∙ sym (code_function_none zero c b code refl)
+unfolding code_reported core_by
+function_reported zero c b t code none reported = rw code (none refl)
 function_reported (suc d) c b t code none reported = reported (omega arith) ∙ sym (code_function (suc d) c b code (omega arith))
 
 pub code_vector : (d c : ℕ) (b : List ℕ) → c ≡ 0x1D → code_reported d c b ≡ item_then item.Vector (position_at (position.Typed d) b)
@@ -86,42 +81,6 @@ unfolding code_reported core_by position_at frame_at array_at
 code_array d c b code =
     rw code (sym (ap (item_then item.Array) (joined_both typed_items shape_items (typed_at (core_at d)) shape_at b)
     ∙ item_fused item.Array (both_items typed_items shape_items) array_from core_items (λ x. refl) (both (typed_at (core_at d)) shape_at b)))
-
-pub code_instance : (d c : ℕ) (b : List ℕ) → c ≡ 0x15 → code_reported d c b ≡ instance_reported d b
-unfolding code_reported core_by instance_reported
-code_instance d c b code = rw code refl
-
-pub code_value : (d c : ℕ) (b tail : List ℕ) (of : Token) → c ≡ 0x11 → index_at b ≡ Some (of, tail) → code_reported d c b ≡ Some (item.Value of ∷ [], tail)
-unfolding code_reported core_by
-code_value d c b tail of code e = rw (code, e) refl
-
-pub code_value_none : (d c : ℕ) (b : List ℕ) → c ≡ 0x11 → index_at b ≡ None → code_reported d c b ≡ None
-unfolding code_reported core_by
-code_value_none d c b code e = rw (code, e) refl
-
-pub code_class : (d c : ℕ) (b tail : List ℕ) (of : Token) → c ≡ 0x12 → index_at b ≡ Some (of, tail) → code_reported d c b ≡ Some (item.Class of ∷ [], tail)
-unfolding code_reported core_by
-code_class d c b tail of code e = rw (code, e) refl
-
-pub code_class_none : (d c : ℕ) (b : List ℕ) → c ≡ 0x12 → index_at b ≡ None → code_reported d c b ≡ None
-unfolding code_reported core_by
-code_class_none d c b code e = rw (code, e) refl
-
-pub code_var : (d c n : ℕ) (b tail : List ℕ) → c ≡ 0x13 → number_at b ≡ Some (n, tail) → code_reported d c b ≡ Some (item.Var n ∷ [], tail)
-unfolding code_reported core_by
-code_var d c n b tail code e = rw (code, e) refl
-
-pub code_var_none : (d c : ℕ) (b : List ℕ) → c ≡ 0x13 → number_at b ≡ None → code_reported d c b ≡ None
-unfolding code_reported core_by
-code_var_none d c b code e = rw (code, e) refl
-
-pub code_mvar : (d c n : ℕ) (b tail : List ℕ) → c ≡ 0x1E → number_at b ≡ Some (n, tail) → code_reported d c b ≡ Some (item.MVar n ∷ [], tail)
-unfolding code_reported core_by
-code_mvar d c n b tail code e = rw (code, e) refl
-
-pub code_mvar_none : (d c : ℕ) (b : List ℕ) → c ≡ 0x1E → number_at b ≡ None → code_reported d c b ≡ None
-unfolding code_reported core_by
-code_mvar_none d c b code e = rw (code, e) refl
 
 pub code_bad : (d c : ℕ) (b : List ℕ) → c ≢ 0x0F → c ≢ 0x11 → c ≢ 0x12 → c ≢ 0x13 → c ≢ 0x14 → c ≢ 0x15 → c ≢ 0x1B → c ≢ 0x1D → c ≢ 0x1E → code_reported d c b ≡ None
 unfolding code_reported core_by
@@ -170,7 +129,7 @@ instance_is d c n b b1 b2 b3 of h k e f =
     head xs = core_items (sig.instance (eqb c 0x11) of (types_from xs))
 
     same : (xs : List sig.Typed) → (item.Instance (eqb c 0x11) of (length xs) ∷ flat_map typed_items xs) ≡ core_items (sig.instance (eqb c 0x11) of (types_from xs))
-    same xs = rw (count_types_from xs, types_from_items xs) refl
+    same xs = rw (count-types_from xs, types_from_items xs) refl
 
     of_list : (o : Option (List sig.Typed × List ℕ)) → changed core_items (changed instance_from (paired ((eqb c 0x11), of) o)) ≡ changed head o
     of_list None = refl

@@ -1,7 +1,7 @@
 -- Counted values: the number of values that are read, and the first value with those after it.
 use Rattle.std.proofs.Common.{◌≡◌, ◌∙◌, ℕ, zero, suc, ◌-◌, ◌<◌, ◌&&◌, Bool, true, false, cond, Option, Some, None, IfSome, List, [], ◌∷◌, ◌++◌, length, drop, append-nil, refl, sym, ap, arith}
 use Rattle.std.specs.Prelude.{option_map, option_and_then, flat_map}
-use Rattle.sig_grammar.specs.Grammar.{count_types, count_slots}
+use Rattle.sig_grammar.specs.Grammar.{count_slots}
 use Rattle.sig_grammar.specs.Views.{types_from, slots_from}
 use Rattle.sig_grammar.specs.Syntax.{Core, Typed, Slot}
 use Rattle.sig_grammar.specs.Reading.{Reader, change, many_at, typed_at, slot_at, params_at, core_at, head_is}
@@ -45,10 +45,6 @@ counted_item {A = A} h f g r e n b = of_option (many_at r n b) (many_count r n b
     of_option : (o : Option (List A × List ℕ)) → IfSome o (HasCount n) → item_then (h n) (changed f o) ≡ changed g o
     of_option None k = refl
     of_option (Some x) k = ap (λ (t : List Item). Some (t, x.1)) (ap (λ (m : ℕ). h m ∷ f x.0) (sym k) ∙ e x.0)
-
-pub count_types_from : (xs : List Typed) → count_types (types_from xs) ≡ length xs
-count_types_from [] = refl
-count_types_from (x ∷ xs) = ap suc (count_types_from xs)
 
 pub types_from_items : (xs : List Typed) → types_items (types_from xs) ≡ flat_map typed_items xs
 types_from_items [] = refl
@@ -106,10 +102,6 @@ pub types_more : (n d : ℕ) (b : List ℕ) → 0 < n → frame_at (frame.Types 
 unfolding frame_at
 types_more n d b h = ap (λ (m : ℕ). types_reported m d b) (one_less n h)
 
-pub types_first : (n d : ℕ) (b : List ℕ) → joined (position_at (position.Typed d)) (types_reported n d) b ≡ frame_at (frame.Types n d) b
-unfolding position_at frame_at types_reported
-types_first n d b = many_joined typed_items (typed_at (core_at d)) n b
-
 pub locals_zero : (n d : ℕ) (b : List ℕ) → n ≡ 0 → Some ([], b) ≡ locals_reported n d b
 unfolding locals_reported many_at
 locals_zero n d b h = rw h refl
@@ -117,10 +109,6 @@ locals_zero n d b h = rw h refl
 pub locals_more : (n d : ℕ) (b : List ℕ) → 0 < n → frame_at (frame.Locals (n - 1) d) b ≡ locals_reported n d b
 unfolding frame_at
 locals_more n d b h = ap (λ (m : ℕ). locals_reported m d b) (one_less n h)
-
-pub locals_first : (n d : ℕ) (b : List ℕ) → joined (position_at (position.Local d)) (locals_reported n d) b ≡ frame_at (frame.Locals n d) b
-unfolding position_at frame_at locals_reported
-locals_first n d b = many_joined local_items (local_at (core_at d)) n b
 
 pub params_zero : (n d : ℕ) (allowed : Bool) (b : List ℕ) → n ≡ 0 → Some ([], b) ≡ params_reported n allowed d b
 unfolding params_reported params_at
@@ -266,10 +254,12 @@ params_plain n d b = ap (λ (o : Option Params). changed params_items o) (plain_
 -- ---- the first of several values, if the items of the others are known
 
 pub types_opened : (f : Option Frame) (n d : ℕ) (b : List ℕ) → ((c : List ℕ) → next_at f None c ≡ types_reported n d c) → next_at f (Some (position.Typed d)) b ≡ frame_at (frame.Types n d) b
-types_opened f n d b same = next_joined f (position.Typed d) (types_reported n d) b same ∙ types_first n d b
+unfolding position_at frame_at types_reported
+types_opened f n d b same = next_joined f (position.Typed d) (types_reported n d) b same ∙ many_joined typed_items (typed_at (core_at d)) n b
 
 pub locals_opened : (f : Option Frame) (n d : ℕ) (b : List ℕ) → ((c : List ℕ) → next_at f None c ≡ locals_reported n d c) → next_at f (Some (position.Local d)) b ≡ frame_at (frame.Locals n d) b
-locals_opened f n d b same = next_joined f (position.Local d) (locals_reported n d) b same ∙ locals_first n d b
+unfolding position_at frame_at locals_reported
+locals_opened f n d b same = next_joined f (position.Local d) (locals_reported n d) b same ∙ many_joined local_items (local_at (core_at d)) n b
 
 pub params_opened : (f : Option Frame) (n d : ℕ) (allowed : Bool) (b : List ℕ) → (allowed && head_is 0x41 b) ≡ false → ((c : List ℕ) → next_at f None c ≡ params_reported n allowed d c) → next_at f (Some (position.Slot d)) b ≡ frame_at (frame.Params n allowed d) b
 params_opened f n d allowed b h same = next_joined f (position.Slot d) (params_reported n allowed d) b same ∙ params_first n d allowed b h

@@ -112,12 +112,7 @@ arguments_is n b tail e =
 pub body_end : (kind : SigKind) (b : List ℕ) → b ≡ [] → position_at (position.Body kind) b ≡ None
 unfolding position_at body_at method_at ret_at both void_or modifiers_at leading_at leading_within
 body_end column.Field b h = rw h refl
-body_end column.MethodDef b h = rw h refl
-body_end column.MemberRef b h = rw h refl
-body_end column.StandAlone b h = rw h refl
-body_end column.Property b h = rw h refl
-body_end column.TypeSpec b h = rw h refl
-body_end column.Instance b h = rw h refl
+body_end _ b h = rw h refl
 
 pub body_method_def : (b : List ℕ) → position_at (position.Body column.MethodDef) b ≡ method_reported false 128 b
 unfolding position_at body_at method_reported
@@ -127,53 +122,13 @@ pub body_type_spec : (b : List ℕ) → position_at (position.Body column.TypeSp
 unfolding position_at body_at
 body_type_spec b = fused sig.type_spec items_of ret_items (λ x. refl) (ret_at (core_at 128) b)
 
-pub field_first : (c : ℕ) (b tail : List ℕ) → b ≡ c ∷ tail → c ≡ 0x06 → position_at (position.Body column.Field) b ≡ field_reported tail
-unfolding position_at body_at field_reported
-field_first c b tail h code = rw (h, code) refl
-
-pub field_bad : (c : ℕ) (b tail : List ℕ) → b ≡ c ∷ tail → c ≢ 0x06 → position_at (position.Body column.Field) b ≡ None
-unfolding position_at body_at
-field_bad c b tail h p = rw (h, ne_eqb c 0x06 p) refl
-
-pub member_field : (c : ℕ) (b tail : List ℕ) → b ≡ c ∷ tail → c ≡ 0x06 → position_at (position.Body column.MemberRef) b ≡ field_reported tail
-unfolding position_at body_at field_reported
-member_field c b tail h code = rw (h, code) refl
-
 pub member_method : (c : ℕ) (b tail : List ℕ) → b ≡ c ∷ tail → c ≢ 0x06 → position_at (position.Body column.MemberRef) b ≡ method_reported true 128 b
 unfolding position_at body_at method_reported
 member_method c b tail h p = rw (h, ne_eqb c 0x06 p) (fused sig.method_body items_of method_items (λ x. refl) (method_at true (core_at 128) (c ∷ tail)))
 
-pub alone_field : (c : ℕ) (b tail : List ℕ) → b ≡ c ∷ tail → c ≡ 0x06 → position_at (position.Body column.StandAlone) b ≡ field_reported tail
-unfolding position_at body_at field_reported
-alone_field c b tail h code = rw (h, code) refl
-
-pub alone_locals : (c : ℕ) (b tail : List ℕ) → b ≡ c ∷ tail → c ≡ 0x07 → position_at (position.Body column.StandAlone) b ≡ variables_reported tail
-unfolding position_at body_at variables_reported
-alone_locals c b tail h code = rw (h, code) refl
-
 pub alone_method : (c : ℕ) (b tail : List ℕ) → b ≡ c ∷ tail → c ≢ 0x06 → c ≢ 0x07 → position_at (position.Body column.StandAlone) b ≡ method_reported true 128 b
 unfolding position_at body_at method_reported
 alone_method c b tail h p q = rw (h, ne_eqb c 0x06 p, ne_eqb c 0x07 q) (fused sig.method_body items_of method_items (λ x. refl) (method_at true (core_at 128) (c ∷ tail)))
-
-pub property_this : (c : ℕ) (b tail : List ℕ) → b ≡ c ∷ tail → c ≡ 0x28 → position_at (position.Body column.Property) b ≡ property_reported true tail
-unfolding position_at body_at property_reported
-property_this c b tail h code = rw (h, code) refl
-
-pub property_static : (c : ℕ) (b tail : List ℕ) → b ≡ c ∷ tail → c ≡ 0x08 → position_at (position.Body column.Property) b ≡ property_reported false tail
-unfolding position_at body_at property_reported
-property_static c b tail h code = rw (h, code) refl
-
-pub property_bad : (c : ℕ) (b tail : List ℕ) → b ≡ c ∷ tail → c ≢ 0x08 → c ≢ 0x28 → position_at (position.Body column.Property) b ≡ None
-unfolding position_at body_at
-property_bad c b tail h p q = rw (h, ne_eqb c 0x28 q, ne_eqb c 0x08 p) refl
-
-pub arguments_first : (c : ℕ) (b tail : List ℕ) → b ≡ c ∷ tail → c ≡ 0x0A → position_at (position.Body column.Instance) b ≡ arguments_reported tail
-unfolding position_at body_at arguments_reported
-arguments_first c b tail h code = rw (h, code) refl
-
-pub arguments_bad : (c : ℕ) (b tail : List ℕ) → b ≡ c ∷ tail → c ≢ 0x0A → position_at (position.Body column.Instance) b ≡ None
-unfolding position_at body_at
-arguments_bad c b tail h p = rw (h, ne_eqb c 0x0A p) refl
 
 -- ---- the shape of an array
 

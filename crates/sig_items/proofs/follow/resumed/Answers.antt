@@ -1,7 +1,6 @@
-use Rattle.std.proofs.Common.{◌∙◌, List, ap}
+use Rattle.std.proofs.Common.{◌∙◌, Some, List, ap}
 use Rattle.sig_items.specs.declared.position.Frame.{Frame}
 use Rattle.sig_items.specs.Steps.{all_at}
-use Rattle.std.proofs.Common.{Some}
 use Rattle.sig_items.proofs.Stacks.{stacked_pop, resumed_fits, resumed_reported, resumed_roomy}
 use Rattle.sig_items.proofs.follow.resumed.Goals as goal
 

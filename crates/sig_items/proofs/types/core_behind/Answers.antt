@@ -1,39 +1,49 @@
-use Rattle.std.proofs.Common.{◌∙◌, sym}
+use Rattle.std.proofs.Common.{◌∙◌, refl, sym}
+use Rattle.sig_grammar.specs.Reading.{core_by}
+use Rattle.sig_items.specs.Positions.{code_reported, instance_reported}
 use Rattle.sig_items.specs.Steps.{reported}
-use Rattle.sig_items.proofs.Arms.{pointer_reported, function_reported, code_vector, code_array, code_instance, code_value, code_value_none, code_class, code_class_none, code_var, code_var_none, code_mvar, code_mvar_none}
+use Rattle.sig_items.proofs.Arms.{pointer_reported, function_reported, code_vector, code_array}
 use Rattle.sig_items.proofs.types.core_behind.Goals as goal
 
 pub returns-in_err-of-in-17-clause-reported : goal.returns-in_err-of-in-17-clause-reported
+unfolding code_reported core_by
 returns-in_err-of-in-17-clause-reported c =
-    rw c.from_residual.ensures (sym (code_value_none c.args.depth c.args.code c.args.tail.now c.in-17.is (sym c.in_err-of-in-17.ensures)))
+    rw (c.from_residual.ensures, c.in-17.is, sym c.in_err-of-in-17.ensures) refl
 
 pub returns-in_ok-of-in-17-clause-reported : goal.returns-in_ok-of-in-17-clause-reported
+unfolding code_reported core_by
 returns-in_ok-of-in-17-clause-reported c =
-    c.leaf.ensures.reported ∙ sym (code_value c.args.depth c.args.code c.args.tail.now c.in_ok-of-in-17.tail.now c.in_ok-of-in-17.of c.in-17.is (sym c.in_ok-of-in-17.ensures))
+    rw (c.in-17.is, sym c.in_ok-of-in-17.ensures) c.leaf.ensures.reported
 
 pub returns-in_err-of-in-18-clause-reported : goal.returns-in_err-of-in-18-clause-reported
+unfolding code_reported core_by
 returns-in_err-of-in-18-clause-reported c =
-    rw c.from_residual-in_err-of-in-18.ensures (sym (code_class_none c.args.depth c.args.code c.args.tail.now c.in-18.is (sym c.in_err-of-in-18.ensures)))
+    rw (c.from_residual-in_err-of-in-18.ensures, c.in-18.is, sym c.in_err-of-in-18.ensures) refl
 
 pub returns-in_ok-of-in-18-clause-reported : goal.returns-in_ok-of-in-18-clause-reported
+unfolding code_reported core_by
 returns-in_ok-of-in-18-clause-reported c =
-    c.leaf-in-18.ensures.reported ∙ sym (code_class c.args.depth c.args.code c.args.tail.now c.in_ok-of-in-18.tail.now c.in_ok-of-in-18.of c.in-18.is (sym c.in_ok-of-in-18.ensures))
+    rw (c.in-18.is, sym c.in_ok-of-in-18.ensures) c.leaf-in-18.ensures.reported
 
 pub returns-in_err-number-in-19-clause-reported : goal.returns-in_err-number-in-19-clause-reported
+unfolding code_reported core_by
 returns-in_err-number-in-19-clause-reported c =
-    rw c.from_residual-in_err-number-in-19.ensures (sym (code_var_none c.args.depth c.args.code c.args.tail.now c.in-19.is (sym c.in_err-number-in-19.ensures)))
+    rw (c.from_residual-in_err-number-in-19.ensures, c.in-19.is, sym c.in_err-number-in-19.ensures) refl
 
 pub returns-in_ok-number-in-19-clause-reported : goal.returns-in_ok-number-in-19-clause-reported
+unfolding code_reported core_by
 returns-in_ok-number-in-19-clause-reported c =
-    c.leaf-in-19.ensures.reported ∙ sym (code_var c.args.depth c.args.code c.in_ok-number-in-19.number c.args.tail.now c.in_ok-number-in-19.tail.now c.in-19.is (sym c.in_ok-number-in-19.ensures))
+    rw (c.in-19.is, sym c.in_ok-number-in-19.ensures) c.leaf-in-19.ensures.reported
 
 pub returns-in_err-number-in-30-clause-reported : goal.returns-in_err-number-in-30-clause-reported
+unfolding code_reported core_by
 returns-in_err-number-in-30-clause-reported c =
-    rw c.from_residual-in_err-number-in-30.ensures (sym (code_mvar_none c.args.depth c.args.code c.args.tail.now c.in-30.is (sym c.in_err-number-in-30.ensures)))
+    rw (c.from_residual-in_err-number-in-30.ensures, c.in-30.is, sym c.in_err-number-in-30.ensures) refl
 
 pub returns-in_ok-number-in-30-clause-reported : goal.returns-in_ok-number-in-30-clause-reported
+unfolding code_reported core_by
 returns-in_ok-number-in-30-clause-reported c =
-    c.leaf-in-30.ensures.reported ∙ sym (code_mvar c.args.depth c.args.code c.in_ok-number-in-30.number c.args.tail.now c.in_ok-number-in-30.tail.now c.in-30.is (sym c.in_ok-number-in-30.ensures))
+    rw (c.in-30.is, sym c.in_ok-number-in-30.ensures) c.leaf-in-30.ensures.reported
 
 pub returns-in-15-clause-reported : goal.returns-in-15-clause-reported
 returns-in-15-clause-reported c =
@@ -48,8 +58,9 @@ returns-in-20-clause-reported c =
     sym (code_array c.args.depth c.args.code c.args.tail.now c.in-20.is)
 
 pub returns-in-21-clause-reported : goal.returns-in-21-clause-reported
+unfolding code_reported core_by instance_reported
 returns-in-21-clause-reported c =
-    c.instance.ensures.reported ∙ sym (code_instance c.args.depth c.args.code c.args.tail.now c.in-21.is)
+    rw c.in-21.is c.instance.ensures.reported
 
 pub returns-in-29-clause-reported : goal.returns-in-29-clause-reported
 returns-in-29-clause-reported c =
