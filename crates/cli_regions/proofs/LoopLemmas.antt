@@ -1,7 +1,6 @@
 -- The structures that a loop looks at.
-use Rattle.std.proofs.Common.{◌≡◌, ◌∙◌, ℕ, ◌+◌, ◌-◌, ◌<◌, ◌≤◌, List, [], ◌∷◌, ◌++◌, length, drop, get_or, ap, sym, suc, arith}
+use Rattle.std.proofs.Common.{◌≡◌, ℕ, ◌+◌, ◌-◌, ◌<◌, ◌≤◌, List, [], ◌∷◌, ◌++◌, ap, sym, suc, arith}
 use Rattle.std.specs.List.{range_with_len}
-use Rattle.std.proofs.lemmas.List.{drop_more}
 use Rattle.cli_regions.specs.Kept.{Adds, Searched}
 use Rattle.cli_regions.specs.Regions.{Region}
 use Rattle.cli_regions.proofs.SearchLemmas.{adds_none, and_then, said_as}
@@ -18,11 +17,6 @@ more_left left tail completes next is = λ later more. completes later (said_as 
 -- nothing is left
 pub none_left : {start now : Searched} {all : List Region} (left : List Region) → Completes start now left all → left ≡ [] → Adds start now all
 none_left {start} {now} left completes none = completes now (said_as (adds_none now) (sym none))
-
--- an item is the first that is left
-pub first_left : {X : Type 0} (items all : List X) (i : ℕ) (none : X) → items ≡ all → i < length items → drop i all ≡ get_or items i none ∷ drop (i + 1) all
-first_left items all i none same within =
-    ap (λ xs. drop i xs) (sym same) ∙ drop_more items i none within ∙ ap (λ xs. get_or items i none ∷ drop (i + 1) xs) same
 
 -- the numbers that are left
 pub range_next : (i n : ℕ) → i < n → range_with_len i (n - i) ≡ i ∷ range_with_len (i + 1) (n - (i + 1))

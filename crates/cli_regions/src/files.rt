@@ -57,38 +57,29 @@ pub fn find_pe<'a>(pe: &Pe<'a>, found: &mut Search<'a>)
 
 /// Looks at the CLI header, its fields, and what it refers to except the metadata root (II.25.3.3).
 #[tactic(auto, unfolding(crate::specs::Files::cli_regions))]
-pub fn find_cli(pe: &Pe<'_>, header: &CliHeader, found: &mut Search<'_>)
-    requires { header.now.place ≤ 0x40000000 }
-    ensures { Adds found.old found.new (cli_regions pe.now header.now) }
+pub fn find_cli(pe: &Pe<'_>, of: &CliHeader, found: &mut Search<'_>)
+    requires { of.now.place ≤ 0x40000000 }
+    ensures { Adds found.old found.new (cli_regions pe.now of.now) }
 {
-    let start = header.place as u64;
+    let word = "cli header";
+    let start = of.place as u64;
     find_header(
-        "cli header",
+        word,
         Name::Empty,
         start,
         CLI_HEADER_SIZE,
         &CLI_HEADER,
         found,
     );
-    find_named(pe, "resources", header.resources, found);
-    find_named(
-        pe,
-        "strong name signature",
-        header.strong_name_signature,
-        found,
-    );
-    find_named(pe, "code manager table", header.code_manager_table, found);
-    find_named(pe, "vtable fixups", header.vtable_fixups, found);
+    find_named(pe, "resources", of.resources, found);
+    find_named(pe, "strong name signature", of.strong_name_signature, found);
+    find_named(pe, "code manager table", of.code_manager_table, found);
+    find_named(pe, "vtable fixups", of.vtable_fixups, found);
     find_named(
         pe,
         "export address table jumps",
-        header.export_address_table_jumps,
+        of.export_address_table_jumps,
         found,
     );
-    find_named(
-        pe,
-        "managed native header",
-        header.managed_native_header,
-        found,
-    );
+    find_named(pe, "managed native header", of.managed_native_header, found);
 }

@@ -49,14 +49,8 @@ fn find_stream_header<'a>(header: &StreamHeader<'a>, start: u64, found: &mut Sea
     let start = start + header.place as u64;
     let name_size = ((header.name.len() + 4) / 4 * 4) as u64;
     let size = STREAM_NAME + name_size;
-    find_header(
-        word,
-        Name::Text(header.name),
-        start,
-        size,
-        &BEFORE_NAME,
-        found,
-    );
+    let name = Name::Text(header.name);
+    find_header(word, name, start, size, &BEFORE_NAME, found);
     found.look(start + STREAM_NAME, name_size, word, Name::Plain("Name"));
 }
 

@@ -3,8 +3,7 @@ ghost use Rattle.std.specs.Prelude.{◌≡◌, ◌≤◌, length, map};
 ghost use Rattle.pe.specs.Headers.{directory_offset, lfanew, sections_offset};
 ghost use Rattle.cli_regions.specs.Fields.{seen_field};
 ghost use Rattle.cli_regions.specs.Kept.{HasHeaders, Adds};
-ghost use Rattle.cli_regions.specs.PeHeaders.{directories_offset, directories_regions, dos_header_regions, file_header_regions};
-ghost use Rattle.cli_regions.specs.PeHeaders.{optional_fields, optional_header_regions};
+ghost use Rattle.cli_regions.specs.PeHeaders.{directories_offset, directories_regions, dos_header_regions, file_header_regions, optional_fields, optional_header_regions};
 
 use crate::fields::{
     DIRECTORIES, DIRECTORY_FIELDS, FILE_HEADER, Field, PE32, PE32_PLUS, find_fields, find_header,
@@ -97,16 +96,10 @@ pub(crate) fn find_file_header(start: u64, found: &mut Search<'_>)
     requires { start ≤ 0x40000000 }
     ensures { Adds found.old found.new (file_header_regions start) }
 {
-    let header = start + SIGNATURE_SIZE;
+    let word = "pe file header";
+    let (header, size) = (start + SIGNATURE_SIZE, FILE_HEADER_SIZE);
     found.look(start, SIGNATURE_SIZE, "pe signature", Name::Empty);
-    find_header(
-        "pe file header",
-        Name::Empty,
-        header,
-        FILE_HEADER_SIZE,
-        &FILE_HEADER,
-        found,
-    );
+    find_header(word, Name::Empty, header, size, &FILE_HEADER, found);
 }
 
 /// The fields of the optional header before the data directories, by Magic.
@@ -129,17 +122,11 @@ pub(crate) fn find_optional_header(file: &[u8], offsets: Offsets, found: &mut Se
     requires sections { offsets.sections ≡ sections_offset file.now }
     ensures { Adds found.old found.new (optional_header_regions file.now) }
 {
+    let word = "optional header";
     let start = offsets.signature + OPTIONAL_HEADER;
-    let size = offsets.sections - start;
+    let size = (offsets.sections - start) as u64;
     let fields = optional_fields(u16_at(file, start));
-    find_header(
-        "optional header",
-        Name::Empty,
-        start as u64,
-        size as u64,
-        fields,
-        found,
-    );
+    find_header(word, Name::Empty, start as u64, size, fields, found);
 }
 
 /// Looks at the data directories and their fields (II.25.2.3.3).

@@ -80,14 +80,11 @@ fn find_part<'a>(file: &'a [u8], part: SectionPart, section: Section, found: &mu
 {
     let name = Name::Section(section.index as u64 + 1, section_name(file, section.start));
     match part {
-        SectionPart::Header => find_header(
-            "section header",
-            name,
-            section.start as u64,
-            SECTION_HEADER_SIZE as u64,
-            &SECTION_HEADER,
-            found,
-        ),
+        SectionPart::Header => {
+            let (start, size) = (section.start as u64, SECTION_HEADER_SIZE as u64);
+            let word = "section header";
+            find_header(word, name, start, size, &SECTION_HEADER, found);
+        }
         SectionPart::Bytes => {
             let size = u32_at(file, section.start + SIZE_OF_RAW_DATA);
             let start = u32_at(file, section.start + POINTER_TO_RAW_DATA);

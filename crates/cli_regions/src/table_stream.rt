@@ -35,8 +35,9 @@ fn find_row_counts(valid: u64, start: u64, found: &mut Search<'_>)
     requires { start ≤ 0x100000000 }
     ensures { Adds found.old found.new (counts_from valid start tables) }
 {
+    let tables = TableId::all();
     let mut next = start;
-    for table in TableId::all() {
+    for table in tables {
         let size = count_size(valid, *table);
         found.look_field(next, size, "row count", Name::Table(*table));
         next += size;

@@ -1,10 +1,10 @@
-use Rattle.std.proofs.Common.{◌≤◌, ◌∙◌, ◌+◌, ◌∷◌, ◌++◌, ap, arith, codes, drop, get_or, length, sym}
-use Rattle.std.proofs.lemmas.List.{drop_all}
+use Rattle.std.proofs.Common.{◌∙◌, ◌+◌, ◌∷◌, ◌++◌, ap, arith, codes, drop, get_or, sym}
+use Rattle.std.proofs.lemmas.List.{drop_all, drop_more}
 use Rattle.table_schema.specs.declared.table.TableId.TheVariants.{Module}
-use Rattle.table_schema.specs.Tables.{tables}
 use Rattle.cli_regions.specs.Headers.{counts_from, table_words}
 use Rattle.cli_regions.specs.Regions.{field_region}
-use Rattle.cli_regions.proofs.LoopLemmas.{first_left, more_left, none_left}
+use Rattle.cli_regions.proofs.LoopLemmas.{more_left, none_left}
+use Rattle.cli_regions.proofs.SearchLemmas.{said_as}
 use Rattle.cli_regions.proofs.table_stream.find_row_counts.Goals as goal
 
 pub loop-table-init : goal.loop-table-init
@@ -14,18 +14,19 @@ pub loop-table-preserved : goal.loop-table-preserved
 loop-table-preserved c =
     let loop = c.loop-table in
     let i = loop.table-index in
-    let items = c.all-table-items.result.now in
+    let tables = c.all-tables.result.now in
     let size = sym c.count_size-size.ensures.value in
     record {
       left = more_left _ _ loop.invariant.left
-          (ap (counts_from c.args.valid loop.next) (first_left items tables i Module c.all-table-items.ensures.value c.loop-table-test.true)
-          ∙ (λ k. field_region loop.next (size k) (codes "row count" ++ (codes " " ++ table_words (get_or items i Module))) ∷ counts_from c.args.valid (loop.next + size k) (drop (i + 1) tables)))
+          (ap (counts_from c.args.valid loop.next) (drop_more tables i Module c.loop-table-test.true)
+          ∙ (λ k. field_region loop.next (size k) (codes "row count" ++ (codes " " ++ table_words (get_or tables i Module))) ∷ counts_from c.args.valid (loop.next + size k) (drop (i + 1) tables)))
           c.look_field.ensures;
       low = omega (arith, loop.invariant.low, c.count_size-size.ensures.few);
     }
 
 pub returns : goal.returns
 returns c =
-    let i = c.loop-table.table-index in
-    let all : length tables ≤ i = omega (arith, ap length c.all-table-items.ensures.value, c.loop-table-test.false) in
-    none_left _ c.loop-table.invariant.left (ap (counts_from c.args.valid c.loop-table.next) (drop_all i tables all))
+    let loop = c.loop-table in
+    let tables = c.all-tables.result.now in
+    said_as (none_left _ loop.invariant.left (ap (counts_from c.args.valid loop.next) (drop_all loop.table-index tables c.loop-table-test.false)))
+    (ap (counts_from c.args.valid c.args.start) c.all-tables.ensures.value)
