@@ -1,7 +1,7 @@
 -- Data that a file has, and data that it has not.
 use Rattle.std.specs.Prelude.{option_and_then}
-use Rattle.std.proofs.Common.{◌≡◌, ◌∙◌, ℕ, ◌+◌, ◌≤◌, Bool, true, false, nat_le, Option, None, Some, ap, length, refl, sym}
-use Rattle.std.proofs.lemmas.Bool.{cond-false, cond-true, le-leb, leb-true}
+use Rattle.std.proofs.Common.{◌≡◌, ◌∙◌, ℕ, ◌+◌, ◌≤◌, nat_le, Option, None, Some, ap, length, refl, sym}
+use Rattle.std.proofs.lemmas.Bool.{cond-false, cond-true, false_from_ne_true, le-leb, leb-true}
 use Rattle.pe.specs.Image.{Image}
 use Rattle.pe.specs.Offset.{IsFileOffset, offset_at}
 use Rattle.cli_contents.specs.FieldData.{data_from, data_in}
@@ -12,15 +12,12 @@ module _ (image : Image) (stored : FieldData) where
   data_there start is =
       sym (ap (option_and_then (data_from image stored)) is.first ∙ cond-true (nat_le (start + 1) (length image.bytes)) _ _ (le-leb (start + 1) (length image.bytes) is.within))
 
-  none_from : (start : ℕ) (b : Bool) → nat_le (start + 1) (length image.bytes) ≡ b → offset_at image stored.rva 1 ≡ Some start
-      → ((offset : ℕ) → IsFileOffset image stored.rva 1 offset → ⊥) → None ≡ data_from image stored start
-  none_from start true is first none = absurd (none start (record { first = first; within = leb-true (start + 1) (length image.bytes) is }))
-  none_from start false is first none = sym (cond-false (nat_le (start + 1) (length image.bytes)) _ _ is)
-
   none_in : (found : Option ℕ) → offset_at image stored.rva 1 ≡ found → ((offset : ℕ) → IsFileOffset image stored.rva 1 offset → ⊥)
       → None ≡ option_and_then (data_from image stored) found
   none_in None is none = refl
-  none_in (Some start) is none = none_from start (nat_le (start + 1) (length image.bytes)) refl is none
+  none_in (Some start) is none =
+      let within = nat_le (start + 1) (length image.bytes) in
+      sym (cond-false within _ _ (false_from_ne_true within (λ b. none start (record { first = is; within = leb-true (start + 1) (length image.bytes) b }))))
 
   pub no_data : ((offset : ℕ) → IsFileOffset image stored.rva 1 offset → ⊥) → None ≡ data_in image stored
   no_data none = none_in (offset_at image stored.rva 1) refl none

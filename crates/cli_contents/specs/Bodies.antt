@@ -1,5 +1,5 @@
 -- The bodies of methods in a file (ECMA-335 II.22.26, II.25.4).
-use Rattle.std.specs.Prelude.{ℕ, ◌+◌, ◌-◌, ◌%◌, ◌==◌, ◌&&◌, Bool, nat_le, nat_lt, if◌then◌else◌, List, [], ◌∷◌, Option, None, Some, option_and_then, option_map, drop}
+use Rattle.std.specs.Prelude.{ℕ, ◌+◌, ◌-◌, ◌%◌, ◌==◌, ◌&&◌, Bool, nat_le, nat_lt, max, if◌then◌else◌, List, [], ◌∷◌, Option, None, Some, option_and_then, option_map, drop}
 use Rattle.std.specs.List.{flat_map, range_with_len}
 use Rattle.table_schema.specs.declared.table.TableId.TheVariants.{MethodDef}
 use Rattle.pe.specs.Image.{Image}
@@ -22,21 +22,17 @@ body_at image row rva flags =
 abbrev pub body_of : Image → Metadata → ℕ → Option Body
 body_of image model row = body_at image row (number_of (cell_in model MethodDef row 0)) (number_of (cell_in model MethodDef row 1))
 
-abbrev pub listed : Option Body → List Body
-listed None = []
-listed (Some body) = body ∷ []
+-- the byte at an offset is in a body, which has at least this number of bytes
+abbrev pub contains : ℕ → ℕ → Body → Bool
+contains least offset of = nat_le of.start offset && nat_lt (offset - of.start) (max of.size least)
 
--- the byte at an offset is in the body
-abbrev pub contains : ℕ → Body → Bool
-contains offset body = nat_le body.start offset && nat_lt (offset - body.start) body.size
-
-abbrev pub if_contains : ℕ → Option Body → List Body
-if_contains offset None = []
-if_contains offset (Some body) = if contains offset body then body ∷ [] else []
+abbrev pub kept : ℕ → ℕ → Option Body → List Body
+kept least offset None = []
+kept least offset (Some of) = if contains least offset of then of ∷ [] else []
 
 -- those of the rows from one on and before another
 unfoldable pub bodies_from : Image → Metadata → ℕ → ℕ → ℕ → List Body
-bodies_from image model offset first past = flat_map (λ row. if_contains offset (body_of image model row)) (range_with_len first (past - first))
+bodies_from image model offset first past = flat_map (λ row. kept 0 offset (body_of image model row)) (range_with_len first (past - first))
 
 -- the bodies that contain the byte at an offset of the file, in the order of their methods
 abbrev pub bodies_at : Image → Metadata → ℕ → List Body

@@ -1,8 +1,9 @@
 -- The data of fields in a file (ECMA-335 II.22.18).
-use Rattle.std.specs.Prelude.{ℕ, ◌+◌, ◌-◌, ◌&&◌, Bool, nat_le, nat_lt, if◌then◌else◌, max, List, [], ◌∷◌, Option, None, Some, length, option_and_then}
+use Rattle.std.specs.Prelude.{ℕ, ◌+◌, nat_le, if◌then◌else◌, List, Option, None, Some, length, option_and_then}
 use Rattle.std.specs.List.{flat_map}
 use Rattle.pe.specs.Image.{Image}
 use Rattle.pe.specs.Offset.{offset_at}
+use Rattle.cli_contents.specs.Bodies.{kept}
 use Rattle.cli_contents.specs.declared.bodies.Body.{Body}
 use Rattle.cli_contents.specs.declared.field_data.FieldData.{FieldData}
 
@@ -15,14 +16,7 @@ data_from image stored start =
 abbrev pub data_in : Image → FieldData → Option Body
 data_in image stored = option_and_then (data_from image stored) (offset_at image stored.rva 1)
 
--- the byte at an offset is in the data; of data of a size that is not known, only the first byte is known
-abbrev pub has_data : ℕ → Body → Bool
-has_data offset of = nat_le of.start offset && nat_lt (offset - of.start) (max of.size 1)
-
-abbrev pub if_has_data : ℕ → Option Body → List Body
-if_has_data offset None = []
-if_has_data offset (Some of) = if has_data offset of then of ∷ [] else []
-
--- the data of these fields that contains the byte at an offset of the file, in their order
+-- the data of these fields that contains the byte at an offset of the file, in their order; of data of a size that is not known,
+-- only the first byte is known
 abbrev pub data_at : Image → List FieldData → ℕ → List Body
-data_at image fields offset = flat_map (λ stored. if_has_data offset (data_in image stored)) fields
+data_at image fields offset = flat_map (λ stored. kept 1 offset (data_in image stored)) fields

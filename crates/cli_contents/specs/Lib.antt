@@ -1,3 +1,4 @@
 pub mod Bodies
 pub mod FieldData
+pub mod Kept
 pub mod Lines

@@ -1,6 +1,7 @@
 -- The lines of what the metadata of a file names in the file: bodies of methods, and resources.
 use Rattle.std.specs.Prelude.{◌≡◌, ℕ, nat_le, if◌then◌else◌, List, [], ◌∷◌, codes, length, map, take}
 use Rattle.cli_header.specs.declared.header.CliHeader.{CliHeader}
+use Rattle.table_schema.specs.declared.table.TableId.{TableId}
 use Rattle.table_schema.specs.declared.table.TableId.TheVariants.{Field, ManifestResource, MethodDef}
 use Rattle.table_schema.specs.declared.token.Token.{Token}
 use Rattle.pe.specs.Headers.{section_count}
@@ -23,40 +24,39 @@ content_line start size structure of named =
     ∷ field name.Structure (plain structure) ∷ word (codes " ") ∷ field name.Token (token of)
     ∷ word (codes " ") ∷ field name.Name (text named) ∷ []
 
--- ---- methods (II.22.26, II.25.4)
-
-abbrev pub method_line : Metadata → Body → List Part
-method_line model body =
-    content_line body.start body.size (codes "method") (token_at MethodDef body.row) (text_of (cell_in model MethodDef body.row 3))
+-- something in a row of a table, whose name is in this cell
+abbrev pub row_line : TableId → ℕ → List ℕ → Metadata → Body → List Part
+row_line table name structure model of = content_line of.start of.size structure (token_at table of.row) (text_of (cell_in model table of.row name))
 
 -- the number of methods that are printed, and that of fields
 abbrev pub method_limit : ℕ
 method_limit = 10
 
--- the lines of the first methods whose bodies contain the byte at an offset of a file
-abbrev pub first_methods : Image → Metadata → ℕ → List (List Part)
-first_methods image model offset = map (method_line model) (take method_limit (bodies_at image model offset))
-
 -- the largest number of sections that Windows' loader takes, by Microsoft's PE format
 abbrev pub section_limit : ℕ
 section_limit = 96
 
--- These lines, and none of a file with more sections.
+-- the lines of the first of these bodies, and none of a file with more sections
+abbrev pub first_lines : Image → (Body → List Part) → List Body → List (List Part)
+first_lines image line found = if nat_le (section_count image.bytes) section_limit then map line (take method_limit found) else []
+
+-- ---- methods (II.22.26, II.25.4)
+
+abbrev pub method_line : Metadata → Body → List Part
+method_line = row_line MethodDef 3 (codes "method")
+
+-- the lines of the first methods whose bodies contain the byte at an offset of a file
 abbrev pub method_lines : Image → Metadata → ℕ → List (List Part)
-method_lines image model offset = if nat_le (section_count image.bytes) section_limit then first_methods image model offset else []
+method_lines image model offset = first_lines image (method_line model) (bodies_at image model offset)
 
 -- ---- fields with data (II.22.18)
 
 abbrev pub field_line : Metadata → Body → List Part
-field_line model of = content_line of.start of.size (codes "field") (token_at Field of.row) (text_of (cell_in model Field of.row 1))
+field_line = row_line Field 1 (codes "field")
 
 -- the lines of the first of these fields whose data contains the byte at an offset of a file
-abbrev pub first_fields : Image → Metadata → List FieldData → ℕ → List (List Part)
-first_fields image model fields offset = map (field_line model) (take method_limit (data_at image fields offset))
-
--- These lines, and none of a file with more sections.
 abbrev pub field_lines : Image → Metadata → List FieldData → ℕ → List (List Part)
-field_lines image model fields offset = if nat_le (section_count image.bytes) section_limit then first_fields image model fields offset else []
+field_lines image model fields offset = first_lines image (field_line model) (data_at image fields offset)
 
 -- ---- resources (II.22.24)
 

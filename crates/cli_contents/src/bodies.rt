@@ -1,10 +1,11 @@
 //! The bodies of methods in a file.
-ghost use Rattle.std.specs.Prelude.{◌≡◌, ◌≤◌, ◌++◌, ◌^◌, All, IfOk, IfSome, OnOk, length};
+ghost use Rattle.std.specs.Prelude.{◌≡◌, ◌≤◌, ◌++◌, ◌^◌, ℕ, All, IfOk, IfSome, OnOk, length};
 ghost use Rattle.metadata.specs.Metadata.{Metadata};
 ghost use Rattle.metadata.specs.Model.{IsModel};
 ghost use Rattle.opening.specs.Views.{row_count};
 ghost use Rattle.table_schema.specs.declared.table.TableId.TheVariants.{MethodDef};
-ghost use Rattle.cli_contents.specs.Bodies.{bodies_at, body_at, body_from, body_of, contains, if_contains, listed};
+ghost use Rattle.cli_contents.specs.Bodies.{bodies_at, body_at, body_from, body_of, contains, kept};
+ghost use Rattle.cli_contents.specs.Kept.{AreRows};
 
 use cli_declarations::number;
 use file_ranges::body_end;
@@ -31,12 +32,12 @@ pub struct Body {
     pub size: usize,
 }
 
-/// Whether a body contains the byte at an offset.
-fn contains(body: Body, offset: u64) -> bool
-    ensures { result ≡ contains offset body }
+/// Whether a body contains the byte at an offset. It has at least `least` bytes.
+fn contains(of: Body, least: usize, offset: u64) -> bool
+    ensures { result ≡ contains least offset of }
 {
-    let start = body.start as u64;
-    start <= offset && offset - start < body.size as u64
+    let start = of.start as u64;
+    start <= offset && offset - start < of.size.max(least) as u64
 }
 
 /// The body of a method that begins at an offset of a file.
@@ -79,30 +80,23 @@ pub fn body_of(pe: &Pe<'_>, view: &View<'_>, row: u32) -> Option<Body>
     body_at(pe, row, rva, flags)
 }
 
-/// The body of a method, if it contains the byte at an offset.
-fn body_with(pe: &Pe<'_>, view: &View<'_>, row: u32, offset: u64) -> Option<Body>
-    requires small { length pe.now.bytes ≤ 2 ^ 30 }
-    requires first { 1 ≤ row }
-    requires last { row ≤ row_count view.now MethodDef }
-    ensures body { (model : Metadata) → IsModel view.now model → listed result ≡ if_contains offset (body_of pe.now model row) }
-    ensures row { IfSome result (λ body. body.row ≡ row) }
+/// Appends a body, if there is one and it contains the byte at an offset. It has at least `least` bytes.
+pub(crate) fn keep(
+    of: Option<Body>,
+    least: usize,
+    offset: u64,
+    found: &mut Vec<Body>,
+) -> Result<(), AllocError>
+    ensures found { OnOk result (found.new.items ≡ found.old.items ++ kept least offset of) }
+    ensures rows { (row count : ℕ) → 1 ≤ row → row ≤ count → IfSome of (λ of. of.row ≡ row) → AreRows count found.old.items → OnOk result (AreRows count found.new.items) }
 {
-    let body = body_of(pe, view, row)?;
-    if contains(body, offset) {
-        Some(body)
-    } else {
-        None
+    let Some(body) = of else {
+        return Ok(());
+    };
+    if !contains(body, least, offset) {
+        return Ok(());
     }
-}
-
-/// Appends a body, if there is one.
-pub(crate) fn keep(body: Option<Body>, found: &mut Vec<Body>) -> Result<(), AllocError>
-    ensures { OnOk result (found.new.items ≡ found.old.items ++ listed body) }
-{
-    match body {
-        Some(body) => Ok(found.push(body)?),
-        None => Ok(()),
-    }
+    Ok(found.push(body)?)
 }
 
 /// The bodies that contain the byte at an offset of a file, in the order of their methods. The time is linear in the number
@@ -124,7 +118,7 @@ pub fn bodies_at(
     let mut found = Vec::new(alloc);
     let count = view.count(TableId::MethodDef);
     for row in 1..count + 1 {
-        keep(body_with(pe, view, row, offset), &mut found)?;
+        keep(body_of(pe, view, row), 0, offset, &mut found)?;
     }
     Ok(found)
 }

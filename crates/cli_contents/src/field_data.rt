@@ -1,9 +1,7 @@
 //! The data of fields in a file (II.22.18).
-ghost use Rattle.std.specs.Prelude.{◌≡◌, ◌≤◌, ◌++◌, ◌^◌, ℕ, All, IfOk, IfSome, OnOk, length};
-ghost use Rattle.table_schema.specs.declared.table.TableId.TheVariants.{Field};
-ghost use Rattle.opening.specs.Views.{row_count};
-ghost use Rattle.cli_contents.specs.Bodies.{listed};
-ghost use Rattle.cli_contents.specs.FieldData.{data_at, data_in, has_data, if_has_data};
+ghost use Rattle.std.specs.Prelude.{◌≡◌, ◌≤◌, ◌^◌, ℕ, All, IfOk, IfSome, length};
+ghost use Rattle.cli_contents.specs.FieldData.{data_at, data_in};
+ghost use Rattle.cli_contents.specs.Kept.{AreRows};
 
 use crate::bodies::{Body, keep};
 use pe::Pe;
@@ -20,13 +18,8 @@ pub struct FieldData {
     pub size: u32,
 }
 
-/// Whether data contains the byte at an offset. Of data of a size that is not known, only the first byte is known.
-fn has_data(of: Body, offset: u64) -> bool
-    ensures { result ≡ has_data offset of }
-{
-    let start = of.start as u64;
-    start <= offset && offset - start < of.size.max(1) as u64
-}
+/// How many bytes are known of data of a size that is not known.
+const KNOWN: usize = 1;
 
 /// Where the data of a field is in a file, if its first byte is there.
 fn data_in(pe: &Pe<'_>, stored: FieldData) -> Option<Body>
@@ -44,16 +37,6 @@ fn data_in(pe: &Pe<'_>, stored: FieldData) -> Option<Body>
     }
 }
 
-/// The data of a field in a file, if it contains the byte at an offset.
-fn data_with(pe: &Pe<'_>, stored: FieldData, offset: u64) -> Option<Body>
-    requires { length pe.now.bytes ≤ 2 ^ 30 }
-    ensures of { listed result ≡ if_has_data offset (data_in pe.now stored) }
-    ensures row { IfSome result (λ of. of.row ≡ stored.row) }
-{
-    let of = data_in(pe, stored)?;
-    if has_data(of, offset) { Some(of) } else { None }
-}
-
 /// The data of these fields that contains the byte at an offset of a file, in the order of the fields. The time is linear in
 /// the number of fields for each section, and the memory in that of the data.
 ///
@@ -68,11 +51,11 @@ pub(crate) fn data_at(
 ) -> Result<Vec<Body>, AllocError>
     requires { length pe.now.bytes ≤ 2 ^ 30 }
     ensures found { IfOk result (λ found. found.items ≡ data_at pe.now fields.now offset) }
-    ensures rows { IfOk result (λ found. (count : ℕ) → All (λ stored. (1 ≤ stored.row) × (stored.row ≤ count)) fields.now → All (λ of. (1 ≤ of.row) × (of.row ≤ count)) found.items) }
+    ensures rows { IfOk result (λ found. (count : ℕ) → All (λ stored. (1 ≤ stored.row) × (stored.row ≤ count)) fields.now → AreRows count found.items) }
 {
     let mut found = Vec::new(alloc);
     for stored in fields {
-        keep(data_with(pe, *stored, offset), &mut found)?;
+        keep(data_in(pe, *stored), KNOWN, offset, &mut found)?;
     }
     Ok(found)
 }

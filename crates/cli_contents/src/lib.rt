@@ -17,12 +17,10 @@
 
 mod bodies;
 mod field_data;
-mod field_lines;
 mod lines;
 mod resource_line;
 
 pub use bodies::{Body, bodies_at, body_of};
 pub use field_data::FieldData;
-pub use field_lines::print_fields;
-pub use lines::print_methods;
+pub use lines::{print_fields, print_methods};
 pub use resource_line::print_resource;
