@@ -1,35 +1,33 @@
 -- The lines at a fault, by cases.
-use Rattle.std.specs.Prelude.{Bool, None, nat_le}
+use Rattle.std.specs.Prelude.{Bool, None, Some, nat_le}
 use Rattle.std.proofs.Common.{◌≡◌, arith, ℕ, ◌+◌, ◌<◌, ◌≤◌, List, [], ◌∷◌, ◌++◌, length, map, refl, subst, sym}
-use Rattle.std.proofs.lemmas.Bool.{cond-false, cond-true, le-leb, lt-leb}
+use Rattle.std.proofs.lemmas.Bool.{cond_both, cond-false, cond-true, le-leb, lt-leb}
 use Rattle.packed.specs.declared.code.FaultCode.{FaultCode}
 use Rattle.packed.specs.Number.{little_endian}
 use Rattle.packed.specs.Offsets.{part}
 use Rattle.cli_input.specs.declared.opened.Input.{Input}
 use Rattle.cli_lines.specs.Lines.{Part}
-use Rattle.cli_regions.specs.Kept.{seen, seen_what}
+use Rattle.cli_regions.specs.Kept.{seen}
 use Rattle.cli_regions.specs.Regions.{Region}
 use Rattle.cli_regions.specs.declared.searches.Structure.{Structure}
-use Rattle.cli_found.specs.Found.{AreFound, AreOf, AreOfCell, cell_of, field_lines, field_size, innermost, offset_line, value_line}
+use Rattle.cli_found.specs.Found.{AreFound, AreOf, AreOfCell, field_lines, field_size, innermost, last_of}
+use Rattle.cli_found.specs.Kept.{lead_at, lines_at}
 
--- the last structure is the innermost one
-pub innermost_last : (before : List Structure) (last : Structure) → innermost (map seen (before ++ last ∷ [])) ≡ cell_of (seen_what last.what)
-innermost_last [] last = refl
-innermost_last (x ∷ []) last = refl
-innermost_last (x ∷ y ∷ more) last = innermost_last (y ∷ more) last
+pub last_is : (before : List Structure) (last : Structure) → last_of (map seen (before ++ last ∷ [])) ≡ Some (seen last)
+last_is [] last = refl
+last_is (x ∷ []) last = refl
+last_is (x ∷ y ∷ more) last = last_is (y ∷ more) last
 
-pub innermost_none : (structures : List Structure) → length structures ≡ 0 → innermost (map seen structures) ≡ None
-innermost_none [] is = refl
-innermost_none (x ∷ structures) is = absurd (omega (arith, is))
+pub no_last : (structures : List Structure) → length structures ≡ 0 → last_of (map seen structures) ≡ None
+no_last [] is = refl
+no_last (x ∷ structures) is = absurd (omega (arith, is))
 
 module _ (rule : FaultCode) (bytes : List ℕ) (offset : ℕ) where
-  -- a number in a header that the bytes have, and one that they have not
-  pub field_there : offset + field_size rule ≤ length bytes
-      → field_lines rule bytes offset ≡ value_line offset (little_endian (part bytes offset (field_size rule))) None [] ∷ []
-  field_there within = cond-true (nat_le (offset + field_size rule) (length bytes)) _ _ (le-leb (offset + field_size rule) (length bytes) within)
-
-  pub field_past : length bytes < offset + field_size rule → field_lines rule bytes offset ≡ offset_line offset ∷ []
-  field_past past = cond-false (nat_le (offset + field_size rule) (length bytes)) _ _ (lt-leb (offset + field_size rule) (length bytes) past)
+  -- the line of a number in a header
+  pub field_at : lines_at offset (lead_at bytes offset (field_size rule) None) ≡ field_lines rule bytes offset
+  field_at =
+      let within = nat_le (offset + field_size rule) (length bytes) in
+      cond_both within (Some (record { offset = offset; number = little_endian (part bytes offset (field_size rule)); coded = None })) None (λ lead. lines_at offset lead ≡ field_lines rule bytes offset) (λ is. sym (cond-true within _ _ is)) (λ is. sym (cond-false within _ _ is))
 
   module _ (input : Input) (structures : List Region) where
     -- the line of a rule about a header, and of another one

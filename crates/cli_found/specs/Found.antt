@@ -1,5 +1,5 @@
 -- The line of the offset of a fault: the number there, and what its rule compares it with (ECMA-335 II.22 to II.25).
-use Rattle.std.specs.Prelude.{◌≡◌, ◌⊎◌, ◌&&◌, ◌-◌, ◌+◌, ◌/◌, ◌%◌, ◌^◌, ℕ, Bool, true, false, nat_le, nat_lt, if◌then◌else◌, List, [], ◌∷◌, ◌++◌, codes, decimal, length, Option, None, Some, slice_get}
+use Rattle.std.specs.Prelude.{◌≡◌, ◌⊎◌, ◌&&◌, ◌-◌, ◌+◌, ◌/◌, ◌%◌, ◌^◌, ℕ, Bool, true, false, nat_le, nat_lt, if◌then◌else◌, List, [], ◌∷◌, ◌++◌, codes, decimal, length, Option, None, Some, option_and_then, slice_get}
 use Rattle.packed.specs.declared.code.FaultCode.{FaultCode}
 use Rattle.packed.specs.declared.code.FaultCode.TheVariants.{DosHeader, PeSignature, OptionalHeader, Pe32PlusSize, Magic, Directories, Sections, NoCliHeader, CliAddress, CliSize, MetadataAddress, RootSignature, Version, NoTables, TablesVersion, HeapSizes, UnknownTable, RowCount, NotSorted, BadRun, NoOwner, NestedOrder, EntryPoint}
 use Rattle.packed.specs.Number.{little_endian}
@@ -157,11 +157,15 @@ abbrev pub cell_of : What → Option TableCell
 cell_of (cell of) = Some of
 cell_of _ = None
 
--- the cell that is the last of these structures
+-- the last of these structures
+abbrev pub last_of : List Region → Option Region
+last_of [] = None
+last_of (of ∷ []) = Some of
+last_of (of ∷ next ∷ later) = last_of (next ∷ later)
+
+-- the cell that it is
 abbrev pub innermost : List Region → Option TableCell
-innermost [] = None
-innermost (of ∷ []) = cell_of of.what
-innermost (of ∷ next ∷ later) = innermost (next ∷ later)
+innermost structures = option_and_then (λ of. cell_of of.what) (last_of structures)
 
 -- the line of a cell, or that of its offset if a rule before those for cells is broken
 abbrev pub AreOfCell : FaultCode → Input → List ℕ → ℕ → Option TableCell → List (List Part) → Type 0

@@ -1,21 +1,17 @@
 -- What a program keeps of a line, for private clauses.
-use Rattle.std.specs.Prelude.{◌≡◌, ◌⊎◌, ◌+◌, ◌==◌, ◌||◌, ℕ, Bool, nat_le, if◌then◌else◌, List, [], length, Option, None, Some}
+use Rattle.std.specs.Prelude.{◌≡◌, ◌⊎◌, ◌+◌, ◌==◌, ◌||◌, ℕ, Bool, nat_le, if◌then◌else◌, List, [], ◌∷◌, length, Option, None, Some}
 use Rattle.packed.specs.Number.{little_endian}
 use Rattle.packed.specs.Offsets.{part}
 use Rattle.table_schema.specs.declared.coded.Coded.{Coded}
 use Rattle.cli_lines.specs.Lines.{Part}
 use Rattle.cli_lines.specs.Shown.{shown_value}
-use Rattle.cli_found.specs.Found.{limit_parts, offset_text, value_text}
+use Rattle.cli_found.specs.Found.{limit_parts, offset_line, value_line, value_text}
 use Rattle.cli_found.specs.declared.limits.Limit.{Limit}
 use Rattle.cli_found.specs.declared.lines.Lead.{Lead}
-use Rattle.cli_found.specs.declared.lines.Start.{Start}
 
 abbrev pub shown_limit : Option Limit → List Part
 shown_limit None = []
 shown_limit (Some of) = limit_parts of.before.now of.name (shown_value of.of) of.limit of.unit.now
-
-abbrev pub start_text : Start → List ℕ
-start_text start = offset_text start.offset
 
 abbrev pub lead_text : Lead → List ℕ
 lead_text lead = value_text lead.offset lead.number lead.coded
@@ -31,6 +27,11 @@ lead_at bytes offset size coded =
 
 abbrev pub lead_of : List ℕ → ℕ → ℕ → Option Coded → Option Lead
 lead_of bytes offset size coded = if is_size size then lead_at bytes offset size coded else None
+
+-- the line of a number at an offset, if there is one
+abbrev pub lines_at : ℕ → Option Lead → List (List Part)
+lines_at offset None = offset_line offset ∷ []
+lines_at offset (Some lead) = value_line lead.offset lead.number lead.coded [] ∷ []
 
 -- the sizes of numbers in headers
 abbrev pub IsFieldSize : ℕ → Type 0

@@ -10,7 +10,7 @@ use Rattle.cli_lines.specs.declared.names.Name.TheVariants as name
 use Rattle.cli_lines.specs.Lines.{Part, spaced}
 use Rattle.cli_cells.specs.RowLines.{cell_value}
 use Rattle.cli_regions.specs.Regions.{Region, What, cell, scalar}
-use Rattle.cli_found.specs.Found.{coded_of, kind_of, value_line}
+use Rattle.cli_found.specs.Found.{coded_of, kind_of, last_of, value_line}
 use Rattle.cli_found.specs.Kept.{lead_of}
 use Rattle.cli_found.specs.declared.lines.Lead.{Lead}
 use Rattle.type_heads.specs.declared.flag_words.FlagTable.{FlagTable}
@@ -67,8 +67,11 @@ lead_lines model what (Some lead) = lead_line model what lead ∷ []
 abbrev pub lines_of : Metadata → List ℕ → Region → List (List Part)
 lines_of model bytes of = lead_lines model of.what (lead_in bytes of of.what)
 
+-- the line of a structure, if there is one
+abbrev pub last_lines : Metadata → List ℕ → Option Region → List (List Part)
+last_lines model bytes None = []
+last_lines model bytes (Some of) = lines_of model bytes of
+
 -- of structures, the outermost first, the line of the last one
 abbrev pub value_lines : Metadata → List ℕ → List Region → List (List Part)
-value_lines model bytes [] = []
-value_lines model bytes (of ∷ []) = lines_of model bytes of
-value_lines model bytes (of ∷ next ∷ later) = value_lines model bytes (next ∷ later)
+value_lines model bytes structures = last_lines model bytes (last_of structures)

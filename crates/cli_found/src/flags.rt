@@ -67,7 +67,8 @@ fn flag_text(alloc: Global, of: FlagTable, number: u64) -> Result<String, AllocE
     ensures { IfOk result (λ text. string_bytes text ≡ flag_text of number) }
 {
     let mut text = String::new(alloc);
-    for word in words_of(of) {
+    let words = words_of(of);
+    for word in words {
         push_word(number, *word, &mut text)?;
     }
     Ok(text)

@@ -1,12 +1,13 @@
 //! Prints the line of the offset of a fault.
 ghost use Rattle.std.specs.Prelude.{◌≡◌, ◌∷◌, ◌+◌, ◌≤◌, [], length, List, map, nat_le, Some};
+ghost use Rattle.std.specs.Option.{option_map};
 ghost use Rattle.packed.specs.Number.{little_endian};
 ghost use Rattle.packed.specs.Offsets.{part};
 ghost use Rattle.cli_lines.specs.Lines.{Part as ThePart};
 ghost use Rattle.cli_lines.specs.Printed.{Prints};
 ghost use Rattle.cli_regions.specs.Kept.{seen, seen_what};
-ghost use Rattle.cli_found.specs.Found.{AreFound, AreOfCell, cell_lines, cell_of, field_lines, field_size, innermost, offset_line, offset_text, value_line};
-ghost use Rattle.cli_found.specs.Kept.{IsFieldSize, lead_at, lead_of, lead_text, shown_limit, start_text};
+ghost use Rattle.cli_found.specs.Found.{AreFound, AreOfCell, cell_lines, cell_of, field_lines, field_size, innermost, last_of, offset_line, offset_text, value_line};
+ghost use Rattle.cli_found.specs.Kept.{IsFieldSize, lead_at, lead_of, lead_text, shown_limit};
 
 use crate::limits::{Limit, coded_of, kind_of, limit_of, number_in, row_of, tag_of};
 use cli_faults::FaultCode;
@@ -50,20 +51,6 @@ impl fmt::Display for Lead {
     }
 }
 
-/// An offset alone.
-#[derive(Clone, Copy)]
-struct Start {
-    offset: u64,
-}
-
-impl fmt::Display for Start {
-    ghost output = { λ start. Some (start_text start) };
-
-    fn fmt<W: fmt::Write>(&self, f: &mut fmt::Formatter<W>) -> fmt::Result {
-        write!(f, "0x{:01x}", self.offset)
-    }
-}
-
 /// Prints the line of an offset, which has this text.
 #[tactic(auto, unfolding(crate::specs::Found::offset_line))]
 fn print_start<W: Write>(text: &str, offset: u64, out: &mut Printer<'_, W>)
@@ -77,8 +64,7 @@ fn print_start<W: Write>(text: &str, offset: u64, out: &mut Printer<'_, W>)
 fn print_offset<W: Write>(alloc: Global, offset: u64, out: &mut Printer<'_, W>)
     ensures { Prints out.old out.new (offset_line offset ∷ []) }
 {
-    let start = Start { offset };
-    match start.to_string(alloc) {
+    match format!(in alloc; "0x{offset:01x}") {
         Ok(text) => print_start(&text, offset, out),
         Err(_) => out.fail(),
     }
@@ -189,16 +175,15 @@ fn lead_at(bytes: &[u8], offset: u64, size: usize, coded: Option<Coded>) -> Opti
     requires { IsFieldSize size }
     ensures { result ≡ lead_at bytes.now offset size coded }
 {
-    if has_bytes(bytes, offset, size) {
-        let number = number_at(bytes, offset as usize, size);
-        Some(Lead {
-            offset,
-            number,
-            coded,
-        })
-    } else {
-        None
+    if !has_bytes(bytes, offset, size) {
+        return None;
     }
+    let number = number_at(bytes, offset as usize, size);
+    Some(Lead {
+        offset,
+        number,
+        coded,
+    })
 }
 
 /// The number that the bytes at an offset are; `None` if they are not one, two or four bytes, or the file ends before.
@@ -223,17 +208,9 @@ fn print_field<W: Write>(
 )
     ensures { Prints out.old out.new (field_lines rule bytes.now offset) }
 {
-    let size = field_size(rule);
-    if has_bytes(bytes, offset, size) {
-        let number = number_at(bytes, offset as usize, size);
-        let lead = Lead {
-            offset,
-            number,
-            coded: None,
-        };
-        print_line(alloc, lead, None, out);
-    } else {
-        print_offset(alloc, offset, out);
+    match lead_at(bytes, offset, field_size(rule), None) {
+        Some(lead) => print_line(alloc, lead, None, out),
+        None => print_offset(alloc, offset, out),
     }
 }
 
@@ -272,12 +249,22 @@ fn cell_of(what: What<'_>) -> Option<TableCell>
     }
 }
 
+/// The innermost of these structures.
+pub(crate) fn last_of<'a>(structures: &[Structure<'a>]) -> Option<Structure<'a>>
+    ensures { option_map seen result ≡ last_of (map seen structures.now) }
+{
+    match structures.split_last() {
+        Some((last, _)) => Some(*last),
+        None => None,
+    }
+}
+
 /// The cell that is the innermost of these structures; `None` if that is no cell.
 fn innermost(structures: &[Structure<'_>]) -> Option<TableCell>
     ensures { result ≡ innermost (map seen structures.now) }
 {
-    match structures.split_last() {
-        Some((last, _)) => cell_of(last.what),
+    match last_of(structures) {
+        Some(last) => cell_of(last.what),
         None => None,
     }
 }

@@ -14,7 +14,7 @@ ghost use Rattle.cli_found.specs.Values.{cell_lead, has_cell, lead_in, lead_line
 use crate::columns::column_number;
 use crate::flags::{flags_at, print_flags};
 use crate::limits::{coded_of, kind_of};
-use crate::lines::{Lead, number_of};
+use crate::lines::{Lead, last_of, number_of};
 use cli_cells::{Names, print_cell};
 use cli_lines::Part::{Member, Word};
 use cli_lines::Value::Number;
@@ -191,8 +191,8 @@ pub fn print_value<W: Write>(
     ensures { (model : Metadata) → IsModel view.now model → Prints out.old out.new (value_lines model bytes.now (map seen structures.now)) }
 {
     cli_lines::laws::lines_follow::<W>();
-    match structures.split_last() {
-        Some((last, _)) => print_number(alloc, bytes, view, *last, out),
+    match last_of(structures) {
+        Some(last) => print_number(alloc, bytes, view, last, out),
         None => {}
     }
 }

@@ -1,19 +1,19 @@
-use Rattle.std.proofs.Common.{string_bytes, ◌≡◌, ◌∙◌, ◌+◌, ap, drop, sym}
-use Rattle.type_heads.specs.FlagWords.{words_of}
+use Rattle.std.proofs.Common.{string_bytes, ◌∙◌, ◌+◌, ap, drop, map, sym}
+use Rattle.std.proofs.lemmas.List.{drop_all, drop_more}
+use Rattle.type_heads.specs.FlagWords.{shown_word}
 use Rattle.cli_found.specs.Flags.{with_words}
-use Rattle.cli_found.proofs.FlagLemmas.{word_more, words_end}
 use Rattle.cli_found.proofs.flags.flag_text.Goals as goal
 
 pub loop-word-preserved : goal.loop-word-preserved
 loop-word-preserved c =
     let loop = c.loop-word in
-    let words = words_of c.args.of in
-    ap (λ text. with_words c.args.number text (drop (loop.word-index + 1) words)) c.in_ok-push_word.ensures
-    ∙ sym (word_more c.args.number (string_bytes loop.text) c.words_of-word-items.result.now words loop.word-index c.words_of-word-items.ensures _ c.loop-word-test.true)
+    let words = c.words_of-words.result.now in
+    ap (λ text. with_words c.args.number text (map shown_word (drop (loop.word-index + 1) words))) c.in_ok-push_word.ensures
+    ∙ ap (λ left. with_words c.args.number (string_bytes loop.text) (map shown_word left)) (sym (drop_more words loop.word-index _ c.loop-word-test.true))
     ∙ loop.invariant
 
 pub returns : goal.returns
 returns c =
     let loop = c.loop-word in
-    sym (words_end c.args.number (string_bytes loop.text) c.words_of-word-items.result.now (words_of c.args.of) loop.word-index c.words_of-word-items.ensures c.loop-word-test.false)
+    ap (λ left. with_words c.args.number (string_bytes loop.text) (map shown_word left)) (sym (drop_all loop.word-index c.words_of-words.result.now c.loop-word-test.false))
     ∙ loop.invariant

@@ -1,8 +1,8 @@
-use Rattle.std.proofs.Common.{string_bytes, ◌≡◌, drop}
-use Rattle.type_heads.specs.FlagWords.{words_of}
+use Rattle.std.proofs.Common.{string_bytes, ◌≡◌, drop, map}
+use Rattle.type_heads.specs.FlagWords.{shown_word}
 use Rattle.cli_found.specs.Flags.{flag_text, with_words}
 use Rattle.cli_found.proofs.flags.flag_text.Given as goal
 
 -- with the words from this one on, the text is that of all words
 abbrev pub invariant-loop-word : goal.invariant-loop-word
-invariant-loop-word l = with_words l.number (string_bytes l.text) (drop l.word-index (words_of l.fn.of)) ≡ flag_text l.fn.of l.number
+invariant-loop-word l = with_words l.number (string_bytes l.text) (map shown_word (drop l.word-index l.words)) ≡ flag_text l.fn.of l.number

@@ -1,14 +1,13 @@
-use Rattle.std.proofs.Common.{◌∙◌, List, ap, map, sym}
+use Rattle.std.proofs.Common.{◌∙◌, ap, sym}
+use Rattle.std.specs.Prelude.{option_and_then}
+use Rattle.std.specs.Option.{option_map}
 use Rattle.cli_regions.specs.Kept.{seen}
-use Rattle.cli_regions.specs.declared.searches.Structure.{Structure}
-use Rattle.cli_found.specs.Found.{innermost}
-use Rattle.cli_found.proofs.FoundLemmas.{innermost_last, innermost_none}
+use Rattle.cli_regions.specs.Regions.{Region}
+use Rattle.cli_found.specs.Found.{cell_of}
 use Rattle.cli_found.proofs.lines.innermost.Goals as goal
 
 pub returns-in-Some : goal.returns-in-Some
-returns-in-Some c =
-    let all = ap (λ (structures : List Structure). innermost (map seen structures)) c.in-Some.ensures.cases.0 in
-    c.cell_of.ensures ∙ sym (all ∙ innermost_last c.in-Some.field-0-1.now c.in-Some.last.now)
+returns-in-Some c = c.cell_of.ensures ∙ ap (option_and_then (λ (of : Region). cell_of of.what)) (ap (option_map seen) (sym c.in-Some.is) ∙ c.last_of.ensures)
 
 pub returns-in-None : goal.returns-in-None
-returns-in-None c = sym (innermost_none c.args.structures.now c.in-None.ensures.cases)
+returns-in-None c = ap (option_and_then (λ (of : Region). cell_of of.what)) (ap (option_map seen) (sym c.in-None.is) ∙ c.last_of.ensures)
