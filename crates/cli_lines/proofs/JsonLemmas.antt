@@ -6,17 +6,19 @@ use Rattle.std.specs.Str.{encode_utf8_all}
 use Rattle.std.proofs.Math.Logic.{⊎_elim}
 use Rattle.json.specs.Print.{escape_byte, print_from, quoted as string_text}
 use Rattle.json.specs.Token as json
-use Rattle.cli_lines.specs.JsonTexts.{array_json, items_json, member_json, opener, row_json, units_json, value_json}
-use Rattle.cli_lines.specs.Lines.{Value, number, hex, byte, text, plain, token, reference, quoted, bytes, guid, start, signature, yes, null, json_from, line_feed, named_from, named_token, part_tokens, units_tokens, value_tokens}
+use Rattle.cli_lines.specs.JsonTexts.{array_json, items_json, member_json, opener, plain_string, row_json, units_json, value_json}
+use Rattle.cli_lines.specs.Lines.{Value, number, hex, byte, text, plain, token, reference, bytes, guid, signature, json_from, line_feed, named_from, named_token, part_tokens, units_tokens, value_tokens}
 use Rattle.table_schema.specs.declared.token.Token.{Token}
 use Rattle.table_schema.specs.Tables.{table_name}
-use Rattle.table_schema.specs.Tokens.{token_text}
 use Rattle.cli_lines.specs.Names.{name_text}
 use Rattle.cli_lines.specs.Shown.{shown, shown_value}
 use Rattle.cli_lines.specs.declared.parts.Part.{Part as KeptPart}
-use Rattle.cli_lines.specs.declared.parts.Part.TheVariants.{Word, Field, Note, Member, Spaced, RowNumber, RowToken, Units, Open, Close}
+use Rattle.cli_lines.specs.declared.parts.Part.TheVariants.{Word, Field, Note, Member, Spaced, RowNumber, RowToken, Units}
 use Rattle.cli_lines.specs.declared.parts.Value.{Value as KeptValue}
 use Rattle.cli_lines.specs.Texts.{escaped_bytes}
+use Rattle.table_schema.specs.Tokens.{hexadecimal, token_text}
+use Rattle.cli_faults.specs.Hexadecimal.{upper_hexadecimal}
+use Rattle.cli_lines.proofs.PlainLemmas.{Plain, bytes_are_plain, padded_is_plain, token_is_plain}
 use Rattle.cli_lines.specs.declared.line.Before.{Before}
 use Rattle.cli_lines.specs.declared.line.Before.TheVariants.{Line, Brace}
 use Rattle.cli_lines.specs.declared.line.Before.TheVariants as at
@@ -62,28 +64,31 @@ member_printed before named values of line new prints is more =
     ∙ ap (λ xs. line ++ xs) (sym (name_from before named (values ++ more)))
 
 -- the text of a value
-signed : (blob of remainder : List ℕ) → (codes "{\"blob\":" ++ string_text blob ++ codes ",\"text\":" ++ string_text of ++ codes "}") ++ remainder
-    ≡ codes "{\"blob\":" ++ (string_text blob ++ (codes ",\"text\":" ++ (string_text of ++ (125 ∷ remainder))))
+plain_is : (of : List ℕ) → Plain of → string_text of ≡ plain_string of
+plain_is of same = ap (λ xs. 34 ∷ (xs ++ 34 ∷ [])) same
+
+plain_prints : (of : List ℕ) → Plain of → PrintAs (json.string of ∷ []) (plain_string of)
+unfolding print_from
+plain_prints of same more = ap (λ xs. xs ++ print_from true more) (plain_is of same)
+
+signed : (blob of remainder : List ℕ) → (codes "{\"blob\":" ++ plain_string blob ++ codes ",\"text\":" ++ string_text of ++ codes "}") ++ remainder
+    ≡ codes "{\"blob\":" ++ (plain_string blob ++ (codes ",\"text\":" ++ (string_text of ++ (125 ∷ remainder))))
 signed blob of remainder = simp append_assoc
 
 pub value_prints : (value : Value) → PrintAs (value_tokens value) (value_json value)
 unfolding print_from escape_byte
-value_prints (number n) more = refl
-value_prints (hex n) more = refl
-value_prints (byte n) more = refl
-value_prints (text of) more = refl
-value_prints (plain of) more = refl
-value_prints (token of) more = refl
+value_prints (hex n) more = plain_prints (hexadecimal 8 n) (padded_is_plain false 8 n) more
+value_prints (byte n) more = plain_prints (upper_hexadecimal n) (padded_is_plain true 2 n) more
+value_prints (token of) more = plain_prints (token_text of) (token_is_plain of) more
+value_prints (reference (Some of)) more = plain_prints (token_text of) (token_is_plain of) more
+value_prints (bytes of) more = plain_prints (escaped_bytes of) (bytes_are_plain of) more
+value_prints (signature blob of) more =
+    ap (λ xs. codes "{\"blob\":" ++ (xs ++ (codes ",\"text\":" ++ (string_text of ++ (125 ∷ print_from true more))))) (plain_is (escaped_bytes blob) (bytes_are_plain blob))
+    ∙ sym (signed (escaped_bytes blob) of (print_from true more))
 value_prints (reference None) more = refl
-value_prints (reference (Some of)) more = refl
-value_prints (quoted of) more = refl
-value_prints (bytes of) more = refl
 value_prints (guid None) more = refl
 value_prints (guid (Some of)) more = refl
-value_prints (start n) more = refl
-value_prints (signature blob of) more = sym (signed (escaped_bytes blob) of (print_from true more))
-value_prints yes more = refl
-value_prints null more = refl
+value_prints _ more = refl
 
 -- the members of a row after the name of the first one
 abbrev pub row_values : Token → List json.Token
@@ -97,7 +102,10 @@ row_grouped table digits of remainder = simp append_assoc
 
 pub row_prints : (row : Token) → PrintAs (row_values row) (row_json row)
 unfolding print_from escape_byte
-row_prints row more = sym (row_grouped (string_text (table_name row.table)) (decimal row.row) (string_text (token_text row)) (print_from true more))
+row_prints row more =
+    ap (λ xs. string_text (table_name row.table) ++ (codes ",\"row\":" ++ (decimal row.row ++ (codes ",\"token\":" ++ (xs ++ print_from true more)))))
+    (plain_is (token_text row) (token_is_plain row))
+    ∙ sym (row_grouped (string_text (table_name row.table)) (decimal row.row) (plain_string (token_text row)) (print_from true more))
 
 pub row_joined : (line before key table digits of : List ℕ)
     → ((((line ++ (before ++ (key ++ 58 ∷ []))) ++ (table ++ codes ",\"row\":")) ++ digits) ++ codes ",\"token\":") ++ of
@@ -171,12 +179,6 @@ first_of_either file false x y xs ys more = refl
 pub first_tokens : (file : List ℕ) (part : KeptPart) → ((of : Bor (List ℕ)) → part ≢ Word of) → ((value : KeptValue) → part ≢ Note value) → (more : List json.Token)
     → json_from Line (named_token name.File ∷ json.string file ∷ (part_tokens (shown part) ++ more)) ≡ named_from (Some file) Line (part_tokens (shown part) ++ more)
 first_tokens file (Word of) word note more = absurd (word of refl)
-first_tokens file (Field key value) word note more = refl
 first_tokens file (Note value) word note more = absurd (note value refl)
-first_tokens file (Member key value) word note more = refl
-first_tokens file (Spaced key value) word note more = refl
-first_tokens file (RowNumber row) word note more = refl
-first_tokens file (RowToken row) word note more = refl
 first_tokens file (Units of) word note more = first_of_either file (has_unpaired_surrogate of.now.units) _ _ _ _ more
-first_tokens file (Open key) word note more = refl
-first_tokens file Close word note more = refl
+first_tokens file _ word note more = refl

@@ -1,14 +1,12 @@
 -- What a printer was asked to print.
 use Rattle.std.proofs.Common.{◌≡◌, ◌∙◌, ℕ, true, false, List, [], ◌∷◌, ◌++◌, Option, None, Some, Result, Ok, Err, refl, ap, sym, subst, append_assoc, append-nil}
 use Rattle.std.specs.Prelude.{IsErr, is_some}
-use Rattle.std.specs.Borrow.{Bor, GName}
+use Rattle.std.specs.Borrow.{GName}
 use Rattle.std.specs.declared.io.ErrorKind.{ErrorKind}
 use Rattle.std.proofs.lemmas.Grind.{flat_map-append}
 use Rattle.cli_lines.specs.declared.line.Before.{Before}
-use Rattle.cli_lines.specs.declared.parts.Form.{Form}
 use Rattle.cli_lines.specs.Lines.{Part, Style, line_from, line_text, style, styled_text}
 use Rattle.cli_lines.specs.Printed.{Adds, Asked, Awaits, Begins, Completes, Ends, Moves, Printed, Prints, Same, waits}
-use Rattle.cli_lines.specs.Shown.{shown_file}
 use Rattle.cli_sending.specs.Sent.{Sends, SendsPrefix}
 use Rattle.cli_sending.proofs.SentLemmas.{prefix_longer, prefix_more, sends_more}
 
@@ -23,10 +21,6 @@ report_of_line look line = append-nil (line_text look line)
 report_joined : (look : Style) (xs ys : List (List Part)) → styled_text look (xs ++ ys) ≡ styled_text look xs ++ styled_text look ys
 unfolding styled_text
 report_joined look xs ys = flat_map-append (line_text look) xs ys
-
--- the style of a printer
-abbrev pub style_in : Form → Option (Bor (List ℕ)) → Style
-style_in form file = style form (shown_file file)
 
 -- what contracts see of a printer
 abbrev pub seen : {W : Type 0} → Style → GName → W → Option (List ℕ) → List ℕ → Option ErrorKind → Before → Printed W
@@ -65,100 +59,110 @@ moved_on : (sent waiting left x y prefix whole : List ℕ) → prefix ≡ sent +
 moved_on sent waiting left x y prefix whole prefix_is same is =
     append_assoc sent left x ∙ ap (λ bytes. sent ++ bytes) same ∙ sym (append_assoc sent waiting y) ∙ ap (λ bytes. bytes ++ y) (sym prefix_is) ∙ is
 
-module _ {W : Type 0} (look : Style) (borrow : GName) (out : W) (contents : Option (List ℕ)) (waiting left : List ℕ) (parts : List Part) (at now : Before) where
+module _ {W : Type 0} (look : Style) (borrow : GName) (out : W) (contents : Option (List ℕ)) (waiting : List ℕ) (at : Before) where
   abbrev before : Option ErrorKind → Printed W
   before stopped = seen look borrow out contents waiting stopped at
 
-  -- a printer that failed takes nothing
-  pub begins_stopped : (stopped : Option ErrorKind) → is_some stopped ≡ true → Begins (before stopped) (before stopped) parts
-  begins_stopped (Some kind) is = record { same = record { style = refl; borrow = refl; stays = λ none. refl }; awaits = λ start text more asked. prefix_longer start contents text (line_text look (parts ++ more)) asked }
-  begins_stopped None is = cc
+  changed : (later : W) (after left : Option (List ℕ)) (now : Before)
+      → Same (before None) (record { style = look; borrow = borrow; out = later; contents = after; waiting = left; at = now })
+  changed later after left now = record { style = refl; borrow = refl; stays = λ none. cc }
 
-  pub adds_stopped : (stopped : Option ErrorKind) → is_some stopped ≡ true → Adds (before stopped) (before stopped) parts
-  adds_stopped (Some kind) is = record { same = record { style = refl; borrow = refl; stays = λ none. refl }; awaits = λ start whole more awaits. awaits }
-  adds_stopped None is = cc
+  -- a printer that failed takes nothing
+  pub begins_stopped : (parts : List Part) (stopped : Option ErrorKind) → is_some stopped ≡ true → Begins (before stopped) (before stopped) parts
+  begins_stopped parts (Some kind) is = record {
+    same = itself (before (Some kind));
+    awaits = λ start text more asked. prefix_longer start contents text (line_text look (parts ++ more)) asked;
+  }
+  begins_stopped parts None is = cc
+
+  pub adds_stopped : (parts : List Part) (stopped : Option ErrorKind) → is_some stopped ≡ true → Adds (before stopped) (before stopped) parts
+  adds_stopped parts (Some kind) is = record { same = itself (before (Some kind)); awaits = λ start whole more awaits. awaits }
+  adds_stopped parts None is = cc
 
   pub ends_stopped : (stopped : Option ErrorKind) → is_some stopped ≡ true → Ends (before stopped) (before stopped)
-  ends_stopped (Some kind) is = record { same = record { style = refl; borrow = refl; stays = λ none. refl }; asked = λ start whole awaits. awaits }
+  ends_stopped (Some kind) is = record { same = itself (before (Some kind)); asked = λ start whole awaits. awaits }
   ends_stopped None is = cc
 
-  pub begun : (stopped : Option ErrorKind) → is_some stopped ≡ false
-      → ((more : List Part) → left ++ line_from look now more ≡ waiting ++ line_text look (parts ++ more))
-      → Begins (before stopped) (seen look borrow out contents left stopped now) parts
-  begun None is pushed = record {
-    same = record { style = refl; borrow = refl; stays = λ none. cc };
-    awaits = λ start text more asked.
-        (asked.0 ++ left, (asked.0, refl, asked.2), moved_on asked.0 waiting left (line_from look now more) (line_text look (parts ++ more)) text _ asked.1 (pushed more) refl);
-  }
-  begun (Some kind) is pushed = cc
-
-  pub begun_cut : (stopped : Option ErrorKind) (kind : ErrorKind) → is_some stopped ≡ false → Begins (before stopped) (seen look borrow out contents left (Some kind) at) parts
-  begun_cut None kind is = record {
-    same = record { style = refl; borrow = refl; stays = λ none. cc };
-    awaits = λ start text more asked. prefix_longer start contents text (line_text look (parts ++ more)) (waiting, asked);
-  }
-  begun_cut (Some _) kind is = cc
-
-  pub added : (stopped : Option ErrorKind) → is_some stopped ≡ false
-      → ((more : List Part) → left ++ line_from look now more ≡ waiting ++ line_from look at (parts ++ more))
-      → Adds (before stopped) (seen look borrow out contents left stopped now) parts
-  added None is pushed = record {
-    same = record { style = refl; borrow = refl; stays = λ none. cc };
-    awaits = λ start whole more awaits. (
-      awaits.1.0 ++ left,
-      (awaits.1.0, refl, awaits.1.2),
-      moved_on awaits.1.0 waiting left (line_from look now more) (line_from look at (parts ++ more)) awaits.0 whole awaits.1.1 (pushed more) awaits.2,
-    );
-  }
-  added (Some kind) is pushed = cc
-
-  pub added_cut : (stopped : Option ErrorKind) (kind : ErrorKind) → is_some stopped ≡ false → Adds (before stopped) (seen look borrow out contents left (Some kind) at) parts
-  added_cut None kind is = record {
-    same = record { style = refl; borrow = refl; stays = λ none. cc };
-    awaits = λ start whole more awaits.
-        subst (λ (bytes : List ℕ). SendsPrefix start contents bytes) awaits.2
-        (prefix_longer start contents awaits.0 (line_from look at (parts ++ more)) (waiting, awaits.1));
-  }
-  added_cut (Some _) kind is = cc
-
--- a printer that fails takes any lines and parts
-module _ {W : Type 0} (look : Style) (borrow : GName) (out : W) (contents : Option (List ℕ)) (waiting : List ℕ) (at : Before) where
-  pub prints_stopped : (stopped : Option ErrorKind) (lines : List (List Part)) → is_some stopped ≡ true
-      → Prints (seen look borrow out contents waiting stopped at) (seen look borrow out contents waiting stopped at) lines
-  prints_stopped (Some kind) lines is = record {
-    same = itself (seen look borrow out contents waiting (Some kind) at);
+  pub prints_stopped : (lines : List (List Part)) (stopped : Option ErrorKind) → is_some stopped ≡ true → Prints (before stopped) (before stopped) lines
+  prints_stopped lines (Some kind) is = record {
+    same = itself (before (Some kind));
     asked = λ start text asked. prefix_longer start contents text (styled_text look lines) asked;
   }
-  prints_stopped None lines is = cc
+  prints_stopped lines None is = cc
 
-  pub prints_cut : (stopped : Option ErrorKind) (kind : ErrorKind) (lines : List (List Part)) → is_some stopped ≡ false
-      → Prints (seen look borrow out contents waiting stopped at) (seen look borrow out contents waiting (Some kind) at) lines
-  prints_cut None kind lines is = record {
-    same = record { style = refl; borrow = refl; stays = λ none. cc };
-    asked = λ start text asked. prefix_longer start contents text (styled_text look lines) (waiting, asked);
-  }
-  prints_cut (Some _) kind lines is = cc
+  -- a printer that fails takes any parts and lines
+  module _ (left : List ℕ) (kind : ErrorKind) where
+    abbrev failed : Printed W
+    failed = seen look borrow out contents left (Some kind) at
 
-module _ {W : Type 0} (look : Style) (borrow : GName) (out later : W) (before after : Option (List ℕ)) (waiting left : List ℕ) (at : Before) where
-  pub ended : (stopped : Option ErrorKind) → is_some stopped ≡ false → Sends before after (waiting ++ line_from look at []) left
-      → Ends (seen look borrow out before waiting stopped at) (seen look borrow later after left stopped at)
-  ended None is sends = record {
-    same = record { style = refl; borrow = refl; stays = λ none. cc };
-    asked = λ start whole awaits.
-        subst (λ (bytes : List ℕ). Sends start after bytes left) awaits.2
-        (sends_more start before after awaits.0 waiting (line_from look at []) left awaits.1 sends);
-  }
-  ended (Some kind) is sends = cc
+    pub begun_cut : (parts : List Part) (stopped : Option ErrorKind) → is_some stopped ≡ false → Begins (before stopped) failed parts
+    begun_cut parts None is = record {
+      same = changed out contents None at;
+      awaits = λ start text more asked. prefix_longer start contents text (line_text look (parts ++ more)) (waiting, asked);
+    }
+    begun_cut parts (Some _) is = cc
 
-  pub ended_cut : (stopped : Option ErrorKind) (kind : ErrorKind) → is_some stopped ≡ false → SendsPrefix before after (waiting ++ line_from look at [])
-      → Ends (seen look borrow out before waiting stopped at) (seen look borrow later after left (Some kind) at)
-  ended_cut None kind is cut = record {
-    same = record { style = refl; borrow = refl; stays = λ none. cc };
-    asked = λ start whole awaits.
-        subst (λ (bytes : List ℕ). SendsPrefix start after bytes) awaits.2
-        (prefix_more start before after awaits.0 waiting (line_from look at []) awaits.1 cut);
-  }
-  ended_cut (Some other) kind is cut = cc
+    pub added_cut : (parts : List Part) (stopped : Option ErrorKind) → is_some stopped ≡ false → Adds (before stopped) failed parts
+    added_cut parts None is = record {
+      same = changed out contents None at;
+      awaits = λ start whole more awaits.
+          subst (λ (bytes : List ℕ). SendsPrefix start contents bytes) awaits.2
+          (prefix_longer start contents awaits.0 (line_from look at (parts ++ more)) (waiting, awaits.1));
+    }
+    added_cut parts (Some _) is = cc
+
+    pub prints_cut : (lines : List (List Part)) (stopped : Option ErrorKind) → is_some stopped ≡ false → Prints (before stopped) failed lines
+    prints_cut lines None is = record {
+      same = changed out contents None at;
+      asked = λ start text asked. prefix_longer start contents text (styled_text look lines) (waiting, asked);
+    }
+    prints_cut lines (Some _) is = cc
+
+  -- a printer that goes on
+  module _ (left : List ℕ) (parts : List Part) (now : Before) where
+    pub begun : (stopped : Option ErrorKind) → is_some stopped ≡ false
+        → ((more : List Part) → left ++ line_from look now more ≡ waiting ++ line_text look (parts ++ more))
+        → Begins (before stopped) (seen look borrow out contents left stopped now) parts
+    begun None is pushed = record {
+      same = changed out contents (Some left) now;
+      awaits = λ start text more asked.
+          (asked.0 ++ left, (asked.0, refl, asked.2), moved_on asked.0 waiting left (line_from look now more) (line_text look (parts ++ more)) text _ asked.1 (pushed more) refl);
+    }
+    begun (Some kind) is pushed = cc
+
+    pub added : (stopped : Option ErrorKind) → is_some stopped ≡ false
+        → ((more : List Part) → left ++ line_from look now more ≡ waiting ++ line_from look at (parts ++ more))
+        → Adds (before stopped) (seen look borrow out contents left stopped now) parts
+    added None is pushed = record {
+      same = changed out contents (Some left) now;
+      awaits = λ start whole more awaits. (
+        awaits.1.0 ++ left,
+        (awaits.1.0, refl, awaits.1.2),
+        moved_on awaits.1.0 waiting left (line_from look now more) (line_from look at (parts ++ more)) awaits.0 whole awaits.1.1 (pushed more) awaits.2,
+      );
+    }
+    added (Some kind) is pushed = cc
+
+  module _ (later : W) (after : Option (List ℕ)) (left : List ℕ) where
+    pub ended : (stopped : Option ErrorKind) → is_some stopped ≡ false → Sends contents after (waiting ++ line_from look at []) left
+        → Ends (before stopped) (seen look borrow later after left stopped at)
+    ended None is sends = record {
+      same = changed later after (Some left) at;
+      asked = λ start whole awaits.
+          subst (λ (bytes : List ℕ). Sends start after bytes left) awaits.2
+          (sends_more start contents after awaits.0 waiting (line_from look at []) left awaits.1 sends);
+    }
+    ended (Some kind) is sends = cc
+
+    pub ended_cut : (kind : ErrorKind) (stopped : Option ErrorKind) → is_some stopped ≡ false → SendsPrefix contents after (waiting ++ line_from look at [])
+        → Ends (before stopped) (seen look borrow later after left (Some kind) at)
+    ended_cut kind None is cut = record {
+      same = changed later after None at;
+      asked = λ start whole awaits.
+          subst (λ (bytes : List ℕ). SendsPrefix start after bytes) awaits.2
+          (prefix_more start contents after awaits.0 waiting (line_from look at []) awaits.1 cut);
+    }
+    ended_cut kind (Some _) is cut = cc
 
 pub adds_nothing : {W : Type 0} (a : Printed W) → Adds a a []
 adds_nothing a = record { same = itself a; awaits = λ start whole more awaits. awaits }

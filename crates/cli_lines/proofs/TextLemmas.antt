@@ -4,17 +4,15 @@ use lib.Ieee.Fits.{and_l, and_r}
 use Rattle.std.specs.Prelude.{Result, Ok, Err, OnOk, is_ok}
 use Rattle.std.specs.List.{flat_map}
 use Rattle.std.specs.Fmt.{digit_glyph}
+use Rattle.std.proofs.lemmas.Bool.{cond-true}
 use Rattle.std.proofs.lemmas.Fmt.{hex_byte}
-use Rattle.std.proofs.lemmas.List.{flat_map_more}
-use Rattle.std.proofs.Math.Seq.{drop-append_seam, take-append_seam, take-suc}
+use Rattle.std.proofs.lemmas.List.{flat_map_more, take_more}
+use Rattle.std.proofs.Math.Seq.{drop-append_seam, take-append_seam}
 use Rattle.table_schema.specs.Tokens.{hexadecimal}
 use Rattle.cli_faults.specs.Escaped.{escaped_text, is_plain}
 use Rattle.cli_faults.specs.Hexadecimal.{upper_hexadecimal}
 use Rattle.cli_escapes.specs.Letters.{readable}
 use Rattle.cli_lines.specs.declared.texts.TheConstants.{PAIRS}
-
-pub take_more : {X : Type 0} (xs : List X) (i : ℕ) (d : X) → i < length xs → take (i + 1) xs ≡ take i xs ++ get_or xs i d ∷ []
-take_more xs i d lt = let e : i + 1 ≡ suc i = omega arith in ap (λ n. take n xs) e ∙ take-suc xs i d lt
 
 -- one more item of a list that is printed item by item
 pub items_more : {X : Type 0} (f : X → List ℕ) (line : List ℕ) (xs : List X) (i : ℕ) (d : X) → i < length xs
@@ -50,24 +48,12 @@ pub upper_more : (line : List ℕ) (n : ℕ) → n < 256
     → (line ++ digit_glyph true (n / 16) ∷ []) ++ digit_glyph true (n % 16) ∷ [] ≡ line ++ upper_hexadecimal n
 upper_more line n small = two_bytes line (digit_glyph true (n / 16)) (digit_glyph true (n % 16)) ∙ ap (λ ys. line ++ ys) (sym (hex_byte true n small))
 
--- the digits of a byte
-pub upper_is : (n high low : ℕ) → n < 256 → high ≡ digit_glyph true (n / 16) → low ≡ digit_glyph true (n % 16) → high ∷ low ∷ [] ≡ upper_hexadecimal n
-upper_is n high low small high_is low_is = (λ i. high_is i ∷ low_is i ∷ []) ∙ sym (hex_byte true n small)
-
-first_of_two : (test : Bool) (xs ys : List ℕ) → IsTrue test → (if test then xs else ys) ≡ xs
-first_of_two true xs ys is = refl
-first_of_two false xs ys is = cc
-
-pub second_of_two : (test : Bool) (xs ys : List ℕ) → test ≡ false → (if test then xs else ys) ≡ ys
-second_of_two true xs ys is = cc
-second_of_two false xs ys is = refl
-
 -- plain bytes are printed as they are
 pub plain_text : (text : List ℕ) → ((k : ℕ) → k < length text → IsTrue (is_plain (get_or text k 0))) → text ≡ escaped_text text
 plain_text [] plain = refl
 plain_text (byte ∷ bytes) plain =
     ap (λ ys. byte ∷ ys) (plain_text bytes (λ k lt. plain (suc k) (omega arith)))
-    ∙ ap (λ xs. xs ++ escaped_text bytes) (sym (first_of_two (is_plain byte) (byte ∷ []) (92 ∷ 120 ∷ hexadecimal 2 byte) (plain 0 (omega arith))))
+    ∙ ap (λ xs. xs ++ escaped_text bytes) (sym (cond-true (is_plain byte) (byte ∷ []) (92 ∷ 120 ∷ hexadecimal 2 byte) (plain 0 (omega arith))))
 
 -- a list that was appended, if it is that of another name
 pub appended : {T E : Type 0} (result : Result T E) (before after bytes text : List ℕ) → after ≡ (if is_ok result then before ++ bytes else before) → bytes ≡ text

@@ -21,21 +21,25 @@ opener before.Line = 123 ∷ []
 opener before.Brace = []
 opener before.Value = 44 ∷ []
 
+-- a string whose bytes stand for themselves
+abbrev pub plain_string : List ℕ → List ℕ
+plain_string of = 34 ∷ (of ++ 34 ∷ [])
+
 abbrev pub value_json : Value → List ℕ
 value_json (number n) = decimal n
-value_json (hex n) = string_text (hexadecimal 8 n)
-value_json (byte n) = string_text (upper_hexadecimal n)
+value_json (hex n) = plain_string (hexadecimal 8 n)
+value_json (byte n) = plain_string (upper_hexadecimal n)
 value_json (text of) = string_text of
 value_json (plain of) = string_text of
-value_json (token of) = string_text (token_text of)
+value_json (token of) = plain_string (token_text of)
 value_json (reference None) = codes "null"
-value_json (reference (Some of)) = string_text (token_text of)
+value_json (reference (Some of)) = plain_string (token_text of)
 value_json (quoted of) = string_text of
-value_json (bytes of) = string_text (escaped_bytes of)
+value_json (bytes of) = plain_string (escaped_bytes of)
 value_json (guid None) = codes "null"
 value_json (guid (Some of)) = string_text (guid_text of)
 value_json (start n) = decimal n
-value_json (signature blob of) = codes "{\"blob\":" ++ string_text (escaped_bytes blob) ++ codes ",\"text\":" ++ string_text of ++ codes "}"
+value_json (signature blob of) = codes "{\"blob\":" ++ plain_string (escaped_bytes blob) ++ codes ",\"text\":" ++ string_text of ++ codes "}"
 value_json yes = codes "true"
 value_json null = codes "null"
 
@@ -45,7 +49,7 @@ member_json named of = string_text (name_text named) ++ 58 ∷ of
 
 -- what follows the name of the first member of a row
 abbrev pub row_json : Token → List ℕ
-row_json of = string_text (table_name of.table) ++ (codes ",\"row\":" ++ (decimal of.row ++ (codes ",\"token\":" ++ string_text (token_text of))))
+row_json of = string_text (table_name of.table) ++ (codes ",\"row\":" ++ (decimal of.row ++ (codes ",\"token\":" ++ plain_string (token_text of))))
 
 -- the items after the first one, and the bracket that closes the array
 abbrev pub items_json : List ℕ → List ℕ

@@ -1,21 +1,21 @@
 //! Appends the parts of a line of JSON.
-ghost use Rattle.std.specs.Prelude.{◌≡◌, ◌++◌, ◌∷◌, [], List, OnOk, IfOk};
+ghost use Rattle.std.specs.Prelude.{◌≡◌, ◌++◌, ◌∷◌, [], List, OnOk, IfOk, Some};
 ghost use Rattle.json.specs.Token as json;
 ghost use Rattle.cli_lines.specs.declared.line.Before.TheVariants as here;
 ghost use Rattle.cli_lines.specs.declared.names.Name.TheVariants as name;
-ghost use Rattle.cli_lines.specs.Lines.{json_from, part_tokens};
-ghost use Rattle.cli_lines.specs.Shown.{shown, shown_value};
+ghost use Rattle.cli_lines.specs.Lines.{json_from, named_from, part_tokens};
+ghost use Rattle.cli_lines.specs.Shown.{shown, shown_file, shown_value};
 ghost use Rattle.cli_lines.specs.JsonTexts.{member_json, opener, row_json, value_json};
 
 use crate::json_texts::{
-    push_byte_string, push_guid_string, push_hexadecimal_string, push_reference_string,
-    push_signature, push_string, push_token_string, push_word_string,
+    push_byte_string, push_guid_string, push_signature, push_string, push_token_string,
+    push_word_string,
 };
 use crate::json_units::push_units_member;
 use crate::line::Before;
 use crate::names::{Name, row_start};
 use crate::parts::{Part, Value};
-use crate::texts::push_decimal;
+use crate::texts::{push_between, push_decimal};
 use std::alloc::{AllocError, Global};
 use table_schema::Token;
 
@@ -31,13 +31,14 @@ fn push_json_value(alloc: Global, value: Value<'_>, line: &mut Vec<u8>) -> Resul
         Value::Text(text) | Value::Plain(text) | Value::Quoted(text) => {
             push_string(text.as_bytes(), line)
         }
-        Value::Token(token) => push_token_string(alloc, token, line),
-        Value::Reference(token) => push_reference_string(alloc, token, line),
-        Value::Bytes(bytes) => push_hexadecimal_string(bytes, line),
-        Value::Guid(guid) => push_guid_string(alloc, guid, line),
+        Value::Token(token) | Value::Reference(Some(token)) => push_token_string(
+            alloc, token, line,
+        ),
+        Value::Bytes(bytes) => push_between(b'"', bytes, b'"', line),
+        Value::Guid(Some(guid)) => push_guid_string(alloc, guid, line),
         Value::Signature(blob, text) => push_signature(blob, text, line),
         Value::Yes => line.extend_from_slice(b"true"),
-        Value::Null => line.extend_from_slice(b"null"),
+        Value::Reference(None) | Value::Guid(None) | Value::Null => line.extend_from_slice(b"null"),
     }
 }
 
@@ -99,7 +100,7 @@ fn push_close(at: Before, line: &mut Vec<u8>) -> Result<(), AllocError>
 /// Appends a part of a line. Returns where the printer is then.
 #[tactic(auto, unfolding(json::specs::Print::print_from))]
 #[inline(always)]
-pub(crate) fn push_json_part(
+fn push_json_part(
     alloc: Global,
     at: Before,
     part: Part<'_>,
@@ -143,5 +144,45 @@ pub(crate) fn push_json_end(at: Before, line: &mut Vec<u8>) -> Result<(), AllocE
     match at {
         Before::Line => Ok(()),
         Before::Brace | Before::Value => line.extend_from_slice(b"}\n"),
+    }
+}
+
+/// Appends a part of a line of JSON. The name of the file, if there is one, comes before the first member. Returns where the
+/// printer is then.
+#[inline(always)]
+pub(crate) fn push_named_part(
+    alloc: Global,
+    file: Option<&str>,
+    at: Before,
+    part: &Part<'_>,
+    line: &mut Vec<u8>,
+) -> Result<Before, AllocError>
+    ensures { IfOk result (λ now. (more : List json.Token) → line.new.items ++ named_from (shown_file file.entry) now more
+        ≡ line.old.items ++ named_from (shown_file file.entry) at (part_tokens (shown part.now) ++ more)) }
+{
+    match (at, file) {
+        (Before::Line, Some(file)) => push_first(alloc, file, part, line),
+        _ => push_json_part(alloc, at, *part, line),
+    }
+}
+
+/// Appends a part to a line of JSON that has no member yet. If the part has one, the name of the file comes first. Returns where
+/// the printer is then.
+#[inline(never)]
+fn push_first(
+    alloc: Global,
+    file: &str,
+    part: &Part<'_>,
+    line: &mut Vec<u8>,
+) -> Result<Before, AllocError>
+    ensures { IfOk result (λ now. (more : List json.Token) → line.new.items ++ named_from (Some file.now) now more
+        ≡ line.old.items ++ named_from (Some file.now) here.Line (part_tokens (shown part.now) ++ more)) }
+{
+    match part {
+        Part::Word(_) | Part::Note(_) => Ok(Before::Line),
+        _ => {
+            push_member(alloc, Before::Line, Name::File, Value::Text(file), line)?;
+            push_json_part(alloc, Before::Value, *part, line)
+        }
     }
 }

@@ -1,15 +1,14 @@
 //! Appends texts of JSON to a line.
-ghost use Rattle.std.specs.Prelude.{◌≡◌, ◌++◌, ◌∷◌, ◌<◌, [], IsTrue, IfSome, OnOk, EachIndex, slice_index, unwrap_or};
+ghost use Rattle.std.specs.Prelude.{◌≡◌, ◌++◌, ◌∷◌, ◌<◌, [], IsTrue, IfSome, OnOk, Some, EachIndex, slice_index, unwrap_or};
 ghost use Rattle.std.specs.Char.{digit_char};
 ghost use Rattle.json.specs.Print.{escape, escape_byte, escape_letter, quoted};
 ghost use Rattle.json.specs.Run.{is_plain};
 ghost use Rattle.table_schema.specs.Tokens.{hexadecimal, token_text};
 ghost use Rattle.cli_lines.specs.Lines as shown;
-ghost use Rattle.cli_lines.specs.JsonTexts.{value_json};
+ghost use Rattle.cli_lines.specs.JsonTexts.{plain_string, value_json};
 ghost use Rattle.cli_faults.specs.Hexadecimal.{upper_hexadecimal};
-ghost use Rattle.cli_lines.specs.Texts.{escaped_bytes};
 
-use crate::texts::{push_hexadecimal, push_token, push_word, upper_digit};
+use crate::texts::{push_between, push_byte_digits, push_hexadecimal, push_token, push_word};
 use heap_entries::guid_text;
 use std::alloc::{AllocError, Global};
 use table_schema::Token;
@@ -87,7 +86,7 @@ pub(crate) fn push_string(text: &[u8], line: &mut Vec<u8>) -> Result<(), AllocEr
 
 /// Appends a number as a string of eight lower-case hexadecimal digits.
 pub(crate) fn push_word_string(number: u32, line: &mut Vec<u8>) -> Result<(), AllocError>
-    ensures { OnOk result (line.new.items ≡ line.old.items ++ quoted (hexadecimal 8 number)) }
+    ensures { OnOk result (line.new.items ≡ line.old.items ++ plain_string (hexadecimal 8 number)) }
 {
     line.push(b'"')?;
     push_word(number, line)?;
@@ -100,60 +99,31 @@ pub(crate) fn push_token_string(
     token: Token,
     line: &mut Vec<u8>,
 ) -> Result<(), AllocError>
-    ensures { OnOk result (line.new.items ≡ line.old.items ++ quoted (token_text token)) }
+    ensures { OnOk result (line.new.items ≡ line.old.items ++ plain_string (token_text token)) }
 {
     line.push(b'"')?;
     push_token(alloc, token, line)?;
     Ok(line.push(b'"')?)
 }
 
-/// Appends a string of two lower-case hexadecimal digits for each byte.
-pub(crate) fn push_hexadecimal_string(bytes: &[u8], line: &mut Vec<u8>) -> Result<(), AllocError>
-    ensures { OnOk result (line.new.items ≡ line.old.items ++ quoted (escaped_bytes bytes.now)) }
-{
-    line.push(b'"')?;
-    push_hexadecimal(bytes, line)?;
-    Ok(line.push(b'"')?)
-}
-
-/// Appends a GUID as a string, or `null`.
+/// Appends a GUID as a string.
 pub(crate) fn push_guid_string(
     alloc: Global,
-    guid: Option<[u8; 16]>,
+    guid: [u8; 16],
     line: &mut Vec<u8>,
 ) -> Result<(), AllocError>
-    ensures { OnOk result (line.new.items ≡ line.old.items ++ value_json (shown.guid guid)) }
+    ensures { OnOk result (line.new.items ≡ line.old.items ++ value_json (shown.guid (Some guid))) }
 {
-    match guid {
-        Some(guid) => {
-            let text = guid_text(alloc, &guid)?;
-            push_string(text.as_bytes(), line)
-        }
-        None => line.extend_from_slice(b"null"),
-    }
-}
-
-/// Appends the digits of a token as a string, or `null`.
-pub(crate) fn push_reference_string(
-    alloc: Global,
-    token: Option<Token>,
-    line: &mut Vec<u8>,
-) -> Result<(), AllocError>
-    ensures { OnOk result (line.new.items ≡ line.old.items ++ value_json (shown.reference token)) }
-{
-    match token {
-        Some(token) => push_token_string(alloc, token, line),
-        None => line.extend_from_slice(b"null"),
-    }
+    let text = guid_text(alloc, &guid)?;
+    push_string(text.as_bytes(), line)
 }
 
 /// Appends a number as a string of two upper-case hexadecimal digits.
 pub(crate) fn push_byte_string(number: u8, line: &mut Vec<u8>) -> Result<(), AllocError>
-    ensures { OnOk result (line.new.items ≡ line.old.items ++ quoted (upper_hexadecimal number)) }
+    ensures { OnOk result (line.new.items ≡ line.old.items ++ plain_string (upper_hexadecimal number)) }
 {
-    let digits = [upper_digit(number / 16), upper_digit(number % 16)];
     line.push(b'"')?;
-    push_escaped(&digits, line)?;
+    push_byte_digits(number, line)?;
     Ok(line.push(b'"')?)
 }
 
@@ -162,7 +132,7 @@ pub(crate) fn push_signature(blob: &[u8], text: &[u8], line: &mut Vec<u8>) -> Re
     ensures { OnOk result (line.new.items ≡ line.old.items ++ value_json (shown.signature blob.now text.now)) }
 {
     line.extend_from_slice(b"{\"blob\":")?;
-    push_hexadecimal_string(blob, line)?;
+    push_between(b'"', blob, b'"', line)?;
     line.extend_from_slice(b",\"text\":")?;
     push_string(text, line)?;
     Ok(line.push(b'}')?)

@@ -1,13 +1,12 @@
 //! Appends UTF-16 units as a member of a line of JSON.
 ghost use Rattle.std.specs.Prelude.{◌≡◌, ◌++◌, ◌∷◌, OnOk, IfOk};
-ghost use Rattle.json.specs.Print.{quoted};
 ghost use Rattle.cli_lines.specs.JsonTexts.{array_json, items_json, member_json, opener, units_json};
 ghost use Rattle.cli_lines.specs.declared.names.Name.TheVariants as name;
 
-use crate::json_line::push_name;
-use crate::json_texts::push_string;
+use crate::json_line::{push_member, push_name};
 use crate::line::Before;
 use crate::names::Name;
+use crate::parts::Value;
 use crate::texts::push_decimal;
 use heap_entries::Units;
 use std::alloc::{AllocError, Global};
@@ -56,14 +55,6 @@ fn push_numbers(at: Before, units: &[u16], line: &mut Vec<u8>) -> Result<(), All
     push_array(units, line)
 }
 
-/// Appends the member `text`.
-fn push_text(at: Before, text: &str, line: &mut Vec<u8>) -> Result<(), AllocError>
-    ensures { OnOk result (line.new.items ≡ line.old.items ++ (opener at ++ member_json name.Text (quoted text.now))) }
-{
-    push_name(at, Name::Text, line)?;
-    push_string(text.as_bytes(), line)
-}
-
 /// Appends the member of units: a text, or an array if a surrogate among them has no partner.
 pub(crate) fn push_units_member(
     alloc: Global,
@@ -75,7 +66,7 @@ pub(crate) fn push_units_member(
 {
     let units = collect(alloc, units)?;
     match String::from_utf16(alloc, &units)? {
-        Ok(text) => push_text(at, &text, line),
+        Ok(text) => push_member(alloc, at, Name::Text, Value::Text(&text), line),
         Err(_) => push_numbers(at, &units, line),
     }
 }

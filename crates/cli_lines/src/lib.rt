@@ -18,13 +18,10 @@ mod json_texts;
 mod json_units;
 pub mod laws;
 mod line;
-mod named_line;
 mod names;
 mod parts;
 mod printer;
-mod sending;
 mod texts;
-mod units;
 
 pub use names::{Name, cell_label};
 pub use parts::{Form, Part, Value};

@@ -1,17 +1,15 @@
 //! Appends the parts of a line to the bytes that wait to be sent.
 ghost use Rattle.std.specs.Prelude.{◌≡◌, ◌++◌, ◌∷◌, [], ℕ, List, OnOk, Option, IfOk, map};
 ghost use Rattle.cli_lines.specs.declared.line.Before.TheVariants as here;
-ghost use Rattle.cli_lines.specs.Lines.{Part as ThePart, line_from, line_text, part_letters, part_text, style, value_text};
+ghost use Rattle.cli_lines.specs.Lines.{Part as ThePart, lead, line_from, line_text, part_letters, part_text, style, value_text};
 ghost use Rattle.cli_lines.specs.Shown.{shown, shown_file, shown_value};
 
-use crate::json_line::push_json_end;
-use crate::named_line::{push_lead, push_named_part};
+use crate::json_line::{push_json_end, push_named_part};
 use crate::parts::{Form, Part, Value};
 use crate::texts::{
-    push_bracketed, push_byte_digits, push_decimal, push_escaped, push_guid, push_plain,
-    push_quoted, push_reference, push_start, push_token, push_word,
+    push_between, push_byte_digits, push_decimal, push_escaped, push_guid, push_plain, push_quoted,
+    push_start, push_token, push_units, push_word,
 };
-use crate::units::push_units;
 use cli_escapes::show_letters;
 use std::alloc::{AllocError, Global};
 
@@ -37,14 +35,13 @@ fn push_text_value(alloc: Global, value: &Value<'_>, line: &mut Vec<u8>) -> Resu
         Value::Byte(number) => push_byte_digits(*number, line),
         Value::Text(text) => push_escaped(text.as_bytes(), line),
         Value::Plain(text) => push_plain(text, line),
-        Value::Token(token) => push_token(alloc, *token, line),
-        Value::Reference(token) => push_reference(alloc, *token, line),
+        Value::Token(token) | Value::Reference(Some(token)) => push_token(alloc, *token, line),
         Value::Quoted(text) => push_quoted(text, line),
-        Value::Bytes(bytes) | Value::Signature(bytes, _) => push_bracketed(bytes, line),
-        Value::Guid(guid) => push_guid(alloc, *guid, line),
+        Value::Bytes(bytes) | Value::Signature(bytes, _) => push_between(b'<', bytes, b'>', line),
+        Value::Guid(Some(guid)) => push_guid(alloc, guid, line),
         Value::Start(start) => push_start(*start, line),
         Value::Yes => push_plain("true", line),
-        Value::Null => push_plain("null", line),
+        Value::Reference(None) | Value::Guid(None) | Value::Null => push_plain("null", line),
     }
 }
 
@@ -72,11 +69,7 @@ fn push_text_part(alloc: Global, part: &Part<'_>, line: &mut Vec<u8>) -> Result<
 
 /// Appends a part of a line of text, with letters beyond ASCII as they are.
 #[inline(never)]
-pub(crate) fn push_letters_part(
-    alloc: Global,
-    part: &Part<'_>,
-    line: &mut Vec<u8>,
-) -> Result<(), AllocError>
+fn push_letters_part(alloc: Global, part: &Part<'_>, line: &mut Vec<u8>) -> Result<(), AllocError>
     ensures { OnOk result (line.new.items ≡ line.old.items ++ part_letters (shown part.now)) }
 {
     let start = line.len();
@@ -107,6 +100,28 @@ pub(crate) fn push_part(
             Ok(at)
         }
         Form::JsonLines => push_named_part(alloc, file, at, part, line),
+    }
+}
+
+/// Appends what a line of text begins with: the name of the file, if there is one.
+fn push_lead(
+    alloc: Global,
+    form: Form,
+    file: Option<&str>,
+    line: &mut Vec<u8>,
+) -> Result<(), AllocError>
+    ensures { OnOk result (line.new.items ≡ line.old.items ++ lead form (shown_file file.entry)) }
+{
+    match (form, file) {
+        (Form::Text, Some(file)) => {
+            push_escaped(file.as_bytes(), line)?;
+            line.extend_from_slice(b": ")
+        }
+        (Form::Letters, Some(file)) => {
+            push_letters_part(alloc, &Part::Note(Value::Text(file)), line)?;
+            line.extend_from_slice(b": ")
+        }
+        _ => Ok(()),
     }
 }
 

@@ -8,12 +8,14 @@ ghost use Rattle.cli_lines.specs.Shown.{shown, shown_file};
 
 use crate::line::{Before, begin_line, push_end, push_part};
 use crate::parts::{Form, Part};
-use crate::sending::send_full;
 use cli_faults::Failure;
-use cli_sending::finish;
+use cli_sending::{finish, send};
 use std::alloc::Global;
 use std::io::{self, ErrorKind, Write};
 use std::marker::Model;
+
+/// The number of waiting bytes from which they are sent.
+const FULL: usize = 1 << 16;
 
 /// Prints lines in a form. It sends them to a writer, many at a time. It keeps its first failure, and takes nothing from
 /// then on. Its memory is that of the longest line, and of the lines that wait to be sent.
@@ -189,6 +191,18 @@ fn end_line<W: Write>(form: Form, at: Before, waiting: &mut Vec<u8>, out: &mut W
 {
     push_end(form, at, waiting)?;
     send_full(waiting, out)
+}
+
+/// Sends the waiting lines if they are many.
+fn send_full<W: Write>(lines: &mut Vec<u8>, out: &mut W) -> io::Result<()>
+    ensures { Moves (W.contents out.old) (W.contents out.new) result lines.old.items lines.new.items }
+{
+    if lines.len() < FULL {
+        return Ok(());
+    }
+    send(lines, out)?;
+    lines.clear();
+    Ok(())
 }
 
 /// Sends the lines that wait, and flushes the writer, unless printing failed.

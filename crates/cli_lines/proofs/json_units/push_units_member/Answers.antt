@@ -8,7 +8,7 @@ use Rattle.cli_lines.proofs.json_units.push_units_member.Goals as goal
 
 pub returns-in-Ok : goal.returns-in-Ok
 returns-in-Ok c =
-    on_ok c.push_text.result c.push_text.ensures (λ is.
+    on_ok c.push_member.result c.push_member.ensures (λ is.
     let paired : has_unpaired_surrogate c.args.units ≡ false = search rules in
     is ∙ ap (λ xs. c.args.line.now.items ++ (opener c.args.at ++ xs)) (text_units c.args.units _ paired (search rules)))
 

@@ -1,7 +1,7 @@
 use Rattle.std.proofs.Common.{◌+◌, ◌++◌, ◌∷◌, ◌∙◌, ap, drop, map, sym}
 use Rattle.cli_lines.specs.Lines.{line_from, style}
 use Rattle.cli_lines.specs.Shown.{shown, shown_file}
-use Rattle.cli_lines.proofs.LineLemmas.{left_more, left_none}
+use Rattle.std.proofs.lemmas.List.{at_drop_all, at_drop_more}
 use Rattle.cli_lines.proofs.line.push_parts.Goals as goal
 
 pub loop-part-preserved : goal.loop-part-preserved
@@ -12,11 +12,11 @@ loop-part-preserved c = λ more.
     let next = map shown (drop (index + 1) parts) in
     c.in_ok-at.ensures (next ++ more)
     ∙ ap (λ item. line ++ line_from (style c.args.form (shown_file c.args.file)) c.loop-part.at (shown item ∷ (next ++ more))) c.part-item.is
-    ∙ ap (λ ys. line ++ line_from (style c.args.form (shown_file c.args.file)) c.loop-part.at (ys ++ more)) (sym (left_more shown parts index c.part-item.result c.loop-part-test.true))
+    ∙ ap (λ ys. line ++ line_from (style c.args.form (shown_file c.args.file)) c.loop-part.at (ys ++ more)) (sym (at_drop_more (map shown) parts index c.part-item.result c.loop-part-test.true))
     ∙ c.loop-part.invariant more
 
 pub returns : goal.returns
 returns c = λ more.
     ap (λ ys. c.loop-part.line.items ++ line_from (style c.args.form (shown_file c.args.file)) c.loop-part.at (ys ++ more))
-    (sym (left_none shown c.args.parts.now c.loop-part.part-index c.loop-part-test.false))
+    (sym (at_drop_all (map shown) c.args.parts.now c.loop-part.part-index c.loop-part-test.false))
     ∙ c.loop-part.invariant more

@@ -8,7 +8,7 @@ use Rattle.cli_lines.specs.declared.line.Before.TheVariants as before
 use Rattle.cli_lines.specs.declared.names.Name.TheVariants as name
 use Rattle.cli_lines.proofs.JsonLemmas.{first_tokens, member_printed, value_prints}
 use Rattle.cli_lines.proofs.LineLemmas.{both_ok, named_later}
-use Rattle.cli_lines.proofs.named_line.push_first.Goals as goal
+use Rattle.cli_lines.proofs.json_line.push_first.Goals as goal
 
 pub returns-in_ok-push_member-in_default : goal.returns-in_ok-push_member-in_default
 returns-in_ok-push_member-in_default c =

@@ -1,7 +1,7 @@
 use Rattle.std.proofs.Common.{◌++◌, ◌∙◌, ap, sym, append_assoc, append-nil}
 use Rattle.std.specs.List.{flat_map}
 use Rattle.cli_faults.specs.Escaped.{escaped_unit}
-use Rattle.cli_lines.proofs.units.push_units.Goals as goal
+use Rattle.cli_lines.proofs.texts.push_units.Goals as goal
 
 pub loop-unit-init : goal.loop-unit-init
 loop-unit-init c = ap (λ xs. c.args.line.now.items ++ flat_map escaped_unit xs) c.into_iter-unit-iterator.ensures.into_iter_gives

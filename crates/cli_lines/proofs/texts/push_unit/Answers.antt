@@ -1,10 +1,11 @@
 use Rattle.std.proofs.Common.{◌++◌, ◌∷◌, [], ◌∙◌, ◌/◌, ◌%◌, ap, sym, arith, append_assoc}
+use Rattle.std.proofs.lemmas.Bool.{cond-false}
 use Rattle.table_schema.specs.Tokens.{hexadecimal}
 use Rattle.cli_faults.specs.Escaped.{is_printable}
 use Rattle.cli_lines.specs.Texts.{escaped_bytes}
 use Rattle.cli_lines.proofs.DigitLemmas.{unit_digits}
-use Rattle.cli_lines.proofs.TextLemmas.{on_ok, second_of_two}
-use Rattle.cli_lines.proofs.units.push_unit.Goals as goal
+use Rattle.cli_lines.proofs.TextLemmas.{on_ok}
+use Rattle.cli_lines.proofs.texts.push_unit.Goals as goal
 
 pub returns : goal.returns
 returns c =
@@ -15,4 +16,4 @@ returns c =
     is ∙ ap (λ xs. xs ++ digits) c.in_ok-extend_from_slice.ensures.items
     ∙ append_assoc line (92 ∷ 117 ∷ []) digits
     ∙ ap (λ xs. line ++ 92 ∷ 117 ∷ xs) (unit_digits unit (omega (arith, c.ranges.unit)))
-    ∙ ap (λ xs. line ++ xs) (sym (second_of_two (is_printable unit) (unit ∷ []) (92 ∷ 117 ∷ hexadecimal 4 unit) (sym c.is_printable.ensures.value ∙ c.if-is_printable.false))))
+    ∙ ap (λ xs. line ++ xs) (sym (cond-false (is_printable unit) (unit ∷ []) (92 ∷ 117 ∷ hexadecimal 4 unit) (sym c.is_printable.ensures.value ∙ c.if-is_printable.false))))

@@ -4,8 +4,8 @@ use Rattle.cli_lines.specs.Lines.{part_tokens}
 use Rattle.cli_lines.specs.Shown.{shown, shown_file}
 use Rattle.cli_lines.specs.declared.line.Before.TheVariants.{Line}
 use Rattle.cli_lines.proofs.LineLemmas.{both_ok, named_part}
-use Rattle.cli_lines.proofs.named_line.push_named_part.Goals as goal
-use Rattle.cli_lines.proofs.named_line.push_named_part.Goals.{in_default-via-in-Line+in_default, in_default-via-in_default}
+use Rattle.cli_lines.proofs.json_line.push_named_part.Goals as goal
+use Rattle.cli_lines.proofs.json_line.push_named_part.Goals.{in_default-via-in-Line+in_default, in_default-via-in_default}
 
 pub returns-in-Line-Some : goal.returns-in-Line-Some
 returns-in-Line-Some c = rw (c.in-Line-Some.is-0, c.in-Line-Some.is-1) c.push_first.ensures

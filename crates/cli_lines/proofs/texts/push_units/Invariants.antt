@@ -1,7 +1,7 @@
 use Rattle.std.proofs.Common.{◌≡◌, ◌++◌}
 use Rattle.std.specs.List.{flat_map}
 use Rattle.cli_faults.specs.Escaped.{escaped_unit}
-use Rattle.cli_lines.proofs.units.push_units.Given as goal
+use Rattle.cli_lines.proofs.texts.push_units.Given as goal
 
 abbrev pub invariant-loop-unit : goal.invariant-loop-unit
 invariant-loop-unit l = l.line.items ++ flat_map escaped_unit l.unit-iterator ≡ l.initial.line.items ++ flat_map escaped_unit l.fn.units
