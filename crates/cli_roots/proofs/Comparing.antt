@@ -1,7 +1,8 @@
 -- How comparing two files ends, case by case.
-use Rattle.std.proofs.Common.{◌≡◌, ◌∙◌, ℕ, List, [], ◌∷◌, Option, None, Some, Ok, Err, append-nil, refl, ap, sym, subst, length, inl, inr, arith}
+use Rattle.std.proofs.Common.{◌≡◌, ◌∙◌, ℕ, List, [], Option, None, Some, Ok, Err, append-nil, refl, ap, sym, subst, length, inl, inr}
 use Rattle.std.specs.Prelude.{◌↔◌, IsErrAnd}
 use Rattle.std.specs.Io.KnownBytes.{Appends}
+use Rattle.std.proofs.lemmas.List.{nil_from_length}
 use Rattle.metadata.specs.Metadata.{Metadata}
 use Rattle.cli_faults.specs.declared.failure.Failure.{Failure}
 use Rattle.cli_faults.specs.Status.{IsOutput}
@@ -20,20 +21,16 @@ use Rattle.cli_roots.specs.Runs.{StopsBy}
 use Rattle.cli_files.specs.Stopped.{Outcome}
 
 pub compared : (output : Output) (ignored : IgnoredColumns) (left right : Metadata) (found : List Difference) → found ≡ first_differences_but ignored left right 20
-    → output_text output left right found ≡ compare_text output ignored left right
+    → compare_text output ignored left right ≡ output_text output left right found
 unfolding compare_text
-compared output ignored left right found is = ap (output_text output left right) is
-
-pub nothing_found : {X : Type 0} (xs : List X) → length xs ≡ 0 → xs ≡ []
-nothing_found [] is = refl
-nothing_found (x ∷ xs) is = absurd (omega (arith, is))
+compared output ignored left right found is = ap (output_text output left right) (sym is)
 
 -- two models without other differences
 pub are_same : (ignored : IgnoredColumns) (model other : Metadata) (found : List Difference) → found ≡ first_differences_but ignored model other 20 → length found ≡ 0
     → (first_differences_but ignored model other 20 ≡ []) ↔ AreEqualBut ignored model other
     → (IgnoresNone ignored → AreEqualBut ignored model other ↔ (model ≡ other)) → AreSameBut ignored model other
 are_same ignored model other found is none law law_of_none =
-    let equal = law.0 (sym is ∙ nothing_found found none) in (equal, (λ nothing. (law_of_none nothing).0 equal))
+    let equal = law.0 (sym is ∙ nil_from_length found none) in (equal, (λ nothing. (law_of_none nothing).0 equal))
 
 module _ {W : Type 0} (contents : W → Option (List ℕ)) (before after : W) (output : Output) (ignored : IgnoredColumns) (IsLeft IsRight : Metadata → Type 0) where
   pub shows_same : IsSame contents before after output ignored IsLeft IsRight → IsShown contents before after output ignored IsLeft IsRight (Ok tt)
@@ -84,11 +81,6 @@ module _ {W : Type 0} (contents : W → Option (List ℕ)) (before after : W) (o
   ends_second (Ok done) stopped is whole refusal same = absurd is
   ends_second (Err end) stopped is whole refusal same =
       record { met = tt; same = tt; stopped = inl (inr (whole, subst (λ (s : Stopped). IsRefusal other input right s) (sym is) refusal), same) }
-
--- the same bytes have the same model
-pub same_models : (input : Input) (left right : List ℕ) (P : Metadata → Type 0) → left ≡ right → ((model : Metadata) → IsModelOf input left model → P model)
-    → (model : Metadata) → IsModelOf input right model → P model
-same_models input left right P same models model is = models model (subst (λ (bytes : List ℕ). IsModelOf input bytes model) (sym same) is)
 
 pub prefix_of_none : (known : Option (List ℕ)) (text : List ℕ) → SendsPrefix known known text
 prefix_of_none None text = (text, ([], refl, tt))

@@ -4,9 +4,7 @@ ghost use Rattle.metadata.specs.Metadata.{Metadata};
 ghost use Rattle.metadata.specs.Model.{IsModel};
 ghost use Rattle.comparison.specs.Differences.{IsThere};
 ghost use Rattle.cli_faults.specs.Status.{IsOutput};
-ghost use Rattle.cli_compare.specs.ComparedLines.{compared_lines};
 ghost use Rattle.cli_input.specs.Checked.{IsModelOf, IsWhole};
-ghost use Rattle.cli_lines.specs.Lines.{report_text};
 ghost use Rattle.cli_sending.specs.Sent.{Sent};
 ghost use Rattle.cli_roots.specs.Compared.{IsComparing, IsRefusal, IsShown, output_text};
 ghost use Rattle.cli_roots.specs.Runs.{IsFileRun, IsWithin};
@@ -153,29 +151,14 @@ fn print_found<'a, W: Write>(
 {
     match output {
         Output::Quiet => Ok(()),
-        Output::Lines(form) => print_lines(alloc, form, left, right, found, out),
+        Output::Lines(form) => {
+            let mut printer = Printer::new(alloc, form, out);
+            print_differences(alloc, left, right, found, &mut printer);
+            let (writer, sent) = printer.finish();
+            let _ = writer;
+            sent
+        }
     }
-}
-
-/// Prints what differs between two views in a form, or that nothing does.
-fn print_lines<'a, W: Write>(
-    alloc: Global,
-    form: Form,
-    left: &View<'_>,
-    right: &View<'_>,
-    found: &[Difference],
-    out: &mut W,
-) -> Result<(), Failure<'a>>
-    requires { All (IsThere left.now right.now) found.now }
-    ensures printed { (model other : Metadata) → IsModel left.now model → IsModel right.now other
-        → Sent (W.contents out.old) (W.contents out.new) result (report_text form (compared_lines model other found.now)) }
-    ensures failed { IfErr result IsOutput }
-{
-    let mut printer = Printer::new(alloc, form, out);
-    print_differences(alloc, left, right, found, &mut printer);
-    let (writer, sent) = printer.finish();
-    let _ = writer;
-    sent
 }
 
 /// Opens the bytes of a file. A fault is reported with its path.

@@ -1,9 +1,8 @@
-use Rattle.std.proofs.Common.{List, ℕ, refl, subst}
+use Rattle.std.proofs.Common.{refl, sym}
 use Rattle.std.proofs.lemmas.Bool.Decides.{Decides-eqb}
 use Rattle.std.proofs.lemmas.Slice.Eq.{slice_eq-Decides}
 use Rattle.metadata.specs.Model.{IsModel}
-use Rattle.cli_input.specs.Checked.{IsWhole}
-use Rattle.cli_roots.proofs.Comparing.{ends_first, ends_second, ends_shown, same_models}
+use Rattle.cli_roots.proofs.Comparing.{ends_first, ends_second, ends_shown}
 use Rattle.cli_roots.proofs.compare.compare.Goals as goal
 
 pub returns-in_err-left_view : goal.returns-in_err-left_view
@@ -17,8 +16,8 @@ returns-then-eq g c =
     let view = c.in_ok-left_view.left_view in
     ends_shown g.W.Write.contents c.args.out.now c.compare_views.new.out c.args.options.now.output c.args.options.now.ignored c.args.options.now.input c.args.left.bytes.now c.args.right.bytes.now c.args.left.path.now c.args.right.path.now
     (IsModel view) (IsModel view) c.compare_views.result c.in_ok-left_view.ensures.models
-    (same_models c.args.options.now.input c.args.left.bytes.now c.args.right.bytes.now (IsModel view) same c.in_ok-left_view.ensures.models)
-    c.in_ok-left_view.ensures.sound (subst (λ (bytes : List ℕ). IsWhole c.args.options.now.input bytes) same c.in_ok-left_view.ensures.sound) c.compare_views.ensures
+    (λ model is. c.in_ok-left_view.ensures.models model (rw (sym same) at is))
+    c.in_ok-left_view.ensures.sound (rw same at c.in_ok-left_view.ensures.sound) c.compare_views.ensures
 
 pub returns-in_err-right_view : goal.returns-in_err-right_view
 returns-in_err-right_view g c =

@@ -1,11 +1,7 @@
-use Rattle.std.proofs.Common.{◌∙◌, ℕ, List, All, Err, ap, length, subst, sym, arith}
-use Rattle.std.specs.Io.KnownBytes.{Appends}
+use Rattle.std.proofs.Common.{◌∙◌, Err, ap, length, sym, arith}
 use Rattle.std.proofs.lemmas.Bool.Decides.{Decides-eqb}
 use Rattle.metadata.specs.Model.{IsModel}
-use Rattle.comparison.specs.declared.difference.Difference.{Difference}
-use Rattle.comparison.specs.Differences.{IsThere}
 use Rattle.cli_faults.specs.declared.failure.Failure.TheVariants.{OutOfMemory}
-use Rattle.cli_sending.specs.Sent.{SendsPrefix}
 use Rattle.cli_roots.specs.Compared.{compare_text}
 use Rattle.cli_roots.proofs.Comparing.{are_same, compared, prefix_of_none, shows_cut, shows_different, shows_same}
 use Rattle.cli_roots.proofs.compare.compare_views.Goals as goal
@@ -18,15 +14,14 @@ returns-in_default g c =
 
 pub print_found-requires : goal.print_found-requires
 print_found-requires g c =
-    subst (λ (ds : List Difference). All (IsThere c.args.left.now c.args.right.now) ds) (sym c.deref.ensures.value) c.in-Ok.ensures.there
+    rw c.deref.ensures.value c.in-Ok.ensures.there
 
 pub returns-in-Err : goal.returns-in-Err
 returns-in-Err g c =
     shows_cut g.W.Write.contents c.args.out.now c.print_found.new.out c.args.options.now.output c.args.options.now.ignored (IsModel c.args.left.now) (IsModel c.args.right.now)
     (Err c.from-in-Err.result) c.in-Err.failure c.from-in-Err.ensures c.in-Err.ensures.failed
     (λ model another is also.
-    subst (λ (text : List ℕ). SendsPrefix (g.W.Write.contents c.args.out.now) (g.W.Write.contents c.print_found.new.out) text)
-    (compared c.args.options.now.output c.args.options.now.ignored model another c.deref.result.now (c.deref.ensures.value ∙ c.in-Ok.ensures.sound model another is also))
+    rw (compared c.args.options.now.output c.args.options.now.ignored model another c.deref.result.now (c.deref.ensures.value ∙ c.in-Ok.ensures.sound model another is also))
     (c.in-Err.ensures.printed model another is also))
 
 pub returns-in-Ok-print_found : goal.returns-in-Ok-print_found
@@ -40,8 +35,7 @@ returns-in-Ok-print_found g c =
     let zero = (Decides-eqb c.in-Ok.found.len 0).0 (sym c.is_empty.ensures ∙ c.if-is_empty.true) in (
       are_same c.args.options.now.ignored model another c.in-Ok.found.items found (sym c.in-Ok.found.ok.0 ∙ zero) law
           (λ none. c.models_equal_but_for_no_columns_are_equal.ensures.equal c.args.options.now.ignored model another valid also_valid none),
-      subst (λ (text : List ℕ). Appends (g.W.Write.contents c.args.out.now) (g.W.Write.contents c.print_found.new.out) text)
-          (compared c.args.options.now.output c.args.options.now.ignored model another c.deref.result.now (c.deref.ensures.value ∙ found))
+      rw (compared c.args.options.now.output c.args.options.now.ignored model another c.deref.result.now (c.deref.ensures.value ∙ found))
           (c.in-Ok-print_found.ensures.printed model another is also),
     ))
 
@@ -57,7 +51,6 @@ returns g c =
       (λ same.
           let none = found ∙ law.1 same in
           let test = sym c.if-is_empty.false ∙ c.is_empty.ensures ∙ (Decides-eqb c.in-Ok.found.len 0).1 (c.in-Ok.found.ok.0 ∙ ap length none) in cc),
-      subst (λ (text : List ℕ). Appends (g.W.Write.contents c.args.out.now) (g.W.Write.contents c.print_found.new.out) text)
-          (compared c.args.options.now.output c.args.options.now.ignored model another c.deref.result.now (c.deref.ensures.value ∙ found))
+      rw (compared c.args.options.now.output c.args.options.now.ignored model another c.deref.result.now (c.deref.ensures.value ∙ found))
           (c.in-Ok-2.ensures.printed model another is also),
     ))

@@ -1,6 +1,5 @@
 use Rattle.std.proofs.Common.{[], ◌∷◌, map, rules, subst}
-use Rattle.cli_lines.specs.Lines.{Style, report_text, styled_text}
-use Rattle.cli_lines.specs.Printed.{Asked}
+use Rattle.cli_lines.specs.Lines.{report_text}
 use Rattle.cli_sending.specs.Sent.{Sent}
 use Rattle.cli_lines.specs.Shown.{shown}
 use Rattle.cli_roots.proofs.one_line.print_one.Goals as goal
@@ -9,7 +8,6 @@ pub returns-clause-sent : goal.returns-clause-sent
 returns-clause-sent g c =
     let before = g.W.Write.contents c.args.out.now in
     let lines = map shown c.args.parts.now ∷ [] in
-    let asked = subst (λ (style : Style). Asked before c.line.new.self (styled_text style lines)) c.new-printer.ensures.style
-    (c.line.ensures.asked before [] c.new-printer.ensures.asked) in
+    let asked = rw c.new-printer.ensures.style at (c.line.ensures.asked before [] c.new-printer.ensures.asked) in
     subst (λ v. Sent before (g.W.Write.contents v) c.finish-writer.result.1 (report_text c.args.form lines)) (search rules)
     (c.finish-writer.ensures.sent before (report_text c.args.form lines) asked)
