@@ -3,7 +3,7 @@ use Rattle.std.proofs.Common.{◌≡◌, ◌&&◌, ℕ, Bool, true, false, cond,
 use Rattle.std.specs.Prelude.{fold}
 use Rattle.std.specs.Str.{bytes_eq}
 use Rattle.clap.specs.Lexer.{long_of, short_of}
-use Rattle.clap.specs.Walk.{Held, Names, Outcome, Rule, Step, Text, Waiting, Walk, after_flag, after_step, arg_by_index, done, idle, long_or_other, next, option, plain, plain_word, positional, refused, short_or_plain, subcommand, subcommand_met, subcommand_or_other, to_positional, trailing, value, waits, walk, walk_from, walked, walked_from, word_met}
+use Rattle.clap.specs.Walk.{Held, Names, Outcome, Rule, Step, Text, Waiting, Walk, after_flag, after_step, arg_by_index, done, long_or_other, next, plain, plain_word, positional, refused, short_or_plain, subcommand, subcommand_met, subcommand_or_other, to_positional, trailing, value, waits, walk, walk_from, walked, walked_from, word_met}
 use Rattle.clap.specs.Simple.{Shape}
 use Rattle.clap.specs.Kinds.{Kinds, or_else}
 use Rattle.clap.specs.Faults.{other_fault, step_fault, turn_fault, walk_fault, word_fault}
@@ -32,9 +32,7 @@ EntersElsewhere _ = Unit {0}
 
 module _ (c : List Rule) where
   plain_enters : (waiting : Waiting) (word : Text) (h : Held) → EntersElsewhere (plain_word c waiting word h).1
-  plain_enters idle word h = tt
-  plain_enters positional word h = tt
-  plain_enters (option id) word h = tt
+  plain_enters _ word h = tt
 
   after_enters : (waiting : Waiting) (word : Text) (h : Held) (o : Outcome) → EntersElsewhere (after_flag c waiting word h o).1
   after_enters waiting word h done = tt
