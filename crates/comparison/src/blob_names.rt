@@ -23,6 +23,9 @@ const MOST_STEPS: usize = 16;
 /// by byte.
 const MOST_WINDOWS: usize = 64;
 
+/// The least width of windows. To double them up to it takes less time than the steps of narrower ones.
+const LEAST_WIDTH: usize = 64;
+
 /// Names of the windows of two blob heaps that are joined, the left one first. Blobs whose windows have the same names are
 /// equal.
 #[derive(Drop)]
@@ -118,13 +121,14 @@ struct Blobs {
 }
 
 impl Blobs {
-    /// The least width of windows by which all are compared in a few steps for each byte of a heap, or for each blob.
+    /// The least width of windows, from `LEAST_WIDTH`, by which all are compared in a few steps for each byte of a heap, or for
+    /// each blob.
     fn width_in(self, heap_len: usize) -> u32
         ensures { result ≤ 2 ^ 31 }
     {
         let steps = self.len / heap_len.max(1) / MOST_STEPS;
         let windows = self.len / self.count.max(1) / MOST_WINDOWS;
-        steps.min(windows).min(1 << 31) as u32
+        steps.min(windows).max(LEAST_WIDTH).min(1 << 31) as u32
     }
 }
 

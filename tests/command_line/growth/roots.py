@@ -993,7 +993,7 @@ def blobs_in_a_row(size, count, part):
 
 
 def few_blobs_of_most_of_a_heap(size):
-    return beside_other_bytes(*blobs_in_a_row(size, 200, 0.96))
+    return beside_other_bytes(*blobs_in_a_row(size, size // 500, 0.96))
 
 
 def many_blobs_of_most_of_a_heap(size):
