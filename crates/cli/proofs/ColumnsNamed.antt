@@ -6,12 +6,10 @@ use Rattle.std.specs.Char.{to_ascii_lowercase}
 use Rattle.std.specs.Borrow.{Bor}
 use Rattle.std.proofs.Math.Dec.{ltb}
 use Rattle.std.proofs.Math.Seq.{drop-append_seam, take-append_seam}
-use Rattle.std.proofs.lemmas.Bool.{ltb-false}
-use Rattle.std.proofs.lemmas.Bool.Decides.{Decides-eqb}
-use Rattle.std.proofs.lemmas.List.{append_cancel_left, get_or_append_left, length-append, length-map, map-append, take-append-drop}
-use Rattle.std.proofs.lemmas.List.Elements.{All-get_or, All-weaker}
+use Rattle.std.proofs.lemmas.Bool.{cases_eq, ltb-false}
+use Rattle.std.proofs.lemmas.List.{append_cancel_left, get_or_append_left, length-append, length-map, map-append, take-append-drop, take_more}
+use Rattle.std.proofs.lemmas.List.Elements.{All-get_or, All-more, All-weaker}
 use Rattle.std.proofs.lemmas.List.Quantifiers.{Any-push}
-use Rattle.std.specs.Bool.{Decides}
 use Rattle.table_schema.specs.declared.table.TableId.{TableId}
 use Rattle.table_schema.specs.declared.table.TableId.TheVariants.{Module}
 use Rattle.table_schema.specs.CellColumns.{cell_count}
@@ -20,7 +18,6 @@ use Rattle.cli_lines.specs.Names.{column_name}
 use Rattle.comparison.specs.Ignored.{AreOthersSame, is_ignored, no_columns}
 use Rattle.comparison.specs.declared.ignored.IgnoredColumns.{IgnoredColumns}
 use Rattle.cli.specs.Columns.{NamesColumn, NamesIgnored, NamesSome}
-use Rattle.cli.proofs.Explaining.{one_more, take_more}
 
 -- some item of a list is one of a longer list
 any_longer : {X : Type 0} (P : X → Type 0) (xs ys : List X) → Any P xs → Any P (xs ++ ys)
@@ -37,11 +34,6 @@ pub none_ignored : ((table : TableId) (cell_index : ℕ) → is_ignored no_colum
     → is_ignored ignored table cell_index ≡ true → Any (λ word. NamesColumn word.now table cell_index) words
 none_ignored none ignored is words table cell_index within marked =
     let other = sym (none table cell_index) ∙ subst (λ (columns : IgnoredColumns). is_ignored columns table cell_index ≡ true) is marked in cc
-
--- two numbers are equal or not
-same_or_not : (m n : ℕ) (r : Bool) → Decides r (m ≡ n) → (m ≡ n) ⊎ (m ≢ n)
-same_or_not m n true decides = inl (decides.0 refl)
-same_or_not m n false decides = inr (λ is. let yes = decides.1 is in cc)
 
 -- what holds if there is no value
 pub when_none : (P : Type 0) (found : Option ℕ) → P → IfNone found P
@@ -144,7 +136,7 @@ pub next_differs : (name : List ℕ) (table : TableId) (k : ℕ)
     → map to_ascii_lowercase name ≢ map to_ascii_lowercase (column_name table k)
     → (index : ℕ) → index < k + 1 → map to_ascii_lowercase name ≢ map to_ascii_lowercase (column_name table index)
 next_differs name table k before at index lt =
-    elim (same_or_not index k _ (Decides-eqb index k)) [
+    elim (cases_eq index k) [
       | inl is ↦ subst (λ (i : ℕ). map to_ascii_lowercase name ≢ map to_ascii_lowercase (column_name table i)) (sym is) at
       | inr is_not ↦ before index (omega (arith, lt, is_not))
     ]
@@ -152,7 +144,7 @@ next_differs name table k before at index lt =
 module _ (stand : (table : TableId) → slice_index_or tables (table_index_of table) Module ≡ table) where
   same_table : (left right : TableId) → (left ≡ right) ⊎ (left ≢ right)
   same_table left right =
-      elim (same_or_not (table_index_of left) (table_index_of right) _ (Decides-eqb (table_index_of left) (table_index_of right))) [
+      elim (cases_eq (table_index_of left) (table_index_of right)) [
         | inl is ↦ inl (sym (stand left) ∙ ap (λ (n : ℕ). slice_index_or tables n Module) is ∙ stand right)
         | inr is_not ↦ inr (λ is. is_not (ap table_index_of is))
       ]
@@ -164,7 +156,7 @@ module _ (stand : (table : TableId) → slice_index_or tables (table_index_of ta
     added_or_other : (other : TableId) (index : ℕ) → ((other ≡ table) × (index ≡ cell_index)) ⊎ ((other ≢ table) ⊎ (index ≢ cell_index))
     added_or_other other index =
         elim (same_table other table) [
-          | inl is ↦ elim (same_or_not index cell_index _ (Decides-eqb index cell_index)) [ inl also ↦ inl (is, also) | inr is_not ↦ inr (inr is_not) ]
+          | inl is ↦ elim (cases_eq index cell_index) [ inl also ↦ inl (is, also) | inr is_not ↦ inr (inr is_not) ]
           | inr is_not ↦ inr (inl is_not)
         ]
 
@@ -178,7 +170,7 @@ module _ (stand : (table : TableId) → slice_index_or tables (table_index_of ta
     -- one more argument names an ignored column
     pub all_more : All (NamesIgnored old) (take k words) → All (NamesIgnored new) (take (k + 1) words)
     all_more all =
-        one_more words k d lt (NamesIgnored new)
+        All-more (NamesIgnored new) words k d lt
         (All-weaker (NamesIgnored old) (NamesIgnored new) (λ word is. (is.0, is.1, is.2, stays is.0 is.1 is.2.0 is.3)) (take k words) all)
         (table, cell_index, named, added)
 

@@ -1,23 +1,14 @@
 -- What holds of the runs of `embed`, if something stronger does.
-use Rattle.std.proofs.Common.{◌≡◌, ◌⊎◌, ℕ, List, Option, Some, None, Result, Ok, Err, inl, inr}
-use Rattle.std.specs.Prelude.{IsErrAnd, MatchResult}
-use Rattle.cli_faults.specs.declared.failure.Failure.{Failure}
-use Rattle.cli_files.specs.Read.{IsRefused}
+use Rattle.std.proofs.Common.{◌⊎◌, ℕ, List, Option, Some, None, inl, inr}
+use Rattle.std.proofs.lemmas.Result.{MatchResult-weaker}
 use Rattle.cli_files.specs.Stopped.{Outcome}
 use Rattle.cli_roots.specs.Embedded.{IsRootRun}
-use Rattle.cli_roots.specs.Runs.{IsFileRun, IsMixed, StopsBy}
+use Rattle.cli_roots.specs.Runs.{IsFileRun, IsMixed}
 
 module _ {W : Type 0} (before after : W) (outcome : Outcome) where
-  read_run : (file : List ℕ) (run other : List ℕ → Outcome → Type 0) → ((bytes : List ℕ) → run bytes outcome → other bytes outcome)
-      → (read : Result (List ℕ) Failure)
-      → MatchResult read (λ bytes. run bytes outcome) (λ failure. IsRefused file failure × IsErrAnd outcome (StopsBy failure) × (after ≡ before))
-      → MatchResult read (λ bytes. other bytes outcome) (λ failure. IsRefused file failure × IsErrAnd outcome (StopsBy failure) × (after ≡ before))
-  read_run file run other to (Ok bytes) done = to bytes done
-  read_run file run other to (Err failure) refused = refused
-
   pub file_run : (file : List ℕ) (run other : List ℕ → Outcome → Type 0) → ((bytes : List ℕ) → run bytes outcome → other bytes outcome)
       → IsFileRun before after file run outcome → IsFileRun before after file other outcome
-  file_run file run other to done = (done.0, read_run file run other to done.0 done.1)
+  file_run file run other to done = (done.0, MatchResult-weaker done.0 done.1 to (λ failure refused. refused))
 
   pub root_run : (path : Option (List ℕ)) (run other : Option (List ℕ) → Outcome → Type 0) → ((given : Option (List ℕ)) → run given outcome → other given outcome)
       → IsRootRun before after path run outcome → IsRootRun before after path other outcome

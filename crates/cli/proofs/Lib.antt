@@ -1,4 +1,3 @@
-pub mod Explaining
 pub mod ColumnsNamed
 pub mod TokensRead
 pub mod RulesNamed

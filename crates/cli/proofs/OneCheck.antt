@@ -17,15 +17,10 @@ use Rattle.cli_runs.specs.Runs.{AreRun, IsRunOn}
 use Rattle.cli_runs.specs.declared.report.Ended.TheVariants.{Printed, Refused}
 
 unread : (file : List ℕ) (failure : Failure) → IsRefused file failure → 3 ≡ status_of failure
-unread file (failed.Fault found) refused = absurd refused
-unread file failed.NoSuchRow refused = absurd refused
-unread file (failed.Usage usage_error) refused = absurd refused
 unread file (failed.NotUtf8 name) refused = refl
 unread file (failed.CannotRead error) refused = refl
-unread file (failed.CannotWriteOutput reason) refused = absurd refused
-unread file (failed.CannotWriteFile error) refused = absurd refused
-unread file (failed.CannotEmbed misfit) refused = absurd refused
 unread file failed.OutOfMemory refused = refl
+unread file _ refused = absurd refused
 
 module _ {W : Type 0} (contents : W → Option (List ℕ)) (before after : W) (same : report_text Text (verdict_line None None ∷ []) ≡ ok_line) where
   of_bytes : (name bytes : List ℕ) (status : ℕ) → IsCheckOfBytes contents before after bytes status → AreRun check_of_one contents false before after (name ∷ []) status

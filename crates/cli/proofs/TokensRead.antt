@@ -2,11 +2,10 @@
 use Rattle.std.proofs.Common.{◌≡◌, ◌∙◌, ◌+◌, ◌<◌, ℕ, List, [], ◌∷◌, ◌++◌, get_or, length, map, take, ap, sym}
 use Rattle.std.specs.Borrow.{Bor}
 use Rattle.std.specs.Str.Parse.{digits_value}
-use Rattle.std.proofs.lemmas.List.{map-append}
-use Rattle.std.proofs.lemmas.List.Elements.{All-nil}
+use Rattle.std.proofs.lemmas.List.{map_more}
+use Rattle.std.proofs.lemmas.List.Elements.{All-more, All-nil}
 use Rattle.cli_names.specs.Numbers.{IsHexNumber}
 use Rattle.cli.specs.Tasks.{AreTokens}
-use Rattle.cli.proofs.Explaining.{one_more, take_more}
 
 pub none_read : (numbers : List ℕ) → numbers ≡ [] → AreTokens [] numbers
 none_read numbers none = (All-nil _, none)
@@ -15,10 +14,9 @@ none_read numbers none = (All-nil _, none)
 pub more_read : (words : List (Bor (List ℕ))) (k : ℕ) (d : Bor (List ℕ)) (numbers more : List ℕ) (number : ℕ) → k < length words → AreTokens (take k words) numbers
     → IsHexNumber (get_or words k d).now → number ≡ digits_value 16 (get_or words k d).now → more ≡ numbers ++ number ∷ [] → AreTokens (take (k + 1) words) more
 more_read words k d numbers more number lt before is value pushed = (
-  one_more words k d lt (λ word. IsHexNumber word.now) before.0 is,
+  All-more (λ word. IsHexNumber word.now) words k d lt before.0 is,
   pushed
       ∙ ap (λ (n : ℕ). numbers ++ n ∷ []) value
       ∙ ap (λ (ns : List ℕ). ns ++ digits_value 16 (get_or words k d).now ∷ []) before.1
-      ∙ sym (map-append (λ (word : Bor (List ℕ)). digits_value 16 word.now) (take k words) (get_or words k d ∷ []))
-      ∙ ap (λ (ws : List (Bor (List ℕ))). map (λ (word : Bor (List ℕ)). digits_value 16 word.now) ws) (sym (take_more words k d lt)),
+      ∙ sym (map_more (λ (word : Bor (List ℕ)). digits_value 16 word.now) words k d lt),
 )

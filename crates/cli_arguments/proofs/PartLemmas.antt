@@ -1,41 +1,22 @@
 -- The last of several arguments.
-use Rattle.std.proofs.Common.{◌≡◌, ◌≢◌, ◌∙◌, ◌<◌, ◌⊎◌, Bool, true, false, List, [], ◌∷◌, ◌++◌, Option, Some, None, ap, arith, eqb, length, not, map, option_map, option_to_list, refl, subst, sym}
+use Rattle.std.proofs.Common.{◌≡◌, ◌≢◌, ◌∙◌, ◌<◌, ◌⊎◌, Bool, true, false, List, [], ◌∷◌, ◌++◌, Option, Some, None, ap, arith, drop, eqb, get_or, length, not, map, option_map, option_to_list, refl, subst, sym, take}
 use Rattle.std.specs.Prelude.{◌↔◌, IsSome, IsTrue}
 use Rattle.std.specs.Borrow.{Bor}
 use Rattle.std.proofs.lemmas.Bool.Decides.{Decides-eqb}
-use Rattle.std.proofs.lemmas.List.{map-append}
+use Rattle.std.proofs.lemmas.List.{length_push, map-append}
+use Rattle.std.proofs.Math.Seq.{drop-append_seam, take-append_seam}
 use Rattle.clap.specs.Words.{Text}
 use Rattle.cli_arguments.specs.Asked.{AreParts, IsPart, IsPartLast}
 use Rattle.cli_arguments.specs.declared.asked.Subcommand.{Subcommand}
-use Rattle.cli_arguments.specs.declared.asked.Subcommand.TheVariants.{Root, Info, Check, Show, Types, Outline, Refs, Resources, Strings, Token, Where, Rewrite, Embed, Digest, Compare, Explain}
-
--- the last of these texts, and those before it, of which the first one is given apart
-abbrev last_in : Text → List Text → Text
-last_in x [] = x
-last_in x (y ∷ more) = last_in y more
-
-abbrev earlier_in : Text → List Text → List Text
-earlier_in x [] = []
-earlier_in x (y ∷ more) = x ∷ earlier_in y more
-
-last_at : (d x : Text) (xs : List Text) → last_in d (xs ++ x ∷ []) ≡ x
-last_at d x [] = refl
-last_at d x (y ∷ more) = last_at y x more
-
-earlier_at : (d x : Text) (xs : List Text) → earlier_in d (xs ++ x ∷ []) ≡ d ∷ xs
-earlier_at d x [] = refl
-earlier_at d x (y ∷ more) = ap (λ ys. d ∷ ys) (earlier_at y x more)
-
-abbrev tail_of : List Text → List Text
-tail_of [] = []
-tail_of (x ∷ xs) = xs
+use Rattle.cli_arguments.specs.declared.asked.Subcommand.TheVariants.{Show, Outline, Refs, Where}
 
 -- a list ends in one way
 pub same_end : (xs ys : List Text) (x y : Text) → xs ++ x ∷ [] ≡ ys ++ y ∷ [] → (xs ≡ ys) × (x ≡ y)
-same_end xs ys x y is = (
-  ap tail_of (sym (earlier_at [] x xs) ∙ ap (earlier_in []) is ∙ earlier_at [] y ys),
-  sym (last_at [] x xs) ∙ ap (last_in []) is ∙ last_at [] y ys,
-)
+same_end xs ys x y is =
+    let n : length xs ≡ length ys = omega (arith, ap length is, length_push xs x, length_push ys y) in (
+      sym (take-append_seam xs (x ∷ [])) ∙ (λ i. take (n i) (is i)) ∙ take-append_seam ys (y ∷ []),
+      ap (λ zs. get_or zs 0 x) (sym (drop-append_seam xs (x ∷ [])) ∙ (λ i. drop (n i) (is i)) ∙ drop-append_seam ys (y ∷ [])),
+    )
 
 abbrev pub texts : List (Bor Text) → List Text
 texts = map (λ word. word.now)
@@ -62,18 +43,7 @@ part_if Show P Q word is part = (is part.0, part.1)
 part_if Outline P Q word is part = (is part.0, part.1)
 part_if Refs P Q word is part = (is part.0, part.1)
 part_if Where P Q word is part = tt
-part_if Root P Q word is part = part
-part_if Info P Q word is part = part
-part_if Check P Q word is part = part
-part_if Types P Q word is part = part
-part_if Resources P Q word is part = part
-part_if Strings P Q word is part = part
-part_if Token P Q word is part = part
-part_if Rewrite P Q word is part = part
-part_if Embed P Q word is part = part
-part_if Digest P Q word is part = part
-part_if Compare P Q word is part = part
-part_if Explain P Q word is part = part
+part_if _ P Q word is part = part
 
 module _ (of : Subcommand) (Listed : Type 0) where
   -- the last of these arguments says what to print

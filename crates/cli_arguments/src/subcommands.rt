@@ -16,6 +16,22 @@ macro_rules! argument {
     };
 }
 
+/// The arguments of a report on files: those that name the files, what all reports take, and others.
+macro_rules! reports {
+    ($files:expr $(, $other:expr)*) => {
+        &[
+            $files,
+            crate::subcommands::BARE,
+            crate::subcommands::BUDGET,
+            crate::subcommands::FILES_FROM,
+            crate::subcommands::NULL,
+            crate::subcommands::RECURSIVE,
+            crate::subcommands::JSON,
+            $($other,)*
+        ]
+    };
+}
+
 pub(crate) mod check_file;
 pub(crate) mod compare_files;
 pub(crate) mod digest_file;

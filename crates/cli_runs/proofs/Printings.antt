@@ -7,15 +7,12 @@ use Rattle.packed.specs.Rule.{FirstBroken}
 use Rattle.root.specs.Streams.{RootRead}
 use Rattle.metadata.specs.Metadata.{Metadata}
 use Rattle.table_schema.specs.declared.token.Token.{Token}
-use Rattle.cli_faults.specs.declared.failure.Failure.{Failure}
-use Rattle.cli_faults.specs.declared.stop.Stop.TheVariants.{Failed}
 use Rattle.cli_info.specs.InfoLines.{AreFacts, info_lines}
 use Rattle.cli_input.specs.Checked.{IsModelOf, IsWhole, rules_of}
 use Rattle.cli_input.specs.Heads.{AreHeads, HasHeads, rules_of_heads}
 use Rattle.cli_lines.specs.Printed.{Printed, Prints}
 use Rattle.cli_outline.specs.declared.source.OutlineOptions.{OutlineOptions}
 use Rattle.cli_outline.specs.Printed.{PrintsRows, PrintsSome}
-use Rattle.cli_where.specs.Located.{AreListed}
 use Rattle.cli_print.specs.RootLines.{heads_lines}
 use Rattle.cli_runs.specs.Printing.{Hands, HasPrinted}
 use Rattle.cli_runs.specs.Reports.{AreDeclared, AreSomeDeclared, IsListed, OfModel, ended_at, ended_by}
@@ -27,7 +24,6 @@ use Rattle.cli_resources.specs.ResourceLines.{AreLocations, resource_lines}
 use Rattle.cli_resources.specs.Unfound.{AreAllLocated, IsUnlisted}
 use Rattle.cli_resources.specs.declared.opened.Unfound.{Unfound}
 use Rattle.cli_resources.specs.declared.opened.Unfound.TheVariants as unfound
-use Rattle.cli_runs.specs.declared.report.Ended.TheVariants.{Refused}
 use Rattle.cli_runs.specs.declared.report.Listing.{Listing}
 use Rattle.cli_runs.specs.declared.report.Report.TheVariants as report
 use Rattle.cli_runs.specs.declared.report.Request.{Request}

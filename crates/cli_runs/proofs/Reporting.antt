@@ -12,7 +12,7 @@ use Rattle.cli_faults.specs.declared.stop.Stop.{Stop}
 use Rattle.cli_input.specs.declared.opened.Input.{Input}
 use Rattle.cli_input.specs.declared.opened.Input.TheVariants.{BareRoot, File}
 use Rattle.cli_lines.specs.Lines.{Part, Style, styled_text}
-use Rattle.cli_lines.specs.Printed.{Asked, Printed}
+use Rattle.cli_lines.specs.Printed.{Asked, Printed, Prints}
 use Rattle.cli_sending.specs.Sent.{Sent}
 use Rattle.cli_regions.specs.Regions.{Region}
 use Rattle.cli_where.specs.Located.{HasContents, where_lines}
@@ -40,6 +40,14 @@ contents_weaker (of ∷ later) File bytes offset P Q follows has = λ header mod
     let is = has header model file in
     (is.0, is.1, follows _ is.2)
 contents_weaker (of ∷ later) BareRoot bytes offset P Q follows has = λ model is. follows _ (has model is)
+
+-- the lines of structures and of contents were handed to a printer
+pub located : {W : Type 0} (structures : List Region) (request : Request) (bytes : List ℕ) (offset : ℕ) (old new : Printed W)
+    → HasContents structures request.input bytes offset (λ contents. Prints old new (where_lines structures ++ contents))
+    → HasContents structures request.input bytes offset (λ contents. AreOut (Hands old new) (where_lines structures ++ contents))
+located structures request bytes offset old new has =
+    contents_weaker structures request.input bytes offset (λ contents. Prints old new (where_lines structures ++ contents))
+    (λ contents. AreOut (Hands old new) (where_lines structures ++ contents)) (λ lines are. (are, (λ live. tt))) has
 
 -- ---- what went out of a report, if each of its lines does
 

@@ -1,7 +1,7 @@
 -- Runs on several files, one after another.
-use Rattle.std.proofs.Common.{◌≡◌, ◌∙◌, ◌≤◌, ◌<◌, ◌+◌, ◌&&◌, ◌||◌, ◌⊎◌, ℕ, Bool, true, false, Result, Ok, Err, List, [], ◌∷◌, ◌++◌, map, drop, get_or, length, max, Option, refl, ap, sym, subst, arith, inl, inr, drop-cons, add-one}
+use Rattle.std.proofs.Common.{◌≡◌, ◌≤◌, ◌<◌, ◌+◌, ◌&&◌, ◌||◌, ◌⊎◌, ℕ, Bool, true, false, Result, Ok, Err, List, [], ◌∷◌, ◌++◌, map, drop, get_or, length, max, Option, refl, sym, subst, arith, inl, inr}
 use Rattle.std.specs.Borrow.{Bor}
-use Rattle.std.proofs.lemmas.List.{drop_all}
+use Rattle.std.proofs.lemmas.List.{drop_all, drop_more}
 use Rattle.cli_faults.specs.declared.failure.Failure.{Failure}
 use Rattle.cli_faults.specs.declared.failure.Failure.TheVariants.{NotUtf8}
 use Rattle.cli_faults.specs.Status.{IsUnread}
@@ -12,9 +12,6 @@ use Rattle.cli_runs.specs.declared.report.Request.{Request}
 
 abbrev pub names_of : List (Bor (List ℕ)) → List (List ℕ)
 names_of = map (λ name. name.now)
-
-drop_more : {X : Type 0} (xs : List X) (k : ℕ) (d : X) → k < length xs → drop k xs ≡ get_or xs k d ∷ drop (k + 1) xs
-drop_more xs k d lt = drop-cons xs k d lt ∙ ap (λ (n : ℕ). get_or xs k d ∷ drop n xs) (sym (add-one k))
 
 -- a file that could not be read is refused
 pub unread_refused : (file : List ℕ) (failure : Failure) → IsUnread file failure → IsRefused file failure

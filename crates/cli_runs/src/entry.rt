@@ -54,10 +54,5 @@ pub(crate) fn open_entered(bytes: &[u8], input: Input) -> Result<(Option<Token>,
 pub(crate) fn entered(options: OutlineOptions, entry: Option<Token>) -> OutlineOptions
     ensures { result ≡ entered options entry }
 {
-    OutlineOptions {
-        tokens: options.tokens,
-        rows: options.rows,
-        sorting: options.sorting,
-        entry,
-    }
+    OutlineOptions { entry, ..options }
 }

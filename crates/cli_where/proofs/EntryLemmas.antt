@@ -1,7 +1,7 @@
 -- The entries of heaps: where they are, and which of them have a byte.
-use Rattle.std.specs.Prelude.{Option, None, Some, ◌⊎◌, nat_le, nat_lt, suc}
+use Rattle.std.specs.Prelude.{Option, None, Some, ◌⊎◌}
 use Rattle.std.proofs.Common.{◌≡◌, ◌≢◌, ◌∙◌, ℕ, ◌+◌, ◌-◌, ◌*◌, ◌<◌, ◌≤◌, true, List, ◌∷◌, ◌++◌, length, take, drop, slice_index, inl, inr, refl, sym, ap, subst, arith, length-append, length-drop}
-use Rattle.std.proofs.lemmas.Bool.{and_from, and_parts, leb-true, le-leb}
+use Rattle.std.proofs.lemmas.Bool.Decides.{nat_tests}
 use Rattle.std.proofs.lemmas.List.{take-append-drop, get_or-take, get_or-drop, drop_more, drop_at, get_or_append_left, get_or_at, length-take-le}
 use Rattle.std.proofs.lemmas.List.Elements.{All-from_get_or}
 use Rattle.heap_entries.specs.Entries.{IsCounted, IsEnded, IsGuidEntry}
@@ -13,15 +13,10 @@ use Rattle.cli_regions.specs.Regions.{has_byte}
 
 -- a structure has a byte if and only if the byte is from its first one on and before its end
 pub has_from : (start size offset : ℕ) → has_byte start size offset ≡ true → (start ≤ offset) × (offset < start + size)
-has_from start size offset has =
-    let is = and_parts (nat_le start offset) (nat_lt (offset - start) size) has in
-    let from = leb-true start offset is.0 in
-    let before = leb-true (suc (offset - start)) size is.1 in
-    (from, omega (arith, from, before))
+has_from start size offset has = (grind (arith, nat_tests), grind (arith, nat_tests))
 
 pub has_so : (start size offset : ℕ) → start ≤ offset → offset < start + size → has_byte start size offset ≡ true
-has_so start size offset from before =
-    and_from (nat_le start offset) (nat_lt (offset - start) size) (le-leb start offset from) (le-leb (suc (offset - start)) size (omega (arith, from, before)))
+has_so start size offset from before = grind (arith, nat_tests)
 
 module _ (heap : List ℕ) (index : ℕ) (bytes : List ℕ) (e : IsEnded heap index bytes) where
   tail_is : drop index heap ≡ bytes ++ 0 ∷ e.after

@@ -1,7 +1,8 @@
 -- What a search finds.
 use Rattle.std.proofs.Common.{◌≡◌, ◌∙◌, ℕ, List, [], ◌++◌, None, ap, append_assoc, refl, subst, sym, inl, inr}
 use Rattle.packed.specs.declared.fault.Fault.{Fault}
-use Rattle.packed.specs.Rule.{AllHold, Rule}
+use Rattle.packed.specs.Rule.{AllHold, FirstBroken, Rule}
+use Rattle.packed.proofs.RuleLemmas.{none_fails}
 use Rattle.cli_regions.specs.Kept.{Adds, Finds, Joins, Searched}
 use Rattle.cli_regions.specs.Regions.{Region}
 use Rattle.cli_regions.proofs.SearchLemmas.{joins_none}
@@ -46,5 +47,5 @@ whole_layer rules holds finds = record {
   found = λ found is. let at = finds.found found is in (at.0, at.1, at.2, inr (holds, at.3), at.4);
 }
 
-pub broken_layer : (rules : List (Rule Fault)) {AreFound : ℕ → List Region → Type 0} (search : Searched) → ¬ AllHold rules → Finds (OfLayer rules AreFound) search search
-broken_layer rules {AreFound} search not = finds_none (OfLayer rules AreFound) search (inl (not, refl))
+pub broken_layer : (rules : List (Rule Fault)) {AreFound : ℕ → List Region → Type 0} {fault : Fault} (search : Searched) → FirstBroken rules fault → Finds (OfLayer rules AreFound) search search
+broken_layer rules {AreFound} {fault} search broken = finds_none (OfLayer rules AreFound) search (inl ((λ all. none_fails rules fault all broken), refl))

@@ -5,12 +5,13 @@ use Rattle.std.proofs.lemmas.List.{flat_map_more}
 use Rattle.std.specs.Prelude.{Option, Some, None}
 use Rattle.rows.specs.Cells.{Stream}
 use Rattle.schema.specs.declared.located_cells.TableCell.{TableCell}
-use Rattle.cli_regions.specs.Kept.{Joins, Searched}
+use Rattle.cli_regions.specs.Kept.{Finds, Joins, Searched}
 use Rattle.cli_regions.specs.Regions.{Region}
 use Rattle.cli_regions.proofs.SearchLemmas.{joins_more, joins_none}
-use Rattle.cli_where.specs.Entries.{AreFirst, IsEntryOf, all_cells}
-use Rattle.cli_where.specs.Kept.{FindsEntries, FindsFirst, heaps_of}
+use Rattle.cli_where.specs.Entries.{AreEntriesAt, AreFirst, IsEntryOf, all_cells}
+use Rattle.cli_where.specs.Kept.{FindsFirst, heaps_of}
 use Rattle.cli_where.specs.declared.entries.Target.{Target}
+use Rattle.cli_where.proofs.FindLemmas.{finds_joined}
 
 module _ (IsOf : TableCell → Option Region → Type 0) where
   none_first : (most : ℕ) (cell : TableCell) (cells : List TableCell) (found : List Region) → IsOf cell None → AreFirst IsOf most cells found → AreFirst IsOf most (cell ∷ cells) found
@@ -73,15 +74,15 @@ module _ {target : Target} {stream : Stream} where
   }
 
   -- all cells
-  pub finds_all : {left : ℕ} {old new : Searched} → FindsFirst target stream 10 left (all_cells stream.sizes) old new → FindsEntries target stream old new
-  finds_all {left} finds =
+  pub finds_all : {left : ℕ} {old new : Searched} → target.offset ≡ old.offset → FindsFirst target stream 10 left (all_cells stream.sizes) old new
+      → Finds (AreEntriesAt (heaps_of target) stream.bytes stream.sizes) old new
+  finds_all {left} {old} {new} same finds =
+      let First : ℕ → List TableCell → List Region → Type 0 = λ offset. AreFirst (IsEntryOf (heaps_of target) stream.bytes stream.sizes offset) 10 in
       let all = finds.first [] [] (no_cells (IsEntryOf (heaps_of target) stream.bytes stream.sizes target.offset) left) in
-      record {
-        found = finds.found;
-        are = subst (λ (found : List Region). AreFirst (IsEntryOf (heaps_of target) stream.bytes stream.sizes target.offset) 10 (all_cells stream.sizes) found) (append-nil finds.found)
-            (subst (λ (cells : List TableCell). AreFirst (IsEntryOf (heaps_of target) stream.bytes stream.sizes target.offset) 10 cells (finds.found ++ [])) (append-nil (all_cells stream.sizes)) all);
-        joins = finds.joins;
-      }
+      finds_joined {AreFound = AreEntriesAt (heaps_of target) stream.bytes stream.sizes}
+      (subst (λ (offset : ℕ). First offset (all_cells stream.sizes) finds.found) same
+      (subst (λ (found : List Region). First target.offset (all_cells stream.sizes) found) (append-nil finds.found)
+      (subst (λ (cells : List TableCell). First target.offset cells (finds.found ++ [])) (append-nil (all_cells stream.sizes)) all))) finds.joins
 
 -- the cells of one more row
 range_more : (a n j : ℕ) → a + n ≡ j → range_with_len a (n + 1) ≡ range_with_len a n ++ j ∷ []

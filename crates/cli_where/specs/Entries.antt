@@ -10,11 +10,12 @@ use Rattle.table_schema.specs.declared.column.ColumnKind.{ColumnKind}
 use Rattle.table_schema.specs.declared.column.ColumnKind.TheVariants as kind
 use Rattle.table_schema.specs.declared.table.TableId.{TableId}
 use Rattle.table_schema.specs.Tables.{tables}
-use Rattle.table_schema.specs.Columns.{column_at, columns_of}
+use Rattle.table_schema.specs.Columns.{columns_of}
 use Rattle.schema.specs.Sizes.{Sizes, count_of}
 use Rattle.schema.specs.Cells.{number_at}
 use Rattle.schema.specs.declared.located_cells.TableCell.{TableCell}
 use Rattle.cli_regions.specs.Regions.{Region, entry, has_byte}
+use Rattle.cli_found.specs.Found.{kind_of}
 
 -- a heap: its bytes, and the offset of the first one in the file
 pub record Heap : Type 0 where
@@ -76,9 +77,6 @@ abbrev pub heap_named : ColumnKind → Kind
 heap_named kind.Text = Strings
 heap_named kind.Guid = Guids
 heap_named _ = Blobs
-
-abbrev pub kind_of : TableCell → ColumnKind
-kind_of cell = (column_at cell.table cell.column).kind
 
 -- the number in a cell of a table stream names an entry
 abbrev pub IsNamedBy : Heaps → List ℕ → Sizes → TableCell → ℕ → ℕ → Type 0

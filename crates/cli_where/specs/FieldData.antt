@@ -1,37 +1,18 @@
 -- The fields with data, and the sizes of the data (ECMA-335 II.22.8, II.22.18 and II.23.1.16).
 use Rattle.std.specs.Prelude.{ℕ, ◌+◌, ◌-◌, nat_le, if◌then◌else◌, List, [], ◌∷◌, Option, None, Some}
 use Rattle.std.specs.List.{flat_map, range_with_len}
+use Rattle.std.specs.Option.{option_to_list}
 use Rattle.table_schema.specs.declared.table.TableId.{TableId}
 use Rattle.table_schema.specs.declared.table.TableId.TheVariants.{ClassLayout, Field, FieldRVA, TypeDef}
-use Rattle.sig_grammar.specs.declared.element.Element.{Element}
-use Rattle.sig_grammar.specs.declared.element.Element.TheVariants.{Boolean, Char, I1, U1, I2, U2, I4, U4, I8, U8, R4, R8, String, I, U, Object}
 use Rattle.sig_items.specs.declared.item.Item.{Item}
 use Rattle.sig_items.specs.declared.item.Item.TheVariants as item
 use Rattle.metadata.specs.Metadata.{Metadata, cell_in, count_in}
 use Rattle.navigation.specs.Linked.{first_linked}
 use Rattle.navigation.specs.declared.links.Link.TheVariants as link_of
 use Rattle.attribute_constructors.specs.Signatures.{items_in}
+use Rattle.cli_values.specs.Constants.{size_of}
 use Rattle.cli_declarations.specs.Parts.{number_of, token_at}
 use Rattle.cli_contents.specs.declared.field_data.FieldData.{FieldData}
-
--- the number of bytes of a value of a simple type (II.23.1.16); 0 if it depends on the machine, or if the value is elsewhere
-abbrev pub element_size : Element → ℕ
-element_size Boolean = 1
-element_size Char = 2
-element_size I1 = 1
-element_size U1 = 1
-element_size I2 = 2
-element_size U2 = 2
-element_size I4 = 4
-element_size U4 = 4
-element_size I8 = 8
-element_size U8 = 8
-element_size R4 = 4
-element_size R8 = 8
-element_size String = 0
-element_size I = 0
-element_size U = 0
-element_size Object = 0
 
 -- ClassSize in a row of ClassLayout (II.22.8); 0 if there is no row
 abbrev pub layout_size : Metadata → Option ℕ → ℕ
@@ -49,8 +30,9 @@ abbrev pub field_type : List Item → Option Item
 field_type (item.Field ∷ of ∷ []) = Some of
 field_type _ = None
 
+-- the size of a value (II.23.1.16), 0 if it depends on the machine, or if the value is elsewhere
 abbrev pub type_size : Metadata → Option Item → ℕ
-type_size model (Some (item.Simple of)) = element_size of
+type_size model (Some (item.Simple of)) = size_of of
 type_size model (Some (item.Value of)) = class_size model of.table of.row
 type_size model _ = 0
 
@@ -67,13 +49,9 @@ data_by model field (Some row) =
 abbrev pub data_of : Metadata → ℕ → Option FieldData
 data_of model field = data_by model field (first_linked model link_of.FieldData (token_at Field field))
 
-abbrev pub listed : Option FieldData → List FieldData
-listed None = []
-listed (Some stored) = stored ∷ []
-
 -- those of the rows from one on and before another
 unfoldable pub fields_from : Metadata → ℕ → ℕ → List FieldData
-fields_from model first past = flat_map (λ field. listed (data_of model field)) (range_with_len first (past - first))
+fields_from model first past = flat_map (λ field. option_to_list (data_of model field)) (range_with_len first (past - first))
 
 -- the data of all fields that have data, in the order of the fields
 abbrev pub all_fields : Metadata → List FieldData

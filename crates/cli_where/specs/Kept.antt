@@ -5,7 +5,7 @@ use Rattle.cli_where.specs.declared.entries.Run.{Run}
 use Rattle.cli_where.specs.declared.entries.Target.{Target}
 use Rattle.schema.specs.declared.located_cells.TableCell.{TableCell}
 use Rattle.rows.specs.Cells.{Stream}
-use Rattle.cli_where.specs.Entries.{AreEntriesAt, AreFirst, Heap, Heaps, IsEntryOf, IsStringAt}
+use Rattle.cli_where.specs.Entries.{AreFirst, Heap, Heaps, IsEntryOf, IsStringAt}
 use Rattle.cli_regions.specs.Kept.{Joins, Searched}
 use Rattle.cli_regions.specs.Regions.{Region, has_byte}
 
@@ -56,10 +56,4 @@ NameFirst IsOf most left cells found =
 pub record FindsFirst (target : Target) (stream : Stream) (most left : ℕ) (cells : List TableCell) (old new : Searched) : Type 0 where
   pub found : List Region
   pub first : NameFirst (IsEntryOf (heaps_of target) stream.bytes stream.sizes target.offset) most left cells found
-  pub joins : Joins old new found
-
--- the search kept the entries that contain the byte
-pub record FindsEntries (target : Target) (stream : Stream) (old new : Searched) : Type 0 where
-  pub found : List Region
-  pub are : AreEntriesAt (heaps_of target) stream.bytes stream.sizes target.offset found
   pub joins : Joins old new found

@@ -12,7 +12,7 @@ use Rattle.cli_lines.specs.declared.names.Name.TheVariants as name
 use Rattle.cli_lines.specs.Lines.{Part, byte, field, hex, member, note, number, plain, units, word}
 use Rattle.cli_regions.specs.Regions.{Region, What, cell, entry, scalar, user_string, words}
 use Rattle.cli_found.specs.Columns.{column_number}
-use Rattle.cli_where.specs.Entries.{kind_of}
+use Rattle.cli_found.specs.Found.{kind_of}
 use Rattle.cli_where.specs.UserStrings.{Entry, user_token}
 
 -- the name of the column of a cell
@@ -25,11 +25,10 @@ parts_of_row table table_name row parts =
     note (byte table) ∷ word (codes " ") ∷ field name.Table (plain table_name) ∷ word (codes " row ") ∷ field name.Row (number row) ∷ parts
 
 -- a column by its number and its name
-abbrev pub column_parts : ℕ → List ℕ → List Part
-column_parts column column_name = word (codes " column ") ∷ note (number column) ∷ word (codes " ") ∷ field name.Column (plain column_name) ∷ []
-
 abbrev pub cell_parts : TableCell → List Part
-cell_parts of = parts_of_row (table_number of.table) (table_name of.table) of.row (column_parts (column_number of) (column_name of))
+cell_parts of =
+    parts_of_row (table_number of.table) (table_name of.table) of.row
+    (word (codes " column ") ∷ note (number (column_number of)) ∷ word (codes " ") ∷ field name.Column (plain (column_name of)) ∷ [])
 
 -- a cell, or the padding of a row, which has no number
 abbrev pub cell_or_padding : Bool → TableCell → List Part
@@ -56,11 +55,8 @@ what_parts (user_string token) =
     ∷ word (codes " ") ∷ field name.Token (hex token) ∷ []
 
 -- the offset of a structure in the file, its number of bytes, and what it is
-abbrev pub parts_with : ℕ → ℕ → List Part → List Part
-parts_with start size parts = field name.Offset (number start) ∷ word (codes " ") ∷ field name.Size (number size) ∷ word (codes " ") ∷ parts
-
 unfoldable pub line_with : ℕ → ℕ → What → List Part
-line_with start size what = parts_with start size (what_parts what)
+line_with start size what = field name.Offset (number start) ∷ word (codes " ") ∷ field name.Size (number size) ∷ word (codes " ") ∷ what_parts what
 
 abbrev pub structure_line : Region → List Part
 structure_line of = line_with of.start of.size of.what

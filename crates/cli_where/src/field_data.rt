@@ -1,5 +1,6 @@
 //! The fields with data, and the sizes of the data (II.22.8, II.22.18).
 ghost use Rattle.std.specs.Prelude.{◌≡◌, ◌≤◌, ◌++◌, All, IfOk, IfSome, OnOk};
+ghost use Rattle.std.specs.Option.{option_to_list};
 ghost use Rattle.table_schema.specs.declared.column.SigKind.TheVariants as column;
 ghost use Rattle.table_schema.specs.declared.table.TableId.TheVariants.{ClassLayout, Field, TypeDef};
 ghost use Rattle.sig_grammar.specs.Syntax.{Body};
@@ -11,8 +12,9 @@ ghost use Rattle.opening.specs.Views.{row_count};
 ghost use Rattle.pe.specs.Image.{Image, IsImage};
 ghost use Rattle.attribute_constructors.specs.Signatures.{items_in};
 ghost use Rattle.cli_contents.specs.Lines.{field_lines};
+ghost use Rattle.cli_values.specs.Constants.{size_of};
 ghost use Rattle.cli_lines.specs.Printed.{Prints};
-ghost use Rattle.cli_where.specs.FieldData.{all_fields, class_size, data_of, data_size, element_size, field_type, layout_size, listed, type_size};
+ghost use Rattle.cli_where.specs.FieldData.{all_fields, class_size, data_of, data_size, field_type, layout_size, type_size};
 
 use cli_contents::{FieldData, print_fields};
 use cli_declarations::number;
@@ -39,7 +41,7 @@ const LONGEST: usize = 128;
 
 /// The size of a value of a simple type in bytes (II.23.1.16); 0 if it depends on the machine, or if the value is elsewhere.
 fn element_size(of: Element) -> u32
-    ensures { result ≡ element_size of }
+    ensures { result ≡ size_of of }
 {
     match of {
         Element::Boolean | Element::I1 | Element::U1 => 1,
@@ -168,7 +170,7 @@ fn data_of(source: &Neighbours<'_, '_>, field: u32) -> Option<FieldData>
 
 /// Appends data, if there is some.
 fn keep(stored: Option<FieldData>, found: &mut Vec<FieldData>) -> Result<(), AllocError>
-    ensures { OnOk result (found.new.items ≡ found.old.items ++ listed stored) }
+    ensures { OnOk result (found.new.items ≡ found.old.items ++ option_to_list stored) }
 {
     match stored {
         Some(stored) => Ok(found.push(stored)?),
@@ -177,25 +179,17 @@ fn keep(stored: Option<FieldData>, found: &mut Vec<FieldData>) -> Result<(), All
 }
 
 /// The data of all fields that have data, in the order of the fields.
-fn all_fields(alloc: Global, source: &Neighbours<'_, '_>) -> Result<Vec<FieldData>, AllocError>
-    ensures fields { IfOk result (λ found. (model : Metadata) → IsModel source.now.view.now model → found.items ≡ all_fields model) }
-    ensures rows { IfOk result (λ found. All (λ stored. (1 ≤ stored.row) × (stored.row ≤ row_count source.now.view.now Field)) found.items) }
-{
-    let mut found = Vec::new(alloc);
-    let count = source.view.count(TableId::Field);
-    for field in 1..count + 1 {
-        keep(data_of(source, field), &mut found)?;
-    }
-    Ok(found)
-}
-
-/// The data of all fields of a view.
-fn fields_of(alloc: Global, view: &View<'_>) -> Result<Vec<FieldData>, AllocError>
+fn all_fields(alloc: Global, view: &View<'_>) -> Result<Vec<FieldData>, AllocError>
     ensures fields { IfOk result (λ found. (model : Metadata) → IsModel view.now model → found.items ≡ all_fields model) }
     ensures rows { IfOk result (λ found. All (λ stored. (1 ≤ stored.row) × (stored.row ≤ row_count view.now Field)) found.items) }
 {
     let source = Neighbours::new(alloc, view)?;
-    all_fields(alloc, &source)
+    let mut found = Vec::new(alloc);
+    let count = view.count(TableId::Field);
+    for field in 1..count + 1 {
+        keep(data_of(&source, field), &mut found)?;
+    }
+    Ok(found)
 }
 
 /// Prints a line for each of the first ten fields of a file whose data contains the byte at an offset (II.22.18).
@@ -209,7 +203,7 @@ pub(crate) fn print_data<W: Write>(
     ensures { (image : Image) → IsImage file.now image → (model : Metadata) → IsModel view.now model
         → Prints out.old out.new (field_lines image model (all_fields model) offset) }
 {
-    match fields_of(alloc, view) {
+    match all_fields(alloc, view) {
         Ok(fields) => print_fields(alloc, file, view, &fields, offset, out),
         Err(_) => out.fail(),
     }

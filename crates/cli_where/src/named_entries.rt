@@ -2,8 +2,10 @@
 ghost use Rattle.std.specs.Prelude.{◌≡◌, ◌≤◌, ◌<◌, ◌∷◌, [], length};
 ghost use Rattle.table_schema.specs.Columns.{columns_of};
 ghost use Rattle.schema.specs.Sizes.{count_of};
-ghost use Rattle.cli_where.specs.Entries.{kind_of, row_cells, table_cells};
-ghost use Rattle.cli_where.specs.Kept.{AreReady, FindsFirst, FindsEntries};
+ghost use Rattle.cli_regions.specs.Kept.{Finds};
+ghost use Rattle.cli_found.specs.Found.{kind_of};
+ghost use Rattle.cli_where.specs.Entries.{AreEntriesAt, row_cells, table_cells};
+ghost use Rattle.cli_where.specs.Kept.{AreReady, FindsFirst, heaps_of};
 
 use crate::entries::{Target, entry_at, heap_named};
 use cli_regions::{Search, Structure, What};
@@ -100,10 +102,12 @@ fn find_table_entries(
 #[tactic(auto, unfolding(crate::specs::Entries::all_cells))]
 pub(crate) fn find_entries(rows: &Rows<'_>, target: &Target<'_>, found: &mut Search<'_>)
     requires ready { AreReady target.now }
-    ensures { FindsEntries target.now rows.now found.old found.new }
+    requires offset { target.now.offset ≡ found.old.offset }
+    ensures { Finds (AreEntriesAt (heaps_of target.now) rows.now.bytes rows.now.sizes) found.old found.new }
 {
+    let tables = TableId::all();
     let mut left = MOST_CELLS;
-    for table in TableId::all() {
+    for table in tables {
         left = find_table_entries(rows, target, *table, left, found);
     }
 }

@@ -1,12 +1,12 @@
 //! Prints what a byte of a file belongs to.
-ghost use Rattle.std.specs.Prelude.{◌≡◌, map};
+ghost use Rattle.std.specs.Prelude.{◌≡◌, ◌==◌, ◌++◌, false, length, map};
 ghost use Rattle.cli_lines.specs.Printed.{Prints};
 ghost use Rattle.cli_regions.specs.Kept.{seen};
-ghost use Rattle.cli_input.specs.Checked.{IsModelOf, rules_of};
+ghost use Rattle.cli_input.specs.Checked.{IsModelOf, IsWhole, rules_of};
 ghost use Rattle.metadata.specs.Metadata.{Metadata};
 ghost use Rattle.metadata.specs.Model.{IsModel};
 ghost use Rattle.packed.specs.Rule.{FirstBroken};
-ghost use Rattle.cli_where.specs.Located.{HasContents, HasFound, IsLocated, found_of, where_lines};
+ghost use Rattle.cli_where.specs.Located.{HasContents, IsLocated, where_lines};
 
 use crate::field_data::print_data;
 use crate::structure_lines::print_structures;
@@ -30,23 +30,6 @@ pub enum Found {
     Something,
     /// No structure contains it. `nothing` was printed, or no line of JSON.
     Nothing,
-}
-
-/// Prints the lines of structures; `nothing` if there is none.
-fn print_found<W: Write>(
-    alloc: Global,
-    structures: &[Structure<'_>],
-    out: &mut Printer<'_, W>,
-) -> Found
-    ensures found { result ≡ found_of (map seen structures.now) }
-    ensures lines { Prints out.old out.new (where_lines (map seen structures.now)) }
-{
-    if structures.is_empty() {
-        out.line(&[Word("nothing")]);
-        return Found::Nothing;
-    }
-    print_structures(alloc, structures, out);
-    Found::Something
 }
 
 /// Prints what the byte at an offset belongs to. The offset counts from the first byte.
@@ -96,9 +79,9 @@ pub fn print_where<W: Write>(
     }
 }
 
-/// Prints the number that the last structure is, and the methods, the field data and the resource of a file that contain the byte
-/// at an offset, if there is a structure. A bare root has no contents.
-fn print_contents<W: Write>(
+/// Prints the lines of structures, the number that the last of them is, and the methods, the field data and the resource of a
+/// file that contain the byte at an offset. A bare root has no contents.
+fn print_found<W: Write>(
     alloc: Global,
     bytes: &[u8],
     input: Input,
@@ -107,13 +90,12 @@ fn print_contents<W: Write>(
     structures: &[Structure<'_>],
     out: &mut Printer<'_, W>,
 )
-    requires { (model : Metadata) → IsModelOf input bytes.now model → IsModel view.now model }
-    ensures { HasContents (map seen structures.now) input bytes.now offset (λ lines. Prints out.old out.new lines) }
+    requires model { (model : Metadata) → IsModelOf input bytes.now model → IsModel view.now model }
+    requires some { (length structures.now == 0) ≡ false }
+    ensures { HasContents (map seen structures.now) input bytes.now offset (λ contents. Prints out.old out.new (where_lines (map seen structures.now) ++ contents)) }
 {
     cli_lines::laws::lines_follow::<W>();
-    if structures.is_empty() {
-        return;
-    }
+    print_structures(alloc, structures, out);
     print_value(alloc, bytes, view, structures, out);
     match input {
         Input::BareRoot => {}
@@ -125,7 +107,7 @@ fn print_contents<W: Write>(
     }
 }
 
-/// Prints what the byte at an offset of bytes that break no rule belongs to.
+/// Prints what the byte at an offset of bytes that break no rule belongs to; `nothing` if no structure contains it.
 fn print_entire<W: Write>(
     alloc: Global,
     bytes: &[u8],
@@ -134,18 +116,19 @@ fn print_entire<W: Write>(
     offset: u64,
     out: &mut Printer<'_, W>,
 ) -> Result<Found, Failure<'static>>
-    requires { (model : Metadata) → IsModelOf input bytes.now model → IsModel view.now model }
-    ensures { HasFound input bytes.now offset out.old out.new result }
+    requires whole { IsWhole input bytes.now }
+    requires model { (model : Metadata) → IsModelOf input bytes.now model → IsModel view.now model }
+    ensures { IsLocated input bytes.now offset out.old out.new result }
 {
-    cli_lines::laws::lines_follow::<W>();
-    match structures_at(alloc, bytes, input, Reach::Entries, offset) {
-        Ok(structures) => {
-            let found = print_found(alloc, &structures, out);
-            print_contents(alloc, bytes, input, view, offset, &structures, out);
-            Ok(found)
-        }
-        Err(_) => Err(Failure::OutOfMemory),
+    let Ok(structures) = structures_at(alloc, bytes, input, Reach::Entries, offset) else {
+        return Err(Failure::OutOfMemory);
+    };
+    if structures.is_empty() {
+        out.line(&[Word("nothing")]);
+        return Ok(Found::Nothing);
     }
+    print_found(alloc, bytes, input, view, offset, &structures, out);
+    Ok(Found::Something)
 }
 
 /// Prints what is known of the byte at an offset of bytes with a fault, and returns the fault.

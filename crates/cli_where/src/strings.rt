@@ -1,9 +1,8 @@
 //! Prints the user strings of a file.
 ghost use Rattle.std.specs.Prelude.{◌<◌, ◌^◌, List, flat_map};
-ghost use Rattle.heap_entries.specs.Padding.{zero_padded};
 ghost use Rattle.cli_lines.specs.Printed.{Prints};
 ghost use Rattle.cli_where.specs.Lines.{entry_lines, string_lines};
-ghost use Rattle.cli_where.specs.Located.{AreListed, HasEntries};
+ghost use Rattle.cli_where.specs.Located.{AreListed};
 ghost use Rattle.cli_where.specs.UserStrings.{AreEntries, Entry};
 
 use crate::user_strings::{USER_STRINGS, padded_copy, user_entry};
@@ -31,25 +30,14 @@ pub fn print_strings<W: Write>(
     ensures { AreListed input bytes.now out.old out.new result }
 {
     match open(bytes, input) {
-        Ok(view) => print_heap(alloc, view.user(), out),
+        Ok(view) => match padded_copy(alloc, view.user()) {
+            Ok(heap) => {
+                print_entries(&heap, out);
+                Ok(())
+            }
+            Err(_) => Err(Failure::OutOfMemory),
+        },
         Err(fault) => Err(Failure::Fault(fault)),
-    }
-}
-
-/// Prints the user strings of a heap, with zeros up to a multiple of four bytes.
-fn print_heap<W: Write>(
-    alloc: Global,
-    heap: &[u8],
-    out: &mut Printer<'_, W>,
-) -> Result<(), Failure<'static>>
-    ensures { HasEntries (zero_padded heap.now) out.old out.new result }
-{
-    match padded_copy(alloc, heap) {
-        Ok(heap) => {
-            print_entries(&heap, out);
-            Ok(())
-        }
-        Err(_) => Err(Failure::OutOfMemory),
     }
 }
 

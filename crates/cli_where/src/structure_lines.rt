@@ -4,7 +4,7 @@ ghost use Rattle.cli_lines.specs.Printed.{Prints};
 ghost use Rattle.cli_regions.specs.Kept.{seen, words_text};
 ghost use Rattle.cli_regions.specs.Regions.{cell as a_cell, entry, scalar, user_string, words as some_words};
 ghost use Rattle.table_schema.specs.CellColumns.{is_padding};
-ghost use Rattle.cli_where.specs.Entries.{kind_of};
+ghost use Rattle.cli_found.specs.Found.{kind_of};
 ghost use Rattle.cli_where.specs.Lines.{column_name, entry_word, line_with, structure_line};
 
 use cli_found::{column_number, is_counted};

@@ -6,9 +6,7 @@ use Rattle.table_schema.specs.declared.column.SigKind.{SigKind}
 use Rattle.table_schema.specs.declared.column.SigKind.TheVariants as column
 use Rattle.sig_grammar.specs.declared.element.Element.{Element}
 use Rattle.sig_grammar.specs.declared.types.Modifier.{Modifier}
-use Rattle.sig_grammar.specs.declared.types.TypeSig.{TypeSig}
 use Rattle.sig_grammar.specs.declared.types.TypeSig as types
-use Rattle.sig_grammar.specs.declared.types.MethodSig.{MethodSig}
 use Rattle.sig_grammar.specs.declared.types.MethodSig as methods
 use Rattle.sig_grammar.specs.declared.types.Core as cores
 use Rattle.sig_grammar.specs.declared.types.Slot.{Slot}
@@ -88,12 +86,7 @@ named_is c b tail h (inr k) = rw (h, k) refl
 pub body_end : (kind : SigKind) (r : Reader sig.Core) (b : List ℕ) → b ≡ [] → body_at kind r b ≡ None
 unfolding body_at method_at ret_at both void_or modifiers_at leading_at leading_within
 body_end column.Field r b h = rw h refl
-body_end column.MethodDef r b h = rw h refl
-body_end column.MemberRef r b h = rw h refl
-body_end column.StandAlone r b h = rw h refl
-body_end column.Property r b h = rw h refl
-body_end column.TypeSpec r b h = rw h refl
-body_end column.Instance r b h = rw h refl
+body_end _ r b h = rw h refl
 
 -- ---- cores
 

@@ -1,11 +1,10 @@
 -- Values that are built one after another, with the values before them.
 use Rattle.std.proofs.Common.{◌≡◌, ℕ, suc, ◌+◌, ◌-◌, ◌<◌, ◌≤◌, Bool, false, Option, Some, None, Result, Ok, Err, List, [], ◌∷◌, ◌++◌, length, append_assoc, append-nil, refl, sym, ap, subst, arith, IfSome}
 use Rattle.std.specs.Prelude.{option_map}
+use Rattle.std.specs.Option.{ok_or}
 use Rattle.std.specs.Result.{IsErr, IsErrAnd}
-use Rattle.sig_grammar.specs.declared.types.Modifier.{Modifier}
-use Rattle.sig_grammar.specs.declared.body.Prefix.{Prefix}
-use Rattle.sig_grammar.specs.Reading.{Reader, Optional, many_at, leading_at, modifier_at, modifiers_at, starts_modifier, prefix_at, prefixes_at, starts_prefix}
-use Rattle.sig_grammar.proofs.Items.{Stepping, ShorterItem, leading_is, modifier_steps, prefix_steps}
+use Rattle.sig_grammar.specs.Reading.{Reader, Optional, many_at, leading_at}
+use Rattle.sig_grammar.proofs.Items.{Stepping, ShorterItem, leading_is}
 use Rattle.signatures.specs.declared.error.SigError.{SigError}
 use Rattle.signatures.specs.declared.error.SigError.TheVariants.{Bad, Memory}
 use Rattle.signatures.specs.Gives.{Fails, Gives}
@@ -19,6 +18,11 @@ failed view e read (Err reason) k h = subst (λ (it : SigError). Fails it read) 
 pub refused : {A B : Type 0} (view : A → B) (read : Option B) (result : Result A SigError) → IsErr result × IsErrAnd result (λ reason. reason ≡ Memory) → Gives view result read
 refused view read (Ok x) k = absurd k.1
 refused view read (Err reason) k = subst (λ (it : SigError). Fails it read) (sym k.1) tt
+
+-- the result of a leaf, with `Bad` if it read nothing
+pub given : {A B : Type 0} (view : A → B) (found : Option A) (read : Option B) (result : Result A SigError) → option_map view found ≡ read → result ≡ ok_or found Bad → Gives view result read
+given view None read result e f = rw f (sym e)
+given view (Some x) read result e f = rw f (sym e)
 
 -- what is read, with the values before it
 abbrev pub with_head : {A : Type 0} → List A → Option (List A × List ℕ) → Option (List A × List ℕ)
@@ -49,48 +53,18 @@ many_end {A = A} r n k b xs le = let none : n - k ≡ 0 = omega arith in rw none
 -- ---- the values at the start
 
 module _ {A : Type 0} (r : Optional A) (starts : List ℕ → Bool) (steps : Stepping r starts) where
-  head_next : (b c : List ℕ) (xs : List A) (x : A) → r b ≡ Some (Some x, c) → with_head xs (leading_at r b) ≡ with_head (xs ++ x ∷ []) (leading_at r c)
+  pub head_next : (b c : List ℕ) (xs : List A) (x : A) → r b ≡ Some (Some x, c) → with_head xs (leading_at r b) ≡ with_head (xs ++ x ∷ []) (leading_at r c)
   head_next b c xs x e = let n = leading_is r starts steps b in rw (n, e) (head_one xs x (leading_at r c))
 
-  head_end : (b : List ℕ) (xs : List A) → starts b ≡ false → with_head xs (leading_at r b) ≡ Some (xs, b)
+  pub head_end : (b : List ℕ) (xs : List A) → starts b ≡ false → with_head xs (leading_at r b) ≡ Some (xs, b)
   head_end b xs h =
       let n = leading_is r starts steps b in
       let s = steps.stop b h in
       rw (n, s) (ap (λ (ys : List A). Some (ys, b)) (append-nil xs))
 
-  head_bad : (e : SigError) (b : List ℕ) (xs : List A) → Fails e (r b) → Fails e (with_head xs (leading_at r b))
+  pub head_bad : (e : SigError) (b : List ℕ) (xs : List A) → Fails e (r b) → Fails e (with_head xs (leading_at r b))
   head_bad Bad b xs h = let n = leading_is r starts steps b in rw (n, h) refl
   head_bad Memory b xs h = tt
 
-  item_shorter : (b c : List ℕ) (x : A) → r b ≡ Some (Some x, c) → length c < length b
+  pub item_shorter : (b c : List ℕ) (x : A) → r b ≡ Some (Some x, c) → length c < length b
   item_shorter b c x e = subst (λ (o : Option (Option A × List ℕ)). IfSome o (ShorterItem b)) e (steps.shorter b)
-
-pub modifiers_next : (b c : List ℕ) (xs : List Modifier) (x : Modifier) → modifier_at b ≡ Some (Some x, c) → with_head xs (modifiers_at b) ≡ with_head (xs ++ x ∷ []) (modifiers_at c)
-unfolding modifiers_at
-modifiers_next b c xs x e = head_next modifier_at starts_modifier modifier_steps b c xs x e
-
-pub modifiers_end : (b : List ℕ) (xs : List Modifier) → starts_modifier b ≡ false → with_head xs (modifiers_at b) ≡ Some (xs, b)
-unfolding modifiers_at
-modifiers_end b xs h = head_end modifier_at starts_modifier modifier_steps b xs h
-
-pub modifiers_bad : (e : SigError) (b : List ℕ) (xs : List Modifier) → Fails e (modifier_at b) → Fails e (with_head xs (modifiers_at b))
-unfolding modifiers_at
-modifiers_bad e b xs h = head_bad modifier_at starts_modifier modifier_steps e b xs h
-
-pub modifier_shorter : (b c : List ℕ) (x : Modifier) → modifier_at b ≡ Some (Some x, c) → length c < length b
-modifier_shorter b c x e = item_shorter modifier_at starts_modifier modifier_steps b c x e
-
-pub prefixes_next : (b c : List ℕ) (xs : List Prefix) (x : Prefix) → prefix_at b ≡ Some (Some x, c) → with_head xs (prefixes_at b) ≡ with_head (xs ++ x ∷ []) (prefixes_at c)
-unfolding prefixes_at
-prefixes_next b c xs x e = head_next prefix_at starts_prefix prefix_steps b c xs x e
-
-pub prefixes_end : (b : List ℕ) (xs : List Prefix) → starts_prefix b ≡ false → with_head xs (prefixes_at b) ≡ Some (xs, b)
-unfolding prefixes_at
-prefixes_end b xs h = head_end prefix_at starts_prefix prefix_steps b xs h
-
-pub prefixes_bad : (e : SigError) (b : List ℕ) (xs : List Prefix) → Fails e (prefix_at b) → Fails e (with_head xs (prefixes_at b))
-unfolding prefixes_at
-prefixes_bad e b xs h = head_bad prefix_at starts_prefix prefix_steps e b xs h
-
-pub prefix_shorter : (b c : List ℕ) (x : Prefix) → prefix_at b ≡ Some (Some x, c) → length c < length b
-prefix_shorter b c x e = item_shorter prefix_at starts_prefix prefix_steps b c x e

@@ -1,18 +1,16 @@
 -- Blobs without a byte that begins a number that is longer than necessary: each number in them has its shortest form.
-use Rattle.std.proofs.Common.{◌≡◌, ◌∙◌, ℕ, zero, suc, ◌+◌, ◌^◌, ◌<◌, ◌≤◌, ◌/◌, ◌%◌, Bool, false, true, List, [], ◌∷◌, ◌++◌, Some, inl, inr, refl, ap, sym, subst, arith, cond, ltb}
+use Rattle.std.proofs.Common.{◌≡◌, ◌∙◌, ℕ, zero, suc, ◌+◌, ◌^◌, ◌<◌, ◌≤◌, ◌/◌, ◌%◌, false, true, List, [], ◌∷◌, ◌++◌, Some, inl, inr, refl, ap, sym, subst, arith, cond, ltb, ⊎_elim}
 use Rattle.std.specs.Prelude.{ℤ, pos, negsuc, slice_get, slice_index, ◌↔◌, ◌⊎◌, EachIndex}
 use Rattle.std.specs.List.{flat_map, position_or_len}
-use Rattle.std.proofs.lemmas.Bool.{lt-ltb, ltb-true}
+use Rattle.std.proofs.lemmas.Bool.{lt-ltb, le-ltb, false_from_ne_true}
 use Rattle.std.proofs.lemmas.Int.{ints}
-use Rattle.std.proofs.lemmas.Option.{slice_get_within}
 use Rattle.packed.specs.Packed.{FitsBits, IsPacked, IsPackedSigned, fits_bits, four_bytes, one_byte, short_signed, short_unsigned, signed_bits, two_bytes}
 use Rattle.table_schema.specs.declared.table.TableId.{TableId}
 use Rattle.table_schema.specs.declared.table.TableId.TheVariants.{TypeDef, TypeRef, TypeSpec}
 use Rattle.table_schema.specs.declared.token.Token.{Token}
 use Rattle.table_schema.specs.declared.coded.Coded.TheVariants.{TypeDefOrRef}
 use Rattle.table_schema.specs.CodedIndexes.{IsCoded, tables_of}
-use Rattle.sig_grammar.specs.Parts.{EncodesPart, EncodesParts, Part, index_number, is_table, short_part}
-use Rattle.sig_grammar.specs.Parts.{byte, number, signed, index}
+use Rattle.sig_grammar.specs.Parts.{EncodesPart, EncodesParts, Part, byte, number, signed, index, index_number, is_table, short_part}
 use Rattle.signatures.specs.LongForms.{BeginsNoLongForm}
 
 abbrev pub HasNoLongForm : List ℕ → Type 0
@@ -25,25 +23,18 @@ Fit = (w : ℕ) (z : ℤ) → (fits_bits w z ≡ true) ↔ FitsBits w z
 first_of : (first : ℕ) (tail bytes : List ℕ) → HasNoLongForm bytes → bytes ≡ first ∷ tail → BeginsNoLongForm first
 first_of first tail bytes plain e = (subst HasNoLongForm e plain) 0 (omega arith)
 
-not_below : (n m : ℕ) → m ≤ n → ltb n m ≡ false
-not_below n m le = by_test (ltb n m) (ltb-true n m)
-  where
-    by_test : (t : Bool) → (t ≡ true → n < m) → t ≡ false
-    by_test true below = let lt = below refl in absurd (omega arith)
-    by_test false below = refl
-
 short_unsigned_of : (n : ℕ) (bytes : List ℕ) → HasNoLongForm bytes → IsPacked n bytes → bytes ≡ short_unsigned n
 short_unsigned_of n bytes plain (inl one) =
     one.1 ∙ ap (λ t. cond t (one_byte n) (cond (ltb n (2 ^ 14)) (two_bytes n) (four_bytes n))) (sym (lt-ltb n (2 ^ 7) one.0))
 short_unsigned_of n bytes plain (inr (inl two)) =
     let first = (first_of (0x80 + n / 2 ^ 8) (n % 2 ^ 8 ∷ []) bytes plain two.1).0 in
     let large : 2 ^ 7 ≤ n = omega (arith) in
-    rw (not_below n (2 ^ 7) large, lt-ltb n (2 ^ 14) two.0) two.1
+    rw (le-ltb n (2 ^ 7) large, lt-ltb n (2 ^ 14) two.0) two.1
 short_unsigned_of n bytes plain (inr (inr four)) =
     let first = (first_of (0xC0 + n / 2 ^ 24) (n / 2 ^ 16 % 2 ^ 8 ∷ n / 2 ^ 8 % 2 ^ 8 ∷ n % 2 ^ 8 ∷ []) bytes plain four.1).2 in
     let large : 2 ^ 14 ≤ n = omega (arith) in
     let larger : 2 ^ 7 ≤ n = omega (arith) in
-    rw (not_below n (2 ^ 7) larger, not_below n (2 ^ 14) large) four.1
+    rw (le-ltb n (2 ^ 7) larger, le-ltb n (2 ^ 14) large) four.1
 
 -- a negative number, or another one, whose form of two bytes could be one byte, begins with 0xBF or 0x80
 fourteen_of_seven : (z : ℤ) → FitsBits 7 z → (0x80 + signed_bits 14 z / 2 ^ 8 ≡ 0x80) ⊎ (0x80 + signed_bits 14 z / 2 ^ 8 ≡ 0xBF)
@@ -58,41 +49,27 @@ fourteen_of_seven_more : (z : ℤ) → FitsBits 7 z → FitsBits 14 z
 fourteen_of_seven_more (pos n) h = let a = h.high in record { low = omega (arith, ints); high = omega (arith, ints) }
 fourteen_of_seven_more (negsuc n) h = let a = h.low in record { low = omega (arith, ints); high = omega (arith, ints) }
 
--- a test that cannot be true is false
-false_of : (b : Bool) → (b ≡ true → ⊥) → b ≡ false
-false_of true h = absurd (h refl)
-false_of false h = refl
-
-either : {A B C : Type 0} → A ⊎ B → (A → C) → (B → C) → C
-either (inl a) f g = f a
-either (inr b) f g = g b
-
 short_signed_of : Fit → (z : ℤ) (bytes : List ℕ) → HasNoLongForm bytes → IsPackedSigned z bytes → bytes ≡ short_signed z
 short_signed_of fit z bytes plain (inl one) =
     one.1.1 ∙ ap (λ t. cond t (one_byte (signed_bits 7 z)) (cond (fits_bits 14 z) (two_bytes (signed_bits 14 z)) (four_bytes (signed_bits 29 z)))) (sym ((fit 7 z).1 one.0))
 short_signed_of fit z bytes plain (inr (inl two)) =
     let u = signed_bits 14 z in
     let first = first_of (0x80 + u / 2 ^ 8) (u % 2 ^ 8 ∷ []) bytes plain two.1.1 in
-    let no_seven : fits_bits 7 z ≡ false = false_of (fits_bits 7 z) (λ e. either (fourteen_of_seven z ((fit 7 z).0 e)) first.0 first.1) in
+    let no_seven : fits_bits 7 z ≡ false = false_from_ne_true (fits_bits 7 z) (λ e. ⊎_elim first.0 first.1 (fourteen_of_seven z ((fit 7 z).0 e))) in
     rw (no_seven, (fit 14 z).1 two.0) two.1.1
 short_signed_of fit z bytes plain (inr (inr four)) =
     let u = signed_bits 29 z in
     let first = first_of (0xC0 + u / 2 ^ 24) (u / 2 ^ 16 % 2 ^ 8 ∷ u / 2 ^ 8 % 2 ^ 8 ∷ u % 2 ^ 8 ∷ []) bytes plain four.1.1 in
-    let no : FitsBits 14 z → ⊥ = λ h. either (twenty_nine_of_fourteen z h) first.2 first.3 in
-    let no_fourteen : fits_bits 14 z ≡ false = false_of (fits_bits 14 z) (λ e. no ((fit 14 z).0 e)) in
-    let no_seven : fits_bits 7 z ≡ false = false_of (fits_bits 7 z) (λ e. no (fourteen_of_seven_more z ((fit 7 z).0 e))) in
+    let no : FitsBits 14 z → ⊥ = λ h. ⊎_elim first.2 first.3 (twenty_nine_of_fourteen z h) in
+    let no_fourteen : fits_bits 14 z ≡ false = false_from_ne_true (fits_bits 14 z) (λ e. no ((fit 14 z).0 e)) in
+    let no_seven : fits_bits 7 z ≡ false = false_from_ne_true (fits_bits 7 z) (λ e. no (fourteen_of_seven_more z ((fit 7 z).0 e))) in
     rw (no_seven, no_fourteen) four.1.1
 
-same_table : (first second : TableId) → Some (Some first) ≡ Some (Some second) → first ≡ second
-same_table first second e = cc
-
 listed_tag : (tag : ℕ) (table : TableId) → slice_get (tables_of TypeDefOrRef) tag ≡ Some (Some table) → position_or_len (is_table table) (tables_of TypeDefOrRef) ≡ tag
-listed_tag zero table e = rw (sym (same_table TypeDef table e)) refl
-listed_tag (suc zero) table e = rw (sym (same_table TypeRef table e)) refl
-listed_tag (suc (suc zero)) table e = rw (sym (same_table TypeSpec table e)) refl
-listed_tag (suc (suc (suc tag))) table e =
-    let few = slice_get_within (tables_of TypeDefOrRef) (suc (suc (suc tag))) (Some table) e in
-    absurd (omega arith)
+listed_tag zero table e = let same : TypeDef ≡ table = cc in rw (← same) refl
+listed_tag (suc zero) table e = let same : TypeRef ≡ table = cc in rw (← same) refl
+listed_tag (suc (suc zero)) table e = let same : TypeSpec ≡ table = cc in rw (← same) refl
+listed_tag (suc (suc (suc tag))) table e = absurd cc
 
 coded_number : (token : Token) (n : ℕ) → IsCoded TypeDefOrRef n token.table token.row → n ≡ index_number token
 coded_number token n is =

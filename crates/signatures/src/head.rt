@@ -15,7 +15,7 @@ pub fn byte(bytes: &[u8]) -> Result<(u8, &[u8]), SigError>
 }
 
 /// The packed number at the start, and the remaining bytes.
-#[tactic(auto, using(crate::proofs::Leaves::given))]
+#[tactic(auto, using(crate::proofs::Items::given))]
 pub fn number(bytes: &[u8]) -> Result<(u32, &[u8]), SigError>
     ensures { Gives (λ x. (x.0, x.1.now)) result (number_at bytes.now) }
 {
@@ -23,7 +23,7 @@ pub fn number(bytes: &[u8]) -> Result<(u32, &[u8]), SigError>
 }
 
 /// The packed signed number at the start, and the remaining bytes.
-#[tactic(auto, using(crate::proofs::Leaves::given))]
+#[tactic(auto, using(crate::proofs::Items::given))]
 pub fn signed(bytes: &[u8]) -> Result<(i32, &[u8]), SigError>
     ensures { Gives (λ x. (x.0, x.1.now)) result (signed_at bytes.now) }
 {
@@ -31,7 +31,7 @@ pub fn signed(bytes: &[u8]) -> Result<(i32, &[u8]), SigError>
 }
 
 /// The type index at the start (II.23.2.8), and the remaining bytes.
-#[tactic(auto, using(crate::proofs::Leaves::given))]
+#[tactic(auto, using(crate::proofs::Items::given))]
 pub fn index(bytes: &[u8]) -> Result<(Token, &[u8]), SigError>
     ensures { Gives (λ x. (x.0, x.1.now)) result (index_at bytes.now) }
 {

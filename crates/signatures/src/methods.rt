@@ -1,8 +1,7 @@
 ghost use Rattle.std.specs.Prelude.{◌≡◌, ◌&&◌, ◌/◌, ◌%◌, ◌==◌, true, map};
 ghost use Rattle.sig_grammar.specs.Syntax as sig;
 ghost use Rattle.sig_grammar.specs.Views.{core_of, slot_of, method_of};
-ghost use Rattle.sig_grammar.specs.Reading.{change, core_at, params_at};
-ghost use Rattle.sig_grammar.specs.Reading.{takes_sentinel as kind_takes_sentinel, generic_at, method_at};
+ghost use Rattle.sig_grammar.specs.Reading.{change, core_at, params_at, takes_sentinel as kind_takes_sentinel, generic_at, method_at};
 ghost use Rattle.signatures.specs.Gives.{Gives};
 
 use crate::error::SigError;

@@ -1,8 +1,7 @@
 ghost use Rattle.std.specs.Prelude.{◌≡◌, map};
 ghost use Rattle.sig_grammar.specs.Syntax as sig;
 ghost use Rattle.sig_grammar.specs.Views.{core_of, type_of};
-ghost use Rattle.sig_grammar.specs.Reading.{change, many_at, core_at, core_by, typed_at};
-ghost use Rattle.sig_grammar.specs.Reading.{pointer_to, target_at, array_from, array_at, instance_from, instance_at};
+ghost use Rattle.sig_grammar.specs.Reading.{change, many_at, core_at, core_by, typed_at, pointer_to, target_at, array_from, array_at, instance_from, instance_at};
 ghost use Rattle.signatures.specs.Gives.{Gives};
 
 use crate::error::SigError;

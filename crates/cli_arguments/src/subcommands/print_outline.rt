@@ -1,20 +1,14 @@
 //! `clim outline`: the declarations of an assembly, or of one type.
-use crate::subcommands::{BARE, BUDGET, FILES_FROM, JSON, NULL, RECURSIVE, Usage};
+use crate::subcommands::Usage;
 
 pub(crate) const USAGE: Usage<'static> = Usage {
     name: "outline",
     about: "Print the declarations of the assembly, or of one type",
-    arguments: &[
+    arguments: reports![
         argument!["FILE" AnyNumber "The files to read, then the type or the row to print alone, if any"],
-        BARE,
-        BUDGET,
-        FILES_FROM,
-        NULL,
-        RECURSIVE,
-        JSON,
         argument!["no-tokens" Flag "Leave the comment with the token away"],
         argument!["public" Flag "Print only what is visible outside of the assembly"],
-        argument!["sorted" Flag "Print in the order of names, not of rows"],
+        argument!["sorted" Flag "Print in the order of names, not of rows"]
     ],
     output: "\
 Prints a line for each declaration, in a notation close to ILAsm (ECMA-335, II.5

@@ -1,17 +1,11 @@
 //! `clim refs`: what an assembly refers to in other modules.
-use crate::subcommands::{BARE, BUDGET, FILES_FROM, JSON, NULL, RECURSIVE, Usage};
+use crate::subcommands::Usage;
 
 pub(crate) const USAGE: Usage<'static> = Usage {
     name: "refs",
     about: "Print what the assembly refers to in other modules",
-    arguments: &[
-        argument!["FILE" AnyNumber "The files to read, then the type to print alone, if it is one"],
-        BARE,
-        BUDGET,
-        FILES_FROM,
-        NULL,
-        RECURSIVE,
-        JSON,
+    arguments: reports![
+        argument!["FILE" AnyNumber "The files to read, then the type to print alone, if it is one"]
     ],
     output: "\
 Prints a line for each module, type, method and field that the assembly refers

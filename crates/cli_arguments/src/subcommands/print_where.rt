@@ -1,18 +1,10 @@
 //! `clim where`: what contains the byte at an offset of a file.
-use crate::subcommands::{BARE, BUDGET, FILES_FROM, JSON, NULL, RECURSIVE, Usage};
+use crate::subcommands::Usage;
 
 pub(crate) const USAGE: Usage<'static> = Usage {
     name: "where",
     about: "Print which header, stream or cell contains the byte at an offset",
-    arguments: &[
-        argument!["FILE" AnyNumber "The files to read, then the OFFSET of a byte"],
-        BARE,
-        BUDGET,
-        FILES_FROM,
-        NULL,
-        RECURSIVE,
-        JSON,
-    ],
+    arguments: reports![argument!["FILE" AnyNumber "The files to read, then the OFFSET of a byte"]],
     output: "\
 Prints a line 'START SIZE WHAT' for each structure that contains the byte, the
 outermost first. START is its offset in FILE. OFFSET counts from the first byte

@@ -1,19 +1,13 @@
 //! `clim show`: the rows of all tables, or of one.
-use crate::subcommands::{BARE, BUDGET, FILES_FROM, JSON, NULL, RECURSIVE, Usage};
+use crate::subcommands::Usage;
 
 pub(crate) const USAGE: Usage<'static> = Usage {
     name: "show",
     about: "Print the rows of all tables, or of one",
-    arguments: &[
+    arguments: reports![
         argument!["FILE" AnyNumber "The files to read, then the TABLE to print alone, if it is one"],
-        BARE,
-        BUDGET,
-        FILES_FROM,
-        NULL,
-        RECURSIVE,
-        JSON,
         argument!["names" Flag "Print the name of each column before its cell"],
-        argument!["until-fault" Flag "Print the rows before the first fault, then the fault"],
+        argument!["until-fault" Flag "Print the rows before the first fault, then the fault"]
     ],
     output: "\
 Prints for each table that has rows (ECMA-335, II.22) a line 'table NN NAME

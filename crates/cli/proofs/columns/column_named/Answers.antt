@@ -5,7 +5,7 @@ use Rattle.table_schema.specs.Tables.{tables}
 use Rattle.table_schema.specs.declared.table.TableId.{TableId}
 use Rattle.cli.specs.Columns.{NamesColumn}
 use Rattle.cli.proofs.ColumnsNamed.{of_each_table}
-use Rattle.cli.proofs.Explaining.{one_more}
+use Rattle.std.proofs.lemmas.List.Elements.{All-more}
 use Rattle.cli.proofs.columns.column_named.Goals as goal
 
 pub loop-table-init : goal.loop-table-init
@@ -17,7 +17,7 @@ loop-table-preserved c =
     let items = c.all-table-items.result.now in
     let index = c.loop-table.table-index in
     subst (λ (xs : List TableId). All Unnamed (take (index + 1) xs)) c.all-table-items.ensures.value
-    (one_more items index _ c.loop-table-test.true Unnamed
+    (All-more Unnamed items index _ c.loop-table-test.true
     (subst (λ (xs : List TableId). All Unnamed (take index xs)) (sym c.all-table-items.ensures.value) c.loop-table.invariant) c.in_default.ensures.complete)
 
 pub returns-clause-complete : goal.returns-clause-complete

@@ -1,11 +1,11 @@
-use Rattle.std.proofs.Common.{◌+◌, ℕ, List, [], All, drop, subst, sym, take}
+use Rattle.std.proofs.Common.{ℕ, List, [], All, drop, subst, sym, take, suc}
 use Rattle.std.specs.List.{Any}
 use Rattle.std.specs.Borrow.{Bor}
 use Rattle.std.proofs.lemmas.List.{take_all}
 use Rattle.std.proofs.lemmas.List.Elements.{All-nil, All-weaker}
 use Rattle.cli.specs.Columns.{NamesColumn, NamesIgnored, NamesSome}
 use Rattle.cli.proofs.ColumnsNamed.{all_more, none_ignored, only_more, some_of_ignored}
-use Rattle.cli.proofs.Explaining.{split_at}
+use Rattle.std.proofs.Math.Seq.{split_at}
 use Rattle.cli.proofs.columns.columns_of.Goals as goal
 
 pub loop-word-init : goal.loop-word-init
@@ -16,7 +16,7 @@ returns-in_default-clause-unknown c =
     let words = c.args.words.now in
     let index = c.loop-word.word-index in (
       take index words,
-      drop (index + 1) words,
+      drop (suc index) words,
       split_at words index _ c.loop-word-test.true,
       All-weaker (NamesIgnored c.loop-word.ignored) NamesSome (some_of_ignored c.loop-word.ignored) (take index words) c.loop-word.invariant.all,
       (λ named. c.in_default.ensures.complete named.0 named.1 (subst (λ (bytes : List ℕ). NamesColumn bytes named.0 named.1) (sym c.as_bytes.ensures.value) named.2)),

@@ -1,8 +1,6 @@
-use Rattle.std.proofs.Common.{◌+◌, List, ℕ, drop, get_or, refl, subst, take}
-use Rattle.std.specs.Borrow.{Bor}
+use Rattle.std.proofs.Common.{drop, get_or, refl, suc, take}
 use Rattle.std.proofs.lemmas.List.{take_all}
-use Rattle.cli.specs.Tasks.{AreRules}
-use Rattle.cli.proofs.Explaining.{split_at}
+use Rattle.std.proofs.Math.Seq.{split_at}
 use Rattle.cli.proofs.RulesNamed.{all_named, next_named}
 use Rattle.cli.proofs.task.explain_of.Goals as goal
 
@@ -16,7 +14,7 @@ returns-in_default c =
       get_or words index _,
       (
         take index words,
-        drop (index + 1) words,
+        drop (suc index) words,
         split_at words index _ c.loop-word-test.true,
         all_named (take index words) c.loop-word.rules.items c.loop-word.invariant,
         (λ named. let wrong = c.in_default.ensures.complete named.0 named.1 in cc),
@@ -31,4 +29,4 @@ loop-word-preserved c =
 
 pub returns : goal.returns
 returns c =
-    subst (λ (ws : List (Bor (List ℕ))). AreRules ws c.loop-word.rules.items) (take_all c.loop-word.word-index c.args.words.now c.loop-word-test.false) c.loop-word.invariant
+    rw (take_all c.loop-word.word-index c.args.words.now c.loop-word-test.false) at c.loop-word.invariant

@@ -1,8 +1,6 @@
-use Rattle.std.proofs.Common.{◌+◌, List, ℕ, drop, get_or, refl, subst, take}
-use Rattle.std.specs.Borrow.{Bor}
+use Rattle.std.proofs.Common.{drop, get_or, refl, suc, take}
 use Rattle.std.proofs.lemmas.List.{take_all}
-use Rattle.cli.specs.Tasks.{AreTokens}
-use Rattle.cli.proofs.Explaining.{split_at}
+use Rattle.std.proofs.Math.Seq.{split_at}
 use Rattle.cli.proofs.TokensRead.{more_read, none_read}
 use Rattle.cli.proofs.task.numbers_of.Goals as goal
 
@@ -14,7 +12,7 @@ returns-in_default-clause-first_error c =
     let words = c.args.words.now in
     let index = c.loop-word.word-index in (
       get_or words index _,
-      (take index words, drop (index + 1) words, split_at words index _ c.loop-word-test.true, c.loop-word.invariant.0, c.in_default.ensures),
+      (take index words, drop (suc index) words, split_at words index _ c.loop-word-test.true, c.loop-word.invariant.0, c.in_default.ensures),
       refl,
     )
 
@@ -25,4 +23,4 @@ loop-word-preserved c =
 
 pub returns-clause-sound : goal.returns-clause-sound
 returns-clause-sound c =
-    subst (λ (ws : List (Bor (List ℕ))). AreTokens ws c.loop-word.numbers.items) (take_all c.loop-word.word-index c.args.words.now c.loop-word-test.false) c.loop-word.invariant
+    rw (take_all c.loop-word.word-index c.args.words.now c.loop-word-test.false) at c.loop-word.invariant

@@ -2,8 +2,7 @@ use Rattle.std.proofs.Common.{[], Ok, Err, Result, rules, subst}
 use Rattle.std.specs.Prelude.{IfErr, MatchResult}
 use Rattle.cli_faults.specs.declared.failure.Failure.{Failure}
 use Rattle.cli_faults.specs.Status.{IsOutput}
-use Rattle.cli_lines.specs.Lines.{Style, report_text, styled_text}
-use Rattle.cli_lines.specs.Printed.{Asked}
+use Rattle.cli_lines.specs.Lines.{report_text}
 use Rattle.cli_sending.specs.Sent.{Sent}
 use Rattle.cli_runs.proofs.explain.explain_rules.Goals as goal
 
@@ -15,8 +14,7 @@ pub returns : goal.returns
 returns g c =
     let before = g.W.Write.contents c.args.out.now in
     let lines = c.print_explanations.ensures.0 in
-    let asked = subst (λ (style : Style). Asked before c.print_explanations.new.out (styled_text style lines)) c.new-printer.ensures.style
-    (c.print_explanations.ensures.2.asked before [] c.new-printer.ensures.asked) in (
+    let asked = rw c.new-printer.ensures.style at (c.print_explanations.ensures.2.asked before [] c.new-printer.ensures.asked) in (
       (
         lines,
         c.print_explanations.ensures.1,

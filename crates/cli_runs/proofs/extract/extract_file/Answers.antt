@@ -1,8 +1,4 @@
-use Rattle.std.proofs.Common.{◌≡◌, Ok, Err, inl, inr, refl, subst, sym}
-use Rattle.cli_faults.specs.declared.stop.Stop.{Stop}
-use Rattle.cli_files.specs.Hints.{hint_for}
-use Rattle.cli_input.specs.declared.opened.Input.TheVariants.{File}
-use Rattle.cli_runs.specs.Extracted.{IsUnextracted}
+use Rattle.std.proofs.Common.{Ok, Err, inl, inr, refl}
 use Rattle.cli_runs.proofs.extract.extract_file.Goals as goal
 
 pub returns-in_err-read : goal.returns-in_err-read
@@ -19,7 +15,7 @@ returns g c = (
   Ok c.deref-bytes.result.now,
   inr (record {
     done = tt;
-    stopped = subst (λ (stop : Stop). IsUnextracted g.W.Write.contents c.args.out.now c.extract.new.out c.deref-bytes.result.now c.args.name.now stop) (sym c.at.ensures.stop) c.in-Err.ensures;
-    hint = subst (λ (stop : Stop). c.at.result.hint ≡ hint_for File c.deref-bytes.result.now stop) (sym c.at.ensures.stop) c.at.ensures.hint;
+    stopped = rw c.at.ensures.stop c.in-Err.ensures;
+    hint = rw c.at.ensures.stop c.at.ensures.hint;
   }),
 )

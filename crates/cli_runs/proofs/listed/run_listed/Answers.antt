@@ -1,9 +1,6 @@
-use Rattle.std.proofs.Common.{◌∙◌, List, ℕ, Ok, Err, ap, arith, inl, map, refl, subst}
-use Rattle.std.specs.Borrow.{Bor}
-use Rattle.std.specs.Prelude.{Bool}
+use Rattle.std.proofs.Common.{◌∙◌, Ok, Err, ap, arith, inl, map, refl}
 use Rattle.cli_faults.specs.Stops.{status_of_stop}
 use Rattle.cli_faults.specs.declared.failure.Failure.TheVariants.{OutOfMemory}
-use Rattle.cli_runs.specs.Runs.{AreListed, AreRun, is_input}
 use Rattle.cli_runs.proofs.listed.run_listed.Goals as goal
 
 pub returns-in-Err-clause-run : goal.returns-in-Err-clause-run
@@ -14,10 +11,8 @@ returns-in-Ok-names_in-clause-run g c = (
   Ok c.as_slice.result.now,
   (
     map (λ name. name.now) c.in-Ok-names_in.names.items,
-    subst (λ (separator : ℕ). AreListed separator c.as_slice.result.now (map (λ name. name.now) c.in-Ok-names_in.names.items)) c.byte_of.ensures c.in-Ok-names_in.ensures,
-    inl (subst (λ (items : List (Bor (List ℕ))). AreRun c.args.request.now g.W.Write.contents (is_input c.args.list.now) c.args.out.now c.run_each.new.out (map (λ name. name.now) items) c.run_each.result)
-        c.deref.ensures.value (subst (λ (is_read : Bool). AreRun c.args.request.now g.W.Write.contents is_read c.args.out.now c.run_each.new.out
-        (map (λ name. name.now) c.deref.result.now) c.run_each.result) (c.is_input.ensures ∙ ap is_input c.as_bytes.ensures.value) c.run_each.ensures.run)),
+    rw c.byte_of.ensures at c.in-Ok-names_in.ensures,
+    inl (rw (c.deref.ensures.value, c.is_input.ensures, c.as_bytes.ensures.value) at c.run_each.ensures.run),
   ),
 )
 

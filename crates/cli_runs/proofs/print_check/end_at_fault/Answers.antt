@@ -1,7 +1,6 @@
-use Rattle.std.proofs.Common.{◌∙◌, List, Option, ℕ, Some, refl, subst, sym}
-use Rattle.cli_lines.specs.Printed.{Prints}
+use Rattle.std.proofs.Common.{◌∙◌, refl, sym}
 use Rattle.cli_runs.specs.Printing.{Hands}
-use Rattle.cli_runs.specs.Reports.{label, verdict_lines}
+use Rattle.cli_runs.specs.Reports.{label}
 use Rattle.cli_runs.proofs.Reporting.{fault_out}
 use Rattle.cli_runs.proofs.print_check.end_at_fault.Goals as goal
 
@@ -13,7 +12,7 @@ returns-in-Explained g c = rw c.in-Explained.is c.explain_fault.ensures
 
 pub returns-in_default : goal.returns-in_default
 returns-in_default g c =
-    let printed = subst (λ (file : Option (List ℕ)). Prints c.args.out.now c.print_line.new.out (verdict_lines c.args.verdict file (Some c.args.fault))) c.label_of.ensures c.print_line.ensures in
+    let printed = rw c.label_of.ensures at c.print_line.ensures in
     let lines = fault_out (Hands c.args.out.now c.print_line.new.out) c.args.verdict c.args.request.now.input c.args.bytes.now (label c.args.request.now.naming c.args.name.now) c.args.fault
     c.in_default.not-Explained (printed, (λ live. tt)) in
     (refl, sym c.is_reported.ensures ∙ c.if-is_reported.false, (c.args.fault, c.requires, lines))

@@ -1,12 +1,11 @@
 use Rattle.std.proofs.Common.{◌∙◌, refl, subst, sym}
-use Rattle.std.specs.List.{All}
-use Rattle.cli_cells.specs.TokenLines.{ArePrinted, IsNamed, Reports}
+use Rattle.cli_cells.specs.TokenLines.{Reports}
 use Rattle.cli_runs.proofs.print_report.print_named.Goals as goal
 
 pub returns-in-Ok-print_tokens : goal.returns-in-Ok-print_tokens
 returns-in-Ok-print_tokens g c =
-    let there = subst (All (IsNamed c.in-Ok.view)) c.as_slice.ensures.value c.in-Ok-print_tokens.ensures.there in
-    let printed = subst (ArePrinted c.in-Ok.view c.args.out.now c.print_tokens.new.out) c.as_slice.ensures.value c.in-Ok-print_tokens.ensures.printed in (
+    let there = rw c.as_slice.ensures.value at c.in-Ok-print_tokens.ensures.there in
+    let printed = rw c.as_slice.ensures.value at c.in-Ok-print_tokens.ensures.printed in (
       c.in-Ok.view,
       c.in-Ok.ensures.root,
       there,

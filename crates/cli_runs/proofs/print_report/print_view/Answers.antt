@@ -1,7 +1,3 @@
-use Rattle.std.proofs.Common.{subst}
-use Rattle.cli_outline.specs.Outline.{refs_rows}
-use Rattle.cli_outline.specs.Printed.{PrintsRows}
-use Rattle.cli_outline.specs.declared.source.OutlineOptions.{OutlineOptions}
 use Rattle.cli_runs.specs.Reports.{everything}
 use Rattle.cli_runs.proofs.Printings.{declared}
 use Rattle.cli_runs.proofs.print_report.print_view.Goals as goal
@@ -13,5 +9,4 @@ pub returns-in-Types : goal.returns-in-Types
 returns-in-Types g c model is = rw c.in-Types.is (c.print_types.ensures model is, (λ live. tt))
 
 pub returns-in-Refs : goal.returns-in-Refs
-returns-in-Refs g c model is = rw c.in-Refs.is (declared everything c.args.out.now c.print_refs.new.out model _
-    (subst (λ (options : OutlineOptions). PrintsRows options model c.args.out.now c.print_refs.new.out (refs_rows model)) c.everything.ensures (c.print_refs.ensures model is)))
+returns-in-Refs g c model is = rw c.in-Refs.is (declared everything c.args.out.now c.print_refs.new.out model _ (rw c.everything.ensures at (c.print_refs.ensures model is)))

@@ -1,16 +1,17 @@
 use Rattle.std.proofs.Common.{rules, [], ◌∷◌, ◌≡◌, ◌∙◌, ℕ, ◌+◌, ◌≤◌, List, ◌++◌, Option, None, Some, ap, append_assoc, append-nil, subst, sym}
+use Rattle.std.specs.Option.{option_to_list}
 use Rattle.std.specs.Prelude.{All, IfSome}
 use Rattle.std.proofs.lemmas.List.Elements.{All-append, All-from_recursion}
 use Rattle.table_schema.specs.declared.table.TableId.TheVariants.{Field}
 use Rattle.opening.specs.Views.{row_count}
 use Rattle.cli_contents.specs.declared.field_data.FieldData.{FieldData}
-use Rattle.cli_where.specs.FieldData.{fields_from, listed}
+use Rattle.cli_where.specs.FieldData.{fields_from}
 use Rattle.cli_where.proofs.FieldLemmas.{fields_more, fields_none}
 use Rattle.cli_where.proofs.field_data.all_fields.Goals as goal
 
 -- the data of a row of the table
 listed_row : (field count : ℕ) → 1 ≤ field → field ≤ count → (of : Option FieldData) → IfSome of (λ s. s.row ≡ field)
-    → All (λ (s : FieldData). (1 ≤ s.row) × (s.row ≤ count)) (listed of)
+    → All (λ (s : FieldData). (1 ≤ s.row) × (s.row ≤ count)) (option_to_list of)
 listed_row field count first last None is = All-from_recursion (λ (s : FieldData). (1 ≤ s.row) × (s.row ≤ count)) [] tt
 listed_row field count first last (Some of) is =
     All-from_recursion (λ (s : FieldData). (1 ≤ s.row) × (s.row ≤ count)) (of ∷ []) ((subst (λ n. 1 ≤ n) (sym is) first, subst (λ n. n ≤ count) (sym is) last), tt)
@@ -21,16 +22,16 @@ loop-field-preserved c =
     let past = c.count-count.result + 1 in
     let of = c.data_of.result in
     let kept = c.in_ok-keep.ensures in
-    let count = row_count c.args.source.now.view.now Field in (
+    let count = row_count c.args.view.now Field in (
       λ model is.
           let others = fields_from model (loop.field + 1) past in
           ap (λ (found : List FieldData). found ++ others) kept
-          ∙ append_assoc loop.found.items (listed of) others
-          ∙ ap (λ (of : Option FieldData). loop.found.items ++ (listed of ++ others)) (c.data_of.ensures.stored model is)
+          ∙ append_assoc loop.found.items (option_to_list of) others
+          ∙ ap (λ (of : Option FieldData). loop.found.items ++ (option_to_list of ++ others)) (c.data_of.ensures.stored model (rw c.in_ok-source.ensures is))
           ∙ ap (λ (left : List FieldData). loop.found.items ++ left) (sym (fields_more model loop.field past c.loop-field-test.true))
           ∙ loop.invariant.0 model is,
       subst (λ (found : List FieldData). All (λ (s : FieldData). (1 ≤ s.row) × (s.row ≤ count)) found) (sym kept)
-          (All-append (λ (s : FieldData). (1 ≤ s.row) × (s.row ≤ count)) loop.found.items (listed of) loop.invariant.1
+          (All-append (λ (s : FieldData). (1 ≤ s.row) × (s.row ≤ count)) loop.found.items (option_to_list of) loop.invariant.1
           (listed_row loop.field count (search rules) (search rules) of c.data_of.ensures.row)),
     )
 

@@ -9,5 +9,5 @@ use Rattle.cli_where.proofs.field_data.all_fields.Given as goal
 
 abbrev pub invariant-loop-field : goal.invariant-loop-field
 invariant-loop-field l =
-    ((model : Metadata) → IsModel l.source.view.now model → l.found.items ++ fields_from model l.field (l.count + 1) ≡ all_fields model)
-    × All (λ stored. (1 ≤ stored.row) × (stored.row ≤ row_count l.source.view.now Field)) l.found.items
+    ((model : Metadata) → IsModel l.view model → l.found.items ++ fields_from model l.field (l.count + 1) ≡ all_fields model)
+    × All (λ stored. (1 ≤ stored.row) × (stored.row ≤ row_count l.view Field)) l.found.items

@@ -1,9 +1,8 @@
 use Rattle.std.proofs.Common.{take}
 use Rattle.std.specs.List.{flat_map}
-use Rattle.table_schema.specs.Tables.{tables}
 use Rattle.cli_where.specs.Entries.{table_cells}
 use Rattle.cli_where.specs.Kept.{FindsFirst}
 use Rattle.cli_where.proofs.named_entries.find_entries.Given as goal
 
 abbrev pub invariant-loop-table : goal.invariant-loop-table
-invariant-loop-table l = FindsFirst l.target l.rows 10 l.left (flat_map (table_cells l.rows.sizes) (take l.table-index tables)) l.initial.found l.found
+invariant-loop-table l = FindsFirst l.target l.rows 10 l.left (flat_map (table_cells l.rows.sizes) (take l.table-index l.tables)) l.initial.found l.found

@@ -1,30 +1,34 @@
-use Rattle.std.proofs.Common.{◌≡◌, ℕ, List, [], ◌∷◌, map, rules}
+use Rattle.std.proofs.Common.{◌≡◌, ◌∷◌, ◌++◌, [], ℕ, List, Ok, arith, codes, eqb-true, length, map, refl, rules, sym, true, false}
+use Rattle.std.specs.Prelude.{◌==◌}
 use Rattle.cli_input.specs.declared.opened.Input.{Input}
-use Rattle.cli_input.specs.declared.opened.Input.TheVariants.{BareRoot, File}
-use Rattle.cli_lines.specs.Lines.{Part}
+use Rattle.cli_lines.specs.Lines.{word}
+use Rattle.cli_lines.specs.Printed.{Printed, Prints}
 use Rattle.cli_regions.specs.Kept.{seen}
-use Rattle.cli_where.specs.Located.{HasContents}
-use Rattle.cli_regions.specs.Regions.{Region}
+use Rattle.cli_regions.specs.declared.searches.Structure.{Structure}
+use Rattle.cli_where.specs.Located.{HasContents, HasFound, where_lines}
+use Rattle.cli_where.specs.Where.{AreStructuresAt}
+use Rattle.cli_where.specs.declared.report.Found.TheVariants.{Something, Nothing}
+use Rattle.cli_where.specs.declared.walk.Reach.TheVariants.{Entries}
 use Rattle.cli_where.proofs.report.print_entire.Goals as goal
 
--- what follows from what is true of the lines of contents
-contents_weaker : (structures : List Region) (input : Input) (bytes : List ℕ) (offset : ℕ) (P Q : List (List Part) → Type 0) → ((lines : List (List Part)) → P lines → Q lines)
-    → HasContents structures input bytes offset P → HasContents structures input bytes offset Q
-contents_weaker [] File bytes offset P Q follows has = follows _ has
-contents_weaker [] BareRoot bytes offset P Q follows has = follows _ has
-contents_weaker (of ∷ later) File bytes offset P Q follows has = λ header model file.
-    let is = has header model file in
-    (is.0, is.1, follows _ is.2)
-contents_weaker (of ∷ later) BareRoot bytes offset P Q follows has = λ model is. follows _ (has model is)
+module _ {W : Type 0} (old new : Printed W) (input : Input) (bytes : List ℕ) (offset : ℕ) where
+  none : (structures : List Structure) → (length structures == 0) ≡ true → AreStructuresAt input Entries bytes offset (map seen structures)
+      → Prints old new ((word (codes "nothing") ∷ []) ∷ []) → HasFound input bytes offset old new (Ok Nothing)
+  none [] is are printed = ([], are, refl, printed)
+  none (first ∷ later) is are printed = let bad = eqb-true (length (first ∷ later)) 0 is in absurd (omega arith)
 
-pub returns-in-Ok : goal.returns-in-Ok
-returns-in-Ok g c =
-    let printed : c.deref.result.now ≡ c.in-Ok.structures.items = search rules in
-    let again : c.deref-in-Ok.result.now ≡ c.in-Ok.structures.items = search rules in
-    let found = rw printed at c.print_found-found.ensures in
-    let contents = rw again at c.print_contents.ensures in (
-      map seen c.in-Ok.structures.items,
-      c.in-Ok.ensures,
-      found.found,
-      contents_weaker (map seen c.in-Ok.structures.items) c.args.input c.args.bytes.now c.args.offset _ _ (λ lines are. c.lines_follow.ensures.more _ _ _ _ lines found.lines are) contents,
-    )
+  some : (structures : List Structure) → (length structures == 0) ≡ false → AreStructuresAt input Entries bytes offset (map seen structures)
+      → HasContents (map seen structures) input bytes offset (λ contents. Prints old new (where_lines (map seen structures) ++ contents)) → HasFound input bytes offset old new (Ok Something)
+  some [] is are has = cc
+  some (first ∷ later) is are has = (map seen (first ∷ later), are, refl, has)
+
+pub returns-then-is_empty : goal.returns-then-is_empty
+returns-then-is_empty g c =
+    let same : c.deref.result.now ≡ c.in-Ok.structures.items = search rules in
+    (c.requires.whole, none _ _ c.args.input c.args.bytes.now c.args.offset c.in-Ok.structures.items (rw same at (sym c.if-is_empty.ensures)) c.in-Ok.ensures c.line.ensures)
+
+pub returns : goal.returns
+returns g c =
+    let same : c.deref.result.now ≡ c.in-Ok.structures.items = search rules in
+    let printed : c.deref-2.result.now ≡ c.in-Ok.structures.items = search rules in
+    (c.requires.whole, some _ _ c.args.input c.args.bytes.now c.args.offset c.in-Ok.structures.items (rw same at (sym c.if-is_empty.ensures)) c.in-Ok.ensures (rw printed at c.print_found.ensures))

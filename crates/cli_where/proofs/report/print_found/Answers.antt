@@ -1,28 +1,54 @@
-use Rattle.std.proofs.Common.{◌≡◌, true, false, List, [], ◌∷◌, arith, eqb-true, length, map, refl, sym}
+use Rattle.std.proofs.Common.{◌≡◌, ◌∷◌, ◌++◌, [], ℕ, List, false, length, map, subst, sym}
 use Rattle.std.specs.Prelude.{◌==◌}
-use Rattle.cli_lines.specs.Printed.{Printed, Prints}
+use Rattle.cli_input.specs.Checked.{IsModelOf}
+use Rattle.cli_input.specs.declared.opened.Input.{Input}
+use Rattle.cli_input.specs.declared.opened.Input.TheVariants.{BareRoot, File}
+use Rattle.metadata.specs.Metadata.{Metadata}
+use Rattle.metadata.specs.Model.{IsModelOfFile}
+use Rattle.cli_header.specs.declared.header.CliHeader.{CliHeader}
+use Rattle.cli_contents.specs.Lines.{AreOfResources, field_lines, method_lines}
+use Rattle.cli_lines.specs.Lines.{Part}
+use Rattle.cli_lines.specs.Printed.{Prints}
 use Rattle.cli_regions.specs.Kept.{seen}
 use Rattle.cli_regions.specs.declared.searches.Structure.{Structure}
+use Rattle.cli_found.specs.Values.{value_lines}
+use Rattle.cli_where.specs.FieldData.{all_fields}
 use Rattle.cli_where.specs.Lines.{structure_line}
-use Rattle.cli_where.specs.Located.{found_of, where_lines}
-use Rattle.cli_where.specs.declared.report.Found.TheVariants.{Something}
+use Rattle.cli_where.specs.Located.{HasContents, where_lines}
 use Rattle.cli_where.proofs.report.print_found.Goals as goal
 
-none : (structures : List Structure) → true ≡ (length structures == 0) → structures ≡ []
-none [] is = refl
-none (first ∷ later) is = let bad = eqb-true (length (first ∷ later)) 0 (sym is) in absurd (omega arith)
+module _ (bytes : List ℕ) (offset : ℕ) (P : List (List Part) → Type 0) where
+  of_root : (structures : List Structure) → (length structures == 0) ≡ false
+      → ((model : Metadata) → IsModelOf BareRoot bytes model → P (map structure_line (map seen structures) ++ value_lines model bytes (map seen structures)))
+      → HasContents (map seen structures) BareRoot bytes offset (λ contents. P (where_lines (map seen structures) ++ contents))
+  of_root [] is printed = cc
+  of_root (first ∷ later) is printed = printed
 
-some_found : (structures : List Structure) → false ≡ (length structures == 0) → Something ≡ found_of (map seen structures)
-some_found [] is = cc
-some_found (first ∷ later) is = refl
+  of_file : (structures : List Structure) → (length structures == 0) ≡ false
+      → ((header : CliHeader) (model : Metadata) → (file : IsModelOfFile bytes header model) → (resources : List (List Part)) × AreOfResources bytes header model offset resources
+      × P (map structure_line (map seen structures) ++ (value_lines model bytes (map seen structures) ++ (method_lines file.image model offset ++ (field_lines file.image model (all_fields model) offset ++ resources)))))
+      → HasContents (map seen structures) File bytes offset (λ contents. P (where_lines (map seen structures) ++ contents))
+  of_file [] is printed = cc
+  of_file (first ∷ later) is printed = printed
 
-some_printed : {W : Type 0} (old new : Printed W) (structures : List Structure) → false ≡ (length structures == 0) → Prints old new (map structure_line (map seen structures))
-    → Prints old new (where_lines (map seen structures))
-some_printed old new [] is printed = cc
-some_printed old new (first ∷ later) is printed = printed
+pub returns-in-BareRoot : goal.returns-in-BareRoot
+returns-in-BareRoot g c =
+    let P : List (List Part) → Type 0 = λ lines. Prints c.args.out.now c.print_value.new.out lines in
+    subst (λ (input : Input). HasContents (map seen c.args.structures.now) input c.args.bytes.now c.args.offset (λ contents. P (where_lines (map seen c.args.structures.now) ++ contents))) (sym c.in-BareRoot.is)
+    (of_root c.args.bytes.now c.args.offset P c.args.structures.now c.requires.some (λ model model_of.
+    c.lines_follow.ensures.more _ _ _ _ _ c.print_structures.ensures
+    (c.print_value.ensures model (c.requires.model model (subst (λ (input : Input). IsModelOf input c.args.bytes.now model) (sym c.in-BareRoot.is) model_of)))))
 
-pub returns-then-is_empty : goal.returns-then-is_empty
-returns-then-is_empty g c = rw (none c.args.structures.now c.if-is_empty.ensures) record { found = refl; lines = c.line.ensures }
-
-pub returns : goal.returns
-returns g c = record { found = some_found c.args.structures.now c.if-is_empty.ensures; lines = some_printed _ _ c.args.structures.now c.if-is_empty.ensures c.print_structures.ensures }
+pub returns-in-File : goal.returns-in-File
+returns-in-File g c =
+    let P : List (List Part) → Type 0 = λ lines. Prints c.args.out.now c.print_resource.new.out lines in
+    let more = c.lines_follow.ensures.more in
+    subst (λ (input : Input). HasContents (map seen c.args.structures.now) input c.args.bytes.now c.args.offset (λ contents. P (where_lines (map seen c.args.structures.now) ++ contents))) (sym c.in-File.is)
+    (of_file c.args.bytes.now c.args.offset P c.args.structures.now c.requires.some (λ header model file.
+    let is = c.requires.model model (subst (λ (input : Input). IsModelOf input c.args.bytes.now model) (sym c.in-File.is) (header, file)) in
+    let resource = c.print_resource.ensures header model file is in (
+      resource.0,
+      resource.1,
+      more _ _ _ _ _ c.print_structures.ensures (more _ _ _ _ _ (c.print_value.ensures model is) (more _ _ _ _ _ (c.print_methods.ensures file.image file.is_image model is)
+          (more _ _ _ _ _ (c.print_data.ensures file.image file.is_image model is) resource.2))),
+    )))

@@ -3,14 +3,13 @@ use Rattle.cli_where.proofs.UserLemmas.{no_entry_past}
 use Rattle.cli_where.proofs.strings.print_entries.Goals as goal
 
 pub loop-turn-init : goal.loop-turn-init
-loop-turn-init g c = record { some = omega arith; turns = omega arith; left = λ later remainder are printed. (remainder, are, printed) }
+loop-turn-init g c = record { turns = omega arith; left = λ later remainder are printed. (remainder, are, printed) }
 
 pub loop-turn-preserved : goal.loop-turn-preserved
 loop-turn-preserved g c =
     let entry = c.in-Some.entry in
     let found = c.in-Some.ensures in
     record {
-      some = omega (arith, c.loop-turn.invariant.some, found.later);
       turns = omega (arith, c.loop-turn.invariant.turns, found.later);
       left = λ later remainder are printed.
           c.loop-turn.invariant.left later (record { offset = c.loop-turn.index; string = entry.string; next = entry.next } ∷ remainder) (found.token, refl, found.sound, are)

@@ -4,14 +4,13 @@ use Rattle.cli_where.proofs.UserLemmas.{no_entry_past}
 use Rattle.cli_where.proofs.user_strings.find_in_padded.Goals as goal
 
 pub loop-turn-init : goal.loop-turn-init
-loop-turn-init c = record { some = omega arith; turns = omega arith; left = λ later remainder are adds. (remainder, are, adds) }
+loop-turn-init c = record { turns = omega arith; left = λ later remainder are adds. (remainder, are, adds) }
 
 pub loop-turn-preserved : goal.loop-turn-preserved
 loop-turn-preserved c =
     let entry = c.in-Some.entry in
     let found = c.in-Some.ensures in
     record {
-      some = omega (arith, c.loop-turn.invariant.some, found.later);
       turns = omega (arith, c.loop-turn.invariant.turns, found.later);
       left = λ later remainder are adds.
           c.loop-turn.invariant.left later (record { offset = c.loop-turn.index; string = entry.string; next = entry.next } ∷ remainder) (found.token, refl, found.sound, are)

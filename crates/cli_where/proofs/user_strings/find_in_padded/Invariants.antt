@@ -7,7 +7,6 @@ use Rattle.cli_where.proofs.user_strings.find_in_padded.Given as goal
 -- with the entries that are left, the search has looked at all
 abbrev pub invariant-loop-turn : goal.invariant-loop-turn
 invariant-loop-turn l = record {
-  some : 1 ≤ l.index;
   turns : l._turn + 1 ≤ l.index;
   left : (later : Searched) (remainder : List Entry) → AreEntries l.padded l.index remainder → Adds l.found later (map (user_region (heap_of l.heap)) remainder)
       → (entries : List Entry) × AreEntries l.padded 1 entries × Adds l.initial.found later (map (user_region (heap_of l.heap)) entries);

@@ -1,5 +1,4 @@
 use Rattle.std.proofs.Common.{◌∙◌, ap, subst, sym}
-use Rattle.packed.proofs.RuleLemmas.{none_fails}
 use Rattle.pe.specs.Headers.{image_of}
 use Rattle.pe.specs.Image.{Image}
 use Rattle.pe.specs.Rules.{rules_of_image}
@@ -11,7 +10,7 @@ use Rattle.cli_where.proofs.FindLemmas.{adds_find, broken_layer, finds_then, who
 use Rattle.cli_where.proofs.walk.find_in_file.Goals as goal
 
 pub returns-in_default : goal.returns-in_default
-returns-in_default c = broken_layer (rules_of_image c.args.file.now) c.args.found.now (λ all. none_fails (rules_of_image c.args.file.now) c.in_default.field-0 all c.in_default.ensures.first_error)
+returns-in_default c = broken_layer (rules_of_image c.args.file.now) c.args.found.now c.in_default.ensures.first_error
 
 pub find_pe-requires-clause-rules : goal.find_pe-requires-clause-rules
 find_pe-requires-clause-rules c = rw c.in-Ok.ensures.all.1 c.in-Ok.ensures.all.0

@@ -2,7 +2,6 @@ use Rattle.std.proofs.Common.{◌∙◌, List, ℕ, ap, arith, subst}
 use Rattle.cli_header.specs.Rules.{rules_of_cli_header}
 use Rattle.cli_header.specs.declared.header.CliHeader.{CliHeader}
 use Rattle.metadata.specs.Streams.{root_in}
-use Rattle.packed.proofs.RuleLemmas.{none_fails}
 use Rattle.cli_regions.specs.Files.{cli_regions}
 use Rattle.cli_regions.specs.Kept.{Finds}
 use Rattle.cli_regions.proofs.SearchLemmas.{said_as}
@@ -11,8 +10,7 @@ use Rattle.cli_where.proofs.FindLemmas.{adds_find, broken_layer, finds_then, who
 use Rattle.cli_where.proofs.walk.find_in_image.Goals as goal
 
 pub returns-in_default : goal.returns-in_default
-returns-in_default c =
-    broken_layer (rules_of_cli_header c.args.pe.now) c.args.found.now (λ all. none_fails (rules_of_cli_header c.args.pe.now) c.in_default.field-0 all c.in_default.ensures.first_error)
+returns-in_default c = broken_layer (rules_of_cli_header c.args.pe.now) c.args.found.now c.in_default.ensures.first_error
 
 pub find_cli-requires : goal.find_cli-requires
 find_cli-requires c = omega (arith, c.in-Ok.ensures.sound.place.within, c.requires)

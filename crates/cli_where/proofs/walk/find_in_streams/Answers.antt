@@ -1,7 +1,6 @@
 use Rattle.std.proofs.Common.{◌≡◌, arith, subst}
 use Rattle.schema.specs.Header.{sizes_of}
 use Rattle.schema.specs.Rules.{rules_of_stream}
-use Rattle.packed.proofs.RuleLemmas.{none_fails}
 use Rattle.cli_regions.specs.Kept.{Finds}
 use Rattle.cli_where.specs.Entries.{Heap}
 use Rattle.cli_where.specs.Where.{AreInStream}
@@ -10,9 +9,8 @@ use Rattle.cli_where.proofs.walk.find_in_streams.Goals as goal
 
 pub returns-in_default : goal.returns-in_default
 returns-in_default c =
-    let rules = rules_of_stream c.heap_in-tables.result.bytes.now in
     subst (λ (heap : Heap). Finds (AreInStream c.args.reach c.args.start c.args.root.now heap) c.args.found.now c.args.found.now) c.heap_in-tables.ensures.heap
-    (broken_layer rules c.args.found.now (λ all. none_fails rules c.in_default.field-0 all c.in_default.ensures.first_error))
+    (broken_layer (rules_of_stream c.heap_in-tables.result.bytes.now) c.args.found.now c.in_default.ensures.first_error)
 
 pub find_table_stream-requires-clause-room : goal.find_table_stream-requires-clause-room
 find_table_stream-requires-clause-room c =
