@@ -1,17 +1,13 @@
 -- How many bytes the encoding of a signature has at most.
-use Rattle.std.proofs.Common.{◌≡◌, ◌∙◌, ◌≤◌, ◌*◌, ◌^◌, ℕ, Bool, true, false, inl, inr, Option, None, Some, List, [], ◌∷◌, ◌++◌, cond, length, nat_lt, ap, arith}
-use Rattle.std.specs.Prelude.{flat_map}
-use Rattle.std.proofs.lemmas.List.{length-append}
+use Rattle.attribute_constructors.proofs.Prelude.{◌≡◌, ◌∙◌, ◌≤◌, ◌*◌, ◌^◌, ℕ, Bool, true, false, inl, inr, Option, None, Some, List, [], ◌∷◌, ◌++◌, cond, length, nat_lt, ap, arith, flat_map, length-append, Item, items_of}
 use Rattle.packed.specs.Packed.{IsPacked, one_byte, two_bytes, four_bytes, short_unsigned, signed_bits, fits_bits}
 use Rattle.table_schema.specs.declared.column.SigKind.{SigKind}
 use Rattle.sig_grammar.specs.Syntax.{Body}
 use Rattle.sig_grammar.specs.Parts.{Part, byte, number, signed, index, index_number, short_part, EncodesPart, EncodesParts}
 use Rattle.sig_grammar.specs.Grammar.{generic_parts, body_parts}
 use Rattle.sig_grammar.specs.Encodes.{Encodes, short}
-use Rattle.sig_items.specs.declared.item.Item.{Item}
 use Rattle.sig_items.specs.declared.item.Item.TheVariants as item
 use Rattle.sig_items.specs.ItemParts.{item_parts, encoded_item}
-use Rattle.sig_items.specs.ItemsOf.{items_of}
 
 -- ---- an encoding
 

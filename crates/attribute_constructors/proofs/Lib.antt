@@ -1,4 +1,5 @@
 pub mod LengthLemmas
+pub mod Prelude
 pub mod TypeLemmas
 pub mod ParamLemmas
 pub mod OwnerLemmas

@@ -1,13 +1,7 @@
 -- The type that has a method.
-use Rattle.std.proofs.Common.{◌≡◌, ◌∙◌, ◌≤◌, ◌<◌, ◌+◌, ◌-◌, ℕ, zero, suc, None, cond, ap, arith, refl}
-use Rattle.std.proofs.lemmas.Bool.{le-leb, lt-leb}
-use Rattle.table_schema.specs.declared.table.TableId.{TableId}
-use Rattle.table_schema.specs.declared.table.TableId.TheVariants.{MemberRef, MethodDef, TypeDef}
-use Rattle.metadata.specs.Metadata.{Metadata, cell_in, count_in}
-use Rattle.metadata.specs.Valid.{IsValid, start_in}
+use Rattle.attribute_constructors.proofs.Prelude.{◌≡◌, ◌∙◌, ◌≤◌, ◌<◌, ◌+◌, ◌-◌, ℕ, zero, suc, None, cond, ap, arith, refl, le-leb, lt-leb, TableId, MemberRef, MethodDef, TypeDef, Metadata, cell_in, count_in, IsValid, start_in, owner_among, type_of}
 use Rattle.metadata_source.specs.declared.member_lists.MemberList.TheVariants as list
 use Rattle.navigation.specs.Owners.{Owns}
-use Rattle.attribute_constructors.specs.Constructors.{owner_among, type_of}
 
 module _ (model : Metadata) (valid : IsValid model) (method owner : ℕ) (owns : Owns model list.Methods owner method) where
   abbrev start : ℕ → ℕ

@@ -1,16 +1,7 @@
 -- The types of parameters, item by item.
-use Rattle.std.proofs.Common.{◌≡◌, ◌∙◌, ◌≤◌, ◌<◌, ◌+◌, ◌*◌, ◌&&◌, ℕ, Bool, true, false, Option, None, Some, List, [], ◌∷◌, ◌++◌, append_assoc, append-nil, ⊎_elim, cond, length, arith, ap, refl, sym}
-use Rattle.std.proofs.lemmas.Bool.{cases_Bool, le-leb, lt-leb}
-use Rattle.std.proofs.lemmas.List.{length-append}
-use Rattle.std.specs.Prelude.{option_and_then, option_map}
-use Rattle.sig_items.specs.declared.item.Item.{Item}
+use Rattle.attribute_constructors.proofs.Prelude.{◌≡◌, ◌∙◌, ◌≤◌, ◌<◌, ◌+◌, ◌*◌, ◌&&◌, ℕ, Bool, true, false, Option, None, Some, List, [], ◌∷◌, ◌++◌, append_assoc, append-nil, ⊎_elim, cond, length, arith, ap, refl, sym, cases_Bool, le-leb, lt-leb, length-append, option_and_then, option_map, Item, TableId, MemberRef, MethodDef, Metadata, is_method, is_void, argument_type, begins_vector, element_type, if_few, is_vector, params_from, params_in, params_of_constructor, preceded}
 use Rattle.attribute_values.specs.declared.types.ElementType.{ElementType}
 use Rattle.attribute_values.specs.declared.types.ArgumentType.{ArgumentType}
-use Rattle.table_schema.specs.declared.table.TableId.{TableId}
-use Rattle.table_schema.specs.declared.table.TableId.TheVariants.{MemberRef, MethodDef}
-use Rattle.metadata.specs.Metadata.{Metadata}
-use Rattle.attribute_constructors.specs.Signatures.{is_method, is_void}
-use Rattle.attribute_constructors.specs.Params.{argument_type, begins_vector, element_type, if_few, is_vector, params_from, params_in, params_of_constructor, preceded}
 
 abbrev Types : Type 0
 Types = List ArgumentType

@@ -1,25 +1,13 @@
 -- Types by their names, and enums.
-use Rattle.std.proofs.Common.{◌≡◌, ◌∙◌, ◌≤◌, ◌<◌, ◌+◌, ◌-◌, ◌↔◌, ⊎_elim, ℕ, zero, suc, Bor, Bool, true, false, IsTrue, Option, None, List, [], ◌∷◌, cond, min, length, arith, ap, refl, sym}
-use Rattle.std.proofs.lemmas.Bool.{cases_lt, le-ltb, lt-ltb}
+use Rattle.attribute_constructors.proofs.Prelude.{◌≡◌, ◌∙◌, ◌≤◌, ◌<◌, ◌+◌, ◌-◌, ◌↔◌, ⊎_elim, ℕ, zero, suc, Bor, Bool, true, false, IsTrue, Option, None, List, [], ◌∷◌, cond, min, length, arith, ap, refl, sym, cases_lt, le-ltb, lt-ltb, TableId, Field, TypeDef, TypeRef, Item, Cell, Ref, Text, Metadata, cell_in, count_in, start_in, Shows, ColumnKind, reference_in, items_in, enum_at, field_type, fields_end, has_row, instance_type, is_enum, is_named_type, is_static, is_text, underlying_type}
 use Rattle.std.proofs.lemmas.Bool.Decides.{same_from_decides}
 use Rattle.std.proofs.lemmas.Slice.Eq.{bytes_eq-Decides}
 use Rattle.std.specs.Bool.{Decides}
-use Rattle.table_schema.specs.declared.table.TableId.{TableId}
-use Rattle.table_schema.specs.declared.table.TableId.TheVariants.{Field, TypeDef, TypeRef}
-use Rattle.sig_items.specs.declared.item.Item.{Item}
 use Rattle.sig_items.specs.declared.item.Item.TheVariants as item
 use Rattle.table_schema.specs.declared.token.Token.{Token}
-use Rattle.metadata.specs.Cell.{Cell, Ref, Text}
-use Rattle.metadata.specs.Metadata.{Metadata, cell_in, count_in}
 use Rattle.metadata.specs.Lookups.{IsRun}
-use Rattle.metadata.specs.Valid.{start_in}
-use Rattle.reading.specs.Shown.{Shows}
 use Rattle.reading.specs.declared.cell_ref.CellRef.{CellRef}
 use Rattle.reading.specs.declared.cell_ref.CellRef.TheVariants as seen
-use Rattle.table_schema.specs.declared.column.ColumnKind.{ColumnKind}
-use Rattle.navigation.specs.Cells.{reference_in}
-use Rattle.attribute_constructors.specs.Signatures.{items_in}
-use Rattle.attribute_constructors.specs.Types.{enum_at, field_type, fields_end, has_row, instance_type, is_enum, is_named_type, is_static, is_text, underlying_type}
 
 -- ---- names
 

@@ -1,10 +1,5 @@
 -- The text of a value is that of its items.
-use Rattle.std.proofs.Common.{◌≡◌, ◌∙◌, ℕ, suc, List, [], ◌∷◌, ◌++◌, append_assoc, None, Some, length, map, refl, sym, ap}
-use Rattle.std.specs.Prelude.{codes, decimal, flat_map}
-use Rattle.attribute_values.specs.Values.{Elem, Argument, one, vector, Named, AttributeValue, argument_type}
-use Rattle.attribute_values.specs.Items.{Item, entry, named_count, head_of, entries_of, fixed_items, named_items, items_of}
-use Rattle.attribute_text.specs.Texts.{argument_text, entries_text, entry_text, fixed_text, intro_text, named_text, type_word, value_text}
-use Rattle.attribute_text.specs.ItemTexts.{entries_in, head_text, head_type, items_text}
+use Rattle.attribute_text.proofs.Prelude.{◌≡◌, ◌∙◌, ℕ, suc, List, [], ◌∷◌, ◌++◌, append_assoc, None, Some, length, map, refl, sym, ap, codes, decimal, flat_map, Elem, Argument, one, vector, Named, AttributeValue, argument_type, Item, entry, named_count, head_of, entries_of, fixed_items, named_items, items_of, argument_text, entries_text, entry_text, fixed_text, intro_text, named_text, type_word, value_text, entries_in, head_text, head_type, items_text}
 
 entries_read : (e : Elem) (es : List Elem) (tail : List Item)
     → items_text (suc (length es)) (map entry (e ∷ es) ++ tail) ≡ entries_text (e ∷ es) ++ (codes ")" ++ items_text 0 tail)

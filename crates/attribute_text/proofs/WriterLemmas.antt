@@ -1,8 +1,6 @@
 -- What a writer took in several calls.
-use Rattle.std.proofs.Common.{◌≡◌, ℕ, List, ◌++◌, OnOk, Ok, Err, Result, subst}
-use Rattle.std.specs.Fmt.{WritesInCalls}
+use Rattle.attribute_text.proofs.Prelude.{◌≡◌, ℕ, List, ◌++◌, OnOk, Ok, Err, Result, subst, WritesInCalls, writes_append}
 use Rattle.std.specs.declared.fmt.Error.{Error}
-use Rattle.full_names.proofs.TextLemmas.{writes_append}
 
 module _ {W : Type 0} (took : W → List ℕ → W → Type 0) where
   -- what was written before the last call, by another name for it, and by the last call

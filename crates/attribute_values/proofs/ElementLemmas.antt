@@ -1,23 +1,9 @@
 -- Elements, arguments and what precedes named arguments are read as they are encoded.
-use Rattle.std.proofs.lemmas.Bool.Decides.{nat_tests}
-use Rattle.std.proofs.Common.{◌≡◌, ◌∙◌, ℕ, ◌<◌, true, false, Option, Some, None, IfSome, List, [], ◌∷◌, ◌++◌, refl, sym, ap, subst, arith}
-use Rattle.std.specs.Prelude.{◌==◌, nat_lt, option_map, option_and_then, IsSomeAnd}
-use Rattle.std.proofs.lemmas.Bool.{eqb-true}
-use Rattle.packed.specs.Number.{IsNumber}
-use Rattle.sig_grammar.specs.declared.element.Element.{Element}
-use Rattle.sig_grammar.specs.declared.element.Element.TheVariants.{Boolean, Char, I1, U1, I2, U2, I4, U4, I8, U8, R4, R8, String, I, U, Object}
+use Rattle.attribute_values.proofs.Prelude.{nat_tests, ◌≡◌, ◌∙◌, ℕ, ◌<◌, true, false, Option, Some, None, IfSome, List, [], ◌∷◌, ◌++◌, refl, sym, ap, subst, arith, ◌==◌, nat_lt, option_map, option_and_then, IsSomeAnd, eqb-true, IsNumber, Element, Boolean, Char, I1, U1, I2, U2, I4, U4, I8, U8, R4, R8, String, I, U, Object, element_of, pick, ElementType, ArgumentType, One, Vector, Scalar, number, text, type_name, Elem, plain, boxed, scalar_type, element_type, Part, byte, sized, value, string, IsPart, AreParts, size_of, is_value, code_of, type_parts, scalar_part, element_parts, has_values, member_code, sized_at, string_at, bits_at, number_at, checked_value, scalar_at, type_of, first_type, element_at, argument_type_at, member_of, member_at, Intro, named_by, intro_at, IfSome-bind, IfSome-cond, IfSome-map}
 use Rattle.sig_grammar.specs.ElementTypes.{element_code, SZARRAY}
-use Rattle.sig_grammar.specs.Reading.{element_of, pick}
-use Rattle.attribute_values.specs.declared.types.ElementType.{ElementType}
 use Rattle.attribute_values.specs.declared.types.ElementType.TheVariants.{Simple, SystemType}
-use Rattle.attribute_values.specs.declared.types.ArgumentType.{ArgumentType}
-use Rattle.attribute_values.specs.declared.types.ArgumentType.TheVariants.{One, Vector}
 use Rattle.attribute_values.specs.declared.item.Member.{Member}
 use Rattle.attribute_values.specs.declared.item.Member.TheVariants.{Field, Property}
-use Rattle.attribute_values.specs.Values.{Scalar, number, text, type_name, Elem, plain, boxed, scalar_type, element_type}
-use Rattle.attribute_values.specs.Parts.{Part, byte, sized, value, string, IsPart, AreParts, size_of, is_value, code_of, type_parts, scalar_part, element_parts, has_values, member_code}
-use Rattle.attribute_values.specs.Reading.{sized_at, string_at, bits_at, number_at, checked_value, scalar_at, type_of, first_type, element_at, argument_type_at, member_of, member_at, Intro, named_by, intro_at}
-use Rattle.sig_grammar.proofs.OptionLemmas.{IfSome-bind, IfSome-cond, IfSome-map}
 use Rattle.attribute_values.proofs.PartLemmas.{AreBytes, bytes_after, parts_append, parts_split, Takes, Reads, Any, sized_reads, NumbersAreRead, string_parts, string_reads}
 
 -- ---- numbers

@@ -1,14 +1,6 @@
 -- The items of a value, and the bytes of its blob.
-use Rattle.std.proofs.Common.{◌≡◌, ◌∙◌, ◌+◌, inl, inr, ℕ, suc, ◌≤◌, length-append, Some, None, List, [], ◌∷◌, ◌++◌, length, refl, ap, arith}
+use Rattle.attribute_values.proofs.Prelude.{◌≡◌, ◌∙◌, ◌+◌, inl, inr, ℕ, suc, ◌≤◌, length-append, Some, None, List, [], ◌∷◌, ◌++◌, length, refl, ap, arith, IsNumber, IsPacked, Element, Boolean, Char, I1, U1, I2, U2, I4, U4, I8, U8, R4, R8, ArgumentType, Elem, plain, boxed, Scalar, number, text, type_name, Argument, one, vector, Named, AttributeValue, argument_type, Part, byte, sized, value, string, IsPart, AreParts, IsAttributeValue, scalar_part, size_of, element_parts, argument_parts, named_parts, value_parts, type_parts, entries_of, fixed_items, named_items, items_of, entry, named_count}
 use Rattle.std.specs.Prelude.{flat_map, map, IsSomeAnd}
-use Rattle.packed.specs.Number.{IsNumber}
-use Rattle.packed.specs.Packed.{IsPacked}
-use Rattle.sig_grammar.specs.declared.element.Element.{Element}
-use Rattle.sig_grammar.specs.declared.element.Element.TheVariants.{Boolean, Char, I1, U1, I2, U2, I4, U4, I8, U8, R4, R8}
-use Rattle.attribute_values.specs.declared.types.ArgumentType.{ArgumentType}
-use Rattle.attribute_values.specs.Values.{Elem, plain, boxed, Scalar, number, text, type_name, Argument, one, vector, Named, AttributeValue, argument_type}
-use Rattle.attribute_values.specs.Parts.{Part, byte, sized, value, string, IsPart, AreParts, IsAttributeValue, scalar_part, size_of, element_parts, argument_parts, named_parts, value_parts, type_parts}
-use Rattle.attribute_values.specs.Items.{entries_of, fixed_items, named_items, items_of, entry, named_count}
 
 -- bytes that a part has at least
 abbrev least_of : Part → ℕ

@@ -1,5 +1,6 @@
 mod PartLemmas
 mod ElementLemmas
+mod Prelude
 mod WalkLemmas
 mod StepLemmas
 mod LengthLemmas

@@ -1,19 +1,10 @@
 -- Parts that follow one another, and readers that read them.
-use Rattle.std.proofs.lemmas.Bool.Decides.{nat_tests}
-use Rattle.std.proofs.Common.{◌≡◌, ◌∙◌, ℕ, zero, suc, ◌<◌, ◌≤◌, ◌^◌, length-append, Bool, true, false, cond, Option, Some, None, IfSome, List, [], ◌∷◌, ◌++◌, length, take, drop, get_or, append_assoc, refl, sym, ap, subst, arith}
-use Rattle.std.specs.Prelude.{⊤, nat_lt, ◌==◌, option_and_then}
+use Rattle.attribute_values.proofs.Prelude.{nat_tests, ◌≡◌, ◌∙◌, ℕ, zero, suc, ◌<◌, ◌≤◌, ◌^◌, length-append, Bool, true, false, cond, Option, Some, None, IfSome, List, [], ◌∷◌, ◌++◌, length, take, drop, get_or, append_assoc, refl, sym, ap, subst, arith, ⊤, nat_lt, ◌==◌, option_and_then, eqb-true, little_endian, IsPacked, Reader, IfSome-bind, IfSome-cond, Part, sized, string, AreParts, sized_at, string_at, text_in}
 use Rattle.std.specs.Str.{is_utf8, IsUtf8}
 use Rattle.std.proofs.lemmas.List.{take-append-drop, length-take-le}
-use Rattle.std.proofs.lemmas.Bool.{eqb-true}
 use Rattle.std.proofs.lemmas.Str.{IsUtf8-from_is_utf8, is_utf8-from_IsUtf8}
 use Rattle.std.proofs.Math.Seq.{take-append_seam, drop-append_seam}
-use Rattle.packed.specs.Number.{little_endian}
-use Rattle.packed.specs.Packed.{IsPacked}
 use Rattle.packed.specs.Prefix.{unsigned_at}
-use Rattle.sig_grammar.specs.Reading.{Reader}
-use Rattle.sig_grammar.proofs.OptionLemmas.{IfSome-bind, IfSome-cond}
-use Rattle.attribute_values.specs.Parts.{Part, sized, string, AreParts}
-use Rattle.attribute_values.specs.Reading.{sized_at, string_at, text_in}
 
 pub parts_append : (ps qs : List Part) (b mid tail : List ℕ) → AreParts ps mid b → AreParts qs tail mid → AreParts (ps ++ qs) tail b
 parts_append [] qs b mid tail e h = rw e h

@@ -1,17 +1,9 @@
 -- What remains of a value, at its end and after its prolog.
-use Rattle.std.proofs.Common.{◌≡◌, ◌∙◌, ℕ, zero, suc, Bool, true, false, Option, Some, None, IfSome, List, [], ◌∷◌, length, refl, sym, ap, arith}
-use Rattle.std.proofs.lemmas.Bool.{eqb-true}
+use Rattle.attribute_values.proofs.Prelude.{◌≡◌, ◌∙◌, ℕ, zero, suc, Bool, true, false, Option, Some, None, IfSome, List, [], ◌∷◌, length, refl, sym, ap, arith, eqb-true, ElementType, ArgumentType, AttributeValue, IsAttributeValue, Item, items_of, entries_at, named_left, arguments_at, are_done, left_at, is_done, items_in, items_if_whole, ends, all_at}
 use Rattle.std.specs.Prelude.{◌==◌, ◌&&◌, ◌-◌, is_some}
-use Rattle.attribute_values.specs.declared.types.ElementType.{ElementType}
-use Rattle.attribute_values.specs.declared.types.ArgumentType.{ArgumentType}
 use Rattle.attribute_values.specs.declared.step.Arguments.{Arguments}
 use Rattle.attribute_values.specs.declared.step.Arguments.TheVariants as arguments
 use Rattle.attribute_values.specs.declared.step.Left.{Left}
-use Rattle.attribute_values.specs.Values.{AttributeValue}
-use Rattle.attribute_values.specs.Parts.{IsAttributeValue}
-use Rattle.attribute_values.specs.Items.{Item, items_of}
-use Rattle.attribute_values.specs.Reading.{entries_at, named_left}
-use Rattle.attribute_values.specs.Steps.{arguments_at, are_done, left_at, is_done, items_in, items_if_whole, ends, all_at}
 use Rattle.attribute_values.proofs.PartLemmas.{AreBytes, NumbersAreRead}
 use Rattle.attribute_values.proofs.WalkLemmas.{value_found, value_again}
 

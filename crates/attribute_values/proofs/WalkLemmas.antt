@@ -1,18 +1,7 @@
 -- Arguments with the elements of their arrays, and whole values, are read as they are encoded.
-use Rattle.std.proofs.lemmas.Bool.Decides.{nat_tests}
+use Rattle.attribute_values.proofs.Prelude.{nat_tests, ◌≢◌, ◌==◌, flat_map, option_map, eqb-true, ElementType, ArgumentType, One, Vector, Elem, Argument, one, vector, Named, AttributeValue, element_type, argument_type, Part, byte, sized, string, AreParts, element_parts, null_count, argument_parts, type_parts, member_code, named_parts, value_parts, has_values, IsArgument, IsAttributeValue, Head, element, array, Item, fixed, entry, named_count, named, head_of, entries_of, fixed_items, named_items, items_of, Reporter, item_then, sized_at, element_at, count_of, head_at, Intro, intro_at, entries_at, after, argument_at, named_left, fixed_left, after_prolog, all_at, IfSome-bind, IfSome-cond, IfSome-map}
 use Rattle.std.proofs.Common.{◌≡◌, ℕ, zero, suc, Bool, true, false, cond, Option, Some, None, IfSome, List, [], ◌∷◌, ◌++◌, length, map, append_assoc, refl, sym, ap, subst, arith}
-use Rattle.std.specs.Prelude.{◌≢◌, ◌==◌, flat_map, option_map}
 use Rattle.std.specs.List.{AllByRecursion}
-use Rattle.std.proofs.lemmas.Bool.{eqb-true}
-use Rattle.attribute_values.specs.declared.types.ElementType.{ElementType}
-use Rattle.attribute_values.specs.declared.types.ArgumentType.{ArgumentType}
-use Rattle.attribute_values.specs.declared.types.ArgumentType.TheVariants.{One, Vector}
-use Rattle.attribute_values.specs.Values.{Elem, Argument, one, vector, Named, AttributeValue, element_type, argument_type}
-use Rattle.attribute_values.specs.Parts.{Part, byte, sized, string, AreParts, element_parts, null_count, argument_parts, type_parts, member_code, named_parts, value_parts, has_values, IsArgument, IsAttributeValue}
-use Rattle.attribute_values.specs.Items.{Head, element, array, Item, fixed, entry, named_count, named, head_of, entries_of, fixed_items, named_items, items_of}
-use Rattle.attribute_values.specs.Reading.{Reporter, item_then, sized_at, element_at, count_of, head_at, Intro, intro_at, entries_at, after, argument_at, named_left, fixed_left}
-use Rattle.attribute_values.specs.Steps.{after_prolog, all_at}
-use Rattle.sig_grammar.proofs.OptionLemmas.{IfSome-bind, IfSome-cond, IfSome-map}
 use Rattle.attribute_values.proofs.PartLemmas.{AreBytes, bytes_after, parts_append, parts_split, self_some, weaker_some, Takes, Any, sized_reads, NumbersAreRead}
 use Rattle.attribute_values.proofs.ElementLemmas.{HasType, HasValues, element_has_values, element_reads, IsKnown, intro_parts, intro_reads}
 

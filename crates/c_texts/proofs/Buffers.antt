@@ -1,9 +1,7 @@
 -- Texts that are written into a buffer.
-use Rattle.std.proofs.Common.{◌≡◌, ℕ, ◌+◌, ◌<◌, ◌≤◌, List, [], ◌∷◌, ◌++◌, length, take, drop, get_or, zero, suc, ◌-◌, min, append_assoc, Bor, refl, sym, ◌∙◌, ap, ⊎_elim, arith}
-use Rattle.std.proofs.lemmas.Bool.{cases_lt}
+use Rattle.c_texts.proofs.Prelude.{◌≡◌, ℕ, ◌+◌, ◌<◌, ◌≤◌, List, [], ◌∷◌, ◌++◌, length, take, drop, get_or, zero, suc, ◌-◌, min, append_assoc, Bor, refl, sym, ◌∙◌, ap, ⊎_elim, arith, cases_lt, Extends, HasText, joined, overwritten, with_text}
 use Rattle.std.proofs.lemmas.List.{append-nil, length-append, length-drop, take-append-drop, take_all, take_min, take_more, drop-drop, drop_all, drop_min}
 use Rattle.std.proofs.lemmas.List.Concat.{flat_map-append}
-use Rattle.c_texts.specs.Texts.{Extends, HasText, joined, overwritten, with_text}
 
 -- a buffer after a text was written to its start, byte by byte
 abbrev over : List ℕ → List ℕ → List ℕ

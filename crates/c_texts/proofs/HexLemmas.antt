@@ -1,8 +1,6 @@
 -- The hexadecimal digits of a token.
 use Rattle.std.proofs.Common.{◌≡◌, ◌∙◌, ℕ, zero, suc, ◌+◌, ◌-◌, ◌/◌, ◌%◌, ◌^◌, ◌<◌, ◌≤◌, ◌⊎◌, inl, inr, ⊎_elim, false, List, [], ◌∷◌, ◌++◌, length, length-append, replicate, drop, refl, ap, sym, append_assoc, append-nil, arith, cond}
-use Rattle.std.specs.Fmt.{char_count, digit_glyph, digits, digits_onto, padded_integral}
-use Rattle.std.proofs.lemmas.Bool.{cases_lt, eq-eqb, ne_eqb}
-use Rattle.table_schema.specs.Tokens.{hexadecimal}
+use Rattle.c_texts.proofs.Prelude.{char_count, digit_glyph, digits, digits_onto, padded_integral, cases_lt, eq-eqb, ne_eqb, hexadecimal}
 
 abbrev glyph : ℕ → ℕ
 glyph n = digit_glyph false n

@@ -1,5 +1,6 @@
 pub mod Buffers
 pub mod HexLemmas
+pub mod Prelude
 pub mod SinkLemmas
 pub mod UserLemmas
 pub mod RowTextLemmas

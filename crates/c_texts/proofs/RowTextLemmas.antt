@@ -1,7 +1,5 @@
 -- Declarations of rows, and their texts in a buffer.
-use Rattle.std.proofs.Common.{◌≡◌, ◌∙◌, ◌+◌, ◌-◌, ◌^◌, ◌<◌, ◌≤◌, Bor, ℕ, true, List, ◌++◌, length, take, drop, min, refl, subst, arith}
-use Rattle.table_schema.specs.declared.table.TableId.{TableId}
-use Rattle.table_schema.specs.declared.table.TableId.TheVariants.{TypeDef, Field, MethodDef, Property}
+use Rattle.c_texts.proofs.Prelude.{◌≡◌, ◌∙◌, ◌+◌, ◌-◌, ◌^◌, ◌<◌, ◌≤◌, Bor, ℕ, true, List, ◌++◌, length, take, drop, min, refl, subst, arith, TableId, TypeDef, Field, MethodDef, Property, IsTextWithin, has_declaration, HasText, text_limit}
 use Rattle.table_schema.specs.declared.column.SigKind.TheVariants as column
 use Rattle.table_schema.specs.declared.column.ColumnKind.{ColumnKind}
 use Rattle.table_schema.specs.declared.column.ColumnKind.TheVariants as kind
@@ -10,8 +8,6 @@ use Rattle.metadata.specs.Kinds.{IsOfKind}
 use Rattle.reading.specs.declared.cell_ref.CellRef.{CellRef}
 use Rattle.reading.specs.declared.cell_ref.CellRef.TheVariants as seen
 use Rattle.reading.specs.Shown.{Shows}
-use Rattle.c_texts.specs.RowTexts.{IsTextWithin, has_declaration}
-use Rattle.c_texts.specs.Texts.{HasText, text_limit}
 use Rattle.c_texts.proofs.Buffers.{first_written}
 
 -- a value that stands for a signature is its blob

@@ -1,13 +1,7 @@
 -- A user string of a padded heap, by its bytes.
-use Rattle.std.proofs.Common.{◌≡◌, ℕ, zero, suc, ◌+◌, ◌-◌, ◌*◌, ◌/◌, ◌%◌, ◌<◌, ◌≤◌, min, List, [], ◌∷◌, ◌++◌, length, take, drop, set, replicate, get_or, unwrap_or, inl, inr, refl, sym, ap, subst, ◌∙◌, ⊎_elim, arith}
-use Rattle.std.proofs.lemmas.Bool.{cases_lt}
+use Rattle.c_texts.proofs.Prelude.{◌≡◌, ℕ, zero, suc, ◌+◌, ◌-◌, ◌*◌, ◌/◌, ◌%◌, ◌<◌, ◌≤◌, min, List, [], ◌∷◌, ◌++◌, length, take, drop, set, replicate, get_or, unwrap_or, inl, inr, refl, sym, ap, subst, ◌∙◌, ⊎_elim, arith, cases_lt, IsBlob, IsUserString, zero_padded, units_in, last_of, user_text, AreBytes, encodes_from, with_text}
 use Rattle.std.proofs.lemmas.List.{get_or_past, get_or-take, get_or-drop, take_more, take_more_set, drop-set-lt, drop-drop, drop_at, length-append, length-take, length-take-le, length-drop, take-take, take-append-drop, take_min, drop_min}
 use Rattle.packed.specs.Packed.{IsPacked}
-use Rattle.heap_entries.specs.Entries.{IsBlob, IsUserString}
-use Rattle.heap_entries.specs.Padding.{zero_padded}
-use Rattle.heap_entries.specs.UserView.{units_in, last_of, user_text}
-use Rattle.heap_entries.proofs.UserLemmas.{AreBytes, encodes_from}
-use Rattle.c_texts.specs.Texts.{with_text}
 
 zeros_are : (zeros i : ℕ) → get_or (replicate zeros 0) i 0 < 256
 zeros_are zero i = omega arith

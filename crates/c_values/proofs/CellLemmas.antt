@@ -1,14 +1,5 @@
 -- The cells of a row that are given one after another.
-use Rattle.std.proofs.Common.{◌≡◌, ℕ, ◌+◌, List, [], ◌∷◌, ◌++◌, length, get_or, inl, inr, refl, sym, ap, ◌∙◌, subst, arith}
-use Rattle.table_schema.specs.declared.table.TableId.{TableId}
-use Rattle.packed.specs.Rule.{FirstBroken}
-use Rattle.metadata.specs.Cell.{Cell}
-use Rattle.metadata.specs.declared.refusal.Refusal.{Refusal}
-use Rattle.c_values.specs.declared.cell.ClimCell.{ClimCell}
-use Rattle.c_values.specs.declared.cell_kind.CellKind.{CellKind}
-use Rattle.c_values.specs.declared.cell_kind.CellKind.TheVariants.{Number, Text, Blob, NullGuid, Guid, NullRow, Row, Start, Signature}
-use Rattle.c_values.specs.Cells.{AreCells, EncodesAs, IsCell, IsFormed, IsFormedAs, kind_number}
-use Rattle.c_values.specs.Refused.{rules_of_cell}
+use Rattle.c_values.proofs.Prelude.{◌≡◌, ℕ, ◌+◌, List, [], ◌∷◌, ◌++◌, length, get_or, inl, inr, refl, sym, ap, ◌∙◌, subst, arith, TableId, FirstBroken, Cell, Refusal, ClimCell, CellKind, Number, Text, Blob, NullGuid, Guid, NullRow, Row, Start, Signature, AreCells, EncodesAs, IsCell, IsFormed, IsFormedAs, kind_number, rules_of_cell}
 
 -- no two kinds have one number
 kinds : List CellKind

@@ -1,13 +1,10 @@
 -- Copies of files that are written into a buffer.
-use Rattle.std.proofs.Common.{◌≡◌, ℕ, ◌<◌, ◌≤◌, ◌++◌, List, [], ◌∷◌, length, drop, refl, sym, ◌∙◌, ap, subst, inl, inr, arith}
+use Rattle.c_values.proofs.Prelude.{◌≡◌, ℕ, ◌<◌, ◌≤◌, ◌++◌, List, [], ◌∷◌, length, drop, refl, sym, ◌∙◌, ap, subst, inl, inr, arith, take_all, Metadata, canonical, IsAsked, IsCanonicalRootOf, IsNoCopy, IsStrongName, IsWritten}
 use Rattle.std.proofs.Math.Logic.{∥∥₁_map}
-use Rattle.std.proofs.lemmas.List.{take_all}
 use Rattle.packed.specs.declared.fault.Fault.{Fault}
 use Rattle.cli_header.specs.declared.header.CliHeader.{CliHeader}
-use Rattle.metadata.specs.Metadata.{Metadata}
 use Rattle.metadata.specs.Model.{IsModel}
 use Rattle.metadata.specs.Streams.{root_in}
-use Rattle.root_writer.specs.Canonical.{canonical}
 use Rattle.opening.specs.Views.{HasImage}
 use Rattle.embedding.specs.declared.error.EmbedError.{EmbedError}
 use Rattle.embedding.specs.declared.error.EmbedError.TheVariants as error
@@ -15,7 +12,6 @@ use Rattle.embedding.specs.declared.strong_name.StrongName.{StrongName}
 use Rattle.embedding.specs.declared.strong_name.StrongName.TheVariants.{Keep, Clear}
 use Rattle.embedding.specs.Embedded.{IsEmbedded}
 use Rattle.embedding.specs.Errors.{IsReason, MatchFault}
-use Rattle.c_values.specs.Copies.{IsAsked, IsCanonicalRootOf, IsNoCopy, IsStrongName, IsWritten}
 use Rattle.c_texts.specs.Texts.{HasWhole}
 
 -- the canonical root of each model of the view of a file is that of the file

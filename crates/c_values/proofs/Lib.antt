@@ -1,4 +1,5 @@
 pub mod CellLemmas
+pub mod Prelude
 pub mod RowLemmas
 pub mod OneLemmas
 pub mod RefusedLemmas

@@ -1,11 +1,5 @@
 -- The cells of a root that have a byte, and those of its table stream.
-use Rattle.std.proofs.Common.{◌≡◌, ℕ, ◌-◌, ◌<◌, ◌≤◌, List, sym, subst, arith}
-use Rattle.table_schema.specs.declared.table.TableId.{TableId}
-use Rattle.table_schema.specs.CellColumns.{cell_count, column_of}
-use Rattle.schema.specs.Sizes.{Sizes}
-use Rattle.schema.specs.LocatedCells.{HasCell}
-use Rattle.metadata.specs.SourceAt.{tables_offset}
-use Rattle.c_values.specs.Locations.{HasByte, sizes_in}
+use Rattle.c_values.proofs.Prelude.{◌≡◌, ℕ, ◌-◌, ◌<◌, ◌≤◌, List, sym, subst, arith, TableId, cell_count, column_of, Sizes, HasCell, tables_offset, HasByte, sizes_in}
 
 module _ (root : List ℕ) (sizes : Sizes) (start offset : ℕ) (same_sizes : sizes ≡ sizes_in root) (same_start : start ≡ tables_offset root)
     (table : TableId) (row column : ℕ) where

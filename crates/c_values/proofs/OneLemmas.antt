@@ -1,23 +1,11 @@
 -- What is given is at most one metadata.
-use Rattle.std.proofs.Common.{◌≡◌, ℕ, ◌+◌, ◌-◌, ◌<◌, List, [], ◌∷◌, length, slice_index_or, Some, inl, inr, refl, sym, ap, ◌∙◌, subst, arith}
+use Rattle.c_values.proofs.Prelude.{◌≡◌, ℕ, ◌+◌, ◌-◌, ◌<◌, List, [], ◌∷◌, length, slice_index_or, Some, inl, inr, refl, sym, ap, ◌∙◌, subst, arith, TableId, SigKind, table_number, table_index_of, tables, Encodes, Cell, Metadata, rows_of, ClimCell, ClimRow, CellKind, Number, Text, Row, Signature, AreCells, EncodesAs, IsCell, AreRows, IsGiven, IsRow, TableRow, cells_of}
 use Rattle.std.proofs.lemmas.Bool.{cases_lt}
-use Rattle.table_schema.specs.declared.table.TableId.{TableId}
 use Rattle.table_schema.specs.declared.table.TableId.TheVariants.{Module}
-use Rattle.table_schema.specs.declared.column.SigKind.{SigKind}
 use Rattle.table_schema.specs.declared.column.ColumnKind.TheVariants as kind
-use Rattle.table_schema.specs.Tables.{table_number, table_index_of, tables}
 use Rattle.sig_grammar.specs.Syntax.{Body}
-use Rattle.sig_grammar.specs.Encodes.{Encodes}
-use Rattle.metadata.specs.Cell.{Cell}
 use Rattle.metadata.specs.Cell as says
-use Rattle.metadata.specs.Metadata.{Metadata, rows_of}
 use Rattle.metadata.specs.Same.{SaysSame}
-use Rattle.c_values.specs.declared.cell.ClimCell.{ClimCell}
-use Rattle.c_values.specs.declared.row.ClimRow.{ClimRow}
-use Rattle.c_values.specs.declared.cell_kind.CellKind.{CellKind}
-use Rattle.c_values.specs.declared.cell_kind.CellKind.TheVariants.{Number, Text, Row, Signature}
-use Rattle.c_values.specs.Cells.{AreCells, EncodesAs, IsCell}
-use Rattle.c_values.specs.Given.{AreRows, IsGiven, IsRow, TableRow, cells_of}
 use Rattle.c_values.proofs.CellLemmas.{needs_encoding}
 
 -- no two tables have one number: they are in the order of their numbers, each at its index

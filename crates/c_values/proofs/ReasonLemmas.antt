@@ -1,23 +1,8 @@
 -- Why there is no root.
-use Rattle.std.proofs.Common.{◌≡◌, ℕ, ◌+◌, ◌^◌, ◌<◌, List, ◌∷◌, ◌++◌, length, take, drop, get_or, inl, inr, refl, sym, ap, ◌∙◌, subst, add-one}
+use Rattle.c_values.proofs.Prelude.{◌≡◌, ℕ, ◌+◌, ◌^◌, ◌<◌, List, ◌∷◌, ◌++◌, length, take, drop, get_or, inl, inr, refl, sym, ap, ◌∙◌, subst, add-one, take-append-drop, FirstBroken, TableId, table_number, Cell, Metadata, IsValid, Refusal, canonical, ClimCell, ClimRow, NoRoot, IsCell, IsFormed, IsGiven, IsNoRoot, IsRefused, MatchNoRoot, refusal_at, rules_of_cell}
 use Rattle.std.proofs.Math.Seq.{drop-cons}
-use Rattle.std.proofs.lemmas.List.{take-append-drop}
-use Rattle.packed.specs.Rule.{FirstBroken}
 use Rattle.packed.specs.declared.code.FaultCode.TheVariants.{BadSignature}
-use Rattle.table_schema.specs.declared.table.TableId.{TableId}
-use Rattle.table_schema.specs.Tables.{table_number}
-use Rattle.metadata.specs.Cell.{Cell}
-use Rattle.metadata.specs.Metadata.{Metadata}
-use Rattle.metadata.specs.Valid.{IsValid}
-use Rattle.metadata.specs.declared.refusal.Refusal.{Refusal}
-use Rattle.root_writer.specs.Canonical.{canonical}
-use Rattle.c_values.specs.declared.cell.ClimCell.{ClimCell}
-use Rattle.c_values.specs.declared.row.ClimRow.{ClimRow}
-use Rattle.c_values.specs.declared.no_root.NoRoot.{NoRoot}
 use Rattle.c_values.specs.declared.no_root.NoRoot.TheVariants.{Refused, TooLong, Memory}
-use Rattle.c_values.specs.Cells.{IsCell, IsFormed}
-use Rattle.c_values.specs.Given.{IsGiven}
-use Rattle.c_values.specs.Refused.{IsNoRoot, IsRefused, MatchNoRoot, refusal_at, rules_of_cell}
 
 -- a reason has a weaker fact too
 pub reason_more : (P Q : Refusal → Type 0) (S T : Type 0) (reason : NoRoot) → ((refusal : Refusal) → P refusal → Q refusal) → (S → T)

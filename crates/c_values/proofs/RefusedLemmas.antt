@@ -1,18 +1,6 @@
 -- What is refused is not valid metadata.
-use Rattle.std.proofs.Common.{◌≡◌, ℕ, ◌+◌, List, [], ◌∷◌, length, inl, inr, sym, ◌∙◌, subst, arith}
-use Rattle.packed.specs.Rule.{Rule, AllHold, FirstBroken}
-use Rattle.table_schema.specs.declared.table.TableId.{TableId}
-use Rattle.table_schema.specs.Tables.{table_number}
-use Rattle.metadata.specs.Cell.{Cell}
-use Rattle.metadata.specs.Metadata.{Metadata}
+use Rattle.c_values.proofs.Prelude.{◌≡◌, ℕ, ◌+◌, List, [], ◌∷◌, length, inl, inr, sym, ◌∙◌, subst, arith, Rule, AllHold, FirstBroken, TableId, table_number, Cell, Metadata, IsValid, Refusal, ClimCell, ClimRow, AreCells, IsCell, AreRows, IsGiven, IsRow, TableRow, IsFirstBadCell, IsFirstBadRow, IsOfBadRow, IsRefused, row_after, count_given}
 use Rattle.metadata.specs.Refusals.{refusals_of}
-use Rattle.metadata.specs.Valid.{IsValid}
-use Rattle.metadata.specs.declared.refusal.Refusal.{Refusal}
-use Rattle.c_values.specs.declared.cell.ClimCell.{ClimCell}
-use Rattle.c_values.specs.declared.row.ClimRow.{ClimRow}
-use Rattle.c_values.specs.Cells.{AreCells, IsCell}
-use Rattle.c_values.specs.Given.{AreRows, IsGiven, IsRow, TableRow}
-use Rattle.c_values.specs.Refused.{IsFirstBadCell, IsFirstBadRow, IsOfBadRow, IsRefused, row_after, count_given}
 use Rattle.c_values.proofs.CellLemmas.{cell_amid, cell_not_broken}
 use Rattle.c_values.proofs.RowLemmas.{row_amid}
 

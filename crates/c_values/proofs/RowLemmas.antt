@@ -1,16 +1,6 @@
 -- Rows that are given one after another.
-use Rattle.std.proofs.Common.{◌≡◌, ◌≢◌, ℕ, Bool, true, false, cond, nat_eq, List, [], ◌∷◌, ◌++◌, length, map, filter, inl, inr, refl, sym, ap, ◌∙◌, subst, arith}
-use Rattle.std.proofs.lemmas.Bool.Decides.{eqb_tells}
-use Rattle.std.proofs.lemmas.List.{map-append, append-nil, length-map}
+use Rattle.c_values.proofs.Prelude.{◌≡◌, ◌≢◌, ℕ, Bool, true, false, cond, nat_eq, List, [], ◌∷◌, ◌++◌, length, map, filter, inl, inr, refl, sym, ap, ◌∙◌, subst, arith, eqb_tells, map-append, append-nil, length-map, TableId, table_number, with_row, Cell, Metadata, rows_of, count_in, ClimRow, AreRows, IsGiven, IsRow, TableRow, cells_of, is_of, count_given}
 use Rattle.std.proofs.lemmas.List.Elements.{filter-append}
-use Rattle.table_schema.specs.declared.table.TableId.{TableId}
-use Rattle.table_schema.specs.Tables.{table_number}
-use Rattle.tables.specs.Push.{with_row}
-use Rattle.metadata.specs.Cell.{Cell}
-use Rattle.metadata.specs.Metadata.{Metadata, rows_of, count_in}
-use Rattle.c_values.specs.declared.row.ClimRow.{ClimRow}
-use Rattle.c_values.specs.Given.{AreRows, IsGiven, IsRow, TableRow, cells_of, is_of}
-use Rattle.c_values.specs.Refused.{count_given}
 
 -- one more row
 pub one_more_row : (given : List ClimRow) (rows : List TableRow) (next : ClimRow) (row : TableRow) → AreRows given rows → IsRow next row

@@ -1,21 +1,6 @@
 -- The steps of the loops over cells and rows.
-use Rattle.std.proofs.Common.{◌≡◌, ℕ, ◌+◌, ◌<◌, ◌≤◌, List, [], ◌∷◌, ◌++◌, length, take, drop, get_or, sym, ap, ◌∙◌, subst, arith}
-use Rattle.std.proofs.lemmas.List.{map-append, take_more, length-take-le, take_all}
-use Rattle.packed.specs.Rule.{FirstBroken}
-use Rattle.table_schema.specs.declared.table.TableId.{TableId}
-use Rattle.table_schema.specs.Tables.{table_number}
+use Rattle.c_values.proofs.Prelude.{◌≡◌, ℕ, ◌+◌, ◌<◌, ◌≤◌, List, [], ◌∷◌, ◌++◌, length, take, drop, get_or, sym, ap, ◌∙◌, subst, arith, map-append, take_more, length-take-le, take_all, FirstBroken, TableId, table_number, said, all_said, with_row, Cell, Metadata, count_in, Refusal, ClimCell, ClimRow, NoRoot, AreCells, IsCell, IsGiven, IsRow, TableRow, IsFirstBadCell, IsFirstBadRow, IsOfBadRow, MatchNoRoot, count_given, row_after, rules_of_cell}
 use Rattle.tables.specs.declared.cell.Cell.{Cell as Owned}
-use Rattle.tables.specs.Said.{said, all_said}
-use Rattle.tables.specs.Push.{with_row}
-use Rattle.metadata.specs.Cell.{Cell}
-use Rattle.metadata.specs.Metadata.{Metadata, count_in}
-use Rattle.metadata.specs.declared.refusal.Refusal.{Refusal}
-use Rattle.c_values.specs.declared.cell.ClimCell.{ClimCell}
-use Rattle.c_values.specs.declared.row.ClimRow.{ClimRow}
-use Rattle.c_values.specs.declared.no_root.NoRoot.{NoRoot}
-use Rattle.c_values.specs.Cells.{AreCells, IsCell}
-use Rattle.c_values.specs.Given.{IsGiven, IsRow, TableRow}
-use Rattle.c_values.specs.Refused.{IsFirstBadCell, IsFirstBadRow, IsOfBadRow, MatchNoRoot, count_given, row_after, rules_of_cell}
 use Rattle.c_values.proofs.CellLemmas.{one_more_cell}
 use Rattle.c_values.proofs.RowLemmas.{count_is}
 use Rattle.c_values.proofs.ReasonLemmas.{reason_more, split_at}

@@ -5,8 +5,7 @@ use Rattle.table_schema.specs.declared.column.ColumnKind.{ColumnKind}
 use Rattle.table_schema.specs.declared.table.TableId.{TableId}
 use Rattle.table_schema.specs.Columns.{columns_of}
 use Rattle.table_schema.specs.CellColumns.{is_padding}
-use Rattle.metadata.specs.Cell.{Cell}
-use Rattle.metadata.specs.Cell.{Text, Bytes, Guid, Sig}
+use Rattle.metadata.specs.Cell.{Cell, Text, Bytes, Guid, Sig}
 use Rattle.metadata.specs.Metadata.{Metadata, rows_of}
 use Rattle.root_writer.specs.Pools.{Pools}
 use Rattle.root_writer.specs.Numbers.{cell_number}

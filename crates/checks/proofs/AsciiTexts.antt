@@ -1,16 +1,5 @@
 -- Texts in a heap of ASCII, by the offset of its last NUL.
-use Rattle.std.proofs.Common.{◌≡◌, ◌≢◌, ℕ, zero, suc, ◌-◌, ◌<◌, ◌≤◌, List, [], ◌∷◌, ◌++◌, length, take, drop, slice_index, Option, Some, None, inl, inr, refl, sym, ap, subst, ◌∙◌, arith, length-drop}
-use Rattle.std.specs.Prelude.{unwrap_or}
-use Rattle.std.specs.Str.{IsAscii}
-use Rattle.std.proofs.lemmas.Str.{IsUtf8-from_ascii, IsAscii-drop, IsAscii-take}
-use Rattle.std.proofs.lemmas.List.{get_or-drop, take-append-drop, length-take-le}
-use Rattle.std.proofs.lemmas.List.Elements.{All-cons}
-use Rattle.std.proofs.lemmas.Bool.{cases_eq, eqb-true}
-use Rattle.memchr.specs.Find.{IsLastByte, is_byte}
-use Rattle.packed.specs.Rule.{AllHold}
-use Rattle.heap_entries.specs.Entries.{IsEnded, IsText, HasNoNul}
-use Rattle.heap_entries.specs.Rules.{rules_of_text}
-use Rattle.checks.specs.Texts.{HasTextsTo}
+use Rattle.checks.proofs.Prelude.{◌≡◌, ◌≢◌, ℕ, zero, suc, ◌-◌, ◌<◌, ◌≤◌, List, [], ◌∷◌, ◌++◌, length, take, drop, slice_index, Option, Some, None, inl, inr, refl, sym, ap, subst, ◌∙◌, arith, length-drop, unwrap_or, IsAscii, IsUtf8-from_ascii, IsAscii-drop, IsAscii-take, get_or-drop, take-append-drop, length-take-le, All-cons, cases_eq, eqb-true, IsLastByte, is_byte, AllHold, IsEnded, IsText, HasNoNul, rules_of_text, HasTextsTo}
 use Rattle.checks.proofs.Ended.{bytes_are}
 
 -- bytes with a NUL have a first one

@@ -1,9 +1,5 @@
 -- Short blobs end within the heap.
-use Rattle.std.proofs.Common.{◌≡◌, ℕ, ◌+◌, ◌-◌, ◌<◌, ◌≤◌, List, [], ◌∷◌, ◌++◌, length, take, drop, get_or, refl, sym, subst, ◌∙◌, ap, inl, inr, arith, length-drop}
-use Rattle.std.proofs.lemmas.Bool.{cases_eq}
-use Rattle.std.proofs.lemmas.List.{length-take-le, drop_more, take-append-drop, get_or-take}
-use Rattle.packed.specs.Packed.{IsPacked}
-use Rattle.heap_entries.specs.Entries.{IsCounted, IsBlob}
+use Rattle.checks.proofs.Prelude.{◌≡◌, ℕ, ◌+◌, ◌-◌, ◌<◌, ◌≤◌, List, [], ◌∷◌, ◌++◌, length, take, drop, get_or, refl, sym, subst, ◌∙◌, ap, inl, inr, arith, length-drop, cases_eq, length-take-le, drop_more, take-append-drop, get_or-take, IsPacked, IsCounted, IsBlob}
 
 -- a byte below 128 is the length of a blob, if that number of bytes follows
 counted : (heap : List ℕ) (index len : ℕ) → index + 1 + len ≤ length heap → get_or heap index 0 ≡ len → len < 128 → IsCounted heap index (take len (drop (index + 1) heap))

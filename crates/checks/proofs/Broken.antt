@@ -1,16 +1,6 @@
 -- The first row that breaks a rule for cells, and its fault.
-use Rattle.std.proofs.Common.{◌≡◌, false, true, List, Result, Ok, Err, is_err, sym, subst, arith}
-use Rattle.std.proofs.lemmas.Bool.{false≢true}
+use Rattle.checks.proofs.Prelude.{◌≡◌, false, true, List, Result, Ok, Err, is_err, sym, subst, arith, false≢true, Rule, AllHold, FirstBroken, Reports, none_fails, before_fails, TableId, rows_in, SourceAt, table_at, rules_of_cells, rules_of_table, rules_of_table_at, rules_of_row, IsBroken, BrokenRow}
 use Rattle.packed.specs.declared.fault.Fault.{Fault}
-use Rattle.packed.specs.Rule.{Rule, AllHold, FirstBroken, Reports}
-use Rattle.packed.proofs.RuleLemmas.{none_fails, before_fails}
-use Rattle.table_schema.specs.declared.table.TableId.{TableId}
-use Rattle.metadata.specs.Source.{rows_in}
-use Rattle.metadata.specs.SourceAt.{SourceAt}
-use Rattle.metadata.specs.Rows.{table_at}
-use Rattle.metadata.specs.Rules.{rules_of_cells, rules_of_table, rules_of_table_at, rules_of_row}
-use Rattle.checks.specs.Broken.{IsBroken}
-use Rattle.checks.specs.declared.cell_checks.BrokenRow.{BrokenRow}
 
 -- rules whose check does not fail hold, and rules whose check fails do not
 pub passes : {X : Type 0} (ds : List (Rule Fault)) (r : Result X Fault) → Reports ds r → is_err r ≡ false → AllHold ds

@@ -1,16 +1,9 @@
 -- Coded indexes below the limits of their tags.
-use Rattle.std.proofs.Common.{◌≡◌, ◌≢◌, ℕ, ◌+◌, ◌-◌, ◌*◌, ◌/◌, ◌%◌, ◌^◌, ◌<◌, ◌≤◌, Bool, true, List, length, replicate, slice_index, slice_set, inl, inr, arith}
+use Rattle.checks.proofs.Prelude.{◌≡◌, ◌≢◌, ℕ, ◌+◌, ◌-◌, ◌*◌, ◌/◌, ◌%◌, ◌^◌, ◌<◌, ◌≤◌, Bool, true, List, length, replicate, slice_index, slice_set, inl, inr, arith, cases_eq, div-add-mod', mod_below, AllHold, Token, Source, MayRefer, rules_of_number, IsLimit, AreLimits}
 use Rattle.std.proofs.Math.Nat.{one-le-pow, pow-le-pow_right}
-use Rattle.std.proofs.lemmas.Bool.{cases_eq}
-use Rattle.std.proofs.lemmas.Nat.{div-add-mod', mod_below}
-use Rattle.packed.specs.Rule.{AllHold}
-use Rattle.table_schema.specs.declared.token.Token.{Token}
 use Rattle.table_schema.specs.declared.coded.Coded.{Coded}
 use Rattle.table_schema.specs.declared.column.ColumnKind.TheVariants as kind
 use Rattle.table_schema.specs.CodedIndexes.{tag_bits, IsCoded}
-use Rattle.metadata.specs.Source.{Source}
-use Rattle.metadata.specs.Rules.{MayRefer, rules_of_number}
-use Rattle.checks.specs.CodedLimits.{IsLimit, AreLimits}
 use Rattle.checks.proofs.PassedLemmas.{none_in, slots_more}
 
 -- no limits, and one more

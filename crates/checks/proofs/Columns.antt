@@ -1,19 +1,7 @@
 -- Columns whose rules hold.
-use Rattle.std.proofs.Common.{◌≡◌, ℕ, ◌+◌, ◌<◌, ◌≤◌, List, ◌⊎◌, inl, inr, sym, subst, arith, length}
-use Rattle.std.proofs.lemmas.Bool.{cases_eq}
+use Rattle.checks.proofs.Prelude.{◌≡◌, ℕ, ◌+◌, ◌<◌, ◌≤◌, List, ◌⊎◌, inl, inr, sym, subst, arith, length, cases_eq, Rule, AllHold, HoldBefore, rules_from, all_of_each, each_holds, TableId, Column, ColumnKind, columns_of, column_at, rows_in, number_of, SourceAt, cell_offset, rules_of_number, rules_of_cell, rules_of_row, rules_of_encoding, rules_of_signature, rules_of_signatures_in, AllPass, IsNotEncoded, ColumnMeets, ColumnStands, ColumnEncodes}
 use Rattle.packed.specs.declared.fault.Fault.{Fault}
-use Rattle.packed.specs.Rule.{Rule, AllHold, HoldBefore, rules_from}
-use Rattle.packed.proofs.RuleLemmas.{all_of_each, each_holds}
-use Rattle.table_schema.specs.declared.table.TableId.{TableId}
-use Rattle.table_schema.specs.declared.column.Column.{Column}
-use Rattle.table_schema.specs.declared.column.ColumnKind.{ColumnKind}
 use Rattle.table_schema.specs.declared.column.ColumnKind.TheVariants as kind
-use Rattle.table_schema.specs.Columns.{columns_of, column_at}
-use Rattle.metadata.specs.Source.{rows_in, number_of}
-use Rattle.metadata.specs.SourceAt.{SourceAt, cell_offset}
-use Rattle.metadata.specs.Rules.{rules_of_number, rules_of_cell, rules_of_row}
-use Rattle.metadata.specs.Rules.{rules_of_encoding, rules_of_signature, rules_of_signatures_in}
-use Rattle.checks.specs.Columns.{AllPass, IsNotEncoded, ColumnMeets, ColumnStands, ColumnEncodes}
 
 -- if the rules of all columns hold, the rules of a row hold
 row_meets : (rules : ℕ → ℕ → List (Rule Fault)) (end width row : ℕ) → ((column : ℕ) → column < width → ColumnMeets rules end column)

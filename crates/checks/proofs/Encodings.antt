@@ -1,24 +1,10 @@
 -- What a check of a blob says about the rules for its signature.
-use Rattle.std.proofs.Common.{◌≡◌, ℕ, Bool, true, false, List, [], ◌∷◌, Some, None, Result, refl, sym, ◌⊎◌, slice_index, inl, inr, arith}
+use Rattle.checks.proofs.Prelude.{◌≡◌, ℕ, Bool, true, false, List, [], ◌∷◌, Some, None, Result, refl, sym, ◌⊎◌, slice_index, inl, inr, arith, nat_tests, FaultCode, BadSignature, SignatureIndex, Reports, AllHold, FirstBroken, fault, IsBlob, TableId, Token, Column, SigKind, column_at, Source, rows_in, number_of, IsThere, SourceAt, cell_offset, rules_of_encoding, rules_of_signature, code_at}
 use Rattle.std.specs.List.{AllByRecursion}
-use Rattle.std.proofs.lemmas.Bool.Decides.{nat_tests}
-use Rattle.packed.specs.declared.code.FaultCode.{FaultCode}
-use Rattle.packed.specs.declared.code.FaultCode.TheVariants.{BadSignature, SignatureIndex}
-use Rattle.packed.specs.Rule.{Reports, AllHold, FirstBroken, fault}
-use Rattle.heap_entries.specs.Entries.{IsBlob}
-use Rattle.table_schema.specs.declared.table.TableId.{TableId}
-use Rattle.table_schema.specs.declared.token.Token.{Token}
-use Rattle.table_schema.specs.declared.column.Column.{Column}
-use Rattle.table_schema.specs.declared.column.SigKind.{SigKind}
 use Rattle.table_schema.specs.declared.column.ColumnKind.TheVariants as kind
 use Rattle.table_schema.specs.Tables.{table_number}
-use Rattle.table_schema.specs.Columns.{column_at}
 use Rattle.sig_grammar.specs.Encodes.{Encodes, tokens, has_row, first_bad}
 use Rattle.sig_grammar.specs.Syntax.{Body}
-use Rattle.metadata.specs.Source.{Source, rows_in, number_of, IsThere}
-use Rattle.metadata.specs.SourceAt.{SourceAt, cell_offset}
-use Rattle.metadata.specs.Rules.{rules_of_encoding, rules_of_signature}
-use Rattle.reading.specs.Codes.{code_at}
 
 -- the check of a number in a column reports the rules for its signature
 pub encoding_reports : (here : SourceAt) (table : TableId) (row column number : ℕ) (held : Column) {X : Type 0} (r : Result X FaultCode) → held ≡ column_at table column → number ≡ number_of here.source table row column → ((offset : ℕ) → Reports (rules_of_encoding here.source held.kind number offset) (code_at offset r)) → Reports (rules_of_signature here table row column) (code_at (cell_offset here table row column) r)

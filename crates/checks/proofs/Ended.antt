@@ -1,8 +1,6 @@
 -- Bytes up to a NUL.
 use Rattle.std.proofs.Common.{◌≡◌, ◌≢◌, ℕ, ◌+◌, ◌<◌, ◌≤◌, List, ◌∷◌, ◌++◌, length, take, drop, slice_index, IsUtf8, inl, inr, refl, sym, ap, subst, ◌∙◌, ⊎_elim, arith, length-append}
-use Rattle.std.proofs.lemmas.Bool.{cases_lt}
-use Rattle.std.proofs.lemmas.List.{drop_at, take_at, get_or_append_left, get_or_at, get_or-drop}
-use Rattle.heap_entries.specs.Entries.{IsEnded, IsText}
+use Rattle.checks.proofs.Prelude.{cases_lt, drop_at, take_at, get_or_append_left, get_or_at, get_or-drop, IsEnded, IsText}
 
 module _ (heap : List ℕ) (start : ℕ) (bytes : List ℕ) (e : IsEnded heap start bytes) where
   pub tail_is : drop start heap ≡ bytes ++ 0 ∷ e.after

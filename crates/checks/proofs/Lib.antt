@@ -7,6 +7,7 @@ pub mod Ended
 pub mod Numbers
 pub mod PassedLemmas
 pub mod Encodings
+pub mod Prelude
 pub mod Spending
 pub mod SpendingTexts
 pub mod Starts

@@ -1,22 +1,7 @@
 -- What a check of a number says about its cell.
-use Rattle.std.proofs.Common.{◌≡◌, ℕ, false, List, Result, Ok, Err, cond, sym, ap, subst, ◌∙◌}
-use Rattle.std.specs.Str.{is_utf8}
-use Rattle.packed.specs.declared.code.FaultCode.{FaultCode}
+use Rattle.checks.proofs.Prelude.{◌≡◌, ℕ, false, List, Result, Ok, Err, cond, sym, ap, subst, ◌∙◌, is_utf8, FaultCode, Rule, AllHold, FirstBroken, Reports, fault, none_fails, HeapFault, code_of, rules_of_text, TableId, Column, ColumnKind, column_at, number_of, SourceAt, cell_offset, rules_of_number, rules_of_cell, code_at, text_length, counted_text, cell_text_bytes}
 use Rattle.packed.specs.declared.fault.Fault.{Fault}
-use Rattle.packed.specs.Rule.{Rule, AllHold, FirstBroken, Reports, fault}
-use Rattle.packed.proofs.RuleLemmas.{none_fails}
-use Rattle.heap_entries.specs.declared.fault.HeapFault.{HeapFault}
-use Rattle.heap_entries.specs.Rules.{code_of, rules_of_text}
-use Rattle.table_schema.specs.declared.table.TableId.{TableId}
-use Rattle.table_schema.specs.declared.column.Column.{Column}
-use Rattle.table_schema.specs.declared.column.ColumnKind.{ColumnKind}
 use Rattle.table_schema.specs.declared.column.ColumnKind.TheVariants as kind
-use Rattle.table_schema.specs.Columns.{column_at}
-use Rattle.metadata.specs.Source.{number_of}
-use Rattle.metadata.specs.SourceAt.{SourceAt, cell_offset}
-use Rattle.metadata.specs.Rules.{rules_of_number, rules_of_cell}
-use Rattle.reading.specs.Codes.{code_at}
-use Rattle.checks.specs.TextBytes.{text_length, counted_text, cell_text_bytes}
 
 -- the check of a number in a column reports the rules for its cell
 pub cell_reports : (here : SourceAt) (table : TableId) (row column number : ℕ) (held : Column) {X : Type 0} (r : Result X FaultCode) → held ≡ column_at table column → number ≡ number_of here.source table row column → ((offset : ℕ) → Reports (rules_of_number here.source held.kind held.nullable number offset) (code_at offset r)) → Reports (rules_of_cell here table row column) (code_at (cell_offset here table row column) r)

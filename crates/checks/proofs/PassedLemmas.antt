@@ -1,11 +1,7 @@
 -- The numbers in slots.
-use Rattle.std.proofs.Common.{◌≡◌, ◌≢◌, ℕ, ◌+◌, ◌<◌, ◌≤◌, ◌%◌, ◌/◌, List, length, replicate, slice_index, slice_set, nat_eq, nat_lt, sym, subst, ◌∙◌, inl, inr, arith}
+use Rattle.checks.proofs.Prelude.{◌≡◌, ◌≢◌, ℕ, ◌+◌, ◌<◌, ◌≤◌, ◌%◌, ◌/◌, List, length, replicate, slice_index, slice_set, nat_eq, nat_lt, sym, subst, ◌∙◌, inl, inr, arith, cases_eq, cases_lt, nat_tests, get_or-replicate, get_or-set_other, get_or_past, length-replicate, Keeps, no_slots}
 use Rattle.std.specs.Prelude.{◌&&◌, ◌||◌, IsTrue}
-use Rattle.std.proofs.lemmas.Bool.{cases_eq, cases_lt}
-use Rattle.std.proofs.lemmas.Bool.Decides.{nat_tests}
 use Rattle.std.proofs.lemmas.Grind.{get_or-set_at}
-use Rattle.std.proofs.lemmas.List.{get_or-replicate, get_or-set_other, get_or_past, length-replicate}
-use Rattle.checks.specs.Passed.{Keeps, no_slots}
 
 -- each of the empty slots holds 0
 pub none_in : (count slot : ℕ) → slice_index (replicate count 0) slot ≡ 0

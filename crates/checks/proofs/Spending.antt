@@ -1,9 +1,6 @@
 -- Spending a budget, step by step.
-use Rattle.std.proofs.Common.{ℕ, ◌+◌, ◌<◌, ◌≤◌, refl, arith}
-use Rattle.checks.specs.declared.budget.Budget.{Budget}
+use Rattle.checks.proofs.Prelude.{ℕ, ◌+◌, ◌<◌, ◌≤◌, refl, arith, Budget, IsBelow, Takes, Spends, sum_below}
 use Rattle.checks.specs.declared.budget.Budget.TheVariants.{Unbounded, Left}
-use Rattle.checks.specs.Budgets.{IsBelow, Takes, Spends}
-use Rattle.checks.specs.Signatures.{sum_below}
 use Rattle.checks.proofs.Sums.{sum_none, sum_more, sum_step}
 
 spends_none : (budget : Budget) → Spends budget budget 0

@@ -1,24 +1,6 @@
 -- Budgets that the texts of rows spend, and budgets that they do not.
-use Rattle.std.proofs.Common.{◌≡◌, ℕ, ◌+◌, ◌-◌, ◌<◌, ◌≤◌, true, Option, Some, None, inl, inr, refl, sym, ap, subst, cond, length, arith}
-use Rattle.std.specs.Str.{is_utf8}
-use Rattle.std.proofs.lemmas.Bool.{cases_eq, cases_lt}
-use Rattle.packed.specs.Rule.{HoldBefore}
-use Rattle.packed.proofs.RuleLemmas.{each_holds}
-use Rattle.table_schema.specs.declared.table.TableId.{TableId}
-use Rattle.table_schema.specs.declared.column.ColumnKind.{ColumnKind}
+use Rattle.checks.proofs.Prelude.{◌≡◌, ℕ, ◌+◌, ◌-◌, ◌<◌, ◌≤◌, true, Option, Some, None, inl, inr, refl, sym, ap, subst, cond, length, arith, is_utf8, cases_eq, cases_lt, HoldBefore, each_holds, TableId, ColumnKind, columns_of, column_at, Source, rows_in, number_of, SourceAt, table_at, rules_of_row, rules_of_table, rules_of_table_at, Budget, BrokenRow, Takes, RowsSpend, TextsSpend, IsBroken, bytes_before_in, sum_below, text_length, counted_text, cell_text_bytes, row_text_bytes, rows_text_bytes, table_text_bytes, text_bytes, text_bytes_to}
 use Rattle.table_schema.specs.declared.column.ColumnKind.TheVariants as kind
-use Rattle.table_schema.specs.Columns.{columns_of, column_at}
-use Rattle.metadata.specs.Source.{Source, rows_in, number_of}
-use Rattle.metadata.specs.SourceAt.{SourceAt}
-use Rattle.metadata.specs.Rows.{table_at}
-use Rattle.metadata.specs.Rules.{rules_of_row, rules_of_table, rules_of_table_at}
-use Rattle.checks.specs.declared.budget.Budget.{Budget}
-use Rattle.checks.specs.declared.cell_checks.BrokenRow.{BrokenRow}
-use Rattle.checks.specs.Budgets.{Takes}
-use Rattle.checks.specs.Within.{RowsSpend, TextsSpend}
-use Rattle.checks.specs.Broken.{IsBroken, bytes_before_in}
-use Rattle.checks.specs.Signatures.{sum_below}
-use Rattle.checks.specs.TextBytes.{text_length, counted_text, cell_text_bytes, row_text_bytes, rows_text_bytes, table_text_bytes, text_bytes, text_bytes_to}
 use Rattle.checks.proofs.Spending.{takes_none, below_taken, taken_enough}
 use Rattle.checks.proofs.Sums.{sum_fewer, sum_step, sum_nothing}
 

@@ -1,17 +1,7 @@
 -- The start of an owner, from that of the next owner.
-use Rattle.std.proofs.Common.{◌≡◌, ℕ, ◌+◌, ◌-◌, ◌<◌, ◌≤◌, ltb, ◌&&◌, cond, Bool, true, false, Option, Some, None}
-use Rattle.std.proofs.Common.{refl, sym, ◌∙◌, eqb, arith, inl, inr}
-use Rattle.std.proofs.lemmas.Bool.{cases_lt, cases_eq}
-use Rattle.std.proofs.lemmas.Bool.Decides.{nat_tests}
-use Rattle.packed.specs.declared.code.FaultCode.TheVariants.{BadRun}
-use Rattle.packed.specs.Rule.{rules_from, fault}
-use Rattle.table_schema.specs.declared.table.TableId.{TableId}
-use Rattle.metadata.specs.Source.{Source, rows_in, number_of}
-use Rattle.metadata.specs.Starts.{start_from, start_of}
-use Rattle.metadata.specs.SourceAt.{SourceAt, cell_offset}
-use Rattle.metadata.specs.Rules.{rules_of_start}
+use Rattle.std.proofs.Common.{◌≡◌, ℕ, ◌+◌, ◌-◌, ◌<◌, ◌≤◌, ltb, ◌&&◌, cond, Bool, true, false, Option, Some, None, refl, sym, ◌∙◌, eqb, arith, inl, inr}
+use Rattle.checks.proofs.Prelude.{cases_lt, cases_eq, nat_tests, BadRun, rules_from, fault, TableId, Source, rows_in, number_of, start_from, start_of, SourceAt, cell_offset, rules_of_start, IsVerdict, fault_in_row}
 use Rattle.reading.proofs.StartLemmas.{start_here, start_next}
-use Rattle.checks.specs.Runs.{IsVerdict, fault_in_row}
 use Rattle.checks.proofs.Verdicts.{first_of, verdict_unless, verdict_prefix, verdict_over}
 
 start_none : (value : ℕ → ℕ) (end row n : ℕ) → n ≡ 0 → start_from value end row n ≡ end

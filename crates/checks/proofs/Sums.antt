@@ -1,14 +1,8 @@
 -- Sums of the numbers below one, and the lengths of blobs.
-use Rattle.std.proofs.Common.{◌≡◌, ℕ, zero, suc, ◌+◌, ◌<◌, ◌≤◌, List, ◌++◌, length, drop, Some, inl, inr, refl, subst, sym, ap, ◌∙◌, true, add-one, arith}
-use Rattle.std.specs.Prelude.{nat_le}
-use Rattle.std.proofs.lemmas.Bool.{cases_eq}
-use Rattle.std.proofs.lemmas.Bool.Decides.{nat_tests}
+use Rattle.checks.proofs.Prelude.{◌≡◌, ℕ, zero, suc, ◌+◌, ◌<◌, ◌≤◌, List, ◌++◌, length, drop, Some, inl, inr, refl, subst, sym, ap, ◌∙◌, true, add-one, arith, nat_le, cases_eq, nat_tests, IsPacked, IsBlob, IsCounted, sum_below, counted_length, blob_length}
 use Rattle.std.proofs.lemmas.List.{length-append}
 use Rattle.std.proofs.Math.Seq.{drop-append_seam}
 use Rattle.packed.specs.Prefix.{unsigned_at}
-use Rattle.packed.specs.Packed.{IsPacked}
-use Rattle.heap_entries.specs.Entries.{IsBlob, IsCounted}
-use Rattle.checks.specs.Signatures.{sum_below, counted_length, blob_length}
 
 pub sum_none : (f : ℕ → ℕ) → sum_below f 0 ≡ 0
 unfolding sum_below

@@ -1,12 +1,5 @@
 -- The bytes of texts that are counted.
-use Rattle.std.proofs.Common.{◌≡◌, ◌≢◌, ℕ, zero, suc, ◌+◌, ◌-◌, ◌%◌, ◌/◌, ◌<◌, ◌≤◌, false, List, [], ◌∷◌, length, take, drop, slice_index, nat_eq, Option, Some, None, sym, ap, ◌∙◌, cond, eq-eqb, arith, length-drop}
-use Rattle.std.specs.Prelude.{unwrap_or}
-use Rattle.std.proofs.lemmas.Bool.{eqb-true}
-use Rattle.std.proofs.lemmas.Bool.Decides.{nat_tests}
-use Rattle.std.proofs.lemmas.List.{get_or-take, length-take-le}
-use Rattle.memchr.specs.Find.{IsFirstByte, is_byte}
-use Rattle.checks.specs.TextBytes.{bytes_before_nul, text_length}
-use Rattle.checks.specs.Texts.{Reaches}
+use Rattle.checks.proofs.Prelude.{◌≡◌, ◌≢◌, ℕ, zero, suc, ◌+◌, ◌-◌, ◌%◌, ◌/◌, ◌<◌, ◌≤◌, false, List, [], ◌∷◌, length, take, drop, slice_index, nat_eq, Option, Some, None, sym, ap, ◌∙◌, cond, eq-eqb, arith, length-drop, unwrap_or, eqb-true, nat_tests, get_or-take, length-take-le, IsFirstByte, is_byte, bytes_before_nul, text_length, Reaches}
 use Rattle.checks.proofs.Ended.{ended_length, none_in}
 use Rattle.checks.proofs.TextLemmas.{ending_ended}
 

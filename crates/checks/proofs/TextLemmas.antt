@@ -1,17 +1,7 @@
 -- Texts within and before a known text.
 use Rattle.std.proofs.Common.{◌≡◌, ◌≢◌, ℕ, ◌+◌, ◌-◌, ◌*◌, ◌/◌, ◌<◌, ◌≤◌, List, ◌∷◌, ◌++◌, length, take, drop, slice_index, slice_set, IsUtf8, Option, Some, None, is_some, is_err, Result, false, Ok, Err, inl, inr, refl, sym, ap, subst, ◌∙◌, arith, length-append, length-drop, append_assoc, eq-eqb}
-use Rattle.std.proofs.lemmas.List.{take-append-drop, take_at, drop-drop, length-take-le}
-use Rattle.std.proofs.lemmas.List.Elements.{All-append, All-drop, All-from_get_or}
-use Rattle.std.proofs.lemmas.Str.{IsUtf8-drop, IsUtf8-take, IsCharBoundary-from_drop, IsCharBoundary-at_seam}
-use Rattle.std.proofs.lemmas.Bool.{false≢true}
-use Rattle.std.proofs.lemmas.Nat.{div-add-mod', mul-le}
-use Rattle.memchr.specs.Find.{IsFirstByte, is_byte}
-use Rattle.packed.specs.Rule.{AllHold, Reports}
-use Rattle.heap_entries.specs.Rules.{at_offset, rules_of_text}
-use Rattle.heap_entries.specs.declared.fault.HeapFault.{HeapFault}
+use Rattle.checks.proofs.Prelude.{take-append-drop, take_at, drop-drop, length-take-le, All-append, All-drop, All-from_get_or, IsUtf8-drop, IsUtf8-take, IsCharBoundary-from_drop, IsCharBoundary-at_seam, false≢true, div-add-mod', mul-le, IsFirstByte, is_byte, AllHold, Reports, at_offset, rules_of_text, HeapFault, IsEnded, HasNoNul, AreStarts, Reaches}
 use Rattle.heap_entries.specs.declared.fault.HeapFault.TheVariants.{BadUtf8}
-use Rattle.heap_entries.specs.Entries.{IsEnded, HasNoNul}
-use Rattle.checks.specs.Texts.{AreStarts, Reaches}
 use Rattle.checks.proofs.PassedLemmas.{slots_more}
 use Rattle.checks.proofs.Ended.{tail_is, ended_length, byte_is, no_text}
 

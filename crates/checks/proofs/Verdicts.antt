@@ -1,10 +1,6 @@
 -- The first broken rule in order, if there is one.
-use Rattle.std.proofs.Common.{◌≡◌, ℕ, suc, ◌+◌, Bool, true, false, List, [], ◌∷◌, ◌++◌, inl, Option, Some, None, refl, cond}
-use Rattle.packed.specs.declared.code.FaultCode.{FaultCode}
+use Rattle.checks.proofs.Prelude.{◌≡◌, ℕ, suc, ◌+◌, Bool, true, false, List, [], ◌∷◌, ◌++◌, inl, Option, Some, None, refl, cond, FaultCode, Rule, rule, fault, rules_from, all_append, fails_prefix, fails_back, IsVerdict}
 use Rattle.packed.specs.declared.fault.Fault.{Fault}
-use Rattle.packed.specs.Rule.{Rule, rule, fault, rules_from}
-use Rattle.packed.proofs.RuleLemmas.{all_append, fails_prefix, fails_back}
-use Rattle.checks.specs.Runs.{IsVerdict}
 
 -- the first of two faults
 abbrev pub first_of : Option Fault → Option Fault → Option Fault

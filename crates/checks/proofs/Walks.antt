@@ -1,19 +1,7 @@
 -- What a walk over the numbers of a column walks, number by number.
 use Rattle.std.proofs.Common.{◌≡◌, ℕ, zero, suc, ◌+◌, ◌-◌, ◌≤◌, ◌<◌, Bool, true, false, cond, length, Option, Some, None, IfSome, IfNone, OnSome, add-one, refl, sym, ap, subst, ◌∙◌, inl, inr, arith}
-use Rattle.std.proofs.lemmas.Bool.{cases_eq}
-use Rattle.table_schema.specs.declared.table.TableId.{TableId}
-use Rattle.table_schema.specs.declared.column.SigKind.{SigKind}
-use Rattle.table_schema.specs.declared.column.Column.{Column}
-use Rattle.table_schema.specs.declared.column.ColumnKind.{ColumnKind}
+use Rattle.checks.proofs.Prelude.{cases_eq, TableId, SigKind, Column, ColumnKind, columns_of, column_at, Source, rows_in, table_at, Budget, IsBelow, Takes, Spends, Slots, no_slots, is_kept, keep, Walk, walk_one, walk_over, number_after, walked_bytes, walked_in, column_walked, table_walked, table_walked_at, walked_signature_bytes, StopsAt, sum_below, blob_length, cell_bytes, column_bytes, table_bytes, table_bytes_at, signature_bytes}
 use Rattle.table_schema.specs.declared.column.ColumnKind.TheVariants as kind
-use Rattle.table_schema.specs.Columns.{columns_of, column_at}
-use Rattle.metadata.specs.Source.{Source, rows_in}
-use Rattle.metadata.specs.Rows.{table_at}
-use Rattle.checks.specs.declared.budget.Budget.{Budget}
-use Rattle.checks.specs.Budgets.{IsBelow, Takes, Spends}
-use Rattle.checks.specs.Passed.{Slots, no_slots, is_kept, keep}
-use Rattle.checks.specs.Walks.{Walk, walk_one, walk_over, number_after, walked_bytes, walked_in, column_walked, table_walked, table_walked_at, walked_signature_bytes, StopsAt}
-use Rattle.checks.specs.Signatures.{sum_below, blob_length, cell_bytes, column_bytes, table_bytes, table_bytes_at, signature_bytes}
 use Rattle.checks.proofs.Spending.{takes_none, takes_more, below_taken, below_within, taken_within}
 use Rattle.checks.proofs.Sums.{sum_each}
 

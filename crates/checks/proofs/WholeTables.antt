@@ -1,15 +1,7 @@
 -- Errors of parts of the rules for tables.
-use Rattle.std.proofs.Common.{◌++◌, inl, append_assoc, arith}
+use Rattle.checks.proofs.Prelude.{◌++◌, inl, append_assoc, arith, AllHold, FirstBroken, fails_prefix, fails_back, SourceAt, rules_of_cells, rules_of_order, rules_of_runs, rules_of_nesting, rules_of_signatures, rules_of_tables, Budget, BoundedError, text_bytes_to, FailsWithin, IsSpent, TextsSpend, counted_bytes}
 use Rattle.packed.specs.declared.fault.Fault.{Fault as First}
-use Rattle.packed.specs.Rule.{AllHold, FirstBroken}
-use Rattle.packed.proofs.RuleLemmas.{fails_prefix, fails_back}
-use Rattle.metadata.specs.SourceAt.{SourceAt}
-use Rattle.metadata.specs.Rules.{rules_of_cells, rules_of_order, rules_of_runs, rules_of_nesting, rules_of_signatures, rules_of_tables}
-use Rattle.checks.specs.declared.budget.Budget.{Budget}
-use Rattle.checks.specs.declared.budget.BoundedError.{BoundedError}
 use Rattle.checks.specs.declared.budget.BoundedError.TheVariants.{Fault, BudgetSpent}
-use Rattle.checks.specs.TextBytes.{text_bytes_to}
-use Rattle.checks.specs.Within.{FailsWithin, IsSpent, TextsSpend, counted_bytes}
 use Rattle.checks.proofs.Spending.{below_within}
 use Rattle.checks.proofs.SpendingTexts.{to_all}
 

@@ -1,14 +1,7 @@
 -- Results within a budget, part by part.
-use Rattle.std.proofs.Common.{ℕ, ◌<◌, List, ◌++◌, arith}
+use Rattle.checks.proofs.Prelude.{ℕ, ◌<◌, List, ◌++◌, arith, Rule, AllHold, HoldBefore, rules_from, before_fails, fails_back, Budget, BoundedError, IsBelow, Takes, FailsWithin, sum_below}
 use Rattle.packed.specs.declared.fault.Fault.{Fault as First}
-use Rattle.packed.specs.Rule.{Rule, AllHold, HoldBefore, rules_from}
-use Rattle.packed.proofs.RuleLemmas.{before_fails, fails_back}
-use Rattle.checks.specs.declared.budget.Budget.{Budget}
-use Rattle.checks.specs.declared.budget.BoundedError.{BoundedError}
 use Rattle.checks.specs.declared.budget.BoundedError.TheVariants.{Fault, BudgetSpent}
-use Rattle.checks.specs.Budgets.{IsBelow, Takes}
-use Rattle.checks.specs.Within.{FailsWithin}
-use Rattle.checks.specs.Signatures.{sum_below}
 use Rattle.checks.proofs.Spending.{part_refused}
 
 -- if all parts before hold, the error of the next part is the error of all parts

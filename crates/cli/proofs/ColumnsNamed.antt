@@ -1,23 +1,11 @@
 -- The columns that arguments name, one after another.
-use Rattle.std.proofs.Common.{◌≡◌, ◌≢◌, ◌∙◌, ◌+◌, ◌<◌, ◌≤◌, ℕ, Bool, true, false, cond, List, [], ◌∷◌, ◌++◌, All, map, drop, take, get_or, length, refl, ap, sym, subst, arith, inl, inr, ◌⊎◌}
+use Rattle.cli.proofs.Prelude.{◌≡◌, ◌≢◌, ◌∙◌, ◌+◌, ◌<◌, ◌≤◌, ℕ, Bool, true, false, cond, List, [], ◌∷◌, ◌++◌, All, map, drop, take, get_or, length, refl, ap, sym, subst, arith, inl, inr, ◌⊎◌, Any, to_ascii_lowercase, Bor, drop-append_seam, take-append_seam, append_cancel_left, get_or_append_left, length-append, length-map, map-append, take-append-drop, take_more, All-get_or, All-more, All-weaker, TableId, cell_count, table_index_of, table_name, tables, column_name, AreOthersSame, is_ignored, no_columns, NamesColumn, NamesIgnored, NamesSome}
 use Rattle.std.specs.Prelude.{Option, None, Some, IfNone, IfSome, slice_index_or}
-use Rattle.std.specs.List.{Any}
-use Rattle.std.specs.Char.{to_ascii_lowercase}
-use Rattle.std.specs.Borrow.{Bor}
 use Rattle.std.proofs.Math.Dec.{ltb}
-use Rattle.std.proofs.Math.Seq.{drop-append_seam, take-append_seam}
 use Rattle.std.proofs.lemmas.Bool.{cases_eq, ltb-false}
-use Rattle.std.proofs.lemmas.List.{append_cancel_left, get_or_append_left, length-append, length-map, map-append, take-append-drop, take_more}
-use Rattle.std.proofs.lemmas.List.Elements.{All-get_or, All-more, All-weaker}
 use Rattle.std.proofs.lemmas.List.Quantifiers.{Any-push}
-use Rattle.table_schema.specs.declared.table.TableId.{TableId}
 use Rattle.table_schema.specs.declared.table.TableId.TheVariants.{Module}
-use Rattle.table_schema.specs.CellColumns.{cell_count}
-use Rattle.table_schema.specs.Tables.{table_index_of, table_name, tables}
-use Rattle.cli_lines.specs.Names.{column_name}
-use Rattle.comparison.specs.Ignored.{AreOthersSame, is_ignored, no_columns}
 use Rattle.comparison.specs.declared.ignored.IgnoredColumns.{IgnoredColumns}
-use Rattle.cli.specs.Columns.{NamesColumn, NamesIgnored, NamesSome}
 
 -- some item of a list is one of a longer list
 any_longer : {X : Type 0} (P : X → Type 0) (xs ys : List X) → Any P xs → Any P (xs ++ ys)

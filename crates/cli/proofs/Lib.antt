@@ -1,4 +1,5 @@
 pub mod ColumnsNamed
+pub mod Prelude
 pub mod TokensRead
 pub mod RulesNamed
 pub mod EmbedRuns

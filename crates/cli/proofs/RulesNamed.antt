@@ -1,11 +1,7 @@
 -- The rules that arguments name, one after another.
-use Rattle.std.proofs.Common.{◌≡◌, ◌+◌, ◌<◌, ℕ, List, [], ◌∷◌, ◌++◌, All, get_or, length, take, refl, ap, sym, subst}
-use Rattle.std.specs.Borrow.{Bor}
-use Rattle.std.proofs.lemmas.List.{take_more}
-use Rattle.std.proofs.lemmas.List.Elements.{All-cons, All-nil}
+use Rattle.cli.proofs.Prelude.{◌≡◌, ◌+◌, ◌<◌, ℕ, List, [], ◌∷◌, ◌++◌, All, get_or, length, take, refl, ap, sym, subst, Bor, take_more, All-cons, All-nil, AreRules, NamesFault}
 use Rattle.packed.specs.declared.code.FaultCode.{FaultCode}
 use Rattle.cli_names.specs.Names.{NamesCode}
-use Rattle.cli.specs.Tasks.{AreRules, NamesFault}
 
 -- one more argument names a rule
 more_named : (words : List (Bor (List ℕ))) (word : Bor (List ℕ)) (rules : List FaultCode) (rule : FaultCode) → AreRules words rules → NamesCode word.now rule

@@ -1,11 +1,7 @@
 -- The tokens that arguments are, one after another.
-use Rattle.std.proofs.Common.{◌≡◌, ◌∙◌, ◌+◌, ◌<◌, ℕ, List, [], ◌∷◌, ◌++◌, get_or, length, map, take, ap, sym}
-use Rattle.std.specs.Borrow.{Bor}
+use Rattle.cli.proofs.Prelude.{◌≡◌, ◌∙◌, ◌+◌, ◌<◌, ℕ, List, [], ◌∷◌, ◌++◌, get_or, length, map, take, ap, sym, Bor, map_more, All-more, All-nil, AreTokens}
 use Rattle.std.specs.Str.Parse.{digits_value}
-use Rattle.std.proofs.lemmas.List.{map_more}
-use Rattle.std.proofs.lemmas.List.Elements.{All-more, All-nil}
 use Rattle.cli_names.specs.Numbers.{IsHexNumber}
-use Rattle.cli.specs.Tasks.{AreTokens}
 
 pub none_read : (numbers : List ℕ) → numbers ≡ [] → AreTokens [] numbers
 none_read numbers none = (All-nil _, none)

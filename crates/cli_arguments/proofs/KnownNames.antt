@@ -1,15 +1,10 @@
 -- If `clap` accepts the arguments, they name a subcommand of the program.
-use Rattle.std.proofs.Common.{◌≡◌, ◌&&◌, ◌||◌, ◌∙◌, Bool, true, false, cond, List, [], ◌∷◌, Option, Some, None, ap, is_some, refl, subst, sym}
+use Rattle.cli_arguments.proofs.Prelude.{◌≡◌, ◌&&◌, ◌||◌, ◌∙◌, Bool, true, false, cond, List, [], ◌∷◌, Option, Some, None, ap, is_some, refl, subst, sym, bytes_eq, bytes_eq-Decides, clap_on_literals, subcommand_named, clim}
 use Rattle.std.specs.Prelude.{IsSome, find, option_map, unwrap_or}
 use Rattle.std.specs.List.{list_all}
-use Rattle.std.specs.Str.{bytes_eq}
-use Rattle.std.proofs.lemmas.Slice.Eq.{bytes_eq-Decides}
 use Rattle.clap.specs.Walk.{Row, Text, answers_to, nothing_held, stop_after}
 use Rattle.clap.specs.Simple.{Shape, argument_words, built, entered, label_of, names_of, rows_at, subcommand_of}
 use Rattle.clap.specs.Faults.{fault_of}
-use Rattle.clap.proofs.OnLiterals.{clap_on_literals}
-use Rattle.cli_arguments.specs.Asked.{subcommand_named}
-use Rattle.cli_arguments.specs.CommandLine.{clim}
 use Rattle.cli_arguments.proofs.NoHelp.{StopsElsewhere, first_none, is_help, stops_elsewhere}
 
 -- a subcommand has one name: that of a subcommand of the program, or `help`

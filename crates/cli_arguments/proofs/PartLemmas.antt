@@ -1,13 +1,10 @@
 -- The last of several arguments.
 use Rattle.std.proofs.Common.{◌≡◌, ◌≢◌, ◌∙◌, ◌<◌, ◌⊎◌, Bool, true, false, List, [], ◌∷◌, ◌++◌, Option, Some, None, ap, arith, drop, eqb, get_or, length, not, map, option_map, option_to_list, refl, subst, sym, take}
 use Rattle.std.specs.Prelude.{◌↔◌, IsSome, IsTrue}
-use Rattle.std.specs.Borrow.{Bor}
+use Rattle.cli_arguments.proofs.Prelude.{Bor, length_push, map-append, AreParts, IsPart, IsPartLast, Subcommand}
 use Rattle.std.proofs.lemmas.Bool.Decides.{Decides-eqb}
-use Rattle.std.proofs.lemmas.List.{length_push, map-append}
 use Rattle.std.proofs.Math.Seq.{drop-append_seam, take-append_seam}
 use Rattle.clap.specs.Words.{Text}
-use Rattle.cli_arguments.specs.Asked.{AreParts, IsPart, IsPartLast}
-use Rattle.cli_arguments.specs.declared.asked.Subcommand.{Subcommand}
 use Rattle.cli_arguments.specs.declared.asked.Subcommand.TheVariants.{Show, Outline, Refs, Where}
 
 -- a list ends in one way

@@ -1,18 +1,12 @@
 -- What the getters of `clap`'s matches return, if the matches are those of the arguments.
 use Rattle.std.proofs.Common.{◌≡◌, ◌↔◌, ◌∙◌, ℕ, Result, Ok, Err, Bool, true, false, IsTrue, List, [], ap, ap₂, sym, Option, Some, None, refl, codes, subst}
 use Rattle.std.specs.Prelude.{map, option_map, unwrap_or}
-use Rattle.std.specs.Borrow.{Bor}
+use Rattle.cli_arguments.proofs.Prelude.{Bor, bytes_eq, ParsesBool, ParsesUnsigned, bytes_eq-Decides, IsCountOf, subcommand_named, name_of, subcommands, Subcommand}
 use Rattle.std.specs.Option.{option_eq}
 use mathlib.Core.Bool.{beq}
-use Rattle.std.specs.Str.{bytes_eq}
-use Rattle.std.specs.Str.Parse.{ParsesBool, ParsesUnsigned}
-use Rattle.std.proofs.lemmas.Slice.Eq.{bytes_eq-Decides}
 use Rattle.clap.specs.Words.{Row, Text, ReadsOne, subcommand_name_of, subcommand_rows_of}
 use Rattle.clap.specs.declared.ArgMatches.{ArgMatches}
 use Rattle.clap.specs.declared.ArgMatches.TheViews.{out-ArgMatches}
-use Rattle.cli_arguments.specs.Asked.{IsCountOf, subcommand_named}
-use Rattle.cli_arguments.specs.CommandLine.{name_of, subcommands}
-use Rattle.cli_arguments.specs.declared.asked.Subcommand.{Subcommand}
 use Rattle.cli_arguments.proofs.KnownNames.{found_passes}
 
 option_map_map : {A B C : Type 0} (f : B → C) (g : A → B) (o : Option A) → option_map f (option_map g o) ≡ option_map (λ x. f (g x)) o

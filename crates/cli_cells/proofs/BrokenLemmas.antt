@@ -1,20 +1,7 @@
 -- The rows before the first one that breaks a rule for cells.
-use Rattle.std.proofs.Common.{◌≡◌, ◌∙◌, ℕ, ◌-◌, ◌<◌, ◌≤◌, ◌==◌, Bool, true, false, Option, Some, None, refl, sym, ap, subst, arith, nat_lt, if◌then◌else◌}
-use Rattle.std.specs.Prelude.{slice_index_or}
+use Rattle.cli_cells.proofs.Prelude.{◌≡◌, ◌∙◌, ℕ, ◌-◌, ◌<◌, ◌≤◌, ◌==◌, Bool, true, false, Option, Some, None, refl, sym, ap, subst, arith, nat_lt, if◌then◌else◌, slice_index_or, cases_lt, eqb-true, ltb-true, AllHold, each_holds, TableId, Module, rows_in, SourceAt, table_at, rules_of_cells, rules_of_table, rules_of_table_at, rules_of_row, IsBroken, IsBrokenRow, IsFirstBroken, BrokenRow, rows_before}
 use Rattle.std.proofs.Math.Logic.{⊎_elim}
-use Rattle.std.proofs.lemmas.Bool.{cases_lt, eqb-true, ltb-true}
-use Rattle.packed.specs.Rule.{AllHold}
-use Rattle.packed.proofs.RuleLemmas.{each_holds}
-use Rattle.table_schema.specs.declared.table.TableId.{TableId}
-use Rattle.table_schema.specs.declared.table.TableId.TheVariants.{Module}
 use Rattle.table_schema.specs.Tables.{tables, table_index_of}
-use Rattle.metadata.specs.Source.{rows_in}
-use Rattle.metadata.specs.SourceAt.{SourceAt}
-use Rattle.metadata.specs.Rows.{table_at}
-use Rattle.metadata.specs.Rules.{rules_of_cells, rules_of_table, rules_of_table_at, rules_of_row}
-use Rattle.checks.specs.Broken.{IsBroken, IsBrokenRow, IsFirstBroken}
-use Rattle.checks.specs.declared.cell_checks.BrokenRow.{BrokenRow}
-use Rattle.cli_cells.specs.MetRows.{rows_before}
 
 module _ (here : SourceAt) where
   table_holds : AllHold (rules_of_cells here) → (table_index : ℕ) → table_index < 38 → AllHold (rules_of_table_at here table_index)

@@ -1,17 +1,12 @@
 -- Parts of lines.
-use Rattle.std.proofs.Common.{◌≡◌, ◌∙◌, ℕ, zero, suc, ◌+◌, List, [], ◌∷◌, ◌++◌, Option, Some, None, ◌⊎◌, inl, inr, ap, subst, sym, refl, arith}
+use Rattle.cli_cells.proofs.Prelude.{◌≡◌, ◌∙◌, ℕ, zero, suc, ◌+◌, List, [], ◌∷◌, ◌++◌, Option, Some, None, ◌⊎◌, inl, inr, ap, subst, sym, refl, arith, flat_map_more, Part, Style, form_from, line_feed, line_from, part_letters, part_text, Adds, AwaitsOrFails, Printed, cell_part, Hidden, Shown}
 use Rattle.std.specs.List.{flat_map, range_with_len}
-use Rattle.std.proofs.lemmas.List.{flat_map_more}
 use Rattle.cli_lines.specs.declared.line.Before.{Before}
 use Rattle.cli_lines.specs.declared.parts.Form.{Form}
 use Rattle.cli_lines.specs.declared.parts.Form.TheVariants.{Text, Letters, JsonLines}
 use Rattle.cli_lines.specs.Lines as line
-use Rattle.cli_lines.specs.Lines.{Part, Style, form_from, line_feed, line_from, part_letters, part_text}
 use Rattle.cli_lines.specs.declared.names.Name.{Name}
-use Rattle.cli_lines.specs.Printed.{Adds, AwaitsOrFails, Printed}
-use Rattle.cli_cells.specs.RowLines.{cell_part}
 use Rattle.cli_cells.specs.declared.row_lines.Names.{Names}
-use Rattle.cli_cells.specs.declared.row_lines.Names.TheVariants.{Hidden, Shown}
 
 -- in a line of text a part is its text
 same_in : (form : Form) (file : Option (List ℕ)) (at : Before) (first second : Part) (more : List Part) → (form ≡ Text) ⊎ (form ≡ Letters) → part_text first ≡ part_text second

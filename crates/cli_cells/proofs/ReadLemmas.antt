@@ -1,38 +1,22 @@
 -- The cell that is read for a number is the one that the number represents.
-use Rattle.std.proofs.Common.{◌≡◌, ◌≢◌, ◌∙◌, ℕ, zero, suc, ◌+◌, ◌*◌, ◌/◌, ◌%◌, ◌^◌, ◌<◌, ◌≤◌, Bool, false, List, [], ◌∷◌, ◌++◌, length, take, drop, Option, Some, None, cond, refl, ap, sym, subst, inl, inr, arith}
-use Rattle.std.specs.List.{slice_get}
+use Rattle.cli_cells.proofs.Prelude.{◌≡◌, ◌≢◌, ◌∙◌, ℕ, zero, suc, ◌+◌, ◌*◌, ◌/◌, ◌%◌, ◌^◌, ◌<◌, ◌≤◌, Bool, false, List, [], ◌∷◌, ◌++◌, length, take, drop, Option, Some, None, cond, refl, ap, sym, subst, inl, inr, arith, slice_get, ne_eqb, All-head, All-tail, AllHold, each_holds, TableId, ColumnKind, columns_of, column_at, is_padding, Source, number_of, SourceAt, cell_offset, start_of, StandsIn, MayRefer, rules_of_cell, rules_of_number, rules_of_row, blob_at, cell_at, coded_at, counted, guid_at, read_cell, row_at, signature_at, signature_of, signature_or, tagged, text_at, text_of}
 use Rattle.std.proofs.Math.Seq.{drop-append_seam, take-append_seam}
-use Rattle.std.proofs.lemmas.Bool.{ne_eqb}
-use Rattle.std.proofs.lemmas.List.Elements.{All-head, All-tail}
 use Rattle.std.proofs.lemmas.Nat.{div-add-mod', mod_below, same_from_place}
 use Rattle.std.proofs.lemmas.Option.{slice_get_within}
 use Rattle.packed.specs.Packed.{IsPacked}
 use Rattle.packed.specs.Prefix.{unsigned_at}
-use Rattle.packed.specs.Rule.{AllHold}
-use Rattle.packed.proofs.RuleLemmas.{each_holds}
 use Rattle.heap_entries.specs.Entries.{HasNoNul, IsBlob, IsGuid, IsText}
-use Rattle.table_schema.specs.declared.table.TableId.{TableId}
 use Rattle.table_schema.specs.declared.token.Token.{Token}
 use Rattle.table_schema.specs.declared.coded.Coded.{Coded}
 use Rattle.table_schema.specs.declared.column.SigKind.{SigKind}
-use Rattle.table_schema.specs.declared.column.ColumnKind.{ColumnKind}
 use Rattle.table_schema.specs.declared.column.ColumnKind.TheVariants as kind
 use Rattle.table_schema.specs.CodedIndexes.{IsCoded, tables_of, tag_bits}
-use Rattle.table_schema.specs.Columns.{columns_of, column_at}
-use Rattle.table_schema.specs.CellColumns.{is_padding}
 use Rattle.sig_grammar.specs.Syntax.{Body}
 use Rattle.sig_grammar.specs.Encodes.{Encodes}
 use Rattle.sig_grammar.specs.Reading.{core_at}
 use Rattle.sig_grammar.specs.Columns.{body_at}
-use Rattle.metadata.specs.Cell.{Cell}
-use Rattle.metadata.specs.Cell.{Number, Text, Bytes, Guid, Ref, Start}
-use Rattle.metadata.specs.Source.{Source, number_of}
-use Rattle.metadata.specs.SourceAt.{SourceAt, cell_offset}
+use Rattle.metadata.specs.Cell.{Cell, Number, Text, Bytes, Guid, Ref, Start}
 use Rattle.metadata.specs.Stands.{Refers, StandsFor}
-use Rattle.metadata.specs.Starts.{start_of}
-use Rattle.metadata.specs.Rows.{StandsIn}
-use Rattle.metadata.specs.Rules.{MayRefer, rules_of_cell, rules_of_number, rules_of_row}
-use Rattle.cli_cells.specs.Shown.{blob_at, cell_at, coded_at, counted, guid_at, read_cell, row_at, signature_at, signature_of, signature_or, tagged, text_at, text_of}
 
 -- ---- entries of heaps
 

@@ -1,9 +1,8 @@
 -- What a sink has from the pieces that it received.
-use Rattle.std.proofs.Common.{◌≡◌, Bool, true, List, ◌++◌, ℕ, sym, ap, ◌∙◌, append_assoc, append-nil}
+use Rattle.cli_cells.proofs.Prelude.{◌≡◌, Bool, true, List, ◌++◌, ℕ, sym, ap, ◌∙◌, append_assoc, append-nil, piece_bytes}
 use Rattle.std.specs.List.{flat_map}
 use Rattle.sig_text.specs.SignatureText.{Piece}
 use Rattle.sig_text.specs.Receives.{Receives, nothing, refused, taken}
-use Rattle.cli_cells.specs.SignatureText.{piece_bytes}
 
 -- a sink that appends the text of each piece that it takes appends the texts of all
 module _ {K : Type 0} (gives : K → Piece → Bool → K → Type 0) (text : K → List ℕ) (step : (s : K) (p : Piece) (t : K) → gives s p true t → text t ≡ text s ++ piece_bytes p) where

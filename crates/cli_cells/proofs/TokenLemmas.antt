@@ -1,9 +1,5 @@
 -- The lines of what numbers name.
-use Rattle.std.proofs.Common.{◌∷◌, ◌++◌, [], ℕ, List, None, Option, Some, refl, ap}
-use Rattle.std.specs.Prelude.{OnSome}
-use Rattle.metadata.specs.Metadata.{Metadata}
-use Rattle.cli_lines.specs.Lines.{Part}
-use Rattle.cli_cells.specs.TokenLines.{AreTokenLines, IsTokenLine}
+use Rattle.cli_cells.proofs.Prelude.{◌∷◌, ◌++◌, [], ℕ, List, None, Option, Some, refl, ap, OnSome, Metadata, Part, AreTokenLines, IsTokenLine}
 
 -- the lines of some numbers and of one more
 pub lines_appended : (model : Metadata) (numbers : List ℕ) (number : ℕ) (lines : List (List Part)) (parts : List Part) → AreTokenLines model numbers lines

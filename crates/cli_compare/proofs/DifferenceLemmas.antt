@@ -1,10 +1,5 @@
 -- What differs between two models.
-use Rattle.std.proofs.Common.{◌≡◌, [], ◌∷◌, List, ℕ, map, refl}
-use Rattle.metadata.specs.Metadata.{Metadata}
-use Rattle.comparison.specs.declared.difference.Difference.{Difference}
-use Rattle.comparison.specs.declared.difference.Difference.TheVariants.{Version, UserStrings, RowCount, Cell}
-use Rattle.comparison.specs.Differences.{IsThere}
-use Rattle.cli_compare.specs.ComparedLines.{HasColumn, HasRows, compared_lines, difference_line}
+use Rattle.cli_compare.proofs.Prelude.{◌≡◌, [], ◌∷◌, List, ℕ, map, refl, Metadata, Difference, Version, UserStrings, RowCount, Cell, IsThere, HasColumn, HasRows, compared_lines, difference_line}
 
 module _ (left right : List ℕ) where
   -- a cell that differs is in both

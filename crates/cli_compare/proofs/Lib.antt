@@ -1,2 +1,3 @@
 pub mod DifferenceLemmas
 pub mod OffsetLemmas
+pub mod Prelude

@@ -1,10 +1,6 @@
 -- The first offset at which two lists differ.
-use Rattle.std.proofs.Common.{◌≡◌, ◌≢◌, ◌∙◌, ◌+◌, ◌-◌, ◌%◌, ◌<◌, ◌≤◌, ◌==◌, ◌⊎◌, ℕ, suc, inl, inr, Bool, true, false, List, [], ◌∷◌, add-one, ap, arith, cond, drop, drop-cons, get_or, length, length-append, min, refl, replicate, slice_get, sym, take}
+use Rattle.cli_compare.proofs.Prelude.{◌≡◌, ◌≢◌, ◌∙◌, ◌+◌, ◌-◌, ◌%◌, ◌<◌, ◌≤◌, ◌==◌, ◌⊎◌, ℕ, suc, inl, inr, Bool, true, false, List, [], ◌∷◌, add-one, ap, arith, cond, drop, drop-cons, get_or, length, length-append, min, refl, replicate, slice_get, sym, take, Decides-eqb, drop_all, get_or_append_left, get_or-append_right, get_or-replicate, length-replicate, zero_padded, same_bytes}
 use Rattle.std.proofs.lemmas.Bool.{cases_lt}
-use Rattle.std.proofs.lemmas.Bool.Decides.{Decides-eqb}
-use Rattle.std.proofs.lemmas.List.{drop_all, get_or_append_left, get_or-append_right, get_or-replicate, length-replicate}
-use Rattle.heap_entries.specs.Padding.{zero_padded}
-use Rattle.cli_compare.specs.ComparedLines.{same_bytes}
 
 not_true : (test : Bool) → (test ≡ true → ⊥) → test ≡ false
 not_true true never = absurd (never refl)

@@ -1,9 +1,6 @@
 -- The bodies of rows, one after another.
-use Rattle.std.proofs.Common.{◌≡◌, ℕ, suc, ◌+◌, ◌-◌, ◌<◌, ◌≤◌, [], ◌++◌, ap, arith}
+use Rattle.cli_contents.proofs.Prelude.{◌≡◌, ℕ, suc, ◌+◌, ◌-◌, ◌<◌, ◌≤◌, [], ◌++◌, ap, arith, Metadata, Image, bodies_from, body_of, kept}
 use Rattle.std.specs.List.{flat_map, range_with_len}
-use Rattle.metadata.specs.Metadata.{Metadata}
-use Rattle.pe.specs.Image.{Image}
-use Rattle.cli_contents.specs.Bodies.{bodies_from, body_of, kept}
 
 module _ (image : Image) (model : Metadata) (offset : ℕ) where
   -- the body of the first row, and those of the others

@@ -1,11 +1,6 @@
 -- Data that a file has, and data that it has not.
-use Rattle.std.specs.Prelude.{option_and_then}
-use Rattle.std.proofs.Common.{◌≡◌, ◌∙◌, ℕ, ◌+◌, ◌≤◌, nat_le, Option, None, Some, ap, length, refl, sym}
-use Rattle.std.proofs.lemmas.Bool.{cond-false, cond-true, false_from_ne_true, le-leb, leb-true}
-use Rattle.pe.specs.Image.{Image}
+use Rattle.cli_contents.proofs.Prelude.{option_and_then, ◌≡◌, ◌∙◌, ℕ, ◌+◌, ◌≤◌, nat_le, Option, None, Some, ap, length, refl, sym, cond-false, cond-true, false_from_ne_true, le-leb, leb-true, Image, data_from, data_in, FieldData}
 use Rattle.pe.specs.Offset.{IsFileOffset, offset_at}
-use Rattle.cli_contents.specs.FieldData.{data_from, data_in}
-use Rattle.cli_contents.specs.declared.field_data.FieldData.{FieldData}
 
 module _ (image : Image) (stored : FieldData) where
   pub data_there : (start : ℕ) → IsFileOffset image stored.rva 1 start → Some (record { row = stored.row; start = start; size = stored.size }) ≡ data_in image stored

@@ -1,2 +1,3 @@
 mod BodyLemmas
 mod DataLemmas
+mod Prelude

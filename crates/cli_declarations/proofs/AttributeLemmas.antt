@@ -1,15 +1,8 @@
 -- The values of attributes.
-use Rattle.std.proofs.Common.{◌≡◌, ◌∙◌, ◌≤◌, ◌<◌, ℕ, Option, None, List, [], cond, length, ap, refl, sym}
-use Rattle.std.proofs.lemmas.Bool.{le-leb, lt-leb}
-use Rattle.std.specs.Prelude.{option_and_then}
-use Rattle.table_schema.specs.declared.table.TableId.{TableId}
-use Rattle.table_schema.specs.declared.table.TableId.TheVariants.{CustomAttribute}
-use Rattle.table_schema.specs.declared.token.Token.{Token}
-use Rattle.metadata.specs.Metadata.{Metadata, cell_in}
+use Rattle.cli_declarations.proofs.Prelude.{◌≡◌, ◌∙◌, ◌≤◌, ◌<◌, ℕ, Option, None, List, [], cond, length, ap, refl, sym, le-leb, lt-leb, option_and_then, TableId, CustomAttribute, Token, Metadata, cell_in, IsAttributeAt, params_for}
 use Rattle.navigation.specs.Cells.{reference_in}
 use Rattle.attribute_constructors.specs.Params.{params_of_constructor}
 use Rattle.cli_values.specs.Constants.{value_limit}
-use Rattle.cli_declarations.specs.Parts.{IsAttributeAt, params_for}
 
 pub no_attribute : (model : Metadata) (table : TableId) (row : ℕ) → (table ≡ CustomAttribute → ⊥) → IsAttributeAt model table row []
 no_attribute model CustomAttribute row not = absurd (not refl)

@@ -1,12 +1,5 @@
 -- The cells that the parts of a line name are in its row.
-use Rattle.std.proofs.Common.{ℕ, zero, suc, ◌<◌, List, [], ◌∷◌, length, get_or, arith, rules}
-use Rattle.std.specs.Prelude.{⊤}
-use Rattle.table_schema.specs.declared.table.TableId.{TableId}
-use Rattle.table_schema.specs.declared.table.TableId.TheVariants.{Assembly, AssemblyRef, Module, ModuleRef, File, ManifestResource, TypeDef, Field, MethodDef, InterfaceImpl, GenericParam, GenericParamConstraint, ExportedType, MethodImpl, MethodSemantics, Event, Property, ImplMap, DeclSecurity, CustomAttribute, TypeRef, MemberRef, Param}
-use Rattle.table_schema.specs.CellColumns.{cell_columns}
-use Rattle.cli_declarations.specs.Layouts.{parts_of}
-use Rattle.cli_declarations.specs.Parts.{Part}
-use Rattle.cli_declarations.specs.Shown.{IsWithin}
+use Rattle.cli_declarations.proofs.Prelude.{ℕ, zero, suc, ◌<◌, List, [], ◌∷◌, length, get_or, arith, rules, ⊤, TableId, Assembly, AssemblyRef, Module, ModuleRef, File, ManifestResource, TypeDef, Field, MethodDef, InterfaceImpl, GenericParam, GenericParamConstraint, ExportedType, MethodImpl, MethodSemantics, Event, Property, ImplMap, DeclSecurity, CustomAttribute, TypeRef, MemberRef, Param, cell_columns, parts_of, Part, IsWithin}
 
 -- all parts of a list
 abbrev pub AllWithin : TableId → List Part → Type 0

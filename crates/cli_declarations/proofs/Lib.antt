@@ -1,4 +1,5 @@
 pub mod AttributeLemmas
+pub mod Prelude
 pub mod TextLemmas
 pub mod LayoutLemmas
 pub mod PieceLemmas

@@ -1,19 +1,8 @@
 -- The program's pieces and words are the parts and words of specs/.
-use Rattle.std.proofs.Common.{◌≡◌, ◌∙◌, ℕ, ◌+◌, ◌<◌, List, ◌++◌, OnOk, Result, Ok, Err, append_assoc, length, get_or, take, map, ap, refl, subst, sym, arith, string_bytes}
-use Rattle.std.specs.Prelude.{IsOk, if◌then◌else◌, is_ok}
-use Rattle.std.specs.Fmt.{WritesInCalls}
-use Rattle.std.proofs.lemmas.List.{length-map}
+use Rattle.cli_declarations.proofs.Prelude.{◌≡◌, ◌∙◌, ℕ, ◌+◌, ◌<◌, List, ◌++◌, OnOk, Result, Ok, Err, append_assoc, length, get_or, take, map, ap, refl, subst, sym, arith, string_bytes, IsOk, if◌then◌else◌, is_ok, WritesInCalls, length-map, TableId, Metadata, parts_of, IsPartText, Part, cut_text, IsWithin, shown, AreTexts, Begins, Ends, Gains, Word, shown_word, word_text, words_text, Piece}
 use Rattle.std.proofs.Math.ListN.{get_or-map}
-use Rattle.table_schema.specs.declared.table.TableId.{TableId}
-use Rattle.metadata.specs.Metadata.{Metadata}
-use Rattle.cli_declarations.specs.Layouts.{parts_of}
-use Rattle.cli_declarations.specs.Parts.{IsPartText, Part, cut_text}
-use Rattle.cli_declarations.specs.Shown.{IsWithin, shown}
-use Rattle.cli_declarations.specs.Texts.{AreTexts, Begins, Ends, Gains}
 use Rattle.cli_declarations.specs.declared.declared.Declared.{Declared}
-use Rattle.type_heads.specs.FlagWords.{Word, shown_word, word_text, words_text}
 use Rattle.type_heads.specs.declared.flag_words.FlagWord.{FlagWord}
-use Rattle.cli_declarations.specs.declared.layouts.Piece.{Piece}
 use Rattle.cli_declarations.proofs.LayoutLemmas.{at_index, parts_within}
 use Rattle.cli_declarations.proofs.TextLemmas.{Takes, gains_more, items_more, text_cut}
 

@@ -1,12 +1,7 @@
 -- Texts one after another, and what a writer that escapes took.
-use Rattle.std.proofs.Common.{◌≡◌, ◌∙◌, ℕ, zero, suc, ◌+◌, ◌-◌, ◌<◌, ◌≤◌, Bool, cond, eqb, ltb, List, [], ◌∷◌, ◌++◌, length, get_or, drop, take, refl, ap, sym, subst, append_assoc, append-nil, length-append, arith, ⊎_elim}
-use Rattle.std.proofs.lemmas.Bool.{cases_lt, eq-eqb, le-ltb, lt-ltb, ne_eqb}
-use Rattle.std.proofs.lemmas.List.{flat_map_more, take_more}
+use Rattle.cli_declarations.proofs.Prelude.{◌≡◌, ◌∙◌, ℕ, zero, suc, ◌+◌, ◌-◌, ◌<◌, ◌≤◌, Bool, cond, eqb, ltb, List, [], ◌∷◌, ◌++◌, length, get_or, drop, take, refl, ap, sym, subst, append_assoc, append-nil, length-append, arith, ⊎_elim, cases_lt, eq-eqb, le-ltb, lt-ltb, ne_eqb, flat_map_more, take_more, WritesInCalls, cut_mark, cut_text, text_limit, AreTexts, Gains}
 use Rattle.std.proofs.Math.Seq.{drop-append_seam}
 use Rattle.std.specs.List.{flat_map, FoldsTo, concat}
-use Rattle.std.specs.Fmt.{WritesInCalls}
-use Rattle.cli_declarations.specs.Parts.{cut_mark, cut_text, text_limit}
-use Rattle.cli_declarations.specs.Texts.{AreTexts, Gains}
 
 module _ {X : Type 0} (is_text : X → List ℕ → Type 0) where
   -- one more text

@@ -1,6 +1,5 @@
 -- The parts of a line, and their texts (ECMA-335 II.5, II.6, II.10).
-use Rattle.std.specs.Prelude.{◌≡◌, ℕ, ◌%◌, ◌==◌, Bool, true, false, nat_lt, if◌then◌else◌, List, [], ◌∷◌, ◌++◌, length, take, codes, count_by, Option, None, Some, ◌⊎◌, nat_le, option_and_then}
-use Rattle.std.specs.Prelude.{decimal as digits}
+use Rattle.std.specs.Prelude.{◌≡◌, ℕ, ◌%◌, ◌==◌, Bool, true, false, nat_lt, if◌then◌else◌, List, [], ◌∷◌, ◌++◌, length, take, codes, count_by, Option, None, Some, ◌⊎◌, nat_le, option_and_then, decimal as digits}
 use Rattle.table_schema.specs.declared.table.TableId.{TableId}
 use Rattle.table_schema.specs.declared.table.TableId.TheVariants.{MethodDef, Property, Constant, ClassLayout, FieldLayout, FieldRVA, FieldMarshal, Event, Field, MemberRef, Param, TypeDef, CustomAttribute}
 use Rattle.table_schema.specs.declared.token.Token.{Token}
@@ -34,8 +33,7 @@ use Rattle.cli_lines.specs.Lines.{guid_text}
 use Rattle.cli_lines.specs.Texts.{escaped_bytes}
 use Rattle.type_heads.specs.Heads.{AreListed, IsInHead, enclosed}
 use Rattle.cli_values.specs.Actions.{action_text}
-use Rattle.cli_values.specs.Constants.{constant_text, value_limit}
-use Rattle.cli_values.specs.Constants.{bytes_text as value_bytes_text}
+use Rattle.cli_values.specs.Constants.{constant_text, value_limit, bytes_text as value_bytes_text}
 use Rattle.type_heads.specs.FlagWords.{words_of, words_text}
 use Rattle.type_heads.specs.declared.flag_words.FlagTable.{FlagTable}
 use Rattle.type_heads.specs.declared.flag_words.FlagTable.TheVariants as table_of

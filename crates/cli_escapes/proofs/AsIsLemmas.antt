@@ -1,14 +1,7 @@
 -- A text whose escapes are read back, byte by byte.
-use Rattle.std.proofs.Common.{◌==◌, false, true, ◌≡◌, ℕ, zero, suc, ◌-◌, ◌<◌, ◌≤◌, Bool, if◌then◌else◌, Option, Some, None, Result, Ok, Err, MatchResult, IsUtf8, Bor, List, [], ◌∷◌, ◌++◌, drop, length, ap, append_assoc, append-nil, arith, refl, sym, ◌∙◌}
-use Rattle.std.specs.Prelude.{slice_get, slice_index}
+use Rattle.cli_escapes.proofs.Prelude.{◌==◌, false, true, ◌≡◌, ℕ, zero, suc, ◌-◌, ◌<◌, ◌≤◌, Bool, if◌then◌else◌, Option, Some, None, Result, Ok, Err, MatchResult, IsUtf8, Bor, List, [], ◌∷◌, ◌++◌, drop, length, ap, append_assoc, append-nil, arith, refl, sym, ◌∙◌, slice_get, slice_index, is_utf8, false_from_ne_true, IsUtf8-from_is_utf8, is_utf8-from_IsUtf8, drop_all, escaped_at, as_is, unescaped, unescaped_after}
 use Rattle.std.specs.Option.{unwrap_or}
 use Rattle.std.specs.Result.{result_unwrap_or}
-use Rattle.std.specs.Str.{is_utf8}
-use Rattle.std.proofs.lemmas.Bool.{false_from_ne_true}
-use Rattle.std.proofs.lemmas.Str.{IsUtf8-from_is_utf8, is_utf8-from_IsUtf8}
-use Rattle.std.proofs.lemmas.List.{drop_all}
-use Rattle.cli_escapes.specs.Escapes.{escaped_at}
-use Rattle.cli_escapes.specs.AsIs.{as_is, unescaped, unescaped_after}
 
 -- a byte is passed over
 pub passed : (skipped : ℕ) (text : List ℕ) → 0 < skipped → unescaped_after (skipped - 1) (drop 1 text) ≡ unescaped_after skipped text

@@ -1,13 +1,6 @@
 -- A text whose letters are shown, byte by byte.
-use Rattle.std.proofs.Common.{◌≡◌, ◌∙◌, ℕ, zero, suc, ◌-◌, ◌*◌, ◌==◌, ◌<◌, ◌≤◌, Bool, true, false, if◌then◌else◌, Option, Some, None, List, [], ◌∷◌, ◌++◌, IsUtf8, length, get_or, take, drop, take-append-drop, ap, append_assoc, append-nil, arith, refl, sym}
-use Rattle.std.specs.Prelude.{slice_get, slice_index}
+use Rattle.cli_escapes.proofs.Prelude.{◌≡◌, ◌∙◌, ℕ, zero, suc, ◌-◌, ◌*◌, ◌==◌, ◌<◌, ◌≤◌, Bool, true, false, if◌then◌else◌, Option, Some, None, List, [], ◌∷◌, ◌++◌, IsUtf8, length, get_or, take, drop, take-append-drop, ap, append_assoc, append-nil, arith, refl, sym, slice_get, slice_index, chars, is_utf8, false_from_ne_true, IsUtf8-from_is_utf8, is_utf8-from_IsUtf8, drop_all, escaped_at, first_char, letter_at, letter_from, readable, readable_after}
 use Rattle.std.specs.Char.{encode_utf8, len_utf8}
-use Rattle.std.specs.Str.{chars, is_utf8}
-use Rattle.std.proofs.lemmas.Bool.{false_from_ne_true}
-use Rattle.std.proofs.lemmas.Str.{IsUtf8-from_is_utf8, is_utf8-from_IsUtf8}
-use Rattle.std.proofs.lemmas.List.{drop_all}
-use Rattle.cli_escapes.specs.Escapes.{escaped_at}
-use Rattle.cli_escapes.specs.Letters.{first_char, letter_at, letter_from, readable, readable_after}
 use Rattle.cli_escapes.proofs.AsIsLemmas.{not_escaped}
 
 -- an escape has four bytes

@@ -1,17 +1,10 @@
 -- The lines at a fault, by cases.
 use Rattle.std.specs.Prelude.{Bool, None, Some, nat_le}
-use Rattle.std.proofs.Common.{◌≡◌, arith, ℕ, ◌+◌, ◌<◌, ◌≤◌, List, [], ◌∷◌, ◌++◌, length, map, refl, subst, sym}
-use Rattle.std.proofs.lemmas.Bool.{cond_both, cond-false, cond-true, le-leb, lt-leb}
+use Rattle.cli_found.proofs.Prelude.{◌≡◌, arith, ℕ, ◌+◌, ◌<◌, ◌≤◌, List, [], ◌∷◌, ◌++◌, length, map, refl, subst, sym, cond_both, cond-false, cond-true, le-leb, lt-leb, Part, seen, Region, Structure, AreFound, AreOf, AreOfCell, field_lines, field_size, innermost, last_of, lead_at, lines_at}
 use Rattle.packed.specs.declared.code.FaultCode.{FaultCode}
 use Rattle.packed.specs.Number.{little_endian}
 use Rattle.packed.specs.Offsets.{part}
 use Rattle.cli_input.specs.declared.opened.Input.{Input}
-use Rattle.cli_lines.specs.Lines.{Part}
-use Rattle.cli_regions.specs.Kept.{seen}
-use Rattle.cli_regions.specs.Regions.{Region}
-use Rattle.cli_regions.specs.declared.searches.Structure.{Structure}
-use Rattle.cli_found.specs.Found.{AreFound, AreOf, AreOfCell, field_lines, field_size, innermost, last_of}
-use Rattle.cli_found.specs.Kept.{lead_at, lines_at}
 
 pub last_is : (before : List Structure) (last : Structure) → last_of (map seen (before ++ last ∷ [])) ≡ Some (seen last)
 last_is [] last = refl

@@ -1,6 +1,5 @@
 -- An image satisfies all rules if and only if it has a CLI header.
-use Rattle.std.proofs.Common.{◌≡◌, ℕ, ◌+◌, ◌≤◌, List, length, take, drop, refl, sym, ap, ◌∙◌, subst, arith, unwrap_or}
-use Rattle.std.proofs.Common.{Result, Ok, Err, Option}
+use Rattle.std.proofs.Common.{◌≡◌, ℕ, ◌+◌, ◌≤◌, List, length, take, drop, refl, sym, ap, ◌∙◌, subst, arith, unwrap_or, Result, Ok, Err, Option}
 use Rattle.std.specs.Result.{IfOk, IsOkAnd}
 use Rattle.packed.specs.declared.fault.Fault.{Fault}
 use Rattle.packed.specs.Fields.{Field, StandAt, AllSay, widths}

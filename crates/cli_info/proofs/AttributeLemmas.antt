@@ -1,15 +1,9 @@
 -- The attributes of the assembly, by the tables of their types and by their rows.
-use Rattle.std.proofs.Common.{◌≡◌, ◌∙◌, ◌≤◌, ◌<◌, ◌+◌, ◌-◌, ℕ, zero, suc, Bool, false, Option, None, Some, List, [], ◌∷◌, cond, length, take, ap, arith, refl, sym}
+use Rattle.cli_info.proofs.Prelude.{◌≡◌, ◌∙◌, ◌≤◌, ◌<◌, ◌+◌, ◌-◌, ℕ, zero, suc, Bool, false, Option, None, Some, List, [], ◌∷◌, cond, length, take, ap, arith, refl, sym, range_with_len, TableId, Token, Metadata, Part, attribute_limit, attribute_lines, is_assembly_table, is_own, lines_of_items, lines_of_rows, lines_of_type, more_line, more_lines, own_after}
 use Rattle.std.proofs.lemmas.List.{append_assoc}
 use Rattle.std.specs.Prelude.{◌++◌, filter, flat_map}
-use Rattle.std.specs.List.{range_with_len}
-use Rattle.table_schema.specs.declared.table.TableId.{TableId}
 use Rattle.table_schema.specs.declared.table.TableId.TheVariants.{Assembly, TypeDef, TypeRef}
-use Rattle.table_schema.specs.declared.token.Token.{Token}
 use Rattle.attribute_values.specs.Items.{Item}
-use Rattle.metadata.specs.Metadata.{Metadata}
-use Rattle.cli_lines.specs.Lines.{Part}
-use Rattle.cli_info.specs.Attributes.{attribute_limit, attribute_lines, is_assembly_table, is_own, lines_of_items, lines_of_rows, lines_of_type, more_line, more_lines, own_after}
 
 pub other_table : (table : TableId) → (table ≡ Assembly → ⊥) → is_assembly_table table ≡ false
 other_table Assembly not = absurd (not refl)

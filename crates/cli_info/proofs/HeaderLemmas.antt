@@ -1,17 +1,11 @@
 -- The headers of an image end within it (ECMA-335 II.25.2); and the name of a method, by whether its row exists.
-use Rattle.std.proofs.Common.{◌≡◌, ◌∙◌, ◌≤◌, ◌<◌, ◌⊎◌, ◌&&◌, ℕ, Bool, true, false, List, [], cond, leb, ap, arith, inl, inr, refl}
+use Rattle.cli_info.proofs.Prelude.{◌≡◌, ◌∙◌, ◌≤◌, ◌<◌, ◌⊎◌, ◌&&◌, ℕ, Bool, true, false, List, [], cond, leb, ap, arith, inl, inr, refl, le-leb, lt-leb, CliHeader, MethodDef, Metadata, cell_in, count_in, text_of, HasRoom, method_name}
 use Rattle.std.proofs.Math.Logic.{∥∥₁_elim}
-use Rattle.std.proofs.lemmas.Bool.{le-leb, lt-leb}
 use Rattle.std.specs.Coded.{le_prop}
 use Rattle.packed.specs.Rule.{AllHold}
 use Rattle.pe.specs.Image.{Image, IsImage}
 use Rattle.pe.specs.Rules.{rules_of_image}
-use Rattle.cli_header.specs.declared.header.CliHeader.{CliHeader}
-use Rattle.table_schema.specs.declared.table.TableId.TheVariants.{MethodDef}
-use Rattle.metadata.specs.Metadata.{Metadata, cell_in, count_in}
 use Rattle.opening.specs.Views.{HasImage}
-use Rattle.cli_declarations.specs.Parts.{text_of}
-use Rattle.cli_info.specs.HeaderLines.{HasRoom, method_name}
 
 -- a file with a model has room for them
 pub room_of : (file : List ℕ) (header : CliHeader) → ((image : Image) → IsImage file image → AllHold (rules_of_image file)) → HasImage file header → HasRoom file

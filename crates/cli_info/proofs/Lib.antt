@@ -1,4 +1,5 @@
 pub mod AttributeLemmas
 pub mod HeaderLemmas
+pub mod Prelude
 pub mod TokenLemmas
 pub mod TextLemmas

@@ -1,11 +1,7 @@
 -- The strings in a value, by the parameters and the length of the value.
-use Rattle.std.proofs.Common.{◌≡◌, ◌∙◌, ◌≤◌, ◌<◌, ℕ, true, false, Option, None, Some, List, [], ◌∷◌, cond, length, arith, refl, sym}
-use Rattle.std.proofs.lemmas.Bool.{le-leb, lt-leb}
-use Rattle.std.specs.Prelude.{option_and_then}
+use Rattle.cli_info.proofs.Prelude.{◌≡◌, ◌∙◌, ◌≤◌, ◌<◌, ℕ, true, false, Option, None, Some, List, [], ◌∷◌, cond, length, arith, refl, sym, le-leb, lt-leb, option_and_then, ArgumentType, are_texts, if_texts, texts_in, value_limit}
 use Rattle.attribute_values.specs.Items.{Item}
-use Rattle.attribute_values.specs.declared.types.ArgumentType.{ArgumentType}
 use Rattle.attribute_values.specs.Steps.{value_items}
-use Rattle.cli_info.specs.Texts.{are_texts, if_texts, texts_in, value_limit}
 
 pub none_of_none : (params : List ArgumentType) (value : List ℕ) → length params ≡ 0 → None ≡ texts_in params value
 none_of_none [] value is = refl

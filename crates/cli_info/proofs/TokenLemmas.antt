@@ -1,9 +1,7 @@
 -- The token of a key, by its length and by what a row has (ECMA-335 II.6.3).
-use Rattle.std.proofs.Common.{◌≡◌, ◌∙◌, ◌≤◌, ◌<◌, ℕ, true, false, List, [], ◌∷◌, codes, cond, length, ap, arith, reverse, take}
-use Rattle.std.proofs.lemmas.Bool.{le-ltb, lt-ltb}
+use Rattle.cli_info.proofs.Prelude.{◌≡◌, ◌∙◌, ◌≤◌, ◌<◌, ℕ, true, false, List, [], ◌∷◌, codes, cond, length, ap, arith, reverse, take, le-ltb, lt-ltb, has_token, key_limit, token_of, token_text}
 use Rattle.hex.specs.Hex.{encode_lower}
 use Rattle.sha1.specs.Sha1.{sha1}
-use Rattle.cli_info.specs.Identities.{has_token, key_limit, token_of, token_text}
 use Rattle.cli_info.specs.declared.identities.Kind.{Kind}
 
 module _ (kind : Kind) (flags : ℕ) where

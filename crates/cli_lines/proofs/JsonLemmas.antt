@@ -1,26 +1,13 @@
 -- The parts of a line of JSON, one after another.
-use Rattle.std.proofs.Common.{◌≡◌, ◌≢◌, ◌∙◌, ◌⊎◌, ℕ, Bool, true, false, List, [], ◌∷◌, ◌++◌, None, Some, map, refl, ap, sym, append_assoc, codes, cond, decimal}
-use Rattle.std.specs.Borrow.{Bor}
-use Rattle.std.specs.Char.Utf16.{has_unpaired_surrogate, utf16_lossy_chars}
+use Rattle.cli_lines.proofs.Prelude.{◌≡◌, ◌≢◌, ◌∙◌, ◌⊎◌, ℕ, Bool, true, false, List, [], ◌∷◌, ◌++◌, None, Some, map, refl, ap, sym, append_assoc, codes, cond, decimal, Bor, has_unpaired_surrogate, utf16_lossy_chars, ⊎_elim, array_json, items_json, member_json, opener, plain_string, row_json, units_json, value_json, Value, number, hex, byte, text, plain, token, reference, bytes, guid, signature, json_from, line_feed, named_from, named_token, part_tokens, units_tokens, value_tokens, table_name, name_text, shown, shown_value, escaped_bytes, hexadecimal, token_text, upper_hexadecimal, Before, Line, Brace}
 use Rattle.std.specs.Str.{encode_utf8_all}
-use Rattle.std.proofs.Math.Logic.{⊎_elim}
 use Rattle.json.specs.Print.{escape_byte, print_from, quoted as string_text}
 use Rattle.json.specs.Token as json
-use Rattle.cli_lines.specs.JsonTexts.{array_json, items_json, member_json, opener, plain_string, row_json, units_json, value_json}
-use Rattle.cli_lines.specs.Lines.{Value, number, hex, byte, text, plain, token, reference, bytes, guid, signature, json_from, line_feed, named_from, named_token, part_tokens, units_tokens, value_tokens}
 use Rattle.table_schema.specs.declared.token.Token.{Token}
-use Rattle.table_schema.specs.Tables.{table_name}
-use Rattle.cli_lines.specs.Names.{name_text}
-use Rattle.cli_lines.specs.Shown.{shown, shown_value}
 use Rattle.cli_lines.specs.declared.parts.Part.{Part as KeptPart}
 use Rattle.cli_lines.specs.declared.parts.Part.TheVariants.{Word, Field, Note, Member, Spaced, RowNumber, RowToken, Units}
 use Rattle.cli_lines.specs.declared.parts.Value.{Value as KeptValue}
-use Rattle.cli_lines.specs.Texts.{escaped_bytes}
-use Rattle.table_schema.specs.Tokens.{hexadecimal, token_text}
-use Rattle.cli_faults.specs.Hexadecimal.{upper_hexadecimal}
 use Rattle.cli_lines.proofs.PlainLemmas.{Plain, bytes_are_plain, padded_is_plain, token_is_plain}
-use Rattle.cli_lines.specs.declared.line.Before.{Before}
-use Rattle.cli_lines.specs.declared.line.Before.TheVariants.{Line, Brace}
 use Rattle.cli_lines.specs.declared.line.Before.TheVariants as at
 use Rattle.cli_lines.specs.declared.names.Name.{Name}
 use Rattle.cli_lines.specs.declared.names.Name.TheVariants as name

@@ -1,5 +1,6 @@
 pub mod DigitLemmas
 pub mod PlainLemmas
+pub mod Prelude
 pub mod TextLemmas
 pub mod NameLemmas
 pub mod JsonLemmas

@@ -1,13 +1,10 @@
 -- The parts of a line, one after another.
 use Rattle.std.proofs.Common.{◌≡◌, ◌≢◌, ◌∙◌, ℕ, List, [], ◌∷◌, ◌++◌, Option, None, Some, Result, Ok, Err, refl, ap, sym, append_assoc}
-use Rattle.std.specs.Prelude.{IfOk}
-use Rattle.std.specs.List.{flat_map}
+use Rattle.cli_lines.proofs.Prelude.{IfOk, flat_map, Before, Part, json_from, line_feed, line_from, named_from, part_letters, part_text, part_tokens, style}
 use Rattle.cli_lines.specs.declared.parts.Form.{Form}
 use Rattle.cli_lines.specs.declared.parts.Form.TheVariants.{Text, Letters, JsonLines}
 use Rattle.json.specs.Token.{Token}
-use Rattle.cli_lines.specs.declared.line.Before.{Before}
 use Rattle.cli_lines.specs.declared.line.Before.TheVariants as before
-use Rattle.cli_lines.specs.Lines.{Part, json_from, line_feed, line_from, named_from, part_letters, part_text, part_tokens, style}
 
 pub both_ok : {T E : Type 0} (P Q : T → Type 0) (result : Result T E) → IfOk result P → IfOk result Q → IfOk result (λ done. P done × Q done)
 both_ok P Q (Ok done) first second = (first, second)

@@ -1,14 +1,8 @@
 -- What a printer was asked to print.
 use Rattle.std.proofs.Common.{◌≡◌, ◌∙◌, ℕ, true, false, List, [], ◌∷◌, ◌++◌, Option, None, Some, Result, Ok, Err, refl, ap, sym, subst, append_assoc, append-nil}
-use Rattle.std.specs.Prelude.{IsErr, is_some}
-use Rattle.std.specs.Borrow.{GName}
+use Rattle.cli_lines.proofs.Prelude.{IsErr, is_some, GName, flat_map-append, Before, Part, Style, line_from, line_text, style, styled_text, Adds, Asked, Awaits, Begins, Completes, Ends, Moves, Printed, Prints, Same, waits, prefix_longer, prefix_more, sends_more}
 use Rattle.std.specs.declared.io.ErrorKind.{ErrorKind}
-use Rattle.std.proofs.lemmas.Grind.{flat_map-append}
-use Rattle.cli_lines.specs.declared.line.Before.{Before}
-use Rattle.cli_lines.specs.Lines.{Part, Style, line_from, line_text, style, styled_text}
-use Rattle.cli_lines.specs.Printed.{Adds, Asked, Awaits, Begins, Completes, Ends, Moves, Printed, Prints, Same, waits}
 use Rattle.cli_sending.specs.Sent.{Sends, SendsPrefix}
-use Rattle.cli_sending.proofs.SentLemmas.{prefix_longer, prefix_more, sends_more}
 
 no_report : (look : Style) → styled_text look [] ≡ []
 unfolding styled_text

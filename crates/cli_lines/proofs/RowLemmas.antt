@@ -1,8 +1,5 @@
 -- The lines of rows, one after another.
-use Rattle.std.proofs.Common.{◌≡◌, ℕ, suc, ◌+◌, ◌-◌, ◌<◌, ◌≤◌, List, [], ◌∷◌, map, ap, subst, sym, arith}
-use Rattle.std.specs.List.{range_with_len}
-use Rattle.cli_lines.specs.Lines.{Part}
-use Rattle.cli_lines.specs.Printed.{Printed, Prints, rows_after}
+use Rattle.cli_lines.proofs.Prelude.{◌≡◌, ℕ, suc, ◌+◌, ◌-◌, ◌<◌, ◌≤◌, List, [], ◌∷◌, map, ap, subst, sym, arith, range_with_len, Part, Printed, Prints, rows_after}
 use Rattle.cli_lines.proofs.PrintedLemmas.{prints_more, prints_nothing}
 
 module _ (line : ℕ → List Part) where

@@ -1,16 +1,9 @@
 -- What is appended to a line, one byte after another.
-use Rattle.std.proofs.Common.{◌≡◌, ◌∙◌, ℕ, zero, suc, ◌+◌, ◌-◌, ◌*◌, ◌/◌, ◌%◌, ◌<◌, Bool, true, false, ◌&&◌, T, eqb, eqb→eq, eq-zero-or-pos, IsTrue, List, [], ◌∷◌, ◌++◌, length, get_or, take, drop, refl, ap, sym, inl, inr, append_assoc, arith, if◌then◌else◌}
+use Rattle.cli_lines.proofs.Prelude.{◌≡◌, ◌∙◌, ℕ, zero, suc, ◌+◌, ◌-◌, ◌*◌, ◌/◌, ◌%◌, ◌<◌, Bool, true, false, ◌&&◌, T, eqb, eqb→eq, eq-zero-or-pos, IsTrue, List, [], ◌∷◌, ◌++◌, length, get_or, take, drop, refl, ap, sym, inl, inr, append_assoc, arith, if◌then◌else◌, flat_map, digit_glyph, cond-true, hex_byte, flat_map_more, take_more, hexadecimal, upper_hexadecimal}
 use lib.Ieee.Fits.{and_l, and_r}
 use Rattle.std.specs.Prelude.{Result, Ok, Err, OnOk, is_ok}
-use Rattle.std.specs.List.{flat_map}
-use Rattle.std.specs.Fmt.{digit_glyph}
-use Rattle.std.proofs.lemmas.Bool.{cond-true}
-use Rattle.std.proofs.lemmas.Fmt.{hex_byte}
-use Rattle.std.proofs.lemmas.List.{flat_map_more, take_more}
 use Rattle.std.proofs.Math.Seq.{drop-append_seam, take-append_seam}
-use Rattle.table_schema.specs.Tokens.{hexadecimal}
 use Rattle.cli_faults.specs.Escaped.{escaped_text, is_plain}
-use Rattle.cli_faults.specs.Hexadecimal.{upper_hexadecimal}
 use Rattle.cli_escapes.specs.Letters.{readable}
 use Rattle.cli_lines.specs.declared.texts.TheConstants.{PAIRS}
 

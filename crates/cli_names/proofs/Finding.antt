@@ -1,13 +1,5 @@
 -- The first item of a list that passes a test, as the rule with a name is.
-use Rattle.std.proofs.Common.{◌≡◌, ◌∙◌, ◌+◌, ◌<◌, ℕ, zero, suc, Bool, true, false, cond, eqb, List, [], ◌∷◌, Some, None, length, map, take, get_or, ap, refl, arith}
-use Rattle.std.specs.Prelude.{◌↔◌, IsTrue, find}
-use Rattle.std.specs.Bool.{Decides}
-use Rattle.std.specs.Char.{to_ascii_lowercase}
-use Rattle.std.specs.Str.{str_eq_ignore_ascii_case}
-use Rattle.std.proofs.lemmas.Slice.Eq.{bytes_eq-Decides}
-use Rattle.packed.specs.Codes.{name_of, number_of_code}
-use Rattle.cli_faults.specs.Codes.{codes_in_order}
-use Rattle.cli_names.specs.Names.{code_named}
+use Rattle.cli_names.proofs.Prelude.{◌≡◌, ◌∙◌, ◌+◌, ◌<◌, ℕ, zero, suc, Bool, true, false, cond, eqb, List, [], ◌∷◌, Some, None, length, map, take, get_or, ap, refl, arith, ◌↔◌, IsTrue, find, Decides, to_ascii_lowercase, str_eq_ignore_ascii_case, bytes_eq-Decides, name_of, number_of_code, codes_in_order, code_named}
 
 -- the test of two texts without regard to case
 pub same_but_for_case : (xs ys : List ℕ) (r : Bool) → (IsTrue r ↔ (map to_ascii_lowercase xs ≡ map to_ascii_lowercase ys)) → r ≡ str_eq_ignore_ascii_case xs ys

@@ -1,16 +1,10 @@
 -- The number that digits denote, for an argument without a leading plus sign.
-use Rattle.std.proofs.Common.{◌≡◌, ◌≢◌, ◌∙◌, ◌==◌, ℕ, ◌^◌, ◌<◌, ◌≤◌, ◌++◌, Bool, true, false, cond, List, [], ◌∷◌, codes, drop, length, take, Result, Ok, Err, Option, None, Some, ap, arith, eqb-true, inl, inr, refl, subst, sym, ⊎_elim}
-use Rattle.std.specs.Prelude.{slice_index, MatchOption}
-use Rattle.std.specs.Bool.{Decides}
-use Rattle.std.specs.Char.{digit_value}
+use Rattle.cli_names.proofs.Prelude.{◌≡◌, ◌≢◌, ◌∙◌, ◌==◌, ℕ, ◌^◌, ◌<◌, ◌≤◌, ◌++◌, Bool, true, false, cond, List, [], ◌∷◌, codes, drop, length, take, Result, Ok, Err, Option, None, Some, ap, arith, eqb-true, inl, inr, refl, subst, sym, ⊎_elim, slice_index, MatchOption, Decides, digit_value, bytes_eq, take-append-drop, bytes_eq-Decides}
 use Rattle.std.specs.Option.{SomeIff}
 use Rattle.std.specs.Result.{result_ok}
-use Rattle.std.specs.Str.{bytes_eq}
 use Rattle.std.specs.Str.Parse.{IsNumeral, ParsesUnsigned, digits_value}
 use Rattle.std.proofs.Math.Nat.{pow-le-pow_right}
 use Rattle.std.proofs.lemmas.Int.Digits.{digits_value-lt}
-use Rattle.std.proofs.lemmas.List.{take-append-drop}
-use Rattle.std.proofs.lemmas.Slice.Eq.{bytes_eq-Decides}
 use Rattle.cli_names.specs.Numbers.{IsCodeNumber, IsHexNumber, IsOffset, IsTableNumber, digits_of}
 
 plus_free : (led : Bool) (word : List ℕ) → led ≡ false → drop (cond led 1 0) word ≡ word

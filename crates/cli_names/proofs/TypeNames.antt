@@ -1,12 +1,8 @@
 -- The parts of the full name of a type.
-use Rattle.std.proofs.Common.{◌≡◌, ◌≢◌, ◌==◌, ◌∙◌, ◌++◌, ◌∷◌, ℕ, List, [], All, Option, None, Some, ap, sym, subst, drop, inl, inr, lit<}
-use Rattle.std.specs.Prelude.{MatchOption, unwrap_or}
+use Rattle.cli_names.proofs.Prelude.{◌≡◌, ◌≢◌, ◌==◌, ◌∙◌, ◌++◌, ◌∷◌, ℕ, List, [], All, Option, None, Some, ap, sym, subst, drop, inl, inr, lit<, MatchOption, unwrap_or, NoCharPasses, get_or_default, take-append-drop, IsFullName}
 use Rattle.std.specs.Borrow.{Bor}
-use Rattle.std.specs.Str.{NoCharPasses}
 use Rattle.std.specs.Str.Pattern.{RFindsChar, SplitsAroundMatch}
-use Rattle.std.proofs.lemmas.List.{get_or_default, take-append-drop}
 use Rattle.std.proofs.lemmas.Str.Pattern.{NoCharPasses-char, drop_at_char}
-use Rattle.cli_names.specs.Names.{IsFullName}
 
 -- no byte of a text is a dot if no character is
 no_dot : (text : List ℕ) → NoCharPasses (λ d. d == 46) text → All (λ byte. byte ≢ 46) text

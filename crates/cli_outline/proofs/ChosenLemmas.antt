@@ -1,21 +1,14 @@
 -- Rows that are chosen, one after another.
-use Rattle.std.proofs.Common.{◌≡◌, ◌∙◌, ℕ, Bool, true, false, List, [], ◌∷◌, ◌++◌, Option, None, Some, ⊎_elim, ap, inl, inr, refl, subst, sym}
+use Rattle.cli_outline.proofs.Prelude.{◌≡◌, ◌∙◌, ℕ, Bool, true, false, List, [], ◌∷◌, ◌++◌, Option, None, Some, ⊎_elim, ap, inl, inr, refl, subst, sym, Decides-like, Decides-and, Decides-eqb, TableId, Token, Metadata, AreChosenBy, IsChosen, IsDescribing, PrintsChosen, PrintsRows, OutlineOptions}
 use Rattle.std.specs.Bool.{Decides}
 use Rattle.std.specs.Option.{option_eq}
-use Rattle.std.proofs.lemmas.Bool.Decides.{Decides-like, Decides-and, Decides-eqb}
 use denote.Enum.Bare.{same_true, true_same}
-use Rattle.table_schema.specs.declared.table.TableId.{TableId}
 use Rattle.table_schema.specs.contracts.table.TableId as table
 use Rattle.table_schema.specs.contracts.table.TableIdPartialEq.TheImpl as tables
-use Rattle.table_schema.specs.declared.token.Token.{Token}
 use Rattle.table_schema.specs.contracts.token.TokenPartialEq.TheImpl as tokens
-use Rattle.metadata.specs.Metadata.{Metadata}
 use Rattle.declaring_types.specs.Declaring.{IsDeclaring}
 use Rattle.cli_lines.specs.Printed.{Printed}
-use Rattle.cli_outline.specs.Chosen.{AreChosenBy, IsChosen, IsDescribing, PrintsChosen}
-use Rattle.cli_outline.specs.Printed.{PrintsRows}
 use Rattle.cli_outline.specs.declared.chosen.Choice.TheVariants as choice
-use Rattle.cli_outline.specs.declared.source.OutlineOptions.{OutlineOptions}
 use Rattle.cli_outline.proofs.PrintedLemmas.{rows_are}
 
 pub chosen_append : (Yes No : Token → Type 0) (xs ys a b : List Token) → AreChosenBy Yes No xs a → AreChosenBy Yes No ys b → AreChosenBy Yes No (xs ++ ys) (a ++ b)

@@ -1,21 +1,12 @@
 -- The first word of a declaration, and its line in each form.
-use Rattle.std.proofs.Common.{◌≡◌, ◌<◌, ◌≤◌, get_or, Bool, true, false, inl, inr, ℕ, List, length, ltb, lt-ltb, None, Some, sym, arith, [], ◌∷◌, ◌++◌, Option, refl, subst}
-use Rattle.std.specs.List.{position, position_or_len}
+use Rattle.cli_outline.proofs.Prelude.{◌≡◌, ◌<◌, ◌≤◌, get_or, Bool, true, false, inl, inr, ℕ, List, length, ltb, lt-ltb, None, Some, sym, arith, [], ◌∷◌, ◌++◌, Option, refl, subst, position, position_or_len, cases_lt, nat_tests, Token, Text, Letters, JsonLines, Part, line_from, style, styled_text, as_is, Tokens, declaration_line, ends_word, json_line, text_line, unindented}
 use Rattle.std.specs.Str.{IsCharBoundary}
-use Rattle.std.proofs.lemmas.Bool.{cases_lt}
-use Rattle.std.proofs.lemmas.Bool.Decides.{nat_tests}
 use Rattle.std.proofs.lemmas.List.Quantifiers.{position-Some}
 use Rattle.std.proofs.lemmas.List.Sums.{position_or_len_is}
-use Rattle.table_schema.specs.declared.token.Token.{Token}
 use Rattle.cli_lines.specs.declared.parts.Form.{Form}
-use Rattle.cli_lines.specs.declared.parts.Form.TheVariants.{Text, Letters, JsonLines}
-use Rattle.cli_lines.specs.Lines.{Part, line_from, style, styled_text}
 use Rattle.cli_lines.specs.Printed.{Asked, Printed, Prints}
-use Rattle.cli_escapes.specs.AsIs.{as_is}
 use Rattle.cli_escapes.specs.Letters.{readable_after}
-use Rattle.cli_outline.specs.declared.source.Tokens.{Tokens}
 use Rattle.cli_outline.specs.declared.source.Tokens.TheVariants.{Shown, Hidden}
-use Rattle.cli_outline.specs.Declarations.{declaration_line, ends_word, json_line, text_line, unindented}
 
 -- the length of the first word that a search returns
 module _ (p : ℕ → Bool) (text : List ℕ) where

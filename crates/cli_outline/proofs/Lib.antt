@@ -1,4 +1,5 @@
 pub mod DeclarationLemmas
+pub mod Prelude
 pub mod PrintedLemmas
 pub mod RunLemmas
 mod ChosenLemmas

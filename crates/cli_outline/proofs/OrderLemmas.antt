@@ -1,24 +1,10 @@
 -- Rows in the order of their keys.
-use Rattle.std.proofs.Common.{◌≡◌, ◌∙◌, ℕ, zero, suc, ◌+◌, ◌-◌, ◌<◌, ◌≤◌, List, [], ◌∷◌, ◌++◌, All, ⊎_elim, None, Some, Result, Ok, Err, ap, arith, get_or, length, length-append, map, refl, subst, sym}
-use Rattle.std.specs.Prelude.{IfOk, slice_get, unwrap_or}
+use Rattle.cli_outline.proofs.Prelude.{◌≡◌, ◌∙◌, ℕ, zero, suc, ◌+◌, ◌-◌, ◌<◌, ◌≤◌, List, [], ◌∷◌, ◌++◌, All, ⊎_elim, None, Some, Result, Ok, Err, ap, arith, get_or, length, length-append, map, refl, subst, sym, IfOk, slice_get, unwrap_or, range_with_len, IsPermutation, cases_lt, ext_get_or, get_or-append-add, get_or_append_left, get_or_default, All-permutation, length_permutation, TableId, Field, MethodDef, Metadata, Keyed, TableOrder, OutlineOptions, AreInOrder, IsOrder, IsOrdered, KeepsRuns, keyed_cmp, row_at, rows_of, Order}
 use Rattle.std.specs.Cmp.{IsTotalOrder}
-use Rattle.std.specs.List.{range_with_len}
-use Rattle.std.specs.List.Sorted.{IsPermutation}
-use Rattle.std.proofs.lemmas.Bool.{cases_lt}
 use Rattle.std.proofs.lemmas.Cmp.{nat_cmp_total, nat_list_cmp_total, on_total, then_total}
-use Rattle.std.proofs.lemmas.List.{ext_get_or, get_or-append-add, get_or_append_left, get_or_default}
 use Rattle.std.proofs.lemmas.List.FromFn.{get_or-map-range_with_len, get_or-range_with_len, length-map-range_with_len, length-range_with_len}
-use Rattle.std.proofs.lemmas.List.Sorted.{All-permutation, length_permutation}
-use Rattle.table_schema.specs.declared.table.TableId.{TableId}
-use Rattle.table_schema.specs.declared.table.TableId.TheVariants.{Field, MethodDef}
-use Rattle.metadata.specs.Metadata.{Metadata}
 use Rattle.metadata_source.specs.declared.member_lists.MemberList.TheVariants as list
-use Rattle.cli_outline.specs.declared.orders.Keyed.{Keyed}
-use Rattle.cli_outline.specs.declared.orders.TableOrder.{TableOrder}
-use Rattle.cli_outline.specs.declared.source.OutlineOptions.{OutlineOptions}
 use Rattle.cli_outline.specs.declared.source.Sorting.TheVariants.{ByName}
-use Rattle.cli_outline.specs.Orders.{AreInOrder, IsOrder, IsOrdered, KeepsRuns, keyed_cmp, row_at, rows_of}
-use Rattle.cli_outline.specs.Outline.{Order}
 
 pub keyed_cmp_total : IsTotalOrder keyed_cmp
 keyed_cmp_total = then_total (on_total (λ (item : Keyed). item.key.items) nat_list_cmp_total) (on_total (λ (item : Keyed). item.row) nat_cmp_total)

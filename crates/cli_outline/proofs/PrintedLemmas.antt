@@ -1,19 +1,8 @@
 -- The lines of rows, one after another.
-use Rattle.std.proofs.Common.{◌≡◌, ◌∙◌, Bool, true, false, cond, ℕ, suc, ◌+◌, ◌-◌, ◌<◌, ◌≤◌, List, [], ◌∷◌, ◌++◌, Option, None, Some, refl, ap, sym, subst, append_assoc, append-nil, add-one, drop, drop-cons, get_or, length, map, arith}
-use Rattle.std.specs.Prelude.{IsSome}
-use Rattle.std.proofs.lemmas.List.{drop_all}
-use Rattle.std.proofs.lemmas.List.Elements.{filter-append}
-use Rattle.std.specs.List.{flat_map, range_with_len}
-use Rattle.table_schema.specs.declared.token.Token.{Token}
-use Rattle.metadata.specs.Metadata.{Metadata}
+use Rattle.cli_outline.proofs.Prelude.{◌≡◌, ◌∙◌, Bool, true, false, cond, ℕ, suc, ◌+◌, ◌-◌, ◌<◌, ◌≤◌, List, [], ◌∷◌, ◌++◌, Option, None, Some, refl, ap, sym, subst, append_assoc, append-nil, add-one, drop, drop-cons, get_or, length, map, arith, IsSome, drop_all, filter-append, flat_map, range_with_len, Token, Metadata, Part, OutlineOptions, each_from, AreLines, IsLine, PrintsRows, is_shown, shown_rows}
 use Rattle.navigation.specs.declared.keyed.KeyedRow.{KeyedRow}
 use Rattle.navigation.specs.Keyed.{row_of}
-use Rattle.cli_lines.specs.Lines.{Part}
 use Rattle.cli_lines.specs.Printed.{Printed, Prints}
-use Rattle.cli_outline.specs.declared.source.OutlineOptions.{OutlineOptions}
-use Rattle.cli_outline.specs.Outline.{each_from}
-use Rattle.cli_outline.specs.Printed.{AreLines, IsLine, PrintsRows}
-use Rattle.cli_outline.specs.Shown.{is_shown, shown_rows}
 
 lines_append : (options : OutlineOptions) (model : Metadata) (xs ys : List Token) (a b : List (List Part)) → AreLines options model xs a → AreLines options model ys b → AreLines options model (xs ++ ys) (a ++ b)
 lines_append options model [] ys a b are more = subst (λ (lines : List (List Part)). AreLines options model ys (lines ++ b)) (sym are) more

@@ -1,21 +1,10 @@
 -- The run of an owner's members (ECMA-335 II.22.12, II.22.26, II.22.35 and II.22.37).
-use Rattle.std.proofs.Common.{◌≡◌, ◌≢◌, ◌∙◌, ℕ, zero, suc, ◌+◌, ◌-◌, ◌<◌, ◌≤◌, Bool, Some, cond, refl, subst, sym, ap, arith, ⊎_elim}
-use Rattle.std.proofs.lemmas.Bool.{cases_lt, le-leb, lt-leb}
-use Rattle.table_schema.specs.declared.table.TableId.{TableId}
-use Rattle.table_schema.specs.declared.table.TableId.TheVariants.{TypeDef}
+use Rattle.cli_outline.proofs.Prelude.{◌≡◌, ◌≢◌, ◌∙◌, ℕ, zero, suc, ◌+◌, ◌-◌, ◌<◌, ◌≤◌, Bool, Some, cond, refl, subst, sym, ap, arith, ⊎_elim, cases_lt, le-leb, lt-leb, TableId, TypeDef, cell_columns, cell_count, HasRow, IsRun, Metadata, cell_in, count_in, MemberList, cell_of, member_of, owner_of, type_token, IsMemberOf, run_start}
 use Rattle.table_schema.specs.declared.column.ColumnKind.{ColumnKind}
 use Rattle.table_schema.specs.declared.column.ColumnKind.TheVariants as kind
-use Rattle.table_schema.specs.CellColumns.{cell_columns, cell_count}
 use Rattle.metadata.specs.Cell.{Cell}
-use Rattle.metadata.specs.Lookups.{HasRow, IsRun}
-use Rattle.metadata.specs.Metadata.{Metadata, cell_in, count_in}
 use Rattle.metadata.specs.Valid.{HasOwners, IsValid, IsWithinMembers, kind_at, start_in}
-use Rattle.metadata_source.specs.declared.member_lists.MemberList.{MemberList}
 use Rattle.metadata_source.specs.declared.member_lists.MemberList.TheVariants as list
-use Rattle.metadata_source.specs.MemberLists.{cell_of, member_of, owner_of}
-use Rattle.navigation.specs.Nesting.{type_token}
-use Rattle.full_names.specs.RowNames.{IsMemberOf}
-use Rattle.cli_outline.specs.Outline.{run_start}
 
 -- what is valid of each list
 owners : (model : Metadata) → IsValid model → (of : MemberList) → HasOwners model (owner_of of) (cell_of of) (member_of of)

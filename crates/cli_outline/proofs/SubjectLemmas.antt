@@ -1,20 +1,11 @@
 -- What is printed of the row or of the types of other modules that are asked for.
-use Rattle.std.proofs.Common.{◌≡◌, ◌≢◌, ◌∙◌, ◌&&◌, List, [], ◌∷◌, true, false, ⊎_elim, inl, inr, refl, subst, sym}
-use Rattle.table_schema.specs.declared.table.TableId.{TableId}
-use Rattle.table_schema.specs.declared.table.TableId.TheVariants.{TypeDef}
-use Rattle.table_schema.specs.declared.token.Token.{Token}
-use Rattle.metadata.specs.Metadata.{Metadata}
+use Rattle.cli_outline.proofs.Prelude.{◌≡◌, ◌≢◌, ◌∙◌, ◌&&◌, List, [], ◌∷◌, true, false, ⊎_elim, inl, inr, refl, subst, sym, TableId, TypeDef, Token, Metadata, Wanted, BelongsTo, HasSome, IsMeantRef, IsWantedRef, Wants, OutlineOptions, AreChosenBy, PrintsType, has_line}
 use Rattle.cli_lines.specs.Printed.{Printed as Printer}
-use Rattle.cli_paths.specs.declared.refs.Wanted.{Wanted}
 use Rattle.cli_paths.specs.declared.subject.Subject.{Subject}
 use Rattle.cli_paths.specs.declared.subject.Subject.TheVariants.{Path, Row}
-use Rattle.cli_paths.specs.Refs.{BelongsTo, HasSome, IsMeantRef, IsWantedRef, Wants}
 use Rattle.cli_paths.specs.Subjects.{IsSubject}
 use Rattle.cli_outline.specs.declared.outcome.Outcome.{Outcome}
 use Rattle.cli_outline.specs.declared.outcome.Outcome.TheVariants.{NoSuchType, OutOfMemory, Printed}
-use Rattle.cli_outline.specs.declared.source.OutlineOptions.{OutlineOptions}
-use Rattle.cli_outline.specs.Chosen.{AreChosenBy, PrintsType}
-use Rattle.cli_outline.specs.Shown.{has_line}
 use Rattle.cli_declarations.specs.Layouts.{is_declared_in}
 use Rattle.cli_outline.specs.Subjects.{PrintsAlone, PrintsRow, PrintsSubject, is_declared}
 

@@ -1,3 +1,4 @@
 mod PathLemmas
+mod Prelude
 mod RefLemmas
 mod SubjectLemmas

@@ -1,20 +1,9 @@
 -- The type that a path means.
 use Rattle.std.proofs.Common.{◌≡◌, ◌≢◌, ◌∙◌, ◌↔◌, All, Bool, true, false, IsTrue, eqb, ltb, ℕ, zero, suc, ◌+◌, ◌-◌, ◌<◌, ◌≤◌, List, [], ◌∷◌, ◌++◌, Option, None, Some, IfSome, add-one, get_or, length, map, refl, ap, sym, subst, inl, inr, arith, ⊎_elim}
 use Rattle.std.specs.Bool.{then_some}
-use Rattle.std.specs.Borrow.{Bor}
+use Rattle.cli_paths.proofs.Prelude.{Bor, get_or_default, length-map, get_or-map, slice_index_or, cases_lt, eqb-false, eqb-true, le-ltb, NestedClass, TypeDef, Cell, Ref, Text, HasRow, Metadata, cell_in, IsOuter, IsFullName, ArePartsOf, HasName, HasOwnName, HasPath, IsAt, IsMeant, IsNextNamed, IsOnly, IsPartOf, IsWithin, IsBare, is_slash}
 use Rattle.std.specs.List.{slice_split}
 use Rattle.std.specs.Option.{option_eq}
-use Rattle.std.proofs.lemmas.List.{get_or_default, length-map}
-use Rattle.std.proofs.Math.ListN.{get_or-map}
-use Rattle.std.specs.Prelude.{slice_index_or}
-use Rattle.std.proofs.lemmas.Bool.{cases_lt, eqb-false, eqb-true, le-ltb}
-use Rattle.table_schema.specs.declared.table.TableId.TheVariants.{NestedClass, TypeDef}
-use Rattle.metadata.specs.Cell.{Cell, Ref, Text}
-use Rattle.metadata.specs.Lookups.{HasRow}
-use Rattle.metadata.specs.Metadata.{Metadata, cell_in}
-use Rattle.full_names.specs.Names.{IsOuter}
-use Rattle.cli_names.specs.Names.{IsFullName}
-use Rattle.cli_paths.specs.Paths.{ArePartsOf, HasName, HasOwnName, HasPath, IsAt, IsMeant, IsNextNamed, IsOnly, IsPartOf, IsWithin, IsBare, is_slash}
 
 row_in : Cell → ℕ
 row_in (Ref (Some token)) = token.row

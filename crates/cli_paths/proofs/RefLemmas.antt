@@ -1,16 +1,11 @@
 -- The types of other modules that an argument means, and what belongs to them.
-use Rattle.std.proofs.Common.{◌≡◌, ◌∙◌, ◌↔◌, ◌==◌, Bool, true, false, cond, IsTrue, ℕ, zero, suc, ◌<◌, List, [], ◌∷◌, ◌++◌, Option, None, Some, get_or, length, map, refl, ap, sym, subst, arith}
-use Rattle.std.specs.Borrow.{Bor}
+use Rattle.cli_paths.proofs.Prelude.{◌≡◌, ◌∙◌, ◌↔◌, ◌==◌, Bool, true, false, cond, IsTrue, ℕ, zero, suc, ◌<◌, List, [], ◌∷◌, ◌++◌, Option, None, Some, get_or, length, map, refl, ap, sym, subst, arith, Bor, get_or_default, length-map, get_or-map, TypeRef, Token, Cell, Ref, Text, HasRow, Metadata, cell_in, IsScope, IsFullName, BelongsTo, HasRefName, IsRefAt, IsWantedRef, generic_at, generic_of, type_of_ref}
 use Rattle.std.specs.Prelude.{IfNone, IfSome, is_some, not, option_map, slice_index_or}
-use Rattle.std.proofs.lemmas.List.{get_or_default, length-map}
-use Rattle.std.proofs.Math.ListN.{get_or-map}
 use Rattle.packed.specs.Packed.{IsPacked}
 use Rattle.packed.specs.Prefix.{unsigned_at}
 use Rattle.table_schema.specs.declared.column.SigKind.TheVariants as column
 use Rattle.table_schema.specs.declared.coded.Coded.TheVariants.{TypeDefOrRef}
 use Rattle.table_schema.specs.declared.table.TableId.{TableId}
-use Rattle.table_schema.specs.declared.table.TableId.TheVariants.{TypeRef}
-use Rattle.table_schema.specs.declared.token.Token.{Token}
 use Rattle.table_schema.specs.CodedIndexes.{IsCoded}
 use Rattle.sig_grammar.specs.declared.element.Element.{Element}
 use Rattle.sig_grammar.specs.declared.element.Element.TheVariants.{Boolean, Char, I1, U1, I2, U2, I4, U4, I8, U8, R4, R8, String, I, U, Object}
@@ -21,13 +16,7 @@ use Rattle.sig_grammar.specs.Grammar.{content_parts, core_parts, count_types, me
 use Rattle.sig_grammar.specs.Parts.{EncodesParts, IsIndex, Part, byte, index, number}
 use Rattle.sig_grammar.specs.Reading.{index_at, number_at, token_of}
 use Rattle.sig_grammar.specs.Syntax.{Body, Core, array, by_ref, class, field, function, instance, instance_body, locals, method_body, mvar, plain, pointer, property, simple, slot, some_ret, type_spec, typed_ref, value, var, vector, void_pointer, void_ret}
-use Rattle.metadata.specs.Cell.{Cell, Ref, Text}
-use Rattle.metadata.specs.Lookups.{HasRow}
-use Rattle.metadata.specs.Metadata.{Metadata, cell_in}
-use Rattle.navigation.specs.Nesting.{IsScope}
-use Rattle.cli_names.specs.Names.{IsFullName}
 use Rattle.cli_paths.specs.declared.refs.Wanted.{Wanted}
-use Rattle.cli_paths.specs.Refs.{BelongsTo, HasRefName, IsRefAt, IsWantedRef, generic_at, generic_of, type_of_ref}
 use Rattle.cli_paths.proofs.PathLemmas.{one_name}
 
 -- a text is the full name of one type

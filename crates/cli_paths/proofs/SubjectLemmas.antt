@@ -1,7 +1,6 @@
 -- What is known of a row that may be there.
 use Rattle.std.proofs.Common.{◌≡◌, ℕ, IfOk, Option, None, Some, IfSome, IfNone, Result, Ok, Err}
-use Rattle.table_schema.specs.declared.table.TableId.TheVariants.{TypeDef}
-use Rattle.table_schema.specs.declared.token.Token.{Token}
+use Rattle.cli_paths.proofs.Prelude.{TypeDef, Token}
 
 pub on_some : {X : Type 0} (P Q : X → Type 0) (o : Option X) → IfSome o P → ((x : X) → P x → Q x) → IfSome o Q
 on_some P Q None is f = tt

@@ -1,12 +1,7 @@
 -- How the lines of rules follow one another.
-use Rattle.std.proofs.Common.{◌≡◌, ◌≤◌, ◌<◌, ◌+◌, ◌∷◌, ◌++◌, ◌∙◌, ◌&&◌, [], ℕ, Bool, List, true, drop, get_or, length, refl, subst, sym}
-use Rattle.std.specs.List.{list_all}
-use Rattle.std.proofs.lemmas.List.{drop_all, drop_more}
+use Rattle.cli_print.proofs.Prelude.{◌≡◌, ◌≤◌, ◌<◌, ◌+◌, ◌∷◌, ◌++◌, ◌∙◌, ◌&&◌, [], ℕ, Bool, List, true, drop, get_or, length, refl, subst, sym, list_all, drop_all, drop_more, Part, Adds, Begins, Ends, Printed, Prints, AreEach, BeginsWords, PrintsEach, PrintsWords, is_word}
 use Rattle.std.proofs.lemmas.List.Folds.{list_all-append}
 use Rattle.packed.specs.declared.code.FaultCode.{FaultCode}
-use Rattle.cli_lines.specs.Lines.{Part}
-use Rattle.cli_lines.specs.Printed.{Adds, Begins, Ends, Printed, Prints}
-use Rattle.cli_print.specs.Explanations.{AreEach, BeginsWords, PrintsEach, PrintsWords, is_word}
 
 all_both : {X : Type 0} (p : X → Bool) (xs ys : List X) → list_all p xs ≡ true → list_all p ys ≡ true → list_all p (xs ++ ys) ≡ true
 all_both p xs ys first next = list_all-append p xs ys ∙ (λ i. first i && next i)

@@ -1,2 +1,3 @@
 pub mod ExplanationLemmas
+pub mod Prelude
 pub mod TypeLemmas

@@ -1,13 +1,10 @@
 -- The cells and the members of a type (ECMA-335 II.22.37).
-use Rattle.std.proofs.Common.{◌≡◌, ◌≤◌, ◌<◌, ◌⊎◌, ◌∙◌, ◌+◌, ◌-◌, ℕ, Bool, arith, ap, cond, inl, inr, sym}
+use Rattle.cli_print.proofs.Prelude.{◌≡◌, ◌≤◌, ◌<◌, ◌⊎◌, ◌∙◌, ◌+◌, ◌-◌, ℕ, Bool, arith, ap, cond, inl, inr, sym, TypeDef, Metadata, cell_in, count_in, first_member, member_count, start_of}
 use Rattle.std.proofs.lemmas.Bool.{cases_lt, le-leb, lt-leb}
 use Rattle.std.proofs.Math.Logic.{⊎_elim}
 use Rattle.table_schema.specs.CellColumns.{cell_columns, cell_count}
 use Rattle.table_schema.specs.declared.table.TableId.{TableId}
-use Rattle.table_schema.specs.declared.table.TableId.TheVariants.{TypeDef}
 use Rattle.metadata.specs.Lookups.{IsRun}
-use Rattle.metadata.specs.Metadata.{Metadata, cell_in, count_in}
-use Rattle.cli_print.specs.TypeLines.{first_member, member_count, start_of}
 
 pub cell_index_within : (cell_index : ℕ) → (cell_index ≡ 1) ⊎ (cell_index ≡ 2) → cell_index < cell_count TypeDef
 unfolding cell_columns

@@ -1,12 +1,10 @@
 -- What the CLI header names.
 use Rattle.std.proofs.Common.{◌≡◌, ◌∙◌, ℕ, ◌+◌, Option, None, Some, List, [], ◌∷◌, length, refl, ap}
-use Rattle.std.specs.Prelude.{nat_le}
-use Rattle.std.proofs.lemmas.Bool.{cond-false, cond-true, false_from_ne_true, leb-true, le-leb}
+use Rattle.cli_regions.proofs.Prelude.{nat_le, cond-false, cond-true, false_from_ne_true, leb-true, le-leb, region}
 use Rattle.pe.specs.Image.{Image}
 use Rattle.pe.specs.Offset.{IsFileOffset, offset_at}
 use Rattle.cli_header.specs.declared.header.DataDirectory.{DataDirectory}
 use Rattle.cli_regions.specs.Files.{named_at, named_regions}
-use Rattle.cli_regions.specs.Regions.{region}
 
 module _ (image : Image) (what : List ℕ) (of : DataDirectory) where
   -- the file has the bytes

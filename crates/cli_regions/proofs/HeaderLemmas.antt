@@ -1,10 +1,6 @@
 -- The offsets of stream headers (ECMA-335 II.24.2.2).
-use Rattle.std.proofs.Common.{◌≡◌, ℕ, ◌+◌, ◌*◌, ◌/◌, ◌%◌, ◌<◌, ◌≤◌, List, [], ◌∷◌, ◌++◌, length, ap, arith, length-append}
-use Rattle.std.specs.List.{All}
-use Rattle.std.proofs.lemmas.List.Elements.{All-cons, All-nil}
-use Rattle.root.specs.Fields.{header_length}
+use Rattle.cli_regions.proofs.Prelude.{◌≡◌, ℕ, ◌+◌, ◌*◌, ◌/◌, ◌%◌, ◌<◌, ◌≤◌, List, [], ◌∷◌, ◌++◌, length, ap, arith, length-append, All, All-cons, All-nil, header_length, Header}
 use Rattle.root.specs.Root.{AreHeaders, IsHeader, IsRoot}
-use Rattle.root.specs.Streams.{Header}
 
 -- the header ends at or before an offset
 abbrev pub EndsBy : ℕ → Header → Type 0

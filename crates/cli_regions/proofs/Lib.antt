@@ -1,3 +1,4 @@
+pub mod Prelude
 pub mod SearchLemmas
 pub mod LoopLemmas
 pub mod PeLemmas

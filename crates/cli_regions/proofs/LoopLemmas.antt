@@ -1,8 +1,5 @@
 -- The structures that a loop looks at.
-use Rattle.std.proofs.Common.{◌≡◌, ℕ, ◌+◌, ◌-◌, ◌<◌, ◌≤◌, List, [], ◌∷◌, ◌++◌, ap, sym, suc, arith}
-use Rattle.std.specs.List.{range_with_len}
-use Rattle.cli_regions.specs.Kept.{Adds, Searched}
-use Rattle.cli_regions.specs.Regions.{Region}
+use Rattle.cli_regions.proofs.Prelude.{◌≡◌, ℕ, ◌+◌, ◌-◌, ◌<◌, ◌≤◌, List, [], ◌∷◌, ◌++◌, ap, sym, suc, arith, range_with_len, Adds, Searched, Region}
 use Rattle.cli_regions.proofs.SearchLemmas.{adds_none, and_then, said_as}
 
 -- if what is left is looked at, too, the search has looked at all

@@ -1,16 +1,12 @@
 -- Whether the standard defines a stream of a name.
 use Rattle.std.specs.Prelude.{None, Some}
-use Rattle.std.proofs.Common.{◌≡◌, ◌≢◌, ◌∙◌, true, false, List, ℕ, Option, MatchOption, ap, refl, sym}
+use Rattle.cli_regions.proofs.Prelude.{◌≡◌, ◌≢◌, ◌∙◌, true, false, List, ℕ, Option, MatchOption, ap, refl, sym, false_from_ne_true, All-from_recursion, stream_name, is_standard, streams}
 use Rattle.std.specs.Option.{is_some}
 use Rattle.std.specs.Str.{bytes_eq}
-use Rattle.std.proofs.lemmas.Bool.{false_from_ne_true}
-use Rattle.std.proofs.lemmas.List.Elements.{All-from_recursion}
 use Rattle.std.proofs.lemmas.List.Folds.{list_any_none}
 use Rattle.std.proofs.lemmas.Slice.Eq.{bytes_eq-Decides}
 use Rattle.root.specs.declared.kind.Kind.{Kind}
 use Rattle.root.specs.declared.kind.Kind.TheVariants.{Tables, Strings, UserStrings, Guids, Blobs}
-use Rattle.root.specs.Streams.{stream_name}
-use Rattle.cli_regions.specs.Headers.{is_standard, streams}
 
 standard : (kind : Kind) → is_standard (stream_name kind) ≡ true
 standard Tables = refl

@@ -1,10 +1,8 @@
 -- The bytes before the first NUL, and the words of a name.
-use Rattle.std.specs.Prelude.{◌==◌}
+use Rattle.cli_regions.proofs.Prelude.{◌==◌, position, position_or_len, spaced}
 use Rattle.std.proofs.Common.{◌≡◌, ◌<◌, ◌≤◌, ℕ, false, Some, None, List, [], ◌∷◌, ◌++◌, codes, length, eqb, arith, refl}
-use Rattle.std.specs.List.{position, position_or_len}
 use Rattle.std.proofs.lemmas.Bool.Decides.{nat_tests}
 use Rattle.cli_faults.specs.Escaped.{escaped_text}
-use Rattle.cli_regions.specs.PeHeaders.{spaced}
 
 -- the index that a search for NUL returns
 pub nul_found : (bytes : List ℕ) (i : ℕ) → Some i ≡ position (λ byte. eqb byte 0) bytes → (i < length bytes) × (i ≡ position_or_len (λ byte. eqb byte 0) bytes)

@@ -1,9 +1,7 @@
 -- The headers of an image end within it (ECMA-335 II.25.2 and II.25.3).
-use Rattle.std.proofs.Common.{◌≡◌, ◌∙◌, ℕ, List, length, min, take, ap}
-use Rattle.std.proofs.lemmas.List.{take_min}
+use Rattle.cli_regions.proofs.Prelude.{◌≡◌, ◌∙◌, ℕ, List, length, min, take, ap, take_min, HasHeaders}
 use Rattle.packed.specs.Rule.{AllHold}
 use Rattle.pe.specs.Rules.{rules_of_image}
-use Rattle.cli_regions.specs.Kept.{HasHeaders}
 
 pub headers_fit : (file : List ℕ) → AllHold (rules_of_image file) → HasHeaders file
 headers_fit file h = record {

@@ -1,8 +1,5 @@
 -- What a search keeps.
-use Rattle.std.proofs.Common.{◌≡◌, ◌∙◌, ℕ, true, false, List, [], ◌∷◌, ◌++◌, refl, ap, subst, sym, cond, append_assoc, append-nil}
-use Rattle.std.proofs.lemmas.List.Elements.{filter-append}
-use Rattle.cli_regions.specs.Kept.{Adds, Joins, Searched}
-use Rattle.cli_regions.specs.Regions.{Region, has_byte, regions_at}
+use Rattle.cli_regions.proofs.Prelude.{◌≡◌, ◌∙◌, ℕ, true, false, List, [], ◌∷◌, ◌++◌, refl, ap, subst, sym, cond, append_assoc, append-nil, filter-append, Adds, Joins, Searched, Region, has_byte, regions_at}
 
 pub joins_none : (search : Searched) → Joins search search []
 joins_none search = record { offset = refl; found = λ found is. (found, is, sym (append-nil found)) }

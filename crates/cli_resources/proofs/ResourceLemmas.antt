@@ -1,12 +1,7 @@
 -- Tokens of resources, and rows that have none.
-use Rattle.std.proofs.Common.{◌≡◌, ◌∙◌, ℕ, [], ap, refl, sym}
-use Rattle.table_schema.specs.declared.table.TableId.{TableId}
-use Rattle.table_schema.specs.declared.table.TableId.TheVariants.{AssemblyRef, ExportedType, File}
+use Rattle.cli_resources.proofs.Prelude.{◌≡◌, ◌∙◌, ℕ, [], ap, refl, sym, TableId, AssemblyRef, ExportedType, File, Metadata, field, text, holder, resource_in}
 use Rattle.table_schema.specs.declared.token.Token.{Token}
-use Rattle.metadata.specs.Metadata.{Metadata}
 use Rattle.cli_lines.specs.declared.names.Name.TheVariants as name
-use Rattle.cli_lines.specs.Lines.{field, text}
-use Rattle.cli_resources.specs.ResourceLines.{holder, resource_in}
 
 pub other_holder : (model : Metadata) (table : TableId) (row : ℕ) → (table ≡ File → ⊥) → (table ≡ AssemblyRef → ⊥) → (table ≡ ExportedType → ⊥)
     → field name.Type (text []) ≡ holder model table row

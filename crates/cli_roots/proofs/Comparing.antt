@@ -1,24 +1,11 @@
 -- How comparing two files ends, case by case.
-use Rattle.std.proofs.Common.{◌≡◌, ◌∙◌, ℕ, List, [], Option, None, Some, Ok, Err, append-nil, refl, ap, sym, subst, length, inl, inr}
-use Rattle.std.specs.Prelude.{◌↔◌, IsErrAnd}
-use Rattle.std.specs.Io.KnownBytes.{Appends}
+use Rattle.cli_roots.proofs.Prelude.{◌≡◌, ◌∙◌, ℕ, List, [], Option, None, Some, Ok, Err, append-nil, refl, ap, sym, subst, length, inl, inr, ◌↔◌, IsErrAnd, Appends, Metadata, Failure, IsOutput, Different, IsModelOf, IsWhole, Input, SendsPrefix, Stopped, AreSameBut, IgnoresNone, IsComparing, IsRefusal, IsSame, IsShown, OfModels, compare_text, output_text, StopsBy, Outcome}
 use Rattle.std.proofs.lemmas.List.{nil_from_length}
-use Rattle.metadata.specs.Metadata.{Metadata}
-use Rattle.cli_faults.specs.declared.failure.Failure.{Failure}
-use Rattle.cli_faults.specs.Status.{IsOutput}
-use Rattle.cli_faults.specs.declared.stop.Stop.TheVariants.{Different}
-use Rattle.cli_input.specs.Checked.{IsModelOf, IsWhole}
-use Rattle.cli_input.specs.declared.opened.Input.{Input}
-use Rattle.cli_sending.specs.Sent.{SendsPrefix}
 use Rattle.comparison.specs.declared.difference.Difference.{Difference}
 use Rattle.comparison.specs.declared.ignored.IgnoredColumns.{IgnoredColumns}
 use Rattle.comparison.specs.Differences.{first_differences_but}
 use Rattle.comparison.specs.EqualBut.{AreEqualBut}
-use Rattle.cli_files.specs.declared.stopped.Stopped.{Stopped}
-use Rattle.cli_roots.specs.Compared.{AreSameBut, IgnoresNone, IsComparing, IsRefusal, IsSame, IsShown, OfModels, compare_text, output_text}
 use Rattle.cli_roots.specs.declared.compare.Output.{Output}
-use Rattle.cli_roots.specs.Runs.{StopsBy}
-use Rattle.cli_files.specs.Stopped.{Outcome}
 
 pub compared : (output : Output) (ignored : IgnoredColumns) (left right : Metadata) (found : List Difference) → found ≡ first_differences_but ignored left right 20
     → compare_text output ignored left right ≡ output_text output left right found

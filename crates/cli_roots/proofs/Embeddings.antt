@@ -1,23 +1,9 @@
 -- What is written for a file and a root, and why nothing is.
-use Rattle.std.proofs.Common.{◌≡◌, ◌⊎◌, ◌∷◌, [], ℕ, List, Option, None, Result, Ok, Err, length, refl, subst, inl, inr}
-use Rattle.std.specs.Prelude.{IfErr, IsErrAnd, OnOk}
-use Rattle.std.specs.Io.KnownBytes.{Appends}
+use Rattle.cli_roots.proofs.Prelude.{◌≡◌, ◌⊎◌, ◌∷◌, [], ℕ, List, Option, None, Result, Ok, Err, length, refl, subst, inl, inr, IfErr, IsErrAnd, OnOk, Appends, IsPlanOf, Planned, result_of, Failure, IsOutput, IsUnwritten, Outcome, IsGiven, Stopped, File, report_text, SendsPrefix, Sent, IsEmbedding, IsLineOf, IsPut, IsPutDone, IsPutUndone, IsRootFor, IsSent, WarnsOf, embed_line, ReportsUnwritten, IsMixed, StopsBy}
 use Rattle.packed.specs.Offsets.{part}
 use Rattle.embedding.specs.declared.strong_name.StrongName.{StrongName}
 use Rattle.embedding.specs.Embedded.{IsEmbedded}
-use Rattle.embedding.specs.Planned.{IsPlanOf, Planned, result_of}
-use Rattle.cli_faults.specs.declared.failure.Failure.{Failure}
-use Rattle.cli_faults.specs.Status.{IsOutput, IsUnwritten}
-use Rattle.cli_files.specs.Stopped.{Outcome}
-use Rattle.cli_output.specs.Written.{IsGiven}
-use Rattle.cli_files.specs.declared.stopped.Stopped.{Stopped}
-use Rattle.cli_input.specs.declared.opened.Input.TheVariants.{File}
 use Rattle.cli_lines.specs.declared.parts.Form.{Form}
-use Rattle.cli_lines.specs.Lines.{report_text}
-use Rattle.cli_sending.specs.Sent.{SendsPrefix, Sent}
-use Rattle.cli_roots.specs.Embedded.{IsEmbedding, IsLineOf, IsPut, IsPutDone, IsPutUndone, IsRootFor, IsSent, WarnsOf, embed_line}
-use Rattle.cli_roots.specs.Rewritten.{ReportsUnwritten}
-use Rattle.cli_roots.specs.Runs.{IsMixed, StopsBy}
 
 -- it stopped, so that nothing holds of its success
 pub not_done : (P : Stopped → Type 0) (A : Type 0) (outcome : Outcome) → IsErrAnd outcome P → OnOk outcome A

@@ -1,3 +1,4 @@
 pub mod Comparing
 pub mod Embeddings
+pub mod Prelude
 pub mod Rewritings

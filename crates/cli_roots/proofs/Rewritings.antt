@@ -1,26 +1,13 @@
 -- What is written for a file, and what is reported if its canonical root is too long.
-use Rattle.std.proofs.Common.{◌≡◌, ◌<◌, ◌^◌, ℕ, List, Option, Result, Ok, Err, length, sym, subst, inr}
-use Rattle.std.specs.Prelude.{⊤, IfErr, OnOk}
-use Rattle.std.specs.Io.KnownBytes.{Appends}
+use Rattle.cli_roots.proofs.Prelude.{◌≡◌, ◌<◌, ◌^◌, ℕ, List, Option, Result, Ok, Err, length, sym, subst, inr, ⊤, IfErr, OnOk, Appends, Metadata, IsModel, Failure, IsOutput, Failed, IsGiven, Stopped, IsOpened, Input, SendsPrefix, Sent, IsDone, IsRewriting, IsRewritten, IsTooLong, IsUndone, wrote_text}
 use Rattle.std.proofs.Math.Logic.{∥∥₁_map}
-use Rattle.metadata.specs.Metadata.{Metadata}
-use Rattle.metadata.specs.Model.{IsModel}
 use Rattle.root_writer.specs.Canonical.{canonical}
 use Rattle.opening.specs.Views.{HasModel}
 use Rattle.writer.specs.Errors.{MatchError}
 use Rattle.writer.specs.declared.error.WriteError.{WriteError}
 use Rattle.writer.specs.declared.error.WriteError.TheVariants.{TooLarge}
-use Rattle.cli_faults.specs.declared.failure.Failure.{Failure}
-use Rattle.cli_faults.specs.Status.{IsOutput}
 use Rattle.cli_faults.specs.declared.stop.Stop.{Stop}
-use Rattle.cli_faults.specs.declared.stop.Stop.TheVariants.{Failed}
 use Rattle.cli_files.specs.Hints.{hint_for}
-use Rattle.cli_output.specs.Written.{IsGiven}
-use Rattle.cli_files.specs.declared.stopped.Stopped.{Stopped}
-use Rattle.cli_input.specs.Checked.{IsOpened}
-use Rattle.cli_input.specs.declared.opened.Input.{Input}
-use Rattle.cli_sending.specs.Sent.{SendsPrefix, Sent}
-use Rattle.cli_roots.specs.Rewritten.{IsDone, IsRewriting, IsRewritten, IsTooLong, IsUndone, wrote_text}
 
 module _ (input : Input) (bytes root : List ℕ) (opened : IsOpened input bytes root) (has : HasModel root) where
   pub rewritten : (written : List ℕ) → ((model : Metadata) → IsModel root model → written ≡ canonical model) → IsRewritten input bytes written

@@ -1,4 +1,5 @@
 pub mod NamesListed
+pub mod Prelude
 pub mod Printings
 pub mod Reporting
 pub mod Running

@@ -1,11 +1,7 @@
 -- The names in a list.
-use Rattle.std.proofs.Common.{◌≡◌, ◌∙◌, ℕ, List, [], ◌∷◌, ◌++◌, map, length, get_or, drop, ap, sym, subst, arith, inl, inr}
-use Rattle.std.specs.Prelude.{◌==◌}
+use Rattle.cli_runs.proofs.Prelude.{◌≡◌, ◌∙◌, ℕ, List, [], ◌∷◌, ◌++◌, map, length, get_or, drop, ap, sym, subst, arith, inl, inr, ◌==◌, length_push, map-append, nil_from_length, Bor, AreListed}
 use Rattle.std.specs.List.{slice_split}
-use Rattle.std.proofs.lemmas.List.{length_push, map-append, nil_from_length}
 use Rattle.std.proofs.Math.Seq.{drop-append_seam}
-use Rattle.std.specs.Borrow.{Bor}
-use Rattle.cli_runs.specs.Runs.{AreListed}
 
 abbrev names_in : List (Bor (List ℕ)) → List (List ℕ)
 names_in = map (λ name. name.now)

@@ -1,32 +1,20 @@
 -- What each report handed to a printer.
-use Rattle.std.proofs.Common.{◌≡◌, ℕ, List, Option, None, Some, Result, Ok, Err, inl, inr}
-use Rattle.std.specs.Prelude.{IfErr, IsSome, OnErr, OnOk}
+use Rattle.cli_runs.proofs.Prelude.{◌≡◌, ℕ, List, Option, None, Some, Result, Ok, Err, inl, inr, IfErr, IsSome, OnErr, OnOk, Fault, Metadata, Token, Printed, Prints, OutlineOptions, Hands, HasPrinted, AreDeclared, AreSomeDeclared, IsListed, OfModel, ended_at, ended_by, Input, BareRoot, File, Listing, Request}
 use Rattle.cli_header.specs.declared.header.CliHeader.{CliHeader}
-use Rattle.packed.specs.declared.fault.Fault.{Fault}
 use Rattle.packed.specs.Rule.{FirstBroken}
 use Rattle.root.specs.Streams.{RootRead}
-use Rattle.metadata.specs.Metadata.{Metadata}
-use Rattle.table_schema.specs.declared.token.Token.{Token}
 use Rattle.cli_info.specs.InfoLines.{AreFacts, info_lines}
 use Rattle.cli_input.specs.Checked.{IsModelOf, IsWhole, rules_of}
 use Rattle.cli_input.specs.Heads.{AreHeads, HasHeads, rules_of_heads}
-use Rattle.cli_lines.specs.Printed.{Printed, Prints}
-use Rattle.cli_outline.specs.declared.source.OutlineOptions.{OutlineOptions}
 use Rattle.cli_outline.specs.Printed.{PrintsRows, PrintsSome}
 use Rattle.cli_print.specs.RootLines.{heads_lines}
-use Rattle.cli_runs.specs.Printing.{Hands, HasPrinted}
-use Rattle.cli_runs.specs.Reports.{AreDeclared, AreSomeDeclared, IsListed, OfModel, ended_at, ended_by}
-use Rattle.cli_input.specs.declared.opened.Input.{Input}
-use Rattle.cli_input.specs.declared.opened.Input.TheVariants.{BareRoot, File}
 use Rattle.metadata.specs.Model.{IsModelOfFile}
 use Rattle.resources.specs.Resources.{Where}
 use Rattle.cli_resources.specs.ResourceLines.{AreLocations, resource_lines}
 use Rattle.cli_resources.specs.Unfound.{AreAllLocated, IsUnlisted}
 use Rattle.cli_resources.specs.declared.opened.Unfound.{Unfound}
 use Rattle.cli_resources.specs.declared.opened.Unfound.TheVariants as unfound
-use Rattle.cli_runs.specs.declared.report.Listing.{Listing}
 use Rattle.cli_runs.specs.declared.report.Report.TheVariants as report
-use Rattle.cli_runs.specs.declared.report.Request.{Request}
 
 module _ {W : Type 0} (request : Request) (name bytes : List ℕ) (old new : Printed W) where
   pub root_ended : (done : Result (Unit {0}) Fault) → OnOk done (HasHeads request.input bytes) → IfErr done (FirstBroken (rules_of_heads request.input bytes))

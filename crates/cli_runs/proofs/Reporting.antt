@@ -1,33 +1,16 @@
 -- What a printer was asked to print of a report, and what went out of it.
-use Rattle.std.proofs.Common.{◌≡◌, ◌≢◌, ℕ, List, [], ◌∷◌, ◌++◌, Option, None, Some, Result, Ok, Err, append-nil, refl, sym, subst, inl, inr}
-use Rattle.std.specs.Prelude.{IfErr, IsSome, OnOk}
+use Rattle.cli_runs.proofs.Prelude.{◌≡◌, ◌≢◌, ℕ, List, [], ◌∷◌, ◌++◌, Option, None, Some, Result, Ok, Err, append-nil, refl, sym, subst, inl, inr, IfErr, IsSome, OnOk, Fault, Token, Metadata, IsOutput, Failure, Input, BareRoot, File, Part, Style, styled_text, Asked, Printed, Prints, Sent, OutlineOptions, AreNone, Hands, HasPrinted, AreDeclared, AreNamed, AreOut, AreSomeDeclared, HasEnded, IsFaultOut, IsListed, IsPrinted, IsStopped, OfModel, everything, lead_of, style_of, verdict_lines, AreCut, AreSent, IsReported, Listing, Request}
 use Rattle.std.specs.Result.{result_and}
 use Rattle.std.specs.Io.KnownBytes.{Appends}
-use Rattle.packed.specs.declared.fault.Fault.{Fault}
-use Rattle.table_schema.specs.declared.token.Token.{Token}
-use Rattle.metadata.specs.Metadata.{Metadata}
-use Rattle.cli_faults.specs.Status.{IsOutput}
-use Rattle.cli_faults.specs.declared.failure.Failure.{Failure}
 use Rattle.cli_faults.specs.declared.stop.Stop.{Stop}
-use Rattle.cli_input.specs.declared.opened.Input.{Input}
-use Rattle.cli_input.specs.declared.opened.Input.TheVariants.{BareRoot, File}
-use Rattle.cli_lines.specs.Lines.{Part, Style, styled_text}
-use Rattle.cli_lines.specs.Printed.{Asked, Printed, Prints}
-use Rattle.cli_sending.specs.Sent.{Sent}
 use Rattle.cli_regions.specs.Regions.{Region}
 use Rattle.cli_where.specs.Located.{HasContents, where_lines}
-use Rattle.cli_outline.specs.declared.source.OutlineOptions.{OutlineOptions}
 use Rattle.cli_runs.specs.Entries.{entered}
-use Rattle.cli_runs.specs.Printing.{AreNone, Hands, HasPrinted}
-use Rattle.cli_runs.specs.Reports.{AreDeclared, AreNamed, AreOut, AreSomeDeclared, HasEnded, IsFaultOut, IsListed, IsPrinted, IsStopped, OfModel, everything, lead_of, style_of, verdict_lines}
-use Rattle.cli_runs.specs.Runs.{AreCut, AreSent, IsReported}
 use Rattle.cli_runs.specs.declared.report.Ended.{Ended}
 use Rattle.cli_runs.specs.declared.report.Ended.TheVariants as ended
-use Rattle.cli_runs.specs.declared.report.Listing.{Listing}
 use Rattle.cli_runs.specs.declared.report.Listing.TheVariants as listing
 use Rattle.cli_runs.specs.declared.report.Report.{Report}
 use Rattle.cli_runs.specs.declared.report.Report.TheVariants as report
-use Rattle.cli_runs.specs.declared.report.Request.{Request}
 use Rattle.cli_runs.specs.declared.report.Verdict.{Verdict}
 use Rattle.cli_runs.specs.declared.report.Verdict.TheVariants as verdict
 

@@ -1,14 +1,7 @@
 -- Runs on several files, one after another.
-use Rattle.std.proofs.Common.{◌≡◌, ◌≤◌, ◌<◌, ◌+◌, ◌&&◌, ◌||◌, ◌⊎◌, ℕ, Bool, true, false, Result, Ok, Err, List, [], ◌∷◌, ◌++◌, map, drop, get_or, length, max, Option, refl, sym, subst, arith, inl, inr}
-use Rattle.std.specs.Borrow.{Bor}
-use Rattle.std.proofs.lemmas.List.{drop_all, drop_more}
-use Rattle.cli_faults.specs.declared.failure.Failure.{Failure}
-use Rattle.cli_faults.specs.declared.failure.Failure.TheVariants.{NotUtf8}
-use Rattle.cli_faults.specs.Status.{IsUnread}
+use Rattle.cli_runs.proofs.Prelude.{◌≡◌, ◌≤◌, ◌<◌, ◌+◌, ◌&&◌, ◌||◌, ◌⊎◌, ℕ, Bool, true, false, Result, Ok, Err, List, [], ◌∷◌, ◌++◌, map, drop, get_or, length, max, Option, refl, sym, subst, arith, inl, inr, Bor, drop_all, drop_more, Failure, NotUtf8, IsUnread, AreRun, AreRunAll, AreVisited, EndsAs, IsCutIn, IsNext, IsRun, IsVisited, is_input, Request}
 use Rattle.cli_files.specs.Read.{IsRefused}
-use Rattle.cli_runs.specs.Runs.{AreRun, AreRunAll, AreVisited, EndsAs, IsCutIn, IsNext, IsRun, IsVisited, is_input}
 use Rattle.cli_runs.specs.declared.report.Directories.TheVariants.{Walked}
-use Rattle.cli_runs.specs.declared.report.Request.{Request}
 
 abbrev pub names_of : List (Bor (List ℕ)) → List (List ℕ)
 names_of = map (λ name. name.now)

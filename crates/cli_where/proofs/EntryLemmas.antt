@@ -1,15 +1,9 @@
 -- The entries of heaps: where they are, and which of them have a byte.
 use Rattle.std.specs.Prelude.{Option, None, Some, ◌⊎◌}
-use Rattle.std.proofs.Common.{◌≡◌, ◌≢◌, ◌∙◌, ℕ, ◌+◌, ◌-◌, ◌*◌, ◌<◌, ◌≤◌, true, List, ◌∷◌, ◌++◌, length, take, drop, slice_index, inl, inr, refl, sym, ap, subst, arith, length-append, length-drop}
+use Rattle.cli_where.proofs.Prelude.{◌≡◌, ◌≢◌, ◌∙◌, ℕ, ◌+◌, ◌-◌, ◌*◌, ◌<◌, ◌≤◌, true, List, ◌∷◌, ◌++◌, length, take, drop, slice_index, inl, inr, refl, sym, ap, subst, arith, length-append, length-drop, take-append-drop, get_or-take, get_or-drop, drop_more, drop_at, get_or_append_left, get_or_at, length-take-le, All-from_get_or, IsCounted, IsEnded, IsGuidEntry, IsRun, IsRunAt, IsRunOf, Heap, has_byte}
 use Rattle.std.proofs.lemmas.Bool.Decides.{nat_tests}
-use Rattle.std.proofs.lemmas.List.{take-append-drop, get_or-take, get_or-drop, drop_more, drop_at, get_or_append_left, get_or_at, length-take-le}
-use Rattle.std.proofs.lemmas.List.Elements.{All-from_get_or}
-use Rattle.heap_entries.specs.Entries.{IsCounted, IsEnded, IsGuidEntry}
 use Rattle.packed.specs.Packed.{IsPacked}
-use Rattle.cli_where.specs.Kept.{IsRun, IsRunAt, IsRunOf}
 use Rattle.cli_where.specs.declared.entries.Run.{Run}
-use Rattle.cli_where.specs.Entries.{Heap}
-use Rattle.cli_regions.specs.Regions.{has_byte}
 
 -- a structure has a byte if and only if the byte is from its first one on and before its end
 pub has_from : (start size offset : ℕ) → has_byte start size offset ≡ true → (start ≤ offset) × (offset < start + size)

@@ -1,11 +1,8 @@
 -- Fields with data, one after another, and the items of their signatures.
 use Rattle.std.proofs.Common.{◌≡◌, ℕ, suc, ◌+◌, ◌-◌, ◌<◌, ◌≤◌, List, [], ◌∷◌, ◌++◌, None, ap, arith, length, refl}
-use Rattle.std.specs.List.{flat_map, range_with_len}
-use Rattle.std.specs.Option.{option_to_list}
-use Rattle.metadata.specs.Metadata.{Metadata}
+use Rattle.cli_where.proofs.Prelude.{flat_map, range_with_len, option_to_list, Metadata, data_of, field_type, fields_from}
 use Rattle.sig_items.specs.declared.item.Item.{Item}
 use Rattle.sig_items.specs.declared.item.Item.TheVariants as item
-use Rattle.cli_where.specs.FieldData.{data_of, field_type, fields_from}
 
 module _ (model : Metadata) where
   -- the data of the first field, and that of the others

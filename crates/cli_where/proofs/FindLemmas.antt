@@ -3,10 +3,7 @@ use Rattle.std.proofs.Common.{◌≡◌, ◌∙◌, ℕ, List, [], ◌++◌, Non
 use Rattle.packed.specs.declared.fault.Fault.{Fault}
 use Rattle.packed.specs.Rule.{AllHold, FirstBroken, Rule}
 use Rattle.packed.proofs.RuleLemmas.{none_fails}
-use Rattle.cli_regions.specs.Kept.{Adds, Finds, Joins, Searched}
-use Rattle.cli_regions.specs.Regions.{Region}
-use Rattle.cli_regions.proofs.SearchLemmas.{joins_none}
-use Rattle.cli_where.specs.Where.{AreOf, OfLayer, Then}
+use Rattle.cli_where.proofs.Prelude.{Adds, Finds, Joins, Searched, Region, joins_none, AreOf, OfLayer, Then}
 
 -- structures that were kept
 pub finds_joined : {AreFound : ℕ → List Region → Type 0} {old new : Searched} {later : List Region} → AreFound old.offset later → Joins old new later → Finds AreFound old new

@@ -1,5 +1,6 @@
 pub mod FindLemmas
 pub mod EntryLemmas
 pub mod NamedLemmas
+pub mod Prelude
 pub mod UserLemmas
 pub mod FieldLemmas

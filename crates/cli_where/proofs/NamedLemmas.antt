@@ -1,15 +1,8 @@
 -- The first entries that contain a byte.
-use Rattle.std.proofs.Common.{◌≡◌, ◌∙◌, ℕ, zero, suc, ◌+◌, ◌-◌, ◌≤◌, ◌≢◌, List, [], ◌∷◌, ◌++◌, refl, ap, sym, subst, arith, append_assoc, append-nil, inl, inr}
-use Rattle.std.specs.List.{flat_map, range_with_len}
-use Rattle.std.proofs.lemmas.List.{flat_map_more}
+use Rattle.cli_where.proofs.Prelude.{◌≡◌, ◌∙◌, ℕ, zero, suc, ◌+◌, ◌-◌, ◌≤◌, ◌≢◌, List, [], ◌∷◌, ◌++◌, refl, ap, sym, subst, arith, append_assoc, append-nil, inl, inr, flat_map, range_with_len, flat_map_more, Finds, Joins, Searched, Region, joins_more, joins_none, AreEntriesAt, AreFirst, IsEntryOf, all_cells, FindsFirst, heaps_of}
 use Rattle.std.specs.Prelude.{Option, Some, None}
 use Rattle.rows.specs.Cells.{Stream}
 use Rattle.schema.specs.declared.located_cells.TableCell.{TableCell}
-use Rattle.cli_regions.specs.Kept.{Finds, Joins, Searched}
-use Rattle.cli_regions.specs.Regions.{Region}
-use Rattle.cli_regions.proofs.SearchLemmas.{joins_more, joins_none}
-use Rattle.cli_where.specs.Entries.{AreEntriesAt, AreFirst, IsEntryOf, all_cells}
-use Rattle.cli_where.specs.Kept.{FindsFirst, heaps_of}
 use Rattle.cli_where.specs.declared.entries.Target.{Target}
 use Rattle.cli_where.proofs.FindLemmas.{finds_joined}
 

@@ -1,8 +1,5 @@
 -- The user strings that follow one another in a heap.
-use Rattle.std.proofs.Common.{◌≡◌, ◌∙◌, ℕ, ◌+◌, ◌-◌, ◌%◌, ◌<◌, ◌≤◌, List, [], ◌++◌, length, ap, sym, subst, inl, inr, append-nil, arith, length-append, replicate}
-use Rattle.heap_entries.specs.Entries.{IsBlob, IsCounted, IsUserString, UserText}
-use Rattle.heap_entries.specs.Padding.{zero_padded}
-use Rattle.cli_where.specs.UserStrings.{AreEntries, IsEntry}
+use Rattle.cli_where.proofs.Prelude.{◌≡◌, ◌∙◌, ℕ, ◌+◌, ◌-◌, ◌%◌, ◌<◌, ◌≤◌, List, [], ◌++◌, length, ap, sym, subst, inl, inr, append-nil, arith, length-append, replicate, IsBlob, IsCounted, IsUserString, UserText, zero_padded, AreEntries, IsEntry}
 
 blob_counted : (heap : List ℕ) (index : ℕ) (blob : List ℕ) → 1 ≤ index → IsBlob heap index blob → IsCounted heap index blob
 blob_counted heap index blob some (inl none) = absurd (omega (arith, none.0, some))

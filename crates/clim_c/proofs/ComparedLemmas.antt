@@ -1,9 +1,6 @@
 -- The first of all that differs between two models.
-use Rattle.std.proofs.Common.{◌≡◌, ◌∙◌, List, [], ◌∷◌, ◌++◌, length, take, Option, slice_get, refl, sym, ap, subst, arith}
-use Rattle.metadata.specs.Metadata.{Metadata}
+use Rattle.clim_c.proofs.Prelude.{◌≡◌, ◌∙◌, List, [], ◌∷◌, ◌++◌, length, take, Option, slice_get, refl, sym, ap, subst, arith, Metadata, Difference, IsFirst, all_differences}
 use Rattle.comparison.specs.Differences.{cell_differences, outline_differences}
-use Rattle.comparison.specs.declared.difference.Difference.{Difference}
-use Rattle.clim_c.specs.Compared.{IsFirst, all_differences}
 
 -- the first of a list is that of a longer one
 first_of : (x : Difference) (xs ys : List Difference) → take 1 xs ≡ x ∷ [] → take 1 (xs ++ ys) ≡ x ∷ []

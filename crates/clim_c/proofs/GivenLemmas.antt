@@ -1,23 +1,14 @@
 -- A cell that was reported can be given.
-use Rattle.std.proofs.Common.{◌≡◌, ℕ, ◌<◌, List, Some, None, IsUtf8, refl, sym, ap, ◌∙◌, subst}
-use Rattle.table_schema.specs.declared.table.TableId.{TableId}
-use Rattle.table_schema.specs.declared.column.SigKind.{SigKind}
-use Rattle.table_schema.specs.declared.column.ColumnKind.{ColumnKind}
+use Rattle.clim_c.proofs.Prelude.{◌≡◌, ℕ, ◌<◌, List, Some, None, IsUtf8, refl, sym, ap, ◌∙◌, subst, TableId, SigKind, ColumnKind, cell_count, Cell, CellRef, Shows, ShowsSignature, ClimCell, Reports}
 use Rattle.table_schema.specs.declared.column.ColumnKind.TheVariants as kind
-use Rattle.table_schema.specs.CellColumns.{cell_count}
 use Rattle.sig_grammar.specs.Syntax.{Body}
 use Rattle.sig_grammar.specs.Encodes.{Encodes}
-use Rattle.metadata.specs.Cell.{Cell}
 use Rattle.metadata.specs.Cell as says
 use Rattle.metadata.specs.Kinds.{IsStorable}
 use Rattle.metadata.specs.Valid.{kind_at}
-use Rattle.reading.specs.declared.cell_ref.CellRef.{CellRef}
 use Rattle.reading.specs.declared.cell_ref.CellRef.TheVariants as seen
-use Rattle.reading.specs.Shown.{Shows, ShowsSignature}
-use Rattle.c_values.specs.declared.cell.ClimCell.{ClimCell}
 use Rattle.c_values.specs.declared.cell_kind.CellKind.TheVariants as of
 use Rattle.c_values.specs.Cells.{HasSignatures, IsCell}
-use Rattle.clim_c.specs.Reported.{Reports}
 
 -- a text that a heap can store is UTF-8
 utf8_of : (cell : Cell) (text : List ℕ) → cell ≡ says.Text text → IsStorable cell → IsUtf8 text

@@ -1,8 +1,6 @@
 -- The number of stream headers of a root.
-use Rattle.std.proofs.Common.{◌≡◌, ℕ, zero, suc, ◌+◌, ◌<◌, ◌≤◌, List, [], ◌∷◌, length, slice_get, None, ap, arith}
-use Rattle.std.proofs.lemmas.List.{length-append}
+use Rattle.clim_c.proofs.Prelude.{◌≡◌, ℕ, zero, suc, ◌+◌, ◌<◌, ◌≤◌, List, [], ◌∷◌, length, slice_get, None, ap, arith, length-append, Header}
 use Rattle.root.specs.Root.{IsRoot, AreHeaders}
-use Rattle.root.specs.Streams.{Header}
 
 -- each header has some bytes
 few_in : (offset : ℕ) (bytes : List ℕ) (headers : List Header) → AreHeaders offset bytes headers → length headers ≤ length bytes

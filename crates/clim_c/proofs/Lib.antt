@@ -1,6 +1,7 @@
 pub mod ComparedLemmas
 pub mod GivenLemmas
 pub mod HeaderLemmas
+pub mod Prelude
 pub mod RootLemmas
 pub mod SignatureLemmas
 pub mod Texts

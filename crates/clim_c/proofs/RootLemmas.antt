@@ -1,7 +1,5 @@
 -- The bytes of a canonical root.
-use Rattle.std.proofs.Common.{◌≡◌, ℕ, ◌<◌, ◌≤◌, ◌⊎◌, inl, inr, length, arith}
-use Rattle.metadata.specs.Metadata.{Metadata}
-use Rattle.root_writer.specs.Canonical.{canonical, root_of}
+use Rattle.clim_c.proofs.Prelude.{◌≡◌, ℕ, ◌<◌, ◌≤◌, ◌⊎◌, inl, inr, length, arith, Metadata, canonical, root_of}
 
 -- a root begins with its signature (II.24.2.1)
 pub has_bytes : (model : Metadata) → 0 < length (canonical model)

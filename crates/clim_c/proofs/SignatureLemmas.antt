@@ -1,21 +1,10 @@
 -- In a column of signatures, a value in index is the blob of a signature.
-use Rattle.std.proofs.Common.{◌≡◌, ℕ, ◌≤◌, Bool, true, false, true≢false, List, Bor, refl, sym, ap, subst, ◌∙◌}
-use Rattle.table_schema.specs.declared.table.TableId.{TableId}
-use Rattle.table_schema.specs.declared.column.SigKind.{SigKind}
-use Rattle.table_schema.specs.declared.column.ColumnKind.{ColumnKind}
+use Rattle.clim_c.proofs.Prelude.{◌≡◌, ℕ, ◌≤◌, Bool, true, false, true≢false, List, Bor, refl, sym, ap, subst, ◌∙◌, TableId, SigKind, ColumnKind, column_at, column_of, Cell, Sig, Source, number_of, rows_in, source_of, CellRef, Shows, ShowsCell, row_count}
 use Rattle.table_schema.specs.declared.column.ColumnKind.TheVariants as kind
-use Rattle.table_schema.specs.Columns.{column_at}
-use Rattle.table_schema.specs.CellColumns.{column_of}
-use Rattle.metadata.specs.Cell.{Cell, Sig}
-use Rattle.metadata.specs.Source.{Source, number_of, rows_in}
-use Rattle.metadata.specs.SourceAt.{source_of}
 use Rattle.metadata.specs.Starts.{start_of}
 use Rattle.metadata.specs.Stands.{StandsFor}
 use Rattle.metadata.specs.Rows.{IsCell}
-use Rattle.reading.specs.declared.cell_ref.CellRef.{CellRef}
 use Rattle.reading.specs.declared.cell_ref.CellRef.TheVariants as seen
-use Rattle.reading.specs.Shown.{Shows, ShowsCell}
-use Rattle.opening.specs.Views.{row_count}
 
 abbrev is_sig : Cell → Bool
 is_sig (Sig signature) = true

@@ -1,10 +1,5 @@
 -- The names of the types of a model are UTF-8.
-use Rattle.std.proofs.Common.{◌≡◌, ℕ, ◌<◌, inl, inr, List, [], IsUtf8, Option, None, Some, IfSome, IfNone, unwrap_or, refl, sym, ◌∙◌, ap, subst, arith, lit<}
-use Rattle.heap_entries.specs.Entries.{IsText}
-use Rattle.table_schema.specs.CellColumns.{cell_columns, cell_count}
-use Rattle.table_schema.specs.declared.table.TableId.TheVariants.{TypeDef}
-use Rattle.metadata.specs.Cell.{Cell, Text}
-use Rattle.metadata.specs.Source.{Source}
+use Rattle.clim_c.proofs.Prelude.{◌≡◌, ℕ, ◌<◌, inl, inr, List, [], IsUtf8, Option, None, Some, IfSome, IfNone, unwrap_or, refl, sym, ◌∙◌, ap, subst, arith, lit<, IsText, cell_columns, cell_count, TypeDef, Cell, Text, Source}
 use Rattle.metadata.specs.Rows.{IsCell}
 
 -- a text of a heap is UTF-8 (II.24.2.3)

@@ -1,8 +1,6 @@
 -- A loop that writes one element after another.
-use Rattle.std.proofs.Common.{◌≡◌, ℕ, ◌+◌, ◌≤◌, ◌<◌, ◌⊎◌, inl, inr, List, [], ◌∷◌, ◌++◌, length, take, get_or, set, append_assoc, sym, ◌∙◌, ap, subst, arith}
-use Rattle.std.specs.List.{SameFrom}
+use Rattle.clim_c.proofs.Prelude.{◌≡◌, ℕ, ◌+◌, ◌≤◌, ◌<◌, ◌⊎◌, inl, inr, List, [], ◌∷◌, ◌++◌, length, take, get_or, set, append_assoc, sym, ◌∙◌, ap, subst, arith, SameFrom, append-nil, length-take-le, take_all, take_at, take_more_set, get_or-set_same, get_or-set_other}
 use Rattle.std.proofs.lemmas.Bool.{cases_lt}
-use Rattle.std.proofs.lemmas.List.{append-nil, length-take-le, take_all, take_at, take_more_set, get_or-set_same, get_or-set_other}
 
 module _ {X : Type 0} where
   -- the first elements are right, and one more is written

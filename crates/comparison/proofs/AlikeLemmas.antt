@@ -1,39 +1,18 @@
 -- Rows of the same bytes have the same numbers, and equal numbers that are read alike stand for equal cells.
 use Rattle.std.proofs.Common.{◌≡◌, ◌≢◌, ◌↔◌, ◌∙◌, ◌<◌, ◌≤◌, inl, inr, ℕ, zero, suc, ◌+◌, ◌-◌, ◌*◌, ◌==◌, ◌||◌, Bool, true, false, IsTrue, List, [], ◌∷◌, length, take, min, refl, ap, ap₂, sym, subst, cond, arith}
-use Rattle.std.specs.Bool.{Decides}
-use Rattle.std.specs.List.{AllByRecursion}
-use Rattle.std.proofs.lemmas.Bool.Decides.{Decides-eqb}
+use Rattle.comparison.proofs.Prelude.{Decides, AllByRecursion, Decides-eqb, TableId, Token, Column, ColumnKind, column_at, columns_of, cell_count, column_of, IsText, IsBlob, IsGuid, tokens, Sizes, SameCounts, width_of, Metadata, cell_in, count_in, start_from, start_of, Refers, StandsFor, IsCell, IgnoredColumns, AreAlike, AreSameParts, HaveSameHeap, HaveSameNumbers, has_same_heap, cell_difference, row_differences, table_differences, is_ignored, is_same_cell}
 use Rattle.std.proofs.lemmas.List.Sums.{sum_by-le-sum_by}
 use Rattle.packed.specs.Number.{little_endian}
 use Rattle.packed.specs.Offsets.{part}
-use Rattle.table_schema.specs.declared.table.TableId.{TableId}
-use Rattle.table_schema.specs.declared.token.Token.{Token}
-use Rattle.table_schema.specs.declared.column.Column.{Column}
-use Rattle.table_schema.specs.declared.column.ColumnKind.{ColumnKind}
 use Rattle.table_schema.specs.declared.column.ColumnKind.TheVariants as kind
-use Rattle.table_schema.specs.Columns.{column_at, columns_of}
-use Rattle.table_schema.specs.CellColumns.{cell_count, column_of}
-use Rattle.heap_entries.specs.Entries.{IsText, IsBlob, IsGuid}
-use Rattle.sig_grammar.specs.Encodes.{tokens}
-use Rattle.schema.specs.Sizes.{Sizes, SameCounts, width_of}
 use Rattle.schema.specs.Offsets.{columns_width, offset_in_row, row_width}
 use Rattle.schema.specs.Cells.{cell_width}
 use Rattle.rows.specs.Cells.{number_in_rows}
-use Rattle.metadata.specs.Cell.{Cell}
-use Rattle.metadata.specs.Cell.{Start}
-use Rattle.metadata.specs.Metadata.{Metadata, cell_in, count_in}
+use Rattle.metadata.specs.Cell.{Cell, Start}
 use Rattle.metadata.specs.Source.{Source, IsThere, number_of, rows_in}
-use Rattle.metadata.specs.Starts.{start_from, start_of}
-use Rattle.metadata.specs.Stands.{Refers, StandsFor}
-use Rattle.metadata.specs.Rows.{IsCell}
 use Rattle.reading.specs.RowBytes.{AreRowBytes}
 use Rattle.comparison.specs.declared.difference.Difference.TheVariants as difference
-use Rattle.comparison.specs.declared.ignored.IgnoredColumns.{IgnoredColumns}
 use Rattle.comparison.specs.declared.same_bytes.SameParts.{SameParts}
-use Rattle.comparison.specs.Alike.{AreAlike, AreSameParts, HaveSameHeap, HaveSameNumbers, has_same_heap}
-use Rattle.comparison.specs.Differences.{cell_difference, row_differences, table_differences}
-use Rattle.comparison.specs.Ignored.{is_ignored}
-use Rattle.comparison.specs.SameCells.{is_same_cell}
 use Rattle.comparison.proofs.EqualLemmas.{adds_nothing, all_nothing_in, either_holds}
 
 -- a test of two values is one of what they are equal to

@@ -1,16 +1,7 @@
 -- What a cell adds to the cells that differ.
 use Rattle.std.proofs.Common.{◌≡◌, ◌||◌, ◌≢◌, ◌∙◌, ◌<◌, ◌≤◌, ℕ, ◌+◌, Bool, true, false, List, [], ◌∷◌, ◌++◌, All, length, take, get_or, min, ap, sym, subst, arith, cond, length-append}
-use Rattle.std.specs.List.{flat_map, range_with_len}
-use Rattle.std.proofs.lemmas.List.{take_all}
-use Rattle.table_schema.specs.declared.table.TableId.{TableId}
-use Rattle.table_schema.specs.Tables.{tables}
-use Rattle.table_schema.specs.CellColumns.{cell_count}
-use Rattle.metadata.specs.Metadata.{Metadata, cell_in, count_in}
-use Rattle.comparison.specs.declared.difference.Difference.{Difference}
+use Rattle.comparison.proofs.Prelude.{flat_map, range_with_len, take_all, TableId, tables, cell_count, Metadata, cell_in, count_in, Difference, IgnoredColumns, is_ignored, is_same_cell}
 use Rattle.comparison.specs.declared.difference.Difference.TheVariants.{Cell}
-use Rattle.comparison.specs.declared.ignored.IgnoredColumns.{IgnoredColumns}
-use Rattle.comparison.specs.Ignored.{is_ignored}
-use Rattle.comparison.specs.SameCells.{is_same_cell}
 use Rattle.comparison.specs.Differences.{Grows, IsThere, cell_difference, cell_differences_but, row_differences, table_differences}
 use Rattle.comparison.proofs.GrowthLemmas.{grows_more, grows_nothing, item_more, number_more}
 

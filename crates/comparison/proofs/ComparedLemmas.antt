@@ -1,30 +1,11 @@
 -- What is noted of two cells is so in each row with the same numbers.
 use Rattle.std.proofs.Common.{◌≡◌, ◌∙◌, ◌+◌, ◌≤◌, ◌<◌, ◌++◌, ℕ, Bool, true, false, List, Option, Some, None, ap, ap₂, sym, subst, cond, arith}
-use Rattle.std.specs.Prelude.{IfSome}
+use Rattle.comparison.proofs.Prelude.{IfSome, TableId, ColumnKind, column_at, cell_count, column_of, Metadata, cell_in, IsModel, IsCell, Source, number_of, rows_in, source_of, StandsFor, start_of, kind_at, Shows, ShowsCell, CellRef, row_count, AreBlobNames, Outcome, AreOutcomes, HasBlobNames, IsInHeap, IsNoted, IsOutcome, key_cmp, outcome_at, is_same_cell}
 use Rattle.std.specs.Ordering.{is_eq}
-use Rattle.table_schema.specs.declared.table.TableId.{TableId}
-use Rattle.table_schema.specs.declared.column.ColumnKind.{ColumnKind}
 use Rattle.table_schema.specs.declared.column.ColumnKind.TheVariants as kind
-use Rattle.table_schema.specs.Columns.{column_at}
-use Rattle.table_schema.specs.CellColumns.{cell_count, column_of}
 use Rattle.metadata.specs.Cell.{Cell}
-use Rattle.metadata.specs.Metadata.{Metadata, cell_in}
-use Rattle.metadata.specs.Model.{IsModel}
-use Rattle.metadata.specs.Rows.{IsCell}
-use Rattle.metadata.specs.Source.{Source, number_of, rows_in}
-use Rattle.metadata.specs.SourceAt.{source_of}
-use Rattle.metadata.specs.Stands.{StandsFor}
-use Rattle.metadata.specs.Starts.{start_of}
-use Rattle.metadata.specs.Valid.{kind_at}
-use Rattle.reading.specs.Shown.{Shows, ShowsCell}
-use Rattle.reading.specs.declared.cell_ref.CellRef.{CellRef}
-use Rattle.opening.specs.Views.{row_count}
-use Rattle.comparison.specs.BlobNames.{AreBlobNames}
 use Rattle.comparison.specs.declared.blob_names.BlobNames.{BlobNames}
 use Rattle.comparison.specs.declared.compared_cells.ComparedCells.{ComparedCells}
-use Rattle.comparison.specs.declared.compared_cells.Outcome.{Outcome}
-use Rattle.comparison.specs.ComparedCells.{AreOutcomes, HasBlobNames, IsInHeap, IsNoted, IsOutcome, key_cmp, outcome_at}
-use Rattle.comparison.specs.SameCells.{is_same_cell}
 
 -- what was noted before and what is noted now
 pub outcomes_after : (left right : List ℕ) (table : TableId) (before after : ComparedCells) (key : ℕ × ℕ × ℕ) (noted : Outcome)

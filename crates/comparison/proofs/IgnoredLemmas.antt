@@ -1,16 +1,7 @@
 -- The marks of ignored columns.
 use Rattle.std.proofs.Common.{◌≡◌, ◌≢◌, ◌∙◌, ◌<◌, ◌≤◌, ◌⊎◌, inl, inr, ℕ, zero, suc, ◌+◌, ◌*◌, Bool, true, false, List, length, get_or, set, replicate, refl, ap, sym, arith}
-use Rattle.std.proofs.lemmas.List.{get_or-set_same, get_or-set_other}
+use Rattle.comparison.proofs.Prelude.{get_or-set_same, get_or-set_other, cases_eq, cases_lt, TableId, Module, Column, columns_of, cell_columns, cell_count, indexes_from, is_padding, table_index_of, table_number, tables, IgnoredColumns, AreOthersSame, is_ignored, no_columns}
 use Rattle.std.specs.Prelude.{cond, [], ◌∷◌, slice_index_or}
-use Rattle.std.proofs.lemmas.Bool.{cases_eq, cases_lt}
-use Rattle.table_schema.specs.declared.table.TableId.{TableId}
-use Rattle.table_schema.specs.declared.table.TableId.TheVariants.{Module}
-use Rattle.table_schema.specs.declared.column.Column.{Column}
-use Rattle.table_schema.specs.Columns.{columns_of}
-use Rattle.table_schema.specs.CellColumns.{cell_columns, cell_count, indexes_from, is_padding}
-use Rattle.table_schema.specs.Tables.{table_index_of, table_number, tables}
-use Rattle.comparison.specs.declared.ignored.IgnoredColumns.{IgnoredColumns}
-use Rattle.comparison.specs.Ignored.{AreOthersSame, is_ignored, no_columns}
 
 few_indexes : (index : ℕ) (columns : List Column) → length (indexes_from index columns) ≤ length columns
 few_indexes index [] = omega arith

@@ -2,6 +2,7 @@ pub mod AlikeLemmas
 pub mod CellTests
 pub mod ComparedLemmas
 pub mod GrowthLemmas
+pub mod Prelude
 pub mod SignatureLemmas
 pub mod CellSteps
 pub mod PaddingLemmas

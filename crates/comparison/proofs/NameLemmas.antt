@@ -1,25 +1,9 @@
 -- Blobs of two heaps that are joined, and their windows (ECMA-335 II.24.2.4).
 use Rattle.std.proofs.Common.{◌≡◌, ◌∙◌, ◌↔◌, ◌+◌, ◌<◌, ◌≤◌, ◌++◌, ℕ, true, IsTrue, List, length, take, drop, inl, inr, sym, ap, subst, arith, append_assoc, length-append, take_at, drop_at}
-use Rattle.table_schema.specs.declared.table.TableId.{TableId}
-use Rattle.table_schema.specs.declared.column.ColumnKind.{ColumnKind}
+use Rattle.comparison.proofs.Prelude.{TableId, ColumnKind, column_at, cell_count, column_of, IsBlob, IsCounted, Metadata, cell_in, IsModel, IsCell, Source, number_of, rows_in, source_of, StandsFor, start_of, kind_at, row_count, AreSameBlobs, IsOutcome, is_same_cell}
 use Rattle.table_schema.specs.declared.column.ColumnKind.TheVariants as kind
-use Rattle.table_schema.specs.Columns.{column_at}
-use Rattle.table_schema.specs.CellColumns.{cell_count, column_of}
-use Rattle.heap_entries.specs.Entries.{IsBlob, IsCounted}
 use Rattle.heaps.specs.Windows.{AreNames, window}
 use Rattle.metadata.specs.Cell.{Cell, Bytes}
-use Rattle.metadata.specs.Metadata.{Metadata, cell_in}
-use Rattle.metadata.specs.Model.{IsModel}
-use Rattle.metadata.specs.Rows.{IsCell}
-use Rattle.metadata.specs.Source.{Source, number_of, rows_in}
-use Rattle.metadata.specs.SourceAt.{source_of}
-use Rattle.metadata.specs.Stands.{StandsFor}
-use Rattle.metadata.specs.Starts.{start_of}
-use Rattle.metadata.specs.Valid.{kind_at}
-use Rattle.opening.specs.Views.{row_count}
-use Rattle.comparison.specs.BlobNames.{AreSameBlobs}
-use Rattle.comparison.specs.ComparedCells.{IsOutcome}
-use Rattle.comparison.specs.SameCells.{is_same_cell}
 
 -- ---- heaps that are joined
 

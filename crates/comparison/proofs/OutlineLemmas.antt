@@ -1,18 +1,6 @@
 -- The first thing besides cells that differs.
 use Rattle.std.proofs.Common.{◌≡◌, ◌≢◌, ◌∙◌, ◌<◌, ℕ, ◌+◌, Bool, true, false, List, [], ◌∷◌, ◌++◌, length, take, drop, get_or, refl, ap, sym, cond}
-use Rattle.std.specs.Prelude.{bytes_eq}
-use Rattle.std.specs.List.{flat_map}
-use Rattle.std.specs.Bool.{Decides}
-use Rattle.std.proofs.lemmas.Bool.{eq-eqb, ne_eqb}
-use Rattle.std.proofs.lemmas.Grind.{flat_map-append}
-use Rattle.std.proofs.lemmas.List.{take-append-drop}
-use Rattle.std.proofs.lemmas.Slice.Eq.{bytes_eq-Decides}
-use Rattle.table_schema.specs.declared.table.TableId.{TableId}
-use Rattle.table_schema.specs.Tables.{tables}
-use Rattle.metadata.specs.Metadata.{Metadata, count_in}
-use Rattle.comparison.specs.declared.difference.Difference.{Difference}
-use Rattle.comparison.specs.declared.difference.Difference.TheVariants.{Version, UserStrings, RowCount}
-use Rattle.comparison.specs.Differences.{count_difference, outline_differences, user_difference, version_difference}
+use Rattle.comparison.proofs.Prelude.{bytes_eq, flat_map, Decides, eq-eqb, ne_eqb, flat_map-append, take-append-drop, bytes_eq-Decides, TableId, tables, Metadata, count_in, Difference, Version, UserStrings, RowCount, count_difference, outline_differences, user_difference, version_difference}
 use Rattle.comparison.proofs.GrowthLemmas.{item_more}
 
 same_bytes : (xs ys : List ℕ) → xs ≡ ys → bytes_eq xs ys ≡ true

@@ -1,11 +1,8 @@
 -- Bytes that are equal once they are padded with zeros.
 use Rattle.std.proofs.Common.{Bool, IsTrue, true, false, not, eqb, ◌≡◌, ◌↔◌, ◌∙◌, ℕ, suc, ◌+◌, ◌-◌, ◌*◌, ◌%◌, List, [], ◌∷◌, ◌++◌, All, length, take, drop, min, replicate, refl, ap, ap₂, sym, subst, append_assoc, arith, length-append}
-use Rattle.std.proofs.Math.Seq.{take-append_seam, drop-append_seam}
-use Rattle.std.proofs.lemmas.List.{length-replicate, length-take, replicate-append-replicate, take-append-drop}
+use Rattle.comparison.proofs.Prelude.{take-append_seam, drop-append_seam, length-replicate, length-take, replicate-append-replicate, take-append-drop, Decides, Decides-eqb}
 use Rattle.std.proofs.lemmas.List.Elements.{All-replicate, All-take, All-nil}
-use Rattle.std.specs.Bool.{Decides}
 use Rattle.std.specs.Cmp.Lexicographic.{pointwise, pointwise_decides}
-use Rattle.std.proofs.lemmas.Bool.Decides.{Decides-eqb}
 use Rattle.heap_entries.specs.Padding.{zero_padded}
 
 abbrev pub IsZero : ℕ → Type 0

@@ -1,9 +1,6 @@
 -- Two signatures in columns of one kind are equal if and only if their canonical encodings are.
 use Rattle.std.proofs.Common.{◌≡◌, Bool, true, false, List, ℕ, refl, sym, subst}
-use Rattle.std.specs.Bool.{Decides}
-use Rattle.table_schema.specs.declared.column.SigKind.{SigKind}
-use Rattle.sig_grammar.specs.Syntax.{Body}
-use Rattle.sig_grammar.specs.Encodes.{Holds, Encodes, IsEncodable, short}
+use Rattle.comparison.proofs.Prelude.{Decides, SigKind, Body, Holds, Encodes, IsEncodable, short}
 
 module _ (one : (kind : SigKind) (first second : Body) (bytes : List ℕ) → Encodes kind first bytes → Encodes kind second bytes → first ≡ second)
     (encodable : (kind : SigKind) (signature : Body) (bytes : List ℕ) → Encodes kind signature bytes → IsEncodable signature)

@@ -1,28 +1,10 @@
 -- Texts that are equal because the bytes up to a NUL are (ECMA-335 II.24.2.3).
 use Rattle.std.proofs.Common.{◌≡◌, ◌∙◌, ◌↔◌, ◌+◌, ◌-◌, ◌<◌, ◌≤◌, ℕ, zero, suc, List, [], ◌∷◌, Option, Some, None, IsTrue, length, take, drop, slice_index, cond, eqb, sym, ap, ap₂, subst, arith, length-drop}
-use Rattle.std.proofs.lemmas.List.{drop-drop, drop-take, get_or-drop}
-use Rattle.std.specs.Prelude.{IfSome}
-use Rattle.table_schema.specs.declared.table.TableId.{TableId}
-use Rattle.table_schema.specs.declared.column.ColumnKind.{ColumnKind}
+use Rattle.comparison.proofs.Prelude.{drop-drop, drop-take, get_or-drop, IfSome, TableId, ColumnKind, column_at, cell_count, column_of, IsText, Metadata, cell_in, IsModel, IsCell, Source, number_of, rows_in, source_of, StandsFor, start_of, kind_at, row_count, Outcome, IsNoted, is_same_cell}
 use Rattle.table_schema.specs.declared.column.ColumnKind.TheVariants as kind
-use Rattle.table_schema.specs.Columns.{column_at}
-use Rattle.table_schema.specs.CellColumns.{cell_count, column_of}
-use Rattle.heap_entries.specs.Entries.{IsText}
 use Rattle.heap_pools.specs.HeapTexts.{before_nul, heap_text}
 use Rattle.heap_pools.proofs.HeapTextLemmas.{heap_text_some}
 use Rattle.metadata.specs.Cell.{Cell, Text}
-use Rattle.metadata.specs.Metadata.{Metadata, cell_in}
-use Rattle.metadata.specs.Model.{IsModel}
-use Rattle.metadata.specs.Rows.{IsCell}
-use Rattle.metadata.specs.Source.{Source, number_of, rows_in}
-use Rattle.metadata.specs.SourceAt.{source_of}
-use Rattle.metadata.specs.Stands.{StandsFor}
-use Rattle.metadata.specs.Starts.{start_of}
-use Rattle.metadata.specs.Valid.{kind_at}
-use Rattle.opening.specs.Views.{row_count}
-use Rattle.comparison.specs.declared.compared_cells.Outcome.{Outcome}
-use Rattle.comparison.specs.ComparedCells.{IsNoted}
-use Rattle.comparison.specs.SameCells.{is_same_cell}
 use Rattle.comparison.specs.SameTexts.{AreSameTexts}
 
 -- bytes that are the same up to a NUL have the same bytes before their first NUL

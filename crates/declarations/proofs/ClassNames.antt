@@ -1,26 +1,10 @@
 -- The type or the module before the name of a member has a name.
 use Rattle.std.proofs.Common.{◌≡◌, ℕ, List, [], ◌∷◌, Option, Some, None, false, refl, subst, arith}
 use Rattle.std.specs.Prelude.{⊤, All, Contains}
-use Rattle.std.proofs.lemmas.List.Elements.{All-cons, All-contains, All-nil}
-use Rattle.table_schema.specs.CellColumns.{cell_columns}
+use Rattle.declarations.proofs.Prelude.{All-cons, All-contains, All-nil, cell_columns, TableId, TypeDef, TypeRef, TypeSpec, MethodDef, MemberRef, ModuleRef, Token, Cell, IsOfKind, HasRow, Metadata, cell_in, IsValid, MayRefer, Scopes, Dotted, name_text, IsNameIn, IsParent, IsRowNameBy, IsFullNameBy, HasText, any_name, is_text, IsClassUnder}
 use Rattle.table_schema.specs.CodedIndexes.{tables_of}
 use Rattle.table_schema.specs.declared.coded.Coded.TheVariants as coded
 use Rattle.table_schema.specs.declared.column.ColumnKind.TheVariants as kind
-use Rattle.table_schema.specs.declared.table.TableId.{TableId}
-use Rattle.table_schema.specs.declared.table.TableId.TheVariants.{TypeDef, TypeRef, TypeSpec, MethodDef, MemberRef, ModuleRef}
-use Rattle.table_schema.specs.declared.token.Token.{Token}
-use Rattle.metadata.specs.Cell.{Cell}
-use Rattle.metadata.specs.Kinds.{IsOfKind}
-use Rattle.metadata.specs.Lookups.{HasRow}
-use Rattle.metadata.specs.Metadata.{Metadata, cell_in}
-use Rattle.metadata.specs.Valid.{IsValid, MayRefer}
-use Rattle.full_names.specs.declared.limit.Scopes.{Scopes}
-use Rattle.full_names.specs.declared.quoted.NameKind.TheVariants.{Dotted}
-use Rattle.full_names.specs.Quoted.{name_text}
-use Rattle.full_names.specs.RowNames.{IsNameIn, IsParent, IsRowNameBy}
-use Rattle.full_names.specs.Texts.{IsFullNameBy}
-use Rattle.full_names.proofs.NameExists.{HasText, any_name, is_text}
-use Rattle.declarations.specs.Declarations.{IsClassUnder}
 
 module _ (scopes : Scopes) (model : Metadata) (valid : IsValid model) where
   -- the name of a type

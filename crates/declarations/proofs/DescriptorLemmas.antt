@@ -1,10 +1,8 @@
 -- What a writer took in several calls, and the texts of a descriptor that are there.
 use Rattle.std.proofs.Common.{◌+◌, ◌≡◌, ℕ, List, [], ◌∷◌, ◌++◌, ◌⊎◌, inl, inr, false, length, OnOk, Ok, Err, Result, refl, subst}
 use Rattle.std.specs.Prelude.{codes, ◌==◌}
-use Rattle.std.specs.Fmt.{WritesInCalls}
+use Rattle.declarations.proofs.Prelude.{WritesInCalls, writes_append, library_text, quoted_text, type_after}
 use Rattle.std.specs.declared.fmt.Error.{Error}
-use Rattle.full_names.proofs.TextLemmas.{writes_append}
-use Rattle.declarations.specs.Descriptors.{library_text, quoted_text, type_after}
 
 -- what was written before the last call, by another name for it, and by the last call
 pub writes_then : {W : Type 0} (took : W → List ℕ → W → Type 0) {w : W} {a : List ℕ} {v : W} (prefix b : List ℕ) (u : W) (result : Result (Unit {0}) Error) → a ≡ prefix

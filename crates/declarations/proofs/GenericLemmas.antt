@@ -1,16 +1,7 @@
 -- The generic parameters of a method that were written, and their number.
-use Rattle.std.proofs.Common.{ℕ, ◌≡◌, ◌<◌, List, [], ◌∷◌, ◌++◌, length, map, refl, arith}
-use Rattle.std.specs.Prelude.{codes}
-use Rattle.std.specs.Fmt.{WritesInCalls}
-use Rattle.metadata.specs.Metadata.{Metadata}
-use Rattle.navigation.specs.declared.keyed.KeyedRow.{KeyedRow}
+use Rattle.declarations.proofs.Prelude.{ℕ, ◌≡◌, ◌<◌, List, [], ◌∷◌, ◌++◌, length, map, refl, arith, codes, WritesInCalls, Metadata, KeyedRow, row_of, Scopes, Wrote, writes_append, IsGenerics, arity_text}
 use Rattle.navigation.specs.declared.links.Link.TheVariants as link
-use Rattle.navigation.specs.Keyed.{row_of}
-use Rattle.full_names.specs.declared.limit.Scopes.{Scopes}
-use Rattle.full_names.specs.Names.{Wrote}
-use Rattle.full_names.proofs.TextLemmas.{writes_append}
 use Rattle.type_heads.specs.Heads.{AreListed, IsInHead}
-use Rattle.declarations.specs.Declarations.{IsGenerics, arity_text}
 
 module _ {W : Type 0} (took : W → List ℕ → W → Type 0) (scopes : Scopes) (model : Metadata) where
   pub no_rows : (found : List KeyedRow) (n : ℕ) (w v : W) → length found ≡ 0 → WritesInCalls took w (arity_text n) v → Wrote took w (IsGenerics scopes model (map row_of found) n) v

@@ -4,5 +4,6 @@ mod GenericLemmas
 mod ParamExists
 mod ParamNames
 mod ClassNames
+mod Prelude
 mod ReferenceLemmas
 pub mod DescriptorLemmas

@@ -4,23 +4,11 @@ use Rattle.std.specs.Prelude.{◌==◌, slice_get}
 use Rattle.std.specs.List.{Contains}
 use Rattle.std.specs.List.Sorted.{IsStrictlyIncreasing}
 use Rattle.std.proofs.lemmas.List.Kept.{AllPairs-from_increasing}
-use Rattle.std.proofs.lemmas.Bool.{cases_Bool, cases_eq, eqb-true, eq-eqb}
-use Rattle.std.proofs.Math.Logic.{∥∥₁_elim}
+use Rattle.declarations.proofs.Prelude.{cases_Bool, cases_eq, eqb-true, eq-eqb, ∥∥₁_elim, TableId, FieldMarshal, Token, cell_columns, Cell, Ref, IsOfKind, HasKey, HasRow, IsKeyCell, Metadata, cell_in, count_in, IsValid, kind_at, first_linked, link_in, linked, number_to, param_token}
 use Rattle.std.specs.Coded.{le_prop}
-use Rattle.table_schema.specs.declared.table.TableId.{TableId}
-use Rattle.table_schema.specs.declared.table.TableId.TheVariants.{FieldMarshal}
-use Rattle.table_schema.specs.declared.token.Token.{Token}
-use Rattle.table_schema.specs.CellColumns.{cell_columns}
-use Rattle.metadata.specs.Cell.{Cell, Ref}
 use Rattle.metadata.specs.KeyOrder.{key_number, row_number}
-use Rattle.metadata.specs.Kinds.{IsOfKind}
-use Rattle.metadata.specs.Lookups.{HasKey, HasRow, IsKeyCell}
-use Rattle.metadata.specs.Metadata.{Metadata, cell_in, count_in}
-use Rattle.metadata.specs.Valid.{IsValid, kind_at}
 use Rattle.reading.specs.KeyRows.{rows_that}
 use Rattle.navigation.specs.declared.links.Link.TheVariants as link
-use Rattle.navigation.specs.Linked.{first_linked, link_in, linked, number_to}
-use Rattle.declarations.specs.Declarations.{param_token}
 
 -- ---- the first row that passes a test
 

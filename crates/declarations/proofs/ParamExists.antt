@@ -1,30 +1,9 @@
 -- Each parameter has a name and flags, and each piece of a declaration has a text.
-use Rattle.std.proofs.Common.{◌≡◌, ℕ, ◌<◌, ◌≤◌, List, [], ◌∷◌, ◌++◌, ◌⊎◌, inl, inr, Option, Some, None, refl, ap, ◌∙◌, arith}
-use Rattle.std.specs.Prelude.{codes}
-use Rattle.std.specs.Fmt.{decimal, signed_decimal}
-use Rattle.std.proofs.lemmas.Bool.{cases_eq, cases_lt}
-use Rattle.table_schema.specs.declared.table.TableId.TheVariants.{Param}
+use Rattle.declarations.proofs.Prelude.{◌≡◌, ℕ, ◌<◌, ◌≤◌, List, [], ◌∷◌, ◌++◌, ◌⊎◌, inl, inr, Option, Some, None, refl, ap, ◌∙◌, arith, codes, decimal, signed_decimal, cases_eq, cases_lt, Param, cell_columns, Token, Cell, Number, Text, IsOfKind, HasRow, Metadata, cell_in, count_in, IsValid, Scopes, Member, name_text, IsRowNameBy, ArePiecesText, HasText, any_name, first_row, is_text, first_linked, leading_words, words_of, generics_text, IsDeclaredPiece, IsFlagsOf, IsGenerics, IsMarshalOf, IsNameOf, IsParamAt, IsParamRow, IsParamText, after_space, arity_text, before_space, marshal_by, param_token, position_in, position_of, spaced}
 use Rattle.table_schema.specs.declared.column.ColumnKind.TheVariants as kind
-use Rattle.table_schema.specs.CellColumns.{cell_columns}
-use Rattle.table_schema.specs.declared.token.Token.{Token}
 use Rattle.sig_text.specs.SignatureText.{Piece, word, number, signed, name, method_name, generic_params, param_flags, param_name}
-use Rattle.metadata.specs.Cell.{Cell, Number, Text}
-use Rattle.metadata.specs.Kinds.{IsOfKind}
-use Rattle.metadata.specs.Lookups.{HasRow}
-use Rattle.metadata.specs.Metadata.{Metadata, cell_in, count_in}
-use Rattle.metadata.specs.Valid.{IsValid}
-use Rattle.full_names.specs.declared.limit.Scopes.{Scopes}
-use Rattle.full_names.specs.declared.quoted.NameKind.TheVariants.{Member}
-use Rattle.full_names.specs.Quoted.{name_text}
-use Rattle.full_names.specs.RowNames.{IsRowNameBy}
-use Rattle.full_names.specs.Texts.{ArePiecesText}
-use Rattle.full_names.proofs.NameExists.{HasText, any_name, first_row, is_text}
 use Rattle.navigation.specs.declared.links.Link.TheVariants as link
-use Rattle.navigation.specs.Linked.{first_linked}
-use Rattle.type_heads.specs.FlagWords.{leading_words, words_of}
 use Rattle.type_heads.specs.declared.flag_words.FlagTable.TheVariants as flag_table
-use Rattle.type_heads.proofs.HeadLemmas.{generics_text}
-use Rattle.declarations.specs.Declarations.{IsDeclaredPiece, IsFlagsOf, IsGenerics, IsMarshalOf, IsNameOf, IsParamAt, IsParamRow, IsParamText, after_space, arity_text, before_space, marshal_by, param_token, position_in, position_of, spaced}
 
 is_number : (cell : Cell) → IsOfKind kind.U16 cell → cell ≡ Number (position_of cell)
 is_number (Number value) of = refl

@@ -1,9 +1,6 @@
 -- A name after a space.
-use Rattle.std.proofs.Common.{◌≡◌, length, ℕ, List, [], ◌∷◌, ◌++◌, refl, arith}
+use Rattle.declarations.proofs.Prelude.{◌≡◌, length, ℕ, List, [], ◌∷◌, ◌++◌, refl, arith, Identifier, name_text, spaced}
 use Rattle.std.specs.Prelude.{codes, ◌==◌, false}
-use Rattle.full_names.specs.declared.quoted.NameKind.TheVariants.{Identifier}
-use Rattle.full_names.specs.Quoted.{name_text}
-use Rattle.declarations.specs.Declarations.{spaced}
 
 pub spaced_alone : (name : List ℕ) → length name ≡ 0 → spaced name ≡ []
 spaced_alone [] none = refl

@@ -1,12 +1,5 @@
 -- The first row with a number, and the parameter in it.
-use Rattle.std.proofs.Common.{◌≡◌, ◌∙◌, ℕ, zero, suc, ◌+◌, ◌<◌, ◌≤◌, ◌⊎◌, inl, inr, Bool, cond, List, [], ◌∷◌, None, length, get_or, refl, sym, ap, subst, arith}
-use Rattle.std.specs.List.{filter}
-use Rattle.std.proofs.lemmas.Bool.{cases_eq, eq-eqb, ne_eqb}
-use Rattle.metadata.specs.Metadata.{Metadata}
-use Rattle.metadata.specs.Valid.{IsValid}
-use Rattle.navigation.specs.declared.keyed.KeyedRow.{KeyedRow}
-use Rattle.navigation.specs.Keyed.{has_key, keyed_row, keyed_rows}
-use Rattle.declarations.specs.Declarations.{AreParams, IsParamAt, IsParamRow, position_in}
+use Rattle.declarations.proofs.Prelude.{◌≡◌, ◌∙◌, ℕ, zero, suc, ◌+◌, ◌<◌, ◌≤◌, ◌⊎◌, inl, inr, Bool, cond, List, [], ◌∷◌, None, length, get_or, refl, sym, ap, subst, arith, filter, cases_eq, eq-eqb, ne_eqb, Metadata, IsValid, KeyedRow, has_key, keyed_row, keyed_rows, AreParams, IsParamAt, IsParamRow, position_in}
 use Rattle.declarations.proofs.ParamExists.{no_param, param_at}
 
 module _ (number : ℕ → ℕ) (position : ℕ) where

@@ -1,12 +1,5 @@
 -- The text of a reference, by the table of its row.
-use Rattle.std.proofs.Common.{◌≡◌, ℕ, List, inl, inr, sym, ◌∙◌}
-use Rattle.table_schema.specs.declared.table.TableId.TheVariants.{MethodDef, MemberRef}
-use Rattle.table_schema.specs.declared.token.Token.{Token}
-use Rattle.metadata.specs.Lookups.{HasRow}
-use Rattle.metadata.specs.Metadata.{Metadata}
-use Rattle.full_names.specs.declared.limit.Scopes.{Scopes}
-use Rattle.full_names.specs.RowNames.{IsRowNameBy}
-use Rattle.declarations.specs.Declarations.{IsReference, IsReferenceBy}
+use Rattle.declarations.proofs.Prelude.{◌≡◌, ℕ, List, inl, inr, sym, ◌∙◌, MethodDef, MemberRef, Token, HasRow, Metadata, Scopes, IsRowNameBy, IsReference, IsReferenceBy}
 
 module _ (scopes : Scopes) (model : Metadata) (token : Token) (text : List ℕ) where
   pub other_row : (token.table ≡ MethodDef → ⊥) → (token.table ≡ MemberRef → ⊥) → IsRowNameBy scopes model token text → IsReference scopes model token text

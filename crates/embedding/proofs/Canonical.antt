@@ -1,19 +1,8 @@
 -- Roots of one model lead to the same code and data.
-use Rattle.std.proofs.Common.{◌≡◌, ℕ, ◌<◌, ◌≤◌, List, sym, ◌∙◌, arith, lit<}
-use Rattle.std.proofs.Math.Logic.{∥∥₁_elim, ∥∥₁_map}
-use Rattle.std.specs.Coded.{Coded-set, coded_list, coded_ℕ, le_prop}
-use Rattle.heap_entries.specs.Padding.{zero_padded}
-use Rattle.table_schema.specs.declared.table.TableId.{TableId}
-use Rattle.table_schema.specs.declared.table.TableId.TheVariants.{MethodDef, File, FieldRVA}
+use Rattle.embedding.proofs.Prelude.{◌≡◌, ℕ, ◌<◌, ◌≤◌, List, sym, ◌∙◌, arith, lit<, ∥∥₁_elim, ∥∥₁_map, Coded-set, coded_list, coded_ℕ, le_prop, zero_padded, TableId, MethodDef, File, FieldRVA, Metadata, count_in, cell_in, IsModel, rows_in, source_of, row_count, user_of, HaveSameAddresses, LeadsAlike}
 use Rattle.table_schema.specs.CellColumns.{cell_columns, cell_count}
 use Rattle.metadata.specs.Cell.{Cell, Number}
-use Rattle.metadata.specs.Metadata.{Metadata, count_in, cell_in}
-use Rattle.metadata.specs.Model.{IsModel}
 use Rattle.metadata.specs.Rows.{IsCell}
-use Rattle.metadata.specs.Source.{rows_in}
-use Rattle.metadata.specs.SourceAt.{source_of}
-use Rattle.opening.specs.Views.{row_count, user_of}
-use Rattle.embedding.specs.Matching.{HaveSameAddresses, LeadsAlike}
 
 -- the parts of a model are read from its root
 pub record AreRead : Type 0 where

@@ -1,11 +1,7 @@
 -- The entry point of a file, by the rows of another root.
-use Rattle.std.proofs.Common.{◌≡◌, ℕ, ◌%◌, ◌/◌, ◌≤◌, ◌⊎◌, inl, inr, refl, ap, arith}
-use Rattle.std.proofs.lemmas.Bool.{cases_eq, cases_lt}
+use Rattle.embedding.proofs.Prelude.{◌≡◌, ℕ, ◌%◌, ◌/◌, ◌≤◌, ◌⊎◌, inl, inr, refl, ap, arith, cases_eq, cases_lt, TableId, MethodDef, File, IsEntryPoint}
 use Rattle.std.proofs.lemmas.Grind.{not_there}
-use Rattle.table_schema.specs.declared.table.TableId.{TableId}
-use Rattle.table_schema.specs.declared.table.TableId.TheVariants.{MethodDef, File}
 use Rattle.table_schema.specs.Tables.{table_number}
-use Rattle.metadata.specs.Model.{IsEntryPoint}
 
 -- the number is the token of one of these rows of a table
 abbrev IsRowOf : ℕ → ℕ → ℕ → Type 0

@@ -1,34 +1,6 @@
 -- A result opens, and its model is that of the root.
-use Rattle.std.proofs.Common.{◌≡◌, ℕ, suc, ◌+◌, ◌*◌, ◌^◌, ◌<◌, ◌≤◌, ◌==◌, inl, inr, false, List, [], ◌∷◌, length, take, drop, refl, sym, ap, subst, ◌∙◌, arith}
-use Rattle.std.proofs.Math.Logic.{∥∥₁_map}
+use Rattle.embedding.proofs.Prelude.{◌≡◌, ℕ, suc, ◌+◌, ◌*◌, ◌^◌, ◌<◌, ◌≤◌, ◌==◌, inl, inr, false, List, [], ◌∷◌, length, take, drop, refl, sym, ap, subst, ◌∙◌, arith, ∥∥₁_map, little_endian, part, AllHold, SectionHeader, lfanew, section_count, sections_offset, sections_from, image_of, Image, IsImage, rules_of_image, CliHeader, fields_of, IsCliHeader, rules_of_cli_header, header_of, TableId, MethodDef, File, Metadata, count_in, IsModel, IsModelOfFile, IsEntryPoint, has_native_entry_point, Source, rows_in, source_of, root_in, row_count, IsBytes, part_fits, Slot, Reused, Appended, Extended, StrongName, Keep, Clear, IsHeaderOf, AreHeadersApart, IsEmbedded, HasItsModel, embedded, new_header, unsigned_flags, LeadsAlike, target_of, FitsAt}
 use Rattle.packed.specs.Fields.{Field, literal, number, ignored, StandAt, AllSay, widths}
-use Rattle.packed.specs.Number.{little_endian}
-use Rattle.packed.specs.Offsets.{part}
-use Rattle.packed.specs.Rule.{AllHold}
-use Rattle.pe.specs.declared.section.SectionHeader.{SectionHeader}
-use Rattle.pe.specs.Headers.{lfanew, section_count, sections_offset, sections_from, image_of}
-use Rattle.pe.specs.Image.{Image, IsImage}
-use Rattle.pe.specs.Rules.{rules_of_image}
-use Rattle.cli_header.specs.declared.header.CliHeader.{CliHeader}
-use Rattle.cli_header.specs.Header.{fields_of, IsCliHeader}
-use Rattle.cli_header.specs.Rules.{rules_of_cli_header}
-use Rattle.cli_header.specs.Said.{header_of}
-use Rattle.table_schema.specs.declared.table.TableId.{TableId}
-use Rattle.table_schema.specs.declared.table.TableId.TheVariants.{MethodDef, File}
-use Rattle.metadata.specs.Metadata.{Metadata, count_in}
-use Rattle.metadata.specs.Model.{IsModel, IsModelOfFile, IsEntryPoint, has_native_entry_point}
-use Rattle.metadata.specs.Source.{Source, rows_in}
-use Rattle.metadata.specs.SourceAt.{source_of}
-use Rattle.metadata.specs.Streams.{root_in}
-use Rattle.opening.specs.Views.{row_count}
-use Rattle.schema.proofs.NumberLemmas.{IsBytes, part_fits}
-use Rattle.embedding.specs.declared.slot.Slot.{Slot}
-use Rattle.embedding.specs.declared.slot.Slot.TheVariants.{Reused, Appended, Extended}
-use Rattle.embedding.specs.declared.strong_name.StrongName.{StrongName}
-use Rattle.embedding.specs.declared.strong_name.StrongName.TheVariants.{Keep, Clear}
-use Rattle.embedding.specs.Embedded.{IsHeaderOf, AreHeadersApart, IsEmbedded, HasItsModel, embedded, new_header, unsigned_flags}
-use Rattle.embedding.specs.Matching.{LeadsAlike}
-use Rattle.embedding.specs.Slots.{target_of, FitsAt}
 use Rattle.embedding.proofs.EntryPoint.{known_entry_point, entry_point_kept}
 use Rattle.embedding.proofs.NewImage.{NewImage, new_image}
 use Rattle.embedding.proofs.Room.{room}

@@ -1,12 +1,5 @@
 -- The headers of a result are those of the file, as far as reading an image goes.
-use Rattle.std.proofs.Common.{◌≡◌, ℕ, zero, suc, inl, inr, ◌+◌, ◌-◌, ◌*◌, ◌≤◌, ◌==◌, cond, List, length, take, drop, refl, sym, ap, ◌∙◌, arith}
-use Rattle.std.proofs.lemmas.List.{take-take, drop-take, drop-drop}
-use Rattle.packed.specs.Limit.{byte_limit}
-use Rattle.packed.specs.Number.{little_endian}
-use Rattle.packed.specs.Offsets.{part}
-use Rattle.packed.specs.Rule.{AllHold}
-use Rattle.pe.specs.Headers.{lfanew, section_count, optional_header_size, magic, wider, directory_count, directory_offset, sections_offset, sections_from, image_of}
-use Rattle.pe.specs.Rules.{rules_of_image}
+use Rattle.embedding.proofs.Prelude.{◌≡◌, ℕ, zero, suc, inl, inr, ◌+◌, ◌-◌, ◌*◌, ◌≤◌, ◌==◌, cond, List, length, take, drop, refl, sym, ap, ◌∙◌, arith, take-take, drop-take, drop-drop, byte_limit, little_endian, part, AllHold, lfanew, section_count, optional_header_size, magic, wider, directory_count, directory_offset, sections_offset, sections_from, image_of, rules_of_image}
 
 -- a part of a part
 pub part_of : (whole : List ℕ) (at count more inner : ℕ) → more + inner ≤ count → part whole (at + more) inner ≡ take inner (drop more (part whole at count))

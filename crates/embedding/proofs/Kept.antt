@@ -1,13 +1,6 @@
 -- What is in the result: bytes of the file that no change and no root takes the place of.
-use Rattle.std.proofs.Common.{◌≡◌, ℕ, ◌+◌, ◌-◌, ◌≤◌, ◌<◌, ◌==◌, true, false, cond, List, length, take, drop, replicate, refl, sym, ap, ◌∙◌, arith}
+use Rattle.embedding.proofs.Prelude.{◌≡◌, ℕ, ◌+◌, ◌-◌, ◌≤◌, ◌<◌, ◌==◌, true, false, cond, List, length, take, drop, replicate, refl, sym, ap, ◌∙◌, arith, part, number_bytes, Checksum, field_offset, field_of, Target, Change, changed, with_bytes, checksum, copied, with_checksum}
 use Rattle.std.proofs.lemmas.List.{length-append, length-replicate}
-use Rattle.packed.specs.Offsets.{part}
-use Rattle.schema.specs.LaidOut.{number_bytes}
-use Rattle.file_ranges.specs.declared.field.Field.TheVariants.{Checksum}
-use Rattle.file_ranges.specs.Fields.{field_offset, field_of}
-use Rattle.embedding.specs.declared.slot.Target.{Target}
-use Rattle.embedding.specs.Bytes.{Change, changed, with_bytes, checksum}
-use Rattle.embedding.specs.Embedded.{copied, with_checksum}
 use Rattle.embedding.proofs.Parts.{length-prefix, part_prefix, length-with_bytes, beside, here, AllWithin, AllApart, Sets, length-changed, changed_apart, changed_there}
 
 -- the copy of the file has the length of the result

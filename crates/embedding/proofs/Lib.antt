@@ -3,6 +3,7 @@ pub mod Kept
 pub mod Misfits
 pub mod Headers
 pub mod Padded
+pub mod Prelude
 pub mod Room
 pub mod Opens
 pub mod Sections

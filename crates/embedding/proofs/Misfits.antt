@@ -1,19 +1,6 @@
 -- Why a root fits at no slot.
-use Rattle.std.proofs.Common.{◌≡◌, ◌<◌, ◌≤◌, ◌^◌, ◌⊎◌, inl, inr, ℕ, List, length, subst, arith}
-use Rattle.pe.specs.Headers.{image_of}
-use Rattle.cli_header.specs.declared.header.CliHeader.{CliHeader}
-use Rattle.cli_header.specs.Said.{header_of}
-use Rattle.metadata.specs.Source.{Source}
-use Rattle.metadata.specs.SourceAt.{source_of}
-use Rattle.metadata.specs.Streams.{root_in}
-use Rattle.embedding.specs.declared.error.EmbedError.{EmbedError}
+use Rattle.embedding.proofs.Prelude.{◌≡◌, ◌<◌, ◌≤◌, ◌^◌, ◌⊎◌, inl, inr, ℕ, List, length, subst, arith, image_of, CliHeader, header_of, Source, source_of, root_in, EmbedError, Slot, Reused, Appended, Extended, HasImage, HasModel, IsHeaderOf, AreOpen, IsMisfit, IsReason, FitsAt, HasRoom, IsLongerSection, IsNewSection}
 use Rattle.embedding.specs.declared.error.EmbedError.TheVariants as error
-use Rattle.embedding.specs.declared.slot.Slot.{Slot}
-use Rattle.embedding.specs.declared.slot.Slot.TheVariants.{Reused, Appended, Extended}
-use Rattle.opening.specs.Views.{HasImage, HasModel}
-use Rattle.embedding.specs.Embedded.{IsHeaderOf}
-use Rattle.embedding.specs.Errors.{AreOpen, IsMisfit, IsReason}
-use Rattle.embedding.specs.Slots.{FitsAt, HasRoom, IsLongerSection, IsNewSection}
 
 -- a new section would be too far
 pub no_new_section : (file : List ℕ) (len : ℕ) (header : CliHeader) (source : Source) → header.metadata.size < len → HasRoom file header

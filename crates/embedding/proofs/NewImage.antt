@@ -1,24 +1,5 @@
 -- A result is an image. Its sections have the CLI header where it was, and the root where it was put.
-use Rattle.std.proofs.Common.{◌≡◌, ℕ, suc, ◌+◌, ◌*◌, ◌^◌, ◌<◌, ◌≤◌, inl, inr, max, List, [], ◌∷◌, ◌++◌, Some, length, take, drop, refl, sym, ap, subst, ◌∙◌, arith}
-use Rattle.std.proofs.lemmas.List.{append-nil}
-use Rattle.packed.specs.Number.{little_endian}
-use Rattle.packed.specs.Offsets.{part}
-use Rattle.packed.specs.Rule.{AllHold}
-use Rattle.pe.specs.declared.section.SectionHeader.{SectionHeader}
-use Rattle.pe.specs.Headers.{lfanew, section_count, sections_offset, sections_from, section_at, image_of}
-use Rattle.pe.specs.Image.{Image}
-use Rattle.pe.specs.Rules.{rules_of_image}
-use Rattle.cli_header.specs.declared.header.CliHeader.{CliHeader}
-use Rattle.metadata.specs.Source.{Source}
-use Rattle.schema.specs.LaidOut.{number_bytes}
-use Rattle.schema.proofs.NumberLemmas.{IsBytes, part_fits}
-use Rattle.file_ranges.specs.declared.field.Field.TheVariants.{FileAlignment, SectionAlignment, ImageSize}
-use Rattle.file_ranges.specs.Fields.{field_of, last, headers_end, full_size}
-use Rattle.embedding.specs.declared.slot.Slot.{Slot}
-use Rattle.embedding.specs.declared.slot.Slot.TheVariants.{Reused, Appended, Extended}
-use Rattle.embedding.specs.declared.strong_name.StrongName.{StrongName}
-use Rattle.embedding.specs.Embedded.{IsHeaderOf, AreHeadersApart, embedded}
-use Rattle.embedding.specs.Slots.{target_of, address_before, machine, FitsAt}
+use Rattle.embedding.proofs.Prelude.{◌≡◌, ℕ, suc, ◌+◌, ◌*◌, ◌^◌, ◌<◌, ◌≤◌, inl, inr, max, List, [], ◌∷◌, ◌++◌, Some, length, take, drop, refl, sym, ap, subst, ◌∙◌, arith, append-nil, little_endian, part, AllHold, SectionHeader, lfanew, section_count, sections_offset, sections_from, section_at, image_of, Image, rules_of_image, CliHeader, Source, number_bytes, IsBytes, part_fits, FileAlignment, SectionAlignment, ImageSize, field_of, last, headers_end, full_size, Slot, Reused, Appended, Extended, StrongName, IsHeaderOf, AreHeadersApart, embedded, target_of, address_before, machine, FitsAt}
 use Rattle.embedding.proofs.Headers.{SameHeaders, part_of, same_sections, same_values, rules_same, image_same}
 use Rattle.embedding.proofs.Room.{room, above}
 use Rattle.embedding.proofs.Sections.{offset_in, found_after, found_longer, found_new, has, has_longer, sections_more, none_each, ends_before}

@@ -1,25 +1,8 @@
 -- The faults of a file, and its CLI header.
-use Rattle.std.proofs.Common.{◌≡◌, List, ℕ, Result, Ok, Err, IfErr, ◌++◌, sym, subst, ap, ◌∙◌}
-use Rattle.std.proofs.Math.Logic.{∥∥₁_elim, ∥∥₁_map}
-use Rattle.std.specs.Coded.{Coded-set, coded_list, coded_ℕ}
+use Rattle.embedding.proofs.Prelude.{◌≡◌, List, ℕ, Result, Ok, Err, IfErr, ◌++◌, sym, subst, ap, ◌∙◌, ∥∥₁_elim, ∥∥₁_map, Coded-set, coded_list, coded_ℕ, Rule, AllHold, FirstBroken, image_of, Image, IsImage, rules_of_image, CliHeader, IsCliHeader, rules_of_cli_header, header_of, rules_of_file, rules_of_metadata, rules_of_entry_point, IsModelOfFile, root_in, source_of, HasImage, EmbedError, MatchFault, IsNoFault}
 use Rattle.packed.specs.declared.fault.Fault.{Fault}
-use Rattle.packed.specs.Rule.{Rule, AllHold, FirstBroken}
 use Rattle.packed.proofs.RuleLemmas.{fails_prefix, fails_back}
-use Rattle.pe.specs.Headers.{image_of}
-use Rattle.pe.specs.Image.{Image, IsImage}
-use Rattle.pe.specs.Rules.{rules_of_image}
-use Rattle.cli_header.specs.declared.header.CliHeader.{CliHeader}
-use Rattle.cli_header.specs.Header.{IsCliHeader}
-use Rattle.cli_header.specs.Rules.{rules_of_cli_header}
-use Rattle.cli_header.specs.Said.{header_of}
-use Rattle.metadata.specs.Rules.{rules_of_file, rules_of_metadata, rules_of_entry_point}
-use Rattle.metadata.specs.Model.{IsModelOfFile}
-use Rattle.metadata.specs.Streams.{root_in}
-use Rattle.metadata.specs.SourceAt.{source_of}
-use Rattle.opening.specs.Views.{HasImage}
-use Rattle.embedding.specs.declared.error.EmbedError.{EmbedError}
 use Rattle.embedding.specs.declared.error.EmbedError.TheVariants as error
-use Rattle.embedding.specs.Errors.{MatchFault, IsNoFault}
 
 -- the rules for a file that come after those for its headers
 later_rules : List ℕ → List (Rule Fault)

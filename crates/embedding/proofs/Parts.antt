@@ -1,13 +1,8 @@
 -- What is in a whole after some of its bytes were replaced.
-use Rattle.std.proofs.Common.{◌≡◌, ℕ, ◌+◌, ◌-◌, ◌≤◌, ◌<◌, ◌⊎◌, inl, inr, List, [], ◌∷◌, ◌++◌, length, take, drop, replicate, refl, sym, ap, ◌∙◌, arith, append_assoc}
-use Rattle.std.proofs.lemmas.Bool.{cases_lt}
+use Rattle.embedding.proofs.Prelude.{◌≡◌, ℕ, ◌+◌, ◌-◌, ◌≤◌, ◌<◌, ◌⊎◌, inl, inr, List, [], ◌∷◌, ◌++◌, length, take, drop, replicate, refl, sym, ap, ◌∙◌, arith, append_assoc, cases_lt, drop-append-add, part, number_bytes, Change, changed, with_bytes}
 use Rattle.std.proofs.lemmas.List.{length-append, length-replicate, length-take, length-drop, take-append-le, take-take, drop-take, drop-drop, drop_at, take_at}
 use Rattle.std.proofs.lemmas.Slice.{drop-put_mid}
-use Rattle.std.proofs.Math.Seq.{drop-append-add}
 use borrow.Rule.Slice.PartMut.{put_mid}
-use Rattle.packed.specs.Offsets.{part}
-use Rattle.schema.specs.LaidOut.{number_bytes}
-use Rattle.embedding.specs.Bytes.{Change, changed, with_bytes}
 
 -- the bytes before an offset have that length
 pub length-prefix : (offset : ℕ) (whole : List ℕ) → offset ≤ length whole → length (take offset whole) ≡ offset

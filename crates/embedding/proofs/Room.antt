@@ -1,20 +1,6 @@
 -- Where the parts of a result are: the headers, the root, and the end.
-use Rattle.std.proofs.Common.{◌≡◌, ℕ, ◌+◌, ◌-◌, ◌<◌, ◌≤◌, ◌⊎◌, ◌==◌, inl, inr, cond, List, ◌++◌, length, replicate, ap, ◌∙◌, arith}
+use Rattle.embedding.proofs.Prelude.{◌≡◌, ℕ, ◌+◌, ◌-◌, ◌<◌, ◌≤◌, ◌⊎◌, ◌==◌, inl, inr, cond, List, ◌++◌, length, replicate, ap, ◌∙◌, arith, byte_limit, AllHold, lfanew, wider, optional_header_size, sections_offset, rules_of_image, CliHeader, Source, FileAlignment, aligned, field_of, full_size, raw_size, raw_end, section_offset, last, headers_end, Slot, Reused, Appended, Extended, StrongName, Keep, Clear, IsHeaderOf, AreHeadersApart, header_changes, target_of, root_bytes, FitsAt}
 use Rattle.std.proofs.lemmas.List.{length-append, length-replicate}
-use Rattle.packed.specs.Limit.{byte_limit}
-use Rattle.packed.specs.Rule.{AllHold}
-use Rattle.pe.specs.Headers.{lfanew, wider, optional_header_size, sections_offset}
-use Rattle.pe.specs.Rules.{rules_of_image}
-use Rattle.cli_header.specs.declared.header.CliHeader.{CliHeader}
-use Rattle.metadata.specs.Source.{Source}
-use Rattle.file_ranges.specs.declared.field.Field.TheVariants.{FileAlignment}
-use Rattle.file_ranges.specs.Fields.{aligned, field_of, full_size, raw_size, raw_end, section_offset, last, headers_end}
-use Rattle.embedding.specs.declared.slot.Slot.{Slot}
-use Rattle.embedding.specs.declared.slot.Slot.TheVariants.{Reused, Appended, Extended}
-use Rattle.embedding.specs.declared.strong_name.StrongName.{StrongName}
-use Rattle.embedding.specs.declared.strong_name.StrongName.TheVariants.{Keep, Clear}
-use Rattle.embedding.specs.Embedded.{IsHeaderOf, AreHeadersApart, header_changes}
-use Rattle.embedding.specs.Slots.{target_of, root_bytes, FitsAt}
 use Rattle.embedding.proofs.Parts.{AllWithin, AllApart}
 
 pub above : (alignment number : ℕ) → 0 < alignment → number ≤ aligned alignment number

@@ -1,15 +1,8 @@
 -- The file offset of bytes, by lists of sections that differ at their end.
-use Rattle.std.proofs.Common.{◌≡◌, ℕ, zero, suc, ◌+◌, ◌-◌, ◌*◌, ◌≤◌, ◌<◌, Bool, true, false, cond, List, [], ◌∷◌, ◌++◌, Option, Some, None, inl, inr, refl, sym, ap, ◌∙◌, arith}
+use Rattle.embedding.proofs.Prelude.{◌≡◌, ℕ, zero, suc, ◌+◌, ◌-◌, ◌*◌, ◌≤◌, ◌<◌, Bool, true, false, cond, List, [], ◌∷◌, ◌++◌, Option, Some, None, inl, inr, refl, sym, ap, ◌∙◌, arith, cases_lt, nat_tests, SectionHeader, section_at, sections_from, sections_offset, has_bytes, address_end, address_before}
 use Rattle.std.specs.List.{find}
 use Rattle.std.specs.Option.{option_map, option_or}
-use Rattle.std.proofs.lemmas.Bool.{cases_lt}
-use Rattle.std.proofs.lemmas.Bool.Decides.{nat_tests}
 use Rattle.std.proofs.lemmas.List.Folds.{find-append}
-use Rattle.pe.specs.declared.section.SectionHeader.{SectionHeader}
-use Rattle.pe.specs.Headers.{section_at, sections_from, sections_offset}
-use Rattle.pe.specs.Offset.{has_bytes}
-use Rattle.file_ranges.specs.Fields.{address_end}
-use Rattle.embedding.specs.Slots.{address_before}
 
 -- the file offset of bytes by these sections
 abbrev pub offset_in : ℕ → ℕ → List SectionHeader → Option ℕ

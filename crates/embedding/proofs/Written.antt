@@ -1,26 +1,6 @@
 -- What is in a result: the root, what was there before, or what a change wrote.
-use Rattle.std.proofs.Common.{◌≡◌, ℕ, ◌+◌, ◌-◌, ◌*◌, ◌^◌, ◌<◌, ◌≤◌, inl, inr, List, ◌++◌, length, take, drop, replicate, refl, sym, ap, subst, ◌∙◌, arith}
+use Rattle.embedding.proofs.Prelude.{◌≡◌, ℕ, ◌+◌, ◌-◌, ◌*◌, ◌^◌, ◌<◌, ◌≤◌, inl, inr, List, ◌++◌, length, take, drop, replicate, refl, sym, ap, subst, ◌∙◌, arith, little_endian, part, AllHold, lfanew, wider, section_count, rules_of_image, CliHeader, Source, source_of, root_in, number_bytes, number_bytes-encode, section_offset, last, headers_end, Slot, Reused, Appended, Extended, StrongName, Keep, Clear, changed, IsHeaderOf, AreHeadersApart, header_changes, strong_name_changes, certificate_changes, unsigned_flags, embedded, Planned, IsPlanned, target_in, result_of, target_of, root_bytes, slot_changes, metadata_changes, machine, FitsAt}
 use Rattle.std.proofs.lemmas.List.{length-append, take-take, take_at, take_all}
-use Rattle.packed.specs.Number.{little_endian}
-use Rattle.packed.specs.Offsets.{part}
-use Rattle.packed.specs.Rule.{AllHold}
-use Rattle.pe.specs.Headers.{lfanew, wider, section_count}
-use Rattle.pe.specs.Rules.{rules_of_image}
-use Rattle.cli_header.specs.declared.header.CliHeader.{CliHeader}
-use Rattle.metadata.specs.Source.{Source}
-use Rattle.metadata.specs.SourceAt.{source_of}
-use Rattle.metadata.specs.Streams.{root_in}
-use Rattle.schema.specs.LaidOut.{number_bytes}
-use Rattle.schema.proofs.NumberLemmas.{number_bytes-encode}
-use Rattle.file_ranges.specs.Fields.{section_offset, last, headers_end}
-use Rattle.embedding.specs.declared.slot.Slot.{Slot}
-use Rattle.embedding.specs.declared.slot.Slot.TheVariants.{Reused, Appended, Extended}
-use Rattle.embedding.specs.declared.strong_name.StrongName.{StrongName}
-use Rattle.embedding.specs.declared.strong_name.StrongName.TheVariants.{Keep, Clear}
-use Rattle.embedding.specs.Bytes.{changed}
-use Rattle.embedding.specs.Embedded.{IsHeaderOf, AreHeadersApart, header_changes, strong_name_changes, certificate_changes, unsigned_flags, embedded}
-use Rattle.embedding.specs.Planned.{Planned, IsPlanned, target_in, result_of}
-use Rattle.embedding.specs.Slots.{target_of, root_bytes, slot_changes, metadata_changes, machine, FitsAt}
 use Rattle.embedding.proofs.Headers.{SameHeaders}
 use Rattle.embedding.proofs.Parts.{Sets, sets_after, changed_append}
 use Rattle.embedding.proofs.Kept.{length-result, kept_part, put_part, root_part}

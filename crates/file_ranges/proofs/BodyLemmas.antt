@@ -1,8 +1,6 @@
 -- The data sections of a method body, one after another.
-use Rattle.std.proofs.Common.{◌≡◌, ℕ, zero, suc, ◌+◌, ◌-◌, ◌/◌, ◌≤◌, ◌<◌, List, Some, None, length, sym, ap, ◌∙◌, arith}
+use Rattle.file_ranges.proofs.Prelude.{◌≡◌, ℕ, zero, suc, ◌+◌, ◌-◌, ◌/◌, ◌≤◌, ◌<◌, List, Some, None, length, sym, ap, ◌∙◌, arith, data_end, data_size, byte_at, aligned}
 use Rattle.std.proofs.lemmas.Bool.Decides.{nat_tests}
-use Rattle.file_ranges.specs.Bodies.{data_end, data_size, byte_at}
-use Rattle.file_ranges.specs.Fields.{aligned}
 
 -- no more sections are looked at
 pub none_left : (body : List ℕ) (left offset : ℕ) → left ≡ 0 → data_end body left offset ≡ None

@@ -1,10 +1,6 @@
 -- The data of fields, by the blobs of their signatures.
-use Rattle.std.proofs.Common.{◌≡◌, ◌≤◌, ℕ, List, subst, sym}
-use Rattle.cli_header.specs.declared.header.CliHeader.{CliHeader}
-use Rattle.table_schema.specs.declared.table.TableId.TheVariants.{Field, FieldRVA}
+use Rattle.file_ranges.proofs.Prelude.{◌≡◌, ◌≤◌, ℕ, List, subst, sym, CliHeader, Field, FieldRVA, Source, number_of, rows_in, IsRowApart, IsValueApart}
 use Rattle.heap_entries.specs.Entries.{IsBlob}
-use Rattle.metadata.specs.Source.{Source, number_of, rows_in}
-use Rattle.file_ranges.specs.Occupied.{IsRowApart, IsValueApart}
 
 -- the signature of the field of a row is a blob at this index
 blob_there : (source : Source) (row field index : ℕ) (heap blob : List ℕ) → field ≡ number_of source FieldRVA row 1

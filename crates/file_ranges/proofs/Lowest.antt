@@ -1,8 +1,5 @@
 -- The first section that has all of the metadata.
-use Rattle.std.proofs.Common.{◌≡◌, ◌<◌, ℕ, List, ap, sym, ◌∙◌, arith}
-use Rattle.cli_header.specs.declared.header.CliHeader.{CliHeader}
-use Rattle.file_ranges.specs.Fields.{virtual_address}
-use Rattle.file_ranges.specs.Occupied.{IsLowest}
+use Rattle.file_ranges.proofs.Prelude.{◌≡◌, ◌<◌, ℕ, List, ap, sym, ◌∙◌, arith, CliHeader, virtual_address, IsLowest}
 
 -- there is one at most
 pub one_lowest : (header : CliHeader) (file : List ℕ) (lowest other : ℕ) → IsLowest header file lowest → IsLowest header file other → lowest ≡ other

@@ -1,8 +1,5 @@
 -- The sizes of types by the rows of ClassLayout.
-use Rattle.std.proofs.Common.{◌≡◌, ◌+◌, ◌-◌, ◌<◌, ◌≤◌, inl, inr, ℕ, zero, suc, refl, ap, subst, arith}
-use Rattle.metadata.specs.Source.{Source, rows_in}
-use Rattle.table_schema.specs.declared.table.TableId.TheVariants.{ClassLayout}
-use Rattle.file_ranges.specs.ClassSizes.{AreParentsRising, IsSizeOf, MayHaveLayout, class_size, parent}
+use Rattle.file_ranges.proofs.Prelude.{◌≡◌, ◌+◌, ◌-◌, ◌<◌, ◌≤◌, inl, inr, ℕ, zero, suc, refl, ap, subst, arith, Source, rows_in, ClassLayout, AreParentsRising, IsSizeOf, MayHaveLayout, class_size, parent}
 
 rise_by : (source : Source) (layout more : ℕ) → AreParentsRising source → 1 ≤ layout → layout + suc more ≤ rows_in source ClassLayout
     → parent source layout < parent source (layout + suc more)

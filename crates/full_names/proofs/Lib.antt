@@ -1,3 +1,4 @@
+pub mod Prelude
 pub mod ScopeLemmas
 pub mod RowNameLemmas
 pub mod PieceLemmas

@@ -1,35 +1,14 @@
 -- Each token has a name.
 use Rattle.std.proofs.Common.{◌≡◌, ℕ, zero, suc, ◌-◌, ◌<◌, ◌≤◌, Bool, true, false, List, [], ◌∷◌, ◌++◌, ◌⊎◌, inl, inr, Option, None, Some, refl, sym, ap, subst, ◌∙◌, arith}
-use Rattle.std.specs.Prelude.{⊤, codes}
-use Rattle.std.specs.Fmt.{decimal, signed_decimal}
+use Rattle.full_names.proofs.Prelude.{⊤, codes, decimal, signed_decimal, cases_eq, cases_lt, TableId, TypeDef, TypeRef, TypeSpec, NestedClass, ModuleRef, AssemblyRef, Token, ColumnKind, cell_columns, cell_count, Body, Piece, word, number, signed, name, method_name, generic_params, param_flags, param_name, text_of, Cell, Text, Ref, IsOfKind, HasRow, IsKeyCell, Metadata, cell_in, count_in, IsValid, MayRefer, kind_at, nullable_at, IsEnclosed, IsFirstNesting, IsNesting, IsScope, type_token, Scopes, Omitted, Written, type_text, IsChainText, IsOuter, IsOwnText, IsTypeDefText, IsTypeRefText, IsScopeIn, IsScopeText, IsScopeWithin, IsTypeRefName, IsTypeScope, in_brackets, ArePiecesText, IsFullNameBy, IsInnerName, IsPieceText, IsTypeSpecText}
 use Rattle.std.specs.Bool.{Decides}
-use Rattle.std.proofs.lemmas.Bool.{cases_eq, cases_lt}
 use denote.Enum.Bare.{same_true, true_same}
-use Rattle.table_schema.specs.declared.table.TableId.{TableId}
-use Rattle.table_schema.specs.declared.table.TableId.TheVariants.{TypeDef, TypeRef, TypeSpec, NestedClass, ModuleRef, AssemblyRef}
 use Rattle.table_schema.specs.contracts.table.TableId as tables
 use Rattle.table_schema.specs.contracts.table.TableIdPartialEq.TheImpl as equal
-use Rattle.table_schema.specs.declared.token.Token.{Token}
-use Rattle.table_schema.specs.declared.column.ColumnKind.{ColumnKind}
 use Rattle.table_schema.specs.declared.column.ColumnKind.TheVariants as kind
 use Rattle.table_schema.specs.declared.column.SigKind.TheVariants as column
 use Rattle.table_schema.specs.declared.coded.Coded.TheVariants as coded
-use Rattle.table_schema.specs.CellColumns.{cell_columns, cell_count}
-use Rattle.sig_grammar.specs.Syntax.{Body}
-use Rattle.sig_text.specs.SignatureText.{Piece, word, number, signed, name, method_name, generic_params, param_flags, param_name, text_of}
-use Rattle.metadata.specs.Cell.{Cell, Text, Ref}
-use Rattle.metadata.specs.Kinds.{IsOfKind}
 use Rattle.metadata.specs.KeyOrder.{IsKeyOrdered, key_in}
-use Rattle.metadata.specs.Lookups.{HasRow, IsKeyCell}
-use Rattle.metadata.specs.Metadata.{Metadata, cell_in, count_in}
-use Rattle.metadata.specs.Valid.{IsValid, MayRefer, kind_at, nullable_at}
-use Rattle.navigation.specs.Nesting.{IsEnclosed, IsFirstNesting, IsNesting, IsScope, type_token}
-use Rattle.full_names.specs.declared.limit.Scopes.{Scopes}
-use Rattle.full_names.specs.declared.limit.Scopes.TheVariants.{Omitted, Written}
-use Rattle.full_names.specs.Quoted.{type_text}
-use Rattle.full_names.specs.Names.{IsChainText, IsOuter, IsOwnText, IsTypeDefText, IsTypeRefText}
-use Rattle.full_names.specs.Scopes.{IsScopeIn, IsScopeText, IsScopeWithin, IsTypeRefName, IsTypeScope, in_brackets}
-use Rattle.full_names.specs.Texts.{ArePiecesText, IsFullNameBy, IsInnerName, IsPieceText, IsTypeSpecText}
 use Rattle.full_names.proofs.PieceLemmas.{same_signature, signature_of}
 use Rattle.full_names.proofs.PlainPieces.{ArePlain, IsPlain, text_is_plain}
 

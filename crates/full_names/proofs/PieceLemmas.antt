@@ -1,29 +1,13 @@
 -- The bytes of a signature, and what follows from the result of a writer.
 use Rattle.std.proofs.Common.{◌≡◌, ◌<◌, ℕ, Bool, true, List, Option, Some, None, Result, Ok, Err, OnOk, IfSome, IfNone, refl, sym, ap, subst, ◌∙◌}
-use Rattle.std.specs.Prelude.{is_ok}
-use Rattle.table_schema.specs.CellColumns.{cell_count}
-use Rattle.table_schema.specs.declared.table.TableId.{TableId}
-use Rattle.table_schema.specs.declared.table.TableId.TheVariants.{TypeDef, TypeRef, TypeSpec}
-use Rattle.table_schema.specs.declared.token.Token.{Token}
+use Rattle.full_names.proofs.Prelude.{is_ok, cell_count, TableId, TypeDef, TypeRef, TypeSpec, Token, ColumnKind, Body, Method, Slot, method_body, property, Encodes, Holds, IsEncodable, short, Cell, Sig, IsHeld, IsOfKind, HasRow, Metadata, cell_in, IsValid, kind_at, WritesInCalls, Scopes, Wrote, IsFullNameBy, IsTypeSpecText}
 use Rattle.table_schema.specs.declared.column.SigKind.{SigKind}
 use Rattle.table_schema.specs.declared.column.SigKind.TheVariants as columns
-use Rattle.table_schema.specs.declared.column.ColumnKind.{ColumnKind}
 use Rattle.table_schema.specs.declared.column.ColumnKind.TheVariants as kind
-use Rattle.sig_grammar.specs.Syntax.{Body, Method, Slot, method_body, property}
-use Rattle.sig_grammar.specs.Encodes.{Encodes, Holds, IsEncodable, short}
-use Rattle.metadata.specs.Cell.{Cell, Sig}
-use Rattle.metadata.specs.Kinds.{IsHeld, IsOfKind}
-use Rattle.metadata.specs.Lookups.{HasRow}
-use Rattle.metadata.specs.Metadata.{Metadata, cell_in}
-use Rattle.metadata.specs.Valid.{IsValid, kind_at}
 use Rattle.metadata_source.specs.declared.signature_bytes.SignatureBytes.{SignatureBytes}
 use Rattle.metadata_source.specs.declared.signature_bytes.SignatureBytes.TheVariants.{Stored, Canonical}
 use Rattle.metadata_source.specs.SignatureBytes.{AreBytesOf}
-use Rattle.std.specs.Fmt.{WritesInCalls}
-use Rattle.full_names.specs.declared.limit.Scopes.{Scopes}
-use Rattle.full_names.specs.Names.{Wrote}
 use Rattle.full_names.specs.SignatureBytes.{bytes_in}
-use Rattle.full_names.specs.Texts.{IsFullNameBy, IsTypeSpecText}
 use Rattle.full_names.specs.declared.text_error.TextError.{TextError}
 use Rattle.full_names.proofs.TextLemmas.{writes_once}
 

@@ -4,8 +4,7 @@ use Rattle.std.specs.Prelude.{⊤, if◌then◌else◌, codes, slice_get, drop}
 use Rattle.sig_grammar.specs.declared.types.Modifier.{Modifier}
 use Rattle.sig_grammar.specs.declared.body.Prefix.{Prefix}
 use Rattle.sig_grammar.specs.declared.body.Prefix.TheVariants.{Mod, Pinned}
-use Rattle.sig_grammar.specs.Syntax.{Core, simple, void_pointer, pointer, vector, array, class, value, var, mvar, instance, function, Typed, typed, Types, no_types, type_then, Content, typed_ref, plain, by_ref, Slot, slot, Slots, no_slots, slot_then, Ret, some_ret, void_ret, Method, method, ArrayShape, LocalVariable, local, Body, field, method_body, property, locals, instance_body, type_spec}
-use Rattle.sig_text.specs.SignatureText.{Piece, word, number, method_name, generic_params, param_flags, param_name, listed, comma, following, modifier_text, modifiers_text, prefix_text, dimension_text, dimensions_text, mark_text, written_dimensions, rank_text, shape_text, flag_text, call_text, arity_text, sentinel_text, sentinel_after, core_text, typed_text, types_text, content_text, slot_text, slots_text, ret_text, method_text, local_text, text_of}
+use Rattle.full_names.proofs.Prelude.{Core, simple, void_pointer, pointer, vector, array, class, value, var, mvar, instance, function, Typed, typed, Types, no_types, type_then, Content, typed_ref, plain, by_ref, Slot, slot, Slots, no_slots, slot_then, Ret, some_ret, void_ret, Method, method, ArrayShape, LocalVariable, local, Body, field, method_body, property, locals, instance_body, type_spec, Piece, word, number, method_name, generic_params, param_flags, param_name, listed, comma, following, modifier_text, modifiers_text, prefix_text, dimension_text, dimensions_text, mark_text, written_dimensions, rank_text, shape_text, flag_text, call_text, arity_text, sentinel_text, sentinel_after, core_text, typed_text, types_text, content_text, slot_text, slots_text, ret_text, method_text, local_text, text_of}
 
 abbrev pub IsPlain : Piece → Type 0
 IsPlain method_name = ⊥

@@ -3,22 +3,17 @@ use Rattle.std.proofs.Common.{◌≡◌, ◌∙◌, ℕ, zero, suc, ◌+◌, ◌
 use lib.Ieee.Fits.{and_l, and_r}
 use Rattle.std.specs.Prelude.{◌&&◌, ◌||◌, ◌==◌, not, nat_le, codes, if◌then◌else◌, slice_get, Option, Some, None}
 use Rattle.std.specs.Char.{is_ascii_digit}
-use Rattle.std.specs.Fmt.{digit_glyph}
-use Rattle.std.specs.List.{All, flat_map, list_all}
+use Rattle.full_names.proofs.Prelude.{digit_glyph, All, flat_map, list_all, and_from, and_parts, cases_Bool, or_cases, or_left, or_right, drop_all, drop_more, Identifier, Dotted, Member, EndsName, begins_identifier, holds_after, is_dotted_from, position_after, is_dotted, is_identifier, is_in_identifier, is_name_byte, is_of_kind, is_verbatim, is_word, name_text, quoted_byte, quoted_bytes, type_text}
 use Rattle.std.specs.Str.{bytes_eq}
-use Rattle.std.proofs.lemmas.Bool.{and_from, and_parts, cases_Bool, or_cases, or_left, or_right}
 use Rattle.std.proofs.lemmas.Bool.Decides.{nat_tests}
 use Rattle.std.proofs.lemmas.Fmt.{hex_byte}
 use Rattle.std.proofs.lemmas.List.Elements.{All-head, All-tail}
-use Rattle.std.proofs.lemmas.List.{drop_all, drop_more}
 use Rattle.std.proofs.lemmas.Slice.Eq.{bytes_eq-Decides}
 use Rattle.table_schema.specs.Tokens.{hexadecimal}
 use Rattle.full_names.specs.declared.quoted.TheConstants.{ROLES}
 use Rattle.full_names.specs.declared.quoted.NameKind.{NameKind}
-use Rattle.full_names.specs.declared.quoted.NameKind.TheVariants.{Identifier, Dotted, Member}
 use Rattle.full_names.specs.declared.quoted.Position.{Position}
 use Rattle.full_names.specs.declared.quoted.Position.TheVariants.{Start, Within}
-use Rattle.full_names.specs.Quoted.{EndsName, begins_identifier, holds_after, is_dotted_from, position_after, is_dotted, is_identifier, is_in_identifier, is_name_byte, is_of_kind, is_verbatim, is_word, name_text, quoted_byte, quoted_bytes, type_text}
 
 -- ---- positions in a dotted name
 

@@ -1,17 +1,6 @@
 -- The name of a row, from that of its table.
 use Rattle.std.proofs.Common.{◌≡◌, ℕ, ◌≤◌, false, List, Option, None, refl, subst, sym, arith}
-use Rattle.table_schema.specs.declared.table.TableId.{TableId}
-use Rattle.table_schema.specs.declared.table.TableId.TheVariants.{TypeDef, TypeRef, TypeSpec, Field, MethodDef, Event, Property, MemberRef, ModuleRef, AssemblyRef, File, ExportedType, GenericParam}
-use Rattle.std.specs.Prelude.{codes}
-use Rattle.table_schema.specs.declared.token.Token.{Token}
-use Rattle.table_schema.specs.CellColumns.{cell_columns}
-use Rattle.metadata.specs.Cell.{Cell, Ref}
-use Rattle.metadata.specs.Lookups.{HasRow}
-use Rattle.metadata.specs.Metadata.{Metadata, cell_in, count_in}
-use Rattle.metadata.specs.Valid.{IsValid, MayRefer}
-use Rattle.full_names.specs.declared.limit.Scopes.{Scopes}
-use Rattle.full_names.specs.RowNames.{IsMemberOf, IsNameIn, IsNameUnder, IsPlainName, IsRowNameBy}
-use Rattle.full_names.specs.Texts.{IsMemberName}
+use Rattle.full_names.proofs.Prelude.{TableId, TypeDef, TypeRef, TypeSpec, Field, MethodDef, Event, Property, MemberRef, ModuleRef, AssemblyRef, File, ExportedType, GenericParam, codes, Token, cell_columns, Cell, Ref, HasRow, Metadata, cell_in, count_in, IsValid, MayRefer, Scopes, IsMemberOf, IsNameIn, IsNameUnder, IsPlainName, IsRowNameBy, IsMemberName}
 
 -- a row of a table that is none of these has a plain name
 pub plain_name : (scopes : Scopes) (model : Metadata) (table : TableId) (row : ℕ) (text : List ℕ) → (table ≡ TypeDef → ⊥) → (table ≡ TypeRef → ⊥) → (table ≡ TypeSpec → ⊥) → (table ≡ Field → ⊥)

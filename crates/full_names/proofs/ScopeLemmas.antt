@@ -1,16 +1,6 @@
 -- The scope of a chain of types, and its text before a name.
 use Rattle.std.proofs.Common.{◌≡◌, ℕ, zero, suc, ◌-◌, List, [], ◌++◌, Option, None, OnOk, Result, inl, inr, refl, subst, arith}
-use Rattle.table_schema.specs.declared.table.TableId.{TableId}
-use Rattle.table_schema.specs.declared.table.TableId.TheVariants.{TypeRef, ModuleRef, AssemblyRef}
-use Rattle.table_schema.specs.declared.token.Token.{Token}
-use Rattle.metadata.specs.Cell.{Ref}
-use Rattle.metadata.specs.Metadata.{Metadata, cell_in}
-use Rattle.navigation.specs.Nesting.{IsScope}
-use Rattle.std.specs.declared.fmt.Error.{Error}
-use Rattle.full_names.specs.declared.limit.Scopes.{Scopes}
-use Rattle.full_names.specs.declared.limit.Scopes.TheVariants.{Omitted, Written}
-use Rattle.full_names.specs.Names.{IsTypeRefText, Wrote}
-use Rattle.full_names.specs.Scopes.{IsScopeIn, IsScopeWithin, IsTypeRefName, IsTypeScope}
+use Rattle.full_names.proofs.Prelude.{TableId, TypeRef, ModuleRef, AssemblyRef, Token, Ref, Metadata, cell_in, IsScope, Error, Scopes, Omitted, Written, IsTypeRefText, Wrote, IsScopeIn, IsScopeWithin, IsTypeRefName, IsTypeScope}
 use Rattle.full_names.proofs.PieceLemmas.{ok_then}
 use Rattle.full_names.proofs.TextLemmas.{writes_append}
 

@@ -1,9 +1,6 @@
 -- What a writer took, from the pieces that a sink received.
-use Rattle.std.proofs.Common.{ℕ, Bool, true, false, List, [], ◌∷◌, ◌++◌, refl}
-use Rattle.sig_text.specs.SignatureText.{Piece}
+use Rattle.full_names.proofs.Prelude.{ℕ, Bool, true, false, List, [], ◌∷◌, ◌++◌, refl, Piece, Wrote, ArePiecesText}
 use Rattle.sig_text.specs.Receives.{Receives, nothing, refused, taken}
-use Rattle.full_names.specs.Names.{Wrote}
-use Rattle.full_names.specs.Texts.{ArePiecesText}
 use Rattle.full_names.proofs.NameExists.{HasText}
 use Rattle.full_names.proofs.TextLemmas.{writes_append, writes_nothing, writes_once}
 

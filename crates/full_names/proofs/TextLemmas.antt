@@ -1,13 +1,7 @@
 -- The text of a chain of types, from the texts that were written one after another.
 use Rattle.std.proofs.Common.{◌≡◌, ◌<◌, ◌≤◌, ℕ, zero, suc, ◌+◌, ◌-◌, drop, get_or, length, take, List, [], ◌∷◌, ◌++◌, append-nil, inl, inr, OnOk, Ok, Err, Result, refl, sym, ◌∙◌, ap, subst, arith}
 use Rattle.std.proofs.lemmas.List.Folds.{concat-append}
-use Rattle.std.proofs.lemmas.Grind.{flat_map-append}
-use Rattle.std.proofs.lemmas.List.{take-append-drop, take_all, take_more}
-use Rattle.std.specs.List.{FoldsTo, concat, flat_map}
-use Rattle.std.specs.Prelude.{codes}
-use Rattle.std.specs.Fmt.{WritesInCalls}
-use Rattle.std.specs.declared.fmt.Error.{Error}
-use Rattle.full_names.specs.Names.{IsChainText, Wrote}
+use Rattle.full_names.proofs.Prelude.{flat_map-append, take-append-drop, take_all, take_more, FoldsTo, concat, flat_map, codes, WritesInCalls, Error, IsChainText, Wrote}
 
 module _ {W : Type 0} (took : W → List ℕ → W → Type 0) where
   folds_append : (w : W) (xs : List (List ℕ)) (v : W) (ys : List (List ℕ)) (u : W) → FoldsTo took w xs v → FoldsTo took v ys u → FoldsTo took w (xs ++ ys) u

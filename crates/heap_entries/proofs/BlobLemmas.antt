@@ -1,7 +1,5 @@
 -- What an index of a blob names in its heap.
-use Rattle.std.proofs.Common.{◌≡◌, ℕ, ◌<◌, List, ◌++◌, drop, inl, inr, ap, ◌∙◌, arith}
-use Rattle.std.proofs.lemmas.List.{drop_at}
-use Rattle.heap_entries.specs.Entries.{IsCounted, IsBlob}
+use Rattle.heap_entries.proofs.Prelude.{◌≡◌, ℕ, ◌<◌, List, ◌++◌, drop, inl, inr, ap, ◌∙◌, arith, drop_at, IsCounted, IsBlob}
 
 -- after the offset follow the packed length, the bytes and the remainder of the heap
 pub counted_behind : (heap : List ℕ) (index : ℕ) (bytes : List ℕ) → (e : IsCounted heap index bytes) → drop index heap ≡ e.count ++ (bytes ++ e.after)

@@ -1,9 +1,6 @@
 -- An index into a heap refers to at most one entry.
-use Rattle.std.proofs.Common.{◌≡◌, ℕ, List, ◌∷◌, ◌++◌, length, take, drop, get_or, Option, Some, None, inl, inr, refl, sym, ap, ◌∙◌, arith}
-use Rattle.std.proofs.lemmas.List.{take_at}
+use Rattle.heap_entries.proofs.Prelude.{◌≡◌, ℕ, List, ◌∷◌, ◌++◌, length, take, drop, get_or, Option, Some, None, inl, inr, refl, sym, ap, ◌∙◌, arith, take_at, IsCounted, IsText, IsBlob, IsGuid, IsUserString, UserText, user_text}
 use Rattle.packed.specs.Packed.{IsPacked}
-use Rattle.heap_entries.specs.Entries.{IsCounted, IsText, IsBlob, IsGuid, IsUserString, UserText}
-use Rattle.heap_entries.specs.UserView.{user_text}
 use Rattle.heap_entries.proofs.TextLemmas.{text_same}
 use Rattle.heap_entries.proofs.BlobLemmas.{blob_counted, counted_behind}
 use Rattle.heap_entries.proofs.GuidLemmas.{guid_is}

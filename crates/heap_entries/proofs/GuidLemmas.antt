@@ -1,7 +1,5 @@
 -- What an index of a GUID names in its heap.
-use Rattle.std.proofs.Common.{◌≡◌, ℕ, ◌-◌, ◌*◌, ◌<◌, ◌≤◌, List, ◌++◌, length, take, drop, Option, Some, None, sym, ap, ◌∙◌, arith}
-use Rattle.std.proofs.lemmas.List.{take-append-drop, drop_at, take_at, length-take-le}
-use Rattle.heap_entries.specs.Entries.{IsGuidEntry, IsGuid}
+use Rattle.heap_entries.proofs.Prelude.{◌≡◌, ℕ, ◌-◌, ◌*◌, ◌<◌, ◌≤◌, List, ◌++◌, length, take, drop, Option, Some, None, sym, ap, ◌∙◌, arith, take-append-drop, drop_at, take_at, length-take-le, IsGuidEntry, IsGuid}
 
 -- the sixteen bytes at the offset of an entry are that entry
 pub guid_stands : (heap : List ℕ) (number start : ℕ) (tail guid : List ℕ) → start ≡ 16 * (number - 1) → start ≤ length heap → tail ≡ drop start heap → 16 ≤ length tail → guid ≡ take 16 tail → IsGuidEntry heap number guid

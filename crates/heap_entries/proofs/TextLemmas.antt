@@ -1,9 +1,5 @@
 -- The offset of a text in the strings heap.
-use Rattle.std.proofs.Common.{◌≡◌, ◌≢◌, ℕ, ◌+◌, ◌<◌, ◌≤◌, List, ◌∷◌, ◌++◌, length, take, drop, slice_index, IsUtf8, inl, inr, refl, sym, ap, subst, ◌∙◌, ⊎_elim, arith, length-append}
-use Rattle.std.proofs.lemmas.Bool.{cases_lt}
-use Rattle.std.proofs.lemmas.List.{take-append-drop, get_or-take, drop_more, drop_at, take_at, get_or_append_left, get_or_at, length-take-le}
-use Rattle.std.proofs.lemmas.List.Elements.{All-from_get_or}
-use Rattle.heap_entries.specs.Entries.{IsEnded, IsText}
+use Rattle.heap_entries.proofs.Prelude.{◌≡◌, ◌≢◌, ℕ, ◌+◌, ◌<◌, ◌≤◌, List, ◌∷◌, ◌++◌, length, take, drop, slice_index, IsUtf8, inl, inr, refl, sym, ap, subst, ◌∙◌, ⊎_elim, arith, length-append, cases_lt, take-append-drop, get_or-take, drop_more, drop_at, take_at, get_or_append_left, get_or_at, length-take-le, All-from_get_or, IsEnded, IsText}
 
 -- the bytes from the index up to the first NUL satisfy `IsEnded`
 pub ended_from : (heap : List ℕ) (index n : ℕ) → index ≤ length heap → n < length (drop index heap) → ((k : ℕ) → k < n → slice_index (drop index heap) k ≢ 0) → slice_index (drop index heap) n ≡ 0 → IsEnded heap index (take n (drop index heap))

@@ -1,10 +1,6 @@
 -- The units and the last byte of a user string.
-use Rattle.std.proofs.Common.{◌≡◌, ℕ, suc, ◌+◌, ◌-◌, ◌*◌, ◌/◌, ◌%◌, ◌<◌, ◌≤◌, List, [], ◌∷◌, ◌++◌, length, drop, flat_map, get_or, slice_get, Option, Some, inl, inr, refl, sym, ap, subst, ◌∙◌, ⊎_elim, arith}
-use Rattle.std.proofs.lemmas.Bool.{cases_lt}
-use Rattle.std.proofs.lemmas.List.{get_or_append_left, get_or-append-add, get_or_past}
-use Rattle.heap_entries.specs.Entries.{IsCounted, IsBlob, UserText, EncodesUserText}
+use Rattle.heap_entries.proofs.Prelude.{◌≡◌, ℕ, suc, ◌+◌, ◌-◌, ◌*◌, ◌/◌, ◌%◌, ◌<◌, ◌≤◌, List, [], ◌∷◌, ◌++◌, length, drop, flat_map, get_or, slice_get, Option, Some, inl, inr, refl, sym, ap, subst, ◌∙◌, ⊎_elim, arith, cases_lt, get_or_append_left, get_or-append-add, get_or_past, IsCounted, IsBlob, UserText, EncodesUserText, units_in, last_of, user_text}
 use Rattle.heap_entries.specs.Units.{unit_bytes}
-use Rattle.heap_entries.specs.UserView.{units_in, last_of, user_text}
 
 -- every element is a byte
 abbrev pub AreBytes : List ℕ → Type 0

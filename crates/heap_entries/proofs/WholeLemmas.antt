@@ -1,17 +1,8 @@
 -- Texts in a heap that is UTF-8 as a whole, and what follows from the offset of its last NUL.
-use Rattle.std.proofs.Common.{◌≡◌, ◌≢◌, ℕ, suc, zero, ◌+◌, ◌-◌, ◌<◌, ◌≤◌, List, [], ◌∷◌, ◌++◌, length, take, drop, slice_index, IsUtf8, Option, Some, None, is_some, Result, Ok, Err, MatchResult, sym, ap, subst, ◌∙◌, arith, length-drop, ⊎_elim, inl, inr}
+use Rattle.heap_entries.proofs.Prelude.{◌≡◌, ◌≢◌, ℕ, suc, zero, ◌+◌, ◌-◌, ◌<◌, ◌≤◌, List, [], ◌∷◌, ◌++◌, length, take, drop, slice_index, IsUtf8, Option, Some, None, is_some, Result, Ok, Err, MatchResult, sym, ap, subst, ◌∙◌, arith, length-drop, ⊎_elim, inl, inr, is_utf8, IsCharBoundary, IfSome, IsCharBoundary-start, IsCharBoundary-from_rest, IsCharBoundary-before_ascii, IsUtf8-between, IsUtf8-from_is_utf8, is_utf8-from_IsUtf8, get_or-drop, take-append-drop, length-take-le, All-cons, cases_lt, eqb-true, false_from_ne_true, IsLastByte, is_byte, heap_of, IsWhole, IsKnown, IsEnded, IsText, HasNoNul}
 use Rattle.std.specs.Borrow.{Bor}
 use Rattle.std.specs.Result.{result_ok}
-use Rattle.std.specs.Str.{is_utf8}
-use Rattle.std.specs.Prelude.{IsCharBoundary, IfSome}
-use Rattle.std.proofs.lemmas.Str.{IsCharBoundary-start, IsCharBoundary-from_rest, IsCharBoundary-before_ascii, IsUtf8-between, IsUtf8-from_is_utf8, is_utf8-from_IsUtf8}
-use Rattle.std.proofs.lemmas.List.{get_or-drop, take-append-drop, length-take-le}
-use Rattle.std.proofs.lemmas.List.Elements.{All-cons}
-use Rattle.std.proofs.lemmas.Bool.{cases_lt, eqb-true, false_from_ne_true}
-use Rattle.memchr.specs.Find.{IsLastByte, is_byte}
 use Rattle.heap_entries.specs.declared.strings.Strings.TheInside.{Inside}
-use Rattle.heap_entries.specs.StringsView.{heap_of, IsWhole, IsKnown}
-use Rattle.heap_entries.specs.Entries.{IsEnded, IsText, HasNoNul}
 use Rattle.heap_entries.proofs.TextLemmas.{ended_length, nul_behind, tail_is, bytes_are}
 
 -- what is known of the whole heap as a text

@@ -1,19 +1,6 @@
 -- The offset of a blob in its heap.
-use Rattle.std.proofs.Common.{◌≡◌, ℕ, ◌+◌, ◌<◌, max, true, false, ◌||◌, cond, true≢false, ◌↔◌, nat_eq, List, [], ◌∷◌, ◌++◌, length, map, flat_map, Vec, Option, Some, None, IfSome, IfNone, refl, sym, ap, ◌∙◌, ⊎_elim, arith, length-append}
-use Rattle.std.proofs.lemmas.Bool.{cases_Bool}
-use Rattle.std.proofs.lemmas.Cmp.{nat_list_eq_equiv}
-use Rattle.std.proofs.lemmas.List.{append-nil}
-use Rattle.std.proofs.lemmas.List.Concat.{flat_map-append}
-use Rattle.std.specs.Cmp.Lexicographic.{pointwise}
-use Rattle.std.specs.Map.{keys_of, values_of, lookup}
-use Rattle.std.specs.Str.{bytes_eq}
-use Rattle.packed.specs.Packed.{short_unsigned}
-use Rattle.heap_pools.specs.BlobHeap.{blob_from, blob_heap, blob_index, counted}
-use Rattle.heaps.specs.BlobPoolView.{starts_from}
-use Rattle.heap_pools.specs.Distinct.{is_among, pooled}
-use Rattle.heaps.specs.FirstByte.{begun}
+use Rattle.heaps.proofs.Prelude.{◌≡◌, ℕ, ◌+◌, ◌<◌, max, true, false, ◌||◌, cond, true≢false, ◌↔◌, nat_eq, List, [], ◌∷◌, ◌++◌, length, map, flat_map, Vec, Option, Some, None, IfSome, IfNone, refl, sym, ap, ◌∙◌, ⊎_elim, arith, length-append, cases_Bool, nat_list_eq_equiv, append-nil, flat_map-append, pointwise, keys_of, values_of, lookup, bytes_eq, short_unsigned, blob_from, blob_heap, blob_index, counted, starts_from, is_among, pooled, begun, pooled_new}
 use Rattle.heaps.proofs.FirstByteLemmas.{length-begun}
-use Rattle.heap_pools.proofs.DistinctLemmas.{pooled_new}
 
 -- the heap with one more blob
 pub blob_heap-push : (entries : List (List ℕ)) (blob : List ℕ) → blob_heap (entries ++ blob ∷ []) ≡ begun (blob_heap entries) ++ counted blob

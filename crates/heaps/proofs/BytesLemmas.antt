@@ -1,7 +1,6 @@
 -- The first byte of a heap, and bytes that are appended.
-use Rattle.std.proofs.Common.{◌≡◌, ◌≤◌, ℕ, max, List, [], ◌∷◌, ◌++◌, length, take, Result, Ok, Err, OnErr, refl, sym, ap, ◌∙◌, arith, length-append}
+use Rattle.heaps.proofs.Prelude.{◌≡◌, ◌≤◌, ℕ, max, List, [], ◌∷◌, ◌++◌, length, take, Result, Ok, Err, OnErr, refl, sym, ap, ◌∙◌, arith, length-append, begun}
 use Rattle.std.proofs.lemmas.List.{take_at, take-take}
-use Rattle.heaps.specs.FirstByte.{begun}
 
 pub length-begun : (heap : List ℕ) → length (begun heap) ≡ max (length heap) 1
 length-begun [] = refl

@@ -1,12 +1,8 @@
 -- Entries of a blob heap whose windows are equal (ECMA-335 II.24.2.4).
 use Rattle.std.proofs.Common.{◌≡◌, ℕ, ◌+◌, ◌-◌, ◌<◌, ◌≤◌, ◌⊎◌, List, [], ◌∷◌, ◌++◌, All, IsPermutation, length, take, drop, set, slice_index, sym, ap, subst, ◌∙◌, inr, ⊎_elim, arith, append_assoc, length-append, length-take-le, take-append-drop, take_at, drop_at, get_or-set_same, get_or-set_other}
-use Rattle.std.proofs.lemmas.Bool.{cases_eq}
-use Rattle.std.proofs.lemmas.List.Elements.{All-push}
+use Rattle.heaps.proofs.Prelude.{cases_eq, All-push, IsCounted, AreEarlierBlobs, IsKey, IsKeyAt, IsSameBlob, window}
 use Rattle.std.proofs.lemmas.List.Sorted.{All-permutation}
-use Rattle.heap_entries.specs.Entries.{IsCounted}
 use Rattle.heaps.specs.declared.overlaps.Key.{Key}
-use Rattle.heaps.specs.EqualBlobs.{AreEarlierBlobs, IsKey, IsKeyAt, IsSameBlob}
-use Rattle.heaps.specs.Windows.{window}
 use Rattle.heaps.proofs.WindowLemmas.{cover}
 
 pub entry_behind : (heap : List ℕ) (index : ℕ) (blob : List ℕ) (counted : IsCounted heap index blob) → drop index heap ≡ counted.count ++ (blob ++ counted.after)

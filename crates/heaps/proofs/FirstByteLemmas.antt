@@ -1,6 +1,5 @@
 -- The first byte of a heap, and bytes that are appended.
-use Rattle.std.proofs.Common.{◌≡◌, ℕ, max, List, [], ◌∷◌, length, refl, arith}
-use Rattle.heaps.specs.FirstByte.{begun}
+use Rattle.heaps.proofs.Prelude.{◌≡◌, ℕ, max, List, [], ◌∷◌, length, refl, arith, begun}
 
 pub length-begun : (heap : List ℕ) → length (begun heap) ≡ max (length heap) 1
 length-begun [] = refl

@@ -1,12 +1,6 @@
 -- The offset of a GUID in its heap.
-use Rattle.std.proofs.Common.{◌≡◌, ℕ, ◌+◌, ◌*◌, ◌^◌, ◌<◌, ◌≤◌, Bool, true, false, not, true≢false, ◌↔◌, IsTrue, nat_eq, All, List, [], ◌∷◌, ◌++◌, length, refl, sym, arith, ⊎_elim, length-append, subst}
-use Rattle.std.proofs.lemmas.List.Elements.{All-head, All-tail, All-cons, All-nil, All-append}
-use Rattle.std.proofs.lemmas.Bool.{cases_Bool, cases_lt}
-use Rattle.std.specs.Cmp.Lexicographic.{pointwise}
+use Rattle.heaps.proofs.Prelude.{◌≡◌, ℕ, ◌+◌, ◌*◌, ◌^◌, ◌<◌, ◌≤◌, Bool, true, false, not, true≢false, ◌↔◌, IsTrue, nat_eq, All, List, [], ◌∷◌, ◌++◌, length, refl, sym, arith, ⊎_elim, length-append, subst, All-head, All-tail, All-cons, All-nil, All-append, cases_Bool, cases_lt, pointwise, is_among, pooled, guid_heap, pooled_there, pooled_new}
 use Rattle.indexmap.specs.IndexSet.{insert_key}
-use Rattle.heap_pools.specs.Distinct.{is_among, pooled}
-use Rattle.heap_pools.specs.GuidHeap.{guid_heap}
-use Rattle.heap_pools.proofs.DistinctLemmas.{pooled_there, pooled_new}
 
 -- the length of a heap of GUIDs
 pub length-guid_heap : (guids : List (List ℕ)) → All (λ guid. length guid ≡ 16) guids → length (guid_heap guids) ≡ 16 * length guids

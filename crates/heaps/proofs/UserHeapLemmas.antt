@@ -1,13 +1,5 @@
 -- The heap of user strings, its lengths and its padding.
-use Rattle.std.proofs.Common.{◌≡◌, ℕ, zero, suc, ◌+◌, ◌-◌, ◌%◌, ◌*◌, ◌^◌, ◌<◌, ◌≤◌, max, true, false, List, [], ◌∷◌, ◌++◌, length, take, flat_map, replicate, Some, refl, sym, ap, subst, inl, inr, ⊎_elim, arith, length-append, append_assoc, nat_lt}
-use Rattle.std.proofs.lemmas.Bool.{cases_lt}
-use Rattle.std.proofs.lemmas.Bool.Decides.{nat_tests}
-use Rattle.packed.specs.Packed.{IsPacked, short_unsigned}
-use Rattle.heap_entries.specs.Entries.{IsUserString}
-use Rattle.heap_entries.specs.Padding.{zero_padded}
-use Rattle.heaps.specs.FirstByte.{begun}
-use Rattle.heap_entries.specs.Units.{unit_bytes}
-use Rattle.heaps.specs.UserEntries.{last_byte, user_length, user_entry}
+use Rattle.heaps.proofs.Prelude.{◌≡◌, ℕ, zero, suc, ◌+◌, ◌-◌, ◌%◌, ◌*◌, ◌^◌, ◌<◌, ◌≤◌, max, true, false, List, [], ◌∷◌, ◌++◌, length, take, flat_map, replicate, Some, refl, sym, ap, subst, inl, inr, ⊎_elim, arith, length-append, append_assoc, nat_lt, cases_lt, nat_tests, IsPacked, short_unsigned, IsUserString, zero_padded, begun, unit_bytes, last_byte, user_length, user_entry}
 use Rattle.heaps.proofs.BytesLemmas.{length-begun}
 
 pub length-units : (units : List ℕ) (last : ℕ) → length (flat_map unit_bytes units ++ last ∷ []) ≡ 2 * length units + 1

@@ -1,13 +1,5 @@
 -- What is encoded so is read: each form of a descriptor.
-use Rattle.std.proofs.Common.{◌≡◌, ℕ, true, Option, Some, None, List, [], ◌∷◌, refl}
-use Rattle.marshal_descriptors.specs.declared.native.Native.{Native}
-use Rattle.marshal_descriptors.specs.declared.native.Native.TheVariants.{Boolean}
-use Rattle.marshal_descriptors.specs.declared.descriptor.ArraySize.{ArraySize}
-use Rattle.marshal_descriptors.specs.declared.descriptor.ArraySize.TheVariants.{Unknown, Param, ParamAndCount, WithFlags}
-use Rattle.marshal_descriptors.specs.Codes.{native_code, native_of, is_interface}
-use Rattle.marshal_descriptors.specs.Values.{Descriptor, native, array, interface_of, fixed_string, fixed_array, safe_array, safe_array_of, safe_array_named, custom}
-use Rattle.marshal_descriptors.specs.Parts.{byte, number, text, AreParts, IsDescriptor, element_code, size_parts, parts_of, IsKnown}
-use Rattle.marshal_descriptors.specs.Reading.{flags_of, count_of, size_of, element_of, array_of, fixed_string_of, fixed_array_of, named_of, safe_of, custom_of, native_then, coded_of, descriptor_of}
+use Rattle.marshal_descriptors.proofs.Prelude.{◌≡◌, ℕ, true, Option, Some, None, List, [], ◌∷◌, refl, Native, Boolean, ArraySize, Unknown, Param, ParamAndCount, WithFlags, native_code, native_of, is_interface, Descriptor, native, array, interface_of, fixed_string, fixed_array, safe_array, safe_array_of, safe_array_named, custom, byte, number, text, AreParts, IsDescriptor, element_code, size_parts, parts_of, IsKnown, flags_of, count_of, size_of, element_of, array_of, fixed_string_of, fixed_array_of, named_of, safe_of, custom_of, native_then, coded_of, descriptor_of}
 use Rattle.marshal_descriptors.proofs.PartLemmas.{NumbersAreRead, number_again, number_there, text_again, text_there}
 
 native_again : (of : Native) → native_of (native_code of) ≡ Some of

@@ -1,16 +1,5 @@
 -- What is read is encoded so: each form of a descriptor.
-use Rattle.std.proofs.Common.{◌≡◌, ◌∙◌, ℕ, Option, Some, None, List, [], ◌∷◌, refl, sym, ap, subst}
-use Rattle.std.specs.Prelude.{◌==◌, if◌then◌else◌, option_map}
-use Rattle.std.proofs.lemmas.Bool.{cond_both, eqb-true}
-use Rattle.std.proofs.lemmas.Option.{option_and_then_some}
-use Rattle.marshal_descriptors.specs.declared.native.Native.{Native}
-use Rattle.marshal_descriptors.specs.declared.native.Native.TheVariants.{Boolean, I1, U1, I2, U2, I4, U4, I8, U8, R4, R8, LpStr, LpwStr, Int, Uint, Func, Currency, BStr, LptStr, IUnknown, IDispatch, Struct, Interface, ByValStr, AnsiBStr, TBStr, VariantBool, AsAny, LpStruct, Error, IInspectable, HString, LpUtf8Str}
-use Rattle.marshal_descriptors.specs.declared.descriptor.ArraySize.{ArraySize}
-use Rattle.marshal_descriptors.specs.declared.descriptor.ArraySize.TheVariants.{Unknown, Param, ParamAndCount, WithFlags}
-use Rattle.marshal_descriptors.specs.Codes.{native_code, native_of, pick, is_interface, ARRAY, FIXED_STRING, SAFE_ARRAY, FIXED_ARRAY, CUSTOM, MAX}
-use Rattle.marshal_descriptors.specs.Values.{Descriptor, native, array, interface_of, fixed_string, fixed_array, safe_array, safe_array_of, safe_array_named}
-use Rattle.marshal_descriptors.specs.Parts.{number, AreParts, IsDescriptor, element_code, size_parts}
-use Rattle.marshal_descriptors.specs.Reading.{at_end, number_at, text_at, flags_of, count_of, size_of, element_of, array_of, fixed_string_of, fixed_elements_of, fixed_array_of, named_of, safe_of, custom_by, custom_of, native_then, coded_of, descriptor_of}
+use Rattle.marshal_descriptors.proofs.Prelude.{◌≡◌, ◌∙◌, ℕ, Option, Some, None, List, [], ◌∷◌, refl, sym, ap, subst, ◌==◌, if◌then◌else◌, option_map, cond_both, eqb-true, option_and_then_some, Native, Boolean, I1, U1, I2, U2, I4, U4, I8, U8, R4, R8, LpStr, LpwStr, Int, Uint, Func, Currency, BStr, LptStr, IUnknown, IDispatch, Struct, Interface, ByValStr, AnsiBStr, TBStr, VariantBool, AsAny, LpStruct, Error, IInspectable, HString, LpUtf8Str, ArraySize, Unknown, Param, ParamAndCount, WithFlags, native_code, native_of, pick, is_interface, ARRAY, FIXED_STRING, SAFE_ARRAY, FIXED_ARRAY, CUSTOM, MAX, Descriptor, native, array, interface_of, fixed_string, fixed_array, safe_array, safe_array_of, safe_array_named, number, AreParts, IsDescriptor, element_code, size_parts, at_end, number_at, text_at, flags_of, count_of, size_of, element_of, array_of, fixed_string_of, fixed_elements_of, fixed_array_of, named_of, safe_of, custom_by, custom_of, native_then, coded_of, descriptor_of}
 use Rattle.marshal_descriptors.proofs.PartLemmas.{AreBytes, Begins, NumbersAreRead, end_some, map_some, number_found, text_found}
 
 -- ---- codes

@@ -1,3 +1,4 @@
 pub mod PartLemmas
 pub mod FormLemmas
 pub mod AgainLemmas
+pub mod Prelude

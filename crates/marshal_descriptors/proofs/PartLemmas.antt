@@ -1,17 +1,12 @@
 -- Parts that follow one another, and the readers of numbers and texts.
 use Rattle.std.proofs.lemmas.Bool.Decides.{nat_tests}
-use Rattle.std.proofs.Common.{◌≡◌, ◌∙◌, ℕ, zero, suc, ◌<◌, ◌≤◌, ◌^◌, length-append, Bool, true, false, cond, Option, Some, None, IfSome, List, [], ◌∷◌, ◌++◌, length, take, drop, get_or, append_assoc, refl, sym, ap, subst, arith}
-use Rattle.std.specs.Prelude.{⊤, nat_lt, option_map}
+use Rattle.marshal_descriptors.proofs.Prelude.{◌≡◌, ◌∙◌, ℕ, zero, suc, ◌<◌, ◌≤◌, ◌^◌, length-append, Bool, true, false, cond, Option, Some, None, IfSome, List, [], ◌∷◌, ◌++◌, length, take, drop, get_or, append_assoc, refl, sym, ap, subst, arith, ⊤, nat_lt, option_map, cond_both, option_and_then_some, Part, number, text, IsPart, AreParts, at_end, number_at, text_at, text_in}
 use Rattle.std.specs.Str.{is_utf8, IsUtf8}
-use Rattle.std.proofs.lemmas.Bool.{cond_both}
-use Rattle.std.proofs.lemmas.Option.{option_and_then_some}
 use Rattle.std.proofs.lemmas.List.{take-append-drop, length-take-le}
 use Rattle.std.proofs.lemmas.Str.{IsUtf8-from_is_utf8, is_utf8-from_IsUtf8}
 use Rattle.std.proofs.Math.Seq.{take-append_seam, drop-append_seam}
 use Rattle.packed.specs.Packed.{IsPacked}
 use Rattle.packed.specs.Prefix.{unsigned_at}
-use Rattle.marshal_descriptors.specs.Parts.{Part, number, text, IsPart, AreParts}
-use Rattle.marshal_descriptors.specs.Reading.{at_end, number_at, text_at, text_in}
 
 -- ---- the bytes of a text, as src/ finds them
 

@@ -1,7 +1,5 @@
 -- A file has a model if and only if all rules for it hold. It has at most one.
-use Rattle.std.proofs.Common.{◌≡◌, ℕ, ◌-◌, ◌^◌, ◌<◌, false, List, ◌++◌, slice_index, sym, ◌∙◌, subst, arith, inl, inr}
-use Rattle.packed.specs.Rule.{AllHold}
-use Rattle.packed.proofs.RuleLemmas.{all_append, all_prefix, all_back}
+use Rattle.metadata.proofs.Prelude.{◌≡◌, ℕ, ◌-◌, ◌^◌, ◌<◌, false, List, ◌++◌, slice_index, sym, ◌∙◌, subst, arith, inl, inr, AllHold, all_append, all_prefix, all_back, TableId, Metadata, count_in, rows_in, root_in, IsModel, IsEntryPoint, has_native_entry_point, IsModelOfFile, source_of, rules_of_metadata, rules_of_entry_point, rules_of_file}
 use Rattle.pe.specs.Image as pe
 use Rattle.pe.specs.Image.{Image}
 use Rattle.pe.specs.Headers.{image_of}
@@ -10,13 +8,6 @@ use Rattle.cli_header.specs.declared.header.CliHeader.{CliHeader}
 use Rattle.cli_header.specs.Header.{IsCliHeader}
 use Rattle.cli_header.specs.Said.{header_of}
 use Rattle.cli_header.specs.Rules.{rules_of_cli_header}
-use Rattle.table_schema.specs.declared.table.TableId.{TableId}
-use Rattle.metadata.specs.Metadata.{Metadata, count_in}
-use Rattle.metadata.specs.Source.{rows_in}
-use Rattle.metadata.specs.Streams.{root_in}
-use Rattle.metadata.specs.Model.{IsModel, IsEntryPoint, has_native_entry_point, IsModelOfFile}
-use Rattle.metadata.specs.SourceAt.{source_of}
-use Rattle.metadata.specs.Rules.{rules_of_metadata, rules_of_entry_point, rules_of_file}
 use Rattle.metadata.proofs.ModelLemmas.{part_bytes}
 
 -- what is known of images, CLI headers and roots

@@ -1,30 +1,8 @@
 -- The key numbers of a root are those of its model.
-use Rattle.std.proofs.Common.{◌≡◌, ℕ, zero, suc, ◌+◌, ◌-◌, ◌*◌, ◌^◌, ◌<◌, ◌≤◌, ◌⊎◌, Bool, true, false, not, List, [], ◌∷◌, get_or, length, refl, sym, ap, subst, ◌∙◌, inl, inr, ⊎_elim, Option, Some, None, arith, true≢false}
+use Rattle.metadata.proofs.Prelude.{◌≡◌, ℕ, zero, suc, ◌+◌, ◌-◌, ◌*◌, ◌^◌, ◌<◌, ◌≤◌, ◌⊎◌, Bool, true, false, not, List, [], ◌∷◌, get_or, length, refl, sym, ap, subst, ◌∙◌, inl, inr, ⊎_elim, Option, Some, None, arith, true≢false, position_or_len, cases_lt, not-true, cond_both, not-false, eqb-true, TableId, Module, Token, Coded, ColumnKind, tables, table_index_of, table_number, columns_of, column_at, key_of, IsReference, tables_of, tag_bits, IsCoded, is_padding, cell_count, column_of, is_table, Cell, Metadata, count_in, cell_in, Source, rows_in, number_of, start_of, StandsFor, Refers, IsCell, IsInOrder, IsKeyCell, kind_at, key_number, key_in, IsKeyOrdered}
 use Rattle.std.specs.Prelude.{slice_get}
-use Rattle.std.specs.List.{position_or_len}
-use Rattle.std.proofs.lemmas.Bool.{cases_lt, not-true, cond_both, not-false, eqb-true}
 use Rattle.std.proofs.lemmas.Bool.Decides.{nat_tests}
-use Rattle.table_schema.specs.declared.table.TableId.{TableId}
-use Rattle.table_schema.specs.declared.table.TableId.TheVariants.{Module}
-use Rattle.table_schema.specs.declared.token.Token.{Token}
-use Rattle.table_schema.specs.declared.coded.Coded.{Coded}
-use Rattle.table_schema.specs.declared.column.ColumnKind.{ColumnKind}
 use Rattle.table_schema.specs.declared.column.ColumnKind.TheVariants as kind
-use Rattle.table_schema.specs.Tables.{tables, table_index_of, table_number}
-use Rattle.table_schema.specs.Columns.{columns_of, column_at, key_of, IsReference}
-use Rattle.table_schema.specs.CodedIndexes.{tables_of, tag_bits, IsCoded}
-use Rattle.table_schema.specs.CellColumns.{is_padding, cell_count, column_of}
-use Rattle.sig_grammar.specs.Parts.{is_table}
-use Rattle.metadata.specs.Cell.{Cell}
-use Rattle.metadata.specs.Metadata.{Metadata, count_in, cell_in}
-use Rattle.metadata.specs.Source.{Source, rows_in, number_of}
-use Rattle.metadata.specs.Starts.{start_of}
-use Rattle.metadata.specs.Stands.{StandsFor, Refers}
-use Rattle.metadata.specs.Rows.{IsCell}
-use Rattle.metadata.specs.RowRules.{IsInOrder}
-use Rattle.metadata.specs.Lookups.{IsKeyCell}
-use Rattle.metadata.specs.Valid.{kind_at}
-use Rattle.metadata.specs.KeyOrder.{key_number, key_in, IsKeyOrdered}
 use Rattle.metadata.proofs.TableLemmas.{HaveCells}
 
 -- the laws of the tables

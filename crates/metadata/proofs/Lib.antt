@@ -1,6 +1,7 @@
 pub mod FileLemmas
 pub mod ItemLemmas
 pub mod ModelLemmas
+pub mod Prelude
 pub mod RowRuleLemmas
 pub mod Sample
 pub mod StandsLemmas

@@ -1,36 +1,13 @@
 -- A root has a model if and only if all rules for it hold. It has at most one.
 use Rattle.std.proofs.Common.{◌≡◌, ℕ, ◌+◌, ◌-◌, ◌^◌, ◌<◌, ◌≤◌, List, [], ◌++◌, length, drop, slice_index, slice_index_or, Option, Some, None, unwrap_or, refl, sym, ◌∙◌, ap, subst, arith, inl, inr}
-use Rattle.std.specs.Option.{option_map}
-use Rattle.std.proofs.lemmas.Bool.{cases_lt}
-use Rattle.std.proofs.lemmas.List.{get_or-take, get_or-drop, get_or_past, length-take}
-use Rattle.packed.specs.Rule.{AllHold, rebased}
+use Rattle.metadata.proofs.Prelude.{option_map, cases_lt, get_or-take, get_or-drop, get_or_past, length-take, AllHold, rebased, all_append, all_prefix, all_back, all_rebased, all_lowered, Tables, UserStrings, Header, RootRead, named, stream_name, zero_padded, TableId, Module, table_index_of, tables, Sizes, IsLaidOut, IsTableStream, numbers_at, Cell, Number, Metadata, rows_of, Source, rows_in, stream_in, source_in, cell_count, IsCell, IsRow, IsTable, IsTableAt, AreTables, table_at, AreByKey, AreOwned, AreNested, IsModel, SourceAt, tables_in, tables_offset, source_of, source_at, rules_of_cells, rules_of_order, rules_of_runs, rules_of_nesting, rules_of_signatures, rules_of_tables, rules_of_metadata}
 use Rattle.packed.specs.Offsets.{part}
-use Rattle.packed.proofs.RuleLemmas.{all_append, all_prefix, all_back, all_rebased, all_lowered}
 use Rattle.root.specs.declared.kind.Kind.{Kind}
-use Rattle.root.specs.declared.kind.Kind.TheVariants.{Tables, UserStrings}
-use Rattle.root.specs.Streams.{Header, RootRead, named, stream_name}
 use Rattle.root.specs.Fields.{root_read}
 use Rattle.root.specs.Root.{IsRoot}
 use Rattle.root.specs.Rules.{rules_of_root}
-use Rattle.heap_entries.specs.Padding.{zero_padded}
-use Rattle.table_schema.specs.declared.table.TableId.{TableId}
-use Rattle.table_schema.specs.declared.table.TableId.TheVariants.{Module}
-use Rattle.table_schema.specs.Tables.{table_index_of, tables}
-use Rattle.schema.specs.Sizes.{Sizes}
 use Rattle.schema.specs.Header.{sizes_of}
-use Rattle.schema.specs.LaidOut.{IsLaidOut, IsTableStream}
-use Rattle.schema.specs.Cells.{numbers_at}
 use Rattle.schema.specs.Rules.{rules_of_stream}
-use Rattle.metadata.specs.Cell.{Cell, Number}
-use Rattle.metadata.specs.Metadata.{Metadata, rows_of}
-use Rattle.metadata.specs.Source.{Source, rows_in}
-use Rattle.metadata.specs.Streams.{stream_in, source_in}
-use Rattle.table_schema.specs.CellColumns.{cell_count}
-use Rattle.metadata.specs.Rows.{IsCell, IsRow, IsTable, IsTableAt, AreTables, table_at}
-use Rattle.metadata.specs.RowRules.{AreByKey, AreOwned, AreNested}
-use Rattle.metadata.specs.Model.{IsModel}
-use Rattle.metadata.specs.SourceAt.{SourceAt, tables_in, tables_offset, source_of, source_at}
-use Rattle.metadata.specs.Rules.{rules_of_cells, rules_of_order, rules_of_runs, rules_of_nesting, rules_of_signatures, rules_of_tables, rules_of_metadata}
 use Rattle.metadata.proofs.ItemLemmas.{items_length, item_at}
 use Rattle.metadata.proofs.StandsLemmas.{AreOne}
 use Rattle.metadata.proofs.TableLemmas.{HaveCells, tables_found, cells_met, signatures_met, tables_one}

@@ -1,18 +1,9 @@
 -- The numbers by which key columns name rows.
 use Rattle.std.proofs.Common.{◌≡◌, ℕ, zero, suc, ◌+◌, ◌*◌, ◌^◌, ◌<◌, ◌≤◌, ◌⊎◌, inl, inr, Option, Some, None, slice_get, refl, sym, ap, subst, ◌∙◌, arith, add-one}
 use Rattle.std.proofs.Math.Nat.{mul-le-mul_right}
-use Rattle.std.proofs.lemmas.Nat.{pow_pos}
-use Rattle.std.proofs.lemmas.Bool.{cases_lt, cases_eq}
-use Rattle.std.proofs.lemmas.Option.{slice_get_within, slice_get-get_or}
-use Rattle.table_schema.specs.declared.table.TableId.{TableId}
-use Rattle.table_schema.specs.declared.token.Token.{Token}
-use Rattle.table_schema.specs.declared.coded.Coded.{Coded}
-use Rattle.table_schema.specs.declared.column.ColumnKind.{ColumnKind}
+use Rattle.metadata.proofs.Prelude.{pow_pos, cases_lt, cases_eq, slice_get_within, slice_get-get_or, TableId, Token, Coded, ColumnKind, tables_of, tag_bits, IsCoded, IsOfKind, row_number, key_number}
 use Rattle.table_schema.specs.declared.column.ColumnKind.TheVariants as kind
-use Rattle.table_schema.specs.CodedIndexes.{tables_of, tag_bits, IsCoded}
 use Rattle.metadata.specs.Cell as says
-use Rattle.metadata.specs.Kinds.{IsOfKind}
-use Rattle.metadata.specs.KeyOrder.{row_number, key_number}
 use Rattle.metadata.proofs.KeyLemmas.{KeysKnown, tag_is}
 
 -- a column of a kind names rows

@@ -1,15 +1,5 @@
 -- All rules for tables hold if and only if they are those of a valid model.
-use Rattle.std.proofs.Common.{◌≡◌, ℕ, ◌-◌, ◌<◌, ◌≤◌, ◌++◌, length, get_or, subst, arith}
-use Rattle.packed.specs.Rule.{AllHold}
-use Rattle.packed.proofs.RuleLemmas.{all_append, all_prefix, all_back, each_holds, all_of_each}
-use Rattle.table_schema.specs.declared.table.TableId.{TableId}
-use Rattle.table_schema.specs.declared.table.TableId.TheVariants.{Module, TypeDef, Field, MethodDef, Param, EventMap, Event, PropertyMap, Property, NestedClass}
-use Rattle.table_schema.specs.Tables.{tables, table_index_of}
-use Rattle.table_schema.specs.CellColumns.{cell_count}
-use Rattle.metadata.specs.Metadata.{Metadata, row_of, count_in, cell_in}
-use Rattle.metadata.specs.Lookups.{HasRow}
-use Rattle.metadata.specs.Rows.{table_at}
-use Rattle.metadata.specs.Valid.{IsValidAt, HasOwners, IsBehind, IsValid}
+use Rattle.metadata.proofs.Prelude.{◌≡◌, ℕ, ◌-◌, ◌<◌, ◌≤◌, ◌++◌, length, get_or, subst, arith, AllHold, all_append, all_prefix, all_back, each_holds, all_of_each, TableId, Module, TypeDef, Field, MethodDef, Param, EventMap, Event, PropertyMap, Property, NestedClass, tables, table_index_of, cell_count, Metadata, row_of, count_in, cell_in, HasRow, table_at, IsValidAt, HasOwners, IsBehind, IsValid}
 use Rattle.metadata.specs.Refusals.{refusals_of_count, refusals_of_counts, refusals_of_cell, refusals_of_row, refusals_of_table_at, refusals_of_cells, refusals_of_start, refusals_of_run, refusals_of_runs, refusals_of_nesting_in, refusals_of_nesting, refusals_of_signature, refusals_of_signatures_in, refusals_of_signatures_at, refusals_of_signatures, refusals_of}
 
 -- each table is at its table index

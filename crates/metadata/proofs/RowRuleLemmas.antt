@@ -1,16 +1,6 @@
 -- The rules beside those for cells hold if and only if the fault rules of order, runs and nesting hold.
-use Rattle.std.proofs.Common.{◌≡◌, ℕ, ◌-◌, Bool, true, false, List, ◌++◌, Option, Some, None, refl, arith}
+use Rattle.metadata.proofs.Prelude.{◌≡◌, ℕ, ◌-◌, Bool, true, false, List, ◌++◌, Option, Some, None, refl, arith, Rule, AllHold, rules_if, all_append, all_prefix, all_back, each_holds, all_of_each, TableId, TypeDef, Field, MethodDef, Param, EventMap, Event, PropertyMap, Property, NestedClass, key_of, rows_in, SourceAt, table_at, IsInOrder, is_said_sorted, IsByKey, AreByKey, IsOwned, AreOwned, AreNested, rules_of_key_in, rules_of_keys, rules_of_order_by, rules_of_order_at, rules_of_order, rules_of_start, rules_of_run, rules_of_runs, rules_of_nesting_in, rules_of_nesting}
 use Rattle.packed.specs.declared.fault.Fault.{Fault}
-use Rattle.packed.specs.Rule.{Rule, AllHold, rules_if}
-use Rattle.packed.proofs.RuleLemmas.{all_append, all_prefix, all_back, each_holds, all_of_each}
-use Rattle.table_schema.specs.declared.table.TableId.{TableId}
-use Rattle.table_schema.specs.declared.table.TableId.TheVariants.{TypeDef, Field, MethodDef, Param, EventMap, Event, PropertyMap, Property, NestedClass}
-use Rattle.table_schema.specs.Columns.{key_of}
-use Rattle.metadata.specs.Source.{rows_in}
-use Rattle.metadata.specs.SourceAt.{SourceAt}
-use Rattle.metadata.specs.Rows.{table_at}
-use Rattle.metadata.specs.RowRules.{IsInOrder, is_said_sorted, IsByKey, AreByKey, IsOwned, AreOwned, AreNested}
-use Rattle.metadata.specs.Rules.{rules_of_key_in, rules_of_keys, rules_of_order_by, rules_of_order_at, rules_of_order, rules_of_start, rules_of_run, rules_of_runs, rules_of_nesting_in, rules_of_nesting}
 
 -- order
 

@@ -1,15 +1,6 @@
 -- Models with the same parts are equal.
-use Rattle.std.proofs.Common.{◌≡◌, ℕ, suc, ◌+◌, ◌-◌, ◌<◌, List, [], ◌∷◌, length, get_or, map, refl, sym, ap, subst, ◌∙◌, arith}
-use Rattle.std.specs.List.{range_with_len}
+use Rattle.metadata.proofs.Prelude.{◌≡◌, ℕ, suc, ◌+◌, ◌-◌, ◌<◌, List, [], ◌∷◌, length, get_or, map, refl, sym, ap, subst, ◌∙◌, arith, range_with_len, get_or-map, TableId, Module, tables, table_index_of, Cell, Number, Metadata, rows_of, row_of, HasRow, table_at}
 use Rattle.std.proofs.lemmas.List.FromFn.{get_or-range_with_len}
-use Rattle.std.proofs.lemmas.List.{get_or-map}
-use Rattle.table_schema.specs.declared.table.TableId.{TableId}
-use Rattle.table_schema.specs.declared.table.TableId.TheVariants.{Module}
-use Rattle.table_schema.specs.Tables.{tables, table_index_of}
-use Rattle.metadata.specs.Cell.{Cell, Number}
-use Rattle.metadata.specs.Metadata.{Metadata, rows_of, row_of}
-use Rattle.metadata.specs.Lookups.{HasRow}
-use Rattle.metadata.specs.Rows.{table_at}
 use Rattle.metadata.specs.Same.{SaysSame}
 
 -- lists with the same items are equal

@@ -1,9 +1,5 @@
 -- Some values of the definitions.
-use Rattle.std.proofs.Common.{◌≡◌, [], ◌∷◌, refl}
-use Rattle.table_schema.specs.declared.table.TableId.TheVariants.{Module, TypeDef, Field, Constant}
-use Rattle.metadata.specs.Source.{Source, number_of}
-use Rattle.metadata.specs.Starts.{start_of}
-use Rattle.table_schema.specs.CellColumns.{cell_columns}
+use Rattle.metadata.proofs.Prelude.{◌≡◌, [], ◌∷◌, refl, Module, TypeDef, Field, Constant, Source, number_of, start_of, cell_columns}
 
 -- the second column of Constant is padding
 cells_of_constant : cell_columns Constant ≡ 0 ∷ 2 ∷ 3 ∷ []

@@ -1,25 +1,8 @@
 -- A number represents a cell if and only if all rules for it hold. It represents at most one.
-use Rattle.std.proofs.Common.{◌≡◌, ℕ, ◌^◌, ◌≤◌, length, Bool, true, false, List, Option, Some, None, refl, sym, ◌∙◌, ap, subst, arith, inl, inr}
+use Rattle.metadata.proofs.Prelude.{◌≡◌, ℕ, ◌^◌, ◌≤◌, length, Bool, true, false, List, Option, Some, None, refl, sym, ◌∙◌, ap, subst, arith, inl, inr, same_from_place, slice_get_within, AllHold, TableId, Token, Coded, SigKind, ColumnKind, tables_of, tag_bits, IsCoded, IsText, IsBlob, IsGuid, Body, Encodes, Cell, Number, Text, Bytes, Guid, Ref, Start, Sig, Source, Refers, StandsFor, is_padding, MayRefer, rules_of_number, rules_of_encoding}
 use Rattle.std.specs.List.{slice_get}
-use Rattle.std.proofs.lemmas.Nat.{same_from_place}
-use Rattle.std.proofs.lemmas.Option.{slice_get_within}
-use Rattle.packed.specs.Rule.{AllHold}
-use Rattle.table_schema.specs.declared.table.TableId.{TableId}
-use Rattle.table_schema.specs.declared.token.Token.{Token}
-use Rattle.table_schema.specs.declared.coded.Coded.{Coded}
-use Rattle.table_schema.specs.declared.column.SigKind.{SigKind}
-use Rattle.table_schema.specs.declared.column.ColumnKind.{ColumnKind}
 use Rattle.table_schema.specs.declared.column.ColumnKind.TheVariants as kind
-use Rattle.table_schema.specs.CodedIndexes.{tables_of, tag_bits, IsCoded}
-use Rattle.heap_entries.specs.Entries.{IsText, IsBlob, IsGuid}
 use Rattle.heap_entries.specs.Rules.{rules_of_text}
-use Rattle.sig_grammar.specs.Syntax.{Body}
-use Rattle.sig_grammar.specs.Encodes.{Encodes}
-use Rattle.metadata.specs.Cell.{Cell, Number, Text, Bytes, Guid, Ref, Start, Sig}
-use Rattle.metadata.specs.Source.{Source}
-use Rattle.metadata.specs.Stands.{Refers, StandsFor}
-use Rattle.table_schema.specs.CellColumns.{is_padding}
-use Rattle.metadata.specs.Rules.{MayRefer, rules_of_number, rules_of_encoding}
 
 -- references
 

@@ -1,17 +1,5 @@
 -- There are rows of all tables if and only if the rules for cells and signatures hold. There is only one such list.
-use Rattle.std.proofs.Common.{◌≡◌, ℕ, ◌+◌, ◌<◌, ◌≤◌, true, false, List, length, subst, arith, inl, inr}
-use Rattle.std.proofs.lemmas.Bool.{cases_Bool}
-use Rattle.packed.specs.Rule.{AllHold}
-use Rattle.packed.proofs.RuleLemmas.{each_holds, all_of_each}
-use Rattle.table_schema.specs.declared.table.TableId.{TableId}
-use Rattle.table_schema.specs.Columns.{columns_of, column_at}
-use Rattle.metadata.specs.Cell.{Cell}
-use Rattle.metadata.specs.Source.{Source, rows_in, number_of}
-use Rattle.metadata.specs.Starts.{start_of}
-use Rattle.metadata.specs.SourceAt.{SourceAt, cell_offset}
-use Rattle.table_schema.specs.CellColumns.{is_padding, cell_count, column_of}
-use Rattle.metadata.specs.Rows.{StandsIn, IsCell, IsRow, IsTable, IsTableAt, AreTables, table_at}
-use Rattle.metadata.specs.Rules.{rules_of_cell, rules_of_row, rules_of_table, rules_of_table_at, rules_of_cells, rules_of_signature, rules_of_signatures_in, rules_of_signatures_of, rules_of_signatures_at, rules_of_signatures}
+use Rattle.metadata.proofs.Prelude.{◌≡◌, ℕ, ◌+◌, ◌<◌, ◌≤◌, true, false, List, length, subst, arith, inl, inr, cases_Bool, AllHold, each_holds, all_of_each, TableId, columns_of, column_at, Cell, Source, rows_in, number_of, start_of, SourceAt, cell_offset, is_padding, cell_count, column_of, StandsIn, IsCell, IsRow, IsTable, IsTableAt, AreTables, table_at, rules_of_cell, rules_of_row, rules_of_table, rules_of_table_at, rules_of_cells, rules_of_signature, rules_of_signatures_in, rules_of_signatures_of, rules_of_signatures_at, rules_of_signatures}
 use Rattle.metadata.proofs.ItemLemmas.{item_of, items_of, items_one}
 use Rattle.metadata.proofs.StandsLemmas.{AreOne, stands_found, number_met, encoding_met, padding_met, stands_one}
 

@@ -1,41 +1,9 @@
 -- The model of a root is valid.
-use Rattle.std.proofs.Common.{◌≡◌, ℕ, zero, suc, ◌+◌, ◌-◌, ◌%◌, ◌^◌, ◌<◌, ◌≤◌, Bool, eqb, List, [], ◌∷◌, take, drop, length, get_or, Contains, IsUtf8, refl, sym, ap, subst, ◌∙◌, inl, inr, Option, Some, None, IfSome, lit<, arith, length-append}
+use Rattle.metadata.proofs.Prelude.{◌≡◌, ℕ, zero, suc, ◌+◌, ◌-◌, ◌%◌, ◌^◌, ◌<◌, ◌≤◌, Bool, eqb, List, [], ◌∷◌, take, drop, length, get_or, Contains, IsUtf8, refl, sym, ap, subst, ◌∙◌, inl, inr, Option, Some, None, IfSome, lit<, arith, length-append, option_map, cond_both, length-take, length-drop, length-replicate, Tables, UserStrings, Header, named, stream_name, HasNoNul, IsText, IsBlob, IsGuid, zero_padded, TableId, Module, TypeDef, Field, MethodDef, Param, EventMap, Event, PropertyMap, Property, NestedClass, Token, SigKind, ColumnKind, tables, table_index_of, columns_of, column_at, tables_of, Sizes, count_of, kind_width, width_of, IsLaidOut, HoldsCell, Body, Encodes, IsEncodable, tokens, Cell, Number, Ref, Start, Metadata, rows_of, row_of, count_in, cell_in, Source, rows_in, number_of, IsThere, start_from, start_of, StandsFor, Refers, stream_in, source_in, cell_columns, cell_count, column_of, IsCell, IsRow, IsTable, IsTableAt, IsOwned, IsModel, IsTo, IsOfKind, IsHeld, Names, IsWithinMembers, IsValidCell, IsValidAt, start_in, row_in, HasOwners, IsValid}
 use Rattle.std.specs.Prelude.{slice_get, unwrap_or, replicate}
-use Rattle.std.specs.Option.{option_map}
-use Rattle.std.proofs.lemmas.Bool.{cond_both}
-use Rattle.std.proofs.lemmas.List.{length-take, length-drop, length-replicate}
 use Rattle.std.proofs.lemmas.Str.{IsUtf8-nil}
 use Rattle.packed.specs.Packed.{IsPacked}
-use Rattle.root.specs.declared.kind.Kind.TheVariants.{Tables, UserStrings}
-use Rattle.root.specs.Streams.{Header, named, stream_name}
-use Rattle.heap_entries.specs.Entries.{HasNoNul, IsText, IsBlob, IsGuid}
-use Rattle.heap_entries.specs.Padding.{zero_padded}
-use Rattle.table_schema.specs.declared.table.TableId.{TableId}
-use Rattle.table_schema.specs.declared.table.TableId.TheVariants.{Module, TypeDef, Field, MethodDef, Param, EventMap, Event, PropertyMap, Property, NestedClass}
-use Rattle.table_schema.specs.declared.token.Token.{Token}
-use Rattle.table_schema.specs.declared.column.SigKind.{SigKind}
-use Rattle.table_schema.specs.declared.column.ColumnKind.{ColumnKind}
 use Rattle.table_schema.specs.declared.column.ColumnKind.TheVariants as kind
-use Rattle.table_schema.specs.Tables.{tables, table_index_of}
-use Rattle.table_schema.specs.Columns.{columns_of, column_at}
-use Rattle.table_schema.specs.CodedIndexes.{tables_of}
-use Rattle.schema.specs.Sizes.{Sizes, count_of, kind_width, width_of}
-use Rattle.schema.specs.LaidOut.{IsLaidOut}
-use Rattle.schema.specs.Cells.{HoldsCell}
-use Rattle.sig_grammar.specs.Syntax.{Body}
-use Rattle.sig_grammar.specs.Encodes.{Encodes, IsEncodable, tokens}
-use Rattle.metadata.specs.Cell.{Cell, Number, Ref, Start}
-use Rattle.metadata.specs.Metadata.{Metadata, rows_of, row_of, count_in, cell_in}
-use Rattle.metadata.specs.Source.{Source, rows_in, number_of, IsThere}
-use Rattle.metadata.specs.Starts.{start_from, start_of}
-use Rattle.metadata.specs.Stands.{StandsFor, Refers}
-use Rattle.metadata.specs.Streams.{stream_in, source_in}
-use Rattle.table_schema.specs.CellColumns.{cell_columns, cell_count, column_of}
-use Rattle.metadata.specs.Rows.{IsCell, IsRow, IsTable, IsTableAt}
-use Rattle.metadata.specs.RowRules.{IsOwned}
-use Rattle.metadata.specs.Model.{IsModel}
-use Rattle.metadata.specs.Kinds.{IsTo, IsOfKind, IsHeld}
-use Rattle.metadata.specs.Valid.{Names, IsWithinMembers, IsValidCell, IsValidAt, start_in, row_in, HasOwners, IsValid}
 use Rattle.metadata.proofs.ItemLemmas.{all_weaker, items_length, from_at}
 use Rattle.metadata.proofs.TableLemmas.{HaveCells}
 

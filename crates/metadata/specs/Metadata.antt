@@ -2,8 +2,7 @@
 use Rattle.std.specs.Prelude.{ℕ, ◌-◌, List, [], length, slice_index_or}
 use Rattle.table_schema.specs.declared.table.TableId.{TableId}
 use Rattle.table_schema.specs.Tables.{table_index_of}
-use Rattle.metadata.specs.Cell.{Cell}
-use Rattle.metadata.specs.Cell.{Number}
+use Rattle.metadata.specs.Cell.{Cell, Number}
 
 -- the version; the bytes of `#US`, padded to a multiple of four; and the rows of each table, in order of table number
 pub record Metadata : Type 0 where

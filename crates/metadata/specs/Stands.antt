@@ -9,8 +9,7 @@ use Rattle.table_schema.specs.CodedIndexes.{IsCoded}
 use Rattle.heap_entries.specs.Entries.{IsText, IsBlob, IsGuid}
 use Rattle.sig_grammar.specs.Syntax.{Body}
 use Rattle.sig_grammar.specs.Encodes.{Encodes, tokens}
-use Rattle.metadata.specs.Cell.{Cell}
-use Rattle.metadata.specs.Cell.{Number, Text, Bytes, Guid, Ref, Start, Sig}
+use Rattle.metadata.specs.Cell.{Cell, Number, Text, Bytes, Guid, Ref, Start, Sig}
 use Rattle.metadata.specs.Source.{Source, rows_in, IsThere}
 
 -- the cell is an existing row that a reference names, or null if the column allows null

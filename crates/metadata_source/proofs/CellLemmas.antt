@@ -1,12 +1,8 @@
 -- Each column has one cell at most.
-use Rattle.std.proofs.Common.{◌≡◌, ℕ, zero, suc, ◌+◌, ◌<◌, ◌≤◌, inl, inr, true, false, List, [], ◌∷◌, length, slice_index, refl, sym, ◌∙◌, ap, subst, arith}
-use Rattle.std.proofs.lemmas.Bool.{cases_Bool}
+use Rattle.metadata_source.proofs.Prelude.{◌≡◌, ℕ, zero, suc, ◌+◌, ◌<◌, ◌≤◌, inl, inr, true, false, List, [], ◌∷◌, length, slice_index, refl, sym, ◌∙◌, ap, subst, arith, cases_Bool, TableId, is_padding, indexes_from, cell_columns, column_of, IsKeyCell}
 use Rattle.std.proofs.lemmas.Option.{same_Some}
-use Rattle.table_schema.specs.declared.table.TableId.{TableId}
 use Rattle.table_schema.specs.declared.column.Column.{Column}
 use Rattle.table_schema.specs.Columns.{columns_of}
-use Rattle.table_schema.specs.CellColumns.{is_padding, indexes_from, cell_columns, column_of}
-use Rattle.metadata.specs.Lookups.{IsKeyCell}
 
 skipped : (index : ℕ) (column : Column) (columns : List Column) → is_padding column.kind ≡ true
     → indexes_from index (column ∷ columns) ≡ indexes_from (index + 1) columns

@@ -1,18 +1,9 @@
 -- The key numbers of a table, and the rows with a key.
-use Rattle.std.proofs.Common.{◌≡◌, ◌≢◌, ℕ, zero, suc, ◌+◌, ◌-◌, ◌≤◌, ◌<◌, ◌==◌, ◌↔◌, List, length, slice_index_or, Option, Some, None, IfSome, IfNone, refl, sym, ◌∙◌, ap, subst, arith}
+use Rattle.metadata_source.proofs.Prelude.{◌≡◌, ◌≢◌, ℕ, zero, suc, ◌+◌, ◌-◌, ◌≤◌, ◌<◌, ◌==◌, ◌↔◌, List, length, slice_index_or, Option, Some, None, IfSome, IfNone, refl, sym, ◌∙◌, ap, subst, arith, IsNonDecreasing, eq-eqb, eqb-true, TableId, Metadata, count_in, cell_in, HasRow, HasKey, IsKeyCell, IsOfKind, row_number, key_number, key_in, IsKeyOrdered, key_at, rows_with}
 use Rattle.std.specs.List.{Contains}
-use Rattle.std.specs.List.Sorted.{IsNonDecreasing}
-use Rattle.std.proofs.lemmas.Bool.{eq-eqb, eqb-true}
-use Rattle.table_schema.specs.declared.table.TableId.{TableId}
 use Rattle.table_schema.specs.declared.token.Token.{Token}
 use Rattle.metadata.specs.Cell as says
-use Rattle.metadata.specs.Metadata.{Metadata, count_in, cell_in}
-use Rattle.metadata.specs.Lookups.{HasRow, HasKey, IsKeyCell}
-use Rattle.metadata.specs.Kinds.{IsOfKind}
 use Rattle.metadata.specs.Valid.{IsValid, MayRefer, kind_at, nullable_at}
-use Rattle.metadata.specs.KeyOrder.{row_number, key_number, key_in, IsKeyOrdered}
-use Rattle.rows.specs.Keys.{key_at}
-use Rattle.reading.specs.KeyRows.{rows_with}
 use Rattle.metadata_source.specs.Keys.{numbers_from, all_numbers}
 use Rattle.metadata_source.proofs.CellLemmas.{key_is_one}
 use Rattle.metadata_source.proofs.RowLemmas.{that_passes, passes_that}

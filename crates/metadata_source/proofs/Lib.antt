@@ -1,3 +1,4 @@
 pub mod CellLemmas
 pub mod KeyLemmas
+pub mod Prelude
 pub mod RowLemmas

@@ -1,22 +1,10 @@
 -- Cells of a valid model that are references or texts.
-use Rattle.std.proofs.Common.{◌≡◌, ℕ, zero, suc, ◌<◌, ◌≤◌, Bool, false, List, [], ◌∷◌, Option, Some, None, refl, sym, ap, subst, arith, Bor}
-use Rattle.std.proofs.Math.Logic.{∥∥₁_elim}
+use Rattle.navigation.proofs.Prelude.{◌≡◌, ℕ, zero, suc, ◌<◌, ◌≤◌, Bool, false, List, [], ◌∷◌, Option, Some, None, refl, sym, ap, subst, arith, Bor, ∥∥₁_elim, le_prop, TableId, Token, ColumnKind, cell_count, Cell, Number, Text, Ref, Sig, IsOfKind, Metadata, cell_in, count_in, HasRow, IsValid, MayRefer, kind_at, nullable_at, Shows}
 use Rattle.std.proofs.lemmas.Option.{same_Some}
-use Rattle.std.specs.Coded.{le_prop}
 use Rattle.std.specs.Prelude.{⊤, Contains, IfSome}
-use Rattle.table_schema.specs.declared.table.TableId.{TableId}
-use Rattle.table_schema.specs.declared.token.Token.{Token}
-use Rattle.table_schema.specs.declared.column.ColumnKind.{ColumnKind}
 use Rattle.table_schema.specs.declared.column.ColumnKind.TheVariants as kind
-use Rattle.table_schema.specs.CellColumns.{cell_count}
-use Rattle.metadata.specs.Cell.{Cell, Number, Text, Ref, Sig}
-use Rattle.metadata.specs.Kinds.{IsOfKind}
-use Rattle.metadata.specs.Metadata.{Metadata, cell_in, count_in}
-use Rattle.metadata.specs.Lookups.{HasRow}
-use Rattle.metadata.specs.Valid.{IsValid, MayRefer, kind_at, nullable_at}
 use Rattle.reading.specs.declared.cell_ref.CellRef.{CellRef}
 use Rattle.reading.specs.declared.cell_ref.CellRef.TheVariants as seen
-use Rattle.reading.specs.Shown.{Shows}
 
 -- a reference to a row of a table, which is not null
 abbrev pub IsTo : Metadata → TableId → Option Token → Type 0

@@ -1,15 +1,7 @@
 -- Rows in the order of their numbers.
-use Rattle.std.proofs.Common.{◌≡◌, ◌∙◌, ℕ, zero, suc, ◌+◌, ◌<◌, ◌≤◌, ◌==◌, ◌&&◌, Bool, true, false, cond, List, [], ◌∷◌, ◌++◌, length, get_or, map, append-nil, refl, sym, ap, subst, arith, tests}
+use Rattle.navigation.proofs.Prelude.{◌≡◌, ◌∙◌, ℕ, zero, suc, ◌+◌, ◌<◌, ◌≤◌, ◌==◌, ◌&&◌, Bool, true, false, cond, List, [], ◌∷◌, ◌++◌, length, get_or, map, append-nil, refl, sym, ap, subst, arith, tests, All, filter, IsNonDecreasingBy, ties, eq-eqb, ne_eqb, get_or-map, length-map, All-cons, All-nil, All-weaker, filter-append, filter_agree, rows_that, KeyedRow, AreByKey, has_key, key_of, keyed_row, keyed_rows, row_of}
 use Rattle.std.specs.Prelude.{not}
-use Rattle.std.specs.List.{All, filter}
-use Rattle.std.specs.List.Sorted.{IsNonDecreasingBy, ties}
 use Rattle.std.specs.Ordering.{is_lt, nat_cmp}
-use Rattle.std.proofs.lemmas.Bool.{eq-eqb, ne_eqb}
-use Rattle.std.proofs.lemmas.List.{get_or-map, length-map}
-use Rattle.std.proofs.lemmas.List.Elements.{All-cons, All-nil, All-weaker, filter-append, filter_agree}
-use Rattle.reading.specs.KeyRows.{rows_that}
-use Rattle.navigation.specs.declared.keyed.KeyedRow.{KeyedRow}
-use Rattle.navigation.specs.Keyed.{AreByKey, has_key, key_of, keyed_row, keyed_rows, row_of}
 
 module _ {X : Type 0} (test : X → Bool) where
   filter_none : (xs : List X) → ((k : ℕ) (d : X) → k < length xs → test (get_or xs k d) ≡ false) → filter test xs ≡ []

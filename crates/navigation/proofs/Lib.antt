@@ -4,4 +4,5 @@ mod LinkLemmas
 mod LinkModelLemmas
 mod NestingLemmas
 mod OwnerLemmas
+mod Prelude
 mod StartLemmas

@@ -1,6 +1,5 @@
 -- Rows that pass a test.
-use Rattle.std.proofs.Common.{◌≡◌, ◌∙◌, ℕ, zero, suc, ◌+◌, ◌<◌, ◌≤◌, Bool, cond, ◌∷◌, refl, ap, arith}
-use Rattle.reading.specs.KeyRows.{rows_that}
+use Rattle.navigation.proofs.Prelude.{◌≡◌, ◌∙◌, ℕ, zero, suc, ◌+◌, ◌<◌, ◌≤◌, Bool, cond, ◌∷◌, refl, ap, arith, rows_that}
 
 -- the same test
 pub rows_same : (test other : ℕ → Bool) (row left : ℕ) → ((r : ℕ) → row ≤ r → r < row + left → test r ≡ other r) → rows_that test row left ≡ rows_that other row left

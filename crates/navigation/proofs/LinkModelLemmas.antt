@@ -1,19 +1,9 @@
 -- The references of a root and of its model have the same numbers.
-use Rattle.std.proofs.Common.{◌≡◌, ◌∙◌, ℕ, ◌<◌, ◌≤◌, ◌==◌, inl, inr, Bool, false, List, refl, sym, ap, arith}
-use Rattle.table_schema.specs.declared.table.TableId.{TableId}
-use Rattle.table_schema.specs.declared.table.TableId.TheVariants.{TypeDef, EventMap, PropertyMap}
-use Rattle.table_schema.specs.declared.token.Token.{Token}
+use Rattle.navigation.proofs.Prelude.{◌≡◌, ◌∙◌, ℕ, ◌<◌, ◌≤◌, ◌==◌, inl, inr, Bool, false, List, refl, sym, ap, arith, TableId, TypeDef, EventMap, PropertyMap, Token, cell_columns, cell_count, column_of, Cell, IsKeyCell, Metadata, cell_in, count_in, Source, number_of, rows_in, source_of, rows_that}
 use Rattle.table_schema.specs.declared.column.ColumnKind.TheVariants as kind
-use Rattle.table_schema.specs.CellColumns.{cell_columns, cell_count, column_of}
-use Rattle.metadata.specs.Cell.{Cell}
 use Rattle.metadata.specs.KeyOrder.{key_in, key_number}
-use Rattle.metadata.specs.Lookups.{IsKeyCell}
-use Rattle.metadata.specs.Metadata.{Metadata, cell_in, count_in}
 use Rattle.metadata.specs.Rows.{IsCell}
-use Rattle.metadata.specs.Source.{Source, number_of, rows_in}
-use Rattle.metadata.specs.SourceAt.{source_of}
 use Rattle.metadata.specs.Stands.{Refers}
-use Rattle.reading.specs.KeyRows.{rows_that}
 use Rattle.navigation.specs.declared.links.Link.{Link}
 use Rattle.navigation.specs.declared.links.Link.TheVariants as link_of
 use Rattle.navigation.specs.Linked.{cell_of, link_in, linked, number_in, number_to, table_of}

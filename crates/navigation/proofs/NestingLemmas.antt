@@ -1,14 +1,8 @@
 -- The rows of NestedClass with a key are those of a nested type, and the first row of an ascending list is the least.
 use Rattle.std.proofs.Common.{◌≡◌, ℕ, zero, suc, ◌≤◌, ◌↔◌, List, [], ◌∷◌, Option, Some, None, IfSome, IfNone, MatchOption, refl, sym, ◌∙◌, ap, subst, arith}
-use Rattle.std.proofs.Math.Logic.{∥∥₁_elim}
-use Rattle.std.specs.Coded.{le_prop}
+use Rattle.navigation.proofs.Prelude.{∥∥₁_elim, le_prop, IsStrictlyIncreasing, NestedClass, cell_columns, Metadata, count_in, cell_in, HasRow, HasKey, IsKeyCell}
 use Rattle.std.specs.List.{Contains}
-use Rattle.std.specs.List.Sorted.{IsStrictlyIncreasing}
 use Rattle.std.proofs.lemmas.List.Kept.{AllPairs-from_increasing}
-use Rattle.table_schema.specs.declared.table.TableId.TheVariants.{NestedClass}
-use Rattle.table_schema.specs.CellColumns.{cell_columns}
-use Rattle.metadata.specs.Metadata.{Metadata, count_in, cell_in}
-use Rattle.metadata.specs.Lookups.{HasRow, HasKey, IsKeyCell}
 use Rattle.navigation.specs.Nesting.{type_token, IsNesting, IsFirstNesting}
 
 key_cell : IsKeyCell NestedClass 0

@@ -1,15 +1,6 @@
 -- The owner of a member is the last row whose run begins at the member or before it.
-use Rattle.std.proofs.Common.{◌≡◌, ℕ, zero, suc, ◌+◌, ◌-◌, ◌<◌, ◌≤◌, inl, inr, refl, ap, subst, arith}
-use Rattle.std.proofs.lemmas.Bool.{cases_lt, cases_eq}
-use Rattle.table_schema.specs.declared.table.TableId.{TableId}
-use Rattle.table_schema.specs.declared.column.ColumnKind.{ColumnKind}
+use Rattle.navigation.proofs.Prelude.{◌≡◌, ℕ, zero, suc, ◌+◌, ◌-◌, ◌<◌, ◌≤◌, inl, inr, refl, ap, subst, arith, cases_lt, cases_eq, TableId, ColumnKind, cell_columns, cell_count, Cell, Start, IsOfKind, Metadata, count_in, cell_in, HasRow, IsValid, HasOwners, start_in, kind_at}
 use Rattle.table_schema.specs.declared.column.ColumnKind.TheVariants as kind
-use Rattle.table_schema.specs.CellColumns.{cell_columns, cell_count}
-use Rattle.metadata.specs.Cell.{Cell, Start}
-use Rattle.metadata.specs.Kinds.{IsOfKind}
-use Rattle.metadata.specs.Metadata.{Metadata, count_in, cell_in}
-use Rattle.metadata.specs.Lookups.{HasRow}
-use Rattle.metadata.specs.Valid.{IsValid, HasOwners, start_in, kind_at}
 use Rattle.metadata_source.specs.declared.member_lists.MemberList.{MemberList}
 use Rattle.metadata_source.specs.declared.member_lists.MemberList.TheVariants as list_of
 use Rattle.metadata_source.specs.MemberLists.{owner_of, cell_of, member_of}

@@ -1,7 +1,5 @@
 -- One value more.
-use Rattle.std.proofs.Common.{◌≡◌, ◌∙◌, ℕ, ◌<◌, ◌≤◌, List, [], ◌∷◌, ◌++◌, length, slice_index, sym, ap, arith, ⊎_elim}
-use Rattle.std.proofs.lemmas.Bool.{cases_lt}
-use Rattle.std.proofs.lemmas.List.{get_or_append_left, get_or_push, length_push}
+use Rattle.navigation.proofs.Prelude.{◌≡◌, ◌∙◌, ℕ, ◌<◌, ◌≤◌, List, [], ◌∷◌, ◌++◌, length, slice_index, sym, ap, arith, ⊎_elim, cases_lt, get_or_append_left, get_or_push, length_push}
 
 pub one_more : (value : ℕ → ℕ) (xs : List ℕ) (x n : ℕ) → length xs ≡ n → ((k : ℕ) → k < length xs → value k ≡ slice_index xs k) → value n ≡ x
     → (k : ℕ) → k < length (xs ++ x ∷ []) → value k ≡ slice_index (xs ++ x ∷ []) k

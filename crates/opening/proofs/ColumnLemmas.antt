@@ -1,19 +1,11 @@
 -- The number in a column of numbers, or of rows, is that of its cell.
-use Rattle.std.proofs.Common.{◌≡◌, ◌≤◌, ◌<◌, ℕ, ◌*◌, ◌^◌, Bool, Some, length, inl, inr, sym, ap, subst, ◌∙◌, arith}
+use Rattle.opening.proofs.Prelude.{◌≡◌, ◌≤◌, ◌<◌, ℕ, ◌*◌, ◌^◌, Bool, Some, length, inl, inr, sym, ap, subst, ◌∙◌, arith, TableId, ColumnKind, Cell, row_number, Source, Refers, StandsFor, row_in, IsCodedNumber, IsNumberOf}
 use Rattle.std.proofs.Math.Nat.{mul-le-mul_right}
 use Rattle.std.proofs.lemmas.Option.{slice_get_within}
-use Rattle.table_schema.specs.declared.table.TableId.{TableId}
 use Rattle.table_schema.specs.declared.token.Token.{Token}
 use Rattle.table_schema.specs.declared.coded.Coded.{Coded}
-use Rattle.table_schema.specs.declared.column.ColumnKind.{ColumnKind}
 use Rattle.table_schema.specs.declared.column.ColumnKind.TheVariants as kind
 use Rattle.table_schema.specs.CodedIndexes.{IsCoded, tables_of, tag_bits}
-use Rattle.metadata.specs.Cell.{Cell}
-use Rattle.metadata.specs.KeyOrder.{row_number}
-use Rattle.metadata.specs.Source.{Source}
-use Rattle.metadata.specs.Stands.{Refers, StandsFor}
-use Rattle.metadata.specs.Valid.{row_in}
-use Rattle.metadata_source.specs.ColumnNumbers.{IsCodedNumber, IsNumberOf}
 
 row_is : (source : Source) (nullable : Bool) (table : TableId) (number : ℕ) (cell : Cell) → Refers source nullable (record { table = table; row = number }) cell
     → number ≡ row_in cell

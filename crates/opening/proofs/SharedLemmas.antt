@@ -1,17 +1,6 @@
 -- Two cells whose blobs are at one index of the blob heap are equal, and each text and each blob is at the index of its cell.
-use Rattle.std.proofs.Common.{◌≡◌, ℕ, Bool, List, Some, sym, subst}
-use Rattle.table_schema.specs.declared.table.TableId.{TableId}
-use Rattle.table_schema.specs.declared.column.ColumnKind.{ColumnKind}
+use Rattle.opening.proofs.Prelude.{◌≡◌, ℕ, Bool, List, Some, sym, subst, TableId, ColumnKind, column_of, IsBlob, IsText, Bytes, Cell, Text, IsCell, Source, number_of, StandsFor, start_of, nullable_at, CellId, IsBlobKind, ShareBlob, kind_by_id}
 use Rattle.table_schema.specs.declared.column.ColumnKind.TheVariants as kind
-use Rattle.table_schema.specs.CellColumns.{column_of}
-use Rattle.heap_entries.specs.Entries.{IsBlob, IsText}
-use Rattle.metadata.specs.Cell.{Bytes, Cell, Text}
-use Rattle.metadata.specs.Rows.{IsCell}
-use Rattle.metadata.specs.Source.{Source, number_of}
-use Rattle.metadata.specs.Stands.{StandsFor}
-use Rattle.metadata.specs.Starts.{start_of}
-use Rattle.metadata.specs.Valid.{nullable_at}
-use Rattle.metadata_source.specs.SharedBlobs.{CellId, IsBlobKind, ShareBlob, kind_by_id}
 
 -- what a number in a column of blobs or signatures represents does not depend on anything but the kind
 stands_alike : (source : Source) (column : ColumnKind) (nullable other : Bool) (start more : TableId → ℕ) (number : ℕ) (cell : Cell) → IsBlobKind column

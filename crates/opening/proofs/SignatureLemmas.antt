@@ -1,12 +1,9 @@
 -- In a column of signatures a value is the blob of a signature.
 use Rattle.std.proofs.Common.{◌≡◌, ℕ, List, Bor, refl, subst}
 use Rattle.table_schema.specs.declared.column.SigKind.{SigKind}
-use Rattle.table_schema.specs.declared.column.ColumnKind.{ColumnKind}
+use Rattle.opening.proofs.Prelude.{ColumnKind, Cell, Shows, CellRef}
 use Rattle.table_schema.specs.declared.column.ColumnKind.TheVariants.{Signature}
-use Rattle.metadata.specs.Cell.{Cell}
 use Rattle.metadata.specs.Kinds.{IsOfKind}
-use Rattle.reading.specs.Shown.{Shows}
-use Rattle.reading.specs.declared.cell_ref.CellRef.{CellRef}
 use Rattle.reading.specs.declared.cell_ref.CellRef.TheVariants as seen
 
 no_other : (kind : SigKind) (value : CellRef) (cell : Cell) → ((blob : Bor (List ℕ)) → value ≡ seen.Sig blob → ⊥) → IsOfKind (Signature kind) cell

@@ -1,25 +1,8 @@
 -- The parts that are read from a root are those that its bytes encode.
-use Rattle.std.proofs.Common.{◌≡◌, ℕ, ◌+◌, List, ◌++◌, Result, Ok, Err, ap, ◌∙◌, subst}
-use Rattle.packed.specs.declared.fault.Fault.{Fault}
-use Rattle.packed.specs.Rule.{AllHold, FirstBroken, Reports, rebased}
-use Rattle.root.specs.Rules.{rules_of_root}
-use Rattle.root.specs.declared.kind.Kind.TheVariants.{Strings, Guids, Blobs}
-use Rattle.root.specs.Fields.{root_read}
-use Rattle.schema.specs.Sizes.{Sizes}
-use Rattle.schema.specs.Rules.{rules_of_stream}
+use Rattle.opening.proofs.Prelude.{◌≡◌, ℕ, ◌+◌, List, ◌++◌, Result, Ok, Err, ap, ◌∙◌, subst, Fault, AllHold, FirstBroken, Reports, rebased, rules_of_root, Strings, Guids, Blobs, root_read, Sizes, rules_of_stream, numbers_at, stream_in, rules_of_tables, rules_of_metadata, all_append, all_back, fails_back, fails_prefix, none_fails, Budget, BoundedError, FailsWithin, IsSpent, rules_before_cells, rules_of_tables_in, IsSpentIn, TextsSpendIn, SourceAt, tables_in, tables_offset, source_of, source_at}
 use Rattle.schema.specs.Header.{sizes_of}
-use Rattle.schema.specs.Cells.{numbers_at}
-use Rattle.metadata.specs.Streams.{stream_in}
-use Rattle.metadata.specs.Rules.{rules_of_tables, rules_of_metadata}
-use Rattle.packed.proofs.RuleLemmas.{all_append, all_back, fails_back, fails_prefix, none_fails}
-use Rattle.checks.specs.declared.budget.Budget.{Budget}
-use Rattle.checks.specs.declared.budget.BoundedError.{BoundedError}
 use Rattle.checks.specs.declared.budget.BoundedError.TheVariants as bounded
-use Rattle.checks.specs.Within.{FailsWithin, IsSpent}
-use Rattle.opening.specs.BeforeCells.{rules_before_cells, rules_of_tables_in}
-use Rattle.opening.specs.Within.{IsSpentIn, TextsSpendIn}
 use Rattle.opening.proofs.Parts.{second_fails, third_fails, all_hold}
-use Rattle.metadata.specs.SourceAt.{SourceAt, tables_in, tables_offset, source_of, source_at}
 
 pub located_is : (root : List ℕ) (offset at : ℕ) (here : SourceAt) (tables texts blobs guids : List ℕ) (sizes : Sizes) → here.source ≡ record { sizes = sizes; numbers = numbers_at tables sizes; texts = texts; blobs = blobs; guids = guids } → here.offset ≡ offset + at → at ≡ tables_offset root → tables ≡ tables_in root → sizes ≡ sizes_of tables → texts ≡ stream_in root (root_read root).headers Strings → blobs ≡ stream_in root (root_read root).headers Blobs → guids ≡ stream_in root (root_read root).headers Guids → here ≡ source_at offset root
 located_is root offset at here tables texts blobs guids sizes source is_offset is_at is_tables is_sizes is_texts is_blobs is_guids =

@@ -1,14 +1,7 @@
 -- Rows and tables that are filled one by one.
-use Rattle.std.proofs.Common.{◌≡◌, ℕ, zero, suc, ◌+◌, ◌<◌, List, [], ◌∷◌, ◌++◌, length, get_or, set, take, drop, refl, sym, ap, ◌∙◌, add-one, arith}
-use Rattle.std.proofs.lemmas.List.{map-append, take_more, get_or-set_same, set-set}
-use Rattle.table_schema.specs.declared.table.TableId.{TableId}
-use Rattle.table_schema.specs.Tables.{tables, table_index_of}
+use Rattle.owned_model.proofs.Prelude.{◌≡◌, ℕ, zero, suc, ◌+◌, ◌<◌, List, [], ◌∷◌, ◌++◌, length, get_or, set, take, drop, refl, sym, ap, ◌∙◌, add-one, arith, map-append, take_more, get_or-set_same, set-set, TableId, tables, table_index_of, Metadata, rows_of, said, all_said, with_row, with_rows}
 use Rattle.metadata.specs.Cell.{Cell}
-use Rattle.metadata.specs.Metadata.{Metadata, rows_of}
 use Rattle.tables.specs.declared.cell.Cell.{Cell as Owned}
-use Rattle.tables.specs.Said.{said, all_said}
-use Rattle.tables.specs.Push.{with_row}
-use Rattle.owned_model.specs.Padded.{with_rows}
 
 -- one more cell of a row
 pub next_cell : (cells : List Owned) (cell : Owned) (row : List Cell) (k : ℕ) (d : Cell) → k < length row → all_said cells ≡ take k row → said cell ≡ get_or row k d

@@ -1,27 +1,15 @@
 -- The values of a row that is read in place are of their columns' kinds, and equal the cells of the model's row.
-use Rattle.std.proofs.Common.{◌≡◌, ℕ, zero, suc, ◌+◌, ◌<◌, ◌≤◌, Bool, true, false, cond, List, [], ◌∷◌, length, drop, Option, Some, None, option_map, get_or, slice_get, slice_set, refl, sym, ◌∙◌, ap, subst, arith, add-one}
+use Rattle.owned_model.proofs.Prelude.{◌≡◌, ℕ, zero, suc, ◌+◌, ◌<◌, ◌≤◌, Bool, true, false, cond, List, [], ◌∷◌, length, drop, Option, Some, None, option_map, get_or, slice_get, slice_set, refl, sym, ◌∙◌, ap, subst, arith, add-one, common_steps, TableId, SigKind, ColumnKind, columns_of, column_at, Body, locals, Encodes, IsOfKind, CellRef, Shows, kinds_of, AreOfKinds, IsShown, IsRefOfShape, IsSaid, shape_at, HoldsAt, SaysAt}
 use Rattle.std.proofs.lemmas.Option.{slice_get_within, get_or_from_slice_get}
-use Rattle.std.proofs.lemmas.Grind.{common_steps}
 use borrow.Author.Count.{below_more}
-use Rattle.table_schema.specs.declared.table.TableId.{TableId}
-use Rattle.table_schema.specs.declared.column.SigKind.{SigKind}
-use Rattle.table_schema.specs.declared.column.ColumnKind.{ColumnKind}
 use Rattle.table_schema.specs.declared.column.ColumnKind.TheVariants as kind
 use Rattle.table_schema.specs.declared.column.Column.{Column}
-use Rattle.table_schema.specs.Columns.{columns_of, column_at}
 use Rattle.table_schema.specs.CellColumns.{is_padding, indexes_from, cell_columns, cell_count, column_of}
-use Rattle.sig_grammar.specs.Syntax.{Body, locals}
-use Rattle.sig_grammar.specs.Encodes.{Encodes}
 use Rattle.metadata.specs.Cell.{Cell, Number, Text, Bytes, Guid, Ref, Start, Sig}
-use Rattle.metadata.specs.Kinds.{IsOfKind}
-use Rattle.reading.specs.declared.cell_ref.CellRef.{CellRef}
 use Rattle.reading.specs.declared.cell_ref.CellRef.TheVariants as seen
-use Rattle.reading.specs.Shown.{Shows}
-use Rattle.type_records.specs.Kinds.{kinds_of, AreOfKinds}
 use Rattle.type_records.specs.Shapes.{Shape, number, text, bytes, guid, reference, start, signature, shape_of, AreHeld, AreSaid}
 use Rattle.type_records.specs.Signatures.{encoded}
 use Rattle.owned_model.specs.declared.ref_row.RefRow.{RefRow}
-use Rattle.owned_model.specs.RefRows.{IsShown, IsRefOfShape, IsSaid, shape_at, HoldsAt, SaysAt}
 
 -- ---- lists from an index on
 

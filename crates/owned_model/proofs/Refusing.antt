@@ -1,11 +1,10 @@
 -- The reasons why nothing is loaded.
-use Rattle.std.proofs.Common.{◌≡◌, List, Result, Ok, Err, IfErr, sym, subst}
+use Rattle.owned_model.proofs.Prelude.{◌≡◌, List, Result, Ok, Err, IfErr, sym, subst, IsRefused}
 use Rattle.std.specs.Result.{IsErrAnd}
 use Rattle.packed.specs.declared.fault.Fault.{Fault}
 use Rattle.packed.specs.Rule.{Rule, FirstBroken}
 use Rattle.owned_model.specs.declared.error.LoadError.{LoadError}
 use Rattle.owned_model.specs.declared.error.LoadError.TheVariants as load
-use Rattle.owned_model.specs.Refused.{IsRefused}
 
 -- the fault of the first broken rule, if there is no model
 pub fault_refused : {X : Type 0} (r : Result X LoadError) (rules : List (Rule Fault)) (fits : Type 0) (found : Fault)

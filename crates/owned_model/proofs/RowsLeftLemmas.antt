@@ -1,9 +1,6 @@
 -- The rows that are left: all of them at first, and after each row those that follow it.
-use Rattle.std.proofs.Common.{◌≡◌, ℕ, suc, ◌+◌, ◌-◌, ◌≤◌, [], ◌∷◌, length, take, drop, ap, ◌∙◌, arith}
+use Rattle.owned_model.proofs.Prelude.{◌≡◌, ℕ, suc, ◌+◌, ◌-◌, ◌≤◌, [], ◌∷◌, length, take, drop, ap, ◌∙◌, arith, drop_more, TableId, Metadata, rows_of, row_of, count_in}
 use Rattle.std.proofs.Math.Seq.{take-length}
-use Rattle.std.proofs.lemmas.List.{drop_more}
-use Rattle.table_schema.specs.declared.table.TableId.{TableId}
-use Rattle.metadata.specs.Metadata.{Metadata, rows_of, row_of, count_in}
 use Rattle.owned_model.specs.RowsLeft.{rows_between}
 
 pub all_rows : (model : Metadata) (table : TableId) (count : ℕ) → count_in model table ≡ count → rows_between model table 1 count ≡ rows_of model table

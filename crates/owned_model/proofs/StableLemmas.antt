@@ -1,33 +1,23 @@
 -- A fact that is not impossible holds, if it can be tested. So a model that is not invalid is valid.
-use Rattle.std.proofs.Common.{◌≡◌, ◌⊎◌, ℕ, ◌+◌, ◌*◌, ◌-◌, ◌^◌, ◌<◌, ◌≤◌, ℤ, neg_ℤ, Bool, true, false, List, [], ◌∷◌, length, Option, Some, None, slice_get, slice_index_or, IfSome, Contains, IsUtf8, zero, suc, inl, inr, refl, sym, ap, ◌∙◌, subst, arith}
+use Rattle.owned_model.proofs.Prelude.{◌≡◌, ◌⊎◌, ℕ, ◌+◌, ◌*◌, ◌-◌, ◌^◌, ◌<◌, ◌≤◌, ℤ, neg_ℤ, Bool, true, false, List, [], ◌∷◌, length, Option, Some, None, slice_get, slice_index_or, IfSome, Contains, IsUtf8, zero, suc, inl, inr, refl, sym, ap, ◌∙◌, subst, arith, cases_eq, cases_lt, TableId, Module, TypeDef, Field, MethodDef, Param, EventMap, Event, PropertyMap, Property, ColumnKind, SigKind, tables, table_index_of, Holds, IsEncodable, short, tokens, IsTo, IsOfKind, IsStorable, IsHeld, Metadata, count_in, Names, MayRefer, IsWithinMembers, NamesTypes, IsValidCell, HasOwners, IsValid}
 use Rattle.std.specs.List.{AllByRecursion}
 use Rattle.std.specs.Str.{is_utf8}
-use Rattle.std.proofs.lemmas.Bool.{cases_eq, cases_lt}
 use Rattle.std.proofs.lemmas.Int.{ints, by_lt_z}
 use Rattle.std.proofs.lemmas.Str.{IsUtf8-from_is_utf8, is_utf8-from_IsUtf8}
 use Rattle.packed.specs.Packed.{FitsBits, half_range}
 use Rattle.heap_entries.specs.Entries.{HasNoNul}
-use Rattle.table_schema.specs.declared.table.TableId.{TableId}
-use Rattle.table_schema.specs.declared.table.TableId.TheVariants.{Module, TypeDef, Field, MethodDef, Param, EventMap, Event, PropertyMap, Property}
 use Rattle.table_schema.specs.declared.token.Token.{Token}
-use Rattle.table_schema.specs.declared.column.ColumnKind.{ColumnKind}
 use Rattle.table_schema.specs.declared.column.ColumnKind.TheVariants as kind
-use Rattle.table_schema.specs.declared.column.SigKind.{SigKind}
 use Rattle.table_schema.specs.declared.column.SigKind.TheVariants as column
 use Rattle.table_schema.specs.declared.coded.Coded.{Coded}
 use Rattle.table_schema.specs.declared.coded.Coded.TheVariants.{TypeDefOrRef}
-use Rattle.table_schema.specs.Tables.{tables, table_index_of}
 use Rattle.table_schema.specs.CodedIndexes.{tables_of, tag_bits, IsCoded}
 use Rattle.sig_grammar.specs.Syntax as sig
 use Rattle.sig_grammar.specs.Grammar.{count_slots, body_parts}
 use Rattle.sig_grammar.specs.Parts.{Part, byte, number, signed, index, index_number, HasEncoding}
 use Rattle.sig_grammar.specs.Limits.{IsMethodKind, IsSentinel, HasOwnSentinel, IsArrayShape, IsCore, IsTyped, AreTypes, IsContent, IsSlot, AreSlots, IsRet, IsMethod, IsSlotWithin, IsTypedWithin, IsLocalWithin, IsBodyWithin, slot_depth, typed_depth, content_depth, method_depth, ret_depth}
-use Rattle.sig_grammar.specs.Encodes.{Holds, IsEncodable, short, tokens}
 use Rattle.metadata.specs.Cell.{Cell}
 use Rattle.metadata.specs.Cell as cell
-use Rattle.metadata.specs.Kinds.{IsTo, IsOfKind, IsStorable, IsHeld}
-use Rattle.metadata.specs.Metadata.{Metadata, count_in}
-use Rattle.metadata.specs.Valid.{Names, MayRefer, IsWithinMembers, NamesTypes, IsValidCell, HasOwners, IsValid}
 
 -- the fact holds if it is not impossible
 abbrev Stable : Type 0 → Type 0

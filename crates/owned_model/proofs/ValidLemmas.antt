@@ -1,18 +1,9 @@
 -- The tables that are loaded are in order if the root's rows are.
-use Rattle.std.proofs.Common.{◌≡◌, ◌↔◌, ℕ, ◌-◌, Bool, false, List, Some, slice_index_or, inl, inr, sym, subst, arith}
-use Rattle.std.proofs.Math.Logic.{∥∥₁_map}
-use Rattle.std.proofs.lemmas.Bool.{cases_lt, cases_Bool, both_ways}
-use Rattle.std.proofs.lemmas.Grind.{not_there}
-use Rattle.table_schema.specs.declared.table.TableId.{TableId}
-use Rattle.table_schema.specs.Tables.{table_number}
-use Rattle.table_schema.specs.Columns.{key_of}
-use Rattle.metadata.specs.Metadata.{Metadata}
-use Rattle.metadata.specs.Model.{IsModel}
+use Rattle.owned_model.proofs.Prelude.{◌≡◌, ◌↔◌, ℕ, ◌-◌, Bool, false, List, Some, slice_index_or, inl, inr, sym, subst, arith, ∥∥₁_map, cases_lt, cases_Bool, both_ways, not_there, TableId, table_number, key_of, Metadata, IsModel, HasModel, AreFound}
 use Rattle.metadata.specs.RowRules.{IsInOrder}
 use Rattle.metadata.specs.KeyOrder.{key_in, IsKeyOrdered}
 use Rattle.metadata.specs.SourceAt.{source_of}
 use Rattle.opening.specs.declared.found.Found.{Found}
-use Rattle.opening.specs.Views.{HasModel, AreFound}
 use Rattle.owned_model.specs.Models.{ReportsOrder}
 
 -- the order of keys could be tested, so it is enough to know it

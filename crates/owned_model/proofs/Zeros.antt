@@ -1,7 +1,5 @@
 -- Bytes with padding.
-use Rattle.std.proofs.Common.{◌≡◌, ℕ, ◌+◌, ◌-◌, ◌%◌, List, ◌++◌, length, take, replicate, ap, ◌∙◌, arith}
-use Rattle.std.proofs.lemmas.List.{take_all}
-use Rattle.heap_entries.specs.Padding.{zero_padded}
+use Rattle.owned_model.proofs.Prelude.{◌≡◌, ℕ, ◌+◌, ◌-◌, ◌%◌, List, ◌++◌, length, take, replicate, ap, ◌∙◌, arith, take_all, zero_padded}
 
 -- bytes with capacity for the padding hold the bytes and the padding
 pub resized : (bytes : List ℕ) (n k : ℕ) → n ≡ length bytes + (4 - length bytes % 4) % 4 → k ≡ length bytes

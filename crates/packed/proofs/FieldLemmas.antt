@@ -1,9 +1,6 @@
 -- The values of fields at an offset are those of the bytes there.
-use Rattle.std.proofs.Common.{◌≡◌, ℕ, ◌+◌, ◌≤◌, List, [], ◌∷◌, ◌++◌, length, take, drop, refl, sym, ap, ◌∙◌, subst, arith, append_assoc, length-append, length-drop}
-use Rattle.std.proofs.lemmas.List.{append-nil, take_all, take_at, drop_at, drop-drop, take-append-drop, length-take-le}
+use Rattle.packed.proofs.Prelude.{◌≡◌, ℕ, ◌+◌, ◌≤◌, List, [], ◌∷◌, ◌++◌, length, take, drop, refl, sym, ap, ◌∙◌, subst, arith, append_assoc, length-append, length-drop, append-nil, take_all, take_at, drop_at, drop-drop, take-append-drop, length-take-le, little_endian, part}
 use Rattle.std.proofs.Math.Seq.{take-add}
-use Rattle.packed.specs.Number.{little_endian}
-use Rattle.packed.specs.Offsets.{part}
 use Rattle.packed.specs.Fields.{Field, literal, number, ignored, IsField, AreFields, StandAt, width, widths, Says, AllSay}
 
 field_long : (field : Field) (bytes : List ℕ) → IsField field bytes → length bytes ≡ width field

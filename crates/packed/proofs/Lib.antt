@@ -1,3 +1,4 @@
+pub mod Prelude
 pub mod RuleLemmas
 mod FieldLemmas
 mod NumberLemmas

@@ -1,10 +1,7 @@
 -- The number in the bytes at an offset.
-use Rattle.std.proofs.Common.{◌≡◌, ℕ, zero, suc, ◌+◌, ◌≤◌, List, [], ◌∷◌, length, take, drop, refl, ◌∙◌, arith, length-drop}
+use Rattle.packed.proofs.Prelude.{◌≡◌, ℕ, zero, suc, ◌+◌, ◌≤◌, List, [], ◌∷◌, length, take, drop, refl, ◌∙◌, arith, length-drop, length-take-le, little_endian, IsNumber, part}
 use Rattle.byteorder.specs.Endian.{little_from, little_number}
 use Rattle.byteorder.specs.Numbers.{little_from-cons}
-use Rattle.std.proofs.lemmas.List.{length-take-le}
-use Rattle.packed.specs.Number.{little_endian, IsNumber}
-use Rattle.packed.specs.Offsets.{part}
 
 -- `byteorder` reads the number in the first bytes
 little_from-number : (count : ℕ) (bytes : List ℕ) → count ≤ length bytes → little_from 0 count bytes ≡ little_endian (take count bytes)

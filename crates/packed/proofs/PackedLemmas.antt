@@ -1,9 +1,5 @@
 -- Decoding a packed number inverts encoding it.
-use Rattle.std.proofs.Common.{◌≡◌, ℕ, ◌+◌, ◌-◌, ◌*◌, ◌/◌, ◌%◌, ◌^◌, ◌<◌, ◌≤◌, Bool, true, false, cond, ltb, Option, Some, List, [], ◌∷◌, ◌++◌, length, take, get_or, refl, sym, ap, ◌∙◌, subst, arith, inl, inr}
-use Rattle.std.specs.Option.{IfSome, IsSomeAnd}
-use Rattle.std.proofs.lemmas.Bool.{ltb-true, ltb-false, lt-ltb, le-ltb}
-use Rattle.packed.specs.Prefix.{unsigned_at, two_at, four_at}
-use Rattle.packed.specs.Packed.{IsPacked}
+use Rattle.packed.proofs.Prelude.{◌≡◌, ℕ, ◌+◌, ◌-◌, ◌*◌, ◌/◌, ◌%◌, ◌^◌, ◌<◌, ◌≤◌, Bool, true, false, cond, ltb, Option, Some, List, [], ◌∷◌, ◌++◌, length, take, get_or, refl, sym, ap, ◌∙◌, subst, arith, inl, inr, IfSome, IsSomeAnd, ltb-true, ltb-false, lt-ltb, le-ltb, unsigned_at, two_at, four_at, IsPacked}
 
 -- each element is a byte
 abbrev pub AreBytes : List ℕ → Type 0

@@ -1,9 +1,5 @@
 -- The shortest form encodes the number, and no encoding is shorter.
-use Rattle.std.proofs.Common.{◌≡◌, ℕ, ◌-◌, ◌^◌, ◌<◌, ◌≤◌, Bool, true, false, cond, not, ltb, List, length, refl, arith, inl, inr, rules}
-use Rattle.std.specs.Prelude.{ℤ, pos, negsuc, neg_ℤ, int_lt, ◌↔◌}
-use Rattle.std.proofs.lemmas.Bool.{and_parts, ltb-true, lt-ltb}
-use Rattle.std.proofs.lemmas.Int.{ints}
-use Rattle.packed.specs.Packed.{IsPacked, IsPackedSigned, FitsBits, fits_bits, half_range, short_unsigned, short_signed, signed_bits, one_byte, two_bytes, four_bytes}
+use Rattle.packed.proofs.Prelude.{◌≡◌, ℕ, ◌-◌, ◌^◌, ◌<◌, ◌≤◌, Bool, true, false, cond, not, ltb, List, length, refl, arith, inl, inr, rules, ℤ, pos, negsuc, neg_ℤ, int_lt, ◌↔◌, and_parts, ltb-true, lt-ltb, ints, IsPacked, IsPackedSigned, FitsBits, fits_bits, half_range, short_unsigned, short_signed, signed_bits, one_byte, two_bytes, four_bytes}
 
 pub unsigned_encodes : (n : ℕ) → n < 2 ^ 29 → IsPacked n (short_unsigned n)
 unsigned_encodes n lt = by_test (ltb n (2 ^ 7)) (ltb n (2 ^ 14)) (λ e. ltb-true n (2 ^ 7) e) (λ e. ltb-true n (2 ^ 14) e)

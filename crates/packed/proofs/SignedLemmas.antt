@@ -1,12 +1,5 @@
 -- Decoding a packed signed number inverts encoding it.
-use Rattle.std.proofs.Common.{◌≡◌, ℕ, ◌-◌, ◌/◌, ◌%◌, ◌^◌, ◌<◌, ◌≤◌, Bool, true, false, cond, eqb, Option, Some, None, List, ◌++◌, length, take, refl, sym, ap, ◌∙◌, subst, arith, inl, inr}
-use Rattle.std.specs.Prelude.{ℤ, pos, negsuc, ◌-ℤ◌, option_map}
-use Rattle.std.specs.Option.{IfSome, IsSomeAnd}
-use Rattle.std.proofs.lemmas.Int.{ints}
-use Rattle.std.proofs.lemmas.List.{length-take-le}
-use Rattle.std.proofs.lemmas.Bool.{eqb-true, eqb-false, eq-eqb}
-use Rattle.packed.specs.Prefix.{unsigned_at, signed_at, bits_of, unrotated}
-use Rattle.packed.specs.Packed.{IsPacked, IsOneByte, IsTwoBytes, IsFourBytes, IsPackedSigned, FitsBits, signed_bits}
+use Rattle.packed.proofs.Prelude.{◌≡◌, ℕ, ◌-◌, ◌/◌, ◌%◌, ◌^◌, ◌<◌, ◌≤◌, Bool, true, false, cond, eqb, Option, Some, None, List, ◌++◌, length, take, refl, sym, ap, ◌∙◌, subst, arith, inl, inr, ℤ, pos, negsuc, ◌-ℤ◌, option_map, IfSome, IsSomeAnd, ints, length-take-le, eqb-true, eqb-false, eq-eqb, unsigned_at, signed_at, bits_of, unrotated, IsPacked, IsOneByte, IsTwoBytes, IsFourBytes, IsPackedSigned, FitsBits, signed_bits}
 use Rattle.packed.proofs.PackedLemmas.{AreBytes, unsigned_found, unsigned_again}
 
 -- the bits n encode the number z that they decode to

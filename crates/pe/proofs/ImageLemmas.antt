@@ -1,16 +1,9 @@
 -- A file satisfies all rules if and only if it is an image.
-use Rattle.std.proofs.Common.{◌≡◌, ℕ, ◌+◌, ◌-◌, ◌*◌, ◌≤◌, ◌⊎◌, inl, inr, List, ◌∷◌, ◌++◌, length, refl, sym, ap, ◌∙◌, subst, arith, Result, Ok, Err}
-use Rattle.std.specs.List.{flat_map}
+use Rattle.pe.proofs.Prelude.{◌≡◌, ℕ, ◌+◌, ◌-◌, ◌*◌, ◌≤◌, ◌⊎◌, inl, inr, List, ◌∷◌, ◌++◌, length, refl, sym, ap, ◌∙◌, subst, arith, Result, Ok, Err, flat_map, Field, literal, StandAt, AllSay, widths, little_endian, part, SectionHeader, Image, Format, pe32, pe32_plus, magic_of, wider_by, dos_header, pe_signature, file_header, optional_header, section_header, IsImage, lfanew, magic, wider, section_count, optional_header_size, directory_count, directory_offset, sections_offset, sections_from, image_of}
 use Rattle.std.specs.Result.{IfErr, IfOk, IsOkAnd}
 use Rattle.packed.specs.declared.fault.Fault.{Fault}
-use Rattle.packed.specs.Fields.{Field, literal, StandAt, AllSay, widths}
-use Rattle.packed.specs.Number.{little_endian}
-use Rattle.packed.specs.Offsets.{part}
 use Rattle.packed.specs.Rule.{AllHold, FirstBroken, Reports}
 use Rattle.packed.proofs.RuleLemmas.{none_fails}
-use Rattle.pe.specs.declared.section.SectionHeader.{SectionHeader}
-use Rattle.pe.specs.Image.{Image, Format, pe32, pe32_plus, magic_of, wider_by, dos_header, pe_signature, file_header, optional_header, section_header, IsImage}
-use Rattle.pe.specs.Headers.{lfanew, magic, wider, section_count, optional_header_size, directory_count, directory_offset, sections_offset, sections_from, image_of}
 use Rattle.pe.specs.Rules.{rules_of_image}
 use Rattle.pe.proofs.SectionLemmas.{moved, length-sections_from, widths-sections, sections_say, sections_said}
 

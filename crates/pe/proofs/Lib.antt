@@ -1,3 +1,4 @@
 pub mod ImageLemmas
 pub mod OffsetLemmas
+pub mod Prelude
 pub mod SectionLemmas

@@ -1,13 +1,8 @@
 -- The file offset of the bytes at an address, by the fields of an image that was read.
-use Rattle.std.proofs.Common.{◌≡◌, ℕ, ◌+◌, ◌-◌, ◌≤◌, sym, ap, ◌∙◌, Some}
-use Rattle.std.specs.List.{find}
+use Rattle.pe.proofs.Prelude.{◌≡◌, ℕ, ◌+◌, ◌-◌, ◌≤◌, sym, ap, ◌∙◌, Some, find, SectionHeader, sections_from, section_count, Image, has_bytes, offset_at}
 use Rattle.std.specs.Option.{option_map}
 use Rattle.pe.specs.declared.image.Pe.TheInside.{Inside}
-use Rattle.pe.specs.declared.section.SectionHeader.{SectionHeader}
 use Rattle.pe.specs.Checked.{shown_image, IsChecked}
-use Rattle.pe.specs.Headers.{sections_from, section_count}
-use Rattle.pe.specs.Image.{Image}
-use Rattle.pe.specs.Offset.{has_bytes, offset_at}
 use Rattle.pe.proofs.SectionLemmas.{found_before}
 
 -- the properties of a section that was found

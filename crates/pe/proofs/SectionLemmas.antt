@@ -1,14 +1,6 @@
 -- Section headers, one after another.
-use Rattle.std.proofs.Common.{◌≡◌, ℕ, zero, suc, ◌+◌, ◌-◌, ◌*◌, ◌<◌, ◌≤◌, List, [], ◌∷◌, length, refl, sym, ap, ◌∙◌, subst, arith, Bool, true, false, cond, Some, Option}
-use Rattle.std.specs.List.{flat_map, find}
+use Rattle.pe.proofs.Prelude.{◌≡◌, ℕ, zero, suc, ◌+◌, ◌-◌, ◌*◌, ◌<◌, ◌≤◌, List, [], ◌∷◌, length, refl, sym, ap, ◌∙◌, subst, arith, Bool, true, false, cond, Some, Option, flat_map, find, AllSay, widths, little_endian, part, SectionHeader, section_header, section_at, sections_from, has_bytes}
 use Rattle.std.proofs.lemmas.Bool.{and_parts, leb-true, cond-true, cond-false}
-use Rattle.packed.specs.Fields.{AllSay, widths}
-use Rattle.packed.specs.Number.{little_endian}
-use Rattle.packed.specs.Offsets.{part}
-use Rattle.pe.specs.declared.section.SectionHeader.{SectionHeader}
-use Rattle.pe.specs.Image.{section_header}
-use Rattle.pe.specs.Headers.{section_at, sections_from}
-use Rattle.pe.specs.Offset.{has_bytes}
 
 -- equal offsets have equal numbers
 pub moved : (whole : List ℕ) (offset other count : ℕ) → offset ≡ other → little_endian (part whole offset count) ≡ little_endian (part whole other count)

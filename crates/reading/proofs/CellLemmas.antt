@@ -1,19 +1,9 @@
 -- The cell that a number stands for, by the kind of its column.
 use Rattle.std.proofs.Common.{◌≡◌, ◌↔◌, ℕ, Bool, IsTrue, List, sym, ◌∙◌, ap, subst}
-use Rattle.table_schema.specs.declared.table.TableId.{TableId}
-use Rattle.table_schema.specs.declared.token.Token.{Token}
-use Rattle.table_schema.specs.declared.coded.Coded.{Coded}
-use Rattle.table_schema.specs.declared.column.SigKind.{SigKind}
-use Rattle.table_schema.specs.declared.column.ColumnKind.{ColumnKind}
+use Rattle.reading.proofs.Prelude.{TableId, Token, Coded, SigKind, ColumnKind, IsCoded, IsText, IsBlob, Cell, Text, Bytes, Start, Sig, Source, StandsFor, Refers, HasRows}
 use Rattle.table_schema.specs.declared.column.ColumnKind.TheVariants as kind
-use Rattle.table_schema.specs.CodedIndexes.{IsCoded}
-use Rattle.heap_entries.specs.Entries.{IsText, IsBlob}
 use Rattle.sig_grammar.specs.Syntax.{Body}
 use Rattle.sig_grammar.specs.Encodes.{Encodes}
-use Rattle.metadata.specs.Cell.{Cell}
-use Rattle.metadata.specs.Cell.{Text, Bytes, Start, Sig}
-use Rattle.metadata.specs.Source.{Source}
-use Rattle.metadata.specs.Stands.{StandsFor, Refers, HasRows}
 
 module _ (source : Source) (column : ColumnKind) (nullable : Bool) (start : TableId → ℕ) (number : ℕ) (cell : Cell) where
   as_kind : (other : ColumnKind) → column ≡ other → StandsFor source column nullable start number cell → StandsFor source other nullable start number cell

@@ -1,9 +1,6 @@
 -- The rows with a key.
 use Rattle.std.proofs.Common.{◌≡◌, ◌≢◌, ℕ, ◌+◌, ◌-◌, ◌<◌, ◌≤◌, ◌==◌, true, false, List, [], ◌∷◌, sym, ◌∙◌, ap, arith}
-use Rattle.std.proofs.lemmas.Bool.{eq-eqb}
-use Rattle.std.proofs.lemmas.Bool.Decides.{nat_tests}
-use Rattle.rows.specs.Keys.{key_at}
-use Rattle.reading.specs.KeyRows.{rows_that, rows_with}
+use Rattle.reading.proofs.Prelude.{eq-eqb, nat_tests, key_at, rows_that, rows_with}
 use Rattle.reading.proofs.RowLemmas.{none_that, skip_that, cut_that, first_that}
 
 -- the next row with a key number, or the end of the rows

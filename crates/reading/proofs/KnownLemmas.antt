@@ -1,11 +1,9 @@
 -- The starts that are kept, one more at a time.
 use Rattle.std.proofs.Common.{◌≡◌, ◌≢◌, ℕ, ◌+◌, ◌-◌, ◌*◌, ◌≤◌, ◌<◌, List, length, slice_index, slice_set, sym, ◌∙◌, ap, inl, inr, arith}
 use Rattle.std.proofs.Math.Nat.{mul-le-mul_left, le_of_mul-le-mul_left}
-use Rattle.std.proofs.lemmas.Bool.{cases_eq, cases_lt}
+use Rattle.reading.proofs.Prelude.{cases_eq, cases_lt, mul-le, IsKnown}
 use Rattle.std.proofs.lemmas.List.{get_or-set_other}
-use Rattle.std.proofs.lemmas.Nat.{mul-le}
 use Rattle.std.proofs.lemmas.Grind.{get_or-set_at}
-use Rattle.reading.specs.KnownStarts.{IsKnown}
 use Rattle.reading.specs.declared.known_starts.KnownStarts.{KnownStarts}
 
 -- a multiple below a number of steps has an index below that number

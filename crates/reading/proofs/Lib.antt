@@ -1,6 +1,7 @@
 pub mod CellLemmas
 pub mod KeyLemmas
 pub mod KnownLemmas
+pub mod Prelude
 pub mod RowLemmas
 pub mod ShownLemmas
 pub mod StartCells

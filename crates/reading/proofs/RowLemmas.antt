@@ -1,7 +1,6 @@
 -- The rows that pass a test.
 use Rattle.std.proofs.Common.{◌≡◌, ℕ, zero, suc, ◌+◌, ◌-◌, ◌<◌, ◌≤◌, ◌⊎◌, inl, inr, Bool, true, false, cond, List, [], ◌∷◌, refl, sym, ◌∙◌, ap, arith}
-use Rattle.std.proofs.lemmas.Bool.{cases_eq}
-use Rattle.reading.specs.KeyRows.{rows_that}
+use Rattle.reading.proofs.Prelude.{cases_eq, rows_that}
 
 module _ (test : ℕ → Bool) where
   -- none of the rows from one to before another passes

@@ -1,19 +1,7 @@
 -- The cell that a value in place stands for, if the number of its column stands for one.
 use Rattle.std.proofs.Common.{◌≡◌, ℕ, ◌≤◌, Bool, List, Option, Some, None, sym, ◌∙◌, ap, subst, inl, inr}
-use Rattle.table_schema.specs.declared.table.TableId.{TableId}
-use Rattle.table_schema.specs.declared.token.Token.{Token}
-use Rattle.table_schema.specs.declared.coded.Coded.{Coded}
-use Rattle.table_schema.specs.declared.column.SigKind.{SigKind}
-use Rattle.table_schema.specs.declared.column.ColumnKind.{ColumnKind}
+use Rattle.reading.proofs.Prelude.{TableId, Token, Coded, SigKind, ColumnKind, column_at, IsCoded, IsText, IsBlob, Cell, Text, Bytes, Ref, Source, number_of, start_of, Refers}
 use Rattle.table_schema.specs.declared.column.ColumnKind.TheVariants as kind
-use Rattle.table_schema.specs.Columns.{column_at}
-use Rattle.table_schema.specs.CodedIndexes.{IsCoded}
-use Rattle.heap_entries.specs.Entries.{IsText, IsBlob}
-use Rattle.metadata.specs.Cell.{Cell}
-use Rattle.metadata.specs.Cell.{Text, Bytes, Ref}
-use Rattle.metadata.specs.Source.{Source, number_of}
-use Rattle.metadata.specs.Starts.{start_of}
-use Rattle.metadata.specs.Stands.{Refers}
 use Rattle.metadata.specs.Rows.{StandsIn}
 use Rattle.reading.specs.Shown.{ShowsSignature}
 use Rattle.reading.proofs.CellLemmas.{text_cell, blob_cell, signature_cell, coded_cell}

@@ -1,13 +1,6 @@
 -- The cells of a model that are starts of runs.
-use Rattle.std.proofs.Common.{◌≡◌, ℕ, ◌<◌, ◌≤◌, sym, ◌∙◌, ap}
-use Rattle.table_schema.specs.declared.table.TableId.{TableId}
+use Rattle.reading.proofs.Prelude.{◌≡◌, ℕ, ◌<◌, ◌≤◌, sym, ◌∙◌, ap, TableId, column_at, cell_count, column_of, Start, Metadata, cell_in, Source, rows_in, number_of, start_of}
 use Rattle.table_schema.specs.declared.column.ColumnKind.TheVariants.{List}
-use Rattle.table_schema.specs.Columns.{column_at}
-use Rattle.table_schema.specs.CellColumns.{cell_count, column_of}
-use Rattle.metadata.specs.Cell.{Start}
-use Rattle.metadata.specs.Metadata.{Metadata, cell_in}
-use Rattle.metadata.specs.Source.{Source, rows_in, number_of}
-use Rattle.metadata.specs.Starts.{start_of}
 use Rattle.reading.specs.ReadFrom.{IsReadFrom}
 use Rattle.reading.proofs.CellLemmas.{list_cell}
 

@@ -1,10 +1,5 @@
 -- The start of an owner's run, from its own number and from the next owner.
-use Rattle.std.proofs.Common.{◌≡◌, ◌≢◌, ℕ, zero, suc, ◌+◌, ◌-◌, ◌<◌, ◌≤◌, eqb, false, refl, ap, sym, ◌∙◌, inl, inr, arith}
-use Rattle.std.proofs.lemmas.Bool.{cases_eq}
-use Rattle.std.proofs.lemmas.Bool.Decides.{nat_tests}
-use Rattle.table_schema.specs.declared.table.TableId.{TableId}
-use Rattle.metadata.specs.Source.{Source, rows_in, number_of}
-use Rattle.metadata.specs.Starts.{start_from, start_of}
+use Rattle.reading.proofs.Prelude.{◌≡◌, ◌≢◌, ℕ, zero, suc, ◌+◌, ◌-◌, ◌<◌, ◌≤◌, eqb, false, refl, ap, sym, ◌∙◌, inl, inr, arith, cases_eq, nat_tests, TableId, Source, rows_in, number_of, start_from, start_of}
 
 from_here : (value : ℕ → ℕ) (past row left : ℕ) → 0 < left → value row ≢ 0 → start_from value past row left ≡ value row
 from_here value past row zero h other = absurd (omega arith)

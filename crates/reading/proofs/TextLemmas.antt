@@ -1,10 +1,8 @@
 -- Strings before the first NUL.
 use Rattle.std.proofs.Common.{◌≡◌, ◌≢◌, ℕ, Bool, true, false, not, ◌==◌, IsTrue, ◌↔◌, List, [], ◌∷◌, ◌++◌, Some, None, slice_get, refl, sym, ◌∙◌, ap, arith, inl, inr}
 use Rattle.std.specs.List.{list_any, AllByRecursion}
-use Rattle.std.proofs.lemmas.Bool.{cases_eq, eq-eqb}
-use Rattle.std.proofs.lemmas.Bool.Decides.{nat_tests}
+use Rattle.reading.proofs.Prelude.{cases_eq, eq-eqb, nat_tests, HasNoNul}
 use Rattle.std.proofs.lemmas.List.Elements.{recursion_from_All}
-use Rattle.heap_entries.specs.Entries.{HasNoNul}
 
 abbrev pub NoNul : List ℕ → Type 0
 NoNul bytes = AllByRecursion (λ byte. byte ≢ 0) bytes

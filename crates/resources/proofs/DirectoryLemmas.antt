@@ -1,12 +1,5 @@
 -- A file has one resources directory at most.
-use Rattle.std.proofs.Common.{◌≡◌, ◌≤◌, ℕ, ◌+◌, List, ◌∙◌, length, ap, sym}
-use Rattle.packed.specs.Fields.{Field, StandAt, AllSay, widths}
-use Rattle.packed.specs.Offsets.{part}
-use Rattle.pe.specs.Headers.{image_of}
-use Rattle.pe.specs.Image.{Image, IsImage}
-use Rattle.pe.specs.Offset.{offset_at}
-use Rattle.cli_header.specs.declared.header.CliHeader.{CliHeader}
-use Rattle.resources.specs.Resources.{IsDirectory}
+use Rattle.resources.proofs.Prelude.{◌≡◌, ◌≤◌, ℕ, ◌+◌, List, ◌∙◌, length, ap, sym, Field, StandAt, AllSay, widths, part, image_of, Image, IsImage, offset_at, CliHeader, IsDirectory}
 
 module _ (file : List ℕ) (header : CliHeader)
     (is_one : (image : Image) → IsImage file image → image ≡ image_of file)

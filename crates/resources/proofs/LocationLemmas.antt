@@ -1,17 +1,9 @@
 -- Where a resource is, by what was found of the directory and of its row.
-use Rattle.std.proofs.Common.{◌≡◌, ◌≤◌, ℕ, ◌+◌, List, Option, Some, None, Bool, length, arith, subst}
+use Rattle.resources.proofs.Prelude.{◌≡◌, ◌≤◌, ℕ, ◌+◌, List, Option, Some, None, Bool, length, arith, subst, Field, StandAt, AllSay, widths, image_of, Image, IsImage, CliHeader, ManifestResource, Metadata, cell_in, IsContent, IsDirectory, IsLocation, IsStored, Where, here, elsewhere, Directory}
 use Rattle.std.specs.Prelude.{IfSome, IsSomeAnd}
-use Rattle.packed.specs.Fields.{Field, StandAt, AllSay, widths}
-use Rattle.pe.specs.Headers.{image_of}
-use Rattle.pe.specs.Image.{Image, IsImage}
-use Rattle.cli_header.specs.declared.header.CliHeader.{CliHeader}
-use Rattle.table_schema.specs.declared.table.TableId.TheVariants.{ManifestResource}
 use Rattle.table_schema.specs.declared.token.Token.{Token}
 use Rattle.metadata.specs.Cell.{Number, Ref}
-use Rattle.metadata.specs.Metadata.{Metadata, cell_in}
-use Rattle.resources.specs.Resources.{IsContent, IsDirectory, IsLocation, IsStored, Where, here, elsewhere}
 use Rattle.resources.specs.declared.directory.Content.{Content}
-use Rattle.resources.specs.declared.directory.Directory.{Directory}
 use Rattle.resources.proofs.DirectoryLemmas.{bytes_one, start_one}
 
 -- ---- contents of the directory of a file

@@ -1,14 +1,6 @@
 -- A stream header at an offset.
-use Rattle.std.proofs.Common.{◌≡◌, ℕ, suc, ◌+◌, ◌-◌, ◌*◌, ◌/◌, ◌<◌, ◌≤◌, List, ◌∷◌, ◌++◌, length, take, drop, refl, sym, ap, ◌∙◌, arith, length-append, length-drop, Result, Ok, Err, Some, None, subst}
-use Rattle.std.specs.Result.{result_ok, MatchResult}
-use Rattle.std.specs.Str.{IsAscii}
+use Rattle.root.proofs.Prelude.{◌≡◌, ℕ, suc, ◌+◌, ◌-◌, ◌*◌, ◌/◌, ◌<◌, ◌≤◌, List, ◌∷◌, ◌++◌, length, take, drop, refl, sym, ap, ◌∙◌, arith, length-append, length-drop, Result, Ok, Err, Some, None, subst, result_ok, MatchResult, IsAscii, part, Header, IsHeader, IsPadded, before_nul, header_at, header_length, ShowsHeader, HasHeader}
 use Rattle.std.proofs.lemmas.List.{append_assoc, take_at, drop_at, drop-drop, take-append-drop, length-take-le}
-use Rattle.packed.specs.Offsets.{part}
-use Rattle.root.specs.Streams.{Header}
-use Rattle.root.specs.Root.{IsHeader, IsPadded}
-use Rattle.root.specs.Fields.{before_nul, header_at, header_length}
-use Rattle.root.specs.Shown.{ShowsHeader}
-use Rattle.root.specs.Rules.{HasHeader}
 use Rattle.root.proofs.NulLemmas.{nul_offset, nul_split, before_nul-text, before_nul-no_nul, length-before_nul}
 
 -- the length of bytes with their padding

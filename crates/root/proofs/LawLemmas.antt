@@ -1,13 +1,6 @@
 -- A root, its rules and its stream headers.
-use Rattle.std.proofs.Common.{◌≡◌, ℕ, ◌+◌, ◌≤◌, ◌^◌, List, length, Option, Some, None, refl, ap, ◌∙◌, arith}
+use Rattle.root.proofs.Prelude.{◌≡◌, ℕ, ◌+◌, ◌≤◌, ◌^◌, List, length, Option, Some, None, refl, ap, ◌∙◌, arith, AllHold, rules_from, all_prefix, all_back, Kind, Header, RootRead, named, range_of, stream_name, IsRoot, root_read, header_count, headers_before, rules_of_root_header, rules_of_header, rules_of_tables, rules_of_root}
 use Rattle.std.specs.Option.{IfSome, option_map}
-use Rattle.packed.specs.Rule.{AllHold, rules_from}
-use Rattle.packed.proofs.RuleLemmas.{all_prefix, all_back}
-use Rattle.root.specs.declared.kind.Kind.{Kind}
-use Rattle.root.specs.Streams.{Header, RootRead, named, range_of, stream_name}
-use Rattle.root.specs.Root.{IsRoot}
-use Rattle.root.specs.Fields.{root_read, header_count, headers_before}
-use Rattle.root.specs.Rules.{rules_of_root_header, rules_of_header, rules_of_tables, rules_of_root}
 use Rattle.root.proofs.RootLemmas.{root_from_rules, root_meets, within_from_all, found_within}
 
 pub rules_met : (root version : List ℕ) (headers : List Header) → length root ≤ 2 ^ 30 → IsRoot root version headers → AllHold (rules_of_root root)

@@ -1,24 +1,11 @@
 -- All rules hold if and only if the bytes are a root of at most 2^30 bytes.
 use Rattle.std.proofs.Common.{◌≡◌, ℕ, zero, suc, add-one, ◌+◌, ◌%◌, ◌≤◌, ◌<◌, ◌^◌, List, [], ◌∷◌, ◌++◌, length, drop, refl, sym, ap, ◌∙◌, subst, arith, append_assoc, length-append, length-drop, Bool, true, false, cond, Some, inl, inr, get_or, Result, Ok, Err}
-use Rattle.std.proofs.lemmas.List.{append-nil, drop_at, drop-drop, take-append-drop, length-take-le, drop_all, drop_more, get_or_append_left, get_or_at}
+use Rattle.root.proofs.Prelude.{append-nil, drop_at, drop-drop, take-append-drop, length-take-le, drop_all, drop_more, get_or_append_left, get_or_at, part, cases_lt, none_fails, all_prefix, all_back, all_append, before_none, before_more, before_all, before_of_all, before_fewer, IfOk, IsOkAnd, find, bytes_eq, AllHold, Reports, rules_from, HoldBefore, Kind, Header, RootRead, named, stream_name, signature, IsHeader, AreHeaders, EndsWithin, IsNew, IsCompressed, AllMeet, IsRoot, before_nul, root_read, version_length, version_of, header_count, header_at, header_length, header_offset, headers_before, AllShow, HasSignature, HasVersion, HasHeader, rules_of_root_header, rules_of_header, rules_of_tables, rules_of_root}
 use Rattle.packed.specs.Number.{little_endian}
-use Rattle.packed.specs.Offsets.{part}
-use Rattle.std.proofs.lemmas.Bool.{cases_lt}
 use Rattle.std.proofs.lemmas.Slice.Eq.{bytes_eq-Decides}
-use Rattle.packed.proofs.RuleLemmas.{none_fails, all_prefix, all_back, all_append, before_none, before_more, before_all, before_of_all, before_fewer}
-use Rattle.std.specs.Result.{IfOk, IsOkAnd}
-use Rattle.std.specs.List.{find}
-use Rattle.std.specs.Str.{bytes_eq}
 use Rattle.packed.specs.declared.fault.Fault.{Fault}
-use Rattle.packed.specs.Rule.{AllHold, Reports, rules_from, HoldBefore}
-use Rattle.root.specs.declared.kind.Kind.{Kind}
 use Rattle.std.specs.Prelude.{IsSome}
 use Rattle.root.specs.declared.kind.Kind.TheVariants.{Tables}
-use Rattle.root.specs.Streams.{Header, RootRead, named, stream_name}
-use Rattle.root.specs.Root.{signature, IsHeader, AreHeaders, EndsWithin, IsNew, IsCompressed, AllMeet, IsRoot}
-use Rattle.root.specs.Fields.{before_nul, root_read, version_length, version_of, header_count, header_at, header_length, header_offset, headers_before}
-use Rattle.root.specs.Shown.{AllShow}
-use Rattle.root.specs.Rules.{HasSignature, HasVersion, HasHeader, rules_of_root_header, rules_of_header, rules_of_tables, rules_of_root}
 use Rattle.root.proofs.NulLemmas.{before_nul-text}
 use Rattle.root.proofs.HeaderLemmas.{part_at, header_reports, header_stands}
 use Rattle.root.proofs.WalkLemmas.{shows_from_all}

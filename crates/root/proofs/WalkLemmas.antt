@@ -1,15 +1,6 @@
 -- Headers one after another.
 use Rattle.std.proofs.Common.{◌≡◌, ℕ, zero, suc, ◌+◌, ◌<◌, ◌≤◌, Bool, true, false, cond, List, [], ◌∷◌, ◌++◌, Some, None, inl, inr, refl, sym, ap, ◌∙◌, arith, add-one, append_assoc}
-use Rattle.std.proofs.lemmas.List.{append-nil}
-use Rattle.std.proofs.lemmas.Bool.{cases_lt}
-use Rattle.std.specs.List.{find}
-use Rattle.std.specs.Str.{bytes_eq}
-use Rattle.packed.specs.Rule.{AllHold, rules_from, HoldBefore}
-use Rattle.packed.proofs.RuleLemmas.{before_of_all}
-use Rattle.root.specs.Fields.{header_at, header_length, header_offset, headers_before}
-use Rattle.root.specs.Rules.{rules_of_header}
-use Rattle.root.specs.Shown.{AllShow}
-use Rattle.root.specs.Streams.{Header, named}
+use Rattle.root.proofs.Prelude.{append-nil, cases_lt, find, bytes_eq, AllHold, rules_from, HoldBefore, before_of_all, header_at, header_length, header_offset, headers_before, rules_of_header, AllShow, Header, named}
 use Rattle.root.proofs.HeaderLemmas.{shows_from_has}
 
 -- a search in two lists

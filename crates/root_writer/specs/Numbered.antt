@@ -3,8 +3,7 @@ use Rattle.std.specs.Prelude.{◌≡◌, ℕ, ◌^◌, ◌<◌, ◌≤◌, ◌�
 use Rattle.heap_pools.specs.BlobHeap.{blob_heap}
 use Rattle.heap_pools.specs.GuidHeap.{guid_heap}
 use Rattle.sig_grammar.specs.Encodes.{short}
-use Rattle.metadata.specs.Cell.{Cell}
-use Rattle.metadata.specs.Cell.{Bytes, Ref, Sig}
+use Rattle.metadata.specs.Cell.{Cell, Bytes, Ref, Sig}
 use Rattle.metadata.specs.Metadata.{Metadata}
 use Rattle.root_writer.specs.Pools.{pools_of}
 use Rattle.root_writer.specs.Numbers.{numbers}

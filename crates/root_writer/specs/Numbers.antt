@@ -9,8 +9,7 @@ use Rattle.heap_pools.specs.TextHeap.{text_index}
 use Rattle.heap_pools.specs.BlobHeap.{blob_index}
 use Rattle.heap_pools.specs.GuidHeap.{guid_index}
 use Rattle.sig_grammar.specs.Encodes.{short}
-use Rattle.metadata.specs.Cell.{Cell}
-use Rattle.metadata.specs.Cell.{Number, Text, Bytes, Guid, Ref, Start, Sig}
+use Rattle.metadata.specs.Cell.{Cell, Number, Text, Bytes, Guid, Ref, Start, Sig}
 use Rattle.metadata.specs.Metadata.{Metadata, rows_of}
 use Rattle.metadata.specs.KeyOrder.{row_number}
 use Rattle.table_schema.specs.CellColumns.{is_padding}

@@ -1,7 +1,6 @@
 -- The pools of a model: the values in its heaps (ECMA-335 II.24.2.3 to II.24.2.5).
 use Rattle.std.specs.Prelude.{ℕ, List, [], ◌∷◌, flat_map, Some}
-use Rattle.metadata.specs.Cell.{Cell}
-use Rattle.metadata.specs.Cell.{Text, Bytes, Guid, Sig}
+use Rattle.metadata.specs.Cell.{Cell, Text, Bytes, Guid, Sig}
 use Rattle.heap_entries.specs.Padding.{zero_padded}
 use Rattle.heap_pools.specs.Distinct.{distinct}
 use Rattle.heap_pools.specs.TextHeap.{holders, text_heap}

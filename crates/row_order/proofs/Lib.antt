@@ -1,2 +1,3 @@
 pub mod OrderLemmas
 pub mod Orders
+pub mod Prelude

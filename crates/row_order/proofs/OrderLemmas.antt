@@ -1,14 +1,8 @@
 -- The order of tables, one table after another.
-use Rattle.std.proofs.Common.{◌≡◌, ℕ, ◌+◌, ◌<◌, ◌↔◌, Bool, false, IsTrue, List, length, Some, slice_index_or, slice_set, sym, ◌∙◌, ap, subst, inl, inr, arith}
+use Rattle.row_order.proofs.Prelude.{◌≡◌, ℕ, ◌+◌, ◌<◌, ◌↔◌, Bool, false, IsTrue, List, length, Some, slice_index_or, slice_set, sym, ◌∙◌, ap, subst, inl, inr, arith, TableId, Module, table_number, table_index_of, tables, key_of, Source, IsInOrder}
 use Rattle.std.proofs.lemmas.Bool.{cases_eq, cases_lt}
 use Rattle.std.proofs.lemmas.List.{get_or-set_other}
 use Rattle.std.proofs.lemmas.Grind.{get_or-set_at}
-use Rattle.table_schema.specs.declared.table.TableId.{TableId}
-use Rattle.table_schema.specs.declared.table.TableId.TheVariants.{Module}
-use Rattle.table_schema.specs.Tables.{table_number, table_index_of, tables}
-use Rattle.table_schema.specs.Columns.{key_of}
-use Rattle.metadata.specs.Source.{Source}
-use Rattle.metadata.specs.RowRules.{IsInOrder}
 
 -- the bit of a table says whether its keys never decrease
 abbrev pub Reports : Source → Bool → TableId → Type 0

@@ -1,13 +1,7 @@
 -- A table in order of its key obeys the rules for its order.
-use Rattle.std.proofs.Common.{ℕ, ◌-◌, Bool, true, false, List, arith}
+use Rattle.row_order.proofs.Prelude.{ℕ, ◌-◌, Bool, true, false, List, arith, Rule, AllHold, rules_if, all_of_each, TableId, rows_in, IsInOrder, rules_of_key_in, rules_of_keys}
 use Rattle.packed.specs.declared.fault.Fault.{Fault}
-use Rattle.packed.specs.Rule.{Rule, AllHold, rules_if}
-use Rattle.packed.proofs.RuleLemmas.{all_of_each}
-use Rattle.table_schema.specs.declared.table.TableId.{TableId}
-use Rattle.metadata.specs.Source.{rows_in}
-use Rattle.metadata.specs.RowRules.{IsInOrder}
 use Rattle.metadata.specs.SourceAt.{SourceAt}
-use Rattle.metadata.specs.Rules.{rules_of_key_in, rules_of_keys}
 
 where_met : (test : Bool) (ds : List (Rule Fault)) → AllHold ds → AllHold (rules_if test ds)
 where_met true ds all = all

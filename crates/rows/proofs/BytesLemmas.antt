@@ -1,10 +1,5 @@
 -- The bytes of numbers, and parts of lists.
-use Rattle.std.proofs.Common.{◌≡◌, ℕ, zero, suc, ◌*◌, ◌/◌, ◌^◌, ◌<◌, List, ◌++◌, take, drop, length, refl, sym, ◌∙◌, ap, append_assoc, arith}
-use Rattle.std.proofs.lemmas.List.{drop_at, take_at}
-use Rattle.std.proofs.Math.Nat.{pow-succ'}
-use Rattle.packed.specs.Number.{little_endian}
-use Rattle.packed.specs.Offsets.{part}
-use Rattle.schema.specs.LaidOut.{number_bytes}
+use Rattle.rows.proofs.Prelude.{◌≡◌, ℕ, zero, suc, ◌*◌, ◌/◌, ◌^◌, ◌<◌, List, ◌++◌, take, drop, length, refl, sym, ◌∙◌, ap, append_assoc, arith, drop_at, take_at, pow-succ', little_endian, part, number_bytes}
 
 -- elements of a list that follow those before them
 pub record Follows (whole before here : List ℕ) : Type 0 where

@@ -1,9 +1,6 @@
 -- Binary search, and binary digits.
-use Rattle.std.proofs.Common.{◌≡◌, ℕ, zero, suc, ◌+◌, ◌-◌, ◌*◌, ◌^◌, ◌<◌, ◌≤◌, eqb, List, length, arith, add-one, ap, ◌∙◌}
-use Rattle.std.proofs.Math.Nat.{pow-succ'}
-use Rattle.std.proofs.lemmas.Bool.{cond_both, eqb-true, eqb-false}
+use Rattle.rows.proofs.Prelude.{◌≡◌, ℕ, zero, suc, ◌+◌, ◌-◌, ◌*◌, ◌^◌, ◌<◌, ◌≤◌, eqb, List, length, arith, add-one, ap, ◌∙◌, pow-succ', cond_both, eqb-true, eqb-false, key_at, digits_after, binary_digits}
 use Rattle.std.specs.List.Sorted.{IsNonDecreasing}
-use Rattle.rows.specs.Keys.{key_at, digits_after, binary_digits}
 
 -- fewer than 2^spare rows are left, and `spare` more reads stay within `digits` reads
 pub record Halves (left reads digits : ℕ) : Type 0 where

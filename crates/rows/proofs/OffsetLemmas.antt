@@ -1,20 +1,5 @@
 -- The offset of a cell is the length of what precedes it.
-use Rattle.std.proofs.Common.{◌≡◌, ℕ, zero, suc, ◌+◌, ◌-◌, ◌*◌, ◌<◌, ◌≤◌, Bool, true, false, cond, eqb, List, [], ◌∷◌, ◌++◌, take, drop, map, length, get_or, refl, sym, ◌∙◌, ap, length-append, length-drop, arith, add-one}
-use Rattle.std.proofs.lemmas.Bool.{eqb-true}
-use Rattle.std.proofs.lemmas.List.{take_all, take-take, length-take-le, drop-drop, drop-take, get_or-drop}
-use Rattle.std.proofs.lemmas.Nat.{mul-le}
-use Rattle.packed.specs.Offsets.{part}
-use Rattle.std.proofs.lemmas.List.Sums.{sum_by-cons}
-use Rattle.table_schema.specs.declared.table.TableId.{TableId}
-use Rattle.table_schema.specs.declared.table.TableId.TheVariants.{Module}
-use Rattle.table_schema.specs.declared.column.Column.{Column}
-use Rattle.table_schema.specs.Tables.{table_index_of, tables}
-use Rattle.table_schema.specs.Columns.{columns_of}
-use Rattle.schema.specs.Sizes.{Sizes, count_of}
-use Rattle.schema.specs.Offsets.{columns_width, row_width, tables_size, table_size, cell_start}
-use Rattle.schema.specs.Cells.{cell_width}
-use Rattle.schema.specs.LaidOut.{row_bytes, rows_bytes, tables_bytes, FitRow, FitRows, FitTables, IsLaidOut}
-use Rattle.rows.specs.Cells.{bytes_before}
+use Rattle.rows.proofs.Prelude.{◌≡◌, ℕ, zero, suc, ◌+◌, ◌-◌, ◌*◌, ◌<◌, ◌≤◌, Bool, true, false, cond, eqb, List, [], ◌∷◌, ◌++◌, take, drop, map, length, get_or, refl, sym, ◌∙◌, ap, length-append, length-drop, arith, add-one, eqb-true, take_all, take-take, length-take-le, drop-drop, drop-take, get_or-drop, mul-le, part, sum_by-cons, TableId, Module, Column, table_index_of, tables, columns_of, Sizes, count_of, columns_width, row_width, tables_size, table_size, cell_start, cell_width, row_bytes, rows_bytes, tables_bytes, FitRow, FitRows, FitTables, IsLaidOut, bytes_before}
 use Rattle.rows.proofs.RowLemmas.{length_of_fit, columns_length, row_length}
 
 -- the number of bytes of the first rows of a table

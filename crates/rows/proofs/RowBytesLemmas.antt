@@ -1,21 +1,6 @@
 -- The bytes of some rows of a table.
-use Rattle.std.proofs.Common.{◌≡◌, ℕ, ◌+◌, ◌-◌, ◌*◌, ◌<◌, ◌≤◌, List, take, drop, length, get_or, sym, ◌∙◌, ap, arith, length-drop}
-use Rattle.std.proofs.Math.Nat.{add-mul}
-use Rattle.std.proofs.lemmas.Nat.{mul-le}
-use Rattle.std.proofs.lemmas.List.{length-take-le}
-use Rattle.std.proofs.lemmas.List.Sums.{sum_by_more_le}
-use Rattle.packed.specs.Number.{little_endian}
-use Rattle.packed.specs.Offsets.{part}
-use Rattle.table_schema.specs.declared.table.TableId.{TableId}
-use Rattle.table_schema.specs.declared.table.TableId.TheVariants.{Module}
-use Rattle.table_schema.specs.declared.column.Column.{Column}
+use Rattle.rows.proofs.Prelude.{◌≡◌, ℕ, ◌+◌, ◌-◌, ◌*◌, ◌<◌, ◌≤◌, List, take, drop, length, get_or, sym, ◌∙◌, ap, arith, length-drop, add-mul, mul-le, length-take-le, sum_by_more_le, little_endian, part, TableId, Module, Column, table_index_of, tables, col, columns_of, Sizes, count_of, width_of, cell_start, columns_width, offset_in_row, row_start, row_width, table_size, table_start, tables_end, tables_size, cell_width, number_at, number_in_rows}
 use Rattle.table_schema.specs.declared.column.ColumnKind.TheVariants as kind
-use Rattle.table_schema.specs.Tables.{table_index_of, tables}
-use Rattle.table_schema.specs.Columns.{col, columns_of}
-use Rattle.schema.specs.Sizes.{Sizes, count_of, width_of}
-use Rattle.schema.specs.Offsets.{cell_start, columns_width, offset_in_row, row_start, row_width, table_size, table_start, tables_end, tables_size}
-use Rattle.schema.specs.Cells.{cell_width, number_at}
-use Rattle.rows.specs.Cells.{number_in_rows}
 use Rattle.rows.proofs.OffsetLemmas.{part_of_part}
 
 columns_within : (sizes : Sizes) (columns : List Column) (i : ℕ) (none : Column) → i < length columns

@@ -1,17 +1,6 @@
 -- The bytes of a row, column by column.
-use Rattle.std.proofs.Common.{◌≡◌, ℕ, zero, suc, ◌+◌, ◌^◌, ◌<◌, ◌≤◌, List, [], ◌∷◌, ◌++◌, take, drop, length, get_or, refl, sym, ◌∙◌, ap, append_assoc, length-append, arith}
-use Rattle.std.proofs.lemmas.List.{drop_all, drop_more, take_all}
-use Rattle.std.proofs.lemmas.List.Sums.{sum_by-cons, sum_by-drop_more}
-use Rattle.packed.specs.Number.{little_endian}
-use Rattle.packed.specs.Offsets.{part}
-use Rattle.table_schema.specs.declared.table.TableId.{TableId}
-use Rattle.table_schema.specs.declared.column.Column.{Column}
+use Rattle.rows.proofs.Prelude.{◌≡◌, ℕ, zero, suc, ◌+◌, ◌^◌, ◌<◌, ◌≤◌, List, [], ◌∷◌, ◌++◌, take, drop, length, get_or, refl, sym, ◌∙◌, ap, append_assoc, length-append, arith, drop_all, drop_more, take_all, sum_by-cons, sum_by-drop_more, little_endian, part, TableId, Column, columns_of, col, Sizes, width_of, columns_width, offset_in_row, number_bytes, row_bytes, FitRow, cell_width}
 use Rattle.table_schema.specs.declared.column.ColumnKind.TheVariants as kind
-use Rattle.table_schema.specs.Columns.{columns_of, col}
-use Rattle.schema.specs.Sizes.{Sizes, width_of}
-use Rattle.schema.specs.Offsets.{columns_width, offset_in_row}
-use Rattle.schema.specs.LaidOut.{number_bytes, row_bytes, FitRow}
-use Rattle.schema.specs.Cells.{cell_width}
 use Rattle.rows.proofs.BytesLemmas.{Follows, follows_within, part_follows, length-number_bytes, number_again}
 
 -- a row has one number for each column

@@ -1,17 +1,6 @@
 -- At most one cell has a byte.
-use Rattle.std.proofs.Common.{◌≡◌, ◌∙◌, ℕ, zero, suc, ◌+◌, ◌-◌, ◌*◌, ◌<◌, ◌≤◌, List, take, length, get_or, ap, sym, subst, arith, mul-le-mul, inl, inr}
-use Rattle.std.specs.List.{sum_by}
-use Rattle.std.proofs.lemmas.Bool.{cases_lt}
-use Rattle.std.proofs.lemmas.List.Sums.{sum_by_more}
-use Rattle.table_schema.specs.declared.table.TableId.{TableId}
-use Rattle.table_schema.specs.declared.table.TableId.TheVariants.{Module}
-use Rattle.table_schema.specs.declared.column.Column.{Column}
+use Rattle.schema.proofs.Prelude.{◌≡◌, ◌∙◌, ℕ, zero, suc, ◌+◌, ◌-◌, ◌*◌, ◌<◌, ◌≤◌, List, take, length, get_or, ap, sym, subst, arith, mul-le-mul, inl, inr, sum_by, cases_lt, sum_by_more, TableId, Module, Column, table_index_of, tables, columns_of, col, Sizes, count_of, width_of, columns_width, row_width, table_size, table_start, tables_size, HasRow, HasCell}
 use Rattle.table_schema.specs.declared.column.ColumnKind.TheVariants as kind
-use Rattle.table_schema.specs.Tables.{table_index_of, tables}
-use Rattle.table_schema.specs.Columns.{columns_of, col}
-use Rattle.schema.specs.Sizes.{Sizes, count_of, width_of}
-use Rattle.schema.specs.Offsets.{columns_width, row_width, table_size, table_start, tables_size}
-use Rattle.schema.specs.LocatedCells.{HasRow, HasCell}
 use Rattle.schema.proofs.LocatedCellLemmas.{in_row, one_row}
 
 -- an item ends before a later one begins

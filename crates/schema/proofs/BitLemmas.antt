@@ -1,16 +1,5 @@
 -- The bits of the tables that pass a test, as one number.
-use Rattle.std.proofs.Common.{◌≡◌, ℕ, zero, suc, ◌+◌, ◌-◌, ◌*◌, ◌/◌, ◌%◌, ◌^◌, ◌<◌, ◌≤◌, Bool, true, false, cond, List, [], ◌∷◌, length, get_or, take, refl, sym, ap, ◌∙◌, arith, lit<, eqb}
-use Rattle.std.proofs.Math.Nat.{pow-le-pow_right}
-use Rattle.std.proofs.lemmas.List.Sums.{sum_by-cons, sum_by_more}
-use Rattle.std.proofs.lemmas.Nat.{pow_pos, pow-add, shr-shr, div-mul-add, one_shl}
-use Rattle.table_schema.specs.declared.table.TableId.{TableId}
-use Rattle.table_schema.specs.declared.table.TableId.TheVariants.{Module}
-use Rattle.table_schema.specs.Tables.{tables, table_number, table_index_of}
-use Rattle.schema.specs.LaidOut.{bits_of}
-use Rattle.schema.specs.Header.{has_bit}
-use Rattle.schema.specs.Rules.{NamesTables}
-use Rattle.table_schema.proofs.TableFacts.{table_at_index, table_index_below, number_below, length-tables}
-use Rattle.table_schema.proofs.TableOrder.{IsAscending, ascending, above}
+use Rattle.schema.proofs.Prelude.{◌≡◌, ℕ, zero, suc, ◌+◌, ◌-◌, ◌*◌, ◌/◌, ◌%◌, ◌^◌, ◌<◌, ◌≤◌, Bool, true, false, cond, List, [], ◌∷◌, length, get_or, take, refl, sym, ap, ◌∙◌, arith, lit<, eqb, pow-le-pow_right, sum_by-cons, sum_by_more, pow_pos, pow-add, shr-shr, div-mul-add, one_shl, TableId, Module, tables, table_number, table_index_of, bits_of, has_bit, NamesTables, table_at_index, table_index_below, number_below, length-tables, IsAscending, ascending, above}
 
 abbrev pub bit : Bool → ℕ
 bit b = cond b 1 0

@@ -1,15 +1,5 @@
 -- Cells, rows and tables one after another.
-use Rattle.std.proofs.Common.{◌≡◌, ℕ, zero, suc, ◌+◌, ◌*◌, ◌^◌, ◌<◌, ◌≤◌, List, [], ◌∷◌, ◌++◌, take, drop, length, get_or, refl, sym, ◌∙◌, ap, append_assoc, length-append, add-zero, add_assoc, zero-mul, arith}
-use Rattle.std.proofs.lemmas.List.{drop-drop, drop_at, take-append-drop}
-use Rattle.std.proofs.lemmas.List.Sums.{sum_by-cons}
-use Rattle.packed.specs.Number.{little_endian}
-use Rattle.packed.specs.Offsets.{part}
-use Rattle.table_schema.specs.declared.table.TableId.{TableId}
-use Rattle.table_schema.specs.declared.column.Column.{Column}
-use Rattle.table_schema.specs.Columns.{columns_of}
-use Rattle.schema.specs.Sizes.{Sizes, count_of, width_of}
-use Rattle.schema.specs.Offsets.{columns_width, tables_size, table_size, row_width}
-use Rattle.schema.specs.LaidOut.{number_bytes, row_bytes, FitRow, rows_bytes, FitRows, tables_bytes, FitTables}
+use Rattle.schema.proofs.Prelude.{◌≡◌, ℕ, zero, suc, ◌+◌, ◌*◌, ◌^◌, ◌<◌, ◌≤◌, List, [], ◌∷◌, ◌++◌, take, drop, length, get_or, refl, sym, ◌∙◌, ap, append_assoc, length-append, add-zero, add_assoc, zero-mul, arith, drop-drop, drop_at, take-append-drop, sum_by-cons, little_endian, part, TableId, Column, columns_of, Sizes, count_of, width_of, columns_width, tables_size, table_size, row_width, number_bytes, row_bytes, FitRow, rows_bytes, FitRows, tables_bytes, FitTables}
 use Rattle.schema.proofs.NumberLemmas.{IsBytes, length-number_bytes, part_of_number, part_fits}
 
 -- the bytes from an offset on begin with these

@@ -1,16 +1,7 @@
 -- The fields of a row: each number as its low bytes, in widths that depend on the row counts and HeapSizes.
-use Rattle.std.proofs.Common.{◌≡◌, ℕ, zero, suc, ◌+◌, ◌-◌, ◌*◌, ◌/◌, ◌%◌, ◌^◌, ◌<◌, ltb, eqb, ◌&&◌, Option, Some, None, List, [], ◌∷◌, ◌++◌, length, get_or, refl, sym, ap, ◌∙◌, arith, mul_assoc}
-use Rattle.std.specs.List.{list_all}
-use Rattle.std.proofs.lemmas.Nat.{div-add-mod', div-mul-add, mod-mul-add, mod_below}
-use Rattle.std.proofs.Math.Nat.{mod-lt, one-le-pow, pow-suc}
-use Rattle.table_schema.specs.declared.table.TableId.{TableId}
-use Rattle.table_schema.specs.declared.column.Column.{Column}
-use Rattle.table_schema.specs.declared.column.ColumnKind.{ColumnKind}
+use Rattle.schema.proofs.Prelude.{◌≡◌, ℕ, zero, suc, ◌+◌, ◌-◌, ◌*◌, ◌/◌, ◌%◌, ◌^◌, ◌<◌, ltb, eqb, ◌&&◌, Option, Some, None, List, [], ◌∷◌, ◌++◌, length, get_or, refl, sym, ap, ◌∙◌, arith, mul_assoc, list_all, div-add-mod', div-mul-add, mod-mul-add, mod_below, mod-lt, one-le-pow, pow-suc, TableId, Column, ColumnKind, columns_of, Sizes, SameCounts, count_of, narrow_or_wide, heap_width, row_index_width, is_below, kind_width, width_of, number_bytes, row_bytes, rows_bytes, tables_bytes, fields_of, FitRow}
 use Rattle.table_schema.specs.declared.column.ColumnKind.TheVariants as kind
-use Rattle.table_schema.specs.Columns.{columns_of}
 use Rattle.table_schema.specs.CodedIndexes.{tables_of, tag_bits}
-use Rattle.schema.specs.Sizes.{Sizes, SameCounts, count_of, narrow_or_wide, heap_width, row_index_width, is_below, kind_width, width_of}
-use Rattle.schema.specs.LaidOut.{number_bytes, row_bytes, rows_bytes, tables_bytes, fields_of, FitRow}
 
 -- ---- low bytes
 

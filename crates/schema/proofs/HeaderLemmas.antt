@@ -1,20 +1,5 @@
 -- The row counts of tables, one after another.
-use Rattle.std.proofs.Common.{◌≡◌, ℕ, ◌+◌, ◌<◌, ◌≤◌, Bool, true, false, cond, List, length, take, map, get_or, refl, sym, ap, subst, ◌∙◌, arith}
-use Rattle.std.specs.List.{count_by}
-use Rattle.std.proofs.lemmas.List.{same_lists, get_or-map, length-map, get_or_default}
-use Rattle.std.proofs.lemmas.List.Sums.{sum_by_more, sum_by_more_le, count_by-le-length}
-use Rattle.packed.specs.Rule.{AllHold, rules_from}
-use Rattle.packed.proofs.RuleLemmas.{each_holds}
-use Rattle.packed.specs.Number.{little_endian}
-use Rattle.packed.specs.Offsets.{part}
-use Rattle.table_schema.specs.declared.table.TableId.{TableId}
-use Rattle.table_schema.specs.declared.table.TableId.TheVariants.{Module}
-use Rattle.table_schema.specs.Tables.{table_index_of, tables}
-use Rattle.schema.specs.Sizes.{Sizes, header_size}
-use Rattle.schema.specs.Header.{has_bit, valid_of, count_offset, count_in, sizes_of}
-use Rattle.schema.specs.Rules.{rules_of_count_at}
-use Rattle.schema.specs.Kept.{AreFew}
-use Rattle.table_schema.proofs.TableFacts.{table_index_at, table_index_below, table_at_index, length-tables}
+use Rattle.schema.proofs.Prelude.{◌≡◌, ℕ, ◌+◌, ◌<◌, ◌≤◌, Bool, true, false, cond, List, length, take, map, get_or, refl, sym, ap, subst, ◌∙◌, arith, count_by, same_lists, get_or-map, length-map, get_or_default, sum_by_more, sum_by_more_le, count_by-le-length, AllHold, rules_from, each_holds, little_endian, part, TableId, Module, table_index_of, tables, Sizes, header_size, has_bit, valid_of, count_offset, count_in, sizes_of, rules_of_count_at, AreFew, table_index_at, table_index_below, table_at_index, length-tables}
 
 -- the row count of a table that Valid names is before the first table
 pub count_within : (test : TableId → Bool) (table : TableId) → test table ≡ true → header_size (count_by test (take (table_index_of table) tables)) + 4 ≤ header_size (count_by test tables)

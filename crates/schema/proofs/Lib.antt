@@ -4,6 +4,7 @@ pub mod FieldLemmas
 pub mod HeaderLemmas
 pub mod NumberLemmas
 pub mod OneLemmas
+pub mod Prelude
 pub mod TableLayoutLemmas
 pub mod ReadLemmas
 pub mod StreamLemmas

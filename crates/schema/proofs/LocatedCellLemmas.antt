@@ -1,12 +1,6 @@
 -- Rows and cells that have a byte.
-use Rattle.std.proofs.Common.{◌≡◌, ℕ, ◌+◌, ◌-◌, ◌*◌, ◌<◌, ◌≤◌, arith, mul-le-mul, inl, inr}
-use Rattle.std.proofs.lemmas.Bool.{cases_lt}
-use Rattle.table_schema.specs.declared.table.TableId.{TableId}
+use Rattle.schema.proofs.Prelude.{◌≡◌, ℕ, ◌+◌, ◌-◌, ◌*◌, ◌<◌, ◌≤◌, arith, mul-le-mul, inl, inr, cases_lt, TableId, columns_of, col, Sizes, row_width, table_start, HasRow, HasCell}
 use Rattle.table_schema.specs.declared.column.ColumnKind.TheVariants as kind
-use Rattle.table_schema.specs.Columns.{columns_of, col}
-use Rattle.schema.specs.Sizes.{Sizes}
-use Rattle.schema.specs.Offsets.{row_width, table_start}
-use Rattle.schema.specs.LocatedCells.{HasRow, HasCell}
 use Rattle.schema.proofs.TableLayoutLemmas.{columns_within}
 
 -- a byte of a cell is one of the cell's row

@@ -1,11 +1,5 @@
 -- The bytes of a number.
-use Rattle.std.proofs.Common.{◌≡◌, ℕ, zero, suc, ◌+◌, ◌*◌, ◌/◌, ◌%◌, ◌^◌, ◌<◌, ◌≤◌, List, [], ◌∷◌, ◌++◌, length, take, drop, get_or, refl, sym, ap, subst, ◌∙◌, lit<, arith, length-drop}
-use Rattle.std.proofs.Math.Nat.{pow-suc}
-use Rattle.std.proofs.lemmas.Nat.{div-mul-add, mod-mul-add, div_below, div-add-mod'}
-use Rattle.std.proofs.lemmas.List.{take_at, length-take-le, get_or-drop}
-use Rattle.packed.specs.Number.{little_endian}
-use Rattle.packed.specs.Offsets.{part}
-use Rattle.schema.specs.LaidOut.{number_bytes}
+use Rattle.schema.proofs.Prelude.{◌≡◌, ℕ, zero, suc, ◌+◌, ◌*◌, ◌/◌, ◌%◌, ◌^◌, ◌<◌, ◌≤◌, List, [], ◌∷◌, ◌++◌, length, take, drop, get_or, refl, sym, ap, subst, ◌∙◌, lit<, arith, length-drop, pow-suc, div-mul-add, mod-mul-add, div_below, div-add-mod', take_at, length-take-le, get_or-drop, little_endian, part, number_bytes}
 
 -- each element is a byte
 abbrev pub IsBytes : List ℕ → Type 0

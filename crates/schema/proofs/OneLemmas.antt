@@ -1,17 +1,5 @@
 -- The cells of a stream, and that it has no other numbers.
-use Rattle.std.proofs.Common.{◌≡◌, ℕ, suc, ◌-◌, ◌<◌, ◌≤◌, List, [], ◌∷◌, ◌++◌, take, length, get_or, refl, sym, subst, ◌∙◌, ap, append_assoc, arith}
-use Rattle.std.proofs.lemmas.List.{take-append-drop, length-take-le, same_lists, get_or_default}
-use Rattle.table_schema.specs.declared.table.TableId.{TableId}
-use Rattle.table_schema.specs.declared.table.TableId.TheVariants.{Module}
-use Rattle.table_schema.specs.declared.column.Column.{Column}
-use Rattle.table_schema.specs.declared.column.ColumnKind.TheVariants.{U8}
-use Rattle.table_schema.specs.Tables.{table_index_of, tables}
-use Rattle.table_schema.specs.Columns.{columns_of, col}
-use Rattle.schema.specs.Sizes.{Sizes, count_of, width_of}
-use Rattle.schema.specs.Offsets.{cell_start}
-use Rattle.schema.specs.LaidOut.{FitRow, IsLaidOut, StandsAt}
-use Rattle.schema.specs.Cells.{HoldsCell}
-use Rattle.table_schema.proofs.TableFacts.{table_index_below, table_at_index, length-tables}
+use Rattle.schema.proofs.Prelude.{◌≡◌, ℕ, suc, ◌-◌, ◌<◌, ◌≤◌, List, [], ◌∷◌, ◌++◌, take, length, get_or, refl, sym, subst, ◌∙◌, ap, append_assoc, arith, take-append-drop, length-take-le, same_lists, get_or_default, TableId, Module, Column, U8, table_index_of, tables, columns_of, col, Sizes, count_of, width_of, cell_start, FitRow, IsLaidOut, StandsAt, HoldsCell, table_index_below, table_at_index, length-tables}
 use Rattle.schema.proofs.NumberLemmas.{number_read}
 use Rattle.schema.proofs.TableLayoutLemmas.{cell_within}
 use Rattle.schema.proofs.CellLemmas.{Begins, in_cells, in_tables, in_rows}

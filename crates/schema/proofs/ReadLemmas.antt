@@ -2,15 +2,7 @@
 use Rattle.std.proofs.Common.{◌≡◌, ◌≢◌, ℕ, zero, suc, ◌+◌, ◌-◌, ◌<◌, ◌≤◌, List, [], length, get_or, set, replicate, refl, sym, ◌∙◌, ap, arith, below_more}
 use Rattle.std.proofs.lemmas.List.{same_lists, get_or-map, length-map, get_or_default, get_or-set_same, get_or-set_other}
 use Rattle.std.proofs.lemmas.List.FromFn.{length-map-range_with_len, get_or-map-range_with_len}
-use Rattle.table_schema.specs.declared.table.TableId.{TableId}
-use Rattle.table_schema.specs.declared.table.TableId.TheVariants.{Module}
-use Rattle.table_schema.specs.Tables.{table_number, table_index_of, tables}
-use Rattle.table_schema.specs.Columns.{columns_of}
-use Rattle.schema.specs.Sizes.{Sizes, count_of}
-use Rattle.schema.specs.LaidOut.{IsLaidOut, number_in}
-use Rattle.schema.specs.Cells.{number_at, row_at, rows_at, numbers_at}
-use Rattle.table_schema.proofs.TableFacts.{table_index_at, table_index_below, number_below, table_at_index, length-tables}
-use Rattle.table_schema.proofs.TableOrder.{numbers_rise}
+use Rattle.schema.proofs.Prelude.{TableId, Module, table_number, table_index_of, tables, columns_of, Sizes, count_of, IsLaidOut, number_in, number_at, row_at, rows_at, numbers_at, table_index_at, table_index_below, number_below, table_at_index, length-tables, numbers_rise}
 use Rattle.schema.proofs.CellLemmas.{in_tables, in_rows}
 use Rattle.schema.proofs.StreamLemmas.{counted_rows, body_laid, fit_long}
 use Rattle.schema.proofs.OneLemmas.{cell_laid, row_long}

@@ -1,24 +1,7 @@
 -- A table stream, its rules and its sizes.
-use Rattle.std.proofs.Common.{◌≡◌, ℕ, zero, suc, ◌+◌, ◌*◌, ◌<◌, ◌≤◌, Bool, true, false, cond, List, [], ◌∷◌, ◌++◌, take, drop, map, length, get_or, refl, sym, subst, inl, inr, ◌∙◌, ap, append_assoc, length-append, add-zero, arith, Result, Ok, Err}
-use Rattle.std.specs.List.{count_by}
-use Rattle.std.proofs.lemmas.Bool.{cases_Bool}
-use Rattle.std.proofs.lemmas.List.{drop-drop, drop_at, drop_more, take-append-drop, get_or-drop, length-map, get_or-map, length-take-le, same_lists}
-use Rattle.std.proofs.lemmas.List.Sums.{sum_by-cons}
+use Rattle.schema.proofs.Prelude.{◌≡◌, ℕ, zero, suc, ◌+◌, ◌*◌, ◌<◌, ◌≤◌, Bool, true, false, cond, List, [], ◌∷◌, ◌++◌, take, drop, map, length, get_or, refl, sym, subst, inl, inr, ◌∙◌, ap, append_assoc, length-append, add-zero, arith, Result, Ok, Err, count_by, cases_Bool, drop-drop, drop_at, drop_more, take-append-drop, get_or-drop, length-map, get_or-map, length-take-le, same_lists, sum_by-cons, AllHold, Reports, rules_from, all_append, all_prefix, all_back, all_of_each, none_fails, little_endian, part, TableId, Module, table_index_of, tables, Sizes, count_of, header_size, tables_end, number_bytes, tables_bytes, FitTables, bits_of, counts_bytes, IsLaidOut, IsTableStream, heap_sizes_of, valid_of, sorted_of, has_bit, count_in, sizes_of, rules_of_header, rules_of_count_at, rules_of_tables, rules_of_stream, table_index_at, table_index_below, table_at_index, length-tables}
 use Rattle.std.specs.Result.{IfOk, IsOkAnd}
 use Rattle.packed.specs.declared.fault.Fault.{Fault}
-use Rattle.packed.specs.Rule.{AllHold, Reports, rules_from}
-use Rattle.packed.proofs.RuleLemmas.{all_append, all_prefix, all_back, all_of_each, none_fails}
-use Rattle.packed.specs.Number.{little_endian}
-use Rattle.packed.specs.Offsets.{part}
-use Rattle.table_schema.specs.declared.table.TableId.{TableId}
-use Rattle.table_schema.specs.declared.table.TableId.TheVariants.{Module}
-use Rattle.table_schema.specs.Tables.{table_index_of, tables}
-use Rattle.schema.specs.Sizes.{Sizes, count_of, header_size}
-use Rattle.schema.specs.Offsets.{tables_end}
-use Rattle.schema.specs.LaidOut.{number_bytes, tables_bytes, FitTables, bits_of, counts_bytes, IsLaidOut, IsTableStream}
-use Rattle.schema.specs.Header.{heap_sizes_of, valid_of, sorted_of, has_bit, count_in, sizes_of}
-use Rattle.schema.specs.Rules.{rules_of_header, rules_of_count_at, rules_of_tables, rules_of_stream}
-use Rattle.table_schema.proofs.TableFacts.{table_index_at, table_index_below, table_at_index, length-tables}
 use Rattle.schema.proofs.BitLemmas.{bits_low, tests_are, names_tables}
 use Rattle.schema.proofs.NumberLemmas.{IsBytes, length-number_bytes, part_of_number, part_fits, number_read}
 use Rattle.schema.proofs.HeaderLemmas.{counts_are, count_is, count_counted, count_uncounted, same_sizes, few_from, offset_at}

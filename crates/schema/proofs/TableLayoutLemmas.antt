@@ -1,20 +1,8 @@
 -- The offsets of tables, rows and columns.
 use Rattle.std.proofs.Common.{◌≡◌, ℕ, ◌+◌, ◌-◌, ◌*◌, ◌<◌, ◌≤◌, ◌≢◌, List, length, take, get_or, refl, sym, ◌∙◌, ap, arith, inl, inr, lit<, Bool, true, false, mul-le-mul, below_more, get_or-set_other, get_or-set_same}
 use Rattle.std.proofs.Math.ListN.{set}
-use Rattle.std.proofs.lemmas.List.{take_all}
-use Rattle.std.proofs.lemmas.List.Sums.{sum_by_more, sum_by_more_le}
-use Rattle.schema.specs.declared.table_layout.TableLayout.{TableLayout}
-use Rattle.table_schema.specs.declared.table.TableId.{TableId}
-use Rattle.table_schema.specs.declared.table.TableId.TheVariants.{Module, GenericParamConstraint}
-use Rattle.table_schema.specs.declared.column.Column.{Column}
-use Rattle.table_schema.specs.declared.column.ColumnKind.{ColumnKind}
+use Rattle.schema.proofs.Prelude.{take_all, sum_by_more, sum_by_more_le, TableLayout, TableId, Module, GenericParamConstraint, Column, ColumnKind, table_index_of, tables, columns_of, Sizes, count_of, width_of, kind_width, narrow_or_wide, IsWidth, columns_width, tables_size, table_size, row_width, table_start, row_start, cell_start, tables_end, IsTableLayout, AreTableLayouts, table_index_below, table_index_at, table_at_index, length-tables}
 use Rattle.table_schema.specs.declared.column.ColumnKind.TheVariants as kind
-use Rattle.table_schema.specs.Tables.{table_index_of, tables}
-use Rattle.table_schema.specs.Columns.{columns_of}
-use Rattle.schema.specs.Sizes.{Sizes, count_of, width_of, kind_width, narrow_or_wide, IsWidth}
-use Rattle.schema.specs.Offsets.{columns_width, tables_size, table_size, row_width, table_start, row_start, cell_start, tables_end}
-use Rattle.schema.specs.Kept.{IsTableLayout, AreTableLayouts}
-use Rattle.table_schema.proofs.TableFacts.{table_index_below, table_index_at, table_at_index, length-tables}
 
 -- one more column, one more table
 pub columns_width_more : (sizes : Sizes) (columns : List Column) (i : ℕ) (none : Column) → i < length columns → columns_width sizes (take (i + 1) columns) ≡ columns_width sizes (take i columns) + width_of sizes (get_or columns i none)

@@ -1,11 +1,9 @@
 -- The effect of each form of a value on a sink, from the effect of its parts.
-use Rattle.std.proofs.Common.{◌≡◌, ◌∙◌, ℕ, Bool, Some, None, Result, Ok, Err, Vec, Global, List, [], ◌∷◌, ◌++◌, length, map, ap, sym, refl}
+use Rattle.sig_encoder.proofs.Prelude.{◌≡◌, ◌∙◌, ℕ, Bool, Some, None, Result, Ok, Err, Vec, Global, List, [], ◌∷◌, ◌++◌, length, map, ap, sym, refl, Token, TypeSig, out-TypeSig, byte, number, index, modifiers_parts, generic_parts, method_code, count_slots, core_of, type_of, types_from, content_of, slot_of, slots_from, ret_of, method_of, shape_of, then, run, Item, part, parts_items, rule, is_call, core_items, first_items, typed_items, content_items, slot_items, slots_items, ret_items, method_items, leaf_items}
 use Rattle.std.specs.declared.boxed.Box.{Box}
-use Rattle.table_schema.specs.declared.token.Token.{Token}
 use Rattle.sig_grammar.specs.declared.element.Element.{Element}
 use Rattle.sig_grammar.specs.declared.types.Modifier.{Modifier}
 use Rattle.sig_grammar.specs.declared.types.Shape.{Shape}
-use Rattle.sig_grammar.specs.declared.types.TypeSig.{TypeSig, out-TypeSig}
 use Rattle.sig_grammar.specs.declared.types.MethodSig.{MethodSig, out-MethodSig}
 use Rattle.sig_grammar.specs.declared.types.Slot.{Slot, out-Slot}
 use Rattle.sig_grammar.specs.declared.types.Core as cores
@@ -13,11 +11,6 @@ use Rattle.sig_grammar.specs.declared.types.SlotKind as kinds
 use Rattle.sig_grammar.specs.declared.types.Ret as rets
 use Rattle.sig_grammar.specs.Syntax as sig
 use Rattle.sig_grammar.specs.ElementTypes.{element_code, VOID, BYREF, CLASS, VALUETYPE, VAR, TYPEDBYREF, MVAR}
-use Rattle.sig_grammar.specs.Parts.{byte, number, index}
-use Rattle.sig_grammar.specs.Grammar.{modifiers_parts, generic_parts, method_code, count_slots}
-use Rattle.sig_grammar.specs.Views.{core_of, type_of, types_from, content_of, slot_of, slots_from, ret_of, method_of, shape_of}
-use Rattle.sig_encoder.specs.Run.{then, run}
-use Rattle.sig_encoder.specs.Items.{Item, part, parts_items, rule, is_call, core_items, first_items, typed_items, content_items, slot_items, slots_items, ret_items, method_items, leaf_items}
 use Rattle.sig_encoder.proofs.Steps.{run_last, run_both}
 use Rattle.sig_encoder.proofs.Loops.{slots_count}
 use Rattle.sig_grammar.proofs.ViewLemmas.{view_simple, view_void_pointer, view_pointer, view_vector, view_array, view_class, view_value, view_var, view_mvar, view_instance, view_function, view_type, view_typed_ref, view_plain, view_by_ref, view_slot, view_some_ret, view_void_ret, view_method}

@@ -1,16 +1,10 @@
 -- The length of a type index, from the number that `join` returns.
-use Rattle.std.proofs.Common.{◌≡◌, ℕ, zero, suc, ◌^◌, ◌<◌, ◌≤◌, Bool, true, false, ltb, Option, Some, None, refl, sym, arith}
-use Rattle.std.specs.Prelude.{slice_get}
-use Rattle.std.specs.List.{position_or_len}
-use Rattle.std.proofs.lemmas.Bool.{ltb-true, lt-ltb, le-ltb}
+use Rattle.sig_encoder.proofs.Prelude.{◌≡◌, ℕ, zero, suc, ◌^◌, ◌<◌, ◌≤◌, Bool, true, false, ltb, Option, Some, None, refl, sym, arith, slice_get, position_or_len, ltb-true, lt-ltb, le-ltb, Token, is_table, index_number, has_tag, number_of}
 use Rattle.std.proofs.lemmas.Option.{slice_get_within}
-use Rattle.table_schema.specs.declared.token.Token.{Token}
 use Rattle.table_schema.specs.declared.table.TableId.{TableId}
 use Rattle.table_schema.specs.declared.table.TableId.TheVariants.{TypeDef, TypeRef, TypeSpec}
 use Rattle.table_schema.specs.declared.coded.Coded.TheVariants.{TypeDefOrRef}
 use Rattle.table_schema.specs.CodedIndexes.{tables_of, IsCoded}
-use Rattle.sig_grammar.specs.Parts.{is_table, index_number}
-use Rattle.sig_encoder.specs.Lengths.{has_tag, number_of}
 
 abbrev pub tag_of : TableId → ℕ
 tag_of table = position_or_len (is_table table) (tables_of TypeDefOrRef)

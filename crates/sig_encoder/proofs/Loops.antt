@@ -1,16 +1,9 @@
 -- One value of a list, and the values after it, as loops read them.
-use Rattle.std.proofs.Common.{◌≡◌, ◌∙◌, ℕ, suc, ◌+◌, ◌-◌, ◌<◌, ◌≤◌, Bool, Option, Some, None, Result, Ok, Err, List, [], ◌∷◌, ◌++◌, length, get_or, drop, map, refl, sym, ap, arith, add-one, drop-cons, ⊎_elim}
-use Rattle.sig_grammar.specs.Parts.{Part}
+use Rattle.sig_encoder.proofs.Prelude.{◌≡◌, ◌∙◌, ℕ, suc, ◌+◌, ◌-◌, ◌<◌, ◌≤◌, Bool, Option, Some, None, Result, Ok, Err, List, [], ◌∷◌, ◌++◌, length, get_or, drop, map, refl, sym, ap, arith, add-one, drop-cons, ⊎_elim, Part, eq-eqb, ne_eqb, lt-ltb, le-ltb, cases_order, TypeSig, type_of, types_from, slot_of, slots_from, local_of, list_parts, count_types, count_slots, after, then, run, Item, parts_items, typed_items, types_items, slots_items, param_items, stands_at, behind, local_items, locals_items}
 use Rattle.std.proofs.lemmas.List.{drop_all}
-use Rattle.std.proofs.lemmas.Bool.{eq-eqb, ne_eqb, lt-ltb, le-ltb, cases_order}
-use Rattle.sig_grammar.specs.declared.types.TypeSig.{TypeSig}
 use Rattle.sig_grammar.specs.declared.types.Slot.{Slot}
 use Rattle.sig_grammar.specs.declared.body.Local.{Local}
 use Rattle.sig_grammar.specs.Syntax as sig
-use Rattle.sig_grammar.specs.Views.{type_of, types_from, slot_of, slots_from, local_of}
-use Rattle.sig_grammar.specs.Grammar.{list_parts, count_types, count_slots}
-use Rattle.sig_encoder.specs.Run.{after, then, run}
-use Rattle.sig_encoder.specs.Items.{Item, parts_items, typed_items, types_items, slots_items, param_items, stands_at, behind, local_items, locals_items}
 use Rattle.sig_encoder.proofs.Steps.{run_both, items_both, run_none}
 
 -- the value at the index, and the values after it

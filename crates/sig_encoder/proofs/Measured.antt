@@ -1,18 +1,8 @@
 -- The bytes that are left after a value say whether it has an encoding, and how long the encoding is.
 use Rattle.std.proofs.Common.{◌≡◌, ℕ, ℤ, ◌+◌, ◌-◌, ◌^◌, ◌<◌, ◌≤◌, ◌↔◌, Bool, true, false, cond, ltb, leb, Result, Ok, Err, List, [], ◌∷◌, length, length-append, refl, ap, sym, subst, arith}
-use Rattle.std.specs.Prelude.{flat_map}
-use Rattle.std.specs.List.{AllByRecursion}
-use Rattle.std.proofs.lemmas.Bool.{ltb-true, lt-ltb, leb-true, leb-false, and_parts, and_from}
+use Rattle.sig_encoder.proofs.Prelude.{flat_map, AllByRecursion, ltb-true, lt-ltb, leb-true, leb-false, and_parts, and_from, Part, byte, number, signed, index, short_part, HasEncoding, index_number, Body, body_parts, IsBodyWithin, IsEncodable, short, then, run, Item, part, broken, kept, unbroken, body_items, has_tag, has_short, take_room, measurer_step}
 use Rattle.std.proofs.lemmas.Int.{ints}
 use Rattle.packed.specs.Packed.{FitsBits, fits_bits}
-use Rattle.sig_grammar.specs.Parts.{Part, byte, number, signed, index, short_part, HasEncoding, index_number}
-use Rattle.sig_grammar.specs.Syntax.{Body}
-use Rattle.sig_grammar.specs.Grammar.{body_parts}
-use Rattle.sig_grammar.specs.Limits.{IsBodyWithin}
-use Rattle.sig_grammar.specs.Encodes.{IsEncodable, short}
-use Rattle.sig_encoder.specs.Run.{then, run}
-use Rattle.sig_encoder.specs.Items.{Item, part, broken, kept, unbroken, body_items}
-use Rattle.sig_encoder.specs.Lengths.{has_tag, has_short, take_room, measurer_step}
 use Rattle.sig_encoder.specs.declared.measurer.Measurer.{Measurer}
 use Rattle.sig_encoder.proofs.Indexes.{index_coded, coded_tag, tag_small}
 

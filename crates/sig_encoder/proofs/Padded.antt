@@ -1,14 +1,5 @@
 -- If the encoding fits, the writer appends the canonical encoding.
-use Rattle.std.proofs.Common.{◌≡◌, ◌∙◌, ℕ, ◌+◌, ◌-◌, ◌≤◌, Option, Some, None, Ok, List, [], ◌∷◌, ◌++◌, length, length-append, append_assoc, append-nil, refl, ap, arith}
-use Rattle.std.specs.Prelude.{flat_map}
-use Rattle.std.specs.List.{AllByRecursion}
-use Rattle.std.proofs.lemmas.Bool.{le-leb}
-use Rattle.sig_grammar.specs.Parts.{Part, short_part, HasEncoding}
-use Rattle.sig_grammar.specs.Syntax.{Body}
-use Rattle.sig_grammar.specs.Encodes.{IsEncodable, short}
-use Rattle.sig_encoder.specs.Run.{after, run}
-use Rattle.sig_encoder.specs.Items.{Item, part, broken, kept, body_items}
-use Rattle.sig_encoder.specs.Written.{Written, put_short, writer_step}
+use Rattle.sig_encoder.proofs.Prelude.{◌≡◌, ◌∙◌, ℕ, ◌+◌, ◌-◌, ◌≤◌, Option, Some, None, Ok, List, [], ◌∷◌, ◌++◌, length, length-append, append_assoc, append-nil, refl, ap, arith, flat_map, AllByRecursion, le-leb, Part, short_part, HasEncoding, Body, IsEncodable, short, after, run, Item, part, broken, kept, body_items, Written, put_short, writer_step}
 use Rattle.sig_encoder.proofs.Measured.{encoded, AreParts}
 
 abbrev size : List Part → ℕ

@@ -1,15 +1,7 @@
 -- The items of a value give its parts, and whether the grammar and the depth allow it.
-use Rattle.std.proofs.Common.{◌≡◌, ◌∙◌, ℕ, zero, suc, ◌-◌, ◌<◌, ◌≤◌, inl, inr, ⊎_elim, Bool, true, false, eqb, ltb, Option, Some, None, List, [], ◌∷◌, ◌++◌, length, refl, ap, sym, arith, lit<}
-use Rattle.std.specs.Prelude.{⊤, IfSome, ◌||◌, ◌&&◌}
-use Rattle.std.specs.List.{AllByRecursion}
-use Rattle.std.proofs.lemmas.Bool.{ltb-true, lt-ltb, eqb-true, eq-eqb, and_parts, or_cases, or_left, or_right, and_from, leb-true, le-leb}
-use Rattle.sig_grammar.specs.Parts.{Part, byte}
+use Rattle.sig_encoder.proofs.Prelude.{◌≡◌, ◌∙◌, ℕ, zero, suc, ◌-◌, ◌<◌, ◌≤◌, inl, inr, ⊎_elim, Bool, true, false, eqb, ltb, Option, Some, None, List, [], ◌∷◌, ◌++◌, length, refl, ap, sym, arith, lit<, ⊤, IfSome, ◌||◌, ◌&&◌, AllByRecursion, ltb-true, lt-ltb, eqb-true, eq-eqb, and_parts, or_cases, or_left, or_right, and_from, leb-true, le-leb, Part, byte, types_from, slots_from, list_parts, modifiers_parts, prefixes_parts, generic_parts, shape_parts, core_parts, typed_parts, types_parts, content_parts, slot_parts, slots_parts, ret_parts, method_parts, local_parts, body_parts, count_slots, core_depth, types_depth, slots_depth, IsMethodKind, IsSentinel, IsArrayShape, AreTypes, AreSlots, IsCoreWithin, IsTypedWithin, IsContentWithin, IsSlotWithin, IsRetWithin, IsMethodWithin, IsLocalWithin, IsBodyWithin, Item, part, broken, parts_items, rule, leaf_items, is_method_kind, may_stand, is_call, is_shape, shape_items, core_items, first_items, typed_items, types_items, content_items, slot_items, slots_items, ret_items, method_items, local_items, locals_items, body_items, kept, unbroken}
 use Rattle.sig_grammar.specs.Syntax.{Core, simple, void_pointer, pointer, vector, array, class, value, var, mvar, instance, function, Typed, typed, Types, no_types, type_then, Content, typed_ref, plain, by_ref, Slot, slot, Slots, no_slots, slot_then, Ret, some_ret, void_ret, Method, method, ArrayShape, LocalVariable, local, Body, field, method_body, property, locals, instance_body, type_spec}
-use Rattle.sig_grammar.specs.Views.{types_from, slots_from}
-use Rattle.sig_grammar.specs.Grammar.{list_parts, modifiers_parts, prefixes_parts, generic_parts, shape_parts, core_parts, typed_parts, types_parts, content_parts, slot_parts, slots_parts, ret_parts, method_parts, local_parts, body_parts, count_slots}
-use Rattle.sig_grammar.specs.Limits.{core_depth, types_depth, slots_depth, IsMethodKind, IsSentinel, IsArrayShape, AreTypes, AreSlots, IsCoreWithin, IsTypedWithin, IsContentWithin, IsSlotWithin, IsRetWithin, IsMethodWithin, IsLocalWithin, IsBodyWithin}
 use Rattle.sig_grammar.proofs.FromLists.{count-types_from, parts-types_from, types_good, each_type, count-slots_from, parts-slots_from, slots_good, each_slot}
-use Rattle.sig_encoder.specs.Items.{Item, part, broken, parts_items, rule, leaf_items, is_method_kind, may_stand, is_call, is_shape, shape_items, core_items, first_items, typed_items, types_items, content_items, slot_items, slots_items, ret_items, method_items, local_items, locals_items, body_items, kept, unbroken}
 
 pub record Says (Good : Type 0) (xs : List Item) (ps : List Part) : Type 0 where
   pub same : kept xs ≡ ps

@@ -1,8 +1,5 @@
 -- One item after another.
-use Rattle.std.proofs.Common.{◌≡◌, ◌∙◌, Bool, true, false, Option, None, refl, ap, sym, Result, Ok, Err, List, [], ◌∷◌, ◌++◌}
-use Rattle.sig_grammar.specs.Parts.{Part}
-use Rattle.sig_encoder.specs.Run.{after, then, run}
-use Rattle.sig_encoder.specs.Items.{Item, part, broken, parts_items, rule}
+use Rattle.sig_encoder.proofs.Prelude.{◌≡◌, ◌∙◌, Bool, true, false, Option, None, refl, ap, sym, Result, Ok, Err, List, [], ◌∷◌, ◌++◌, Part, after, then, run, Item, part, broken, parts_items, rule}
 
 module _ {A P : Type 0} (step : P → A → Result A A) where
   pub run_none : (s : A) → run step [] s ≡ Ok s

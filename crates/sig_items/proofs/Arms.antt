@@ -1,25 +1,14 @@
 -- The items at each position, by the first bytes there.
 use Rattle.std.proofs.Common.{◌≡◌, ◌≢◌, ◌∙◌, ℕ, zero, suc, ◌-◌, ◌<◌, ◌||◌, Bool, true, false, cond, eqb, Option, Some, None, List, [], ◌∷◌, ◌++◌, length, map, refl, sym, ap, arith}
-use Rattle.std.specs.Prelude.{flat_map}
-use Rattle.std.proofs.lemmas.Bool.{ne_eqb}
+use Rattle.sig_items.proofs.Prelude.{flat_map, ne_eqb, Modifier, Prefix, types_from, Reader, change, both, many_at, counted_at, number_at, index_at, modifier_at, modifiers_at, prefix_at, prefixes_at, starts_modifier, starts_prefix, void_or, named_at, typed_at, target_at, pointer_to, content_at, slot_at, ret_from, ret_at, array_at, array_from, shape_at, instance_at, instance_from, method_at, core_at, core_by, element_of, local_at, local_from, Item, Position, prefix_item, core_items, typed_items, content_items, slot_items, ret_items, local_items, shape_items, method_items, Reported, joined, item_then, position_at, frame_at, core_reported, code_reported, instance_reported, content_reported, method_reported, types_reported, void_items, target_items, IsLed, modifier_steps, prefix_steps}
 use Rattle.table_schema.specs.declared.token.Token.{Token}
 use Rattle.sig_grammar.specs.declared.element.Element.{Element}
-use Rattle.sig_grammar.specs.declared.types.Modifier.{Modifier}
-use Rattle.sig_grammar.specs.declared.body.Prefix.{Prefix}
 use Rattle.sig_grammar.specs.Syntax as sig
-use Rattle.sig_grammar.specs.Views.{types_from}
-use Rattle.sig_grammar.specs.Reading.{Reader, change, both, many_at, counted_at, number_at, index_at, modifier_at, modifiers_at, prefix_at, prefixes_at, starts_modifier, starts_prefix, void_or, named_at, typed_at, target_at, pointer_to, content_at, slot_at, ret_from, ret_at, array_at, array_from, shape_at, instance_at, instance_from, method_at, core_at, core_by, element_of}
-use Rattle.sig_grammar.specs.Columns.{local_at, local_from}
-use Rattle.sig_items.specs.declared.item.Item.{Item}
 use Rattle.sig_items.specs.declared.item.Item.TheVariants as item
-use Rattle.sig_items.specs.declared.position.Position.{Position}
 use Rattle.sig_items.specs.declared.position.Position.TheVariants as position
 use Rattle.sig_items.specs.declared.position.Frame.TheVariants as frame
-use Rattle.sig_items.specs.ItemsOf.{prefix_item, core_items, typed_items, content_items, slot_items, ret_items, local_items, shape_items, method_items}
-use Rattle.sig_items.specs.Positions.{Reported, joined, item_then, position_at, frame_at, core_reported, code_reported, instance_reported, content_reported, method_reported, types_reported, void_items, target_items, IsLed}
 use Rattle.sig_items.proofs.Joins.{changed, paired, both_items, fused, item_fused, item_reported, joined_both}
 use Rattle.sig_grammar.proofs.FromLists.{count-types_from}
-use Rattle.sig_grammar.proofs.Items.{modifier_steps, prefix_steps}
 use Rattle.sig_items.proofs.Leading.{led_at, led_next, led_none, led_end}
 use Rattle.sig_items.proofs.Counts.{counted_item, types_from_items}
 

@@ -1,19 +1,8 @@
 -- Counted values: the number of values that are read, and the first value with those after it.
-use Rattle.std.proofs.Common.{◌≡◌, ◌∙◌, ℕ, zero, suc, ◌-◌, ◌<◌, ◌&&◌, Bool, true, false, cond, Option, Some, None, IfSome, List, [], ◌∷◌, ◌++◌, length, drop, append-nil, refl, sym, ap, arith}
-use Rattle.std.specs.Prelude.{option_map, option_and_then, flat_map}
-use Rattle.sig_grammar.specs.Grammar.{count_slots}
-use Rattle.sig_grammar.specs.Views.{types_from, slots_from}
-use Rattle.sig_grammar.specs.Syntax.{Core, Typed, Slot}
-use Rattle.sig_grammar.specs.Reading.{Reader, change, many_at, typed_at, slot_at, params_at, core_at, head_is}
-use Rattle.sig_grammar.specs.Columns.{local_at}
-use Rattle.sig_items.specs.declared.item.Item.{Item}
+use Rattle.sig_items.proofs.Prelude.{◌≡◌, ◌∙◌, ℕ, zero, suc, ◌-◌, ◌<◌, ◌&&◌, Bool, true, false, cond, Option, Some, None, IfSome, List, [], ◌∷◌, ◌++◌, length, drop, append-nil, refl, sym, ap, arith, option_map, option_and_then, flat_map, count_slots, types_from, slots_from, Core, Typed, Slot, Reader, change, many_at, typed_at, slot_at, params_at, core_at, head_is, local_at, Item, Position, Frame, typed_items, types_items, slot_items, slots_items, local_items, Reported, Reporter, before_reported, and_report, joined, item_then, next_at, position_at, frame_at, types_reported, params_items, params_reported, locals_reported}
 use Rattle.sig_items.specs.declared.item.Item.TheVariants as item
-use Rattle.sig_items.specs.declared.position.Position.{Position}
 use Rattle.sig_items.specs.declared.position.Position.TheVariants as position
-use Rattle.sig_items.specs.declared.position.Frame.{Frame}
 use Rattle.sig_items.specs.declared.position.Frame.TheVariants as frame
-use Rattle.sig_items.specs.ItemsOf.{typed_items, types_items, slot_items, slots_items, local_items}
-use Rattle.sig_items.specs.Positions.{Reported, Reporter, before_reported, and_report, joined, item_then, next_at, position_at, frame_at, types_reported, params_items, params_reported, locals_reported}
 use Rattle.sig_items.proofs.Joins.{changed}
 
 -- ---- the number of values that are read

@@ -1,19 +1,11 @@
 -- The items after the head of a method, a property, local variables and type arguments, and of an array's shape.
 use Rattle.std.proofs.Common.{◌≡◌, ◌≢◌, ◌∙◌, ℕ, ℤ, suc, ◌-◌, ◌<◌, ◌≤◌, ◌/◌, ◌%◌, ◌&&◌, Bool, true, false, eqb, ltb, Option, Some, None, IfSome, List, [], ◌∷◌, ◌++◌, length, map, refl, sym, ap, arith}
-use Rattle.std.specs.Prelude.{flat_map, option_map, option_and_then}
-use Rattle.std.proofs.lemmas.Bool.{ne_eqb}
+use Rattle.sig_items.proofs.Prelude.{flat_map, option_map, option_and_then, ne_eqb, SigKind, slots_from, Reader, change, both, void_or, leading_within, leading_at, modifiers_at, many_at, counted_at, counted_within, number_at, signed_at, typed_at, slot_at, ret_at, params_at, generic_at, takes_sentinel, is_method_code, method_from, method_at, core_at, shape_at, shape_with, local_at, headed_at, property_from, body_at, Item, method_head, typed_items, slot_items, ret_items, local_items, method_items, shape_items, items_of, before_reported, and_report, joined, item_then, position_at, method_reported, field_reported, property_reported, variables_reported, arguments_reported, types_reported, params_items, params_reported, locals_reported, bounds_items, low_items, sizes_at, bounds_at}
 use Rattle.std.proofs.lemmas.Bool.Decides.{nat_tests}
-use Rattle.table_schema.specs.declared.column.SigKind.{SigKind}
 use Rattle.table_schema.specs.declared.column.SigKind.TheVariants as column
 use Rattle.sig_grammar.specs.Syntax as sig
-use Rattle.sig_grammar.specs.Views.{slots_from}
-use Rattle.sig_grammar.specs.Reading.{Reader, change, both, void_or, leading_within, leading_at, modifiers_at, many_at, counted_at, counted_within, number_at, signed_at, typed_at, slot_at, ret_at, params_at, generic_at, takes_sentinel, is_method_code, method_from, method_at, core_at, shape_at, shape_with}
-use Rattle.sig_grammar.specs.Columns.{local_at, headed_at, property_from, body_at}
-use Rattle.sig_items.specs.declared.item.Item.{Item}
 use Rattle.sig_items.specs.declared.item.Item.TheVariants as item
 use Rattle.sig_items.specs.declared.position.Position.TheVariants as position
-use Rattle.sig_items.specs.ItemsOf.{method_head, typed_items, slot_items, ret_items, local_items, method_items, shape_items, items_of}
-use Rattle.sig_items.specs.Positions.{before_reported, and_report, joined, item_then, position_at, method_reported, field_reported, property_reported, variables_reported, arguments_reported, types_reported, params_items, params_reported, locals_reported, bounds_items, low_items, sizes_at, bounds_at}
 use Rattle.sig_items.proofs.Joins.{changed, paired, fused, item_fused}
 use Rattle.sig_items.proofs.Counts.{HasCount, HasParams, many_count, counted_item, params_count, params_plain, joined_same}
 

@@ -1,21 +1,15 @@
 -- The parts of the items of a signature are the parts of the signature.
-use Rattle.std.proofs.Common.{◌≡◌, ◌∙◌, ℕ, ℤ, zero, suc, ◌+◌, inl, inr, Option, Some, None, List, [], ◌∷◌, ◌++◌, length, append_assoc, refl, sym, ap, subst, arith}
+use Rattle.sig_items.proofs.Prelude.{◌≡◌, ◌∙◌, ℕ, ℤ, zero, suc, ◌+◌, inl, inr, Option, Some, None, List, [], ◌∷◌, ◌++◌, length, append_assoc, refl, sym, ap, subst, arith, Modifier, Prefix, Core, simple, void_pointer, pointer, vector, array, class, value, var, mvar, instance, function, Typed, typed, Types, no_types, type_then, Content, typed_ref, plain, by_ref, Slot, slot, Slots, no_slots, slot_then, Ret, some_ret, void_ret, Method, method, ArrayShape, LocalVariable, local, Body, field, method_body, property, locals, instance_body, type_spec, list_parts, modifiers_parts, prefixes_parts, numbers_parts, bounds_parts, shape_parts, generic_parts, method_code, named_code, flag, count_types, count_slots, core_parts, typed_parts, types_parts, content_parts, slot_parts, slots_parts, ret_parts, method_parts, local_parts, body_parts, Item, modifiers_items, prefix_item, shape_items, core_items, typed_items, types_items, content_items, slot_items, slots_items, ret_items, method_items, local_items, items_of}
 use Rattle.std.specs.Prelude.{flat_map, map}
 use Rattle.std.specs.List.{AllByRecursion}
 use Rattle.std.proofs.lemmas.List.Concat.{flat_map-append}
-use Rattle.sig_grammar.specs.declared.types.Modifier.{Modifier}
-use Rattle.sig_grammar.specs.declared.body.Prefix.{Prefix}
 use Rattle.sig_grammar.specs.declared.body.Prefix.TheVariants.{Mod, Pinned}
 use Rattle.sig_grammar.specs.ElementTypes.{VOID, PTR, BYREF, SZARRAY, ARRAY, GENERICINST, FNPTR, SENTINEL}
 use Rattle.sig_grammar.specs.Conventions.{convention_of}
-use Rattle.sig_grammar.specs.Syntax.{Core, simple, void_pointer, pointer, vector, array, class, value, var, mvar, instance, function, Typed, typed, Types, no_types, type_then, Content, typed_ref, plain, by_ref, Slot, slot, Slots, no_slots, slot_then, Ret, some_ret, void_ret, Method, method, ArrayShape, LocalVariable, local, Body, field, method_body, property, locals, instance_body, type_spec}
 use Rattle.sig_grammar.specs.Parts.{Part, byte, number, index, short_part, HasEncoding}
-use Rattle.sig_grammar.specs.Grammar.{list_parts, modifiers_parts, prefixes_parts, numbers_parts, bounds_parts, shape_parts, generic_parts, method_code, named_code, flag, count_types, count_slots, core_parts, typed_parts, types_parts, content_parts, slot_parts, slots_parts, ret_parts, method_parts, local_parts, body_parts}
 use Rattle.sig_grammar.specs.Limits.{IsMethodKind, IsCore, IsTyped, AreTypes, IsContent, IsSlot, AreSlots, IsRet, IsMethod, IsSlotWithin, IsLocalWithin, IsTypedWithin, IsBodyWithin}
 use Rattle.sig_grammar.specs.Encodes.{IsEncodable, short}
-use Rattle.sig_items.specs.declared.item.Item.{Item}
 use Rattle.sig_items.specs.declared.item.Item.TheVariants as item
-use Rattle.sig_items.specs.ItemsOf.{modifiers_items, prefix_item, shape_items, core_items, typed_items, types_items, content_items, slot_items, slots_items, ret_items, method_items, local_items, items_of}
 use Rattle.sig_items.specs.ItemParts.{convention_code, item_parts, short_parts, encoded_item, HasItemEncoding}
 
 -- the parts of items, one after another

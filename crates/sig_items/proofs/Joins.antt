@@ -1,9 +1,5 @@
 -- Readers that return items, one after another.
-use Rattle.std.proofs.Common.{◌≡◌, ℕ, Option, Some, None, List, ◌∷◌, ◌++◌, refl, ap, append_assoc}
-use Rattle.std.specs.Prelude.{option_map, option_and_then}
-use Rattle.sig_grammar.specs.Reading.{Reader, change, both}
-use Rattle.sig_items.specs.declared.item.Item.{Item}
-use Rattle.sig_items.specs.Positions.{Reported, Reporter, before_reported, and_report, joined, item_then}
+use Rattle.sig_items.proofs.Prelude.{◌≡◌, ℕ, Option, Some, None, List, ◌∷◌, ◌++◌, refl, ap, append_assoc, option_map, option_and_then, Reader, change, both, Item, Reported, Reporter, before_reported, and_report, joined, item_then}
 
 -- the same reading, with a function applied to its value
 abbrev pub changed : {A B : Type 0} → (A → B) → Option (A × List ℕ) → Option (B × List ℕ)

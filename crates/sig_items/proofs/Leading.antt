@@ -1,10 +1,6 @@
 -- Modifiers at the start, and modifiers with PINNED, one by one, before a value.
 use Rattle.std.proofs.Common.{◌≡◌, false, Bool, Option, Some, None, List, [], ◌∷◌, ◌++◌, ℕ, map, refl}
-use Rattle.std.specs.Prelude.{option_map, option_and_then}
-use Rattle.sig_grammar.specs.Reading.{Reader, Optional, change, both, leading_at}
-use Rattle.sig_grammar.proofs.Items.{Stepping, leading_is}
-use Rattle.sig_items.specs.declared.item.Item.{Item}
-use Rattle.sig_items.specs.Positions.{Reporter, item_then}
+use Rattle.sig_items.proofs.Prelude.{option_map, option_and_then, Reader, Optional, change, both, leading_at, Stepping, leading_is, Item, Reporter, item_then}
 
 -- the items before a value, and the value
 abbrev pub led_at : {M A : Type 0} → Optional M → (M → Item) → (A → List Item) → Reader A → Reporter

@@ -1,17 +1,7 @@
 -- The frames of an iterator: their items, with a position before them, and the room for them.
-use Rattle.std.proofs.Common.{◌≡◌, ◌∙◌, ℕ, suc, ◌+◌, ◌<◌, ◌≤◌, true, Option, Some, None, is_some, IfSome, List, [], ◌∷◌, ◌++◌, length, append-nil, length-append, refl, sym, ap, subst, arith}
-use Rattle.table_schema.specs.declared.column.SigKind.{SigKind}
-use Rattle.sig_grammar.specs.Syntax.{Body}
-use Rattle.sig_grammar.specs.Reading.{core_at}
-use Rattle.sig_grammar.specs.Columns.{body_at}
-use Rattle.sig_items.specs.declared.item.Item.{Item}
-use Rattle.sig_items.specs.declared.position.Position.{Position}
+use Rattle.sig_items.proofs.Prelude.{◌≡◌, ◌∙◌, ℕ, suc, ◌+◌, ◌<◌, ◌≤◌, true, Option, Some, None, is_some, IfSome, List, [], ◌∷◌, ◌++◌, length, append-nil, length-append, refl, sym, ap, subst, arith, SigKind, Body, core_at, body_at, Item, Position, Frame, items_of, Reported, before_reported, and_report, joined, item_then, position_at, frame_at, next_at, stack_at, position_depth, frame_depth, reported_by, framed, pushed, all_at, items_in, items_left, HasRoom, IsStacked, IsRoomy, IsReady}
 use Rattle.sig_items.specs.declared.position.Position.TheVariants as position
-use Rattle.sig_items.specs.declared.position.Frame.{Frame}
 use Rattle.sig_items.specs.declared.step.Step.{Step}
-use Rattle.sig_items.specs.ItemsOf.{items_of}
-use Rattle.sig_items.specs.Positions.{Reported, before_reported, and_report, joined, item_then, position_at, frame_at, next_at, stack_at, position_depth, frame_depth}
-use Rattle.sig_items.specs.Steps.{reported_by, framed, pushed, all_at, items_in, items_left, HasRoom, IsStacked, IsRoomy, IsReady}
 use Rattle.sig_items.proofs.Joins.{joined_assoc, item_and}
 use Rattle.sig_items.proofs.Counts.{joined_same}
 

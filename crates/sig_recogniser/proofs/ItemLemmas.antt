@@ -1,15 +1,9 @@
 -- One modifier at the start, and one modifier or PINNED.
 use Rattle.std.proofs.Common.{◌≡◌, ◌≢◌, ℕ, Bool, true, false, cond, eqb, ◌||◌, Some, None, List, ◌∷◌, refl, subst, ◌<◌, Option, [], length, ap, ◌∙◌, IfSome}
-use Rattle.std.specs.Prelude.{option_map, if◌then◌else◌, option_and_then}
+use Rattle.sig_recogniser.proofs.Prelude.{option_map, if◌then◌else◌, option_and_then, Token, Modifier, index_at, modifier_at, modifier_after, starts_modifier, prefix_of, prefix_at, starts_prefix, Optional, leading_at, modifiers_at, prefixes_at, Part, list_parts, modifier_parts, prefix_parts, Left, noted, passed, skip_index, skip_modifiers, skip_prefixes}
 use Rattle.std.proofs.lemmas.Bool.{ne_eqb, eqb-true, eqb-false}
-use Rattle.table_schema.specs.declared.token.Token.{Token}
-use Rattle.sig_grammar.specs.declared.types.Modifier.{Modifier}
 use Rattle.sig_grammar.specs.declared.body.Prefix.TheVariants.{Mod, Pinned}
-use Rattle.sig_grammar.specs.Reading.{index_at, modifier_at, modifier_after, starts_modifier, prefix_of, prefix_at, starts_prefix, Optional, leading_at, modifiers_at, prefixes_at}
-use Rattle.sig_grammar.specs.Parts.{Part}
-use Rattle.sig_grammar.specs.Grammar.{list_parts, modifier_parts, prefix_parts}
 use Rattle.sig_grammar.proofs.Items.{Stepping, ShorterItem, leading_is, modifier_steps, prefix_steps}
-use Rattle.sig_recogniser.specs.Skips.{Left, noted, passed, skip_index, skip_modifiers, skip_prefixes}
 use Rattle.sig_recogniser.proofs.Noted.{index_parts, noted-none, noted_parts, noted_parts-append}
 
 modifier_is : (c : ℕ) (b tail : List ℕ) → starts_modifier b ≡ true → b ≡ c ∷ tail → modifier_at b ≡ modifier_after (eqb c 0x1F) tail

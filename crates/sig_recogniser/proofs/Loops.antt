@@ -1,11 +1,6 @@
 -- Skipping step by step, as loops and depth tests do it.
-use Rattle.std.proofs.Common.{◌≡◌, ℕ, zero, suc, ◌+◌, ◌-◌, ◌<◌, ◌≤◌, ◌&&◌, Bool, false, not, cond, Option, Some, None, is_some, List, [], ◌∷◌, refl, arith}
-use Rattle.std.specs.Prelude.{option_and_then}
-use Rattle.table_schema.specs.declared.token.Token.{Token}
-use Rattle.table_schema.specs.declared.column.SigKind.{SigKind}
+use Rattle.sig_recogniser.proofs.Prelude.{◌≡◌, ℕ, zero, suc, ◌+◌, ◌-◌, ◌<◌, ◌≤◌, ◌&&◌, Bool, false, not, cond, Option, Some, None, is_some, List, [], ◌∷◌, refl, arith, option_and_then, Token, SigKind, leading_within, leading_at, modifiers_at, element_of, Left, Skip, skip_many, skip_core, skip_by, skip_deep, skip_params, skip_slot, skip_modifiers, skip_void_or, skip_ret, skip_method, skip_body, is_marked, behind_mark}
 use Rattle.table_schema.specs.declared.column.SigKind.TheVariants as column
-use Rattle.sig_grammar.specs.Reading.{leading_within, leading_at, modifiers_at, element_of}
-use Rattle.sig_recogniser.specs.Skips.{Left, Skip, skip_many, skip_core, skip_by, skip_deep, skip_params, skip_slot, skip_modifiers, skip_void_or, skip_ret, skip_method, skip_body, is_marked, behind_mark}
 
 next_of : (n k : ℕ) → k < n → n - k ≡ suc (n - (k + 1))
 next_of n k lt = omega arith

@@ -1,14 +1,8 @@
 -- The first token whose row does not exist, over several lists of tokens.
-use Rattle.std.proofs.Common.{◌≡◌, ℕ, Bool, true, false, cond, not, Option, Some, None, is_some, List, [], ◌∷◌, ◌++◌, refl, ap, ◌∙◌}
+use Rattle.sig_recogniser.proofs.Prelude.{◌≡◌, ℕ, Bool, true, false, cond, not, Option, Some, None, is_some, List, [], ◌∷◌, ◌++◌, refl, ap, ◌∙◌, flat_map, flat_map-append, Token, Part, number, signed, index, part_tokens, has_row, first_bad, noted}
 use Rattle.std.specs.Prelude.{◌||◌, ℤ}
-use Rattle.std.specs.List.{flat_map}
 use Rattle.std.specs.Option.{option_or}
 use Rattle.std.proofs.lemmas.List.Folds.{find-append}
-use Rattle.std.proofs.lemmas.Grind.{flat_map-append}
-use Rattle.table_schema.specs.declared.token.Token.{Token}
-use Rattle.sig_grammar.specs.Parts.{Part, number, signed, index, part_tokens}
-use Rattle.sig_grammar.specs.Encodes.{has_row, first_bad}
-use Rattle.sig_recogniser.specs.Skips.{noted}
 
 -- the parts of a number, of a signed number and of a type index
 abbrev pub number_parts : ℕ → List Part

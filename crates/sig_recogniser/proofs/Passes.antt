@@ -1,23 +1,12 @@
 -- Skipping a value is reading it, then keeping its first bad token and dropping the value.
-use Rattle.std.proofs.Common.{◌≡◌, ℕ, zero, suc, ◌/◌, ◌%◌, ◌&&◌, Bool, true, false, not, cond, eqb, ltb, Option, Some, None, is_some, List, [], ◌∷◌, ◌++◌, length, drop, refl, sym, ap, ◌∙◌}
-use Rattle.std.specs.Prelude.{ℤ, option_map, option_and_then}
-use Rattle.std.specs.List.{flat_map}
-use Rattle.std.proofs.lemmas.Grind.{flat_map-append}
+use Rattle.sig_recogniser.proofs.Prelude.{◌≡◌, ℕ, zero, suc, ◌/◌, ◌%◌, ◌&&◌, Bool, true, false, not, cond, eqb, ltb, Option, Some, None, is_some, List, [], ◌∷◌, ◌++◌, length, drop, refl, sym, ap, ◌∙◌, ℤ, option_map, option_and_then, flat_map, flat_map-append, Token, SigKind, Modifier, Core, vector, class, value, var, mvar, function, Typed, typed, Content, typed_ref, plain, by_ref, Slot, slot, Slots, no_slots, slot_then, Ret, Method, method, ArrayShape, field, method_body, locals, instance_body, type_spec, Part, byte, number, part_tokens, list_parts, modifiers_parts, prefixes_parts, numbers_parts, bounds_parts, shape_parts, core_parts, typed_parts, content_parts, slot_parts, slots_parts, ret_parts, method_parts, local_parts, body_parts, generic_parts, count_slots, Reader, change, both, behind, fail, deep, number_at, signed_at, many_at, counted_at, counted_within, modifiers_at, prefixes_at, index_at, typed_at, void_or, pointer_to, target_at, named_at, instance_from, instance_at, shape_with, shape_from, shape_at, array_from, array_at, content_at, slot_at, ret_from, ret_at, params_at, generic_at, takes_sentinel, is_method_code, method_from, method_at, core_by, core_or, core_at, element_of, head_is, local_from, local_at, headed_at, property_from, method_or, field_or, property_or, body_at, Left, Skip, noted, passed, with_bad, number_left, skip_number, skip_index, skip_modifiers, skip_prefixes, skip_many, skip_counted, skip_headed, skip_bounds, skip_bounds_twice, skip_shape, skip_typed, skip_void_or, skip_target, skip_named, skip_instance, skip_content, skip_slot, skip_ret, behind_mark, skip_params, skip_call, skip_method, skip_deep, skip_by, skip_core, skip_behind, skip_nothing, skip_local, skip_body}
+use Rattle.sig_recogniser.specs.Skips.{skip_generic}
 use Rattle.packed.specs.Prefix as head
-use Rattle.table_schema.specs.declared.token.Token.{Token}
-use Rattle.table_schema.specs.declared.column.SigKind.{SigKind}
 use Rattle.table_schema.specs.declared.column.SigKind.TheVariants as column
 use Rattle.sig_grammar.specs.declared.element.Element.{Element}
-use Rattle.sig_grammar.specs.declared.types.Modifier.{Modifier}
-use Rattle.sig_grammar.specs.Syntax.{Core, vector, class, value, var, mvar, function, Typed, typed, Content, typed_ref, plain, by_ref, Slot, slot, Slots, no_slots, slot_then, Ret, Method, method, ArrayShape, field, method_body, locals, instance_body, type_spec}
 use Rattle.sig_grammar.specs.Views.{slots_from}
 use Rattle.sig_grammar.specs.ElementTypes.{VOID}
-use Rattle.sig_grammar.specs.Parts.{Part, byte, number, part_tokens}
-use Rattle.sig_grammar.specs.Grammar.{list_parts, modifiers_parts, prefixes_parts, numbers_parts, bounds_parts, shape_parts, core_parts, typed_parts, content_parts, slot_parts, slots_parts, ret_parts, method_parts, local_parts, body_parts, generic_parts, count_slots}
-use Rattle.sig_grammar.specs.Reading.{Reader, change, both, behind, fail, deep, number_at, signed_at, many_at, counted_at, counted_within, modifiers_at, prefixes_at, index_at, typed_at, void_or, pointer_to, target_at, named_at, instance_from, instance_at, shape_with, shape_from, shape_at, array_from, array_at, content_at, slot_at, ret_from, ret_at, params_at, generic_at, takes_sentinel, is_method_code, method_from, method_at, core_by, core_or, core_at, element_of, head_is}
-use Rattle.sig_grammar.specs.Columns.{local_from, local_at, headed_at, property_from, method_or, field_or, property_or, body_at}
 use Rattle.sig_grammar.proofs.FromLists.{parts-types_from}
-use Rattle.sig_recogniser.specs.Skips.{Left, Skip, noted, passed, with_bad, number_left, skip_number, skip_index, skip_modifiers, skip_prefixes, skip_many, skip_counted, skip_headed, skip_bounds, skip_bounds_twice, skip_shape, skip_typed, skip_void_or, skip_target, skip_named, skip_instance, skip_content, skip_slot, skip_ret, behind_mark, skip_params, skip_generic, skip_call, skip_method, skip_deep, skip_by, skip_core, skip_behind, skip_nothing, skip_local, skip_body}
 use Rattle.sig_recogniser.proofs.Noted.{number_parts, signed_parts, index_parts, noted-none, noted_parts, noted_parts-append}
 use Rattle.sig_recogniser.proofs.ItemLemmas.{index_passes}
 

@@ -1,15 +1,10 @@
 -- What remains at a position, and what is kept there of a type index.
-use Rattle.std.proofs.Common.{◌≡◌, ◌≢◌, ℕ, zero, suc, ◌+◌, ◌-◌, ◌*◌, ◌<◌, ◌≤◌, ◌^◌, Bool, true, false, cond, ltb, Option, Some, None, List, [], ◌∷◌, length, drop, refl, sym, ap, subst, arith, length-drop}
-use Rattle.std.specs.Prelude.{unwrap_or}
+use Rattle.sig_recogniser.proofs.Prelude.{◌≡◌, ◌≢◌, ℕ, zero, suc, ◌+◌, ◌-◌, ◌*◌, ◌<◌, ◌≤◌, ◌^◌, Bool, true, false, cond, ltb, Option, Some, None, List, [], ◌∷◌, length, drop, refl, sym, ap, subst, arith, length-drop, unwrap_or, Token, has_row, token_of, number_at, noted, offset_of, bad_of, token_kept, remains, bad_token, left, number_left}
 use Rattle.std.proofs.lemmas.Bool.Decides.{nat_tests}
 use Rattle.std.proofs.lemmas.List.{drop-drop}
 use Rattle.packed.specs.Prefix.{unsigned_at}
-use Rattle.table_schema.specs.declared.token.Token.{Token}
 use Rattle.table_schema.specs.declared.table.TableId.TheVariants.{TypeDef}
-use Rattle.sig_grammar.specs.Encodes.{has_row}
-use Rattle.sig_grammar.specs.Reading.{token_of, number_at}
 use Rattle.sig_recogniser.specs.declared.position.Position.{Position}
-use Rattle.sig_recogniser.specs.Skips.{noted, offset_of, bad_of, token_kept, remains, bad_token, left, number_left}
 use Rattle.sig_recogniser.proofs.Noted.{note_one}
 
 kept_some : (bad : ℕ) → bad ≢ 0 → token_kept bad ≡ Some (unwrap_or (token_of (bad - 1)) (record { table = TypeDef; row = 0 }))

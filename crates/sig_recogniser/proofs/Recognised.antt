@@ -1,14 +1,6 @@
 -- If bytes are skipped to their end, they encode a signature, and its first bad token was kept.
-use Rattle.std.proofs.Common.{◌≡◌, ℕ, ◌<◌, ◌^◌, Bool, true, false, eqb, Option, Some, None, is_some, IfSome, List, [], ◌∷◌, length, get_or, refl, sym, ap, ◌∙◌}
+use Rattle.sig_recogniser.proofs.Prelude.{◌≡◌, ℕ, ◌<◌, ◌^◌, Bool, true, false, eqb, Option, Some, None, is_some, IfSome, List, [], ◌∷◌, length, get_or, refl, sym, ap, ◌∙◌, Token, SigKind, Body, body_parts, Encodes, tokens, first_bad, core_at, body_at, Left, passed, skip_core, skip_body}
 use Rattle.std.proofs.Math.Dec.{eqb-suc-zero}
-use Rattle.table_schema.specs.declared.token.Token.{Token}
-use Rattle.table_schema.specs.declared.column.SigKind.{SigKind}
-use Rattle.sig_grammar.specs.Syntax.{Body}
-use Rattle.sig_grammar.specs.Grammar.{body_parts}
-use Rattle.sig_grammar.specs.Encodes.{Encodes, tokens, first_bad}
-use Rattle.sig_grammar.specs.Reading.{core_at}
-use Rattle.sig_grammar.specs.Columns.{body_at}
-use Rattle.sig_recogniser.specs.Skips.{Left, passed, skip_core, skip_body}
 use Rattle.sig_recogniser.proofs.Passes.{core_passes, body_passes}
 
 -- the result of skipping a whole signature at the start of the bytes

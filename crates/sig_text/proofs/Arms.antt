@@ -1,9 +1,5 @@
 -- Types by their first byte.
-use Rattle.std.proofs.Common.{◌≡◌, ℕ, zero, suc, ◌-◌, ◌<◌, Some, None, List, [], ◌∷◌, refl, arith}
-use Rattle.sig_grammar.specs.declared.element.Element.{Element}
-use Rattle.sig_grammar.specs.Reading.{element_of}
-use Rattle.sig_text.specs.SignatureText.{word, element_text}
-use Rattle.sig_text.specs.Shown.{code_shown, core_shown}
+use Rattle.sig_text.proofs.Prelude.{◌≡◌, ℕ, zero, suc, ◌-◌, ◌<◌, Some, None, List, [], ◌∷◌, refl, arith, Element, element_of, word, element_text, code_shown, core_shown}
 
 pub core_none : (d c : ℕ) (b : List ℕ) → d ≡ 0 → core_shown d c b ≡ ([], b)
 unfolding core_shown

@@ -1,19 +1,12 @@
 -- What is shown of the bytes that encode a whole signature is its text.
-use Rattle.std.proofs.Common.{◌≡◌, ◌≢◌, ℕ, zero, suc, ◌+◌, ◌%◌, ◌<◌, ◌≤◌, subst, Bool, true, false, eqb, List, [], ◌∷◌, ◌++◌, length, None, Some, Option, refl, ap, arith, inl, inr}
+use Rattle.sig_text.proofs.Prelude.{◌≡◌, ◌≢◌, ℕ, zero, suc, ◌+◌, ◌%◌, ◌<◌, ◌≤◌, subst, Bool, true, false, eqb, List, [], ◌∷◌, ◌++◌, length, None, Some, Option, refl, ap, arith, inl, inr, ne_eqb, Part, number, list_parts, slot_parts, slots_parts, typed_parts, content_parts, local_parts, ret_parts, method_parts, body_parts, count_slots, ret_depth, slots_depth, IsRet, AreSlots, IsMethodKind, IsTypedWithin, IsSlotWithin, IsLocalWithin, IsMethodWithin, IsBodyWithin, Slot, Slots, no_slots, slot_then, Ret, some_ret, Method, method, LocalVariable, local, Typed, Body, field, method_body, property, locals, instance_body, type_spec, Piece, comma, listed, slot_text, typed_text, content_text, local_text, method_text, text_of, named_slots_text, declared_text, Shown, CoreShown, listed_shown, enclosed_shown, core_shown, property_shown, counted_shown, headed_shown, body_shown, named_slots_shown, declared_shown, member_shown}
 use Rattle.std.specs.List.{AllByRecursion}
-use Rattle.std.proofs.lemmas.Bool.{ne_eqb}
 use Rattle.table_schema.specs.declared.column.SigKind.{SigKind}
 use Rattle.table_schema.specs.declared.column.SigKind.TheVariants as column
-use Rattle.sig_grammar.specs.Parts.{Part, number}
-use Rattle.sig_grammar.specs.Grammar.{list_parts, slot_parts, slots_parts, typed_parts, content_parts, local_parts, ret_parts, method_parts, body_parts, count_slots}
-use Rattle.sig_grammar.specs.Limits.{ret_depth, slots_depth, IsRet, AreSlots, IsMethodKind, IsTypedWithin, IsSlotWithin, IsLocalWithin, IsMethodWithin, IsBodyWithin}
 use Rattle.sig_grammar.specs.Encodes.{Holds, Encodes}
-use Rattle.sig_grammar.specs.Syntax.{Slot, Slots, no_slots, slot_then, Ret, some_ret, Method, method, LocalVariable, local, Typed, Body, field, method_body, property, locals, instance_body, type_spec}
 use Rattle.sig_grammar.specs.Views.{slots_from}
 use Rattle.sig_grammar.proofs.FromLists.{count-slots_from, parts-slots_from, slots_good}
 use Rattle.sig_text.specs.Declares.{Declares, as_method, member_text}
-use Rattle.sig_text.specs.SignatureText.{Piece, comma, listed, slot_text, typed_text, content_text, local_text, method_text, text_of, named_slots_text, declared_text}
-use Rattle.sig_text.specs.Shown.{Shown, CoreShown, listed_shown, enclosed_shown, core_shown, property_shown, counted_shown, headed_shown, body_shown, named_slots_shown, declared_shown, member_shown}
 use Rattle.sig_text.proofs.Encoded.{Head, whole_head, split_head, first_byte, NumbersAreRead, first_number, ReadsSlot, kind_few, led, content_read, typed_read, slot_read, ret_read, method_read, method_head}
 
 module _ (known : NumbersAreRead) (d : ℕ) where

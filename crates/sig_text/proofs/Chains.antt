@@ -1,9 +1,7 @@
 -- Pieces after other pieces.
-use Rattle.std.proofs.Common.{◌≡◌, ◌∙◌, ℕ, Bool, true, false, if◌then◌else◌, Option, Some, None, is_some, List, [], ◌∷◌, ◌++◌, refl, ap, subst}
-use Rattle.sig_text.specs.SignatureText.{Piece, flag_text}
+use Rattle.sig_text.proofs.Prelude.{◌≡◌, ◌∙◌, ℕ, Bool, true, false, if◌then◌else◌, Option, Some, None, is_some, List, [], ◌∷◌, ◌++◌, refl, ap, subst, Piece, flag_text, Shown}
 use Rattle.sig_text.specs.Receives.{Receives, nothing, refused, taken}
 use Rattle.sig_text.specs.Refused.{refused_after}
-use Rattle.sig_text.specs.Shown.{Shown}
 use Rattle.sig_text.specs.Wrote.{Wrote, Passes}
 
 joined : {S : Type 0} {gives : S → Piece → Bool → S → Type 0} {s t u : S} {ps qs : List Piece} {all : Bool} → Receives gives s ps true t → Receives gives t qs all u → Receives gives s (ps ++ qs) all u

@@ -1,5 +1,5 @@
 -- What is shown of the bytes that encode a value is its text.
-use Rattle.std.proofs.Common.{◌≡◌, ◌∙◌, ℕ, zero, suc, ◌+◌, ◌≤◌, ◌*◌, ◌<◌, ◌%◌, ◌/◌, Bool, true, false, eqb, if◌then◌else◌, Option, Some, None, is_some, List, [], ◌∷◌, ◌++◌, length, drop, map, refl, ap, append_assoc, length-append, arith, inl, inr}
+use Rattle.sig_text.proofs.Prelude.{◌≡◌, ◌∙◌, ℕ, zero, suc, ◌+◌, ◌≤◌, ◌*◌, ◌<◌, ◌%◌, ◌/◌, Bool, true, false, eqb, if◌then◌else◌, Option, Some, None, is_some, List, [], ◌∷◌, ◌++◌, length, drop, map, refl, ap, append_assoc, length-append, arith, inl, inr, Element, Prefix, Mod, Pinned, Part, byte, number, signed, index, EncodesPart, EncodesParts, modifier_parts, modifiers_parts, prefix_parts, prefixes_parts, numbers_parts, bounds_parts, shape_parts, generic_parts, method_code, flag, named_code, count_types, count_slots, core_parts, typed_parts, types_parts, content_parts, slot_parts, slots_parts, ret_parts, method_parts, core_depth, typed_depth, types_depth, content_depth, slot_depth, slots_depth, ret_depth, method_depth, IsArrayShape, IsMethodKind, IsCore, IsTyped, AreTypes, IsContent, IsSlot, AreSlots, IsRet, IsMethod, number_at, signed_at, index_at, token_of, modifier_at, prefix_at, starts_prefix, head_is, element_of, Core, simple, void_pointer, pointer, vector, array, class, value, var, mvar, instance, function, Typed, typed, Types, no_types, type_then, Content, typed_ref, plain, by_ref, Slot, slot, Slots, no_slots, slot_then, Ret, some_ret, void_ret, Method, method, ArrayShape, Piece, word, comma, following, modifier_text, modifiers_text, prefix_text, element_text, dimensions_text, written_dimensions, shape_text, core_text, typed_text, types_text, content_text, slot_text, slots_text, ret_text, method_text, CoreShown, byte_or, number_or, signed_or, index_or, mark_at, marks_in, marks_of, numbers_behind, next_of, dimensions_shown, shape_shown, named_shown, parameter_shown, by_ref_shown, content_shown, slot_shown, listed_shown, enclosed_shown, instance_shown, generic_or, method_shown, after_element_shown, around_shown, code_shown, core_shown}
 use Rattle.std.specs.Prelude.{ℤ, pos, slice_get, codes}
 use Rattle.std.proofs.lemmas.Bool.Decides.{nat_tests}
 use Rattle.std.specs.Option.{unwrap_or}
@@ -11,19 +11,9 @@ use Rattle.table_schema.specs.CodedIndexes.{IsCoded}
 use Rattle.table_schema.specs.declared.coded.Coded.TheVariants.{TypeDefOrRef}
 use Rattle.table_schema.specs.declared.table.TableId.TheVariants.{TypeDef}
 use Rattle.table_schema.specs.declared.token.Token.{Token}
-use Rattle.sig_grammar.specs.declared.element.Element.{Element}
 use Rattle.sig_grammar.specs.declared.element.Element.TheVariants.{Boolean}
 use Rattle.sig_grammar.specs.declared.types.Modifier.{Modifier}
-use Rattle.sig_grammar.specs.declared.body.Prefix.{Prefix}
-use Rattle.sig_grammar.specs.declared.body.Prefix.TheVariants.{Mod, Pinned}
 use Rattle.sig_grammar.specs.ElementTypes.{element_code}
-use Rattle.sig_grammar.specs.Parts.{Part, byte, number, signed, index, EncodesPart, EncodesParts}
-use Rattle.sig_grammar.specs.Grammar.{modifier_parts, modifiers_parts, prefix_parts, prefixes_parts, numbers_parts, bounds_parts, shape_parts, generic_parts, method_code, flag, named_code, count_types, count_slots, core_parts, typed_parts, types_parts, content_parts, slot_parts, slots_parts, ret_parts, method_parts}
-use Rattle.sig_grammar.specs.Limits.{core_depth, typed_depth, types_depth, content_depth, slot_depth, slots_depth, ret_depth, method_depth, IsArrayShape, IsMethodKind, IsCore, IsTyped, AreTypes, IsContent, IsSlot, AreSlots, IsRet, IsMethod}
-use Rattle.sig_grammar.specs.Reading.{number_at, signed_at, index_at, token_of, modifier_at, prefix_at, starts_prefix, head_is, element_of}
-use Rattle.sig_grammar.specs.Syntax.{Core, simple, void_pointer, pointer, vector, array, class, value, var, mvar, instance, function, Typed, typed, Types, no_types, type_then, Content, typed_ref, plain, by_ref, Slot, slot, Slots, no_slots, slot_then, Ret, some_ret, void_ret, Method, method, ArrayShape}
-use Rattle.sig_text.specs.SignatureText.{Piece, word, comma, following, modifier_text, modifiers_text, prefix_text, element_text, dimensions_text, written_dimensions, shape_text, core_text, typed_text, types_text, content_text, slot_text, slots_text, ret_text, method_text}
-use Rattle.sig_text.specs.Shown.{CoreShown, byte_or, number_or, signed_or, index_or, mark_at, marks_in, marks_of, numbers_behind, next_of, dimensions_shown, shape_shown, named_shown, parameter_shown, by_ref_shown, content_shown, slot_shown, listed_shown, enclosed_shown, instance_shown, generic_or, method_shown, after_element_shown, around_shown, code_shown, core_shown}
 use Rattle.sig_text.proofs.MarksShown.{none_in, mark_none}
 
 -- ---- parts at the start

@@ -4,4 +4,5 @@ pub mod Calls
 pub mod Chains
 pub mod Encoded
 pub mod MarksShown
+pub mod Prelude
 pub mod ShapeShown

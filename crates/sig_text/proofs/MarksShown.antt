@@ -1,11 +1,5 @@
 -- Modifiers and PINNED, one after another and in halves.
-use Rattle.std.proofs.Common.{◌≡◌, ◌∙◌, ℕ, zero, suc, ◌+◌, ◌-◌, ◌≤◌, Bool, true, false, cond, eqb, ◌||◌, Option, Some, None, List, [], ◌∷◌, ◌++◌, refl, sym, ap, append_assoc, append-nil, arith}
-use Rattle.std.specs.Prelude.{option_map}
-use Rattle.sig_grammar.specs.declared.body.Prefix.{Prefix}
-use Rattle.sig_grammar.specs.declared.body.Prefix.TheVariants.{Pinned}
-use Rattle.sig_grammar.specs.Reading.{prefix_at, prefix_of, modifier_at, modifier_after, starts_prefix}
-use Rattle.sig_text.specs.SignatureText.{Piece, following, prefix_text}
-use Rattle.sig_text.specs.Shown.{marked, mark_at, after_mark, marks_in}
+use Rattle.sig_text.proofs.Prelude.{◌≡◌, ◌∙◌, ℕ, zero, suc, ◌+◌, ◌-◌, ◌≤◌, Bool, true, false, cond, eqb, ◌||◌, Option, Some, None, List, [], ◌∷◌, ◌++◌, refl, sym, ap, append_assoc, append-nil, arith, option_map, Prefix, Pinned, prefix_at, prefix_of, modifier_at, modifier_after, starts_prefix, Piece, following, prefix_text, marked, mark_at, after_mark, marks_in}
 
 -- ---- the one at the start
 

@@ -1,10 +1,5 @@
 -- The shape of an array, step by step.
-use Rattle.std.proofs.Common.{◌≡◌, ℕ, zero, suc, ◌+◌, ◌-◌, ◌<◌, Some, None, List, [], ◌∷◌, ◌++◌, refl, arith}
-use Rattle.std.specs.Prelude.{codes}
-use Rattle.std.proofs.lemmas.Bool.{lt-ltb}
-use Rattle.sig_text.specs.SignatureText.{Piece, word, dimension_text}
-use Rattle.sig_text.specs.Shown.{CoreShown, number_or, signed_or, numbers_behind, next_of, before, dimensions_shown, slot_shown, is_marked, behind_mark, listed_shown, named_slots_shown}
-use Rattle.sig_text.specs.SignatureText.{flag_text, param_flags, param_name}
+use Rattle.sig_text.proofs.Prelude.{◌≡◌, ℕ, zero, suc, ◌+◌, ◌-◌, ◌<◌, Some, None, List, [], ◌∷◌, ◌++◌, refl, arith, codes, lt-ltb, Piece, word, dimension_text, flag_text, param_flags, param_name, CoreShown, number_or, signed_or, numbers_behind, next_of, before, dimensions_shown, slot_shown, is_marked, behind_mark, listed_shown, named_slots_shown}
 
 pub behind_more : (n : ℕ) (b : List ℕ) → 0 < n → numbers_behind n b ≡ numbers_behind (n - 1) (number_or b).1
 unfolding numbers_behind

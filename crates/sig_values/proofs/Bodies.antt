@@ -1,21 +1,7 @@
 -- Whole signatures are read as they are encoded, in each kind of column.
-use Rattle.std.proofs.Common.{◌≡◌, ◌≢◌, ◌⊎◌, inl, inr, ℕ, ◌%◌, ◌≤◌, Bool, true, false, is_some, List, refl, arith, ◌^◌, ◌<◌, Some, [], ◌∷◌, length, sym, ap, ◌∙◌}
-use Rattle.std.specs.List.{AllByRecursion}
-use Rattle.sig_grammar.specs.declared.body.Prefix.{Prefix}
-use Rattle.table_schema.specs.declared.column.SigKind.{SigKind}
+use Rattle.sig_values.proofs.Prelude.{◌≡◌, ◌≢◌, ◌⊎◌, inl, inr, ℕ, ◌%◌, ◌≤◌, Bool, true, false, is_some, List, refl, arith, ◌^◌, ◌<◌, Some, [], ◌∷◌, length, sym, ap, ◌∙◌, AllByRecursion, Prefix, SigKind, Core, Content, Method, method, Ret, LocalVariable, local, Body, field, method_body, property, locals, instance_body, type_spec, core_parts, slot_parts, method_parts, method_code, local_parts, body_parts, IsMethod, IsMethodKind, IsLocalWithin, IsBodyWithin, IsCoreWithin, IsTypedWithin, IsContentWithin, IsSlotWithin, IsRetWithin, Holds, Encodes, IsEncodable, short, Reader, fail, prefixes_at, slot_at, core_at, local_from, local_at, property_from, method_or, field_or, property_or, body_at, ℤ, flat_map, IsPacked, IsPackedSigned, FitsBits, short_unsigned, short_signed, TypeDefOrRef, tables_of, Part, byte, number, signed, index, EncodesPart, EncodesParts, short_part, index_number, HasEncoding}
 use Rattle.table_schema.specs.declared.column.SigKind.TheVariants as column
-use Rattle.sig_grammar.specs.Syntax.{Core, Content, Method, method, Ret, LocalVariable, local, Body, field, method_body, property, locals, instance_body, type_spec}
-use Rattle.sig_grammar.specs.Grammar.{core_parts, slot_parts, method_parts, method_code, local_parts, body_parts}
-use Rattle.sig_grammar.specs.Limits.{IsMethod, IsMethodKind, IsLocalWithin, IsBodyWithin, IsCoreWithin, IsTypedWithin, IsContentWithin, IsSlotWithin, IsRetWithin}
-use Rattle.sig_grammar.specs.Encodes.{Holds, Encodes, IsEncodable, short}
-use Rattle.sig_grammar.specs.Reading.{Reader, fail, prefixes_at, slot_at, core_at}
-use Rattle.sig_grammar.specs.Columns.{local_from, local_at, property_from, method_or, field_or, property_or, body_at}
-use Rattle.std.specs.Prelude.{ℤ, flat_map}
 use Rattle.std.proofs.lemmas.Option.{same_Some, slice_get_within}
-use Rattle.packed.specs.Packed.{IsPacked, IsPackedSigned, FitsBits, short_unsigned, short_signed}
-use Rattle.table_schema.specs.declared.coded.Coded.TheVariants.{TypeDefOrRef}
-use Rattle.table_schema.specs.CodedIndexes.{tables_of}
-use Rattle.sig_grammar.specs.Parts.{Part, byte, number, signed, index, EncodesPart, EncodesParts, short_part, index_number, HasEncoding}
 use Rattle.sig_values.proofs.Readers.{Reads, change_reads, NumbersAreRead, Any, BothGood, counted_reads, headed_reads, IsBytes, Head-whole, Head-from_whole, Takes}
 use Rattle.sig_values.proofs.Leading.{heads, no, no_prefix, prefix_leads, led_reads}
 use Rattle.sig_values.proofs.Codes.{other_byte, start_no_prefix, content_heads, form_reads, typed_reads, content_reads, slot_reads, ret_reads}

@@ -1,17 +1,5 @@
 -- The first byte of each value, and what is read after it.
-use Rattle.std.proofs.Common.{◌≡◌, ◌≢◌, ◌⊎◌, inl, inr, ℕ, Bool, true, false, cond, eqb, ltb, ◌&&◌, Option, Some, None, List, [], ◌∷◌, refl, sym, ap, ◌∙◌, subst, IfSome, ◌≤◌, ◌++◌}
-use Rattle.std.specs.Prelude.{⊤}
-use Rattle.std.proofs.lemmas.Bool.{eqb-true, eq-eqb, ne_eqb, not-true}
-use Rattle.sig_grammar.specs.declared.element.Element.{Element}
-use Rattle.sig_grammar.specs.declared.element.Element.TheVariants.{Boolean, Char, I1, U1, I2, U2, I4, U4, I8, U8, R4, R8, String, I, U, Object}
-use Rattle.sig_grammar.specs.Syntax.{Core, simple, Content, typed_ref, plain, by_ref, Slot, slot, Typed, typed, Ret, some_ret, void_ret}
-use Rattle.sig_grammar.specs.ElementTypes.{element_code}
-use Rattle.sig_grammar.specs.Parts.{Part, byte}
-use Rattle.sig_grammar.specs.Grammar.{core_parts, content_parts, slot_parts, typed_parts, ret_parts, modifiers_parts}
-use Rattle.sig_grammar.specs.Reading.{Reader, element_of, pick, change, behind, head_is, both, modifiers_at, typed_at, void_or, target_at, content_at, slot_at, ret_at, ret_from}
-use Rattle.sig_grammar.proofs.OptionLemmas.{IfSome-map, IfSome-cond}
-use Rattle.sig_grammar.specs.declared.types.Modifier.{Modifier}
-use Rattle.sig_grammar.specs.Limits.{IsCoreWithin, IsTypedWithin, IsContentWithin, IsSlotWithin, IsRetWithin}
+use Rattle.sig_values.proofs.Prelude.{◌≡◌, ◌≢◌, ◌⊎◌, inl, inr, ℕ, Bool, true, false, cond, eqb, ltb, ◌&&◌, Option, Some, None, List, [], ◌∷◌, refl, sym, ap, ◌∙◌, subst, IfSome, ◌≤◌, ◌++◌, ⊤, eqb-true, eq-eqb, ne_eqb, not-true, Element, Boolean, Char, I1, U1, I2, U2, I4, U4, I8, U8, R4, R8, String, I, U, Object, Core, simple, Content, typed_ref, plain, by_ref, Slot, slot, Typed, typed, Ret, some_ret, void_ret, element_code, Part, byte, core_parts, content_parts, slot_parts, typed_parts, ret_parts, modifiers_parts, Reader, element_of, pick, change, behind, head_is, both, modifiers_at, typed_at, void_or, target_at, content_at, slot_at, ret_at, ret_from, IfSome-map, IfSome-cond, Modifier, IsCoreWithin, IsTypedWithin, IsContentWithin, IsSlotWithin, IsRetWithin}
 use Rattle.sig_values.proofs.Readers.{IsBytes, Head, Takes, Reads, head_byte, behind_byte, weaken, NumbersAreRead, Any, change_reads, both_parts, BothGood}
 use Rattle.sig_values.proofs.Leading.{begins, heads, begins-heads, no, no_modifier, no_prefix, modifier_leads, led_reads}
 

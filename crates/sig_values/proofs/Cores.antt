@@ -1,21 +1,6 @@
 -- A core of any depth is read as it is encoded.
-use Rattle.std.proofs.Common.{◌≡◌, ◌≢◌, ℕ, zero, suc, ◌≤◌, Bool, true, false, cond, eqb, Option, Some, None, List, [], ◌∷◌, length, refl, sym, ap, ap₂, ◌∙◌, subst, arith, IfSome}
-use Rattle.std.specs.Prelude.{ℤ}
-use Rattle.std.specs.List.{AllByRecursion}
-use Rattle.std.proofs.lemmas.Bool.{eqb-true, eqb-false, ne_eqb}
-use Rattle.table_schema.specs.declared.token.Token.{Token}
-use Rattle.sig_grammar.specs.declared.element.Element.{Element}
-use Rattle.sig_grammar.specs.declared.types.Modifier.{Modifier}
-use Rattle.sig_grammar.specs.Syntax.{Core, simple, void_pointer, pointer, vector, array, class, value, var, mvar, instance, function, Typed, Types, no_types, type_then, ArrayShape, Method, method, Content, typed_ref, plain, by_ref, slot, Ret, some_ret, void_ret}
-use Rattle.sig_grammar.specs.Views.{types_from}
-use Rattle.sig_grammar.specs.ElementTypes.{element_code}
-use Rattle.sig_grammar.specs.Parts.{Part, byte, number, index}
-use Rattle.sig_grammar.specs.Grammar.{named_code, core_parts, typed_parts, modifiers_parts, shape_parts, method_parts}
-use Rattle.sig_grammar.specs.Limits.{core_depth, types_depth, content_depth, ret_depth, method_depth, IsCore, AreTypes, IsArrayShape, IsCoreWithin, IsTypedWithin}
-use Rattle.sig_grammar.specs.Reading.{Reader, change, both, deep, number_at, signed_at, typed_at, target_at, pointer_to, named_at, instance_at, instance_from, counted_within, shape_at, shape_from, shape_with, array_at, array_from, method_at, core_by, core_or, core_at, element_of}
+use Rattle.sig_values.proofs.Prelude.{◌≡◌, ◌≢◌, ℕ, zero, suc, ◌≤◌, Bool, true, false, cond, eqb, Option, Some, None, List, [], ◌∷◌, length, refl, sym, ap, ap₂, ◌∙◌, subst, arith, IfSome, ℤ, AllByRecursion, eqb-true, eqb-false, ne_eqb, Token, Element, Modifier, Core, simple, void_pointer, pointer, vector, array, class, value, var, mvar, instance, function, Typed, Types, no_types, type_then, ArrayShape, Method, method, Content, typed_ref, plain, by_ref, slot, Ret, some_ret, void_ret, types_from, element_code, Part, byte, number, index, named_code, core_parts, typed_parts, modifiers_parts, shape_parts, method_parts, core_depth, types_depth, content_depth, ret_depth, method_depth, IsCore, AreTypes, IsArrayShape, IsCoreWithin, IsTypedWithin, Reader, change, both, deep, number_at, signed_at, typed_at, target_at, pointer_to, named_at, instance_at, instance_from, counted_within, shape_at, shape_from, shape_with, array_at, array_from, method_at, core_by, core_or, core_at, element_of, IfSome-map, IfSome-cond, count-types_from, parts-types_from, types_good}
 use Rattle.sig_values.proofs.Readers.{IsBytes, Head, Takes, Reads, head_byte, behind_byte, change_reads, then_reads, unless_reads, NumbersAreRead, Any, number_parts, number_reads, signed_parts, signed_reads, index_parts, index_reads, both_reads, both_parts, BothGood, counted_reads, counted_parts, within_reads}
-use Rattle.sig_grammar.proofs.OptionLemmas.{IfSome-map, IfSome-cond}
-use Rattle.sig_grammar.proofs.FromLists.{count-types_from, parts-types_from, types_good}
 use Rattle.sig_values.proofs.Codes.{element_found, element_again, typed_reads, target_reads, void_parts, VoidGood, Modified}
 use Rattle.sig_values.proofs.Methods.{method_reads, IsMethodOf}
 

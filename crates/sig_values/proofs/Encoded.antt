@@ -1,25 +1,7 @@
 -- If bytes encode a value, it has a canonical encoding, which is no longer than those bytes.
-use Rattle.std.proofs.Common.{◌≡◌, ℕ, zero, suc, ◌+◌, ◌^◌, ◌<◌, ◌≤◌, Bool, true, false, cond, Option, Some, None, is_some, List, [], ◌∷◌, ◌++◌, length, refl, sym, ap, subst, arith, ◌⊎◌, inl, inr, length-append}
-use Rattle.std.specs.Prelude.{⊤, ℤ, flat_map, slice_get}
-use Rattle.std.specs.List.{AllByRecursion, position_or_len}
-use Rattle.packed.specs.Packed.{IsPacked, IsPackedSigned, FitsBits, short_unsigned, short_signed}
-use Rattle.table_schema.specs.declared.token.Token.{Token}
+use Rattle.sig_values.proofs.Prelude.{◌≡◌, ℕ, zero, suc, ◌+◌, ◌^◌, ◌<◌, ◌≤◌, Bool, true, false, cond, Option, Some, None, is_some, List, [], ◌∷◌, ◌++◌, length, refl, sym, ap, subst, arith, ◌⊎◌, inl, inr, length-append, ⊤, ℤ, flat_map, slice_get, AllByRecursion, position_or_len, IsPacked, IsPackedSigned, FitsBits, short_unsigned, short_signed, Token, TypeDefOrRef, tables_of, IsCoded, SigKind, Element, Boolean, Modifier, Prefix, Mod, Pinned, element_code, Core, simple, void_pointer, pointer, vector, array, instance, function, Typed, typed, Types, no_types, type_then, Content, typed_ref, plain, by_ref, Slot, slot, Slots, no_slots, slot_then, Ret, some_ret, void_ret, Method, method, ArrayShape, LocalVariable, local, Body, field, method_body, property, locals, instance_body, type_spec, Part, byte, number, signed, index, EncodesPart, EncodesParts, short_part, is_table, index_number, HasEncoding, part_tokens, list_parts, modifier_parts, modifiers_parts, numbers_parts, bounds_parts, shape_parts, named_code, flag, method_code, generic_parts, core_parts, typed_parts, types_parts, content_parts, slot_parts, slots_parts, ret_parts, method_parts, prefix_parts, prefixes_parts, local_parts, body_parts, IsMethodKind, IsCore, IsTyped, AreTypes, IsContent, IsSlot, AreSlots, IsRet, IsMethod, IsTypedWithin, IsSlotWithin, IsLocalWithin, IsBodyWithin, Encodes, IsEncodable, short, tokens}
 use Rattle.table_schema.specs.declared.table.TableId.{TableId}
 use Rattle.table_schema.specs.declared.table.TableId.TheVariants.{TypeDef, TypeRef, TypeSpec}
-use Rattle.table_schema.specs.declared.coded.Coded.TheVariants.{TypeDefOrRef}
-use Rattle.table_schema.specs.CodedIndexes.{tables_of, IsCoded}
-use Rattle.table_schema.specs.declared.column.SigKind.{SigKind}
-use Rattle.sig_grammar.specs.declared.element.Element.{Element}
-use Rattle.sig_grammar.specs.declared.element.Element.TheVariants.{Boolean}
-use Rattle.sig_grammar.specs.declared.types.Modifier.{Modifier}
-use Rattle.sig_grammar.specs.declared.body.Prefix.{Prefix}
-use Rattle.sig_grammar.specs.declared.body.Prefix.TheVariants.{Mod, Pinned}
-use Rattle.sig_grammar.specs.ElementTypes.{element_code}
-use Rattle.sig_grammar.specs.Syntax.{Core, simple, void_pointer, pointer, vector, array, instance, function, Typed, typed, Types, no_types, type_then, Content, typed_ref, plain, by_ref, Slot, slot, Slots, no_slots, slot_then, Ret, some_ret, void_ret, Method, method, ArrayShape, LocalVariable, local, Body, field, method_body, property, locals, instance_body, type_spec}
-use Rattle.sig_grammar.specs.Parts.{Part, byte, number, signed, index, EncodesPart, EncodesParts, short_part, is_table, index_number, HasEncoding, part_tokens}
-use Rattle.sig_grammar.specs.Grammar.{list_parts, modifier_parts, modifiers_parts, numbers_parts, bounds_parts, shape_parts, named_code, flag, method_code, generic_parts, core_parts, typed_parts, types_parts, content_parts, slot_parts, slots_parts, ret_parts, method_parts, prefix_parts, prefixes_parts, local_parts, body_parts}
-use Rattle.sig_grammar.specs.Limits.{IsMethodKind, IsCore, IsTyped, AreTypes, IsContent, IsSlot, AreSlots, IsRet, IsMethod, IsTypedWithin, IsSlotWithin, IsLocalWithin, IsBodyWithin}
-use Rattle.sig_grammar.specs.Encodes.{Encodes, IsEncodable, short, tokens}
 use Rattle.sig_values.proofs.Methods.{kind_lt}
 
 -- ---- each byte part of the grammar is a byte

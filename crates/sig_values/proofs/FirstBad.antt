@@ -1,11 +1,6 @@
 -- The first type index without a row, compared with the property of all indexes.
-use Rattle.std.proofs.Common.{◌≡◌, ℕ, ◌↔◌, true, false, ltb, leb, Some, None, List, [], ◌∷◌, ◌++◌, refl, ap, inl, inr}
-use Rattle.std.specs.Prelude.{slice_index}
-use Rattle.std.specs.List.{AllByRecursion}
-use Rattle.std.proofs.lemmas.Bool.{and_parts, cases_Bool, ltb-true, leb-true, lt-ltb, le-leb}
-use Rattle.table_schema.specs.declared.token.Token.{Token}
+use Rattle.sig_values.proofs.Prelude.{◌≡◌, ℕ, ◌↔◌, true, false, ltb, leb, Some, None, List, [], ◌∷◌, ◌++◌, refl, ap, inl, inr, slice_index, AllByRecursion, and_parts, cases_Bool, ltb-true, leb-true, lt-ltb, le-leb, Token, HasRow, has_row, first_bad}
 use Rattle.table_schema.specs.Tables.{table_number}
-use Rattle.sig_grammar.specs.Encodes.{HasRow, has_row, first_bad}
 
 module _ (counts : List ℕ) where
   tested : (token : Token) → has_row counts token ≡ true → HasRow counts token

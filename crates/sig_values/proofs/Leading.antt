@@ -1,16 +1,6 @@
 -- Modifiers, and what else may precede a type.
-use Rattle.std.proofs.Common.{◌≡◌, ℕ, zero, suc, ◌<◌, ◌≤◌, Bool, true, false, cond, eqb, not, ◌&&◌, Option, Some, None, List, [], ◌∷◌, length, refl, ap, subst, arith, IfSome, length-append}
-use Rattle.std.specs.Prelude.{option_map}
-use Rattle.std.proofs.lemmas.Bool.{eqb-true}
-use Rattle.table_schema.specs.declared.token.Token.{Token}
-use Rattle.sig_grammar.specs.declared.types.Modifier.{Modifier}
-use Rattle.sig_grammar.specs.declared.body.Prefix.{Prefix}
-use Rattle.sig_grammar.specs.declared.body.Prefix.TheVariants.{Mod, Pinned}
-use Rattle.sig_grammar.specs.Parts.{Part, byte}
-use Rattle.sig_grammar.specs.Grammar.{list_parts, modifier_parts, prefix_parts}
-use Rattle.sig_grammar.specs.Reading.{Reader, Optional, items_then, leading_within, leading_at, index_at, modifier_after, modifier_at, prefix_of, prefix_at, both}
+use Rattle.sig_values.proofs.Prelude.{◌≡◌, ℕ, zero, suc, ◌<◌, ◌≤◌, Bool, true, false, cond, eqb, not, ◌&&◌, Option, Some, None, List, [], ◌∷◌, length, refl, ap, subst, arith, IfSome, length-append, option_map, eqb-true, Token, Modifier, Prefix, Mod, Pinned, Part, byte, list_parts, modifier_parts, prefix_parts, Reader, Optional, items_then, leading_within, leading_at, index_at, modifier_after, modifier_at, prefix_of, prefix_at, both, IfSome-bind, IfSome-map, IfSome-cond}
 use Rattle.sig_values.proofs.Readers.{IsBytes, Head, Head-append, Head-split, Takes, Reads, both_parts, BothGood, pair_reads, NumbersAreRead, Any, index_parts, index_reads}
-use Rattle.sig_grammar.proofs.OptionLemmas.{IfSome-bind, IfSome-map, IfSome-cond}
 
 -- the first byte passes the test
 abbrev pub begins : (ℕ → Bool) → List ℕ → Bool

@@ -4,5 +4,6 @@ pub mod Cores
 pub mod FirstBad
 pub mod Leading
 pub mod Methods
+pub mod Prelude
 pub mod Readers
 pub mod Encoded

@@ -1,18 +1,7 @@
 -- If cores are read as they are encoded, so are methods.
-use Rattle.std.proofs.Common.{◌≡◌, ℕ, zero, suc, ◌+◌, ◌*◌, ◌/◌, ◌%◌, ◌<◌, ◌≤◌, Bool, true, false, eqb, ltb, ◌&&◌, ◌||◌, Option, Some, None, is_some, List, [], ◌∷◌, ◌++◌, length, drop, refl, sym, ap, ◌∙◌, subst, arith, IfSome, ◌⊎◌, inl, inr, ⊎_elim}
-use Rattle.std.specs.Prelude.{option_map, option_and_then}
-use Rattle.std.specs.List.{AllByRecursion}
-use Rattle.std.proofs.lemmas.Bool.{eqb-true, ltb-true, lt-ltb, and_parts, or_cases}
-use Rattle.sig_grammar.specs.Syntax.{Core, Slot, Slots, no_slots, slot_then, Ret, Method, method}
-use Rattle.sig_grammar.specs.Views.{slots_from}
-use Rattle.sig_grammar.specs.Parts.{Part, number}
-use Rattle.sig_grammar.specs.Grammar.{core_parts, slot_parts, slots_parts, ret_parts, method_parts, generic_parts, method_code, flag, count_slots}
-use Rattle.sig_grammar.specs.Limits.{slots_depth, method_depth, AreSlots, IsMethod, IsMethodKind, IsSentinel, HasOwnSentinel, IsCoreWithin, IsSlotWithin, IsRetWithin}
-use Rattle.sig_grammar.specs.Reading.{Reader, number_at, head_is, slot_at, ret_at, params_at, generic_at, takes_sentinel, is_method_code, method_from, method_at}
+use Rattle.sig_values.proofs.Prelude.{◌≡◌, ℕ, zero, suc, ◌+◌, ◌*◌, ◌/◌, ◌%◌, ◌<◌, ◌≤◌, Bool, true, false, eqb, ltb, ◌&&◌, ◌||◌, Option, Some, None, is_some, List, [], ◌∷◌, ◌++◌, length, drop, refl, sym, ap, ◌∙◌, subst, arith, IfSome, ◌⊎◌, inl, inr, ⊎_elim, option_map, option_and_then, AllByRecursion, eqb-true, ltb-true, lt-ltb, and_parts, or_cases, Core, Slot, Slots, no_slots, slot_then, Ret, Method, method, slots_from, Part, number, core_parts, slot_parts, slots_parts, ret_parts, method_parts, generic_parts, method_code, flag, count_slots, slots_depth, method_depth, AreSlots, IsMethod, IsMethodKind, IsSentinel, HasOwnSentinel, IsCoreWithin, IsSlotWithin, IsRetWithin, Reader, number_at, head_is, slot_at, ret_at, params_at, generic_at, takes_sentinel, is_method_code, method_from, method_at, IfSome-bind, IfSome-map, IfSome-cond, count-slots_from, slots_good}
 use Rattle.sig_values.proofs.Readers.{IsBytes, Head, Head-append, Head-split, Takes, Reads, head_byte, behind_byte, NumbersAreRead, Any, number_parts, number_reads}
-use Rattle.sig_grammar.proofs.OptionLemmas.{IfSome-bind, IfSome-map, IfSome-cond}
 use Rattle.sig_values.proofs.Leading.{begins-heads, no}
-use Rattle.sig_grammar.proofs.FromLists.{count-slots_from, slots_good}
 use Rattle.sig_values.proofs.Codes.{slot_no_sentinel, no_head, slot_reads, ret_reads}
 
 -- ---- lists of parameters

@@ -1,19 +1,9 @@
 -- What each reader must satisfy: it reads what is encoded, and what it reads is encoded so.
-use Rattle.std.proofs.Common.{◌≡◌, ℕ, zero, suc, ◌<◌, Bool, true, false, cond, Option, Some, None, List, [], ◌∷◌, ◌++◌, get_or, ◌^◌, refl, sym, ap, subst, arith, IfSome, ◌≤◌, length, take, drop, ◌∙◌, ltb}
-use Rattle.std.specs.Prelude.{⊤, option_and_then, ℤ, option_map}
-use Rattle.sig_grammar.specs.Parts.{Part, byte, EncodesPart, EncodesParts, number, signed, index}
-use Rattle.sig_grammar.specs.Reading.{Reader, change, split, number_at, signed_at, token_of, index_at, both, many_at, counted_at, counted_within}
-use Rattle.sig_grammar.proofs.OptionLemmas.{IfSome-bind, IfSome-map}
+use Rattle.sig_values.proofs.Prelude.{◌≡◌, ℕ, zero, suc, ◌<◌, Bool, true, false, cond, Option, Some, None, List, [], ◌∷◌, ◌++◌, get_or, ◌^◌, refl, sym, ap, subst, arith, IfSome, ◌≤◌, length, take, drop, ◌∙◌, ltb, ⊤, option_and_then, ℤ, option_map, Part, byte, EncodesPart, EncodesParts, number, signed, index, Reader, change, split, number_at, signed_at, token_of, index_at, both, many_at, counted_at, counted_within, IfSome-bind, IfSome-map, IsPacked, IsPackedSigned, Token, AllByRecursion, ltb-false, le-ltb, list_parts, headed_at}
 use Rattle.std.proofs.lemmas.List.{take-append-drop}
 use Rattle.std.proofs.Math.Seq.{drop-append_seam}
 use Rattle.packed.specs.Prefix as leading
-use Rattle.packed.specs.Packed.{IsPacked, IsPackedSigned}
-use Rattle.table_schema.specs.declared.token.Token.{Token}
 use Rattle.sig_grammar.proofs.Indexes.{Names, token_found, token_again}
-use Rattle.std.specs.List.{AllByRecursion}
-use Rattle.std.proofs.lemmas.Bool.{ltb-false, le-ltb}
-use Rattle.sig_grammar.specs.Grammar.{list_parts}
-use Rattle.sig_grammar.specs.Columns.{headed_at}
 
 abbrev pub IsBytes : List ℕ → Type 0
 IsBytes [] = ⊤

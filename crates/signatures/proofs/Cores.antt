@@ -1,11 +1,9 @@
 -- Cores and their parts: reading by the first byte, and the content of values in a `Box` and in a `Vec`.
 use Rattle.std.proofs.Common.{◌≡◌, ◌∙◌, ℕ, zero, suc, ◌-◌, ◌<◌, ◌≢◌, ◌⊎◌, inl, inr, Bool, eqb, Option, Some, None, List, [], ◌∷◌, Vec, Global, map, refl, ap, arith}
-use Rattle.std.proofs.lemmas.Bool.{ne_eqb}
-use Rattle.std.specs.Prelude.{option_map, option_and_then}
+use Rattle.signatures.proofs.Prelude.{ne_eqb, option_map, option_and_then, Modifier, core_of, type_of, content_of, slot_of, ret_of, method_of, slots_from, Reader, change, deep, void_or, named_at, leading_within, leading_at, modifiers_at, content_at, ret_at, method_at, both, core_at, core_by, element_of, body_at, view_some_ret, SigError, Bad, Memory, Fails}
 use Rattle.table_schema.specs.declared.column.SigKind.{SigKind}
 use Rattle.table_schema.specs.declared.column.SigKind.TheVariants as column
 use Rattle.sig_grammar.specs.declared.element.Element.{Element}
-use Rattle.sig_grammar.specs.declared.types.Modifier.{Modifier}
 use Rattle.sig_grammar.specs.declared.types.TypeSig as types
 use Rattle.sig_grammar.specs.declared.types.MethodSig as methods
 use Rattle.sig_grammar.specs.declared.types.Core as cores
@@ -14,13 +12,6 @@ use Rattle.sig_grammar.specs.declared.types.Slot as slots
 use Rattle.sig_grammar.specs.declared.types.SlotKind as kinds
 use Rattle.sig_grammar.specs.declared.types.Ret as rets
 use Rattle.sig_grammar.specs.Syntax as sig
-use Rattle.sig_grammar.specs.Views.{core_of, type_of, content_of, slot_of, ret_of, method_of, slots_from}
-use Rattle.sig_grammar.specs.Reading.{Reader, change, deep, void_or, named_at, leading_within, leading_at, modifiers_at, content_at, ret_at, method_at, both, core_at, core_by, element_of}
-use Rattle.sig_grammar.specs.Columns.{body_at}
-use Rattle.sig_grammar.proofs.ViewLemmas.{view_some_ret}
-use Rattle.signatures.specs.declared.error.SigError.{SigError}
-use Rattle.signatures.specs.declared.error.SigError.TheVariants.{Bad, Memory}
-use Rattle.signatures.specs.Gives.{Fails}
 
 -- ---- a core, by its first byte
 

@@ -1,13 +1,6 @@
 -- Values that are built one after another, with the values before them.
-use Rattle.std.proofs.Common.{◌≡◌, ℕ, suc, ◌+◌, ◌-◌, ◌<◌, ◌≤◌, Bool, false, Option, Some, None, Result, Ok, Err, List, [], ◌∷◌, ◌++◌, length, append_assoc, append-nil, refl, sym, ap, subst, arith, IfSome}
-use Rattle.std.specs.Prelude.{option_map}
-use Rattle.std.specs.Option.{ok_or}
+use Rattle.signatures.proofs.Prelude.{◌≡◌, ℕ, suc, ◌+◌, ◌-◌, ◌<◌, ◌≤◌, Bool, false, Option, Some, None, Result, Ok, Err, List, [], ◌∷◌, ◌++◌, length, append_assoc, append-nil, refl, sym, ap, subst, arith, IfSome, option_map, ok_or, Reader, Optional, many_at, leading_at, Stepping, ShorterItem, leading_is, SigError, Bad, Memory, Fails, Gives}
 use Rattle.std.specs.Result.{IsErr, IsErrAnd}
-use Rattle.sig_grammar.specs.Reading.{Reader, Optional, many_at, leading_at}
-use Rattle.sig_grammar.proofs.Items.{Stepping, ShorterItem, leading_is}
-use Rattle.signatures.specs.declared.error.SigError.{SigError}
-use Rattle.signatures.specs.declared.error.SigError.TheVariants.{Bad, Memory}
-use Rattle.signatures.specs.Gives.{Fails, Gives}
 
 -- if a value in it is not built, the whole value is not built, for the same reason
 pub failed : {A B : Type 0} (view : A → B) (e : SigError) (read : Option B) (result : Result A SigError) → IsErr result × IsErrAnd result (λ reason. reason ≡ e) → Fails e read → Gives view result read

@@ -1,9 +1,7 @@
 -- Blobs without a byte that begins a number that is longer than necessary: each number in them has its shortest form.
-use Rattle.std.proofs.Common.{◌≡◌, ◌∙◌, ℕ, zero, suc, ◌+◌, ◌^◌, ◌<◌, ◌≤◌, ◌/◌, ◌%◌, false, true, List, [], ◌∷◌, ◌++◌, Some, inl, inr, refl, ap, sym, subst, arith, cond, ltb, ⊎_elim}
+use Rattle.signatures.proofs.Prelude.{◌≡◌, ◌∙◌, ℕ, zero, suc, ◌+◌, ◌^◌, ◌<◌, ◌≤◌, ◌/◌, ◌%◌, false, true, List, [], ◌∷◌, ◌++◌, Some, inl, inr, refl, ap, sym, subst, arith, cond, ltb, ⊎_elim, lt-ltb, le-ltb, false_from_ne_true, ints}
 use Rattle.std.specs.Prelude.{ℤ, pos, negsuc, slice_get, slice_index, ◌↔◌, ◌⊎◌, EachIndex}
 use Rattle.std.specs.List.{flat_map, position_or_len}
-use Rattle.std.proofs.lemmas.Bool.{lt-ltb, le-ltb, false_from_ne_true}
-use Rattle.std.proofs.lemmas.Int.{ints}
 use Rattle.packed.specs.Packed.{FitsBits, IsPacked, IsPackedSigned, fits_bits, four_bytes, one_byte, short_signed, short_unsigned, signed_bits, two_bytes}
 use Rattle.table_schema.specs.declared.table.TableId.{TableId}
 use Rattle.table_schema.specs.declared.table.TableId.TheVariants.{TypeDef, TypeRef, TypeSpec}

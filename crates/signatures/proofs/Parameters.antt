@@ -1,12 +1,6 @@
 -- Parameters that are built one after another, with those before them, and the index of SENTINEL.
-use Rattle.std.proofs.Common.{◌≡◌, ◌∙◌, ℕ, zero, suc, ◌+◌, ◌-◌, ◌<◌, ◌≤◌, ◌&&◌, Bool, true, false, cond, Option, Some, None, List, [], ◌∷◌, ◌++◌, length, drop, refl, sym, ap, ap₂, append_assoc, append-nil, length-append, arith}
-use Rattle.std.specs.Prelude.{option_map, option_and_then, is_none}
-use Rattle.std.specs.Option.{option_or}
+use Rattle.signatures.proofs.Prelude.{◌≡◌, ◌∙◌, ℕ, zero, suc, ◌+◌, ◌-◌, ◌<◌, ◌≤◌, ◌&&◌, Bool, true, false, cond, Option, Some, None, List, [], ◌∷◌, ◌++◌, length, drop, refl, sym, ap, ap₂, append_assoc, append-nil, length-append, arith, option_map, option_and_then, is_none, option_or, Reader, many_at, params_at, slot_at, head_is, SigError, Bad, Memory, Fails}
 use Rattle.sig_grammar.specs.Syntax.{Core, Slot}
-use Rattle.sig_grammar.specs.Reading.{Reader, many_at, params_at, slot_at, head_is}
-use Rattle.signatures.specs.declared.error.SigError.{SigError}
-use Rattle.signatures.specs.declared.error.SigError.TheVariants.{Bad, Memory}
-use Rattle.signatures.specs.Gives.{Fails}
 use Rattle.signatures.proofs.Items.{next_of}
 
 abbrev Read : Type 0

@@ -1,22 +1,13 @@
 -- The content of the cells of a row, one by one.
-use Rattle.std.proofs.Common.{◌≡◌, ℕ, ◌<◌, List, Option, Some, None, length, slice_index_or, unwrap_or, option_map, Bool, inl, inr, refl, ap, sym, ◌∙◌}
+use Rattle.tables.proofs.Prelude.{◌≡◌, ℕ, ◌<◌, List, Option, Some, None, length, slice_index_or, unwrap_or, option_map, Bool, inl, inr, refl, ap, sym, ◌∙◌, FirstBroken, TableId, ColumnKind, table_number, Refusal, Metadata, cell_in, MayRefer, kind_at, nullable_at, refusals_of_cell, said, all_said}
 use Rattle.std.proofs.Math.ListN.{get_or-map}
 use Rattle.std.proofs.lemmas.List as lists
 use Rattle.packed.specs.declared.code.FaultCode.TheVariants.{BadIndex}
 use Rattle.packed.specs.Codes.{number_of_code}
-use Rattle.packed.specs.Rule.{FirstBroken}
-use Rattle.table_schema.specs.declared.table.TableId.{TableId}
-use Rattle.table_schema.specs.declared.column.ColumnKind.{ColumnKind}
-use Rattle.table_schema.specs.Tables.{table_number}
 use Rattle.metadata.specs.Cell as says
-use Rattle.metadata.specs.declared.refusal.Refusal.{Refusal}
 use Rattle.metadata.specs.Kinds.{IsOfKind, IsStorable}
-use Rattle.metadata.specs.Metadata.{Metadata, cell_in}
-use Rattle.metadata.specs.Valid.{MayRefer, kind_at, nullable_at}
-use Rattle.metadata.specs.Refusals.{refusals_of_cell}
 use Rattle.tables.specs.declared.cell.Cell.{Cell}
 use Rattle.tables.specs.declared.cell.Cell.TheVariants.{Number}
-use Rattle.tables.specs.Said.{said, all_said}
 
 said_or : (found : Option Cell) → said (unwrap_or found (Number 0)) ≡ unwrap_or (option_map said found) (says.Number 0)
 said_or None = refl

@@ -1,13 +1,8 @@
 -- The equality test of two cells is true if and only if they are equal.
-use Rattle.std.proofs.Common.{◌≡◌, ℕ, false, List, Some, None, refl, ap, ◌∙◌}
-use Rattle.std.specs.Bool.{Decides}
-use Rattle.std.specs.Cmp.Lexicographic.{pointwise_decides}
-use Rattle.std.proofs.lemmas.Bool.Decides.{Decides-like, Decides-and, Decides-eqb}
+use Rattle.tables.proofs.Prelude.{◌≡◌, ℕ, false, List, Some, None, refl, ap, ◌∙◌, Decides, pointwise_decides, Decides-like, Decides-and, Decides-eqb, TableId, Token}
 use denote.Enum.Bare.{same_true, true_same}
-use Rattle.table_schema.specs.declared.table.TableId.{TableId}
 use Rattle.table_schema.specs.contracts.table.TableId as table
 use Rattle.table_schema.specs.contracts.table.TableIdPartialEq.TheImpl as tables
-use Rattle.table_schema.specs.declared.token.Token.{Token}
 use Rattle.table_schema.specs.contracts.token.TokenPartialEq.TheImpl as tokens
 use Rattle.sig_grammar.specs.Syntax.{Body}
 use Rattle.signatures.specs.contracts.signature.SignaturePartialEq.TheImpl as signatures

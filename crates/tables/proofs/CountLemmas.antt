@@ -1,14 +1,5 @@
 -- A fact about each table, by its number, one table after another.
-use Rattle.std.proofs.Common.{◌≡◌, ℕ, ◌+◌, ◌<◌, ◌≤◌, List, length, slice_index_or, slice_set, sym, ◌∙◌, ap, subst, inl, inr, arith}
-use Rattle.std.proofs.lemmas.Bool.{cases_eq, cases_lt}
-use Rattle.std.proofs.lemmas.List.{get_or-set_other}
-use Rattle.std.proofs.lemmas.Grind.{get_or-set_at}
-use Rattle.packed.specs.Rule.{HoldBefore}
-use Rattle.table_schema.specs.declared.table.TableId.{TableId}
-use Rattle.table_schema.specs.declared.table.TableId.TheVariants.{Module}
-use Rattle.table_schema.specs.Tables.{table_number, table_index_of, tables}
-use Rattle.metadata.specs.Metadata.{Metadata, count_in}
-use Rattle.metadata.specs.Refusals.{refusals_of_count}
+use Rattle.tables.proofs.Prelude.{◌≡◌, ℕ, ◌+◌, ◌<◌, ◌≤◌, List, length, slice_index_or, slice_set, sym, ◌∙◌, ap, subst, inl, inr, arith, cases_eq, cases_lt, get_or-set_other, get_or-set_at, HoldBefore, TableId, Module, table_number, table_index_of, tables, Metadata, count_in, refusals_of_count}
 
 module _ (stand : (table : TableId) → slice_index_or tables (table_index_of table) Module ≡ table) (rise : (lower higher : TableId)
     → table_index_of lower < table_index_of higher → table_number lower < table_number higher) where

@@ -1,13 +1,6 @@
 -- Key numbers that never decrease, one row after another.
-use Rattle.std.proofs.Common.{◌≡◌, ℕ, ◌+◌, ◌-◌, ◌<◌, ◌≤◌, List, [], length, slice_index_or, refl, sym, ◌∙◌, ap, inl, inr, arith}
-use Rattle.std.proofs.lemmas.Bool.{cases_eq}
-use Rattle.std.proofs.lemmas.List.{get_or_read}
-use Rattle.table_schema.specs.declared.table.TableId.{TableId}
-use Rattle.table_schema.specs.declared.column.ColumnKind.{ColumnKind}
+use Rattle.tables.proofs.Prelude.{◌≡◌, ℕ, ◌+◌, ◌-◌, ◌<◌, ◌≤◌, List, [], length, slice_index_or, refl, sym, ◌∙◌, ap, inl, inr, arith, cases_eq, get_or_read, TableId, ColumnKind, Metadata, rows_of, key_number, key_in, kind_at}
 use Rattle.metadata.specs.Cell.{Cell, Number}
-use Rattle.metadata.specs.Metadata.{Metadata, rows_of}
-use Rattle.metadata.specs.KeyOrder.{key_number, key_in}
-use Rattle.metadata.specs.Valid.{kind_at}
 
 -- the key number of the current row
 pub key_here : (model : Metadata) (table : TableId) (cell_index i : ℕ) (rows : List (List Cell)) (row : List Cell) (kind : ColumnKind) (number : ℕ)

@@ -1,4 +1,5 @@
 pub mod CellLemmas
+pub mod Prelude
 pub mod PushLemmas
 pub mod SaidLemmas
 pub mod CellCheckLemmas

@@ -1,12 +1,6 @@
 -- Tables with one more row.
-use Rattle.std.proofs.Common.{◌≡◌, ◌≢◌, ◌<◌, List, [], ◌∷◌, ◌++◌, length, slice_index_or, refl, sym, ap, ◌∙◌, arith}
-use Rattle.std.proofs.lemmas.List.{get_or-set_other}
-use Rattle.std.proofs.lemmas.Grind.{get_or-set_at}
-use Rattle.table_schema.specs.declared.table.TableId.{TableId}
-use Rattle.table_schema.specs.declared.table.TableId.TheVariants.{Module}
-use Rattle.table_schema.specs.Tables.{table_index_of, tables}
+use Rattle.tables.proofs.Prelude.{◌≡◌, ◌≢◌, ◌<◌, List, [], ◌∷◌, ◌++◌, length, slice_index_or, refl, sym, ap, ◌∙◌, arith, get_or-set_other, get_or-set_at, TableId, Module, table_index_of, tables, Metadata, rows_of}
 use Rattle.metadata.specs.Cell.{Cell}
-use Rattle.metadata.specs.Metadata.{Metadata, rows_of}
 use Rattle.tables.specs.Push.{with_row}
 
 pub added : ((table : TableId) → table_index_of table < 38) → (model : Metadata) (table : TableId) (row : List Cell) → length model.tables ≡ 38

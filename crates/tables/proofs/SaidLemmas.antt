@@ -1,14 +1,9 @@
 -- The content of cells determines them.
-use Rattle.std.proofs.Common.{◌≡◌, ℕ, List, [], ◌∷◌, map, refl, ap, sym, ◌∙◌}
-use Rattle.std.specs.Bool.{Decides}
-use Rattle.std.specs.Cmp.Lexicographic.{pointwise, pointwise_decides}
-use Rattle.std.proofs.lemmas.Bool.Decides.{Decides-like, Decides-and, Decides-eqb}
+use Rattle.tables.proofs.Prelude.{◌≡◌, ℕ, List, [], ◌∷◌, map, refl, ap, sym, ◌∙◌, Decides, pointwise, pointwise_decides, Decides-like, Decides-and, Decides-eqb, Metadata, said, all_said}
 use Rattle.metadata.specs.Cell as says
-use Rattle.metadata.specs.Metadata.{Metadata}
 use Rattle.tables.specs.declared.cell.Cell.{Cell}
 use Rattle.tables.specs.declared.cell.Cell.TheVariants.{Number, Text, Bytes, Guid, Ref, Start, Sig}
 use Rattle.tables.specs.contracts.cell.CellPartialEq.TheImpl.{eq-value}
-use Rattle.tables.specs.Said.{said, all_said}
 use Rattle.tables.specs.Code.{saying, said_saying}
 use Rattle.tables.specs.Same.{is_same_cell}
 use Rattle.tables.specs.contracts.tables.TablesPartialEq.TheImpl as tables

@@ -1,13 +1,7 @@
 -- The tokens of a signature whose rows exist.
-use Rattle.std.proofs.Common.{◌≡◌, ◌↔◌, ◌⊎◌, ℕ, Bool, true, false, IsTrue, List, [], ◌∷◌, Option, Some, None, slice_index, is_some, not, refl, sym, ◌∙◌, ap, inl, inr, arith}
+use Rattle.tables.proofs.Prelude.{◌≡◌, ◌↔◌, ◌⊎◌, ℕ, Bool, true, false, IsTrue, List, [], ◌∷◌, Option, Some, None, slice_index, is_some, not, refl, sym, ◌∙◌, ap, inl, inr, arith, nat_tests, TableId, Token, table_number, Metadata, count_in, Names}
 use Rattle.std.specs.List.{AllByRecursion}
-use Rattle.std.proofs.lemmas.Bool.Decides.{nat_tests}
-use Rattle.table_schema.specs.declared.table.TableId.{TableId}
-use Rattle.table_schema.specs.declared.token.Token.{Token}
-use Rattle.table_schema.specs.Tables.{table_number}
 use Rattle.sig_grammar.specs.Encodes.{has_row, first_bad}
-use Rattle.metadata.specs.Metadata.{Metadata, count_in}
-use Rattle.metadata.specs.Valid.{Names}
 
 module _ (model : Metadata) (counts : List ℕ) (counted : (table : TableId) → slice_index counts (table_number table) ≡ count_in model table) where
   cases : (b : Bool) → (b ≡ true) ⊎ (b ≡ false)

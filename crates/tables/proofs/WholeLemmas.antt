@@ -1,11 +1,5 @@
 -- The result of checking all rules for tables.
-use Rattle.std.proofs.Common.{◌≡◌, ◌↔◌, length, Result, Ok, Err, IsOk}
-use Rattle.packed.specs.Rule.{AllHold, Reports}
-use Rattle.packed.proofs.RuleLemmas.{none_fails}
-use Rattle.metadata.specs.declared.refusal.Refusal.{Refusal}
-use Rattle.metadata.specs.Metadata.{Metadata}
-use Rattle.metadata.specs.Valid.{IsValid}
-use Rattle.metadata.specs.Refusals.{refusals_of}
+use Rattle.tables.proofs.Prelude.{◌≡◌, ◌↔◌, length, Result, Ok, Err, IsOk, AllHold, Reports, none_fails, Refusal, Metadata, IsValid, refusals_of}
 
 module _ (met : (model : Metadata) → IsValid model → AllHold (refusals_of model)) (found : (model : Metadata) → length model.tables ≡ 38
     → AllHold (refusals_of model) → IsValid model) where

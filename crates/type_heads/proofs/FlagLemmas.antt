@@ -1,11 +1,7 @@
 -- The words of flags one after another.
-use Rattle.std.proofs.Common.{◌≡◌, ◌∙◌, length, ℕ, suc, ◌+◌, ◌<◌, List, [], get_or, take, map, sym, ap, subst, arith}
-use Rattle.std.specs.Fmt.{WritesInCalls}
-use Rattle.std.proofs.lemmas.List.{flat_map_more, length-map}
+use Rattle.type_heads.proofs.Prelude.{◌≡◌, ◌∙◌, length, ℕ, suc, ◌+◌, ◌<◌, List, [], get_or, take, map, sym, ap, subst, arith, WritesInCalls, flat_map_more, length-map, writes_append, Word, leading_text, leading_words, shown_word}
 use Rattle.std.proofs.Math.ListN.{get_or-map}
 use Rattle.std.proofs.Math.Seq.{take-suc}
-use Rattle.full_names.proofs.TextLemmas.{writes_append}
-use Rattle.type_heads.specs.FlagWords.{Word, leading_text, leading_words, shown_word}
 use Rattle.type_heads.specs.declared.flag_words.FlagWord.{FlagWord}
 
 -- one more word

@@ -1,29 +1,14 @@
 -- The lists in the head of a type.
-use Rattle.std.proofs.Common.{◌≡◌, ◌∙◌, ◌+◌, ◌<◌, ◌≤◌, ◌==◌, ℕ, Bool, true, false, List, [], ◌∷◌, ◌++◌, Option, Some, None, add-one, ap, drop, drop-cons, get_or, length, map, refl, subst, sym, arith}
+use Rattle.type_heads.proofs.Prelude.{◌≡◌, ◌∙◌, ◌+◌, ◌<◌, ◌≤◌, ◌==◌, ℕ, Bool, true, false, List, [], ◌∷◌, ◌++◌, Option, Some, None, add-one, ap, drop, drop-cons, get_or, length, map, refl, subst, sym, arith, drop_all, codes, WritesInCalls, cell_columns, cell_count, Token, Metadata, cell_in, Wrote, writes_append, writes_nothing, writes_once, KeyedRow, Link, reference_in, row_of, linked, table_of, leading_words, words_of, AreConstraints, AreListed, IsGenericParam, IsInHead, IsTypeName, IsTypeOf, enclosed, flags_in, name_in, param_token}
 use Rattle.std.proofs.lemmas.Bool.Decides.{nat_tests}
-use Rattle.std.proofs.lemmas.List.{drop_all}
-use Rattle.std.specs.Prelude.{codes}
-use Rattle.std.specs.Fmt.{WritesInCalls}
-use Rattle.table_schema.specs.CellColumns.{cell_columns, cell_count}
 use Rattle.table_schema.specs.declared.table.TableId.TheVariants.{GenericParam}
-use Rattle.table_schema.specs.declared.token.Token.{Token}
-use Rattle.metadata.specs.Metadata.{Metadata, cell_in}
 use Rattle.metadata.specs.Valid.{IsValid}
 use Rattle.full_names.specs.declared.limit.Scopes.{Scopes}
 use Rattle.full_names.specs.declared.quoted.NameKind.TheVariants.{Identifier}
-use Rattle.full_names.specs.Names.{Wrote}
 use Rattle.full_names.specs.Quoted.{name_text}
 use Rattle.full_names.proofs.NameExists.{HasText, any_name}
-use Rattle.full_names.proofs.TextLemmas.{writes_append, writes_nothing, writes_once}
-use Rattle.navigation.specs.declared.keyed.KeyedRow.{KeyedRow}
-use Rattle.navigation.specs.declared.links.Link.{Link}
 use Rattle.navigation.specs.declared.links.Link.TheVariants as link_of
-use Rattle.navigation.specs.Cells.{reference_in}
-use Rattle.navigation.specs.Keyed.{row_of}
-use Rattle.navigation.specs.Linked.{linked, table_of}
-use Rattle.type_heads.specs.FlagWords.{leading_words, words_of}
 use Rattle.type_heads.specs.declared.flag_words.FlagTable.TheVariants as flags
-use Rattle.type_heads.specs.Heads.{AreConstraints, AreListed, IsGenericParam, IsInHead, IsTypeName, IsTypeOf, enclosed, flags_in, name_in, param_token}
 
 -- each table that refers has a second cell
 pub second_cell : (of : Link) → 1 < cell_count (table_of of)

@@ -1,4 +1,5 @@
 pub mod OuterLemmas
 mod OwnerLemmas
+pub mod Prelude
 mod ResultLemmas
 mod TypeLemmas

@@ -1,12 +1,6 @@
 -- The types that enclose others, by one more row of NestedClass.
-use Rattle.std.proofs.Common.{◌≡◌, ◌≢◌, ◌∙◌, ◌==◌, ◌≤◌, ◌<◌, ◌+◌, ◌-◌, ℕ, List, ◌∷◌, Bool, true, false, cond, ap, get_or, length, length-set, set, sym, arith, ⊎_elim}
-use Rattle.std.proofs.lemmas.Bool.{cases_eq, eq-eqb}
+use Rattle.visible_rows.proofs.Prelude.{◌≡◌, ◌≢◌, ◌∙◌, ◌==◌, ◌≤◌, ◌<◌, ◌+◌, ◌-◌, ℕ, List, ◌∷◌, Bool, true, false, cond, ap, get_or, length, length-set, set, sym, arith, ⊎_elim, cases_eq, eq-eqb, get_or-set_other, get_or-set_same, NestedClass, Metadata, cell_in, row_in, outer_among}
 use Rattle.std.proofs.lemmas.Bool.Decides.{eqb_tells}
-use Rattle.std.proofs.lemmas.List.{get_or-set_other, get_or-set_same}
-use Rattle.table_schema.specs.declared.table.TableId.TheVariants.{NestedClass}
-use Rattle.metadata.specs.Metadata.{Metadata, cell_in}
-use Rattle.metadata.specs.Valid.{row_in}
-use Rattle.visible_rows.specs.Visible.{outer_among}
 
 -- each type's is that of the first of these rows
 abbrev pub AreAmong : Metadata → List ℕ → List ℕ → Type 0

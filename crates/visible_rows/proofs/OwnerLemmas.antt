@@ -1,12 +1,8 @@
 -- The owner of a member.
-use Rattle.std.proofs.Common.{◌≡◌, ◌∙◌, ◌≤◌, ◌<◌, ◌+◌, ◌-◌, ℕ, zero, suc, cond, ap, arith}
-use Rattle.std.proofs.lemmas.Bool.{le-leb, lt-leb}
-use Rattle.metadata.specs.Metadata.{Metadata, cell_in, count_in}
-use Rattle.metadata.specs.Valid.{HasOwners, start_in}
+use Rattle.visible_rows.proofs.Prelude.{◌≡◌, ◌∙◌, ◌≤◌, ◌<◌, ◌+◌, ◌-◌, ℕ, zero, suc, cond, ap, arith, le-leb, lt-leb, Metadata, cell_in, count_in, HasOwners, start_in, owner_among, owner_in}
 use Rattle.metadata_source.specs.declared.member_lists.MemberList.{MemberList}
 use Rattle.metadata_source.specs.MemberLists.{cell_of, member_of, owner_of}
 use Rattle.navigation.specs.Owners.{Owns}
-use Rattle.visible_rows.specs.Visible.{owner_among, owner_in}
 
 module _ (model : Metadata) (list : MemberList) (has : HasOwners model (owner_of list) (cell_of list) (member_of list)) (member owner : ℕ) (owns : Owns model list owner member) where
   abbrev start : ℕ → ℕ

@@ -1,14 +1,5 @@
 -- Results for rows, one after another.
-use Rattle.std.proofs.Common.{◌≡◌, ◌∙◌, ◌&&◌, ◌||◌, ◌+◌, ◌-◌, ◌≤◌, ℕ, List, [], ◌∷◌, ◌++◌, Bool, false, true, ap, ap₂, arith, get_or, map, refl, sym}
-use Rattle.std.specs.List.{list_any, range_with_len}
-use Rattle.std.proofs.lemmas.List.{get_or_read}
-use Rattle.std.proofs.lemmas.List.FromFn.{get_or-map-range_with_len, map-range_with_len_more}
-use Rattle.table_schema.specs.declared.table.TableId.{TableId}
-use Rattle.table_schema.specs.declared.table.TableId.TheVariants.{TypeDef}
-use Rattle.metadata.specs.Metadata.{Metadata}
-use Rattle.metadata.specs.Model.{IsModel}
-use Rattle.opening.specs.Views.{row_count}
-use Rattle.visible_rows.specs.Visible.{AreVisibleTypes, HaveVisibleAccessors, has_visible_accessor, is_open_member, is_visible_type}
+use Rattle.visible_rows.proofs.Prelude.{◌≡◌, ◌∙◌, ◌&&◌, ◌||◌, ◌+◌, ◌-◌, ◌≤◌, ℕ, List, [], ◌∷◌, ◌++◌, Bool, false, true, ap, ap₂, arith, get_or, map, refl, sym, list_any, range_with_len, get_or_read, get_or-map-range_with_len, map-range_with_len_more, TableId, TypeDef, Metadata, IsModel, row_count, AreVisibleTypes, HaveVisibleAccessors, has_visible_accessor, is_open_member, is_visible_type}
 
 -- a test of what the elements of a list are
 pub any_of_map : {X Y : Type 0} (p : Y → Bool) (f : X → Y) (xs : List X) → list_any p (map f xs) ≡ list_any (λ (x : X). p (f x)) xs

@@ -1,12 +1,5 @@
 -- Types that enclose others, and how deep they are.
-use Rattle.std.proofs.Common.{◌≡◌, ◌∙◌, ◌==◌, ◌&&◌, ◌||◌, ◌≤◌, ◌<◌, ◌+◌, ℕ, zero, suc, List, Bool, true, false, cond, ap, get_or, map, refl, sym, arith}
-use Rattle.std.specs.List.{range_with_len}
-use Rattle.std.proofs.lemmas.Bool.{eqb-true}
-use Rattle.std.proofs.lemmas.List.FromFn.{get_or-map-range_with_len}
-use Rattle.table_schema.specs.declared.table.TableId.TheVariants.{NestedClass, TypeDef}
-use Rattle.metadata.specs.Metadata.{Metadata, cell_in, count_in}
-use Rattle.metadata.specs.Valid.{IsValid, row_in}
-use Rattle.visible_rows.specs.Visible.{access_in, is_open_nested, is_public_type, is_visible_type, is_visible_within, outer_among, outer_of}
+use Rattle.visible_rows.proofs.Prelude.{◌≡◌, ◌∙◌, ◌==◌, ◌&&◌, ◌||◌, ◌≤◌, ◌<◌, ◌+◌, ℕ, zero, suc, List, Bool, true, false, cond, ap, get_or, map, refl, sym, arith, range_with_len, eqb-true, get_or-map-range_with_len, NestedClass, TypeDef, Metadata, cell_in, count_in, IsValid, row_in, access_in, is_open_nested, is_public_type, is_visible_type, is_visible_within, outer_among, outer_of}
 
 module _ (model : Metadata) (valid : IsValid model) where
   -- the test of a row, and what is found by it

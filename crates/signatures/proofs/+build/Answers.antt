@@ -1,13 +1,8 @@
 use Rattle.std.proofs.lemmas.Grind.{common_steps}
-use Rattle.std.proofs.Common.{◌≡◌, ◌∙◌, ◌≢◌, ◌<◌, ◌&&◌, Bool, true, eqb, Some, map, length-append, Option, List, ℕ, refl, sym, ap, rules, subst, arith}
-use Rattle.std.proofs.lemmas.List.{map-append}
+use Rattle.signatures.proofs.Prelude.{◌≡◌, ◌∙◌, ◌≢◌, ◌<◌, ◌&&◌, Bool, true, eqb, Some, map, length-append, Option, List, ℕ, refl, sym, ap, rules, subst, arith, map-append, change, both, pointer_to, instance_from, void_or, core_at, core_by, typed_at, target_at, array_at, instance_at, named_at, counted_at, content_at, slot_at, ret_at, method_at, method_from, is_method_code, head_is, type_of, slot_of, Fails, view_simple, view_void_pointer, view_pointer, view_vector, view_array, view_instance, view_function, view_typed_ref, view_plain, view_by_ref, view_void_ret}
 use Rattle.sig_grammar.specs.Syntax as sig
 use Rattle.sig_grammar.specs.Syntax.{Typed, Slot}
-use Rattle.sig_grammar.specs.Reading.{change, both, pointer_to, instance_from, void_or, core_at, core_by, typed_at, target_at, array_at, instance_at, named_at, counted_at, content_at, slot_at, ret_at, method_at, method_from, is_method_code, head_is}
-use Rattle.sig_grammar.specs.Views.{type_of, slot_of}
-use Rattle.signatures.specs.Gives.{Fails}
 use Rattle.signatures.proofs.Cores.{core_simple, core_end, core_other, deep_some, fails_map, fails_then, fails_end, void_other, content_other, named_is, view_typed, view_slot, view_slot_ret, view_method}
-use Rattle.sig_grammar.proofs.ViewLemmas.{view_simple, view_void_pointer, view_pointer, view_vector, view_array, view_instance, view_function, view_typed_ref, view_plain, view_by_ref, view_void_ret}
 use Rattle.signatures.proofs.Items.{failed, refused, many_next, many_bad, many_end}
 use Rattle.signatures.proofs.Parameters.{still, after_mark, params_next, params_bad, params_end}
 use Rattle.signatures.proofs.+build.Goals as goal

@@ -1,6 +1,4 @@
-use Rattle.std.proofs.Common.{◌≡◌, ◌+◌, ◌*◌, ◌-◌, map, length}
-use Rattle.sig_grammar.specs.Reading.{many_at, typed_at, core_at, params_at}
-use Rattle.sig_grammar.specs.Views.{type_of, slot_of}
+use Rattle.signatures.proofs.Prelude.{◌≡◌, ◌+◌, ◌*◌, ◌-◌, map, length, many_at, typed_at, core_at, params_at, type_of, slot_of}
 use Rattle.signatures.proofs.Items.{with_head}
 use Rattle.signatures.proofs.Parameters.{with_params, still}
 use Rattle.signatures.proofs.+build.Given as goal

@@ -1,5 +1,4 @@
-use Rattle.std.proofs.Common.{ap, sym}
-use Rattle.navigation.specs.Cells.{reference_in}
+use Rattle.attribute_constructors.proofs.Prelude.{ap, sym, reference_in}
 use Rattle.attribute_constructors.proofs.constructors.constructor.Goals as goal
 
 pub returns-clause-value : goal.returns-clause-value

@@ -1,8 +1,5 @@
-use Rattle.std.proofs.Common.{◌∙◌, ℕ, Some, ap, sym}
-use Rattle.table_schema.specs.declared.table.TableId.{TableId}
-use Rattle.navigation.specs.Cells.{reference_in}
+use Rattle.attribute_constructors.proofs.Prelude.{◌∙◌, ℕ, Some, ap, sym, TableId, reference_in, type_of}
 use Rattle.navigation.specs.Nesting.{type_token}
-use Rattle.attribute_constructors.specs.Constructors.{type_of}
 use Rattle.attribute_constructors.proofs.OwnerLemmas.{no_type, owner_is}
 use Rattle.attribute_constructors.proofs.constructors.type_of.Goals as goal
 

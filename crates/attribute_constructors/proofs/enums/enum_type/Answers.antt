@@ -1,6 +1,4 @@
-use Rattle.std.proofs.Common.{◌∙◌, ap, sym}
-use Rattle.table_schema.specs.declared.table.TableId.{TableId}
-use Rattle.attribute_constructors.specs.Types.{enum_at}
+use Rattle.attribute_constructors.proofs.Prelude.{◌∙◌, ap, sym, TableId, enum_at}
 use Rattle.attribute_constructors.proofs.TypeLemmas.{other_enum}
 use Rattle.attribute_constructors.proofs.enums.enum_type.Goals as goal
 

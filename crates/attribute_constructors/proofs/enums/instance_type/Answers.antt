@@ -1,5 +1,4 @@
-use Rattle.std.proofs.Common.{◌∙◌, ◌≡◌, ◌≤◌, ◌-◌, ◌+◌, min, ap, sym, arith}
-use Rattle.attribute_constructors.specs.Types.{instance_type}
+use Rattle.attribute_constructors.proofs.Prelude.{◌∙◌, ◌≡◌, ◌≤◌, ◌-◌, ◌+◌, min, ap, sym, arith, instance_type}
 use Rattle.attribute_constructors.proofs.TypeLemmas.{no_field, own_field, next_field, last_field}
 use Rattle.attribute_constructors.proofs.enums.instance_type.Goals as goal
 

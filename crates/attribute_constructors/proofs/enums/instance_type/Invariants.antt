@@ -1,6 +1,4 @@
-use Rattle.std.proofs.Common.{◌≡◌, ◌+◌, ◌-◌}
-use Rattle.metadata.specs.Metadata.{Metadata}
-use Rattle.attribute_constructors.specs.Types.{instance_type}
+use Rattle.attribute_constructors.proofs.Prelude.{◌≡◌, ◌+◌, ◌-◌, Metadata, instance_type}
 use Rattle.attribute_constructors.proofs.enums.instance_type.Given as goal
 
 -- all fields so far are static

@@ -1,7 +1,5 @@
-use Rattle.std.proofs.Common.{◌∙◌, ap, arith}
+use Rattle.attribute_constructors.proofs.Prelude.{◌∙◌, ap, arith, items_of, field_type}
 use Rattle.table_schema.specs.declared.column.SigKind.TheVariants as column
-use Rattle.sig_items.specs.ItemsOf.{items_of}
-use Rattle.attribute_constructors.specs.Types.{field_type}
 use Rattle.attribute_constructors.proofs.LengthLemmas.{short_encoding}
 use Rattle.attribute_constructors.proofs.TypeLemmas.{many_items}
 use Rattle.attribute_constructors.proofs.enums.type_in.Goals as goal

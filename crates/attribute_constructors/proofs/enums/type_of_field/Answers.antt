@@ -1,11 +1,5 @@
-use Rattle.std.proofs.Common.{◌∙◌, ap, sym}
-use Rattle.table_schema.specs.declared.table.TableId.TheVariants.{Field}
+use Rattle.attribute_constructors.proofs.Prelude.{◌∙◌, ap, sym, Field, Cell, cell_in, kind_at, items_in, field_type}
 use Rattle.table_schema.specs.CellColumns.{cell_columns}
-use Rattle.metadata.specs.Cell.{Cell}
-use Rattle.metadata.specs.Metadata.{cell_in}
-use Rattle.metadata.specs.Valid.{kind_at}
-use Rattle.attribute_constructors.specs.Signatures.{items_in}
-use Rattle.attribute_constructors.specs.Types.{field_type}
 use Rattle.attribute_constructors.proofs.TypeLemmas.{no_signature}
 use Rattle.attribute_constructors.proofs.enums.type_of_field.Goals as goal
 

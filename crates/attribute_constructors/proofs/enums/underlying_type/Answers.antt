@@ -1,5 +1,4 @@
-use Rattle.std.proofs.Common.{◌∙◌, sym, arith}
-use Rattle.table_schema.specs.declared.table.TableId.TheVariants.{TypeDef}
+use Rattle.attribute_constructors.proofs.Prelude.{◌∙◌, sym, arith, TypeDef}
 use Rattle.attribute_constructors.proofs.TypeLemmas.{no_enum, enum_run}
 use Rattle.attribute_constructors.proofs.enums.underlying_type.Goals as goal
 

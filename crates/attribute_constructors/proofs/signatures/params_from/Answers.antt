@@ -1,6 +1,4 @@
-use Rattle.std.proofs.Common.{◌∙◌, List, [], false, length, ap, sym, arith}
-use Rattle.sig_items.specs.declared.item.Item.{Item}
-use Rattle.attribute_constructors.specs.Params.{if_few, params_from, preceded}
+use Rattle.attribute_constructors.proofs.Prelude.{◌∙◌, List, [], false, length, ap, sym, arith, Item, if_few, params_from, preceded}
 use Rattle.attribute_constructors.proofs.ParamLemmas.{all_put, from_none, vector_left}
 use Rattle.attribute_constructors.proofs.signatures.params_from.Goals as goal
 

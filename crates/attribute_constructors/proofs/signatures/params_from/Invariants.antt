@@ -1,6 +1,4 @@
-use Rattle.std.proofs.Common.{◌≡◌, ◌≤◌, false, length}
-use Rattle.metadata.specs.Metadata.{Metadata}
-use Rattle.attribute_constructors.specs.Params.{if_few, params_from, preceded}
+use Rattle.attribute_constructors.proofs.Prelude.{◌≡◌, ◌≤◌, false, length, Metadata, if_few, params_from, preceded}
 use Rattle.attribute_constructors.proofs.signatures.params_from.Given as goal
 
 -- the types so far, and those of the items that are left, are those of all

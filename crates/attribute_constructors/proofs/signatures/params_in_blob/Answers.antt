@@ -1,6 +1,4 @@
-use Rattle.std.proofs.Common.{◌∙◌, ap, arith}
-use Rattle.sig_items.specs.ItemsOf.{items_of}
-use Rattle.attribute_constructors.specs.Params.{params_in}
+use Rattle.attribute_constructors.proofs.Prelude.{◌∙◌, ap, arith, items_of, params_in}
 use Rattle.attribute_constructors.proofs.LengthLemmas.{short_encoding}
 use Rattle.attribute_constructors.proofs.ParamLemmas.{many_items}
 use Rattle.attribute_constructors.proofs.signatures.params_in_blob.Goals as goal

@@ -1,12 +1,4 @@
-use Rattle.std.proofs.Common.{◌∙◌, List, ap, subst, sym}
-use Rattle.table_schema.specs.declared.column.ColumnKind.{ColumnKind}
-use Rattle.sig_items.specs.declared.item.Item.{Item}
-use Rattle.metadata.specs.Cell.{Cell}
-use Rattle.metadata.specs.Metadata.{cell_in}
-use Rattle.metadata.specs.Valid.{kind_at}
-use Rattle.reading.specs.Shown.{ShowsSignature}
-use Rattle.attribute_constructors.specs.Signatures.{items_in}
-use Rattle.attribute_constructors.specs.Params.{params_in}
+use Rattle.attribute_constructors.proofs.Prelude.{◌∙◌, List, ap, subst, sym, ColumnKind, Item, Cell, cell_in, kind_at, ShowsSignature, items_in, params_in}
 use Rattle.attribute_constructors.proofs.TypeLemmas.{no_signature}
 use Rattle.attribute_constructors.proofs.signatures.params_in_cell.Goals as goal
 

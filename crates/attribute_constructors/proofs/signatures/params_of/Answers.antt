@@ -1,6 +1,4 @@
-use Rattle.std.proofs.Common.{◌∙◌, ap, sym}
-use Rattle.table_schema.specs.declared.table.TableId.{TableId}
-use Rattle.attribute_constructors.specs.Params.{params_of_constructor}
+use Rattle.attribute_constructors.proofs.Prelude.{◌∙◌, ap, sym, TableId, params_of_constructor}
 use Rattle.attribute_constructors.proofs.ParamLemmas.{no_constructor}
 use Rattle.attribute_constructors.proofs.signatures.params_of.Goals as goal
 

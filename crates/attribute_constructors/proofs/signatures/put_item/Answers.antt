@@ -1,7 +1,4 @@
-use Rattle.std.proofs.Common.{◌∙◌, ◌++◌, ◌∷◌, [], false, length, ap, sym, arith}
-use Rattle.std.proofs.lemmas.Bool.{eqb-true, eqb-false}
-use Rattle.std.specs.Prelude.{option_and_then}
-use Rattle.attribute_constructors.specs.Params.{if_few, params_from, preceded}
+use Rattle.attribute_constructors.proofs.Prelude.{◌∙◌, ◌++◌, ◌∷◌, [], false, length, ap, sym, arith, eqb-true, eqb-false, option_and_then, if_few, params_from, preceded}
 use Rattle.attribute_constructors.proofs.ParamLemmas.{vector_begun, no_type, no_room, type_put}
 use Rattle.attribute_constructors.proofs.signatures.put_item.Goals as goal
 

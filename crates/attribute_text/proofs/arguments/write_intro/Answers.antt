@@ -1,10 +1,5 @@
-use Rattle.std.proofs.Common.{◌++◌, ap, refl}
-use Rattle.std.specs.Prelude.{codes}
+use Rattle.attribute_text.proofs.Prelude.{◌++◌, ap, refl, codes, head_view, quoted_bytes, member_word, type_text, head_type}
 use Rattle.attribute_text.proofs.WriterLemmas.{writes_then}
-use Rattle.attribute_values.specs.Views.{head_view}
-use Rattle.full_names.specs.Quoted.{quoted_bytes}
-use Rattle.attribute_text.specs.Texts.{member_word, type_text}
-use Rattle.attribute_text.specs.ItemTexts.{head_type}
 use Rattle.attribute_text.proofs.arguments.write_intro.Goals as goal
 
 pub returns : goal.returns

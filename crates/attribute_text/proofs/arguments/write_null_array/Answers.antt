@@ -1,6 +1,5 @@
-use Rattle.std.specs.Prelude.{codes}
+use Rattle.attribute_text.proofs.Prelude.{codes, type_word}
 use Rattle.attribute_text.proofs.WriterLemmas.{writes_then}
-use Rattle.attribute_text.specs.Texts.{type_word}
 use Rattle.attribute_text.proofs.arguments.write_null_array.Goals as goal
 
 pub returns : goal.returns

@@ -1,9 +1,5 @@
-use Rattle.std.proofs.Common.{◌++◌, refl}
-use Rattle.std.specs.Prelude.{codes}
+use Rattle.attribute_text.proofs.Prelude.{◌++◌, refl, codes, decimal, type_word, end_if_none}
 use Rattle.attribute_text.proofs.WriterLemmas.{writes_same, writes_then}
-use Rattle.std.specs.Prelude.{decimal}
-use Rattle.attribute_text.specs.Texts.{type_word}
-use Rattle.attribute_text.specs.ItemTexts.{end_if_none}
 use Rattle.attribute_text.proofs.arguments.write_some_array.Goals as goal
 
 pub returns : goal.returns

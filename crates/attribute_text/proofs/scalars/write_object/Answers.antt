@@ -1,8 +1,5 @@
-use Rattle.std.proofs.Common.{◌++◌, refl}
-use Rattle.std.specs.Prelude.{codes}
+use Rattle.attribute_text.proofs.Prelude.{◌++◌, refl, codes, scalar_view, scalar_text}
 use Rattle.attribute_text.proofs.WriterLemmas.{writes_then}
-use Rattle.attribute_values.specs.Views.{scalar_view}
-use Rattle.attribute_text.specs.Texts.{scalar_text}
 use Rattle.attribute_text.proofs.scalars.write_object.Goals as goal
 
 pub returns : goal.returns

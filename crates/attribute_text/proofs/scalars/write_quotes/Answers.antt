@@ -1,7 +1,5 @@
-use Rattle.std.proofs.Common.{◌++◌, refl}
-use Rattle.std.specs.Prelude.{codes}
+use Rattle.attribute_text.proofs.Prelude.{◌++◌, refl, codes, quoted_bytes}
 use Rattle.attribute_text.proofs.WriterLemmas.{writes_then}
-use Rattle.full_names.specs.Quoted.{quoted_bytes}
 use Rattle.attribute_text.proofs.scalars.write_quotes.Goals as goal
 
 pub returns : goal.returns

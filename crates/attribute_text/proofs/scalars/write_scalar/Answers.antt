@@ -1,9 +1,5 @@
-use Rattle.std.proofs.Common.{◌∙◌, ◌++◌, ap, refl}
-use Rattle.std.specs.Prelude.{codes}
+use Rattle.attribute_text.proofs.Prelude.{◌∙◌, ◌++◌, ap, refl, codes, scalar_type, scalar_view, content_text, type_word}
 use Rattle.attribute_text.proofs.WriterLemmas.{writes_then}
-use Rattle.attribute_values.specs.Values.{scalar_type}
-use Rattle.attribute_values.specs.Views.{scalar_view}
-use Rattle.attribute_text.specs.Texts.{content_text, type_word}
 use Rattle.attribute_text.proofs.scalars.write_scalar.Goals as goal
 
 pub returns : goal.returns

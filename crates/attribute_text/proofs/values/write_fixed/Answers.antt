@@ -1,8 +1,5 @@
-use Rattle.std.proofs.Common.{refl}
-use Rattle.std.specs.Prelude.{codes}
+use Rattle.attribute_text.proofs.Prelude.{refl, codes, head_view, head_text}
 use Rattle.attribute_text.proofs.WriterLemmas.{writes_then}
-use Rattle.attribute_values.specs.Views.{head_view}
-use Rattle.attribute_text.specs.ItemTexts.{head_text}
 use Rattle.attribute_text.proofs.values.write_fixed.Goals as goal
 
 pub returns : goal.returns

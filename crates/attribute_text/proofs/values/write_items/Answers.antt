@@ -1,9 +1,4 @@
-use Rattle.std.proofs.Common.{◌∙◌, ◌++◌, append-nil, append_assoc, List, [], ℕ, ap, refl, subst, sym}
-use Rattle.std.specs.Fmt.{WritesInCalls}
-use Rattle.attribute_values.specs.Items.{Item}
-use Rattle.attribute_values.specs.Views.{view}
-use Rattle.attribute_text.specs.ItemTexts.{item_text, items_text}
-use Rattle.full_names.proofs.TextLemmas.{writes_append, writes_nothing, writes_once}
+use Rattle.attribute_text.proofs.Prelude.{◌∙◌, ◌++◌, append-nil, append_assoc, List, [], ℕ, ap, refl, subst, sym, WritesInCalls, Item, view, item_text, items_text, writes_append, writes_nothing, writes_once}
 use Rattle.attribute_text.proofs.values.write_items.Goals as goal
 
 pub loop-item-init : goal.loop-item-init

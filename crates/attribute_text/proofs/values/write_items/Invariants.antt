@@ -1,6 +1,4 @@
-use Rattle.std.proofs.Common.{◌≡◌, ◌++◌, ℕ, List}
-use Rattle.std.specs.Fmt.{WritesInCalls}
-use Rattle.attribute_text.specs.ItemTexts.{items_text}
+use Rattle.attribute_text.proofs.Prelude.{◌≡◌, ◌++◌, ℕ, List, WritesInCalls, items_text}
 use Rattle.attribute_text.proofs.values.write_items.Given as goal
 
 -- what was written, and the text of the items that are left

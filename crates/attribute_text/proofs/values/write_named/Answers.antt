@@ -1,8 +1,5 @@
-use Rattle.std.proofs.Common.{refl}
+use Rattle.attribute_text.proofs.Prelude.{refl, head_view, intro_text, head_text, head_type}
 use Rattle.attribute_text.proofs.WriterLemmas.{writes_then}
-use Rattle.attribute_values.specs.Views.{head_view}
-use Rattle.attribute_text.specs.Texts.{intro_text}
-use Rattle.attribute_text.specs.ItemTexts.{head_text, head_type}
 use Rattle.attribute_text.proofs.values.write_named.Goals as goal
 
 pub returns : goal.returns

@@ -1,8 +1,5 @@
-use Rattle.std.proofs.Common.{refl}
+use Rattle.attribute_text.proofs.Prelude.{refl, element_view, entry_text, entry_end}
 use Rattle.attribute_text.proofs.WriterLemmas.{writes_same, writes_then}
-use Rattle.attribute_values.specs.Views.{element_view}
-use Rattle.attribute_text.specs.Texts.{entry_text}
-use Rattle.attribute_text.specs.ItemTexts.{entry_end}
 use Rattle.attribute_text.proofs.values.write_next.Goals as goal
 
 pub returns : goal.returns

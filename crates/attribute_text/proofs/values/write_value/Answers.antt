@@ -1,6 +1,4 @@
-use Rattle.std.proofs.Common.{◌∙◌, ap}
-use Rattle.attribute_text.specs.ItemTexts.{items_text}
-use Rattle.attribute_text.specs.Texts.{value_text}
+use Rattle.attribute_text.proofs.Prelude.{◌∙◌, ap, items_text, value_text}
 use Rattle.attribute_text.proofs.ItemLemmas.{value_read}
 use Rattle.attribute_text.proofs.WriterLemmas.{writes_same}
 use Rattle.attribute_text.proofs.values.write_value.Goals as goal

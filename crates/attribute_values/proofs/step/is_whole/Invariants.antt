@@ -1,5 +1,4 @@
-use Rattle.std.proofs.Common.{◌≡◌, length}
-use Rattle.attribute_values.specs.Steps.{ends, left_at}
+use Rattle.attribute_values.proofs.Prelude.{◌≡◌, length, ends, left_at}
 use Rattle.attribute_values.proofs.step.is_whole.Given as goal
 
 -- what is left ends where the bytes do if and only if all of it does

@@ -1,9 +1,7 @@
-use Rattle.std.proofs.Common.{◌≡◌, List, ℕ, ◌++◌, ◌∷◌, [], length, ◌∙◌, ap}
-use Rattle.std.specs.Prelude.{codes}
+use Rattle.c_texts.proofs.Prelude.{◌≡◌, List, ℕ, ◌++◌, ◌∷◌, [], length, ◌∙◌, ap, codes, counted, with_text}
 use Rattle.packed.specs.Codes.{name_of}
 use Rattle.packed.specs.declared.fault.Fault.{Fault}
 use Rattle.c_texts.specs.Explained.{explanation_text, space_before, three_digits}
-use Rattle.c_texts.specs.Texts.{counted, with_text}
 use Rattle.c_texts.proofs.explained.write_explanation.Goals as goal
 
 pub returns : goal.returns

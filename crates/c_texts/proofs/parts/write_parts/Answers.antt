@@ -1,5 +1,4 @@
-use Rattle.std.proofs.Common.{◌-◌, ◌^◌, List, ℕ, take, subst, arith}
-use Rattle.c_texts.specs.Texts.{HasText, joined}
+use Rattle.c_texts.proofs.Prelude.{◌-◌, ◌^◌, List, ℕ, take, subst, arith, HasText, joined}
 use Rattle.c_texts.proofs.Buffers.{joined_more, none_written}
 use Rattle.c_texts.proofs.parts.write_parts.Goals as goal
 

@@ -1,5 +1,4 @@
-use Rattle.std.proofs.Common.{◌-◌, ◌^◌, take}
-use Rattle.c_texts.specs.Texts.{HasText, joined}
+use Rattle.c_texts.proofs.Prelude.{◌-◌, ◌^◌, take, HasText, joined}
 use Rattle.c_texts.proofs.parts.write_parts.Given as goal
 
 -- the parts before this one are written

@@ -1,10 +1,5 @@
-use Rattle.std.proofs.Common.{arith}
-use Rattle.table_schema.specs.declared.table.TableId.TheVariants.{Field}
-use Rattle.table_schema.specs.CellColumns.{cell_columns, column_of}
+use Rattle.c_texts.proofs.Prelude.{arith, Field, cell_columns, column_of, HasRow, cell_in, row_count}
 use Rattle.table_schema.specs.Columns.{column_at}
-use Rattle.metadata.specs.Lookups.{HasRow}
-use Rattle.metadata.specs.Metadata.{cell_in}
-use Rattle.opening.specs.Views.{row_count}
 use Rattle.c_texts.proofs.RowTextLemmas.{no_other_value}
 use Rattle.c_texts.proofs.row_text.field_signature.Goals as goal
 

@@ -1,7 +1,4 @@
-use Rattle.std.proofs.Common.{OnOk, subst, sym}
-use Rattle.table_schema.specs.declared.table.TableId.{TableId}
-use Rattle.full_names.specs.Names.{Wrote}
-use Rattle.c_texts.specs.RowTexts.{IsDeclared}
+use Rattle.c_texts.proofs.Prelude.{OnOk, subst, sym, TableId, Wrote, IsDeclared}
 use Rattle.c_texts.proofs.RowTextLemmas.{no_declaration}
 use Rattle.c_texts.proofs.row_text.write_declaration.Goals as goal
 

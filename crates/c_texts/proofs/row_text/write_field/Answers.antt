@@ -1,7 +1,4 @@
-use Rattle.std.proofs.Common.{◌++◌, refl, subst}
-use Rattle.std.specs.Prelude.{codes}
-use Rattle.sig_text.specs.SignatureText.{text_of}
-use Rattle.full_names.specs.declared.limit.Scopes.{Scopes}
+use Rattle.c_texts.proofs.Prelude.{◌++◌, refl, subst, codes, text_of, Scopes}
 use Rattle.full_names.specs.declared.quoted.NameKind.TheVariants.{Dotted}
 use Rattle.full_names.specs.Quoted.{name_text}
 use Rattle.full_names.specs.Texts.{ArePiecesText, IsFullNameBy, IsPieceText}

@@ -1,13 +1,4 @@
-use Rattle.std.proofs.Common.{arith, subst}
-use Rattle.table_schema.specs.declared.table.TableId.TheVariants.{MethodDef}
-use Rattle.table_schema.specs.CellColumns.{cell_columns}
-use Rattle.metadata.specs.Lookups.{HasRow}
-use Rattle.metadata.specs.Metadata.{cell_in}
-use Rattle.opening.specs.Views.{row_count}
-use Rattle.full_names.specs.declared.limit.Scopes.{Scopes}
-use Rattle.full_names.proofs.PieceLemmas.{method_in, on_wrote}
-use Rattle.declarations.specs.Declarations.{IsDeclarationBy}
-use Rattle.c_texts.specs.RowTexts.{IsMethodDeclaration}
+use Rattle.c_texts.proofs.Prelude.{arith, subst, MethodDef, cell_columns, HasRow, cell_in, row_count, Scopes, method_in, on_wrote, IsDeclarationBy, IsMethodDeclaration}
 use Rattle.c_texts.proofs.row_text.write_method.Goals as goal
 
 pub returns : goal.returns

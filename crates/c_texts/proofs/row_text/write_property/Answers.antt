@@ -1,14 +1,5 @@
-use Rattle.std.proofs.Common.{arith, subst}
-use Rattle.table_schema.specs.declared.table.TableId.TheVariants.{Property}
-use Rattle.table_schema.specs.CellColumns.{cell_columns}
+use Rattle.c_texts.proofs.Prelude.{arith, subst, Property, cell_columns, HasRow, cell_in, row_count, Scopes, on_wrote, property_in, IsPropertyDeclarationBy, IsDeclaredProperty}
 use Rattle.sig_text.specs.Declares.{as_method}
-use Rattle.metadata.specs.Lookups.{HasRow}
-use Rattle.metadata.specs.Metadata.{cell_in}
-use Rattle.opening.specs.Views.{row_count}
-use Rattle.full_names.specs.declared.limit.Scopes.{Scopes}
-use Rattle.full_names.proofs.PieceLemmas.{on_wrote, property_in}
-use Rattle.declarations.specs.Declarations.{IsPropertyDeclarationBy}
-use Rattle.c_texts.specs.RowTexts.{IsDeclaredProperty}
 use Rattle.c_texts.proofs.row_text.write_property.Goals as goal
 
 pub returns : goal.returns

@@ -1,8 +1,6 @@
-use Rattle.std.proofs.Common.{◌≡◌, ◌+◌, List, ℕ, refl, subst, arith}
+use Rattle.c_texts.proofs.Prelude.{◌≡◌, ◌+◌, List, ℕ, refl, subst, arith, IsRowText, HasText, text_limit}
 use Rattle.std.proofs.lemmas.Option.{same_Some}
 use Rattle.table_schema.specs.declared.token.Token.{Token}
-use Rattle.c_texts.specs.RowTexts.{IsRowText}
-use Rattle.c_texts.specs.Texts.{HasText, text_limit}
 use Rattle.c_texts.proofs.RowTextLemmas.{text_within}
 use Rattle.c_texts.proofs.row_text.write_row_text.Goals as goal
 

@@ -1,8 +1,5 @@
-use Rattle.std.proofs.Common.{OnOk, subst, sym}
-use Rattle.full_names.specs.declared.limit.Scopes.{Scopes}
-use Rattle.full_names.specs.Names.{Wrote}
+use Rattle.c_texts.proofs.Prelude.{OnOk, subst, sym, Scopes, Wrote, IsRowText}
 use Rattle.full_names.specs.RowNames.{IsRowNameBy}
-use Rattle.c_texts.specs.RowTexts.{IsRowText}
 use Rattle.c_texts.specs.declared.row_text.RowText.{RowText}
 use Rattle.c_texts.proofs.row_text.write_whole.Goals as goal
 

@@ -1,5 +1,4 @@
-use Rattle.std.proofs.Common.{rules, [], ◌+◌, sym, ◌∙◌, arith}
-use Rattle.c_texts.specs.Texts.{text_limit}
+use Rattle.c_texts.proofs.Prelude.{rules, [], ◌+◌, sym, ◌∙◌, arith, text_limit}
 use Rattle.c_texts.proofs.Buffers.{none_written}
 use Rattle.c_texts.proofs.SinkLemmas.{received}
 use Rattle.c_texts.proofs.signature_text.write_first.Goals as goal

@@ -1,6 +1,4 @@
-use Rattle.std.proofs.Common.{◌+◌, arith}
-use Rattle.c_texts.specs.SignatureTexts.{signature_text}
-use Rattle.c_texts.specs.Texts.{text_limit}
+use Rattle.c_texts.proofs.Prelude.{◌+◌, arith, signature_text, text_limit}
 use Rattle.c_texts.proofs.Buffers.{first_written}
 use Rattle.c_texts.proofs.signature_text.write_signature_text.Goals as goal
 

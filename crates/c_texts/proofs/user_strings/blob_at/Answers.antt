@@ -1,5 +1,4 @@
-use Rattle.std.proofs.Common.{◌+◌, ◌≤◌, length, ◌∙◌, arith}
-use Rattle.heap_entries.specs.Padding.{zero_padded}
+use Rattle.c_texts.proofs.Prelude.{◌+◌, ◌≤◌, length, ◌∙◌, arith, zero_padded}
 use Rattle.c_texts.proofs.UserLemmas.{blob_complete, blob_sound, head_is}
 use Rattle.c_texts.proofs.user_strings.blob_at.Goals as goal
 

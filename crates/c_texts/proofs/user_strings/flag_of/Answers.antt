@@ -1,5 +1,4 @@
-use Rattle.std.proofs.Common.{ℕ, ◌+◌, ◌-◌, get_or, sym, ap, ◌∙◌, arith}
-use Rattle.heap_entries.specs.Padding.{zero_padded}
+use Rattle.c_texts.proofs.Prelude.{ℕ, ◌+◌, ◌-◌, get_or, sym, ap, ◌∙◌, arith, zero_padded}
 use Rattle.c_texts.proofs.UserLemmas.{part, part_at, part_long, flag_is}
 use Rattle.c_texts.proofs.user_strings.flag_of.Goals as goal
 

@@ -1,6 +1,4 @@
-use Rattle.std.proofs.Common.{◌≡◌, length, take, drop}
-use Rattle.heap_entries.specs.Padding.{zero_padded}
-use Rattle.heap_entries.specs.UserView.{units_in}
+use Rattle.c_texts.proofs.Prelude.{◌≡◌, length, take, drop, zero_padded, units_in}
 use Rattle.c_texts.proofs.UserLemmas.{part}
 use Rattle.c_texts.proofs.user_strings.write_units.Given as goal
 

@@ -1,9 +1,4 @@
-use Rattle.std.proofs.Common.{◌≡◌, ℕ, ◌<◌, ◌%◌, IfNone, length, unwrap_or, true≢false, refl, sym, subst, ◌∙◌, ap, arith}
-use Rattle.heap_entries.specs.Entries.{IsUserString, UserText}
-use Rattle.heap_entries.specs.Padding.{zero_padded}
-use Rattle.heap_entries.specs.UserView.{user_text}
-use Rattle.c_texts.specs.Texts.{with_text}
-use Rattle.heap_entries.proofs.UserLemmas.{encodes_odd}
+use Rattle.c_texts.proofs.Prelude.{◌≡◌, ℕ, ◌<◌, ◌%◌, IfNone, length, unwrap_or, true≢false, refl, sym, subst, ◌∙◌, ap, arith, IsUserString, UserText, zero_padded, user_text, with_text, encodes_odd}
 use Rattle.c_texts.proofs.UserLemmas.{part, part_long, string_at, units_long}
 use Rattle.c_texts.proofs.user_strings.write_user_string.Goals as goal
 

@@ -1,10 +1,8 @@
-use Rattle.std.proofs.Common.{◌<◌, ◌^◌, inl, inr, List, ℕ, length, refl, subst}
+use Rattle.c_values.proofs.Prelude.{◌<◌, ◌^◌, inl, inr, List, ℕ, length, refl, subst, canonical, IsOwnReason}
 use Rattle.std.specs.Bool.{⊤}
-use Rattle.root_writer.specs.Canonical.{canonical}
 use Rattle.embedding.specs.declared.error.EmbedError.TheVariants.{TooLong, Memory}
 use Rattle.writer.specs.declared.error.WriteError.{WriteError}
 use Rattle.writer.specs.Errors.{MatchError}
-use Rattle.c_values.specs.Copies.{IsOwnReason}
 use Rattle.c_values.proofs.CopyLemmas.{canonical_of, own_refused}
 use Rattle.c_values.proofs.copies.canonical_root_of.Goals as goal
 

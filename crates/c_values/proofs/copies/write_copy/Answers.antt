@@ -1,8 +1,4 @@
-use Rattle.std.proofs.Common.{◌≡◌, ◌<◌, length, arith}
-use Rattle.std.proofs.lemmas.Bool.Decides.{nat_tests}
-use Rattle.std.proofs.lemmas.Result.{IfErr-weaker, IfOk-weaker}
-use Rattle.packed.specs.Rule.{FirstBroken}
-use Rattle.metadata.specs.Rules.{rules_of_file}
+use Rattle.c_values.proofs.Prelude.{◌≡◌, ◌<◌, length, arith, nat_tests, IfErr-weaker, IfOk-weaker, FirstBroken, rules_of_file}
 use Rattle.c_values.proofs.CopyLemmas.{asked_given, asked_own, fault_weaker, given_not_put, own_asked}
 use Rattle.c_values.proofs.copies.write_copy.Goals as goal
 

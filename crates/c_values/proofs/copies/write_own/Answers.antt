@@ -1,8 +1,4 @@
-use Rattle.std.proofs.Common.{List, ℕ, sym, subst}
-use Rattle.std.proofs.lemmas.Result.{IfErr-weaker, IfOk-weaker}
-use Rattle.packed.specs.Rule.{FirstBroken}
-use Rattle.metadata.specs.Rules.{rules_of_file}
-use Rattle.c_values.specs.Copies.{IsCanonicalRootOf}
+use Rattle.c_values.proofs.Prelude.{List, ℕ, sym, subst, IfErr-weaker, IfOk-weaker, FirstBroken, rules_of_file, IsCanonicalRootOf}
 use Rattle.c_values.proofs.CopyLemmas.{fault_weaker, own_not_put}
 use Rattle.c_values.proofs.copies.write_own.Goals as goal
 

@@ -1,5 +1,4 @@
-use Rattle.std.proofs.Common.{◌≡◌, ℕ, ◌<◌}
-use Rattle.table_schema.specs.CellColumns.{column_of}
+use Rattle.c_values.proofs.Prelude.{◌≡◌, ℕ, ◌<◌, column_of}
 use Rattle.c_values.proofs.located.cell_of_column.Given as goal
 
 -- no earlier cell is of the column

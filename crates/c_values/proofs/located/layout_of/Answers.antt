@@ -1,8 +1,6 @@
-use Rattle.std.proofs.Common.{◌∙◌, List, ℕ, ap, subst, sym}
-use Rattle.std.proofs.lemmas.Grind.{not_there}
+use Rattle.c_values.proofs.Prelude.{◌∙◌, List, ℕ, ap, subst, sym, not_there, source_of}
 use Rattle.schema.specs.Header.{sizes_of}
 use Rattle.schema.specs.LaidOut.{IsLaidOut}
-use Rattle.metadata.specs.SourceAt.{source_of}
 use Rattle.c_values.proofs.located.layout_of.Goals as goal
 
 pub unreachable-requires : goal.unreachable-requires

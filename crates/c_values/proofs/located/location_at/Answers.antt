@@ -1,15 +1,9 @@
-use Rattle.std.proofs.Common.{◌≡◌, ◌∙◌, ℕ, ◌+◌, ◌-◌, ◌<◌, ◌≤◌, IfNone, ap, sym, subst, unwrap_or, arith}
+use Rattle.c_values.proofs.Prelude.{◌≡◌, ◌∙◌, ℕ, ◌+◌, ◌-◌, ◌<◌, ◌≤◌, IfNone, ap, sym, subst, unwrap_or, arith, TableId, cell_count, column_of, Sizes, HasCell, tables_offset, HasByte, sizes_in}
 use Rattle.std.specs.Option.{option_map}
 use Rattle.root.specs.Streams.{range_of}
 use Rattle.root.specs.declared.kind.Kind.TheVariants.{Tables}
-use Rattle.table_schema.specs.declared.table.TableId.{TableId}
-use Rattle.table_schema.specs.CellColumns.{cell_count, column_of}
 use Rattle.schema.specs.Cells.{cell_width}
 use Rattle.schema.specs.Offsets.{cell_start}
-use Rattle.schema.specs.Sizes.{Sizes}
-use Rattle.schema.specs.LocatedCells.{HasCell}
-use Rattle.metadata.specs.SourceAt.{tables_offset}
-use Rattle.c_values.specs.Locations.{HasByte, sizes_in}
 use Rattle.c_values.proofs.LocationLemmas.{in_root, in_stream}
 use Rattle.c_values.proofs.located.location_at.Goals as goal
 

@@ -1,6 +1,4 @@
-use Rattle.std.proofs.Common.{ap, ◌∙◌}
-use Rattle.std.proofs.lemmas.Result.{IfErr-weaker, IfOk-weaker}
-use Rattle.root_writer.specs.Canonical.{canonical}
+use Rattle.c_values.proofs.Prelude.{ap, ◌∙◌, IfErr-weaker, IfOk-weaker, canonical}
 use Rattle.c_values.proofs.ReasonLemmas.{valid_accepted}
 use Rattle.c_values.proofs.made_root.root_of.Goals as goal
 

@@ -1,8 +1,5 @@
-use Rattle.std.proofs.Common.{◌≡◌, Err, ap, sym, subst, ◌∙◌}
-use Rattle.table_schema.specs.declared.column.SigKind.{SigKind}
+use Rattle.c_values.proofs.Prelude.{◌≡◌, Err, ap, sym, subst, ◌∙◌, SigKind, Encodes, Signature}
 use Rattle.table_schema.specs.declared.column.ColumnKind.TheVariants as kind
-use Rattle.sig_grammar.specs.Encodes.{Encodes}
-use Rattle.c_values.specs.declared.cell_kind.CellKind.TheVariants.{Signature}
 use Rattle.c_values.proofs.CellLemmas.{needs_encoding}
 use Rattle.c_values.proofs.ReasonLemmas.{bad_signature}
 use Rattle.c_values.proofs.read_cell.read_signature.Goals as goal

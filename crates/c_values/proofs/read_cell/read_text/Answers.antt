@@ -1,6 +1,5 @@
-use Rattle.std.proofs.Common.{ap, ◌∙◌}
+use Rattle.c_values.proofs.Prelude.{ap, ◌∙◌, Text}
 use Rattle.metadata.specs.Cell as says
-use Rattle.c_values.specs.declared.cell_kind.CellKind.TheVariants.{Text}
 use Rattle.c_values.proofs.read_cell.read_text.Goals as goal
 
 pub returns-clause-read : goal.returns-clause-read

@@ -1,8 +1,4 @@
-use Rattle.std.proofs.Common.{◌≡◌, ℕ, inr, sym, ap, ◌∙◌, subst, arith}
-use Rattle.std.proofs.lemmas.Grind.{common_steps}
-use Rattle.tables.specs.Said.{all_said}
-use Rattle.c_values.specs.Given.{TableRow}
-use Rattle.c_values.specs.Refused.{IsFirstBadCell, IsOfBadRow, MatchNoRoot, row_after}
+use Rattle.c_values.proofs.Prelude.{◌≡◌, ℕ, inr, sym, ap, ◌∙◌, subst, arith, common_steps, all_said, TableRow, IsFirstBadCell, IsOfBadRow, MatchNoRoot, row_after}
 use Rattle.c_values.proofs.ReasonLemmas.{reason_more}
 use Rattle.c_values.proofs.read_rows.add_row.Goals as goal
 

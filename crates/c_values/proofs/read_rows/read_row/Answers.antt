@@ -1,7 +1,4 @@
-use Rattle.std.proofs.Common.{arith}
-use Rattle.std.proofs.lemmas.Grind.{common_steps}
-use Rattle.tables.specs.Said.{all_said}
-use Rattle.c_values.specs.Refused.{IsFirstBadCell, MatchNoRoot}
+use Rattle.c_values.proofs.Prelude.{arith, common_steps, all_said, IsFirstBadCell, MatchNoRoot}
 use Rattle.c_values.proofs.StepLemmas.{next_cell, all_cells, first_bad_cell}
 use Rattle.c_values.proofs.read_rows.read_row.Goals as goal
 

@@ -1,6 +1,4 @@
-use Rattle.std.proofs.Common.{take}
-use Rattle.tables.specs.Said.{all_said}
-use Rattle.c_values.specs.Cells.{AreCells}
+use Rattle.c_values.proofs.Prelude.{take, all_said, AreCells}
 use Rattle.c_values.proofs.read_rows.read_row.Given as goal
 
 -- the cells so far are the first cells that are given

@@ -1,10 +1,7 @@
-use Rattle.std.proofs.Common.{[], length, ap, ◌∙◌, arith}
-use Rattle.metadata.specs.Metadata.{Metadata, rows_of}
+use Rattle.c_values.proofs.Prelude.{[], length, ap, ◌∙◌, arith, Metadata, rows_of, IsFirstBadRow, MatchNoRoot, common_steps}
 use Rattle.c_values.proofs.OneLemmas.{table_one}
 use Rattle.c_values.proofs.RowLemmas.{given_more}
 use Rattle.c_values.proofs.StepLemmas.{next_row, all_rows, first_bad_row}
-use Rattle.c_values.specs.Refused.{IsFirstBadRow, MatchNoRoot}
-use Rattle.std.proofs.lemmas.Grind.{common_steps}
 use Rattle.c_values.proofs.read_rows.read_tables.Goals as goal
 
 pub loop-row-init : goal.loop-row-init

@@ -1,5 +1,4 @@
-use Rattle.std.proofs.Common.{take}
-use Rattle.c_values.specs.Given.{IsGiven}
+use Rattle.c_values.proofs.Prelude.{take, IsGiven}
 use Rattle.c_values.proofs.read_rows.read_tables.Given as goal
 
 -- the rows so far are the first rows that are given

@@ -1,6 +1,4 @@
-use Rattle.std.proofs.Common.{arith, sym, ◌∙◌}
-use Rattle.packed.proofs.RuleLemmas.{before_more, before_all}
-use Rattle.metadata.specs.Rules.{rules_of_row, rules_of_table}
+use Rattle.checks.proofs.Prelude.{arith, sym, ◌∙◌, before_more, before_all, rules_of_row, rules_of_table}
 use Rattle.checks.proofs.Broken.{passes, breaks}
 use Rattle.checks.proofs.cell_checks.broken_from.Goals as goal
 

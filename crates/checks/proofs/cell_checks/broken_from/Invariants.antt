@@ -1,5 +1,4 @@
-use Rattle.packed.specs.Rule.{HoldBefore}
-use Rattle.metadata.specs.Rules.{rules_of_row}
+use Rattle.checks.proofs.Prelude.{HoldBefore, rules_of_row}
 use Rattle.checks.proofs.cell_checks.broken_from.Given as goal
 
 abbrev pub invariant-loop-row : goal.invariant-loop-row

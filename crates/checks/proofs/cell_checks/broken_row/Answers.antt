@@ -1,5 +1,4 @@
-use Rattle.std.proofs.Common.{sym, ap, ◌∙◌}
-use Rattle.std.specs.Str.{is_utf8}
+use Rattle.checks.proofs.Prelude.{sym, ap, ◌∙◌, is_utf8}
 use Rattle.checks.proofs.SpendingTexts.{nothing_taken}
 use Rattle.checks.proofs.cell_checks.broken_row.Goals as goal
 

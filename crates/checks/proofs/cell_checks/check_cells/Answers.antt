@@ -1,7 +1,4 @@
-use Rattle.std.proofs.Common.{List, Err, get_or, ap}
-use Rattle.std.proofs.lemmas.Result.{err_from_is_err_and}
-use Rattle.table_schema.specs.declared.table.TableId.{TableId}
-use Rattle.table_schema.specs.declared.table.TableId.TheVariants.{Module}
+use Rattle.checks.proofs.Prelude.{List, Err, get_or, ap, err_from_is_err_and, TableId, Module}
 use Rattle.checks.proofs.Broken.{row_reports}
 use Rattle.checks.proofs.SpendingTexts.{all_taken, before_taken}
 use Rattle.checks.proofs.cell_checks.check_cells.Goals as goal

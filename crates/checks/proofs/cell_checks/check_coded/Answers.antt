@@ -1,5 +1,4 @@
-use Rattle.std.proofs.Common.{inl, inr, refl}
-use Rattle.std.proofs.lemmas.Option.{same_Some}
+use Rattle.checks.proofs.Prelude.{inl, inr, refl, same_Some}
 use Rattle.checks.proofs.cell_checks.check_coded.Goals as goal
 
 pub returns-in_default : goal.returns-in_default

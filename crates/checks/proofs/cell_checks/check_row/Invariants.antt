@@ -1,5 +1,4 @@
-use Rattle.packed.specs.Rule.{HoldBefore}
-use Rattle.metadata.specs.Rules.{rules_of_cell}
+use Rattle.checks.proofs.Prelude.{HoldBefore, rules_of_cell}
 use Rattle.checks.proofs.cell_checks.check_row.Given as goal
 
 abbrev pub invariant-loop-column : goal.invariant-loop-column

@@ -1,12 +1,4 @@
-use Rattle.std.proofs.Common.{◌≡◌, ◌-◌, List, get_or, ap, ◌∙◌, arith}
-use Rattle.std.proofs.lemmas.Result.{err_from_is_err_and}
-use Rattle.packed.proofs.RuleLemmas.{before_none, before_more, before_all}
-use Rattle.table_schema.specs.declared.table.TableId.{TableId}
-use Rattle.table_schema.specs.declared.table.TableId.TheVariants.{Module}
-use Rattle.metadata.specs.Rules.{rules_of_cells, rules_of_table_at}
-use Rattle.metadata.specs.Rows.{table_at}
-use Rattle.checks.specs.Signatures.{sum_below}
-use Rattle.checks.specs.TextBytes.{rows_text_bytes, table_text_bytes, text_bytes, text_bytes_to}
+use Rattle.checks.proofs.Prelude.{◌≡◌, ◌-◌, List, get_or, ap, ◌∙◌, arith, err_from_is_err_and, before_none, before_more, before_all, TableId, Module, rules_of_cells, rules_of_table_at, table_at, sum_below, rows_text_bytes, table_text_bytes, text_bytes, text_bytes_to}
 use Rattle.checks.proofs.Spending.{none_taken, part_taken, takes_more}
 use Rattle.checks.proofs.SpendingTexts.{rows_spent}
 use Rattle.checks.proofs.cell_checks.first_broken_within.Goals as goal

@@ -1,9 +1,4 @@
-use Rattle.std.proofs.Common.{◌≡◌}
-use Rattle.packed.specs.Rule.{HoldBefore}
-use Rattle.metadata.specs.Rules.{rules_of_table_at}
-use Rattle.checks.specs.Budgets.{Takes}
-use Rattle.checks.specs.Signatures.{sum_below}
-use Rattle.checks.specs.TextBytes.{table_text_bytes}
+use Rattle.checks.proofs.Prelude.{◌≡◌, HoldBefore, rules_of_table_at, Takes, sum_below, table_text_bytes}
 use Rattle.checks.proofs.cell_checks.first_broken_within.Given as goal
 
 abbrev pub invariant-loop-table_index : goal.invariant-loop-table_index

@@ -1,5 +1,4 @@
-use Rattle.std.proofs.Common.{ℕ, List, inl, inr, refl, subst, ◌∙◌}
-use Rattle.heap_entries.specs.Entries.{IsBlob}
+use Rattle.checks.proofs.Prelude.{ℕ, List, inl, inr, refl, subst, ◌∙◌, IsBlob}
 use Rattle.table_schema.specs.declared.column.ColumnKind.TheVariants as kind
 use Rattle.checks.proofs.Columns.{passed_stands, plain_stands}
 use Rattle.checks.proofs.cell_checks.first_in_column.Goals as goal

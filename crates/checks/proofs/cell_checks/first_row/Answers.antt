@@ -1,6 +1,4 @@
-use Rattle.std.proofs.Common.{List, length, ap, arith}
-use Rattle.table_schema.specs.declared.column.Column.{Column}
-use Rattle.metadata.specs.Rules.{rules_of_cell}
+use Rattle.checks.proofs.Prelude.{List, length, ap, arith, Column, rules_of_cell}
 use Rattle.checks.proofs.Columns.{meets_more, rows_stand}
 use Rattle.checks.proofs.cell_checks.first_row.Goals as goal
 

@@ -1,6 +1,4 @@
-use Rattle.std.proofs.Common.{ℕ, ◌≤◌, ◌<◌, ◌+◌}
-use Rattle.metadata.specs.Source.{rows_in}
-use Rattle.checks.specs.Columns.{ColumnStands}
+use Rattle.checks.proofs.Prelude.{ℕ, ◌≤◌, ◌<◌, ◌+◌, rows_in, ColumnStands}
 use Rattle.checks.proofs.cell_checks.first_row.Given as goal
 
 abbrev pub invariant-loop-column : goal.invariant-loop-column

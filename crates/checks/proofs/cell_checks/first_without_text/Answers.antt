@@ -1,5 +1,4 @@
-use Rattle.std.proofs.Common.{arith}
-use Rattle.metadata.specs.Source.{number_of}
+use Rattle.checks.proofs.Prelude.{arith, number_of}
 use Rattle.checks.proofs.AsciiTexts.{sure_holds}
 use Rattle.checks.proofs.cell_checks.first_without_text.Goals as goal
 

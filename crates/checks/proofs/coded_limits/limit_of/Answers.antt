@@ -1,6 +1,4 @@
-use Rattle.std.proofs.Common.{◌≡◌, Some, None, ap, sym, subst, ◌∙◌, ◌+◌}
-use Rattle.std.proofs.lemmas.Option.{slice_get-get_or}
-use Rattle.std.specs.Prelude.{slice_get}
+use Rattle.checks.proofs.Prelude.{◌≡◌, Some, None, ap, sym, subst, ◌∙◌, ◌+◌, slice_get-get_or, slice_get}
 use Rattle.checks.proofs.coded_limits.limit_of.Goals as goal
 
 pub returns-in-Some-Some : goal.returns-in-Some-Some

@@ -1,5 +1,4 @@
-use Rattle.std.proofs.Common.{refl, ◌∙◌, arith}
-use Rattle.std.proofs.lemmas.List.{length-set}
+use Rattle.checks.proofs.Prelude.{refl, ◌∙◌, arith, length-set}
 use Rattle.checks.proofs.CodedLemmas.{limits_none, limits_more}
 use Rattle.checks.proofs.coded_limits.limits_by_tag.Goals as goal
 

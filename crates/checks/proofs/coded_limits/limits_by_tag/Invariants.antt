@@ -1,5 +1,4 @@
-use Rattle.std.proofs.Common.{◌≡◌, length}
-use Rattle.checks.specs.CodedLimits.{AreLimits}
+use Rattle.checks.proofs.Prelude.{◌≡◌, length, AreLimits}
 use Rattle.checks.proofs.coded_limits.limits_by_tag.Given as goal
 
 abbrev pub invariant-loop-tag : goal.invariant-loop-tag

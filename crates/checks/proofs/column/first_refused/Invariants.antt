@@ -1,6 +1,5 @@
-use Rattle.std.proofs.Common.{ℕ, ◌≤◌, ◌<◌, Ok}
+use Rattle.checks.proofs.Prelude.{ℕ, ◌≤◌, ◌<◌, Ok, number_of}
 use Rattle.std.specs.Option.{IfSome}
-use Rattle.metadata.specs.Source.{number_of}
 use Rattle.checks.proofs.column.first_refused.Given as goal
 
 abbrev pub invariant-loop-row : goal.invariant-loop-row

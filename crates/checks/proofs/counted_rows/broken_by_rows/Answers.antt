@@ -1,9 +1,4 @@
-use Rattle.std.proofs.Common.{◌≡◌, ◌+◌, ◌-◌, ℕ, refl, sym, ap, subst, ◌∙◌, arith}
-use Rattle.packed.proofs.RuleLemmas.{before_none, before_more, before_all}
-use Rattle.metadata.specs.Rules.{rules_of_table}
-use Rattle.checks.specs.Budgets.{Takes, IsBelow}
-use Rattle.checks.specs.Signatures.{sum_below}
-use Rattle.checks.specs.TextBytes.{row_text_bytes}
+use Rattle.checks.proofs.Prelude.{◌≡◌, ◌+◌, ◌-◌, ℕ, refl, sym, ap, subst, ◌∙◌, arith, before_none, before_more, before_all, rules_of_table, Takes, IsBelow, sum_below, row_text_bytes}
 use Rattle.checks.proofs.Spending.{none_taken, part_taken, below_taken}
 use Rattle.checks.proofs.Sums.{sum_more}
 use Rattle.checks.proofs.counted_rows.broken_by_rows.Goals as goal

@@ -1,8 +1,4 @@
-use Rattle.std.proofs.Common.{◌≡◌, ◌-◌}
-use Rattle.packed.specs.Rule.{HoldBefore}
-use Rattle.metadata.specs.Rules.{rules_of_row}
-use Rattle.checks.specs.Budgets.{Takes}
-use Rattle.checks.specs.TextBytes.{rows_text_bytes}
+use Rattle.checks.proofs.Prelude.{◌≡◌, ◌-◌, HoldBefore, rules_of_row, Takes, rows_text_bytes}
 use Rattle.checks.proofs.counted_rows.broken_by_rows.Given as goal
 
 abbrev pub invariant-loop-row : goal.invariant-loop-row

@@ -1,5 +1,4 @@
-use Rattle.std.proofs.Common.{rules, ◌≡◌, ◌∙◌}
-use Rattle.checks.specs.TextBytes.{counted_text}
+use Rattle.checks.proofs.Prelude.{rules, ◌≡◌, ◌∙◌, counted_text}
 use Rattle.checks.proofs.Numbers.{number_holds, number_breaks, text_holds, text_breaks, text_counts, other_counts}
 use Rattle.checks.proofs.counted_rows.cell_bytes.Goals as goal
 

@@ -1,10 +1,4 @@
-use Rattle.std.proofs.Common.{◌≡◌, ℕ, ◌+◌, ◌-◌, List, length, refl, sym, ap, ◌∙◌, arith}
-use Rattle.packed.proofs.RuleLemmas.{before_none, before_more, before_all, each_holds}
-use Rattle.table_schema.specs.declared.column.Column.{Column}
-use Rattle.table_schema.specs.Columns.{columns_of}
-use Rattle.metadata.specs.Rules.{rules_of_cell, rules_of_row}
-use Rattle.checks.specs.Signatures.{sum_below}
-use Rattle.checks.specs.TextBytes.{cell_text_bytes, row_text_bytes}
+use Rattle.checks.proofs.Prelude.{◌≡◌, ℕ, ◌+◌, ◌-◌, List, length, refl, sym, ap, ◌∙◌, arith, before_none, before_more, before_all, each_holds, Column, columns_of, rules_of_cell, rules_of_row, sum_below, cell_text_bytes, row_text_bytes}
 use Rattle.checks.proofs.Sums.{sum_none, sum_more}
 use Rattle.checks.proofs.counted_rows.row_bytes.Goals as goal
 

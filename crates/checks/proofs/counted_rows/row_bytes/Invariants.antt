@@ -1,8 +1,4 @@
-use Rattle.std.proofs.Common.{◌≡◌, ◌-◌, ◌+◌, ◌*◌, ◌^◌, ◌≤◌}
-use Rattle.packed.specs.Rule.{HoldBefore}
-use Rattle.metadata.specs.Rules.{rules_of_cell}
-use Rattle.checks.specs.Signatures.{sum_below}
-use Rattle.checks.specs.TextBytes.{cell_text_bytes}
+use Rattle.checks.proofs.Prelude.{◌≡◌, ◌-◌, ◌+◌, ◌*◌, ◌^◌, ◌≤◌, HoldBefore, rules_of_cell, sum_below, cell_text_bytes}
 use Rattle.checks.proofs.counted_rows.row_bytes.Given as goal
 
 abbrev pub invariant-loop-column : goal.invariant-loop-column

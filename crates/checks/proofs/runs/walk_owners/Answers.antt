@@ -1,8 +1,4 @@
-use Rattle.std.proofs.Common.{ℕ, ◌≡◌, ◌+◌, ◌-◌, ◌≤◌, sym, ◌∙◌, ap, arith}
-use Rattle.packed.proofs.RuleLemmas.{none_from}
-use Rattle.metadata.specs.Source.{rows_in, number_of}
-use Rattle.metadata.specs.Starts.{start_of}
-use Rattle.metadata.specs.Rules.{rules_of_start}
+use Rattle.checks.proofs.Prelude.{ℕ, ◌≡◌, ◌+◌, ◌-◌, ◌≤◌, sym, ◌∙◌, ap, arith, none_from, rows_in, number_of, start_of, rules_of_start}
 use Rattle.checks.proofs.Starts.{start_of_end, start_by, falls_step}
 use Rattle.checks.proofs.runs.walk_owners.Goals as goal
 

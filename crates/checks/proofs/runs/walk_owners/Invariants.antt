@@ -1,9 +1,5 @@
-use Rattle.std.proofs.Common.{◌≡◌, ◌-◌, ◌+◌, ◌≤◌}
+use Rattle.checks.proofs.Prelude.{◌≡◌, ◌-◌, ◌+◌, ◌≤◌, rules_from, start_of, rules_of_start, IsVerdict, fault_in_row}
 use Rattle.std.specs.Prelude.{IfSome}
-use Rattle.packed.specs.Rule.{rules_from}
-use Rattle.metadata.specs.Starts.{start_of}
-use Rattle.metadata.specs.Rules.{rules_of_start}
-use Rattle.checks.specs.Runs.{IsVerdict, fault_in_row}
 use Rattle.checks.proofs.runs.walk_owners.Given as goal
 
 abbrev pub invariant-loop-row : goal.invariant-loop-row

@@ -1,7 +1,4 @@
-use Rattle.std.proofs.Common.{arith}
-use Rattle.std.proofs.lemmas.Result.{err_from_is_err_and}
-use Rattle.packed.proofs.RuleLemmas.{before_more, before_all, before_fails}
-use Rattle.metadata.specs.Rules.{rules_of_signatures_of}
+use Rattle.checks.proofs.Prelude.{arith, err_from_is_err_and, before_more, before_all, before_fails, rules_of_signatures_of}
 use Rattle.checks.proofs.signature_checks.check_signature_rows.Goals as goal
 
 pub loop-row-init : goal.loop-row-init

@@ -1,5 +1,4 @@
-use Rattle.packed.specs.Rule.{HoldBefore}
-use Rattle.metadata.specs.Rules.{rules_of_signatures_in}
+use Rattle.checks.proofs.Prelude.{HoldBefore, rules_of_signatures_in}
 use Rattle.checks.proofs.signature_checks.check_signature_rows.Given as goal
 
 abbrev pub invariant-loop-row : goal.invariant-loop-row

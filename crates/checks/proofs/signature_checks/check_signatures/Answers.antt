@@ -1,14 +1,4 @@
-use Rattle.packed.proofs.RuleLemmas.{before_none, before_more, before_all}
-use Rattle.std.proofs.Common.{◌≡◌, List, get_or, ap, arith}
-use Rattle.std.proofs.lemmas.Result.{err_from_is_err_and}
-use Rattle.metadata.specs.Rules.{rules_of_signatures_at, rules_of_signatures}
-use Rattle.table_schema.specs.declared.table.TableId.{TableId}
-use Rattle.table_schema.specs.declared.table.TableId.TheVariants.{Module}
-use Rattle.metadata.specs.Rows.{table_at}
-use Rattle.checks.specs.Budgets.{IsBelow}
-use Rattle.checks.specs.Within.{FailsWithin}
-use Rattle.checks.specs.Signatures.{sum_below}
-use Rattle.checks.specs.Walks.{table_walked_at, walked_signature_bytes}
+use Rattle.checks.proofs.Prelude.{before_none, before_more, before_all, ◌≡◌, List, get_or, ap, arith, err_from_is_err_and, rules_of_signatures_at, rules_of_signatures, TableId, Module, table_at, IsBelow, FailsWithin, sum_below, table_walked_at, walked_signature_bytes}
 use Rattle.checks.proofs.Spending.{part_taken, none_taken, taken_enough}
 use Rattle.checks.proofs.Within.{parts_fail}
 use Rattle.checks.proofs.signature_checks.check_signatures.Goals as goal

@@ -1,8 +1,4 @@
-use Rattle.packed.specs.Rule.{HoldBefore}
-use Rattle.metadata.specs.Rules.{rules_of_signatures_at}
-use Rattle.checks.specs.Budgets.{Takes}
-use Rattle.checks.specs.Signatures.{sum_below}
-use Rattle.checks.specs.Walks.{table_walked_at}
+use Rattle.checks.proofs.Prelude.{HoldBefore, rules_of_signatures_at, Takes, sum_below, table_walked_at}
 use Rattle.checks.proofs.signature_checks.check_signatures.Given as goal
 
 abbrev pub invariant-loop-table_index : goal.invariant-loop-table_index

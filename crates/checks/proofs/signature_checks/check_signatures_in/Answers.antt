@@ -1,8 +1,4 @@
-use Rattle.std.proofs.Common.{List, length, ap, arith}
-use Rattle.std.proofs.lemmas.Result.{err_from_is_err_and}
-use Rattle.packed.proofs.RuleLemmas.{before_none, before_more, before_all, before_fails}
-use Rattle.table_schema.specs.declared.column.Column.{Column}
-use Rattle.metadata.specs.Rules.{rules_of_signatures_in}
+use Rattle.checks.proofs.Prelude.{List, length, ap, arith, err_from_is_err_and, before_none, before_more, before_all, before_fails, Column, rules_of_signatures_in}
 use Rattle.checks.proofs.signature_checks.check_signatures_in.Goals as goal
 
 pub loop-column-init : goal.loop-column-init

@@ -1,5 +1,4 @@
-use Rattle.packed.specs.Rule.{HoldBefore}
-use Rattle.metadata.specs.Rules.{rules_of_signature}
+use Rattle.checks.proofs.Prelude.{HoldBefore, rules_of_signature}
 use Rattle.checks.proofs.signature_checks.check_signatures_in.Given as goal
 
 abbrev pub invariant-loop-column : goal.invariant-loop-column

@@ -1,8 +1,4 @@
-use Rattle.std.proofs.Common.{inl, inr, arith}
-use Rattle.std.proofs.lemmas.Bool.{cases_lt}
-use Rattle.packed.proofs.RuleLemmas.{each_holds}
-use Rattle.metadata.specs.Source.{rows_in}
-use Rattle.metadata.specs.Rules.{rules_of_signatures_in, rules_of_signatures_of}
+use Rattle.checks.proofs.Prelude.{inl, inr, arith, cases_lt, each_holds, rows_in, rules_of_signatures_in, rules_of_signatures_of}
 use Rattle.checks.proofs.signature_checks.check_signatures_of.Goals as goal
 
 pub returns-clause-takes : goal.returns-clause-takes

@@ -1,8 +1,6 @@
 use Rattle.std.proofs.Common.{rules, ◌≡◌, ℕ, Option, Some, None, IfSome, ◌∙◌, ap, sym, refl}
-use Rattle.table_schema.specs.declared.column.Column.{Column}
+use Rattle.checks.proofs.Prelude.{Column, rows_in, walked_in, column_walked}
 use Rattle.table_schema.specs.declared.column.ColumnKind.TheVariants as kind
-use Rattle.metadata.specs.Source.{rows_in}
-use Rattle.checks.specs.Walks.{walked_in, column_walked}
 use Rattle.checks.proofs.Columns.{passed_encodes, refused_breaks, none_asked}
 use Rattle.checks.proofs.Spending.{spends_any}
 use Rattle.checks.proofs.Walks.{walk_spends, walk_takes, walk_below, unwalked_takes}

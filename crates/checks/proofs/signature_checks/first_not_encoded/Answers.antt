@@ -1,13 +1,5 @@
-use Rattle.std.proofs.Common.{◌≡◌, ℕ, ◌+◌, ◌-◌, List, length, Ok, sym, ap, ◌∙◌, subst, inl, inr, arith}
+use Rattle.checks.proofs.Prelude.{◌≡◌, ℕ, ◌+◌, ◌-◌, List, length, Ok, sym, ap, ◌∙◌, subst, inl, inr, arith, number_of, rules_of_encoding, Takes, IsEncoded, no_slots, blob_length, Walk, number_after, none_fails}
 use Rattle.table_schema.specs.declared.column.ColumnKind.TheVariants as kind
-use Rattle.metadata.specs.Source.{number_of}
-use Rattle.metadata.specs.Rules.{rules_of_encoding}
-use Rattle.checks.specs.Budgets.{Takes}
-use Rattle.checks.specs.Columns.{IsEncoded}
-use Rattle.checks.specs.Passed.{no_slots}
-use Rattle.checks.specs.Signatures.{blob_length}
-use Rattle.checks.specs.Walks.{Walk, number_after}
-use Rattle.packed.proofs.RuleLemmas.{none_fails}
 use Rattle.checks.proofs.Encodings.{no_signature}
 use Rattle.checks.proofs.PassedLemmas.{one_more}
 use Rattle.checks.proofs.Spending.{takes_none}

@@ -1,11 +1,5 @@
-use Rattle.std.proofs.Common.{◌≡◌, ℕ, ◌-◌, ◌≤◌, ◌<◌, length, Ok}
+use Rattle.checks.proofs.Prelude.{◌≡◌, ℕ, ◌-◌, ◌≤◌, ◌<◌, length, Ok, number_of, Takes, IsEncoded, Keeps, blob_length, walk_over, number_after}
 use Rattle.table_schema.specs.declared.column.ColumnKind.TheVariants as kind
-use Rattle.metadata.specs.Source.{number_of}
-use Rattle.checks.specs.Budgets.{Takes}
-use Rattle.checks.specs.Columns.{IsEncoded}
-use Rattle.checks.specs.Passed.{Keeps}
-use Rattle.checks.specs.Signatures.{blob_length}
-use Rattle.checks.specs.Walks.{walk_over, number_after}
 use Rattle.checks.proofs.signature_checks.first_not_encoded.Given as goal
 
 abbrev pub invariant-loop-row : goal.invariant-loop-row

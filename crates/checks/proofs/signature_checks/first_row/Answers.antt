@@ -1,8 +1,4 @@
-use Rattle.std.proofs.Common.{◌≡◌, List, length, ap, arith}
-use Rattle.table_schema.specs.declared.column.Column.{Column}
-use Rattle.table_schema.specs.Columns.{columns_of}
-use Rattle.metadata.specs.Rules.{rules_of_signature}
-use Rattle.checks.specs.Walks.{column_walked, table_walked}
+use Rattle.checks.proofs.Prelude.{◌≡◌, List, length, ap, arith, Column, columns_of, rules_of_signature, column_walked, table_walked}
 use Rattle.checks.proofs.Columns.{meets_more, rows_encode, still_broken}
 use Rattle.checks.proofs.Spending.{part_spent, part_below, part_taken, parts_none, none_taken}
 use Rattle.checks.proofs.signature_checks.first_row.Goals as goal

@@ -1,11 +1,4 @@
-use Rattle.std.proofs.Common.{ℕ, ◌≤◌, ◌<◌, ◌+◌}
-use Rattle.packed.specs.Rule.{AllHold}
-use Rattle.metadata.specs.Rules.{rules_of_signatures_in}
-use Rattle.metadata.specs.Source.{rows_in}
-use Rattle.checks.specs.Budgets.{Spends, Takes}
-use Rattle.checks.specs.Columns.{ColumnEncodes}
-use Rattle.checks.specs.Signatures.{sum_below}
-use Rattle.checks.specs.Walks.{column_walked}
+use Rattle.checks.proofs.Prelude.{ℕ, ◌≤◌, ◌<◌, ◌+◌, AllHold, rules_of_signatures_in, rows_in, Spends, Takes, ColumnEncodes, sum_below, column_walked}
 use Rattle.checks.proofs.signature_checks.first_row.Given as goal
 
 abbrev pub invariant-loop-column : goal.invariant-loop-column

@@ -1,10 +1,4 @@
-use Rattle.std.proofs.Common.{◌++◌, inr}
-use Rattle.std.proofs.lemmas.Result.{err_from_is_err_and}
-use Rattle.packed.proofs.RuleLemmas.{all_append}
-use Rattle.metadata.specs.Rules.{rules_of_cells, rules_of_order, rules_of_runs, rules_of_nesting, rules_of_signatures, rules_of_tables}
-use Rattle.checks.specs.TextBytes.{text_bytes}
-use Rattle.checks.specs.Walks.{walked_signature_bytes}
-use Rattle.checks.specs.Within.{IsSpent}
+use Rattle.checks.proofs.Prelude.{◌++◌, inr, err_from_is_err_and, all_append, rules_of_cells, rules_of_order, rules_of_runs, rules_of_nesting, rules_of_signatures, rules_of_tables, text_bytes, walked_signature_bytes, IsSpent}
 use Rattle.checks.proofs.Spending.{below_taken, taken_more_enough}
 use Rattle.checks.proofs.Within.{tail_fails, weaker_fails}
 use Rattle.checks.proofs.WholeTables.{cells_fail, rows_fail}

@@ -1,6 +1,4 @@
-use Rattle.std.proofs.Common.{◌≡◌, take, drop, ap, ◌∙◌}
-use Rattle.std.proofs.lemmas.List.{take_min}
-use Rattle.checks.specs.TextBytes.{bytes_before_nul}
+use Rattle.checks.proofs.Prelude.{◌≡◌, take, drop, ap, ◌∙◌, take_min, bytes_before_nul}
 use Rattle.checks.proofs.TextBytes.{found_before_nul}
 use Rattle.checks.proofs.texts.bytes_before_nul.Goals as goal
 

@@ -1,5 +1,4 @@
-use Rattle.std.proofs.Common.{◌-◌, drop, sym, ◌∙◌, arith}
-use Rattle.std.proofs.lemmas.Bool.{false≢true}
+use Rattle.checks.proofs.Prelude.{◌-◌, drop, sym, ◌∙◌, arith, false≢true}
 use Rattle.checks.proofs.TextLemmas.{text_answers, no_text_answers, ending_ended, ending_utf8, ending_not}
 use Rattle.checks.proofs.texts.check_within.Goals as goal
 

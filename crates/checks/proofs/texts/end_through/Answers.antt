@@ -1,5 +1,4 @@
-use Rattle.std.proofs.Common.{◌++◌, ◌≡◌, ◌-◌, take, drop, ap, ◌∙◌, sym, arith}
-use Rattle.std.proofs.lemmas.Str.{IsUtf8-append}
+use Rattle.checks.proofs.Prelude.{◌++◌, ◌≡◌, ◌-◌, take, drop, ap, ◌∙◌, sym, arith, IsUtf8-append}
 use Rattle.checks.proofs.TextLemmas.{text_answers, no_text_answers, longer_ended, longer_length, prefix_utf8, none_found}
 use Rattle.checks.proofs.texts.end_through.Goals as goal
 

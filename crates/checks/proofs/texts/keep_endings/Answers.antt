@@ -1,7 +1,5 @@
-use Rattle.std.proofs.Common.{◌≡◌, ◌≢◌, ℕ, ◌+◌, ◌*◌, ◌≤◌, ◌<◌, ◌/◌, List, ◌∷◌, ◌++◌, length, slice_index, ap, sym, subst, ◌∙◌, arith}
-use Rattle.std.proofs.lemmas.Nat.{div-add-mod', mod_below, mul-le}
+use Rattle.checks.proofs.Prelude.{◌≡◌, ◌≢◌, ℕ, ◌+◌, ◌*◌, ◌≤◌, ◌<◌, ◌/◌, List, ◌∷◌, ◌++◌, length, slice_index, ap, sym, subst, ◌∙◌, arith, div-add-mod', mod_below, mul-le, AreStarts, Reaches}
 use Rattle.std.proofs.lemmas.List.{length-set, length-append, get_or-set_other}
-use Rattle.checks.specs.Texts.{AreStarts, Reaches}
 use Rattle.checks.proofs.TextLemmas.{starts_set, part_reached, ending_reaches}
 use Rattle.checks.proofs.texts.keep_endings.Goals as goal
 use Rattle.checks.proofs.texts.keep_endings.Goals.{in-Some, in_default}

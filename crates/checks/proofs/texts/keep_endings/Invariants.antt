@@ -1,5 +1,4 @@
-use Rattle.std.proofs.Common.{◌≡◌, ◌/◌, slice_index}
-use Rattle.checks.specs.Texts.{AreStarts}
+use Rattle.checks.proofs.Prelude.{◌≡◌, ◌/◌, slice_index, AreStarts}
 use Rattle.checks.proofs.texts.keep_endings.Given as goal
 
 abbrev pub invariant-loop-later : goal.invariant-loop-later

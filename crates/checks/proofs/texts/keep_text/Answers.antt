@@ -1,5 +1,4 @@
-use Rattle.std.proofs.Common.{◌+◌, ◌*◌, ◌/◌, arith}
-use Rattle.std.proofs.lemmas.Nat.{div-add-mod'}
+use Rattle.checks.proofs.Prelude.{◌+◌, ◌*◌, ◌/◌, arith, div-add-mod'}
 use Rattle.checks.proofs.TextLemmas.{starts_set, reaches_less, part_reached}
 use Rattle.checks.proofs.texts.keep_text.Goals as goal
 

@@ -1,6 +1,4 @@
-use Rattle.std.proofs.Common.{◌≡◌, ◌+◌, ◌/◌, slice_index, ap, ◌∙◌, inl, inr, arith}
-use Rattle.std.proofs.lemmas.Bool.{cases_eq}
-use Rattle.std.proofs.lemmas.Nat.{div-add-mod', mod_below, mul-le}
+use Rattle.checks.proofs.Prelude.{◌≡◌, ◌+◌, ◌/◌, slice_index, ap, ◌∙◌, inl, inr, arith, cases_eq, div-add-mod', mod_below, mul-le}
 use Rattle.checks.proofs.texts.reach_of.Goals as goal
 
 -- a start after the index is known

@@ -1,5 +1,4 @@
-use Rattle.std.proofs.Common.{◌∙◌, ◌<◌, ℕ, ap, map, subst, sym}
-use Rattle.std.specs.Char.{to_ascii_lowercase}
+use Rattle.cli.proofs.Prelude.{◌∙◌, ◌<◌, ℕ, ap, map, subst, sym, to_ascii_lowercase}
 use Rattle.cli.proofs.ColumnsNamed.{next_differs}
 use Rattle.cli.proofs.columns.cell_named.Goals as goal
 

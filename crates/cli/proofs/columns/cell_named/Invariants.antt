@@ -1,6 +1,5 @@
-use Rattle.std.proofs.Common.{◌≢◌, ◌<◌, ℕ}
+use Rattle.cli.proofs.Prelude.{◌≢◌, ◌<◌, ℕ, column_name}
 use Rattle.std.specs.Str.{str_to_ascii_lowercase}
-use Rattle.cli_lines.specs.Names.{column_name}
 use Rattle.cli.proofs.columns.cell_named.Given as goal
 
 abbrev pub invariant-loop-cell_index : goal.invariant-loop-cell_index

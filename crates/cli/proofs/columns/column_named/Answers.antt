@@ -1,11 +1,5 @@
-use Rattle.std.proofs.Common.{◌≡◌, ◌+◌, ℕ, List, All, subst, sym, take}
-use Rattle.std.proofs.lemmas.List.{take_all}
-use Rattle.std.proofs.lemmas.List.Elements.{All-nil}
-use Rattle.table_schema.specs.Tables.{tables}
-use Rattle.table_schema.specs.declared.table.TableId.{TableId}
-use Rattle.cli.specs.Columns.{NamesColumn}
+use Rattle.cli.proofs.Prelude.{◌≡◌, ◌+◌, ℕ, List, All, subst, sym, take, take_all, All-nil, All-more, tables, TableId, NamesColumn}
 use Rattle.cli.proofs.ColumnsNamed.{of_each_table}
-use Rattle.std.proofs.lemmas.List.Elements.{All-more}
 use Rattle.cli.proofs.columns.column_named.Goals as goal
 
 pub loop-table-init : goal.loop-table-init

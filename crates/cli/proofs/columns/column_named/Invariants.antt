@@ -1,6 +1,4 @@
-use Rattle.std.proofs.Common.{All, ℕ, take}
-use Rattle.table_schema.specs.Tables.{tables}
-use Rattle.cli.specs.Columns.{NamesColumn}
+use Rattle.cli.proofs.Prelude.{All, ℕ, take, tables, NamesColumn}
 use Rattle.cli.proofs.columns.column_named.Given as goal
 
 abbrev pub invariant-loop-table : goal.invariant-loop-table

@@ -1,11 +1,5 @@
-use Rattle.std.proofs.Common.{ℕ, List, [], All, drop, subst, sym, take, suc}
-use Rattle.std.specs.List.{Any}
-use Rattle.std.specs.Borrow.{Bor}
-use Rattle.std.proofs.lemmas.List.{take_all}
-use Rattle.std.proofs.lemmas.List.Elements.{All-nil, All-weaker}
-use Rattle.cli.specs.Columns.{NamesColumn, NamesIgnored, NamesSome}
+use Rattle.cli.proofs.Prelude.{ℕ, List, [], All, drop, subst, sym, take, suc, Any, Bor, take_all, All-nil, All-weaker, NamesColumn, NamesIgnored, NamesSome, split_at}
 use Rattle.cli.proofs.ColumnsNamed.{all_more, none_ignored, only_more, some_of_ignored}
-use Rattle.std.proofs.Math.Seq.{split_at}
 use Rattle.cli.proofs.columns.columns_of.Goals as goal
 
 pub loop-word-init : goal.loop-word-init

@@ -1,9 +1,4 @@
-use Rattle.std.proofs.Common.{◌≡◌, ◌<◌, ℕ, true, All, take}
-use Rattle.std.specs.List.{Any}
-use Rattle.table_schema.specs.declared.table.TableId.{TableId}
-use Rattle.table_schema.specs.CellColumns.{cell_count}
-use Rattle.comparison.specs.Ignored.{is_ignored}
-use Rattle.cli.specs.Columns.{NamesColumn, NamesIgnored}
+use Rattle.cli.proofs.Prelude.{◌≡◌, ◌<◌, ℕ, true, All, take, Any, TableId, cell_count, is_ignored, NamesColumn, NamesIgnored}
 use Rattle.cli.proofs.columns.columns_of.Given as goal
 
 abbrev pub invariant-loop-word : goal.invariant-loop-word

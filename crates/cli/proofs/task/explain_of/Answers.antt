@@ -1,6 +1,4 @@
-use Rattle.std.proofs.Common.{drop, get_or, refl, suc, take}
-use Rattle.std.proofs.lemmas.List.{take_all}
-use Rattle.std.proofs.Math.Seq.{split_at}
+use Rattle.cli.proofs.Prelude.{drop, get_or, refl, suc, take, take_all, split_at}
 use Rattle.cli.proofs.RulesNamed.{all_named, next_named}
 use Rattle.cli.proofs.task.explain_of.Goals as goal
 

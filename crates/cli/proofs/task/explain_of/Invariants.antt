@@ -1,5 +1,4 @@
-use Rattle.std.proofs.Common.{take}
-use Rattle.cli.specs.Tasks.{AreRules}
+use Rattle.cli.proofs.Prelude.{take, AreRules}
 use Rattle.cli.proofs.task.explain_of.Given as goal
 
 abbrev pub invariant-loop-word : goal.invariant-loop-word

@@ -1,6 +1,4 @@
-use Rattle.std.proofs.Common.{drop, get_or, refl, suc, take}
-use Rattle.std.proofs.lemmas.List.{take_all}
-use Rattle.std.proofs.Math.Seq.{split_at}
+use Rattle.cli.proofs.Prelude.{drop, get_or, refl, suc, take, take_all, split_at}
 use Rattle.cli.proofs.TokensRead.{more_read, none_read}
 use Rattle.cli.proofs.task.numbers_of.Goals as goal
 

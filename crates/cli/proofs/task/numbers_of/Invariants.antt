@@ -1,5 +1,4 @@
-use Rattle.std.proofs.Common.{take}
-use Rattle.cli.specs.Tasks.{AreTokens}
+use Rattle.cli.proofs.Prelude.{take, AreTokens}
 use Rattle.cli.proofs.task.numbers_of.Given as goal
 
 abbrev pub invariant-loop-word : goal.invariant-loop-word

@@ -1,8 +1,6 @@
 use Rattle.std.proofs.Common.{◌≡◌, ◌∙◌, true, Some, ap, map, refl, sym}
-use Rattle.clap.proofs.OnLiterals.{clap_on_literals}
-use Rattle.std.proofs.lemmas.Result.{err_from_is_err_and}
+use Rattle.cli_arguments.proofs.Prelude.{clap_on_literals, err_from_is_err_and, clim}
 use Rattle.clap.specs.Words.{Text, found_of, is_simple, rows_of}
-use Rattle.cli_arguments.specs.CommandLine.{clim}
 use Rattle.cli_arguments.proofs.KnownNames.{is_known}
 use Rattle.cli_arguments.proofs.Readings.{named_back, rows_met}
 use Rattle.cli_arguments.proofs.arguments.ask.Goals as goal

@@ -1,9 +1,7 @@
 use Rattle.std.proofs.Common.{◌∙◌, List, map, option_map, subst, codes}
-use Rattle.clap.proofs.WalkLemmas.{first_value-rows, one_text-rows}
+use Rattle.cli_arguments.proofs.Prelude.{first_value-rows, one_text-rows, ExplainsUnsignedError, HasUnsignedDigitsIfOk, ParsesUnsigned, AreParts, TakesList}
 use Rattle.std.specs.declared.num.ParseIntError.{ParseIntError}
-use Rattle.std.specs.Str.Parse.{ExplainsUnsignedError, HasUnsignedDigitsIfOk, ParsesUnsigned}
 use Rattle.clap.specs.Words.{Row, Text, found_of, one_of, rows_of}
-use Rattle.cli_arguments.specs.Asked.{AreParts, TakesList}
 use Rattle.cli_arguments.proofs.Readings.{count_is}
 use Rattle.cli_arguments.proofs.arguments.asked.Goals as goal
 

@@ -1,9 +1,6 @@
-use Rattle.std.proofs.Common.{◌≡◌, ◌∙◌, ap, ap₂, codes, sym, true}
+use Rattle.cli_arguments.proofs.Prelude.{◌≡◌, ◌∙◌, ap, ap₂, codes, sym, true, take_all, app_of, new_app, with_subcommand, app_of_fields, on_top}
 use Rattle.std.specs.List.{fold}
-use Rattle.std.proofs.lemmas.List.{take_all}
 use Rattle.std.proofs.lemmas.List.Sums.{fold_more}
-use Rattle.clap.specs.Words.{app_of, new_app, with_subcommand}
-use Rattle.clap.specs.Simple.{app_of_fields, on_top}
 use Rattle.cli_arguments.specs.CommandLine as line
 use Rattle.cli_arguments.proofs.arguments.command.Invariants.{with_one}
 use Rattle.cli_arguments.proofs.arguments.command.Goals as goal

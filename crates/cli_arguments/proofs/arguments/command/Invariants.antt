@@ -1,8 +1,6 @@
-use Rattle.std.proofs.Common.{◌≡◌, take}
+use Rattle.cli_arguments.proofs.Prelude.{◌≡◌, take, App, app_of, with_subcommand, Subcommand}
 use Rattle.std.specs.List.{fold}
-use Rattle.clap.specs.Words.{App, app_of, with_subcommand}
 use Rattle.cli_arguments.specs.CommandLine as line
-use Rattle.cli_arguments.specs.declared.asked.Subcommand.{Subcommand}
 use Rattle.cli_arguments.proofs.arguments.command.Given as goal
 
 abbrev pub with_one : App → Subcommand → App

@@ -1,7 +1,6 @@
 use Rattle.std.proofs.Common.{◌∙◌, ◌||◌, List, ap, ap₂, map, sym}
-use Rattle.std.proofs.lemmas.List.{map_more, take_all}
+use Rattle.cli_arguments.proofs.Prelude.{map_more, take_all, app_of_fields}
 use Rattle.clap.specs.Words.{App, Shape, new_app, with_rule}
-use Rattle.clap.specs.Simple.{app_of_fields}
 use Rattle.cli_arguments.specs.CommandLine as line
 use Rattle.cli_arguments.specs.declared.argument.Argument.{Argument}
 use Rattle.cli_arguments.proofs.arguments.command_of.Invariants.{app_with}

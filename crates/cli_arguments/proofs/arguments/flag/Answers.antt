@@ -1,6 +1,4 @@
-use Rattle.std.proofs.Common.{◌∙◌}
-use Rattle.clap.proofs.WalkLemmas.{one_text-rows}
-use Rattle.clap.specs.Words.{found_of, one_of, rows_of}
+use Rattle.cli_arguments.proofs.Prelude.{◌∙◌, one_text-rows, found_of, one_of, rows_of}
 use Rattle.cli_arguments.proofs.Readings.{flag_is}
 use Rattle.cli_arguments.proofs.arguments.flag.Goals as goal
 

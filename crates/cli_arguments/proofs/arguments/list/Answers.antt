@@ -1,7 +1,5 @@
 use Rattle.std.proofs.Common.{◌∙◌, List, ap, map, refl}
-use Rattle.std.proofs.lemmas.Result.{IfOk-weaker}
-use Rattle.std.specs.Borrow.{Bor}
-use Rattle.clap.proofs.WalkLemmas.{raw_values-rows}
+use Rattle.cli_arguments.proofs.Prelude.{IfOk-weaker, Bor, raw_values-rows}
 use Rattle.clap.specs.Words.{Text, found_of}
 use Rattle.cli_arguments.proofs.Readings.{files_read}
 use Rattle.cli_arguments.proofs.arguments.list.Goals as goal

@@ -1,10 +1,7 @@
-use Rattle.std.proofs.Common.{◌≡◌, ◌∙◌, ◌&&◌, Bool, ap, false, not, refl, subst, true}
+use Rattle.cli_arguments.proofs.Prelude.{◌≡◌, ◌∙◌, ◌&&◌, Bool, ap, false, not, refl, subst, true, IfOk-weaker, clap_on_literals, clim}
 use Rattle.std.specs.Prelude.{IfOk, map}
-use Rattle.std.proofs.lemmas.Result.{IfOk-weaker}
 use Rattle.clap.proofs.CallerLemmas.{subcommand_required}
-use Rattle.clap.proofs.OnLiterals.{clap_on_literals}
 use Rattle.clap.specs.Words.{App, FailsBy, HasMatchesOf, fault_of, is_simple_and_free}
-use Rattle.cli_arguments.specs.CommandLine.{clim}
 use Rattle.cli_arguments.proofs.arguments.matches_of.Goals as goal
 
 clim_is_free : is_simple_and_free clim ≡ true

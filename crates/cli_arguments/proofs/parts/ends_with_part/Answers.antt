@@ -1,5 +1,4 @@
-use Rattle.clap.specs.Words.{found_of, rows_of}
-use Rattle.cli_arguments.specs.Asked.{TakesList}
+use Rattle.cli_arguments.proofs.Prelude.{found_of, rows_of, TakesList}
 use Rattle.cli_arguments.proofs.PartLemmas.{ends_there, none_ends, part_there}
 use Rattle.cli_arguments.proofs.parts.ends_with_part.Goals as goal
 

@@ -1,6 +1,5 @@
 use Rattle.std.proofs.Common.{◌≡◌, ◌∙◌, Option, None, Some, ap, codes, inl, inr, option_map, refl, subst, sym}
-use Rattle.std.specs.Prelude.{IsSome}
-use Rattle.clap.proofs.WalkLemmas.{first_value-rows}
+use Rattle.cli_arguments.proofs.Prelude.{IsSome, first_value-rows}
 use Rattle.clap.specs.Words.{Text, first_of, found_of, rows_of}
 use Rattle.cli_arguments.proofs.PartLemmas.{given_some, some_given}
 use Rattle.cli_arguments.proofs.parts.has_files.Goals as goal

@@ -1,7 +1,4 @@
-use Rattle.std.proofs.Common.{◌<◌, List, refl, subst, sym, ℕ}
-use Rattle.std.specs.Borrow.{Bor}
-use Rattle.clap.specs.Words.{found_of, rows_of}
-use Rattle.cli_arguments.specs.Asked.{IsPartLast, TakesList}
+use Rattle.cli_arguments.proofs.Prelude.{◌<◌, List, refl, subst, sym, ℕ, Bor, found_of, rows_of, IsPartLast, TakesList}
 use Rattle.cli_arguments.proofs.PartLemmas.{EndsWithPart, part_taken, texts}
 use Rattle.cli_arguments.proofs.parts.take_part.Goals as goal
 

@@ -1,7 +1,4 @@
-use Rattle.std.proofs.Common.{◌∷◌, [], subst}
-use Rattle.cli_lines.specs.Lines.{Value}
-use Rattle.cli_lines.specs.Printed.{Adds}
-use Rattle.cli_cells.specs.RowLines.{cell_part}
+use Rattle.cli_cells.proofs.Prelude.{◌∷◌, [], subst, Value, Adds, cell_part}
 use Rattle.cli_cells.proofs.cells.print_value.Goals as goal
 
 pub returns-in_default : goal.returns-in_default

@@ -1,7 +1,4 @@
-use Rattle.std.proofs.Common.{◌∙◌, Option, ap, inl, inr, sym}
-use Rattle.checks.specs.declared.cell_checks.BrokenRow.{BrokenRow}
-use Rattle.cli_input.specs.Checked.{source_in}
-use Rattle.cli_cells.specs.Before.{lines_before}
+use Rattle.cli_cells.proofs.Prelude.{◌∙◌, Option, ap, inl, inr, sym, BrokenRow, source_in, lines_before}
 use Rattle.cli_cells.proofs.BrokenLemmas.{broken_is_one}
 use Rattle.cli_cells.proofs.laws.lines_before_are_one.Goals as goal
 

@@ -1,6 +1,4 @@
-use Rattle.metadata.specs.SourceAt.{source_of}
-use Rattle.metadata.specs.Metadata.{cell_in}
-use Rattle.table_schema.specs.CellColumns.{column_of}
+use Rattle.cli_cells.proofs.Prelude.{source_of, cell_in, column_of}
 use Rattle.cli_cells.proofs.ReadLemmas.{cell_is_read}
 use Rattle.cli_cells.proofs.laws.models_are_read.Goals as goal
 

@@ -1,5 +1,4 @@
-use Rattle.std.proofs.Common.{ap, arith}
-use Rattle.cli_cells.specs.Shown.{signature_of}
+use Rattle.cli_cells.proofs.Prelude.{ap, arith, signature_of}
 use Rattle.cli_cells.proofs.ReadLemmas.{no_signature}
 use Rattle.cli_cells.proofs.met_rows.blob_cell.Goals as goal
 

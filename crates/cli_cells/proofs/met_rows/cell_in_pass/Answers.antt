@@ -1,12 +1,6 @@
-use Rattle.std.proofs.Common.{ap, subst, sym, ◌∙◌}
+use Rattle.cli_cells.proofs.Prelude.{ap, subst, sym, ◌∙◌, ColumnKind, column_at, number_of, start_of, Shows, cell_at, read_cell}
 use Rattle.table_schema.specs.declared.column.Column.{Column}
-use Rattle.table_schema.specs.declared.column.ColumnKind.{ColumnKind}
-use Rattle.table_schema.specs.Columns.{column_at}
 use Rattle.metadata.specs.Cell.{Cell}
-use Rattle.metadata.specs.Source.{number_of}
-use Rattle.metadata.specs.Starts.{start_of}
-use Rattle.reading.specs.Shown.{Shows}
-use Rattle.cli_cells.specs.Shown.{cell_at, read_cell}
 use Rattle.cli_cells.proofs.ReadLemmas.{cell_is_read, signature_blob, some_cell}
 use Rattle.cli_cells.proofs.met_rows.cell_in_pass.Goals as goal
 

@@ -1,6 +1,4 @@
-use Rattle.std.proofs.Common.{◌≡◌, ◌<◌, ◌≤◌, ◌∙◌, arith, refl}
-use Rattle.table_schema.specs.CellColumns.{cell_count}
-use Rattle.cli_cells.specs.RowLines.{cell_parts}
+use Rattle.cli_cells.proofs.Prelude.{◌≡◌, ◌<◌, ◌≤◌, ◌∙◌, arith, refl, cell_count, cell_parts}
 use Rattle.cli_cells.proofs.PartLemmas.{parts_more}
 use Rattle.cli_cells.proofs.row_lines.print_cells.Goals as goal
 

@@ -1,8 +1,5 @@
-use Rattle.std.proofs.Common.{◌≡◌}
+use Rattle.cli_cells.proofs.Prelude.{◌≡◌, Adds, cell_parts, Content}
 use Rattle.std.specs.List.{flat_map, range_with_len}
-use Rattle.cli_lines.specs.Printed.{Adds}
-use Rattle.cli_cells.specs.RowLines.{cell_parts}
-use Rattle.cli_cells.specs.Shown.{Content}
 use Rattle.cli_cells.proofs.row_lines.print_cells.Given as goal
 
 abbrev pub invariant-loop-cell_index : goal.invariant-loop-cell_index

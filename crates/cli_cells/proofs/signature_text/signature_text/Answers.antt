@@ -1,6 +1,4 @@
-use Rattle.std.proofs.Common.{◌∙◌, ◌++◌, ap, refl}
-use Rattle.std.specs.Prelude.{is_some}
-use Rattle.cli_cells.specs.SignatureText.{signature_text}
+use Rattle.cli_cells.proofs.Prelude.{◌∙◌, ◌++◌, ap, refl, is_some, signature_text}
 use Rattle.cli_cells.proofs.SinkLemmas.{received}
 use Rattle.cli_cells.proofs.signature_text.signature_text.Goals as goal
 

@@ -1,6 +1,5 @@
-use Rattle.std.proofs.Common.{◌≡◌, ◌+◌, ◌≤◌, ◌∙◌, arith, refl}
+use Rattle.cli_cells.proofs.Prelude.{◌≡◌, ◌+◌, ◌≤◌, ◌∙◌, arith, refl, row_line}
 use Rattle.std.proofs.lemmas.List.FromFn.{map-range_with_len_more}
-use Rattle.cli_cells.specs.RowLines.{row_line}
 use Rattle.cli_cells.proofs.table_lines.print_rows.Goals as goal
 
 pub loop-earlier-init : goal.loop-earlier-init

@@ -1,8 +1,4 @@
-use Rattle.std.proofs.Common.{◌≡◌, map}
-use Rattle.std.specs.List.{range_with_len}
-use Rattle.cli_lines.specs.Printed.{Prints}
-use Rattle.cli_cells.specs.RowLines.{row_line}
-use Rattle.cli_cells.specs.Shown.{Content}
+use Rattle.cli_cells.proofs.Prelude.{◌≡◌, map, range_with_len, Prints, row_line, Content}
 use Rattle.cli_cells.proofs.table_lines.print_rows.Given as goal
 
 abbrev pub invariant-loop-earlier : goal.invariant-loop-earlier

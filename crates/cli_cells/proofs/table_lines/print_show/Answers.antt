@@ -1,12 +1,5 @@
 use Rattle.std.proofs.Common.{◌≡◌, List, ℕ, flat_map, refl, subst, sym}
-use Rattle.table_schema.specs.declared.table.TableId.{TableId}
-use Rattle.metadata.specs.Metadata.{count_in}
-use Rattle.metadata.specs.Model.{IsModel}
-use Rattle.opening.specs.Views.{row_count}
-use Rattle.cli_lines.specs.Lines.{Part}
-use Rattle.cli_lines.specs.Printed.{Prints}
-use Rattle.cli_cells.specs.RowLines.{first_lines}
-use Rattle.cli_cells.specs.Shown.{content_of}
+use Rattle.cli_cells.proofs.Prelude.{TableId, count_in, IsModel, row_count, Part, Prints, first_lines, content_of}
 use Rattle.cli_cells.proofs.table_lines.print_show.Goals as goal
 
 pub returns : goal.returns

@@ -1,6 +1,4 @@
-use Rattle.std.proofs.Common.{◌≡◌, ◌≢◌, ◌∙◌, sym}
-use Rattle.std.proofs.lemmas.Bool.{eq-eqb, ne_eqb}
-use Rattle.cli_cells.specs.RowLines.{first_lines}
+use Rattle.cli_cells.proofs.Prelude.{◌≡◌, ◌≢◌, ◌∙◌, sym, eq-eqb, ne_eqb, first_lines}
 use Rattle.cli_cells.proofs.table_lines.print_table.Goals as goal
 
 pub returns-then-ready-eq0-clause-lines : goal.returns-then-ready-eq0-clause-lines

@@ -1,9 +1,4 @@
-use Rattle.std.proofs.Common.{◌∙◌, [], List, get_or, refl, take}
-use Rattle.std.proofs.lemmas.List.{flat_map_more, take_all, take_more}
-use Rattle.table_schema.specs.declared.table.TableId.{TableId}
-use Rattle.table_schema.specs.declared.table.TableId.TheVariants.{Module}
-use Rattle.cli_lines.specs.Lines.{Part}
-use Rattle.cli_cells.specs.RowLines.{first_lines}
+use Rattle.cli_cells.proofs.Prelude.{◌∙◌, [], List, get_or, refl, take, flat_map_more, take_all, take_more, TableId, Module, Part, first_lines}
 use Rattle.cli_cells.proofs.table_lines.print_tables.Goals as goal
 
 pub loop-table-init : goal.loop-table-init

@@ -1,8 +1,5 @@
-use Rattle.std.proofs.Common.{◌≡◌, take}
+use Rattle.cli_cells.proofs.Prelude.{◌≡◌, take, Prints, first_lines, Content}
 use Rattle.std.specs.List.{flat_map}
-use Rattle.cli_lines.specs.Printed.{Prints}
-use Rattle.cli_cells.specs.RowLines.{first_lines}
-use Rattle.cli_cells.specs.Shown.{Content}
 use Rattle.cli_cells.proofs.table_lines.print_tables.Given as goal
 
 abbrev pub invariant-loop-table : goal.invariant-loop-table

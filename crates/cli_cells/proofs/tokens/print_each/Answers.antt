@@ -1,7 +1,4 @@
-use Rattle.std.proofs.Common.{◌+◌, ◌++◌, ◌∷◌, ◌∙◌, [], ℕ, List, ap, drop, get_or, refl, sym, take}
-use Rattle.std.proofs.lemmas.List.{drop_more, take-append-drop, take_all, take_more}
-use Rattle.std.proofs.lemmas.List.Elements.{All-more, All-nil}
-use Rattle.cli_cells.specs.TokenLines.{IsNamed}
+use Rattle.cli_cells.proofs.Prelude.{◌+◌, ◌++◌, ◌∷◌, ◌∙◌, [], ℕ, List, ap, drop, get_or, refl, sym, take, drop_more, take-append-drop, take_all, take_more, All-more, All-nil, IsNamed}
 use Rattle.cli_cells.proofs.TokenLemmas.{lines_appended}
 use Rattle.cli_cells.proofs.tokens.print_each.Goals as goal
 

@@ -1,5 +1,4 @@
-use Rattle.std.proofs.Common.{All, take}
-use Rattle.cli_cells.specs.TokenLines.{ArePrinted, IsNamed}
+use Rattle.cli_cells.proofs.Prelude.{All, take, ArePrinted, IsNamed}
 use Rattle.cli_cells.proofs.tokens.print_each.Given as goal
 
 abbrev pub invariant-loop-number : goal.invariant-loop-number

@@ -1,10 +1,4 @@
-use Rattle.std.proofs.Common.{◌≤◌, inl, inr, refl}
-use Rattle.metadata.specs.Metadata.{count_in}
-use Rattle.metadata.specs.Model.{IsModel}
-use Rattle.opening.specs.Views.{row_count}
-use Rattle.cli_cells.specs.RowLines.{row_line}
-use Rattle.cli_cells.specs.Shown.{content_of}
-use Rattle.cli_cells.specs.declared.row_lines.Names.TheVariants.{Hidden}
+use Rattle.cli_cells.proofs.Prelude.{◌≤◌, inl, inr, refl, count_in, IsModel, row_count, row_line, content_of, Hidden}
 use Rattle.cli_cells.proofs.TokenLemmas.{on_some}
 use Rattle.cli_cells.proofs.tokens.print_named.Goals as goal
 

@@ -1,6 +1,4 @@
-use Rattle.std.proofs.Common.{refl}
-use Rattle.opening.specs.Views.{user_of}
-use Rattle.cli_cells.specs.TokenLines.{user_line}
+use Rattle.cli_cells.proofs.Prelude.{refl, user_of, user_line}
 use Rattle.cli_cells.proofs.tokens.print_string_at.Goals as goal
 
 pub returns-in-Ok-clause-line : goal.returns-in-Ok-clause-line

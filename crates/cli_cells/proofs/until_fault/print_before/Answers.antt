@@ -1,11 +1,4 @@
-use Rattle.std.proofs.Common.{[], ◌∙◌, inl, inr, refl, subst}
-use Rattle.packed.proofs.RuleLemmas.{none_fails}
-use Rattle.metadata.specs.SourceAt.{SourceAt}
-use Rattle.checks.specs.Broken.{IsFirstBroken}
-use Rattle.cli_input.specs.Checked.{rules_before, source_in}
-use Rattle.cli_lines.specs.Printed.{Prints}
-use Rattle.cli_cells.specs.Before.{lines_before}
-use Rattle.cli_cells.specs.Shown.{content_at}
+use Rattle.cli_cells.proofs.Prelude.{[], ◌∙◌, inl, inr, refl, subst, none_fails, SourceAt, IsFirstBroken, rules_before, source_in, Prints, lines_before, content_at}
 use Rattle.cli_cells.proofs.until_fault.print_before.Goals as goal
 
 pub returns-in-Ok : goal.returns-in-Ok

@@ -1,7 +1,4 @@
-use Rattle.std.proofs.Common.{subst, sym}
-use Rattle.comparison.specs.declared.difference.Difference.{Difference}
-use Rattle.cli_lines.specs.Printed.{Begins}
-use Rattle.cli_compare.specs.ComparedLines.{label_parts}
+use Rattle.cli_compare.proofs.Prelude.{subst, sym, Difference, Begins, label_parts}
 use Rattle.cli_compare.proofs.differences.begin_label.Goals as goal
 
 pub returns-in-RowCount : goal.returns-in-RowCount

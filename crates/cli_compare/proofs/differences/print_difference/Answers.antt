@@ -1,5 +1,4 @@
-use Rattle.std.proofs.Common.{◌∙◌, List, ℕ, subst, sym}
-use Rattle.metadata.specs.Model.{IsModel}
+use Rattle.cli_compare.proofs.Prelude.{◌∙◌, List, ℕ, subst, sym, IsModel}
 use Rattle.cli_compare.proofs.DifferenceLemmas.{in_column, in_left, in_right}
 use Rattle.cli_compare.proofs.differences.print_difference.Goals as goal
 

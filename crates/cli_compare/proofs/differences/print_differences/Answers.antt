@@ -1,7 +1,4 @@
-use Rattle.std.proofs.Common.{◌≡◌, ◌∙◌, [], List, ap, length, subst, sym}
-use Rattle.std.proofs.lemmas.Bool.Decides.{Decides-eqb}
-use Rattle.cli_lines.specs.Lines.{Part}
-use Rattle.cli_lines.specs.Printed.{Prints}
+use Rattle.cli_compare.proofs.Prelude.{◌≡◌, ◌∙◌, [], List, ap, length, subst, sym, Decides-eqb, Part, Prints}
 use Rattle.cli_compare.proofs.DifferenceLemmas.{compared_some}
 use Rattle.cli_compare.proofs.differences.print_differences.Goals as goal
 

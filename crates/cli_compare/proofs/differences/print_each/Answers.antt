@@ -1,12 +1,5 @@
-use Rattle.std.proofs.Common.{◌≡◌, ◌∷◌, [], ◌+◌, ◌∙◌, List, ℕ, suc, ap, arith, drop, drop-cons, get_or, map, subst, sym}
-use Rattle.std.proofs.lemmas.List.{drop_all}
+use Rattle.cli_compare.proofs.Prelude.{◌≡◌, ◌∷◌, [], ◌+◌, ◌∙◌, List, ℕ, suc, ap, arith, drop, drop-cons, get_or, map, subst, sym, drop_all, IsModel, IsThere, Difference, Version, Completes, difference_line}
 use Rattle.std.proofs.lemmas.List.Elements.{All-get_or}
-use Rattle.metadata.specs.Model.{IsModel}
-use Rattle.comparison.specs.Differences.{IsThere}
-use Rattle.comparison.specs.declared.difference.Difference.{Difference}
-use Rattle.comparison.specs.declared.difference.Difference.TheVariants.{Version}
-use Rattle.cli_lines.specs.Printed.{Completes}
-use Rattle.cli_compare.specs.ComparedLines.{difference_line}
 use Rattle.cli_compare.proofs.differences.print_each.Goals as goal
 
 pub loop-difference-init : goal.loop-difference-init

@@ -1,8 +1,4 @@
-use Rattle.std.proofs.Common.{◌≡◌, drop, map}
-use Rattle.metadata.specs.Metadata.{Metadata}
-use Rattle.metadata.specs.Model.{IsModel}
-use Rattle.cli_lines.specs.Printed.{Completes}
-use Rattle.cli_compare.specs.ComparedLines.{difference_line}
+use Rattle.cli_compare.proofs.Prelude.{◌≡◌, drop, map, Metadata, IsModel, Completes, difference_line}
 use Rattle.cli_compare.proofs.differences.print_each.Given as goal
 
 abbrev pub invariant-loop-difference : goal.invariant-loop-difference

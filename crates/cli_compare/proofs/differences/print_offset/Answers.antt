@@ -1,9 +1,6 @@
-use Rattle.std.proofs.Common.{◌∙◌, ◌∷◌, [], List, ap, codes, subst, sym}
+use Rattle.cli_compare.proofs.Prelude.{◌∙◌, ◌∷◌, [], List, ap, codes, subst, sym, Part, field, word, Adds, offset_parts, same_bytes}
 use Rattle.cli_lines.specs.Lines as line
-use Rattle.cli_lines.specs.Lines.{Part, field, word}
-use Rattle.cli_lines.specs.Printed.{Adds}
 use Rattle.cli_lines.specs.declared.names.Name.TheVariants as name
-use Rattle.cli_compare.specs.ComparedLines.{offset_parts, same_bytes}
 use Rattle.cli_compare.proofs.differences.print_offset.Goals as goal
 
 pub returns-in-UserStrings : goal.returns-in-UserStrings

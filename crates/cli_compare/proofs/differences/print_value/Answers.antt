@@ -1,10 +1,6 @@
-use Rattle.std.proofs.Common.{◌∷◌, [], ◌∙◌, List, ℕ, ap, length, refl, subst, sym}
-use Rattle.metadata.specs.Model.{IsModel}
+use Rattle.cli_compare.proofs.Prelude.{◌∷◌, [], ◌∙◌, List, ℕ, ap, length, refl, subst, sym, IsModel, Part, field, note, Adds, value_part}
 use Rattle.cli_cells.specs.Shown.{content_of}
 use Rattle.cli_lines.specs.Lines as line
-use Rattle.cli_lines.specs.Lines.{Part, field, note}
-use Rattle.cli_lines.specs.Printed.{Adds}
-use Rattle.cli_compare.specs.ComparedLines.{value_part}
 use Rattle.cli_compare.proofs.differences.print_value.Goals as goal
 
 pub returns-in-Version-clause-part : goal.returns-in-Version-clause-part

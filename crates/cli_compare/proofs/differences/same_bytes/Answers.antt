@@ -1,5 +1,4 @@
-use Rattle.std.proofs.Common.{◌≡◌, ◌∙◌, ◌<◌, arith, get_or, length, min, sym}
-use Rattle.heap_entries.specs.Padding.{zero_padded}
+use Rattle.cli_compare.proofs.Prelude.{◌≡◌, ◌∙◌, ◌<◌, arith, get_or, length, min, sym, zero_padded}
 use Rattle.cli_compare.proofs.OffsetLemmas.{at_end, next_differs, next_same}
 use Rattle.cli_compare.proofs.differences.same_bytes.Goals as goal
 

@@ -1,6 +1,4 @@
-use Rattle.std.proofs.Common.{◌≡◌, ◌+◌, drop}
-use Rattle.heap_entries.specs.Padding.{zero_padded}
-use Rattle.cli_compare.specs.ComparedLines.{same_bytes}
+use Rattle.cli_compare.proofs.Prelude.{◌≡◌, ◌+◌, drop, zero_padded, same_bytes}
 use Rattle.cli_compare.proofs.differences.same_bytes.Given as goal
 
 -- all bytes before the offset are the same

@@ -1,6 +1,4 @@
-use Rattle.std.proofs.Common.{rules, ◌∙◌, ◌+◌, List, ◌++◌, ap, append_assoc, append-nil, sym}
-use Rattle.cli_contents.specs.Bodies.{bodies_from, kept}
-use Rattle.cli_contents.specs.declared.bodies.Body.{Body}
+use Rattle.cli_contents.proofs.Prelude.{rules, ◌∙◌, ◌+◌, List, ◌++◌, ap, append_assoc, append-nil, sym, bodies_from, kept, Body}
 use Rattle.cli_contents.proofs.BodyLemmas.{bodies_more, bodies_none}
 use Rattle.cli_contents.proofs.bodies.bodies_at.Goals as goal
 

@@ -1,10 +1,4 @@
-use Rattle.std.proofs.Common.{◌≡◌, ◌+◌, ◌++◌}
-use Rattle.table_schema.specs.declared.table.TableId.TheVariants.{MethodDef}
-use Rattle.metadata.specs.Metadata.{Metadata}
-use Rattle.metadata.specs.Model.{IsModel}
-use Rattle.opening.specs.Views.{row_count}
-use Rattle.cli_contents.specs.Bodies.{bodies_at, bodies_from}
-use Rattle.cli_contents.specs.Kept.{AreRows}
+use Rattle.cli_contents.proofs.Prelude.{◌≡◌, ◌+◌, ◌++◌, MethodDef, Metadata, IsModel, row_count, bodies_at, bodies_from, AreRows}
 use Rattle.cli_contents.proofs.bodies.bodies_at.Given as goal
 
 abbrev pub invariant-loop-row : goal.invariant-loop-row

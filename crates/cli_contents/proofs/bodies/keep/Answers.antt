@@ -1,7 +1,4 @@
-use Rattle.std.proofs.Common.{◌≡◌, ◌≤◌, subst, sym}
-use Rattle.std.specs.Prelude.{All}
-use Rattle.std.proofs.lemmas.List.Elements.{All-push}
-use Rattle.cli_contents.specs.declared.bodies.Body.{Body}
+use Rattle.cli_contents.proofs.Prelude.{◌≡◌, ◌≤◌, subst, sym, All, All-push, Body}
 use Rattle.cli_contents.proofs.bodies.keep.Goals as goal
 
 pub returns-clause-rows : goal.returns-clause-rows

@@ -1,10 +1,4 @@
-use Rattle.std.proofs.Common.{◌≡◌, ◌∙◌, ◌+◌, ◌≤◌, List, ◌++◌, ap, append_assoc, append-nil, drop, sym}
-use Rattle.std.proofs.lemmas.List.{drop_all, drop_more}
-use Rattle.std.proofs.lemmas.List.Elements.{All-get_or}
-use Rattle.cli_contents.specs.Bodies.{kept}
-use Rattle.cli_contents.specs.FieldData.{data_at}
-use Rattle.cli_contents.specs.declared.bodies.Body.{Body}
-use Rattle.cli_contents.specs.declared.field_data.FieldData.{FieldData}
+use Rattle.cli_contents.proofs.Prelude.{◌≡◌, ◌∙◌, ◌+◌, ◌≤◌, List, ◌++◌, ap, append_assoc, append-nil, drop, sym, drop_all, drop_more, All-get_or, kept, data_at, Body, FieldData}
 use Rattle.cli_contents.proofs.field_data.data_at.Goals as goal
 
 pub loop-stored-preserved : goal.loop-stored-preserved

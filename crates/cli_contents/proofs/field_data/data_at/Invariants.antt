@@ -1,7 +1,4 @@
-use Rattle.std.proofs.Common.{◌≡◌, ◌≤◌, ◌++◌, ℕ, drop}
-use Rattle.std.specs.Prelude.{All}
-use Rattle.cli_contents.specs.FieldData.{data_at}
-use Rattle.cli_contents.specs.Kept.{AreRows}
+use Rattle.cli_contents.proofs.Prelude.{◌≡◌, ◌≤◌, ◌++◌, ℕ, drop, All, data_at, AreRows}
 use Rattle.cli_contents.proofs.field_data.data_at.Given as goal
 
 abbrev pub invariant-loop-stored : goal.invariant-loop-stored

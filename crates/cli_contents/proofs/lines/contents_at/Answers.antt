@@ -1,6 +1,5 @@
 use Rattle.std.proofs.lemmas.Result.{IfOk-weaker}
-use Rattle.table_schema.specs.declared.table.TableId.TheVariants.{Field}
-use Rattle.opening.specs.Views.{row_count}
+use Rattle.cli_contents.proofs.Prelude.{Field, row_count}
 use Rattle.cli_contents.proofs.lines.contents_at.Goals as goal
 
 pub returns-in-Methods-clause-sound : goal.returns-in-Methods-clause-sound

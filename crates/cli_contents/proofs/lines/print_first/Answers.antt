@@ -1,13 +1,6 @@
-use Rattle.std.proofs.Common.{rules, ◌≡◌, ◌∙◌, List, ℕ, ap, length, map, min, nat_le, subst, sym, take}
-use Rattle.std.proofs.lemmas.Bool.{cond-false, cond-true}
-use Rattle.std.proofs.lemmas.List.{take_min}
+use Rattle.cli_contents.proofs.Prelude.{rules, ◌≡◌, ◌∙◌, List, ℕ, ap, length, map, min, nat_le, subst, sym, take, cond-false, cond-true, take_min, Image, Prints, contents_at, name_of, table_of, word_of, row_line, section_limit, Body}
 use Rattle.pe.specs.Headers.{section_count}
-use Rattle.pe.specs.Image.{Image}
 use Rattle.cli_lines.specs.Lines.{Part}
-use Rattle.cli_lines.specs.Printed.{Prints}
-use Rattle.cli_contents.specs.Kept.{contents_at, name_of, table_of, word_of}
-use Rattle.cli_contents.specs.Lines.{row_line, section_limit}
-use Rattle.cli_contents.specs.declared.bodies.Body.{Body}
 use Rattle.cli_contents.proofs.lines.print_first.Goals as goal
 
 pub returns-in_default : goal.returns-in_default

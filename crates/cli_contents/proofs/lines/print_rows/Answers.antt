@@ -1,11 +1,4 @@
-use Rattle.std.proofs.Common.{◌≤◌, ◌+◌, ◌∷◌, [], List, drop, get_or, map, subst}
-use Rattle.std.proofs.lemmas.List.{drop_all, drop_more}
-use Rattle.std.proofs.lemmas.List.Elements.{All-get_or}
-use Rattle.cli_lines.specs.Printed.{Completes}
-use Rattle.opening.specs.Views.{row_count}
-use Rattle.cli_contents.specs.Kept.{name_of, table_of, word_of}
-use Rattle.cli_contents.specs.Lines.{row_line}
-use Rattle.cli_contents.specs.declared.bodies.Body.{Body}
+use Rattle.cli_contents.proofs.Prelude.{◌≤◌, ◌+◌, ◌∷◌, [], List, drop, get_or, map, subst, drop_all, drop_more, All-get_or, Completes, row_count, name_of, table_of, word_of, row_line, Body}
 use Rattle.cli_contents.proofs.lines.print_rows.Goals as goal
 
 pub loop-body-init : goal.loop-body-init

@@ -1,9 +1,4 @@
-use Rattle.std.proofs.Common.{drop, map}
-use Rattle.metadata.specs.Metadata.{Metadata}
-use Rattle.metadata.specs.Model.{IsModel}
-use Rattle.cli_lines.specs.Printed.{Completes}
-use Rattle.cli_contents.specs.Kept.{name_of, table_of, word_of}
-use Rattle.cli_contents.specs.Lines.{row_line}
+use Rattle.cli_contents.proofs.Prelude.{drop, map, Metadata, IsModel, Completes, name_of, table_of, word_of, row_line}
 use Rattle.cli_contents.proofs.lines.print_rows.Given as goal
 
 abbrev pub invariant-loop-body : goal.invariant-loop-body

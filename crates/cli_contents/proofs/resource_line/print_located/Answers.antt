@@ -1,8 +1,4 @@
-use Rattle.std.proofs.Common.{[], ◌∷◌, ℕ, subst}
-use Rattle.cli_lines.specs.Printed.{Printed, Prints}
-use Rattle.metadata.specs.Metadata.{Metadata}
-use Rattle.resources.specs.Resources.{Where, elsewhere, here}
-use Rattle.cli_contents.specs.Lines.{resource_line}
+use Rattle.cli_contents.proofs.Prelude.{[], ◌∷◌, ℕ, subst, Printed, Prints, Metadata, Where, elsewhere, here, resource_line}
 use Rattle.cli_contents.proofs.resource_line.print_located.Goals as goal
 
 -- the line of a resource at a location in this file was printed

@@ -1,9 +1,6 @@
-use Rattle.std.proofs.Common.{◌≡◌, [], ◌∷◌, refl, subst, sym}
+use Rattle.cli_contents.proofs.Prelude.{◌≡◌, [], ◌∷◌, refl, subst, sym, Image, IsDirectoryOf, resource_line}
 use Rattle.cli_header.specs.Header.{IsCliHeader}
 use Rattle.cli_header.specs.declared.header.CliHeader.{CliHeader}
-use Rattle.pe.specs.Image.{Image}
-use Rattle.resources.specs.Resources.{IsDirectoryOf}
-use Rattle.cli_contents.specs.Lines.{resource_line}
 use Rattle.cli_contents.proofs.resource_line.print_resource.Goals as goal
 
 pub returns-in_default : goal.returns-in_default

@@ -1,6 +1,5 @@
-use Rattle.std.proofs.Common.{List, ℕ, Option, Some, refl, subst}
+use Rattle.cli_declarations.proofs.Prelude.{List, ℕ, Option, Some, refl, subst, IsValueText, bytes_value, params_for}
 use Rattle.attribute_values.specs.declared.types.ArgumentType.{ArgumentType}
-use Rattle.cli_declarations.specs.Parts.{IsValueText, bytes_value, params_for}
 use Rattle.cli_declarations.proofs.PieceLemmas.{on_ok}
 use Rattle.cli_declarations.proofs.attribute_sink.push_attribute.Goals as goal
 

@@ -1,7 +1,4 @@
-use Rattle.std.proofs.Common.{string_bytes, [], sym, subst, append-nil}
-use Rattle.table_schema.specs.declared.table.TableId.{TableId}
-use Rattle.cli_declarations.specs.Parts.{IsAttributeAt}
-use Rattle.cli_declarations.specs.Texts.{Gains}
+use Rattle.cli_declarations.proofs.Prelude.{string_bytes, [], sym, subst, append-nil, TableId, IsAttributeAt, Gains}
 use Rattle.cli_declarations.proofs.AttributeLemmas.{no_attribute}
 use Rattle.cli_declarations.proofs.PieceLemmas.{on_ok}
 use Rattle.cli_declarations.proofs.attribute_sink.push_attribute_at.Goals as goal

@@ -1,7 +1,5 @@
-use Rattle.std.proofs.Common.{string_bytes, ◌∙◌, ◌++◌, List, ℕ, append_assoc, ap}
-use Rattle.std.specs.Prelude.{codes}
+use Rattle.cli_declarations.proofs.Prelude.{string_bytes, ◌∙◌, ◌++◌, List, ℕ, append_assoc, ap, codes, cut_text}
 use Rattle.attribute_text.specs.Texts.{value_text}
-use Rattle.cli_declarations.specs.Parts.{cut_text}
 use Rattle.cli_declarations.proofs.PieceLemmas.{cut, on_ok, was_ok}
 use Rattle.cli_declarations.proofs.attribute_sink.push_decoded.Goals as goal
 

@@ -1,5 +1,4 @@
-use Rattle.std.proofs.Common.{inl, inr, refl}
-use Rattle.cli_declarations.specs.Parts.{bytes_value, decoded_value}
+use Rattle.cli_declarations.proofs.Prelude.{inl, inr, refl, bytes_value, decoded_value}
 use Rattle.cli_declarations.proofs.PieceLemmas.{on_ok}
 use Rattle.cli_declarations.proofs.attribute_sink.push_value.Goals as goal
 

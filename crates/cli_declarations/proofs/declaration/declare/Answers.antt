@@ -1,5 +1,4 @@
-use Rattle.std.proofs.Common.{◌∙◌, ◌++◌, List, ℕ, ap, subst, sym}
-use Rattle.cli_declarations.specs.Layouts.{IsDeclared}
+use Rattle.cli_declarations.proofs.Prelude.{◌∙◌, ◌++◌, List, ℕ, ap, subst, sym, IsDeclared}
 use Rattle.cli_declarations.proofs.PieceLemmas.{on_ok}
 use Rattle.cli_declarations.proofs.declaration.declare.Goals as goal
 

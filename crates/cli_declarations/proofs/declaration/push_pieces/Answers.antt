@@ -1,10 +1,4 @@
-use Rattle.std.proofs.Common.{string_bytes, ◌≡◌, ◌∙◌, ◌≤◌, List, [], ap, length, refl, subst, sym, arith, append-nil}
-use Rattle.std.proofs.lemmas.List.{length-map}
-use Rattle.std.proofs.lemmas.List.{take_all}
-use Rattle.cli_declarations.specs.Layouts.{parts_of}
-use Rattle.cli_declarations.specs.Parts.{IsPartText, Part}
-use Rattle.cli_declarations.specs.Shown.{shown}
-use Rattle.cli_declarations.specs.Texts.{AreTexts, Gains}
+use Rattle.cli_declarations.proofs.Prelude.{string_bytes, ◌≡◌, ◌∙◌, ◌≤◌, List, [], ap, length, refl, subst, sym, arith, append-nil, length-map, take_all, parts_of, IsPartText, Part, shown, AreTexts, Gains}
 use Rattle.cli_declarations.proofs.PieceLemmas.{part_more, part_within}
 use Rattle.cli_declarations.proofs.declaration.push_pieces.Goals as goal
 

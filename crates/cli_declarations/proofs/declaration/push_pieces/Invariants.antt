@@ -1,9 +1,5 @@
-use Rattle.std.proofs.Common.{string_bytes, take}
-use Rattle.metadata.specs.Metadata.{Metadata}
+use Rattle.cli_declarations.proofs.Prelude.{string_bytes, take, Metadata, parts_of, IsPartText, AreTexts, Gains}
 use Rattle.metadata.specs.Model.{IsModel}
-use Rattle.cli_declarations.specs.Layouts.{parts_of}
-use Rattle.cli_declarations.specs.Parts.{IsPartText}
-use Rattle.cli_declarations.specs.Texts.{AreTexts, Gains}
 use Rattle.cli_declarations.proofs.declaration.push_pieces.Given as goal
 
 abbrev pub invariant-loop-piece : goal.invariant-loop-piece

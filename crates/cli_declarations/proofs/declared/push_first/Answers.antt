@@ -1,5 +1,4 @@
-use Rattle.std.proofs.Common.{◌∙◌, ◌++◌, string_bytes, ap, take}
-use Rattle.std.proofs.lemmas.List.{take_min}
+use Rattle.cli_declarations.proofs.Prelude.{◌∙◌, ◌++◌, string_bytes, ap, take, take_min}
 use Rattle.cli_declarations.proofs.PieceLemmas.{extended, on_ok}
 use Rattle.cli_declarations.proofs.declared.push_first.Goals as goal
 

@@ -1,9 +1,7 @@
-use Rattle.std.proofs.Common.{string_bytes, ◌∙◌, ◌++◌, List, ℕ, OnOk, [], ap, append-nil, append_assoc, length, map, refl, subst, sym}
+use Rattle.cli_declarations.proofs.Prelude.{string_bytes, ◌∙◌, ◌++◌, List, ℕ, OnOk, [], ap, append-nil, append_assoc, length, map, refl, subst, sym, IsHeadList, cut_text, Gains}
 use Rattle.full_names.specs.declared.limit.Scopes.TheVariants.{Written}
 use Rattle.navigation.specs.Keyed.{row_of}
 use Rattle.type_heads.specs.Heads.{IsInHead}
-use Rattle.cli_declarations.specs.Parts.{IsHeadList, cut_text}
-use Rattle.cli_declarations.specs.Texts.{Gains}
 use Rattle.type_heads.proofs.HeadLemmas.{enclosed_none, enclosed_some, is_none, is_some, listed_none}
 use Rattle.cli_declarations.proofs.PieceLemmas.{cut, on_ok, was_ok}
 use Rattle.cli_declarations.proofs.heads.push_listed.Goals as goal

@@ -1,8 +1,6 @@
-use Rattle.std.proofs.Common.{◌≡◌, ◌∙◌, ◌++◌, ◌≤◌, ℕ, List, OnOk, Result, ap, subst, sym}
-use Rattle.metadata.specs.Metadata.{Metadata}
+use Rattle.cli_declarations.proofs.Prelude.{◌≡◌, ◌∙◌, ◌++◌, ◌≤◌, ℕ, List, OnOk, Result, ap, subst, sym, Metadata, row_count}
 use Rattle.navigation.specs.declared.links.Link.{Link}
 use Rattle.navigation.specs.Linked.{table_of}
-use Rattle.opening.specs.Views.{row_count}
 use Rattle.cli_declarations.specs.Parts.{address_text, layout_text, marshal_text, offset_text, referring_text, value_text}
 use Rattle.cli_declarations.proofs.PieceLemmas.{on_ok}
 use Rattle.cli_declarations.proofs.linked.push_referring.Goals as goal

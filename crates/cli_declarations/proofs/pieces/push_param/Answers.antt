@@ -1,8 +1,4 @@
-use Rattle.std.proofs.Common.{string_bytes, ◌∙◌, ◌++◌, List, ℕ, ap, refl, append_assoc}
-use Rattle.std.specs.Prelude.{codes, decimal}
-use Rattle.table_schema.specs.declared.table.TableId.TheVariants.{Param}
-use Rattle.metadata.specs.Metadata.{cell_in}
-use Rattle.cli_declarations.specs.Parts.{number_of}
+use Rattle.cli_declarations.proofs.Prelude.{string_bytes, ◌∙◌, ◌++◌, List, ℕ, ap, refl, append_assoc, codes, decimal, Param, cell_in, number_of}
 use Rattle.cli_declarations.proofs.PieceLemmas.{on_ok}
 use Rattle.cli_declarations.proofs.pieces.push_param.Goals as goal
 

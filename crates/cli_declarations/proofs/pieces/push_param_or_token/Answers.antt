@@ -1,6 +1,4 @@
-use Rattle.std.proofs.Common.{◌≤◌, arith, inl}
-use Rattle.table_schema.specs.declared.table.TableId.TheVariants.{Param}
-use Rattle.metadata.specs.Metadata.{count_in}
+use Rattle.cli_declarations.proofs.Prelude.{◌≤◌, arith, inl, Param, count_in}
 use Rattle.cli_declarations.proofs.PieceLemmas.{on_ok}
 use Rattle.cli_declarations.proofs.pieces.push_param_or_token.Goals as goal
 

@@ -1,15 +1,9 @@
-use Rattle.std.proofs.Common.{OnOk, Option, refl, ap, string_bytes, subst}
-use Rattle.std.specs.Prelude.{decimal}
-use Rattle.table_schema.specs.declared.token.Token.{Token}
+use Rattle.cli_declarations.proofs.Prelude.{OnOk, Option, refl, ap, string_bytes, subst, decimal, Token, IsNameAfter, IsReferenceAfter, bytes_text, cut_text, guid_text_in_comment, key_text, quoted_text, token_text_after, shown, Gains, words_of, words_text}
 use Rattle.table_schema.specs.Tokens.{hexadecimal}
 use Rattle.full_names.specs.declared.quoted.NameKind.TheVariants.{Dotted}
 use Rattle.full_names.specs.Quoted.{name_text}
-use Rattle.cli_declarations.specs.Parts.{IsNameAfter, IsReferenceAfter, bytes_text, cut_text, guid_text_in_comment, key_text, quoted_text, token_text_after}
-use Rattle.cli_declarations.specs.Shown.{shown}
 use Rattle.cli_values.specs.Actions.{action_text}
 use Rattle.cli_values.specs.Constants.{bytes_text as value_bytes_text}
-use Rattle.cli_declarations.specs.Texts.{Gains}
-use Rattle.type_heads.specs.FlagWords.{words_of, words_text}
 use Rattle.cli_declarations.proofs.PieceLemmas.{part_gained, words_gained}
 use Rattle.cli_declarations.proofs.pieces.push_piece.Goals as goal
 

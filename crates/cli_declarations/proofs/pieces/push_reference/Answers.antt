@@ -1,10 +1,4 @@
-use Rattle.std.proofs.Common.{string_bytes, ◌≡◌, true, Bool, List, ℕ, refl, subst, sym, rules}
-use Rattle.table_schema.specs.declared.table.TableId.{TableId}
-use Rattle.table_schema.specs.declared.table.TableId.TheVariants.{Param}
-use Rattle.table_schema.specs.declared.token.Token.{Token}
-use Rattle.metadata.specs.Metadata.{Metadata}
-use Rattle.cli_declarations.specs.Parts.{IsReferenceIn, IsReferred, has_reference}
-use Rattle.cli_declarations.specs.Texts.{Gains}
+use Rattle.cli_declarations.proofs.Prelude.{string_bytes, ◌≡◌, true, Bool, List, ℕ, refl, subst, sym, rules, TableId, Param, Token, Metadata, IsReferenceIn, IsReferred, has_reference, Gains}
 use Rattle.cli_declarations.proofs.PieceLemmas.{on_ok}
 use Rattle.cli_declarations.proofs.pieces.push_reference.Goals as goal
 

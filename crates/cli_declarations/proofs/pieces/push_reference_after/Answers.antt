@@ -1,7 +1,4 @@
-use Rattle.std.proofs.Common.{string_bytes, [], OnOk, Option, refl, subst, sym, append-nil}
-use Rattle.table_schema.specs.declared.token.Token.{Token}
-use Rattle.cli_declarations.specs.Parts.{IsReferenceAfter, IsReferenceText}
-use Rattle.cli_declarations.specs.Texts.{Gains}
+use Rattle.cli_declarations.proofs.Prelude.{string_bytes, [], OnOk, Option, refl, subst, sym, append-nil, Token, IsReferenceAfter, IsReferenceText, Gains}
 use Rattle.cli_declarations.proofs.PieceLemmas.{gains_after}
 use Rattle.cli_declarations.proofs.pieces.push_reference_after.Goals as goal
 

@@ -1,7 +1,4 @@
-use Rattle.std.proofs.Common.{string_bytes, ◌≡◌, ◌∙◌, ◌≤◌, ◌++◌, ap, length, sym, arith, append-nil}
-use Rattle.std.proofs.lemmas.List.{length-map}
-use Rattle.std.proofs.lemmas.List.{take_all}
-use Rattle.type_heads.specs.FlagWords.{shown_word, words_of, words_text}
+use Rattle.cli_declarations.proofs.Prelude.{string_bytes, ◌≡◌, ◌∙◌, ◌≤◌, ◌++◌, ap, length, sym, arith, append-nil, length-map, take_all, shown_word, words_of, words_text}
 use Rattle.cli_declarations.proofs.PieceLemmas.{word_more}
 use Rattle.cli_declarations.proofs.pieces.push_words.Goals as goal
 

@@ -1,5 +1,4 @@
-use Rattle.std.proofs.Common.{string_bytes, ◌≡◌, ◌++◌, take}
-use Rattle.type_heads.specs.FlagWords.{words_of, words_text}
+use Rattle.cli_declarations.proofs.Prelude.{string_bytes, ◌≡◌, ◌++◌, take, words_of, words_text}
 use Rattle.cli_declarations.proofs.pieces.push_words.Given as goal
 
 abbrev pub invariant-loop-word : goal.invariant-loop-word

@@ -1,9 +1,4 @@
-use Rattle.std.proofs.Common.{string_bytes, ◌≡◌, [], ℕ, refl, sym, subst, append-nil}
-use Rattle.table_schema.specs.declared.table.TableId.{TableId}
-use Rattle.table_schema.specs.declared.table.TableId.TheVariants.{MethodDef, Property}
-use Rattle.metadata.specs.Metadata.{Metadata}
-use Rattle.cli_declarations.specs.Parts.{IsDeclarationAt}
-use Rattle.cli_declarations.specs.Texts.{Gains}
+use Rattle.cli_declarations.proofs.Prelude.{string_bytes, ◌≡◌, [], ℕ, refl, sym, subst, append-nil, TableId, MethodDef, Property, Metadata, IsDeclarationAt, Gains}
 use Rattle.cli_declarations.proofs.PieceLemmas.{on_ok}
 use Rattle.cli_declarations.proofs.signature_sink.push_declaration.Goals as goal
 

@@ -1,11 +1,6 @@
-use Rattle.std.proofs.Common.{string_bytes, ◌≡◌, List, ℕ, OnOk, refl, sym, subst}
-use Rattle.table_schema.specs.declared.column.ColumnKind.{ColumnKind}
+use Rattle.cli_declarations.proofs.Prelude.{string_bytes, ◌≡◌, List, ℕ, OnOk, refl, sym, subst, ColumnKind, Cell, ShowsSignature, IsSignatureOf, Gains}
 use Rattle.table_schema.specs.declared.column.ColumnKind.TheVariants as column
 use Rattle.table_schema.specs.declared.column.SigKind.{SigKind}
-use Rattle.metadata.specs.Cell.{Cell}
-use Rattle.reading.specs.Shown.{ShowsSignature}
-use Rattle.cli_declarations.specs.Parts.{IsSignatureOf}
-use Rattle.cli_declarations.specs.Texts.{Gains}
 use Rattle.cli_declarations.proofs.PieceLemmas.{some_gained}
 use Rattle.cli_declarations.proofs.signature_sink.push_in_column.Goals as goal
 

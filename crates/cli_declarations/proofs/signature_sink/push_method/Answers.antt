@@ -1,10 +1,4 @@
-use Rattle.std.proofs.Common.{arith}
-use Rattle.table_schema.specs.declared.table.TableId.TheVariants.{MethodDef}
-use Rattle.table_schema.specs.CellColumns.{cell_columns}
-use Rattle.metadata.specs.Lookups.{HasRow}
-use Rattle.metadata.specs.Metadata.{cell_in}
-use Rattle.opening.specs.Views.{row_count}
-use Rattle.full_names.proofs.PieceLemmas.{method_in}
+use Rattle.cli_declarations.proofs.Prelude.{arith, MethodDef, cell_columns, HasRow, cell_in, row_count, method_in}
 use Rattle.cli_declarations.proofs.PieceLemmas.{on_ok, some_gained}
 use Rattle.cli_declarations.proofs.signature_sink.push_method.Goals as goal
 

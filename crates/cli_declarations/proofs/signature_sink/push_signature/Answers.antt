@@ -1,11 +1,6 @@
-use Rattle.std.proofs.Common.{string_bytes, ◌≡◌, Bor, List, [], ℕ, refl, sym, subst, append-nil}
-use Rattle.table_schema.specs.declared.column.ColumnKind.{ColumnKind}
-use Rattle.metadata.specs.Cell.{Cell}
-use Rattle.metadata.specs.Metadata.{Metadata, cell_in}
+use Rattle.cli_declarations.proofs.Prelude.{string_bytes, ◌≡◌, Bor, List, [], ℕ, refl, sym, subst, append-nil, ColumnKind, Cell, Metadata, cell_in, Shows, ShowsSignature, IsSignatureOf}
 use Rattle.reading.specs.declared.cell_ref.CellRef.{CellRef}
 use Rattle.reading.specs.declared.cell_ref.CellRef.TheVariants as seen
-use Rattle.reading.specs.Shown.{Shows, ShowsSignature}
-use Rattle.cli_declarations.specs.Parts.{IsSignatureOf}
 use Rattle.cli_declarations.proofs.signature_sink.push_signature.Goals as goal
 
 no_signature : (model : Metadata) (kind : ColumnKind) (value : CellRef) (cell : Cell) → Shows kind value cell → ((blob : Bor (List ℕ)) → value ≡ seen.Sig blob → ⊥)

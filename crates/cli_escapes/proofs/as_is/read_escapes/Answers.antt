@@ -1,6 +1,4 @@
-use Rattle.std.proofs.Common.{◌≡◌, ◌∙◌, ◌++◌, ◌+◌, drop, ap, sym, refl}
-use Rattle.std.proofs.lemmas.List.{drop-drop}
-use Rattle.cli_escapes.specs.AsIs.{unescaped_after}
+use Rattle.cli_escapes.proofs.Prelude.{◌≡◌, ◌∙◌, ◌++◌, ◌+◌, drop, ap, sym, refl, drop-drop, unescaped_after}
 use Rattle.cli_escapes.proofs.AsIsLemmas.{all_read}
 use Rattle.cli_escapes.proofs.as_is.read_escapes.Goals as goal
 

@@ -1,5 +1,4 @@
-use Rattle.std.proofs.Common.{◌≡◌, ◌++◌, drop}
-use Rattle.cli_escapes.specs.AsIs.{unescaped, unescaped_after}
+use Rattle.cli_escapes.proofs.Prelude.{◌≡◌, ◌++◌, drop, unescaped, unescaped_after}
 use Rattle.cli_escapes.proofs.as_is.read_escapes.Given as goal
 
 abbrev pub invariant-loop-index : goal.invariant-loop-index

@@ -1,5 +1,4 @@
-use Rattle.std.proofs.Common.{◌≡◌, List, ℕ, subst}
-use Rattle.cli_escapes.specs.AsIs.{as_is}
+use Rattle.cli_escapes.proofs.Prelude.{◌≡◌, List, ℕ, subst, as_is}
 use Rattle.cli_escapes.proofs.AsIsLemmas.{plain_as_is}
 use Rattle.cli_escapes.proofs.as_is.text_as_is.Goals as goal
 

@@ -1,6 +1,4 @@
-use Rattle.std.proofs.Common.{◌≡◌, ◌∙◌, ◌++◌, ◌+◌, drop, ap, sym, refl}
-use Rattle.std.proofs.lemmas.List.{drop-drop}
-use Rattle.cli_escapes.specs.Letters.{readable_after}
+use Rattle.cli_escapes.proofs.Prelude.{◌≡◌, ◌∙◌, ◌++◌, ◌+◌, drop, ap, sym, refl, drop-drop, readable_after}
 use Rattle.cli_escapes.proofs.LetterLemmas.{all_shown}
 use Rattle.cli_escapes.proofs.letters.push_readable.Goals as goal
 

@@ -1,5 +1,4 @@
-use Rattle.std.proofs.Common.{◌≡◌, ◌++◌, drop}
-use Rattle.cli_escapes.specs.Letters.{readable, readable_after}
+use Rattle.cli_escapes.proofs.Prelude.{◌≡◌, ◌++◌, drop, readable, readable_after}
 use Rattle.cli_escapes.proofs.letters.push_readable.Given as goal
 
 abbrev pub invariant-loop-index : goal.invariant-loop-index

@@ -1,7 +1,5 @@
-use Rattle.std.proofs.Common.{string_bytes, ◌∙◌, ◌+◌, ap, drop, map, sym}
+use Rattle.cli_found.proofs.Prelude.{string_bytes, ◌∙◌, ◌+◌, ap, drop, map, sym, shown_word, with_words}
 use Rattle.std.proofs.lemmas.List.{drop_all, drop_more}
-use Rattle.type_heads.specs.FlagWords.{shown_word}
-use Rattle.cli_found.specs.Flags.{with_words}
 use Rattle.cli_found.proofs.flags.flag_text.Goals as goal
 
 pub loop-word-preserved : goal.loop-word-preserved

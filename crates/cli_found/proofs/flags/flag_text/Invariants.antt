@@ -1,6 +1,4 @@
-use Rattle.std.proofs.Common.{string_bytes, ◌≡◌, drop, map}
-use Rattle.type_heads.specs.FlagWords.{shown_word}
-use Rattle.cli_found.specs.Flags.{flag_text, with_words}
+use Rattle.cli_found.proofs.Prelude.{string_bytes, ◌≡◌, drop, map, shown_word, flag_text, with_words}
 use Rattle.cli_found.proofs.flags.flag_text.Given as goal
 
 -- with the words from this one on, the text is that of all words

@@ -1,9 +1,5 @@
-use Rattle.std.proofs.Common.{◌∙◌, ap, sym}
+use Rattle.cli_found.proofs.Prelude.{◌∙◌, ap, sym, option_map, seen, Region, cell_of}
 use Rattle.std.specs.Prelude.{option_and_then}
-use Rattle.std.specs.Option.{option_map}
-use Rattle.cli_regions.specs.Kept.{seen}
-use Rattle.cli_regions.specs.Regions.{Region}
-use Rattle.cli_found.specs.Found.{cell_of}
 use Rattle.cli_found.proofs.lines.innermost.Goals as goal
 
 pub returns-in-Some : goal.returns-in-Some

@@ -1,7 +1,4 @@
-use Rattle.std.proofs.Common.{◌∙◌, List, ap, map, sym}
-use Rattle.cli_regions.specs.Kept.{seen}
-use Rattle.cli_regions.specs.declared.searches.Structure.{Structure}
-use Rattle.cli_found.specs.Found.{last_of}
+use Rattle.cli_found.proofs.Prelude.{◌∙◌, List, ap, map, sym, seen, Structure, last_of}
 use Rattle.cli_found.proofs.FoundLemmas.{last_is, no_last}
 use Rattle.cli_found.proofs.lines.last_of.Goals as goal
 

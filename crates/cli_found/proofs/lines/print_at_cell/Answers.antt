@@ -1,11 +1,8 @@
-use Rattle.std.proofs.Common.{[], ◌∷◌, Option, inl, inr, refl, subst, sym}
+use Rattle.cli_found.proofs.Prelude.{[], ◌∷◌, Option, inl, inr, refl, subst, sym, TableCell, Prints, AreOfCell, cell_lines, offset_line}
 use Rattle.packed.proofs.RuleLemmas.{none_fails}
 use Rattle.packed.specs.Rule.{AllHold}
 use Rattle.metadata.specs.SourceAt.{SourceAt}
-use Rattle.schema.specs.declared.located_cells.TableCell.{TableCell}
 use Rattle.cli_input.specs.Checked.{rules_before, source_in}
-use Rattle.cli_lines.specs.Printed.{Prints}
-use Rattle.cli_found.specs.Found.{AreOfCell, cell_lines, offset_line}
 use Rattle.cli_found.proofs.lines.print_at_cell.Goals as goal
 
 pub returns-in-Ok : goal.returns-in-Ok

@@ -1,6 +1,4 @@
-use Rattle.std.proofs.Common.{◌∙◌, ℕ, Option, subst, sym}
-use Rattle.cli_lines.specs.Printed.{Prints}
-use Rattle.cli_found.specs.Found.{lines_of}
+use Rattle.cli_found.proofs.Prelude.{◌∙◌, ℕ, Option, subst, sym, Prints, lines_of}
 use Rattle.cli_found.proofs.lines.print_cell.Goals as goal
 
 pub returns-in-Some : goal.returns-in-Some

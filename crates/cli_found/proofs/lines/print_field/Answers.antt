@@ -1,7 +1,5 @@
 use Rattle.std.proofs.Common.{None, List, ◌∙◌, ap, subst, sym}
-use Rattle.cli_lines.specs.Lines.{Part}
-use Rattle.cli_lines.specs.Printed.{Prints}
-use Rattle.cli_found.specs.Kept.{lead_at, lines_at}
+use Rattle.cli_found.proofs.Prelude.{Part, Prints, lead_at, lines_at}
 use Rattle.cli_found.proofs.FoundLemmas.{field_at}
 use Rattle.cli_found.proofs.lines.print_field.Goals as goal
 

@@ -1,7 +1,4 @@
-use Rattle.std.proofs.Common.{Option, arith, map, subst}
-use Rattle.schema.specs.declared.located_cells.TableCell.{TableCell}
-use Rattle.cli_regions.specs.Kept.{seen}
-use Rattle.cli_found.specs.Found.{AreOfCell, field_lines}
+use Rattle.cli_found.proofs.Prelude.{Option, arith, map, subst, TableCell, seen, AreOfCell, field_lines}
 use Rattle.cli_found.proofs.FoundLemmas.{found_cell, found_field}
 use Rattle.cli_found.proofs.lines.print_found.Goals as goal
 

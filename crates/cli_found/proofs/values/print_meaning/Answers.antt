@@ -1,7 +1,5 @@
-use Rattle.std.proofs.Common.{◌∙◌, Option, subst, sym}
+use Rattle.cli_found.proofs.Prelude.{◌∙◌, Option, subst, sym, Adds, meaning_of}
 use Rattle.type_heads.specs.declared.flag_words.FlagTable.{FlagTable}
-use Rattle.cli_lines.specs.Printed.{Adds}
-use Rattle.cli_found.specs.Values.{meaning_of}
 use Rattle.cli_found.proofs.values.print_meaning.Goals as goal
 
 pub returns-in-None : goal.returns-in-None

@@ -1,7 +1,4 @@
-use Rattle.std.proofs.Common.{◌∙◌, Option, subst, sym}
-use Rattle.cli_lines.specs.Printed.{Prints}
-use Rattle.cli_regions.specs.Kept.{seen_what}
-use Rattle.cli_found.specs.Values.{lead_lines}
+use Rattle.cli_found.proofs.Prelude.{◌∙◌, Option, subst, sym, Prints, seen_what, lead_lines}
 use Rattle.cli_found.specs.declared.lines.Lead.{Lead}
 use Rattle.cli_found.proofs.values.print_number.Goals as goal
 

@@ -1,14 +1,9 @@
-use Rattle.std.proofs.Common.{◌≡◌, ◌∙◌, ◌&&◌, ◌∷◌, [], ℕ, List, ap, refl, subst, sym}
-use Rattle.std.proofs.lemmas.Bool.{and_from, and_left, and_right, cond-false, cond-true}
+use Rattle.cli_found.proofs.Prelude.{◌≡◌, ◌∙◌, ◌&&◌, ◌∷◌, [], ℕ, List, ap, refl, subst, sym, and_from, and_left, and_right, cond-false, cond-true, Part, spaced, Adds, kind_of, has_cell, refers}
 use Rattle.metadata.specs.Metadata.{cell_in}
 use Rattle.metadata.specs.Model.{IsModel}
 use Rattle.cli_cells.specs.RowLines.{cell_value}
 use Rattle.cli_cells.specs.Shown.{IsContent, content_of}
 use Rattle.cli_lines.specs.declared.names.Name.TheVariants as name
-use Rattle.cli_lines.specs.Lines.{Part, spaced}
-use Rattle.cli_lines.specs.Printed.{Adds}
-use Rattle.cli_found.specs.Found.{kind_of}
-use Rattle.cli_found.specs.Values.{has_cell, refers}
 use Rattle.cli_found.proofs.values.print_reference.Goals as goal
 
 pub returns-then-not-refers : goal.returns-then-not-refers

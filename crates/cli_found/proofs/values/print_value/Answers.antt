@@ -1,9 +1,4 @@
-use Rattle.std.proofs.Common.{Option, ◌∙◌, ap, subst, sym}
-use Rattle.std.specs.Option.{option_map}
-use Rattle.cli_lines.specs.Printed.{Prints}
-use Rattle.cli_regions.specs.Kept.{seen}
-use Rattle.cli_regions.specs.Regions.{Region}
-use Rattle.cli_found.specs.Values.{last_lines}
+use Rattle.cli_found.proofs.Prelude.{Option, ◌∙◌, ap, subst, sym, option_map, Prints, seen, Region, last_lines}
 use Rattle.cli_found.proofs.values.print_value.Goals as goal
 
 pub returns-in-Some : goal.returns-in-Some

@@ -1,8 +1,5 @@
-use Rattle.std.proofs.Common.{subst, sym}
-use Rattle.cli_lines.specs.Printed.{Adds}
-use Rattle.cli_regions.specs.Kept.{seen_what}
+use Rattle.cli_found.proofs.Prelude.{subst, sym, Adds, seen_what, meaning_in}
 use Rattle.cli_regions.specs.declared.searches.What.{What}
-use Rattle.cli_found.specs.Values.{meaning_in}
 use Rattle.cli_found.proofs.values.print_what.Goals as goal
 
 pub returns-in-Cell : goal.returns-in-Cell

@@ -1,5 +1,4 @@
-use Rattle.std.proofs.Common.{ap, sym}
-use Rattle.cli_info.specs.Attributes.{is_assembly_table}
+use Rattle.cli_info.proofs.Prelude.{ap, sym, is_assembly_table}
 use Rattle.cli_info.proofs.AttributeLemmas.{other_table}
 use Rattle.cli_info.proofs.attributes.is_assembly_table.Goals as goal
 

@@ -1,7 +1,6 @@
-use Rattle.std.proofs.Common.{◌∙◌, ap, sym}
+use Rattle.cli_info.proofs.Prelude.{◌∙◌, ap, sym, is_assembly}
 use Rattle.metadata.specs.Cell.{Cell}
 use Rattle.navigation.specs.Cells.{reference_in}
-use Rattle.cli_info.specs.Attributes.{is_assembly}
 use Rattle.cli_info.proofs.attributes.is_own.Goals as goal
 
 pub returns : goal.returns

@@ -1,7 +1,4 @@
-use Rattle.std.proofs.Common.{List, [], ◌∷◌, ap, subst}
-use Rattle.cli_lines.specs.Lines.{Part, Value, note}
-use Rattle.cli_lines.specs.Printed.{Adds}
-use Rattle.cli_info.specs.Attributes.{argument_parts}
+use Rattle.cli_info.proofs.Prelude.{List, [], ◌∷◌, ap, subst, Part, Value, note, Adds, argument_parts}
 use Rattle.cli_info.proofs.attributes.print_argument.Goals as goal
 
 pub returns-in-Some : goal.returns-in-Some

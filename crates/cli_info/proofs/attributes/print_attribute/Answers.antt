@@ -1,16 +1,6 @@
-use Rattle.std.proofs.Common.{◌∙◌, ℕ, List, Option, Some, ap, subst, sym}
-use Rattle.std.specs.Prelude.{option_and_then}
-use Rattle.table_schema.specs.declared.table.TableId.TheVariants.{CustomAttribute}
-use Rattle.table_schema.specs.declared.token.Token.{Token}
+use Rattle.cli_info.proofs.Prelude.{◌∙◌, ℕ, List, Option, Some, ap, subst, sym, option_and_then, CustomAttribute, Token, ArgumentType, Metadata, cell_in, bytes_of, Part, Prints, attribute_lines, lines_of_items, lines_of_value, texts_in}
 use Rattle.attribute_constructors.specs.Constructors.{type_of}
 use Rattle.attribute_constructors.specs.Params.{params_of_constructor}
-use Rattle.attribute_values.specs.declared.types.ArgumentType.{ArgumentType}
-use Rattle.metadata.specs.Metadata.{Metadata, cell_in}
-use Rattle.cli_declarations.specs.Parts.{bytes_of}
-use Rattle.cli_lines.specs.Lines.{Part}
-use Rattle.cli_lines.specs.Printed.{Prints}
-use Rattle.cli_info.specs.Attributes.{attribute_lines, lines_of_items, lines_of_value}
-use Rattle.cli_info.specs.Texts.{texts_in}
 use Rattle.cli_info.proofs.AttributeLemmas.{no_items}
 use Rattle.cli_info.proofs.attributes.print_attribute.Goals as goal
 

@@ -1,5 +1,4 @@
-use Rattle.std.proofs.Common.{ℕ, List, subst, sym}
-use Rattle.metadata.specs.Model.{IsModel}
+use Rattle.cli_info.proofs.Prelude.{ℕ, List, subst, sym, IsModel}
 use Rattle.cli_info.proofs.attributes.print_attributes.Goals as goal
 
 pub returns-in-Ok : goal.returns-in-Ok

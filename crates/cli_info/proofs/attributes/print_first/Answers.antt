@@ -1,11 +1,7 @@
-use Rattle.std.proofs.Common.{[], ◌≡◌, List, refl, subst, sym}
+use Rattle.cli_info.proofs.Prelude.{[], ◌≡◌, List, refl, subst, sym, view, Part, Adds, first_parts}
 use Rattle.attribute_values.specs.declared.item.Item.{Item}
 use Rattle.attribute_values.specs.declared.item.Item.TheVariants.{Fixed}
 use Rattle.attribute_values.specs.declared.item.Argument.{Argument}
-use Rattle.attribute_values.specs.Views.{view}
-use Rattle.cli_lines.specs.Lines.{Part}
-use Rattle.cli_lines.specs.Printed.{Adds}
-use Rattle.cli_info.specs.Attributes.{first_parts}
 use Rattle.cli_info.proofs.attributes.print_first.Goals as goal
 
 other_item : (item : Item) → ((argument : Argument) → item ≡ Fixed argument → ⊥) → [] ≡ first_parts (view item)

@@ -1,8 +1,5 @@
-use Rattle.std.proofs.Common.{subst, sym}
+use Rattle.cli_info.proofs.Prelude.{subst, sym, view, Adds, item_parts}
 use Rattle.attribute_values.specs.declared.item.Item.{Item}
-use Rattle.attribute_values.specs.Views.{view}
-use Rattle.cli_lines.specs.Printed.{Adds}
-use Rattle.cli_info.specs.Attributes.{item_parts}
 use Rattle.cli_info.proofs.attributes.print_item.Goals as goal
 
 pub returns-in-Fixed : goal.returns-in-Fixed

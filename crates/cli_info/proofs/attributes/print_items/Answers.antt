@@ -1,7 +1,5 @@
-use Rattle.std.proofs.Common.{List, subst, sym}
+use Rattle.cli_info.proofs.Prelude.{List, subst, sym, Adds, items_parts}
 use Rattle.attribute_values.specs.Items.{Item}
-use Rattle.cli_lines.specs.Printed.{Adds}
-use Rattle.cli_info.specs.Attributes.{items_parts}
 use Rattle.cli_info.proofs.attributes.print_items.Goals as goal
 
 pub returns-in-Some : goal.returns-in-Some

@@ -1,7 +1,4 @@
-use Rattle.std.proofs.Common.{◌≡◌, List, arith, ap, subst}
-use Rattle.cli_lines.specs.Lines.{Part}
-use Rattle.cli_lines.specs.Printed.{Prints}
-use Rattle.cli_info.specs.Attributes.{more_lines}
+use Rattle.cli_info.proofs.Prelude.{◌≡◌, List, arith, ap, subst, Part, Prints, more_lines}
 use Rattle.cli_info.proofs.AttributeLemmas.{some_more}
 use Rattle.cli_info.proofs.attributes.print_more.Goals as goal
 

@@ -1,8 +1,5 @@
-use Rattle.std.proofs.Common.{ℕ, List, [], ◌∷◌, codes, subst}
-use Rattle.cli_lines.specs.Lines.{Part, field, member, plain, text, word}
-use Rattle.cli_lines.specs.Printed.{Begins, Prints}
+use Rattle.cli_info.proofs.Prelude.{ℕ, List, [], ◌∷◌, codes, subst, Part, field, member, plain, text, word, Begins, Prints, attribute_line}
 use Rattle.cli_lines.specs.declared.names.Name.TheVariants as name
-use Rattle.cli_info.specs.Attributes.{attribute_line}
 use Rattle.cli_info.proofs.attributes.print_named.Goals as goal
 
 pub returns : goal.returns

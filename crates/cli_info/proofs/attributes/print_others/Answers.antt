@@ -1,8 +1,5 @@
-use Rattle.std.proofs.Common.{List, subst, sym}
-use Rattle.std.specs.Prelude.{flat_map}
+use Rattle.cli_info.proofs.Prelude.{List, subst, sym, flat_map, Adds, item_parts}
 use Rattle.attribute_values.specs.Items.{Item}
-use Rattle.cli_lines.specs.Printed.{Adds}
-use Rattle.cli_info.specs.Attributes.{item_parts}
 use Rattle.cli_info.proofs.attributes.print_others.Goals as goal
 
 pub loop-item-init : goal.loop-item-init

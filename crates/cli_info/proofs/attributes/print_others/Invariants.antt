@@ -1,6 +1,4 @@
-use Rattle.std.specs.Prelude.{flat_map}
-use Rattle.cli_lines.specs.Printed.{Adds, Printed}
-use Rattle.cli_info.specs.Attributes.{item_parts}
+use Rattle.cli_info.proofs.Prelude.{flat_map, Adds, Printed, item_parts}
 use Rattle.cli_info.proofs.attributes.print_others.Given as goal
 
 -- the parts of the items that are left complete those of all

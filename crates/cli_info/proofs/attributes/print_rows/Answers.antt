@@ -1,9 +1,4 @@
-use Rattle.std.proofs.Common.{◌∙◌, ◌≤◌, ◌<◌, ◌+◌, ℕ, List, arith, ap, subst, sym}
-use Rattle.table_schema.specs.declared.table.TableId.TheVariants.{CustomAttribute}
-use Rattle.metadata.specs.Metadata.{count_in}
-use Rattle.cli_lines.specs.Lines.{Part}
-use Rattle.cli_lines.specs.Printed.{Printed, Prints}
-use Rattle.cli_info.specs.Attributes.{more_lines, own_after}
+use Rattle.cli_info.proofs.Prelude.{◌∙◌, ◌≤◌, ◌<◌, ◌+◌, ℕ, List, arith, ap, subst, sym, CustomAttribute, count_in, Part, Printed, Prints, more_lines, own_after}
 use Rattle.cli_info.proofs.AttributeLemmas.{after_all, after_one, all_printed, lines_after, lines_of_all, one_more, one_printed}
 use Rattle.cli_info.proofs.attributes.print_rows.Goals as goal
 use Rattle.cli_info.proofs.attributes.print_rows.Goals.{then-is_own, then-own-lt-ATTRIBUTE_LIMIT, else-own-lt-ATTRIBUTE_LIMIT, else-is_own}

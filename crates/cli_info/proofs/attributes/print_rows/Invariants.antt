@@ -1,9 +1,4 @@
-use Rattle.std.proofs.Common.{◌≤◌}
-use Rattle.table_schema.specs.declared.table.TableId.TheVariants.{CustomAttribute}
-use Rattle.metadata.specs.Metadata.{Metadata, count_in}
-use Rattle.metadata.specs.Model.{IsModel}
-use Rattle.cli_lines.specs.Printed.{Printed, Prints}
-use Rattle.cli_info.specs.Attributes.{attributes_lines, own_after}
+use Rattle.cli_info.proofs.Prelude.{◌≤◌, CustomAttribute, Metadata, count_in, IsModel, Printed, Prints, attributes_lines, own_after}
 use Rattle.cli_info.proofs.AttributeLemmas.{lines_after}
 use Rattle.cli_info.proofs.attributes.print_rows.Given as goal
 

@@ -1,8 +1,5 @@
-use Rattle.std.proofs.Common.{List, [], ◌∷◌, ap, subst}
-use Rattle.cli_lines.specs.Lines.{Part, Value, field}
-use Rattle.cli_lines.specs.Printed.{Adds}
+use Rattle.cli_info.proofs.Prelude.{List, [], ◌∷◌, ap, subst, Part, Value, field, Adds, string_parts}
 use Rattle.cli_lines.specs.declared.names.Name.TheVariants as name
-use Rattle.cli_info.specs.Attributes.{string_parts}
 use Rattle.cli_info.proofs.attributes.print_string.Goals as goal
 
 pub returns-in-Some : goal.returns-in-Some

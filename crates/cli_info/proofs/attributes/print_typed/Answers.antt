@@ -1,8 +1,4 @@
-use Rattle.std.proofs.Common.{List, subst, sym}
-use Rattle.table_schema.specs.declared.table.TableId.{TableId}
-use Rattle.cli_lines.specs.Lines.{Part}
-use Rattle.cli_lines.specs.Printed.{Prints}
-use Rattle.cli_info.specs.Attributes.{lines_of_type}
+use Rattle.cli_info.proofs.Prelude.{List, subst, sym, TableId, Part, Prints, lines_of_type}
 use Rattle.cli_info.proofs.AttributeLemmas.{other_type}
 use Rattle.cli_info.proofs.attributes.print_typed.Goals as goal
 

@@ -1,7 +1,4 @@
-use Rattle.std.proofs.Common.{Option, subst, sym}
-use Rattle.cli_header.specs.declared.header.CliHeader.{CliHeader}
-use Rattle.cli_lines.specs.Printed.{Prints}
-use Rattle.cli_info.specs.HeaderLines.{header_lines}
+use Rattle.cli_info.proofs.Prelude.{Option, subst, sym, CliHeader, Prints, header_lines}
 use Rattle.cli_info.proofs.headers.print_headers.Goals as goal
 
 pub returns-in-Some : goal.returns-in-Some

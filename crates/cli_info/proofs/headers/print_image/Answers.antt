@@ -1,10 +1,7 @@
-use Rattle.std.proofs.Common.{◌≡◌, ◌∙◌, ◌+◌, [], ◌∷◌, List, ap, subst}
+use Rattle.cli_info.proofs.Prelude.{◌≡◌, ◌∙◌, ◌+◌, [], ◌∷◌, List, ap, subst, Part, Prints, debug_size, image_line, machine, wider_by}
 use Rattle.packed.specs.Number.{little_endian}
 use Rattle.packed.specs.Offsets.{part}
 use Rattle.pe.specs.Headers.{lfanew, magic}
-use Rattle.cli_lines.specs.Lines.{Part}
-use Rattle.cli_lines.specs.Printed.{Prints}
-use Rattle.cli_info.specs.HeaderLines.{debug_size, image_line, machine, wider_by}
 use Rattle.cli_info.proofs.headers.print_image.Goals as goal
 
 pub returns : goal.returns

@@ -1,6 +1,4 @@
-use Rattle.std.proofs.Common.{◌≡◌, ◌≤◌, ◌<◌, ◌∙◌, ap, arith}
-use Rattle.metadata.specs.Metadata.{count_in}
-use Rattle.cli_info.specs.Identities.{identity_line, table_of}
+use Rattle.cli_info.proofs.Prelude.{◌≡◌, ◌≤◌, ◌<◌, ◌∙◌, ap, arith, count_in, identity_line, table_of}
 use Rattle.cli_info.proofs.identities.print_identities.Goals as goal
 
 pub loop-earlier-init : goal.loop-earlier-init

@@ -1,7 +1,4 @@
-use Rattle.metadata.specs.Metadata.{Metadata, count_in}
-use Rattle.metadata.specs.Model.{IsModel}
-use Rattle.cli_lines.specs.Printed.{Printed, Prints, rows_after}
-use Rattle.cli_info.specs.Identities.{identity_line, identity_lines, table_of}
+use Rattle.cli_info.proofs.Prelude.{Metadata, count_in, IsModel, Printed, Prints, rows_after, identity_line, identity_lines, table_of}
 use Rattle.cli_info.proofs.identities.print_identities.Given as goal
 
 -- the lines of the rows that are left complete those of all

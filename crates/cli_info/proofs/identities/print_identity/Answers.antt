@@ -1,10 +1,6 @@
 use Rattle.std.proofs.Common.{◌≡◌, ◌∙◌, ◌+◌, ℕ, [], ◌∷◌, ◌++◌, List, codes, ap, arith, refl, subst}
-use Rattle.metadata.specs.Metadata.{cell_in}
-use Rattle.cli_lines.specs.Lines.{Part, word, member, text}
-use Rattle.cli_lines.specs.Printed.{Prints}
+use Rattle.cli_info.proofs.Prelude.{cell_in, Part, word, member, text, Prints, bytes_of, number_of, text_of, culture_text, first_cell, identity_line, shown_part, table_of, token_part, version_parts}
 use Rattle.cli_lines.specs.declared.names.Name.TheVariants as name
-use Rattle.cli_declarations.specs.Parts.{bytes_of, number_of, text_of}
-use Rattle.cli_info.specs.Identities.{culture_text, first_cell, identity_line, shown_part, table_of, token_part, version_parts}
 use Rattle.cli_info.proofs.identities.print_identity.Goals as goal
 
 pub returns : goal.returns

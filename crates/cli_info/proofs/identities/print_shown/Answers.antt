@@ -1,6 +1,4 @@
-use Rattle.std.proofs.Common.{◌∙◌, ◌∷◌, [], ap, subst}
-use Rattle.cli_lines.specs.Lines.{Part, note, plain}
-use Rattle.cli_lines.specs.Printed.{Adds}
+use Rattle.cli_info.proofs.Prelude.{◌∙◌, ◌∷◌, [], ap, subst, Part, note, plain, Adds}
 use Rattle.cli_info.proofs.identities.print_shown.Goals as goal
 
 pub returns-in-Ok : goal.returns-in-Ok

@@ -1,6 +1,4 @@
-use Rattle.std.proofs.Common.{◌∙◌, ◌∷◌, [], ap, subst}
-use Rattle.cli_lines.specs.Lines.{Part, field, plain}
-use Rattle.cli_lines.specs.Printed.{Adds}
+use Rattle.cli_info.proofs.Prelude.{◌∙◌, ◌∷◌, [], ap, subst, Part, field, plain, Adds}
 use Rattle.cli_lines.specs.declared.names.Name.TheVariants as name
 use Rattle.cli_info.proofs.identities.print_token.Goals as goal
 

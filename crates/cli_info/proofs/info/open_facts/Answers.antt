@@ -1,8 +1,6 @@
-use Rattle.std.proofs.Common.{◌∙◌, ℕ, List, Some, ap, subst, sym}
-use Rattle.metadata.specs.Model.{IsModel}
+use Rattle.cli_info.proofs.Prelude.{◌∙◌, ℕ, List, Some, ap, subst, sym, IsModel, AreFacts}
 use Rattle.metadata.specs.Streams.{root_in}
 use Rattle.cli_input.specs.declared.opened.Input.{Input}
-use Rattle.cli_info.specs.InfoLines.{AreFacts}
 use Rattle.cli_info.proofs.HeaderLemmas.{room_of}
 use Rattle.cli_info.proofs.info.open_facts.Goals as goal
 

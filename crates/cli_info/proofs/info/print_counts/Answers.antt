@@ -1,8 +1,5 @@
-use Rattle.std.proofs.Common.{[], ◌∷◌, List, codes, subst}
-use Rattle.cli_lines.specs.Lines.{Part, word, field, number}
-use Rattle.cli_lines.specs.Printed.{Prints}
+use Rattle.cli_info.proofs.Prelude.{[], ◌∷◌, List, codes, subst, Part, word, field, number, Prints, counts_line}
 use Rattle.cli_lines.specs.declared.names.Name.TheVariants as name
-use Rattle.cli_info.specs.InfoLines.{counts_line}
 use Rattle.cli_info.proofs.info.print_counts.Goals as goal
 
 pub returns : goal.returns

@@ -1,10 +1,6 @@
 use Rattle.std.proofs.Common.{ℕ, List, ◌∷◌, ◌++◌, subst}
-use Rattle.cli_lines.specs.Printed.{Prints}
+use Rattle.cli_info.proofs.Prelude.{Prints, attributes_lines, header_lines, identity_lines, counts_line, module_lines}
 use Rattle.cli_print.specs.RootLines.{version_line}
-use Rattle.cli_info.specs.Attributes.{attributes_lines}
-use Rattle.cli_info.specs.HeaderLines.{header_lines}
-use Rattle.cli_info.specs.Identities.{identity_lines}
-use Rattle.cli_info.specs.InfoLines.{counts_line, module_lines}
 use Rattle.cli_info.specs.declared.identities.Kind.TheVariants.{Assembly, Reference}
 use Rattle.cli_info.proofs.info.print_facts.Goals as goal
 

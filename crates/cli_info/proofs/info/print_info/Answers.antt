@@ -1,7 +1,4 @@
-use Rattle.std.proofs.Common.{Option, subst}
-use Rattle.cli_header.specs.declared.header.CliHeader.{CliHeader}
-use Rattle.cli_lines.specs.Printed.{Prints}
-use Rattle.cli_info.specs.InfoLines.{info_lines}
+use Rattle.cli_info.proofs.Prelude.{Option, subst, CliHeader, Prints, info_lines}
 use Rattle.cli_info.proofs.info.print_info.Goals as goal
 
 pub returns-clause-printed : goal.returns-clause-printed

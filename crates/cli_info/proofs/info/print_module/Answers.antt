@@ -1,11 +1,4 @@
-use Rattle.std.proofs.Common.{◌≡◌, [], ◌∷◌, List, true, false, arith, ap, cond, nat_lt, subst, sym}
-use Rattle.std.proofs.lemmas.Bool.{le-ltb, lt-ltb}
-use Rattle.table_schema.specs.declared.table.TableId.TheVariants.{Module}
-use Rattle.metadata.specs.Metadata.{cell_in, count_in}
-use Rattle.cli_lines.specs.Lines.{Part}
-use Rattle.cli_lines.specs.Printed.{Prints}
-use Rattle.cli_declarations.specs.Parts.{guid_of, text_of}
-use Rattle.cli_info.specs.InfoLines.{module_line}
+use Rattle.cli_info.proofs.Prelude.{◌≡◌, [], ◌∷◌, List, true, false, arith, ap, cond, nat_lt, subst, sym, le-ltb, lt-ltb, Module, cell_in, count_in, Part, Prints, guid_of, text_of, module_line}
 use Rattle.cli_info.proofs.info.print_module.Goals as goal
 
 pub returns-then-count-gt0 : goal.returns-then-count-gt0

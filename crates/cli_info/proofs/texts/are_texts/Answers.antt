@@ -1,6 +1,4 @@
-use Rattle.std.proofs.Common.{◌∙◌, ◌&&◌, ap, sym}
-use Rattle.std.specs.List.{list_all}
-use Rattle.cli_info.specs.Texts.{is_text}
+use Rattle.cli_info.proofs.Prelude.{◌∙◌, ◌&&◌, ap, sym, list_all, is_text}
 use Rattle.cli_info.proofs.texts.are_texts.Goals as goal
 
 pub loop-item-init : goal.loop-item-init

@@ -1,6 +1,4 @@
-use Rattle.std.proofs.Common.{◌≡◌}
-use Rattle.std.specs.List.{list_all}
-use Rattle.cli_info.specs.Texts.{is_text}
+use Rattle.cli_info.proofs.Prelude.{◌≡◌, list_all, is_text}
 use Rattle.cli_info.proofs.texts.are_texts.Given as goal
 
 abbrev pub invariant-loop-item : goal.invariant-loop-item

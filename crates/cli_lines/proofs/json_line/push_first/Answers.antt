@@ -1,9 +1,5 @@
-use Rattle.std.proofs.Common.{◌++◌, ◌∷◌, [], ◌∙◌, Some, ap, sym}
-use Rattle.std.proofs.lemmas.Result.{IfOk-weaker}
-use Rattle.json.specs.Print.{quoted}
+use Rattle.cli_lines.proofs.Prelude.{◌++◌, ◌∷◌, [], ◌∙◌, Some, ap, sym, IfOk-weaker, quoted, part_tokens, text, shown}
 use Rattle.json.specs.Token as json
-use Rattle.cli_lines.specs.Lines.{part_tokens, text}
-use Rattle.cli_lines.specs.Shown.{shown}
 use Rattle.cli_lines.specs.declared.line.Before.TheVariants as before
 use Rattle.cli_lines.specs.declared.names.Name.TheVariants as name
 use Rattle.cli_lines.proofs.JsonLemmas.{first_tokens, member_printed, value_prints}

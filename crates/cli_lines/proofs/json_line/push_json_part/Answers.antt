@@ -1,7 +1,4 @@
-use Rattle.std.proofs.Common.{◌++◌, ◌∙◌, ap, sym}
-use Rattle.cli_lines.specs.JsonTexts.{row_json, value_json}
-use Rattle.cli_lines.specs.Lines.{json_from, value_tokens}
-use Rattle.cli_lines.specs.Shown.{shown_value}
+use Rattle.cli_lines.proofs.Prelude.{◌++◌, ◌∙◌, ap, sym, row_json, value_json, json_from, value_tokens, shown_value}
 use Rattle.cli_lines.proofs.JsonLemmas.{member_printed, row_prints, row_tokens_are, row_values, tokens_are, units_printed, value_prints}
 use Rattle.cli_lines.specs.declared.names.Name.TheVariants as name
 use Rattle.cli_lines.proofs.json_line.push_json_part.Goals as goal

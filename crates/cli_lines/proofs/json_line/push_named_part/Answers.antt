@@ -1,8 +1,4 @@
-use Rattle.std.proofs.Common.{◌≡◌, ◌≢◌, ◌∙◌, List, Some, ℕ, ap, sym}
-use Rattle.std.proofs.lemmas.Result.{IfOk-weaker}
-use Rattle.cli_lines.specs.Lines.{part_tokens}
-use Rattle.cli_lines.specs.Shown.{shown, shown_file}
-use Rattle.cli_lines.specs.declared.line.Before.TheVariants.{Line}
+use Rattle.cli_lines.proofs.Prelude.{◌≡◌, ◌≢◌, ◌∙◌, List, Some, ℕ, ap, sym, IfOk-weaker, part_tokens, shown, shown_file, Line}
 use Rattle.cli_lines.proofs.LineLemmas.{both_ok, named_part}
 use Rattle.cli_lines.proofs.json_line.push_named_part.Goals as goal
 use Rattle.cli_lines.proofs.json_line.push_named_part.Goals.{in_default-via-in-Line+in_default, in_default-via-in_default}

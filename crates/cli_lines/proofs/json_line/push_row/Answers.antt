@@ -1,9 +1,4 @@
-use Rattle.std.proofs.Common.{◌++◌, ◌∙◌, ap, codes, decimal}
-use Rattle.json.specs.Print.{quoted}
-use Rattle.table_schema.specs.Tables.{table_name}
-use Rattle.table_schema.specs.Tokens.{token_text}
-use Rattle.cli_lines.specs.JsonTexts.{opener, plain_string}
-use Rattle.cli_lines.specs.Names.{row_start}
+use Rattle.cli_lines.proofs.Prelude.{◌++◌, ◌∙◌, ap, codes, decimal, quoted, table_name, token_text, opener, plain_string, row_start}
 use Rattle.cli_lines.proofs.TextLemmas.{on_ok}
 use Rattle.cli_lines.proofs.JsonLemmas.{row_joined}
 use Rattle.cli_lines.proofs.json_line.push_row.Goals as goal

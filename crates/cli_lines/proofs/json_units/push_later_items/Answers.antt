@@ -1,6 +1,4 @@
-use Rattle.std.proofs.Common.{◌++◌, ◌∷◌, [], ◌∙◌, ◌+◌, ◌≤◌, length, drop, get_or, ap, sym, decimal, arith}
-use Rattle.std.proofs.lemmas.List.{at_drop_more, drop_all}
-use Rattle.cli_lines.specs.JsonTexts.{items_json}
+use Rattle.cli_lines.proofs.Prelude.{◌++◌, ◌∷◌, [], ◌∙◌, ◌+◌, ◌≤◌, length, drop, get_or, ap, sym, decimal, arith, at_drop_more, drop_all, items_json}
 use Rattle.cli_lines.proofs.TextLemmas.{three_joined}
 use Rattle.cli_lines.proofs.json_units.push_later_items.Goals as goal
 

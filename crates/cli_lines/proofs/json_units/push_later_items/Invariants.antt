@@ -1,5 +1,4 @@
-use Rattle.std.proofs.Common.{◌≡◌, ◌++◌, drop}
-use Rattle.cli_lines.specs.JsonTexts.{items_json}
+use Rattle.cli_lines.proofs.Prelude.{◌≡◌, ◌++◌, drop, items_json}
 use Rattle.cli_lines.proofs.json_units.push_later_items.Given as goal
 
 abbrev pub invariant-loop-unit : goal.invariant-loop-unit

@@ -1,6 +1,4 @@
-use Rattle.std.proofs.Common.{◌≡◌, ◌++◌, ◌∙◌, ap, false, true, rules}
-use Rattle.std.specs.Char.Utf16.{has_unpaired_surrogate}
-use Rattle.cli_lines.specs.JsonTexts.{array_json, member_json, opener}
+use Rattle.cli_lines.proofs.Prelude.{◌≡◌, ◌++◌, ◌∙◌, ap, false, true, rules, has_unpaired_surrogate, array_json, member_json, opener}
 use Rattle.cli_lines.specs.declared.names.Name.TheVariants as name
 use Rattle.cli_lines.proofs.TextLemmas.{on_ok}
 use Rattle.cli_lines.proofs.JsonLemmas.{array_units, text_units}

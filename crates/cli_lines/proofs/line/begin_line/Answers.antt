@@ -1,8 +1,5 @@
-use Rattle.std.proofs.Common.{◌++◌, ◌∙◌, ap, append_assoc, map}
-use Rattle.std.proofs.lemmas.Result.{IfOk-weaker}
+use Rattle.cli_lines.proofs.Prelude.{◌++◌, ◌∙◌, ap, append_assoc, map, IfOk-weaker, lead, line_from, style, shown, shown_file}
 use Rattle.cli_lines.specs.declared.line.Before.TheVariants as before
-use Rattle.cli_lines.specs.Lines.{lead, line_from, style}
-use Rattle.cli_lines.specs.Shown.{shown, shown_file}
 use Rattle.cli_lines.proofs.line.begin_line.Goals as goal
 
 pub returns : goal.returns

@@ -1,6 +1,4 @@
-use Rattle.std.proofs.Common.{rules}
-use Rattle.cli_lines.specs.Lines.{part_text}
-use Rattle.cli_lines.specs.Shown.{shown}
+use Rattle.cli_lines.proofs.Prelude.{rules, part_text, shown}
 use Rattle.cli_lines.proofs.TextLemmas.{letters_shown}
 use Rattle.cli_lines.proofs.line.push_letters_part.Goals as goal
 

@@ -1,5 +1,4 @@
-use Rattle.std.proofs.lemmas.Result.{IfOk-weaker}
-use Rattle.cli_lines.specs.Shown.{shown, shown_file}
+use Rattle.cli_lines.proofs.Prelude.{IfOk-weaker, shown, shown_file}
 use Rattle.cli_lines.proofs.LineLemmas.{json_part, letters_part, text_part}
 use Rattle.cli_lines.proofs.line.push_part.Goals as goal
 

@@ -1,7 +1,4 @@
-use Rattle.std.proofs.Common.{◌+◌, ◌++◌, ◌∷◌, ◌∙◌, ap, drop, map, sym}
-use Rattle.cli_lines.specs.Lines.{line_from, style}
-use Rattle.cli_lines.specs.Shown.{shown, shown_file}
-use Rattle.std.proofs.lemmas.List.{at_drop_all, at_drop_more}
+use Rattle.cli_lines.proofs.Prelude.{◌+◌, ◌++◌, ◌∷◌, ◌∙◌, ap, drop, map, sym, line_from, style, shown, shown_file, at_drop_all, at_drop_more}
 use Rattle.cli_lines.proofs.line.push_parts.Goals as goal
 
 pub loop-part-preserved : goal.loop-part-preserved

@@ -1,7 +1,5 @@
-use Rattle.std.proofs.Common.{◌≡◌, ◌++◌, List, drop, map}
+use Rattle.cli_lines.proofs.Prelude.{◌≡◌, ◌++◌, List, drop, map, Part, line_from, style, shown, shown_file}
 use Rattle.cli_lines.specs.declared.line.Before.TheVariants as before
-use Rattle.cli_lines.specs.Lines.{Part, line_from, style}
-use Rattle.cli_lines.specs.Shown.{shown, shown_file}
 use Rattle.cli_lines.proofs.line.push_parts.Given as goal
 
 abbrev pub invariant-loop-part : goal.invariant-loop-part

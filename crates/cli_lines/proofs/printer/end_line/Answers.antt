@@ -1,6 +1,4 @@
-use Rattle.std.proofs.Common.{◌++◌, []}
-use Rattle.cli_lines.specs.Lines.{line_from, style}
-use Rattle.cli_sending.proofs.SentLemmas.{prefix_of_nothing}
+use Rattle.cli_lines.proofs.Prelude.{◌++◌, [], line_from, style, prefix_of_nothing}
 use Rattle.cli_lines.proofs.PrintedLemmas.{cut_moved}
 use Rattle.cli_lines.proofs.printer.end_line.Goals as goal
 

@@ -1,5 +1,4 @@
-use Rattle.std.proofs.Common.{◌∙◌, ◌++◌, ◌∷◌, [], ap, arith, sym}
-use Rattle.std.proofs.lemmas.Fmt.{decimal_digit}
+use Rattle.cli_lines.proofs.Prelude.{◌∙◌, ◌++◌, ◌∷◌, [], ap, arith, sym, decimal_digit}
 use Rattle.cli_lines.proofs.texts.push_decimal.Goals as goal
 
 pub returns-then-number-lt10 : goal.returns-then-number-lt10

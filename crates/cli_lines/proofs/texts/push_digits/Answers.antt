@@ -1,5 +1,4 @@
-use Rattle.std.proofs.Common.{◌++◌, ◌∷◌, [], arith}
-use Rattle.cli_lines.specs.Texts.{escaped_bytes}
+use Rattle.cli_lines.proofs.Prelude.{◌++◌, ◌∷◌, [], arith, escaped_bytes}
 use Rattle.cli_lines.proofs.TextLemmas.{appended, pair_of}
 use Rattle.cli_lines.proofs.texts.push_digits.Goals as goal
 

@@ -1,8 +1,4 @@
-use Rattle.std.proofs.Common.{◌++◌, ◌∷◌, [], ◌∙◌, ◌/◌, ◌%◌, ap, sym, arith, append_assoc}
-use Rattle.std.proofs.lemmas.Bool.{cond-false}
-use Rattle.table_schema.specs.Tokens.{hexadecimal}
-use Rattle.cli_faults.specs.Escaped.{is_printable}
-use Rattle.cli_lines.specs.Texts.{escaped_bytes}
+use Rattle.cli_lines.proofs.Prelude.{◌++◌, ◌∷◌, [], ◌∙◌, ◌/◌, ◌%◌, ap, sym, arith, append_assoc, cond-false, hexadecimal, is_printable, escaped_bytes}
 use Rattle.cli_lines.proofs.DigitLemmas.{unit_digits}
 use Rattle.cli_lines.proofs.TextLemmas.{on_ok}
 use Rattle.cli_lines.proofs.texts.push_unit.Goals as goal

@@ -1,6 +1,4 @@
-use Rattle.std.proofs.Common.{◌++◌, ◌∙◌, ap, sym, append_assoc, append-nil}
-use Rattle.std.specs.List.{flat_map}
-use Rattle.cli_faults.specs.Escaped.{escaped_unit}
+use Rattle.cli_lines.proofs.Prelude.{◌++◌, ◌∙◌, ap, sym, append_assoc, append-nil, flat_map, escaped_unit}
 use Rattle.cli_lines.proofs.texts.push_units.Goals as goal
 
 pub loop-unit-init : goal.loop-unit-init

@@ -1,6 +1,4 @@
-use Rattle.std.proofs.Common.{◌≡◌, ◌++◌}
-use Rattle.std.specs.List.{flat_map}
-use Rattle.cli_faults.specs.Escaped.{escaped_unit}
+use Rattle.cli_lines.proofs.Prelude.{◌≡◌, ◌++◌, flat_map, escaped_unit}
 use Rattle.cli_lines.proofs.texts.push_units.Given as goal
 
 abbrev pub invariant-loop-unit : goal.invariant-loop-unit

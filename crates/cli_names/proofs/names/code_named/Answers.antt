@@ -1,10 +1,6 @@
-use Rattle.std.proofs.Common.{arith, rules, ◌≡◌, ◌∙◌, ◌+◌, List, ℕ, Bool, false, None, ap, eqb, length, subst, sym, take, take_all}
-use Rattle.std.specs.Prelude.{find}
-use Rattle.std.specs.Str.{str_eq_ignore_ascii_case}
-use Rattle.packed.specs.Codes.{name_of, number_of_code}
+use Rattle.cli_names.proofs.Prelude.{arith, rules, ◌≡◌, ◌∙◌, ◌+◌, List, ℕ, Bool, false, None, ap, eqb, length, subst, sym, take, take_all, find, str_eq_ignore_ascii_case, name_of, number_of_code, codes_in_order}
 use Rattle.packed.specs.declared.code.FaultCode.{FaultCode}
 use Rattle.packed.specs.declared.code.FaultCode.TheVariants.{TooLong}
-use Rattle.cli_faults.specs.Codes.{codes_in_order}
 use Rattle.cli_names.proofs.Finding.{among_all, found_at, none_more, same_but_for_case}
 use Rattle.cli_names.proofs.names.code_named.Goals as goal
 

@@ -1,8 +1,4 @@
-use Rattle.std.proofs.Common.{◌≡◌, None, take}
-use Rattle.std.specs.Prelude.{find}
-use Rattle.std.specs.Str.{str_eq_ignore_ascii_case}
-use Rattle.packed.specs.Codes.{name_of, number_of_code}
-use Rattle.cli_faults.specs.Codes.{codes_in_order}
+use Rattle.cli_names.proofs.Prelude.{◌≡◌, None, take, find, str_eq_ignore_ascii_case, name_of, number_of_code, codes_in_order}
 use Rattle.cli_names.proofs.names.code_named.Given as goal
 
 abbrev pub invariant-loop-code : goal.invariant-loop-code

@@ -1,7 +1,4 @@
-use Rattle.std.proofs.Common.{◌≡◌, ◌∙◌, ◌+◌, List, ℕ, Bool, None, ap, subst, sym, take}
-use Rattle.std.specs.Prelude.{find}
-use Rattle.std.specs.Str.{str_eq_ignore_ascii_case}
-use Rattle.table_schema.specs.Tables.{table_name}
+use Rattle.cli_names.proofs.Prelude.{◌≡◌, ◌∙◌, ◌+◌, List, ℕ, Bool, None, ap, subst, sym, take, find, str_eq_ignore_ascii_case, table_name}
 use Rattle.table_schema.specs.declared.table.TableId.{TableId}
 use Rattle.table_schema.specs.declared.table.TableId.TheVariants.{Module}
 use Rattle.cli_names.proofs.Finding.{found_at, none_more, same_but_for_case}

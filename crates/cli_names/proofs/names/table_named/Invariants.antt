@@ -1,7 +1,4 @@
-use Rattle.std.proofs.Common.{◌≡◌, None, take}
-use Rattle.std.specs.Prelude.{find}
-use Rattle.std.specs.Str.{str_eq_ignore_ascii_case}
-use Rattle.table_schema.specs.Tables.{table_name, tables}
+use Rattle.cli_names.proofs.Prelude.{◌≡◌, None, take, find, str_eq_ignore_ascii_case, table_name, tables}
 use Rattle.cli_names.proofs.names.table_named.Given as goal
 
 abbrev pub invariant-loop-table : goal.invariant-loop-table

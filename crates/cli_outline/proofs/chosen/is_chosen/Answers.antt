@@ -1,12 +1,5 @@
-use Rattle.std.proofs.Common.{Bool, true, false, refl, subst, sym}
-use Rattle.std.specs.Prelude.{◌↔◌, IsTrue}
-use Rattle.std.proofs.lemmas.Bool.Decides.{Decides-at}
+use Rattle.cli_outline.proofs.Prelude.{Bool, true, false, refl, subst, sym, ◌↔◌, IsTrue, Decides-at, Token, Metadata, Wanted, BelongsTo, IsWantedRef, IsChosen}
 use Rattle.std.specs.Borrow.{Bor}
-use Rattle.table_schema.specs.declared.token.Token.{Token}
-use Rattle.metadata.specs.Metadata.{Metadata}
-use Rattle.cli_paths.specs.declared.refs.Wanted.{Wanted}
-use Rattle.cli_paths.specs.Refs.{BelongsTo, IsWantedRef}
-use Rattle.cli_outline.specs.Chosen.{IsChosen}
 use Rattle.cli_outline.specs.declared.chosen.Choice.{Choice}
 use Rattle.cli_outline.specs.declared.chosen.Choice.TheVariants as choice
 use Rattle.cli_outline.proofs.ChosenLemmas.{describes, some_decides}

@@ -1,11 +1,4 @@
-use Rattle.std.proofs.Common.{◌+◌, List, drop, subst, sym}
-use Rattle.std.specs.List.{flat_map}
-use Rattle.std.proofs.lemmas.List.{drop_all}
-use Rattle.table_schema.specs.declared.table.TableId.{TableId}
-use Rattle.table_schema.specs.declared.table.TableId.TheVariants.{Module}
-use Rattle.cli_outline.specs.Chosen.{PrintsChosen}
-use Rattle.cli_outline.specs.Orders.{row_in}
-use Rattle.cli_outline.specs.Outline.{all_rows}
+use Rattle.cli_outline.proofs.Prelude.{◌+◌, List, drop, subst, sym, flat_map, drop_all, TableId, Module, PrintsChosen, row_in, all_rows}
 use Rattle.cli_outline.proofs.PrintedLemmas.{items_left}
 use Rattle.cli_outline.proofs.chosen.print_chosen.Goals as goal
 

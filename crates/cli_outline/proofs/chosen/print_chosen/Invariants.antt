@@ -1,11 +1,5 @@
-use Rattle.std.proofs.Common.{drop}
-use Rattle.std.specs.List.{flat_map}
-use Rattle.metadata.specs.Metadata.{Metadata}
-use Rattle.metadata.specs.Model.{IsModel}
+use Rattle.cli_outline.proofs.Prelude.{drop, flat_map, Metadata, IsModel, PrintsChosen, row_in, all_rows}
 use Rattle.cli_lines.specs.Printed.{Printed}
-use Rattle.cli_outline.specs.Chosen.{PrintsChosen}
-use Rattle.cli_outline.specs.Orders.{row_in}
-use Rattle.cli_outline.specs.Outline.{all_rows}
 use Rattle.cli_outline.proofs.chosen.print_chosen.Given as goal
 
 -- the tables that are left complete the tables

@@ -1,7 +1,4 @@
-use Rattle.std.proofs.Common.{◌<◌, ◌≤◌, ◌+◌, ap, arith, subst, sym}
-use Rattle.metadata.specs.Metadata.{count_in}
-use Rattle.cli_outline.specs.Chosen.{PrintsChosen}
-use Rattle.cli_outline.specs.Orders.{row_in}
+use Rattle.cli_outline.proofs.Prelude.{◌<◌, ◌≤◌, ◌+◌, ap, arith, subst, sym, count_in, PrintsChosen, row_in}
 use Rattle.cli_outline.specs.Outline.{each_from, row_by, row_of}
 use Rattle.cli_outline.proofs.PrintedLemmas.{each_more, each_none}
 use Rattle.cli_outline.proofs.chosen.print_chosen_in.Goals as goal

@@ -1,10 +1,5 @@
-use Rattle.std.proofs.Common.{◌+◌}
-use Rattle.metadata.specs.Metadata.{Metadata, count_in}
-use Rattle.metadata.specs.Model.{IsModel}
+use Rattle.cli_outline.proofs.Prelude.{◌+◌, Metadata, count_in, IsModel, PrintsChosen, row_in, all_rows, each_from, row_by}
 use Rattle.cli_lines.specs.Printed.{Printed}
-use Rattle.cli_outline.specs.Chosen.{PrintsChosen}
-use Rattle.cli_outline.specs.Orders.{row_in}
-use Rattle.cli_outline.specs.Outline.{all_rows, each_from, row_by}
 use Rattle.cli_outline.proofs.chosen.print_chosen_in.Given as goal
 
 -- the rows that are left complete those of the table

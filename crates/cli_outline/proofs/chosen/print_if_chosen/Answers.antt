@@ -1,5 +1,4 @@
-use Rattle.std.proofs.Common.{◌∷◌, [], Bool, inl, inr, refl, subst}
-use Rattle.cli_outline.specs.Chosen.{IsChosen}
+use Rattle.cli_outline.proofs.Prelude.{◌∷◌, [], Bool, inl, inr, refl, subst, IsChosen}
 use Rattle.cli_outline.proofs.chosen.print_if_chosen.Goals as goal
 
 pub returns-then-is_chosen : goal.returns-then-is_chosen

@@ -1,5 +1,4 @@
-use Rattle.std.proofs.Common.{◌++◌, [], true, false, refl}
-use Rattle.cli_outline.specs.Chosen.{IsChosen}
+use Rattle.cli_outline.proofs.Prelude.{◌++◌, [], true, false, refl, IsChosen}
 use Rattle.cli_outline.proofs.ChosenLemmas.{chosen_append}
 use Rattle.cli_outline.proofs.laws.choices_follow.Goals as goal
 

@@ -1,6 +1,4 @@
-use Rattle.std.proofs.Common.{[], append-nil, codes, inl, inr, refl, sym}
-use Rattle.std.specs.Prelude.{string_bytes}
-use Rattle.std.proofs.lemmas.Bool.Decides.{Decides-at}
+use Rattle.cli_outline.proofs.Prelude.{[], append-nil, codes, inl, inr, refl, sym, string_bytes, Decides-at}
 use Rattle.cli_outline.proofs.ChosenLemmas.{some_decides}
 use Rattle.cli_outline.proofs.line.declare_row.Goals as goal
 

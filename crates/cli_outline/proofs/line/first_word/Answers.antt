@@ -1,7 +1,4 @@
-use Rattle.std.proofs.Common.{◌≡◌, ◌∙◌, ℕ, List, Some, None, take, ap, subst, sym}
-use Rattle.std.proofs.lemmas.List.{take_all}
-use Rattle.std.specs.List.{position}
-use Rattle.cli_outline.specs.Declarations.{ends_word}
+use Rattle.cli_outline.proofs.Prelude.{◌≡◌, ◌∙◌, ℕ, List, Some, None, take, ap, subst, sym, take_all, position, ends_word}
 use Rattle.cli_outline.proofs.DeclarationLemmas.{no_word_end, word_boundary, word_found}
 use Rattle.cli_outline.proofs.line.first_word.Goals as goal
 

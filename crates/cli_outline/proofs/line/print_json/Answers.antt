@@ -1,7 +1,5 @@
-use Rattle.std.proofs.Common.{◌∷◌, [], List, subst}
-use Rattle.cli_lines.specs.Lines.{Part, member, plain, token}
+use Rattle.cli_outline.proofs.Prelude.{◌∷◌, [], List, subst, Part, member, plain, token, Prints}
 use Rattle.cli_lines.specs.declared.names.Name.TheVariants as name
-use Rattle.cli_lines.specs.Printed.{Prints}
 use Rattle.cli_outline.proofs.line.print_json.Goals as goal
 
 pub returns : goal.returns

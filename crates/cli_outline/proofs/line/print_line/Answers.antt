@@ -1,8 +1,4 @@
-use Rattle.std.proofs.Common.{◌≡◌, ◌∙◌, ◌∷◌, [], Bool, List, ℕ, inl, inr, refl, subst, sym}
-use Rattle.std.specs.Prelude.{string_bytes}
-use Rattle.cli_lines.specs.declared.parts.Form.TheVariants.{Text, Letters, JsonLines}
-use Rattle.cli_lines.specs.Printed.{Prints}
-use Rattle.cli_outline.specs.Declarations.{declaration_line, has_directive, text_line}
+use Rattle.cli_outline.proofs.Prelude.{◌≡◌, ◌∙◌, ◌∷◌, [], Bool, List, ℕ, inl, inr, refl, subst, sym, string_bytes, Text, Letters, JsonLines, Prints, declaration_line, has_directive, text_line}
 use Rattle.cli_outline.proofs.DeclarationLemmas.{text_printed}
 use Rattle.cli_outline.proofs.PrintedLemmas.{row_printed, rows_failed}
 use Rattle.cli_outline.proofs.line.print_line.Goals as goal

@@ -1,9 +1,5 @@
-use Rattle.std.proofs.Common.{◌∙◌, ◌∷◌, [], List, ℕ, ap, subst}
-use Rattle.std.specs.Prelude.{string_bytes}
+use Rattle.cli_outline.proofs.Prelude.{◌∙◌, ◌∷◌, [], List, ℕ, ap, subst, string_bytes, as_is, Prints, declaration_line, json_line, unindented}
 use Rattle.std.proofs.lemmas.Str.Ascii.{trim_ascii_start_is}
-use Rattle.cli_escapes.specs.AsIs.{as_is}
-use Rattle.cli_lines.specs.Printed.{Prints}
-use Rattle.cli_outline.specs.Declarations.{declaration_line, json_line, unindented}
 use Rattle.cli_outline.proofs.DeclarationLemmas.{json_printed}
 use Rattle.cli_outline.proofs.line.print_named.Goals as goal
 

@@ -1,7 +1,4 @@
-use Rattle.std.proofs.Common.{◌∷◌, [], subst, sym}
-use Rattle.cli_lines.specs.Printed.{Prints}
-use Rattle.cli_outline.specs.Declarations.{text_line}
-use Rattle.cli_outline.specs.declared.source.Tokens.{Tokens}
+use Rattle.cli_outline.proofs.Prelude.{◌∷◌, [], subst, sym, Prints, text_line, Tokens}
 use Rattle.cli_outline.proofs.line.print_text.Goals as goal
 
 pub returns-in-Shown : goal.returns-in-Shown

@@ -1,10 +1,6 @@
-use Rattle.std.proofs.Common.{◌∙◌, ◌+◌, ap, drop, map}
-use Rattle.std.specs.List.{flat_map}
-use Rattle.table_schema.specs.declared.table.TableId.TheVariants.{MethodSemantics}
-use Rattle.metadata_source.specs.MemberLists.{member_of}
+use Rattle.cli_outline.proofs.Prelude.{◌∙◌, ◌+◌, ap, drop, map, flat_map, MethodSemantics, member_of, token_at}
 use Rattle.navigation.specs.Keyed.{row_of as row_in}
 use Rattle.cli_outline.specs.Outline.{accessed_rows, row_of, table_of}
-use Rattle.cli_declarations.specs.Parts.{token_at}
 use Rattle.cli_outline.proofs.PrintedLemmas.{found_left, none_left, rows_are}
 use Rattle.cli_outline.proofs.mapped.print_accessed.Goals as goal
 

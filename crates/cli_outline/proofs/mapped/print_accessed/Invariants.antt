@@ -1,12 +1,7 @@
-use Rattle.std.proofs.Common.{drop, map}
-use Rattle.std.specs.List.{flat_map}
-use Rattle.table_schema.specs.declared.table.TableId.TheVariants.{MethodSemantics}
-use Rattle.metadata.specs.Metadata.{Metadata}
-use Rattle.metadata.specs.Model.{IsModel}
+use Rattle.cli_outline.proofs.Prelude.{drop, map, flat_map, MethodSemantics, Metadata, IsModel, PrintsRows}
 use Rattle.navigation.specs.Keyed.{row_of as row_in}
 use Rattle.cli_lines.specs.Printed.{Printed}
 use Rattle.cli_outline.specs.Outline.{row_of}
-use Rattle.cli_outline.specs.Printed.{PrintsRows}
 use Rattle.cli_outline.proofs.mapped.print_accessed.Given as goal
 
 -- the accessors that are left complete them

@@ -1,11 +1,4 @@
-use Rattle.std.proofs.Common.{◌+◌, ◌≤◌, ◌∙◌, List, ℕ, ap, arith, sym, subst}
-use Rattle.table_schema.specs.declared.table.TableId.{TableId}
-use Rattle.metadata.specs.Model.{IsModel}
-use Rattle.metadata_source.specs.declared.member_lists.MemberList.{MemberList}
-use Rattle.metadata_source.specs.MemberLists.{member_of, owner_of}
-use Rattle.opening.specs.Views.{row_count}
-use Rattle.cli_outline.specs.Orders.{row_in}
-use Rattle.cli_outline.specs.Outline.{accessed_by, accessed_rows, each_from, run_start}
+use Rattle.cli_outline.proofs.Prelude.{◌+◌, ◌≤◌, ◌∙◌, List, ℕ, ap, arith, sym, subst, TableId, IsModel, MemberList, member_of, owner_of, row_count, row_in, accessed_by, accessed_rows, each_from, run_start}
 use Rattle.cli_outline.proofs.PrintedLemmas.{each_more, each_none, rows_are}
 use Rattle.cli_outline.proofs.mapped.print_map.Goals as goal
 

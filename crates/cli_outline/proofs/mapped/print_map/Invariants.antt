@@ -1,9 +1,5 @@
-use Rattle.metadata.specs.Metadata.{Metadata}
-use Rattle.metadata.specs.Model.{IsModel}
+use Rattle.cli_outline.proofs.Prelude.{Metadata, IsModel, row_in, accessed_by, each_from, mapped_rows, PrintsRows}
 use Rattle.cli_lines.specs.Printed.{Printed}
-use Rattle.cli_outline.specs.Orders.{row_in}
-use Rattle.cli_outline.specs.Outline.{accessed_by, each_from, mapped_rows}
-use Rattle.cli_outline.specs.Printed.{PrintsRows}
 use Rattle.cli_outline.proofs.mapped.print_map.Given as goal
 
 -- the rows that are left complete those of the map

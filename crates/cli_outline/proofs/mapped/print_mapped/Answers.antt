@@ -1,18 +1,8 @@
-use Rattle.std.proofs.Common.{◌≡◌, ◌∙◌, ◌+◌, ℕ, ap, drop, map, refl, sym, arith}
-use Rattle.std.specs.List.{flat_map}
-use Rattle.table_schema.specs.declared.table.TableId.TheVariants.{TypeDef}
-use Rattle.table_schema.specs.CellColumns.{cell_columns}
-use Rattle.opening.specs.Views.{row_count}
-use Rattle.metadata_source.specs.MemberLists.{owner_of}
+use Rattle.cli_outline.proofs.Prelude.{◌≡◌, ◌∙◌, ◌+◌, ℕ, ap, drop, map, refl, sym, arith, flat_map, TypeDef, cell_columns, row_count, owner_of, Events, Properties, row_in, link_of, list_of, mapped_rows, type_rows, token_at}
 use Rattle.navigation.specs.declared.links.Link.{Link}
 use Rattle.navigation.specs.Keyed.{row_of}
-use Rattle.navigation.specs.Linked.{linked, number_to}
-use Rattle.navigation.specs.Linked.{table_of as linked_table}
+use Rattle.navigation.specs.Linked.{linked, number_to, table_of as linked_table}
 use Rattle.cli_outline.specs.declared.mapped.Mapped.{Mapped}
-use Rattle.cli_outline.specs.declared.mapped.Mapped.TheVariants.{Events, Properties}
-use Rattle.cli_outline.specs.Orders.{row_in}
-use Rattle.cli_outline.specs.Outline.{link_of, list_of, mapped_rows, type_rows}
-use Rattle.cli_declarations.specs.Parts.{token_at}
 use Rattle.cli_outline.proofs.PrintedLemmas.{found_left, none_left, rows_are}
 use Rattle.cli_outline.proofs.mapped.print_mapped.Goals as goal
 

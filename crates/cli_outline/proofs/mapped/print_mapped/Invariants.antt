@@ -1,12 +1,6 @@
-use Rattle.std.proofs.Common.{◌≡◌, drop, map}
-use Rattle.std.specs.List.{flat_map}
-use Rattle.metadata.specs.Metadata.{Metadata}
-use Rattle.metadata.specs.Model.{IsModel}
+use Rattle.cli_outline.proofs.Prelude.{◌≡◌, drop, map, flat_map, Metadata, IsModel, row_in, mapped_rows, PrintsRows}
 use Rattle.navigation.specs.Keyed.{row_of}
 use Rattle.cli_lines.specs.Printed.{Printed}
-use Rattle.cli_outline.specs.Orders.{row_in}
-use Rattle.cli_outline.specs.Outline.{mapped_rows}
-use Rattle.cli_outline.specs.Printed.{PrintsRows}
 use Rattle.cli_outline.proofs.mapped.print_mapped.Given as goal
 
 -- the rows of the map that are left complete them

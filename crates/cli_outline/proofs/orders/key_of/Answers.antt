@@ -1,6 +1,4 @@
-use Rattle.std.proofs.Common.{◌∙◌, Bool, ap, subst, sym, take}
-use Rattle.std.proofs.lemmas.List.{take_min}
-use Rattle.cli_outline.specs.Orders.{IsKeyIf}
+use Rattle.cli_outline.proofs.Prelude.{◌∙◌, Bool, ap, subst, sym, take, take_min, IsKeyIf}
 use Rattle.cli_outline.proofs.OrderLemmas.{if_ok}
 use Rattle.cli_outline.proofs.orders.key_of.Goals as goal
 

@@ -1,10 +1,4 @@
-use Rattle.std.proofs.Common.{◌≡◌, ◌∙◌, ◌∷◌, ◌++◌, [], All, ◌+◌, ◌-◌, ap, arith, map, subst, sym}
-use Rattle.std.specs.List.{range_with_len}
-use Rattle.std.proofs.lemmas.List.{map-append}
-use Rattle.std.proofs.lemmas.List.Elements.{All-push}
-use Rattle.cli_outline.specs.Orders.{IsKey, IsKeyed, key_limit, row_of_keyed}
-use Rattle.cli_outline.specs.declared.orders.Keyed.{Keyed}
-use Rattle.cli_declarations.specs.Parts.{token_at}
+use Rattle.cli_outline.proofs.Prelude.{◌≡◌, ◌∙◌, ◌∷◌, ◌++◌, [], All, ◌+◌, ◌-◌, ap, arith, map, subst, sym, range_with_len, map-append, All-push, IsKey, IsKeyed, key_limit, row_of_keyed, Keyed, token_at}
 use Rattle.cli_outline.proofs.OrderLemmas.{range_more}
 use Rattle.cli_outline.proofs.orders.keyed_rows.Goals as goal
 

@@ -1,8 +1,4 @@
-use Rattle.std.proofs.Common.{◌≡◌, ◌-◌, ◌≤◌, All, map}
-use Rattle.std.specs.List.{range_with_len}
-use Rattle.metadata.specs.Metadata.{Metadata}
-use Rattle.metadata.specs.Model.{IsModel}
-use Rattle.cli_outline.specs.Orders.{IsKeyed, key_limit, row_of_keyed}
+use Rattle.cli_outline.proofs.Prelude.{◌≡◌, ◌-◌, ◌≤◌, All, map, range_with_len, Metadata, IsModel, IsKeyed, key_limit, row_of_keyed}
 use Rattle.cli_outline.proofs.orders.keyed_rows.Given as goal
 
 -- the rows so far have their keys

@@ -1,12 +1,4 @@
-use Rattle.std.proofs.Common.{◌≡◌, ◌∙◌, ◌≤◌, ◌+◌, ℕ, List, All, ap, arith, length, subst, subst₂, sym}
-use Rattle.std.proofs.lemmas.List.Elements.{All-append}
-use Rattle.table_schema.specs.declared.table.TableId.{TableId}
-use Rattle.metadata.specs.Metadata.{Metadata, count_in}
-use Rattle.metadata.specs.Model.{IsModel}
-use Rattle.metadata_source.specs.MemberLists.{member_of, owner_of}
-use Rattle.opening.specs.Views.{row_count}
-use Rattle.cli_outline.specs.Orders.{AreInOrder, IsRowIn}
-use Rattle.cli_outline.specs.Outline.{run_start}
+use Rattle.cli_outline.proofs.Prelude.{◌≡◌, ◌∙◌, ◌≤◌, ◌+◌, ℕ, List, All, ap, arith, length, subst, subst₂, sym, All-append, TableId, Metadata, count_in, IsModel, member_of, owner_of, row_count, AreInOrder, IsRowIn, run_start}
 use Rattle.cli_outline.proofs.OrderLemmas.{AreMembers, members_due, members_more}
 use Rattle.cli_outline.proofs.RunLemmas.{run_first, run_rises}
 use Rattle.cli_outline.proofs.orders.members_in_order.Goals as goal

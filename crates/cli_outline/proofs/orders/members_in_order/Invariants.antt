@@ -1,9 +1,4 @@
-use Rattle.std.proofs.Common.{◌≡◌, ◌≤◌, ◌+◌, All, length}
-use Rattle.metadata.specs.Metadata.{Metadata, count_in}
-use Rattle.metadata.specs.Model.{IsModel}
-use Rattle.metadata_source.specs.MemberLists.{member_of, owner_of}
-use Rattle.cli_outline.specs.Orders.{IsRowIn}
-use Rattle.cli_outline.specs.Outline.{run_start}
+use Rattle.cli_outline.proofs.Prelude.{◌≡◌, ◌≤◌, ◌+◌, All, length, Metadata, count_in, IsModel, member_of, owner_of, IsRowIn, run_start}
 use Rattle.cli_outline.proofs.OrderLemmas.{AreMembers}
 use Rattle.cli_outline.proofs.orders.members_in_order.Given as goal
 

@@ -1,11 +1,4 @@
-use Rattle.std.proofs.Common.{◌≡◌, ◌∙◌, ◌∷◌, [], ◌<◌, ◌≤◌, ◌+◌, ℕ, All, Some, ap, arith, get_or, length, length-append, subst, sym}
-use Rattle.std.specs.Prelude.{slice_get}
-use Rattle.table_schema.specs.declared.table.TableId.{TableId}
-use Rattle.table_schema.specs.declared.table.TableId.TheVariants.{Module}
-use Rattle.table_schema.specs.Tables.{table_index_of, tables}
-use Rattle.metadata.specs.Metadata.{Metadata}
-use Rattle.cli_outline.specs.declared.orders.TableOrder.{TableOrder}
-use Rattle.cli_outline.specs.Orders.{AreGrouped, IsRowIn, grouping_of, row_at}
+use Rattle.cli_outline.proofs.Prelude.{◌≡◌, ◌∙◌, ◌∷◌, [], ◌<◌, ◌≤◌, ◌+◌, ℕ, All, Some, ap, arith, get_or, length, length-append, subst, sym, slice_get, TableId, Module, table_index_of, tables, Metadata, TableOrder, AreGrouped, IsRowIn, grouping_of, row_at}
 use Rattle.cli_outline.proofs.OrderLemmas.{no_item, pushed, rows_at}
 use Rattle.cli_outline.proofs.orders.orders_by_name.Goals as goal
 

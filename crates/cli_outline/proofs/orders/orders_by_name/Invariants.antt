@@ -1,12 +1,4 @@
-use Rattle.std.proofs.Common.{◌≡◌, ℕ, All, Some, length}
-use Rattle.std.specs.Prelude.{slice_get, slice_index_or}
-use Rattle.table_schema.specs.declared.table.TableId.{TableId}
-use Rattle.table_schema.specs.declared.table.TableId.TheVariants.{Module}
-use Rattle.table_schema.specs.Tables.{tables}
-use Rattle.metadata.specs.Metadata.{Metadata}
-use Rattle.metadata.specs.Model.{IsModel}
-use Rattle.cli_outline.specs.declared.orders.TableOrder.{TableOrder}
-use Rattle.cli_outline.specs.Orders.{AreGrouped, IsRowIn, grouping_of, row_at}
+use Rattle.cli_outline.proofs.Prelude.{◌≡◌, ℕ, All, Some, length, slice_get, slice_index_or, TableId, Module, tables, Metadata, IsModel, TableOrder, AreGrouped, IsRowIn, grouping_of, row_at}
 use Rattle.cli_outline.proofs.orders.orders_by_name.Given as goal
 
 -- those of the first tables are known

@@ -1,11 +1,5 @@
-use Rattle.std.proofs.Common.{◌≡◌, ◌∙◌, ◌∷◌, ◌++◌, [], ◌+◌, ◌-◌, ap, append-nil, append_assoc, get_or, map, refl, rules, subst, sym, take}
-use Rattle.std.specs.List.{range_with_len}
-use Rattle.std.specs.List.Sorted.{IsPermutation}
+use Rattle.cli_outline.proofs.Prelude.{◌≡◌, ◌∙◌, ◌∷◌, ◌++◌, [], ◌+◌, ◌-◌, ap, append-nil, append_assoc, get_or, map, refl, rules, subst, sym, take, range_with_len, IsPermutation, map-append, take_all, take_more, All-permutation, IsPermutation-map, answers_always, ranks_by, IsKeyed, key_limit, keyed_cmp, row_of_keyed, Keyed}
 use Rattle.std.specs.Ordering.{is_lt}
-use Rattle.std.proofs.lemmas.List.{map-append, take_all, take_more}
-use Rattle.std.proofs.lemmas.List.Sorted.{All-permutation, IsPermutation-map, answers_always, ranks_by}
-use Rattle.cli_outline.specs.Orders.{IsKeyed, key_limit, keyed_cmp, row_of_keyed}
-use Rattle.cli_outline.specs.declared.orders.Keyed.{Keyed}
 use Rattle.cli_outline.proofs.OrderLemmas.{keyed_cmp_total, rows_within}
 use Rattle.cli_outline.proofs.orders.push_in_order.Goals as goal
 

@@ -1,5 +1,4 @@
-use Rattle.std.proofs.Common.{◌≡◌, ◌++◌, map, take}
-use Rattle.cli_outline.specs.Orders.{row_of_keyed}
+use Rattle.cli_outline.proofs.Prelude.{◌≡◌, ◌++◌, map, take, row_of_keyed}
 use Rattle.cli_outline.proofs.orders.push_in_order.Given as goal
 
 -- the first rows are appended

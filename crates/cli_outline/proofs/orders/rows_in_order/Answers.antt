@@ -1,8 +1,5 @@
-use Rattle.std.proofs.Common.{◌≡◌, ◌∙◌, ◌++◌, [], ℕ, List, All, ◌+◌, ap, refl, subst, subst₂, sym}
-use Rattle.table_schema.specs.declared.table.TableId.{TableId}
-use Rattle.metadata_source.specs.MemberLists.{member_of}
+use Rattle.cli_outline.proofs.Prelude.{◌≡◌, ◌∙◌, ◌++◌, [], ℕ, List, All, ◌+◌, ap, refl, subst, subst₂, sym, TableId, member_of, AreGrouped, IsOrdered, IsRowIn, row_at}
 use Rattle.cli_outline.specs.declared.orders.Grouping.{Grouping}
-use Rattle.cli_outline.specs.Orders.{AreGrouped, IsOrdered, IsRowIn, row_at}
 use Rattle.cli_outline.proofs.OrderLemmas.{appended, if_ok}
 use Rattle.cli_outline.proofs.orders.rows_in_order.Goals as goal
 

@@ -1,7 +1,5 @@
-use Rattle.std.proofs.Common.{◌≡◌, ◌∙◌, Some, ap, get_or, sym}
-use Rattle.std.specs.Prelude.{slice_get}
+use Rattle.cli_outline.proofs.Prelude.{◌≡◌, ◌∙◌, Some, ap, get_or, sym, slice_get, rows_of}
 use Rattle.std.proofs.lemmas.Option.{slice_get-get_or, slice_get_past}
-use Rattle.cli_outline.specs.Orders.{rows_of}
 use Rattle.cli_outline.proofs.orders.rows_of.Goals as goal
 
 pub returns-in-Some : goal.returns-in-Some

@@ -1,7 +1,4 @@
-use Rattle.std.proofs.Common.{ap}
-use Rattle.std.specs.List.{flat_map}
-use Rattle.cli_outline.specs.Orders.{row_in}
-use Rattle.cli_outline.specs.Outline.{all_rows, outline_rows}
+use Rattle.cli_outline.proofs.Prelude.{ap, flat_map, row_in, all_rows, outline_rows}
 use Rattle.cli_outline.proofs.ChosenLemmas.{all_printed}
 use Rattle.cli_outline.proofs.PrintedLemmas.{rows_are}
 use Rattle.cli_outline.proofs.outline.print_all.Goals as goal

@@ -1,5 +1,4 @@
-use Rattle.std.proofs.Common.{◌∙◌, List, ℕ, subst, sym}
-use Rattle.metadata.specs.Model.{IsModel}
+use Rattle.cli_outline.proofs.Prelude.{◌∙◌, List, ℕ, subst, sym, IsModel}
 use Rattle.cli_outline.proofs.PrintedLemmas.{options_are}
 use Rattle.cli_outline.proofs.outline.print_alone.Goals as goal
 

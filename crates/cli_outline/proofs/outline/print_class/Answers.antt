@@ -1,7 +1,4 @@
-use Rattle.std.proofs.Common.{◌≤◌, List, ℕ, sym, subst}
-use Rattle.table_schema.specs.declared.table.TableId.TheVariants.{TypeDef}
-use Rattle.opening.specs.Views.{row_count}
-use Rattle.cli_outline.specs.Outline.{class_rows}
+use Rattle.cli_outline.proofs.Prelude.{◌≤◌, List, ℕ, sym, subst, TypeDef, row_count, class_rows}
 use Rattle.cli_outline.proofs.outline.print_class.Goals as goal
 
 pub print_row-requires : goal.print_row-requires

@@ -1,9 +1,4 @@
-use Rattle.std.proofs.Common.{◌+◌, ◌≤◌, ◌<◌, ◌∙◌, List, ℕ, ap, sym, subst, arith}
-use Rattle.table_schema.specs.declared.table.TableId.TheVariants.{TypeDef}
-use Rattle.metadata.specs.Metadata.{count_in}
-use Rattle.opening.specs.Views.{row_count}
-use Rattle.cli_outline.specs.Orders.{row_in}
-use Rattle.cli_outline.specs.Outline.{class_by, class_rows, each_from}
+use Rattle.cli_outline.proofs.Prelude.{◌+◌, ◌≤◌, ◌<◌, ◌∙◌, List, ℕ, ap, sym, subst, arith, TypeDef, count_in, row_count, row_in, class_by, class_rows, each_from}
 use Rattle.cli_outline.proofs.PrintedLemmas.{each_more, each_none, rows_are}
 use Rattle.cli_outline.proofs.outline.print_classes.Goals as goal
 

@@ -1,11 +1,5 @@
-use Rattle.std.proofs.Common.{◌≡◌, ◌+◌}
-use Rattle.table_schema.specs.declared.table.TableId.TheVariants.{TypeDef}
-use Rattle.metadata.specs.Metadata.{Metadata, count_in}
-use Rattle.metadata.specs.Model.{IsModel}
+use Rattle.cli_outline.proofs.Prelude.{◌≡◌, ◌+◌, TypeDef, Metadata, count_in, IsModel, row_in, class_by, each_from, PrintsRows}
 use Rattle.cli_lines.specs.Printed.{Printed}
-use Rattle.cli_outline.specs.Orders.{row_in}
-use Rattle.cli_outline.specs.Outline.{class_by, each_from}
-use Rattle.cli_outline.specs.Printed.{PrintsRows}
 use Rattle.cli_outline.proofs.outline.print_classes.Given as goal
 
 -- the types that are left complete the types

@@ -1,13 +1,4 @@
-use Rattle.std.proofs.Common.{◌+◌, ◌≤◌, List, ℕ, Some, ap, arith, sym, subst}
-use Rattle.table_schema.specs.declared.table.TableId.{TableId}
-use Rattle.table_schema.specs.declared.table.TableId.TheVariants.{TypeDef}
-use Rattle.metadata.specs.Lookups.{HasRow}
-use Rattle.metadata.specs.Model.{IsModel}
-use Rattle.metadata_source.specs.MemberLists.{member_of}
-use Rattle.opening.specs.Views.{row_count}
-use Rattle.navigation.specs.Nesting.{type_token}
-use Rattle.full_names.specs.RowNames.{IsMemberOf}
-use Rattle.cli_outline.specs.Orders.{row_in}
+use Rattle.cli_outline.proofs.Prelude.{◌+◌, ◌≤◌, List, ℕ, Some, ap, arith, sym, subst, TableId, TypeDef, HasRow, IsModel, member_of, row_count, type_token, IsMemberOf, row_in}
 use Rattle.cli_outline.specs.Outline.{each_from, row_by, row_of}
 use Rattle.cli_outline.proofs.PrintedLemmas.{each_more, each_none, rows_are}
 use Rattle.cli_outline.proofs.RunLemmas.{is_member}

@@ -1,9 +1,5 @@
-use Rattle.metadata.specs.Metadata.{Metadata}
-use Rattle.metadata.specs.Model.{IsModel}
+use Rattle.cli_outline.proofs.Prelude.{Metadata, IsModel, row_in, each_from, members, row_by, PrintsRows}
 use Rattle.cli_lines.specs.Printed.{Printed}
-use Rattle.cli_outline.specs.Orders.{row_in}
-use Rattle.cli_outline.specs.Outline.{each_from, members, row_by}
-use Rattle.cli_outline.specs.Printed.{PrintsRows}
 use Rattle.cli_outline.proofs.outline.print_members.Given as goal
 
 -- the members that are left complete the members

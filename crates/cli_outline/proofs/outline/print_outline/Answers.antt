@@ -1,6 +1,4 @@
-use Rattle.std.proofs.Common.{List, [], ℕ, inl, inr, refl, sym, subst}
-use Rattle.metadata.specs.Model.{IsModel}
-use Rattle.cli_outline.specs.Orders.{row_in}
+use Rattle.cli_outline.proofs.Prelude.{List, [], ℕ, inl, inr, refl, sym, subst, IsModel, row_in}
 use Rattle.cli_outline.proofs.PrintedLemmas.{options_are}
 use Rattle.cli_outline.proofs.outline.print_outline.Goals as goal
 

@@ -1,5 +1,4 @@
-use Rattle.std.proofs.lemmas.Bool.Decides.{Decides-at}
-use Rattle.table_schema.specs.declared.table.TableId.TheVariants.{TypeDef}
+use Rattle.cli_outline.proofs.Prelude.{Decides-at, TypeDef}
 use Rattle.cli_outline.proofs.ChosenLemmas.{table_decides}
 use Rattle.cli_outline.proofs.SubjectLemmas.{alone_printed, declared_type, type_printed}
 use Rattle.cli_outline.proofs.outline.print_outline_of.Goals as goal

@@ -1,8 +1,4 @@
-use Rattle.std.proofs.Common.{List, [], ℕ, sym, subst}
-use Rattle.std.specs.List.{flat_map}
-use Rattle.metadata.specs.Model.{IsModel}
-use Rattle.cli_outline.specs.Orders.{row_in}
-use Rattle.cli_outline.specs.Outline.{all_rows, refs_rows}
+use Rattle.cli_outline.proofs.Prelude.{List, [], ℕ, sym, subst, flat_map, IsModel, row_in, all_rows, refs_rows}
 use Rattle.cli_outline.proofs.ChosenLemmas.{all_printed}
 use Rattle.cli_outline.proofs.PrintedLemmas.{options_are, rows_are, rows_failed}
 use Rattle.cli_outline.proofs.outline.print_refs.Goals as goal

@@ -1,5 +1,4 @@
-use Rattle.std.proofs.Common.{List, ℕ, subst, sym}
-use Rattle.metadata.specs.Model.{IsModel}
+use Rattle.cli_outline.proofs.Prelude.{List, ℕ, subst, sym, IsModel}
 use Rattle.cli_outline.specs.References.{types_and_members}
 use Rattle.cli_outline.proofs.PrintedLemmas.{options_are}
 use Rattle.cli_outline.proofs.SubjectLemmas.{chosen_meant, some_meant, some_wanted}

@@ -1,6 +1,4 @@
-use Rattle.std.proofs.Common.{◌∙◌, Option, subst, sym}
-use Rattle.table_schema.specs.declared.token.Token.{Token}
-use Rattle.full_names.specs.RowNames.{IsMemberOf}
+use Rattle.cli_outline.proofs.Prelude.{◌∙◌, Option, subst, sym, Token, IsMemberOf}
 use Rattle.cli_outline.proofs.PrintedLemmas.{row_hidden}
 use Rattle.cli_outline.proofs.outline.print_row.Goals as goal
 

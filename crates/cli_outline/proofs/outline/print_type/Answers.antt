@@ -1,11 +1,4 @@
-use Rattle.std.proofs.Common.{List, [], ℕ, inl, inr, refl, sym, subst}
-use Rattle.std.specs.List.{flat_map}
-use Rattle.table_schema.specs.declared.table.TableId.{TableId}
-use Rattle.metadata.specs.Model.{IsModel}
-use Rattle.navigation.specs.Nesting.{type_token}
-use Rattle.cli_outline.specs.Chosen.{AreDescribing}
-use Rattle.cli_outline.specs.Orders.{row_in}
-use Rattle.cli_outline.specs.Outline.{all_rows}
+use Rattle.cli_outline.proofs.Prelude.{List, [], ℕ, inl, inr, refl, sym, subst, flat_map, TableId, IsModel, type_token, AreDescribing, row_in, all_rows}
 use Rattle.cli_outline.proofs.PrintedLemmas.{options_are}
 use Rattle.cli_outline.proofs.outline.print_type.Goals as goal
 

@@ -1,9 +1,6 @@
-use Rattle.std.proofs.Common.{◌≤◌, arith}
+use Rattle.cli_outline.proofs.Prelude.{◌≤◌, arith, count_in, member_of, owner_of, row_count}
 use Rattle.std.proofs.Math.Logic.{∥∥₁_elim}
 use Rattle.std.specs.Coded.{le_prop}
-use Rattle.metadata.specs.Metadata.{count_in}
-use Rattle.metadata_source.specs.MemberLists.{member_of, owner_of}
-use Rattle.opening.specs.Views.{row_count}
 use Rattle.cli_outline.proofs.RunLemmas.{run_begins, run_ends, run_from, run_to}
 use Rattle.cli_outline.proofs.outline.run_of.Goals as goal
 

@@ -1,9 +1,6 @@
 use Rattle.std.proofs.Common.{◌≡◌, ◌∙◌, ◌+◌, ◌-◌, ◌<◌, ◌≤◌, ◌∷◌, [], ℕ, List, Option, None, IfSome, length, map, ap, subst, sym, arith, ⊎_elim, length-append}
-use Rattle.std.specs.Borrow.{Bor}
-use Rattle.std.proofs.lemmas.Bool.{cases_lt}
-use Rattle.std.proofs.lemmas.List.{length-map}
+use Rattle.cli_paths.proofs.Prelude.{Bor, cases_lt, length-map, AreBelow, ArePartsOf, HasPath, IsPartOf, is_slash}
 use Rattle.std.proofs.lemmas.List.Splits.{length-slice_split}
-use Rattle.cli_paths.specs.Paths.{AreBelow, ArePartsOf, HasPath, IsPartOf, is_slash}
 use Rattle.cli_paths.proofs.PathLemmas.{has_path, no_path, other_part, pushed, same_part}
 use Rattle.cli_paths.proofs.path.first_at.Goals as goal
 

@@ -1,7 +1,4 @@
-use Rattle.std.proofs.Common.{◌≡◌, ◌+◌, ◌<◌, ◌≤◌, ℕ, length, map}
-use Rattle.metadata.specs.Metadata.{Metadata}
-use Rattle.metadata.specs.Model.{IsModel}
-use Rattle.cli_paths.specs.Paths.{AreBelow, ArePartsOf, HasPath}
+use Rattle.cli_paths.proofs.Prelude.{◌≡◌, ◌+◌, ◌<◌, ◌≤◌, ℕ, length, map, Metadata, IsModel, AreBelow, ArePartsOf, HasPath}
 use Rattle.cli_paths.proofs.path.first_at.Given as goal
 
 -- no type in the rows so far has the path

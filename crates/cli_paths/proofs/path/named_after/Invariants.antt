@@ -1,7 +1,4 @@
-use Rattle.std.proofs.Common.{◌<◌, ◌≤◌, ℕ}
-use Rattle.metadata.specs.Metadata.{Metadata}
-use Rattle.metadata.specs.Model.{IsModel}
-use Rattle.cli_paths.specs.Paths.{HasName}
+use Rattle.cli_paths.proofs.Prelude.{◌<◌, ◌≤◌, ℕ, Metadata, IsModel, HasName}
 use Rattle.cli_paths.proofs.path.named_after.Given as goal
 
 -- no type in the rows so far has the name

@@ -1,5 +1,4 @@
-use Rattle.navigation.specs.Nesting.{IsEnclosed}
-use Rattle.full_names.specs.Names.{IsOuter}
+use Rattle.cli_paths.proofs.Prelude.{IsEnclosed, IsOuter}
 use Rattle.cli_paths.proofs.SubjectLemmas.{on_none, on_some}
 use Rattle.cli_paths.proofs.path.outer_type.Goals as goal
 

@@ -1,5 +1,4 @@
-use Rattle.std.proofs.Common.{ℕ, List, None, Some, map, subst, sym, arith}
-use Rattle.std.specs.Borrow.{Bor}
+use Rattle.cli_paths.proofs.Prelude.{ℕ, List, None, Some, map, subst, sym, arith, Bor}
 use Rattle.cli_paths.proofs.PathLemmas.{IsDepth, inner, off_path, outermost, part_at, past_all, tested}
 use Rattle.cli_paths.proofs.path.part_of.Goals as goal
 use Rattle.cli_paths.proofs.path.part_of.Goals.{in-Some+in_ok-earlier-in-Some, in-None}

@@ -1,5 +1,4 @@
-use Rattle.std.proofs.Common.{inl, inr}
-use Rattle.cli_paths.specs.Paths.{IsMeant, IsOnly}
+use Rattle.cli_paths.proofs.Prelude.{inl, inr, IsMeant, IsOnly}
 use Rattle.cli_paths.proofs.PathLemmas.{not_meant}
 use Rattle.cli_paths.proofs.SubjectLemmas.{on_none, on_some}
 use Rattle.cli_paths.proofs.path.type_meant.Goals as goal

@@ -1,7 +1,4 @@
-use Rattle.std.proofs.Common.{◌≡◌, ◌<◌, ◌+◌, ◌-◌, ℕ, suc, List, [], length, map, arith, subst, sym}
-use Rattle.std.specs.Borrow.{Bor}
-use Rattle.std.specs.Prelude.{slice_index_or}
-use Rattle.cli_paths.specs.Refs.{HasRefName, IsRefAt}
+use Rattle.cli_paths.proofs.Prelude.{◌≡◌, ◌<◌, ◌+◌, ◌-◌, ℕ, suc, List, [], length, map, arith, subst, sym, Bor, slice_index_or, HasRefName, IsRefAt}
 use Rattle.cli_paths.proofs.RefLemmas.{none_decides, part_text, ref_named, ref_scoped, ref_step}
 use Rattle.cli_paths.proofs.refs.is_ref_at.Goals as goal
 

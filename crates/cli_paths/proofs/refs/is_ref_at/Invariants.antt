@@ -1,9 +1,5 @@
-use Rattle.std.proofs.Common.{◌-◌, ◌≤◌, ◌↔◌, map}
-use Rattle.table_schema.specs.declared.table.TableId.TheVariants.{TypeRef}
-use Rattle.metadata.specs.Metadata.{Metadata}
-use Rattle.metadata.specs.Model.{IsModel}
+use Rattle.cli_paths.proofs.Prelude.{◌-◌, ◌≤◌, ◌↔◌, map, TypeRef, Metadata, IsModel, IsRefAt}
 use Rattle.opening.specs.Views.{row_count}
-use Rattle.cli_paths.specs.Refs.{IsRefAt}
 use Rattle.cli_paths.proofs.refs.is_ref_at.Given as goal
 
 -- the parts so far are the names of the TypeRef and of those that enclose it, up to this one

@@ -1,8 +1,6 @@
 use Rattle.std.proofs.Common.{IfNone, IfOk, IfSome, subst, sym}
-use Rattle.table_schema.specs.declared.token.Token.{Token}
-use Rattle.metadata.specs.Lookups.{HasRow}
+use Rattle.cli_paths.proofs.Prelude.{Token, HasRow, IsMeant}
 use Rattle.cli_paths.specs.declared.subject.Subject.{Subject}
-use Rattle.cli_paths.specs.Paths.{IsMeant}
 use Rattle.cli_paths.specs.Subjects.{IsSubject}
 use Rattle.cli_paths.proofs.SubjectLemmas.{no_path, on_none}
 use Rattle.cli_paths.proofs.subject.found_row.Goals as goal

@@ -1,5 +1,4 @@
-use Rattle.std.proofs.Common.{◌∷◌, refl}
-use Rattle.cli_print.specs.Explanations.{rule_line}
+use Rattle.cli_print.proofs.Prelude.{◌∷◌, refl, rule_line}
 use Rattle.cli_print.proofs.explanations.print_explanation.Goals as goal
 
 pub returns : goal.returns

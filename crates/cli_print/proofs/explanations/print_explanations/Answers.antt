@@ -1,5 +1,4 @@
-use Rattle.std.proofs.Common.{◌≡◌, ◌++◌, [], refl}
-use Rattle.std.proofs.lemmas.List.{nil_from_length}
+use Rattle.cli_print.proofs.Prelude.{◌≡◌, ◌++◌, [], refl, nil_from_length}
 use Rattle.cli_print.proofs.explanations.print_explanations.Goals as goal
 
 pub returns-in-None : goal.returns-in-None

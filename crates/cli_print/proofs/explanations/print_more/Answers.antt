@@ -1,5 +1,4 @@
-use Rattle.std.proofs.Common.{◌∷◌, [], refl}
-use Rattle.cli_print.specs.Explanations.{IsAnother}
+use Rattle.cli_print.proofs.Prelude.{◌∷◌, [], refl, IsAnother}
 use Rattle.cli_print.proofs.ExplanationLemmas.{each_more, each_none}
 use Rattle.cli_print.proofs.explanations.print_more.Goals as goal
 

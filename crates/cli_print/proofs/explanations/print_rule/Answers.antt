@@ -1,6 +1,5 @@
-use Rattle.std.proofs.Common.{◌≡◌, ◌∙◌, ap}
+use Rattle.cli_print.proofs.Prelude.{◌≡◌, ◌∙◌, ap, rule_line}
 use Rattle.packed.specs.Codes.{name_of, number_of_code}
-use Rattle.cli_print.specs.Explanations.{rule_line}
 use Rattle.cli_print.proofs.explanations.print_rule.Goals as goal
 
 pub returns : goal.returns

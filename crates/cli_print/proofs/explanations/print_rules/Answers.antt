@@ -1,5 +1,4 @@
-use Rattle.std.proofs.Common.{refl}
-use Rattle.cli_print.specs.Explanations.{IsRule}
+use Rattle.cli_print.proofs.Prelude.{refl, IsRule}
 use Rattle.cli_print.proofs.ExplanationLemmas.{each_more, each_none}
 use Rattle.cli_print.proofs.explanations.print_rules.Goals as goal
 

@@ -1,6 +1,4 @@
-use Rattle.std.proofs.Common.{drop}
-use Rattle.cli_lines.specs.Printed.{Printed}
-use Rattle.cli_print.specs.Explanations.{IsRule, PrintsEach}
+use Rattle.cli_print.proofs.Prelude.{drop, Printed, IsRule, PrintsEach}
 use Rattle.cli_print.proofs.explanations.print_rules.Given as goal
 
 -- the lines of the rules that are left complete the report

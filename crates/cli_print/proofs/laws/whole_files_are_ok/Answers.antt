@@ -1,5 +1,4 @@
-use Rattle.std.proofs.Common.{refl}
-use Rattle.cli_lines.specs.Lines.{line_from, styled_text}
+use Rattle.cli_print.proofs.Prelude.{refl, line_from, styled_text}
 use Rattle.cli_print.proofs.laws.whole_files_are_ok.Goals as goal
 
 pub returns : goal.returns

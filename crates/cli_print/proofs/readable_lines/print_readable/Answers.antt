@@ -1,8 +1,6 @@
-use Rattle.std.proofs.Common.{[], inl, inr, refl, subst}
-use Rattle.packed.proofs.RuleLemmas.{none_fails}
+use Rattle.cli_print.proofs.Prelude.{[], inl, inr, refl, subst, none_fails, AreOfImage}
 use Rattle.pe.specs.Image.{Image}
 use Rattle.pe.specs.Rules.{rules_of_image}
-use Rattle.cli_print.specs.ReadableLines.{AreOfImage}
 use Rattle.cli_print.proofs.readable_lines.print_readable.Goals as goal
 
 pub returns-in-Err : goal.returns-in-Err

@@ -1,10 +1,7 @@
-use Rattle.std.proofs.Common.{◌∙◌, ℕ, List, [], ◌∷◌, ap, inl, inr, refl, subst}
-use Rattle.packed.proofs.RuleLemmas.{none_fails}
+use Rattle.cli_print.proofs.Prelude.{◌∙◌, ℕ, List, [], ◌∷◌, ap, inl, inr, refl, subst, none_fails, AreOfRoot, cli_line}
 use Rattle.cli_header.specs.Rules.{rules_of_cli_header}
 use Rattle.cli_header.specs.declared.header.CliHeader.{CliHeader}
 use Rattle.metadata.specs.Streams.{root_in}
-use Rattle.cli_print.specs.ReadableLines.{AreOfRoot}
-use Rattle.cli_print.specs.RootLines.{cli_line}
 use Rattle.cli_print.proofs.readable_lines.print_readable_image.Goals as goal
 
 pub returns-in-Err : goal.returns-in-Err

@@ -1,6 +1,5 @@
-use Rattle.std.proofs.Common.{◌∙◌, [], ◌∷◌, ap, inl, inr, map, refl}
+use Rattle.cli_print.proofs.Prelude.{◌∙◌, [], ◌∷◌, ap, inl, inr, map, refl, stream_line, version_line}
 use Rattle.root.specs.Fields.{version_of}
-use Rattle.cli_print.specs.RootLines.{stream_line, version_line}
 use Rattle.cli_print.proofs.readable_lines.print_readable_root.Goals as goal
 
 pub returns-in-None : goal.returns-in-None

@@ -1,6 +1,4 @@
-use Rattle.std.proofs.Common.{map}
-use Rattle.cli_lines.specs.Printed.{Printed, Prints}
-use Rattle.cli_print.specs.RootLines.{stream_line}
+use Rattle.cli_print.proofs.Prelude.{map, Printed, Prints, stream_line}
 use Rattle.cli_print.proofs.root_lines.print_streams.Given as goal
 
 -- the lines of what is left complete the report

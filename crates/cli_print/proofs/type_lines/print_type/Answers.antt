@@ -1,7 +1,4 @@
-use Rattle.std.proofs.Common.{◌≤◌, ◌∙◌, arith}
-use Rattle.table_schema.specs.declared.table.TableId.TheVariants.{TypeDef, Field, MethodDef}
-use Rattle.metadata.specs.Metadata.{count_in}
-use Rattle.metadata.specs.Model.{IsModel}
+use Rattle.cli_print.proofs.Prelude.{◌≤◌, ◌∙◌, arith, TypeDef, Field, MethodDef, count_in, IsModel}
 use Rattle.opening.specs.Views.{row_count}
 use Rattle.cli_print.proofs.TypeLemmas.{run_counted}
 use Rattle.cli_print.proofs.type_lines.print_type.Goals as goal

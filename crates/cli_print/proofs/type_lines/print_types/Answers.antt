@@ -1,8 +1,5 @@
-use Rattle.std.proofs.Common.{◌≡◌, ◌+◌, ◌∙◌, arith}
+use Rattle.cli_print.proofs.Prelude.{◌≡◌, ◌+◌, ◌∙◌, arith, TypeDef, count_in, type_line}
 use Rattle.std.proofs.lemmas.List.FromFn.{map-range_with_len_more}
-use Rattle.table_schema.specs.declared.table.TableId.TheVariants.{TypeDef}
-use Rattle.metadata.specs.Metadata.{count_in}
-use Rattle.cli_print.specs.TypeLines.{type_line}
 use Rattle.cli_print.proofs.type_lines.print_types.Goals as goal
 
 pub loop-earlier-init : goal.loop-earlier-init

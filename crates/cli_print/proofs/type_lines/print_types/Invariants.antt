@@ -1,9 +1,4 @@
-use Rattle.std.proofs.Common.{◌≡◌, map}
-use Rattle.std.specs.List.{range_with_len}
-use Rattle.metadata.specs.Metadata.{Metadata}
-use Rattle.metadata.specs.Model.{IsModel}
-use Rattle.cli_lines.specs.Printed.{Prints}
-use Rattle.cli_print.specs.TypeLines.{type_line}
+use Rattle.cli_print.proofs.Prelude.{◌≡◌, map, range_with_len, Metadata, IsModel, Prints, type_line}
 use Rattle.cli_print.proofs.type_lines.print_types.Given as goal
 
 abbrev pub invariant-loop-earlier : goal.invariant-loop-earlier

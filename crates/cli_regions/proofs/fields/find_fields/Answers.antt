@@ -1,6 +1,4 @@
-use Rattle.std.proofs.Common.{ap, arith, map}
-use Rattle.std.proofs.lemmas.List.{drop_all, drop_more}
-use Rattle.cli_regions.specs.Fields.{fields_from, seen_field}
+use Rattle.cli_regions.proofs.Prelude.{ap, arith, map, drop_all, drop_more, fields_from, seen_field}
 use Rattle.cli_regions.proofs.LoopLemmas.{more_left, none_left}
 use Rattle.cli_regions.proofs.fields.find_fields.Goals as goal
 

@@ -1,5 +1,4 @@
-use Rattle.std.proofs.Common.{◌+◌, ◌*◌, ◌≤◌, drop, map}
-use Rattle.cli_regions.specs.Fields.{fields_from, seen_field}
+use Rattle.cli_regions.proofs.Prelude.{◌+◌, ◌*◌, ◌≤◌, drop, map, fields_from, seen_field}
 use Rattle.cli_regions.proofs.LoopLemmas.{Completes}
 use Rattle.cli_regions.proofs.fields.find_fields.Given as goal
 

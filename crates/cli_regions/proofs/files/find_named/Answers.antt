@@ -1,5 +1,4 @@
-use Rattle.std.proofs.Common.{◌∷◌, [], ◌∙◌, ap, append-nil, sym}
-use Rattle.cli_regions.specs.Regions.{region}
+use Rattle.cli_regions.proofs.Prelude.{◌∷◌, [], ◌∙◌, ap, append-nil, sym, region}
 use Rattle.cli_regions.proofs.FileLemmas.{named_found, named_missing}
 use Rattle.cli_regions.proofs.SearchLemmas.{adds_none, said_as}
 use Rattle.cli_regions.proofs.files.find_named.Goals as goal

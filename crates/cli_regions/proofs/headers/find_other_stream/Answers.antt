@@ -1,7 +1,4 @@
-use Rattle.std.proofs.Common.{◌∙◌, sym}
-use Rattle.std.proofs.lemmas.Bool.{cond-true}
-use Rattle.root.specs.Views.{view}
-use Rattle.cli_regions.specs.Headers.{is_standard, other_stream_regions}
+use Rattle.cli_regions.proofs.Prelude.{◌∙◌, sym, cond-true, view, is_standard, other_stream_regions}
 use Rattle.cli_regions.proofs.SearchLemmas.{adds_none, said_as}
 use Rattle.cli_regions.proofs.headers.find_other_stream.Goals as goal
 

@@ -1,6 +1,4 @@
-use Rattle.std.proofs.Common.{ap}
-use Rattle.std.specs.List.{flat_map}
-use Rattle.cli_regions.specs.Headers.{other_stream_regions}
+use Rattle.cli_regions.proofs.Prelude.{ap, flat_map, other_stream_regions}
 use Rattle.cli_regions.proofs.LoopLemmas.{more_left, none_left}
 use Rattle.cli_regions.proofs.SearchLemmas.{said_as}
 use Rattle.cli_regions.proofs.headers.find_other_streams.Goals as goal

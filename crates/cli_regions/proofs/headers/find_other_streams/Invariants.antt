@@ -1,5 +1,4 @@
-use Rattle.std.specs.List.{flat_map}
-use Rattle.cli_regions.specs.Headers.{other_stream_regions}
+use Rattle.cli_regions.proofs.Prelude.{flat_map, other_stream_regions}
 use Rattle.cli_regions.proofs.LoopLemmas.{Completes}
 use Rattle.cli_regions.proofs.headers.find_other_streams.Given as goal
 

@@ -1,7 +1,4 @@
-use Rattle.std.proofs.Common.{◌≡◌, ℕ, ◌+◌, ◌-◌, ◌*◌, ◌/◌, ◌∷◌, [], ap, arith, codes, length}
-use Rattle.root.specs.Views.{view}
-use Rattle.cli_regions.specs.Headers.{stream_header_regions}
-use Rattle.cli_regions.specs.Regions.{region}
+use Rattle.cli_regions.proofs.Prelude.{◌≡◌, ℕ, ◌+◌, ◌-◌, ◌*◌, ◌/◌, ◌∷◌, [], ap, arith, codes, length, view, stream_header_regions, region}
 use Rattle.cli_regions.proofs.SearchLemmas.{and_then, said_as}
 use Rattle.cli_regions.proofs.headers.find_stream_header.Goals as goal
 

@@ -1,8 +1,4 @@
-use Rattle.std.proofs.Common.{ap}
-use Rattle.std.specs.List.{flat_map}
-use Rattle.std.proofs.lemmas.List.Elements.{All-rest, All-same}
-use Rattle.root.specs.Views.{view}
-use Rattle.cli_regions.specs.Headers.{stream_header_regions}
+use Rattle.cli_regions.proofs.Prelude.{ap, flat_map, All-rest, All-same, view, stream_header_regions}
 use Rattle.cli_regions.proofs.HeaderLemmas.{EndsBy}
 use Rattle.cli_regions.proofs.LoopLemmas.{more_left, none_left}
 use Rattle.cli_regions.proofs.SearchLemmas.{said_as}

@@ -1,5 +1,4 @@
-use Rattle.std.specs.List.{All, flat_map}
-use Rattle.cli_regions.specs.Headers.{stream_header_regions}
+use Rattle.cli_regions.proofs.Prelude.{All, flat_map, stream_header_regions}
 use Rattle.cli_regions.proofs.HeaderLemmas.{EndsBy}
 use Rattle.cli_regions.proofs.LoopLemmas.{Completes}
 use Rattle.cli_regions.proofs.headers.find_stream_headers.Given as goal

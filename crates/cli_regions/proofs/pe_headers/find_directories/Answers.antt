@@ -1,11 +1,4 @@
-use Rattle.std.proofs.Common.{◌≡◌, ◌∙◌, ◌+◌, ◌-◌, ◌*◌, ◌/◌, ap, arith, codes, map, min, sym}
-use Rattle.std.proofs.lemmas.List.{take-map}
-use Rattle.packed.specs.Number.{little_endian}
-use Rattle.packed.specs.Offsets.{part}
-use Rattle.pe.specs.Headers.{directory_count, lfanew, sections_offset, wider}
-use Rattle.cli_regions.specs.Fields.{fields_from, seen_field}
-use Rattle.cli_regions.specs.PeHeaders.{directories_offset, directories_regions, whole_directories}
-use Rattle.cli_regions.specs.declared.fields.TheConstants.{DIRECTORIES, DIRECTORY_FIELDS}
+use Rattle.cli_regions.proofs.Prelude.{◌≡◌, ◌∙◌, ◌+◌, ◌-◌, ◌*◌, ◌/◌, ap, arith, codes, map, min, sym, take-map, little_endian, part, directory_count, lfanew, sections_offset, wider, fields_from, seen_field, directories_offset, directories_regions, whole_directories, DIRECTORIES, DIRECTORY_FIELDS}
 use Rattle.cli_regions.proofs.PeLemmas.{take_few}
 use Rattle.cli_regions.proofs.SearchLemmas.{and_then, said_as}
 use Rattle.cli_regions.proofs.pe_headers.find_directories.Goals as goal

@@ -1,9 +1,4 @@
-use Rattle.std.proofs.Common.{◌≡◌, [], ◌∙◌, ◌+◌, ◌-◌, ap, arith, codes}
-use Rattle.packed.specs.Number.{little_endian}
-use Rattle.packed.specs.Offsets.{part}
-use Rattle.pe.specs.Headers.{lfanew, optional_header_size}
-use Rattle.cli_regions.specs.Fields.{header_regions}
-use Rattle.cli_regions.specs.PeHeaders.{optional_fields, optional_header_regions}
+use Rattle.cli_regions.proofs.Prelude.{◌≡◌, [], ◌∙◌, ◌+◌, ◌-◌, ap, arith, codes, little_endian, part, lfanew, optional_header_size, header_regions, optional_fields, optional_header_regions}
 use Rattle.cli_regions.proofs.SearchLemmas.{said_as}
 use Rattle.cli_regions.proofs.pe_headers.find_optional_header.Goals as goal
 

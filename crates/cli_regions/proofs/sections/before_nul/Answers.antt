@@ -1,5 +1,4 @@
-use Rattle.std.proofs.Common.{◌∙◌, ap, sym, take}
-use Rattle.std.proofs.lemmas.List.{take_all}
+use Rattle.cli_regions.proofs.Prelude.{◌∙◌, ap, sym, take, take_all}
 use Rattle.cli_regions.proofs.NulLemmas.{nul_found, nul_missing}
 use Rattle.cli_regions.proofs.sections.before_nul.Goals as goal
 

@@ -1,12 +1,4 @@
-use Rattle.std.proofs.Common.{◌≡◌, ◌∷◌, [], ◌++◌, ◌∙◌, ◌+◌, ap, arith, codes, drop, length, map}
-use Rattle.std.proofs.lemmas.List.{length-drop, length-take}
-use Rattle.packed.specs.Offsets.{part}
-use Rattle.root.specs.Fields.{before_nul}
-use Rattle.pe.specs.Headers.{section_at}
-use Rattle.cli_regions.specs.Fields.{header_regions}
-use Rattle.cli_regions.specs.PeHeaders.{numbered, section_bytes, section_header_regions, section_offset, section_regions}
-use Rattle.cli_regions.specs.Regions.{region}
-use Rattle.cli_regions.specs.declared.fields.TheConstants.{SECTION_HEADER}
+use Rattle.cli_regions.proofs.Prelude.{◌≡◌, ◌∷◌, [], ◌++◌, ◌∙◌, ◌+◌, ap, arith, codes, drop, length, map, length-drop, length-take, part, before_nul, section_at, header_regions, numbered, section_bytes, section_header_regions, section_offset, section_regions, region, SECTION_HEADER}
 use Rattle.cli_regions.proofs.SearchLemmas.{said_as}
 use Rattle.cli_regions.proofs.sections.find_part.Goals as goal
 

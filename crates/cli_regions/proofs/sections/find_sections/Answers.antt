@@ -1,9 +1,4 @@
-use Rattle.std.proofs.Common.{◌≡◌, ◌∙◌, ◌<◌, ◌≤◌, ◌+◌, ◌-◌, ap, arith}
-use Rattle.std.specs.List.{flat_map, range_with_len}
-use Rattle.packed.specs.Number.{little_endian}
-use Rattle.packed.specs.Offsets.{part}
-use Rattle.pe.specs.Headers.{section_count}
-use Rattle.cli_regions.specs.Kept.{part_regions}
+use Rattle.cli_regions.proofs.Prelude.{◌≡◌, ◌∙◌, ◌<◌, ◌≤◌, ◌+◌, ◌-◌, ap, arith, flat_map, range_with_len, little_endian, part, section_count, part_regions}
 use Rattle.cli_regions.proofs.LoopLemmas.{more_left, none_left, range_end, range_next}
 use Rattle.cli_regions.proofs.SearchLemmas.{said_as}
 use Rattle.cli_regions.proofs.sections.find_sections.Goals as goal

@@ -1,7 +1,4 @@
-use Rattle.std.proofs.Common.{◌-◌}
-use Rattle.std.specs.List.{flat_map, range_with_len}
-use Rattle.pe.specs.Headers.{section_count}
-use Rattle.cli_regions.specs.Kept.{part_regions}
+use Rattle.cli_regions.proofs.Prelude.{◌-◌, flat_map, range_with_len, section_count, part_regions}
 use Rattle.cli_regions.proofs.LoopLemmas.{Completes}
 use Rattle.cli_regions.proofs.sections.find_sections.Given as goal
 

@@ -1,5 +1,4 @@
-use Rattle.std.proofs.Common.{◌∙◌, ap, take}
-use Rattle.root.specs.Fields.{before_nul}
+use Rattle.cli_regions.proofs.Prelude.{◌∙◌, ap, take, before_nul}
 use Rattle.cli_regions.proofs.sections.section_name.Goals as goal
 
 pub returns : goal.returns

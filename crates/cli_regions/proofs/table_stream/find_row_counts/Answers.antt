@@ -1,8 +1,5 @@
-use Rattle.std.proofs.Common.{◌∙◌, ◌+◌, ◌∷◌, ◌++◌, ap, arith, codes, drop, get_or, sym}
-use Rattle.std.proofs.lemmas.List.{drop_all, drop_more}
+use Rattle.cli_regions.proofs.Prelude.{◌∙◌, ◌+◌, ◌∷◌, ◌++◌, ap, arith, codes, drop, get_or, sym, drop_all, drop_more, counts_from, table_words, field_region}
 use Rattle.table_schema.specs.declared.table.TableId.TheVariants.{Module}
-use Rattle.cli_regions.specs.Headers.{counts_from, table_words}
-use Rattle.cli_regions.specs.Regions.{field_region}
 use Rattle.cli_regions.proofs.LoopLemmas.{more_left, none_left}
 use Rattle.cli_regions.proofs.SearchLemmas.{said_as}
 use Rattle.cli_regions.proofs.table_stream.find_row_counts.Goals as goal

@@ -1,6 +1,4 @@
-use Rattle.std.proofs.Common.{ℕ, subst, sym}
-use Rattle.resources.specs.Resources.{IsFirstNamed, IsLocation, elsewhere}
-use Rattle.cli_resources.specs.Unfound.{IsNowhere}
+use Rattle.cli_resources.proofs.Prelude.{ℕ, subst, sym, IsFirstNamed, IsLocation, elsewhere, IsNowhere}
 use Rattle.cli_resources.proofs.ResourceLemmas.{of_its_row}
 use Rattle.cli_resources.proofs.content.resource_named.Goals as goal
 

@@ -1,8 +1,5 @@
-use Rattle.std.proofs.Common.{◌∙◌, ap, sym}
-use Rattle.table_schema.specs.declared.table.TableId.{TableId}
+use Rattle.cli_resources.proofs.Prelude.{◌∙◌, ap, sym, TableId, field, text, holder}
 use Rattle.cli_lines.specs.declared.names.Name.TheVariants as name
-use Rattle.cli_lines.specs.Lines.{field, text}
-use Rattle.cli_resources.specs.ResourceLines.{holder}
 use Rattle.cli_resources.proofs.ResourceLemmas.{other_holder}
 use Rattle.cli_resources.proofs.lines.holder.Goals as goal
 

@@ -1,9 +1,5 @@
-use Rattle.std.proofs.Common.{[], ◌∷◌, List, subst, sym}
-use Rattle.cli_lines.specs.Lines.{Part}
-use Rattle.cli_lines.specs.Printed.{Prints}
-use Rattle.resources.specs.Resources.{seen}
+use Rattle.cli_resources.proofs.Prelude.{[], ◌∷◌, List, subst, sym, Part, Prints, seen, elsewhere_line, here_line, resource_line}
 use Rattle.resources.specs.declared.location.Location.{Location}
-use Rattle.cli_resources.specs.ResourceLines.{elsewhere_line, here_line, resource_line}
 use Rattle.cli_resources.proofs.lines.print_resource.Goals as goal
 
 pub returns-in-Here : goal.returns-in-Here

@@ -1,8 +1,5 @@
-use Rattle.std.proofs.Common.{◌∙◌, ℕ, List, ap, subst, sym}
-use Rattle.cli_header.specs.declared.header.CliHeader.{CliHeader}
-use Rattle.metadata.specs.Model.{IsModel}
+use Rattle.cli_resources.proofs.Prelude.{◌∙◌, ℕ, List, ap, subst, sym, CliHeader, IsModel, IsDirectoryOf}
 use Rattle.metadata.specs.Streams.{root_in}
-use Rattle.resources.specs.Resources.{IsDirectoryOf}
 use Rattle.cli_resources.proofs.opened.open_file.Goals as goal
 
 pub returns-clause-opened : goal.returns-clause-opened

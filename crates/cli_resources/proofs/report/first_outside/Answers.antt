@@ -1,7 +1,6 @@
-use Rattle.std.proofs.Common.{◌≡◌, ◌≤◌, ◌<◌, ℕ, Bool, ⊎_elim, arith, subst}
+use Rattle.cli_resources.proofs.Prelude.{◌≡◌, ◌≤◌, ◌<◌, ℕ, Bool, ⊎_elim, arith, subst, IsNowhere, IsLocated}
 use Rattle.std.proofs.lemmas.Bool.{cases_lt}
 use Rattle.std.specs.Prelude.{MatchBool}
-use Rattle.cli_resources.specs.Unfound.{IsNowhere, IsLocated}
 use Rattle.cli_resources.proofs.report.first_outside.Goals as goal
 
 pub loop-row-preserved : goal.loop-row-preserved

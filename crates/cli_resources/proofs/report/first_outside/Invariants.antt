@@ -1,9 +1,4 @@
-use Rattle.std.proofs.Common.{ℕ, ◌<◌, ◌≤◌, List}
-use Rattle.cli_header.specs.declared.header.CliHeader.{CliHeader}
-use Rattle.metadata.specs.Metadata.{Metadata}
-use Rattle.metadata.specs.Model.{IsModel}
-use Rattle.resources.specs.Resources.{IsDirectoryOf}
-use Rattle.cli_resources.specs.Unfound.{IsLocated}
+use Rattle.cli_resources.proofs.Prelude.{ℕ, ◌<◌, ◌≤◌, List, CliHeader, Metadata, IsModel, IsDirectoryOf, IsLocated}
 use Rattle.cli_resources.proofs.report.first_outside.Given as goal
 
 -- the resources in the rows before this one are somewhere

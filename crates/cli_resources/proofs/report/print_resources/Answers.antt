@@ -1,5 +1,4 @@
-use Rattle.std.proofs.Common.{ℕ, subst, sym}
-use Rattle.cli_resources.specs.Unfound.{IsFirstOutside}
+use Rattle.cli_resources.proofs.Prelude.{ℕ, subst, sym, IsFirstOutside}
 use Rattle.cli_resources.proofs.ResourceLemmas.{of_its_row}
 use Rattle.cli_resources.proofs.report.print_resources.Goals as goal
 

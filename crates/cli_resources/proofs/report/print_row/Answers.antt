@@ -1,7 +1,4 @@
-use Rattle.std.proofs.Common.{[], ◌∷◌, subst}
-use Rattle.cli_lines.specs.Printed.{Prints}
-use Rattle.resources.specs.Resources.{Where}
-use Rattle.cli_resources.specs.ResourceLines.{resource_line}
+use Rattle.cli_resources.proofs.Prelude.{[], ◌∷◌, subst, Prints, Where, resource_line}
 use Rattle.cli_resources.proofs.report.print_row.Goals as goal
 
 pub returns-in-Ok : goal.returns-in-Ok

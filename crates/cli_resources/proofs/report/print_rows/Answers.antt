@@ -1,8 +1,4 @@
-use Rattle.std.proofs.Common.{◌≡◌, ◌≤◌, ◌<◌, ◌+◌, ℕ, List, arith}
-use Rattle.table_schema.specs.declared.table.TableId.TheVariants.{ManifestResource}
-use Rattle.metadata.specs.Metadata.{count_in}
-use Rattle.cli_lines.specs.Lines.{Part}
-use Rattle.cli_resources.specs.ResourceLines.{resource_line}
+use Rattle.cli_resources.proofs.Prelude.{◌≡◌, ◌≤◌, ◌<◌, ◌+◌, ℕ, List, arith, ManifestResource, count_in, Part, resource_line}
 use Rattle.cli_resources.proofs.report.print_rows.Goals as goal
 
 pub loop-earlier-init : goal.loop-earlier-init

@@ -1,11 +1,4 @@
-use Rattle.std.proofs.Common.{ℕ, List}
-use Rattle.cli_header.specs.declared.header.CliHeader.{CliHeader}
-use Rattle.table_schema.specs.declared.table.TableId.TheVariants.{ManifestResource}
-use Rattle.metadata.specs.Metadata.{Metadata, count_in}
-use Rattle.metadata.specs.Model.{IsModel}
-use Rattle.resources.specs.Resources.{IsDirectoryOf, Where}
-use Rattle.cli_lines.specs.Printed.{Printed, Prints, rows_after}
-use Rattle.cli_resources.specs.ResourceLines.{AreLocations, resource_line, resource_lines}
+use Rattle.cli_resources.proofs.Prelude.{ℕ, List, CliHeader, ManifestResource, Metadata, count_in, IsModel, IsDirectoryOf, Where, Printed, Prints, rows_after, AreLocations, resource_line, resource_lines}
 use Rattle.cli_resources.proofs.report.print_rows.Given as goal
 
 -- the lines of the rows that are left complete those of all

@@ -1,7 +1,5 @@
-use Rattle.std.proofs.Common.{refl, sym}
-use Rattle.std.proofs.lemmas.Bool.Decides.{Decides-eqb}
+use Rattle.cli_roots.proofs.Prelude.{refl, sym, Decides-eqb, IsModel}
 use Rattle.std.proofs.lemmas.Slice.Eq.{slice_eq-Decides}
-use Rattle.metadata.specs.Model.{IsModel}
 use Rattle.cli_roots.proofs.Comparing.{ends_first, ends_second, ends_shown}
 use Rattle.cli_roots.proofs.compare.compare.Goals as goal
 

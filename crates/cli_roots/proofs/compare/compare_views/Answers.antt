@@ -1,8 +1,5 @@
-use Rattle.std.proofs.Common.{◌∙◌, Err, ap, length, sym, arith}
-use Rattle.std.proofs.lemmas.Bool.Decides.{Decides-eqb}
-use Rattle.metadata.specs.Model.{IsModel}
+use Rattle.cli_roots.proofs.Prelude.{◌∙◌, Err, ap, length, sym, arith, Decides-eqb, IsModel, compare_text}
 use Rattle.cli_faults.specs.declared.failure.Failure.TheVariants.{OutOfMemory}
-use Rattle.cli_roots.specs.Compared.{compare_text}
 use Rattle.cli_roots.proofs.Comparing.{are_same, compared, prefix_of_none, shows_cut, shows_different, shows_same}
 use Rattle.cli_roots.proofs.compare.compare_views.Goals as goal
 

@@ -1,6 +1,4 @@
-use Rattle.std.proofs.Common.{ℕ, List, None, Some, refl, subst, sym}
-use Rattle.cli_input.specs.declared.opened.Input.TheVariants.{File}
-use Rattle.cli_roots.specs.Rewritten.{IsRewritten}
+use Rattle.cli_roots.proofs.Prelude.{ℕ, List, None, Some, refl, subst, sym, File, IsRewritten}
 use Rattle.cli_roots.proofs.Embeddings.{put_nothing, put_with}
 use Rattle.cli_roots.proofs.embed.embed.Goals as goal
 

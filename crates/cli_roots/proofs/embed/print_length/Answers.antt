@@ -1,8 +1,4 @@
-use Rattle.std.proofs.Common.{◌≡◌, ◌-◌, ℕ, [], ◌∷◌, arith, length, subst}
-use Rattle.cli_lines.specs.Lines.{report_text}
-use Rattle.cli_sending.specs.Sent.{Sent}
-use Rattle.embedding.specs.Planned.{result_of}
-use Rattle.cli_roots.specs.Embedded.{embed_line}
+use Rattle.cli_roots.proofs.Prelude.{◌≡◌, ◌-◌, ℕ, [], ◌∷◌, arith, length, subst, report_text, Sent, result_of, embed_line}
 use Rattle.cli_roots.proofs.embed.print_length.Goals as goal
 
 pub returns-clause-sent : goal.returns-clause-sent

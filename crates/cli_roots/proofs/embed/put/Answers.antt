@@ -1,7 +1,4 @@
-use Rattle.std.proofs.Common.{inl, refl}
-use Rattle.std.specs.Io.KnownBytes.{Appends}
-use Rattle.cli_roots.specs.Embedded.{IsPutDone, failure_of}
-use Rattle.cli_roots.specs.Runs.{StopsBy}
+use Rattle.cli_roots.proofs.Prelude.{inl, refl, Appends, IsPutDone, failure_of, StopsBy}
 use Rattle.cli_roots.proofs.Embeddings.{not_done, planned_quiet, put_sent, put_stopped, put_unsent}
 use Rattle.cli_roots.proofs.embed.put.Goals as goal
 

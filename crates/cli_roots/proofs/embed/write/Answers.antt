@@ -1,7 +1,4 @@
-use Rattle.std.proofs.Common.{◌≡◌, ℕ, List, subst}
-use Rattle.cli_faults.specs.Status.{IsUnwritten}
-use Rattle.cli_output.specs.Written.{IsGiven}
-use Rattle.embedding.specs.Planned.{result_of}
+use Rattle.cli_roots.proofs.Prelude.{◌≡◌, ℕ, List, subst, IsUnwritten, IsGiven, result_of}
 use Rattle.cli_roots.proofs.Embeddings.{line_cut, line_done}
 use Rattle.cli_roots.proofs.embed.write.Goals as goal
 

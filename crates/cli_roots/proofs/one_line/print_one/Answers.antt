@@ -1,6 +1,4 @@
-use Rattle.std.proofs.Common.{[], ◌∷◌, map, rules, subst}
-use Rattle.cli_lines.specs.Lines.{report_text}
-use Rattle.cli_sending.specs.Sent.{Sent}
+use Rattle.cli_roots.proofs.Prelude.{[], ◌∷◌, map, rules, subst, report_text, Sent}
 use Rattle.cli_lines.specs.Shown.{shown}
 use Rattle.cli_roots.proofs.one_line.print_one.Goals as goal
 

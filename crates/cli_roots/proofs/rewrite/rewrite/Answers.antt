@@ -1,5 +1,4 @@
-use Rattle.std.proofs.Common.{ℕ, List, subst}
-use Rattle.cli_output.specs.Written.{IsGiven}
+use Rattle.cli_roots.proofs.Prelude.{ℕ, List, subst, IsGiven}
 use Rattle.cli_roots.proofs.Rewritings.{printed_cut, printed_done}
 use Rattle.cli_roots.proofs.rewrite.rewrite.Goals as goal
 

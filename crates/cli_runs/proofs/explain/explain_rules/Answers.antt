@@ -1,9 +1,4 @@
-use Rattle.std.proofs.Common.{[], Ok, Err, Result, rules, subst}
-use Rattle.std.specs.Prelude.{IfErr, MatchResult}
-use Rattle.cli_faults.specs.declared.failure.Failure.{Failure}
-use Rattle.cli_faults.specs.Status.{IsOutput}
-use Rattle.cli_lines.specs.Lines.{report_text}
-use Rattle.cli_sending.specs.Sent.{Sent}
+use Rattle.cli_runs.proofs.Prelude.{[], Ok, Err, Result, rules, subst, IfErr, MatchResult, Failure, IsOutput, report_text, Sent}
 use Rattle.cli_runs.proofs.explain.explain_rules.Goals as goal
 
 of_output : (result : Result (Unit {0}) Failure) → IfErr result IsOutput → MatchResult result (λ done. Unit {0}) IsOutput

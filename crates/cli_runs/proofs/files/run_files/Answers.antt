@@ -1,5 +1,4 @@
-use Rattle.std.proofs.Common.{◌∙◌, List, ℕ, ap, inl, inr, map, refl}
-use Rattle.std.specs.Borrow.{Bor}
+use Rattle.cli_runs.proofs.Prelude.{◌∙◌, List, ℕ, ap, inl, inr, map, refl, Bor}
 use Rattle.cli_runs.proofs.files.run_files.Goals as goal
 
 pub returns-in-Ok-clause-run : goal.returns-in-Ok-clause-run

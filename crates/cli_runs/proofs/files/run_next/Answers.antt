@@ -1,6 +1,4 @@
-use Rattle.std.proofs.Common.{◌∙◌, ◌≡◌, ◌&&◌, List, ℕ, Err, arith, inl, inr, refl, subst, sym, true}
-use Rattle.cli_faults.specs.declared.failure.Failure.TheVariants.{NotUtf8}
-use Rattle.cli_runs.specs.Runs.{IsCutAt, IsRun, is_input}
+use Rattle.cli_runs.proofs.Prelude.{◌∙◌, ◌≡◌, ◌&&◌, List, ℕ, Err, arith, inl, inr, refl, subst, sym, true, NotUtf8, IsCutAt, IsRun, is_input}
 use Rattle.cli_runs.proofs.Running.{ends_weaker, next_run}
 use Rattle.cli_runs.proofs.files.run_next.Goals as goal
 

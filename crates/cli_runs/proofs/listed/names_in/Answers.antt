@@ -1,6 +1,5 @@
-use Rattle.std.proofs.Common.{◌∙◌, sym}
+use Rattle.std.proofs.Common.{◌∙◌, sym, length}
 use Rattle.std.proofs.lemmas.Bool.Decides.{Decides-eqb}
-use Rattle.std.proofs.Common.{length}
 use Rattle.cli_runs.proofs.NamesListed.{all_listed, ended_listed, none_listed}
 use Rattle.cli_runs.proofs.listed.names_in.Goals as goal
 

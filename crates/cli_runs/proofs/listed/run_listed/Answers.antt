@@ -1,6 +1,5 @@
-use Rattle.std.proofs.Common.{◌∙◌, Ok, Err, ap, arith, inl, map, refl}
+use Rattle.cli_runs.proofs.Prelude.{◌∙◌, Ok, Err, ap, arith, inl, map, refl, OutOfMemory}
 use Rattle.cli_faults.specs.Stops.{status_of_stop}
-use Rattle.cli_faults.specs.declared.failure.Failure.TheVariants.{OutOfMemory}
 use Rattle.cli_runs.proofs.listed.run_listed.Goals as goal
 
 pub returns-in-Err-clause-run : goal.returns-in-Err-clause-run

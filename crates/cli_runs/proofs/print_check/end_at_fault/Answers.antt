@@ -1,6 +1,4 @@
-use Rattle.std.proofs.Common.{◌∙◌, refl, sym}
-use Rattle.cli_runs.specs.Printing.{Hands}
-use Rattle.cli_runs.specs.Reports.{label}
+use Rattle.cli_runs.proofs.Prelude.{◌∙◌, refl, sym, Hands, label}
 use Rattle.cli_runs.proofs.Reporting.{fault_out}
 use Rattle.cli_runs.proofs.print_check.end_at_fault.Goals as goal
 

@@ -1,5 +1,4 @@
-use Rattle.std.proofs.Common.{map, refl, sym}
-use Rattle.cli_regions.specs.Kept.{seen}
+use Rattle.cli_runs.proofs.Prelude.{map, refl, sym, seen}
 use Rattle.cli_runs.proofs.print_check.explain_fault.Goals as goal
 
 pub returns-in-Ok : goal.returns-in-Ok

@@ -1,6 +1,5 @@
-use Rattle.std.proofs.Common.{◌∷◌, map}
+use Rattle.cli_runs.proofs.Prelude.{◌∷◌, map, seen}
 use Rattle.cli_where.specs.Lines.{structure_line}
-use Rattle.cli_regions.specs.Kept.{seen}
 use Rattle.cli_runs.proofs.print_check.print_fault.Goals as goal
 
 pub returns : goal.returns

@@ -1,5 +1,4 @@
-use Rattle.std.proofs.Common.{◌∙◌, ap, rules}
-use Rattle.cli_lines.specs.Lines.{style}
+use Rattle.cli_runs.proofs.Prelude.{◌∙◌, ap, rules, style}
 use Rattle.cli_runs.proofs.Reporting.{all_reported}
 use Rattle.cli_runs.proofs.printed.send_report.Goals as goal
 

@@ -1,5 +1,4 @@
-use Rattle.std.proofs.Common.{◌≡◌, ◌≤◌}
-use Rattle.cli_runs.specs.Runs.{AreVisited}
+use Rattle.cli_runs.proofs.Prelude.{◌≡◌, ◌≤◌, AreVisited}
 use Rattle.cli_runs.proofs.tree.run_tree.Given as goal
 
 abbrev pub invariant-loop-step : goal.invariant-loop-step

@@ -1,5 +1,4 @@
-use Rattle.std.proofs.Common.{Err, arith, inl, inr, refl, subst}
-use Rattle.cli_faults.specs.declared.failure.Failure.TheVariants.{OutOfMemory}
+use Rattle.cli_runs.proofs.Prelude.{Err, arith, inl, inr, refl, subst, OutOfMemory}
 use Rattle.cli_walk.specs.Walks.{IsVisit}
 use Rattle.cli_runs.proofs.tree.run_visit.Goals as goal
 

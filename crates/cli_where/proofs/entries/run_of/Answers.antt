@@ -1,5 +1,4 @@
-use Rattle.std.proofs.Common.{◌-◌, arith, inl, inr}
-use Rattle.cli_where.specs.Kept.{heap_of}
+use Rattle.cli_where.proofs.Prelude.{◌-◌, arith, inl, inr, heap_of}
 use Rattle.cli_where.proofs.EntryLemmas.{outside, run_is}
 use Rattle.cli_where.proofs.entries.run_of.Goals as goal
 

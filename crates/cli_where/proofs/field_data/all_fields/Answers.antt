@@ -1,11 +1,5 @@
 use Rattle.std.proofs.Common.{rules, [], ◌∷◌, ◌≡◌, ◌∙◌, ℕ, ◌+◌, ◌≤◌, List, ◌++◌, Option, None, Some, ap, append_assoc, append-nil, subst, sym}
-use Rattle.std.specs.Option.{option_to_list}
-use Rattle.std.specs.Prelude.{All, IfSome}
-use Rattle.std.proofs.lemmas.List.Elements.{All-append, All-from_recursion}
-use Rattle.table_schema.specs.declared.table.TableId.TheVariants.{Field}
-use Rattle.opening.specs.Views.{row_count}
-use Rattle.cli_contents.specs.declared.field_data.FieldData.{FieldData}
-use Rattle.cli_where.specs.FieldData.{fields_from}
+use Rattle.cli_where.proofs.Prelude.{option_to_list, All, IfSome, All-append, All-from_recursion, Field, row_count, FieldData, fields_from}
 use Rattle.cli_where.proofs.FieldLemmas.{fields_more, fields_none}
 use Rattle.cli_where.proofs.field_data.all_fields.Goals as goal
 

@@ -1,7 +1,4 @@
-use Rattle.std.proofs.Common.{rules, ◌≡◌, ◌∙◌, List, subst}
-use Rattle.cli_contents.specs.Lines.{field_lines}
-use Rattle.cli_contents.specs.declared.field_data.FieldData.{FieldData}
-use Rattle.cli_lines.specs.Printed.{Prints}
+use Rattle.cli_where.proofs.Prelude.{rules, ◌≡◌, ◌∙◌, List, subst, field_lines, FieldData, Prints}
 use Rattle.cli_where.proofs.field_data.print_data.Goals as goal
 
 pub returns-in-Ok : goal.returns-in-Ok

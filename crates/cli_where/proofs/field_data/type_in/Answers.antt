@@ -1,8 +1,7 @@
-use Rattle.std.proofs.Common.{◌∙◌, ap, arith}
+use Rattle.cli_where.proofs.Prelude.{◌∙◌, ap, arith, field_type}
 use Rattle.table_schema.specs.declared.column.SigKind.TheVariants as column
 use Rattle.sig_items.specs.ItemsOf.{items_of}
 use Rattle.attribute_constructors.proofs.LengthLemmas.{short_encoding}
-use Rattle.cli_where.specs.FieldData.{field_type}
 use Rattle.cli_where.proofs.FieldLemmas.{many_items}
 use Rattle.cli_where.proofs.field_data.type_in.Goals as goal
 

@@ -1,12 +1,9 @@
-use Rattle.std.proofs.Common.{◌∙◌, ap, sym}
-use Rattle.table_schema.specs.declared.table.TableId.TheVariants.{Field}
+use Rattle.cli_where.proofs.Prelude.{◌∙◌, ap, sym, Field, cell_in, field_type}
 use Rattle.table_schema.specs.CellColumns.{cell_columns}
 use Rattle.metadata.specs.Cell.{Cell}
-use Rattle.metadata.specs.Metadata.{cell_in}
 use Rattle.metadata.specs.Valid.{kind_at}
 use Rattle.attribute_constructors.specs.Signatures.{items_in}
 use Rattle.attribute_constructors.proofs.TypeLemmas.{no_signature}
-use Rattle.cli_where.specs.FieldData.{field_type}
 use Rattle.cli_where.proofs.field_data.type_of_field.Goals as goal
 
 pub returns-in-Sig : goal.returns-in-Sig

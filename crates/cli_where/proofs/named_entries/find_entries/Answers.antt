@@ -1,9 +1,5 @@
-use Rattle.std.proofs.Common.{[], ◌∙◌, List, ap, get_or, sym, take}
-use Rattle.std.proofs.lemmas.List.{flat_map_more, take_all, take_more}
+use Rattle.cli_where.proofs.Prelude.{[], ◌∙◌, List, ap, get_or, sym, take, flat_map_more, take_all, take_more, flat_map, Module, all_cells, table_cells}
 use Rattle.table_schema.specs.declared.table.TableId.{TableId}
-use Rattle.std.specs.List.{flat_map}
-use Rattle.table_schema.specs.declared.table.TableId.TheVariants.{Module}
-use Rattle.cli_where.specs.Entries.{all_cells, table_cells}
 use Rattle.cli_where.proofs.NamedLemmas.{finds_all, finds_as, finds_more, finds_nothing}
 use Rattle.cli_where.proofs.named_entries.find_entries.Goals as goal
 

@@ -1,7 +1,4 @@
-use Rattle.std.proofs.Common.{take}
-use Rattle.std.specs.List.{flat_map}
-use Rattle.cli_where.specs.Entries.{table_cells}
-use Rattle.cli_where.specs.Kept.{FindsFirst}
+use Rattle.cli_where.proofs.Prelude.{take, flat_map, table_cells, FindsFirst}
 use Rattle.cli_where.proofs.named_entries.find_entries.Given as goal
 
 abbrev pub invariant-loop-table : goal.invariant-loop-table

@@ -1,6 +1,4 @@
-use Rattle.std.proofs.Common.{◌∙◌, ap}
-use Rattle.cli_regions.specs.Regions.{entry}
-use Rattle.cli_where.specs.Entries.{heap_named}
+use Rattle.cli_where.proofs.Prelude.{◌∙◌, ap, entry, heap_named}
 use Rattle.cli_where.proofs.NamedLemmas.{finds_no_more, finds_none_of, finds_one}
 use Rattle.cli_where.proofs.named_entries.find_named.Goals as goal
 

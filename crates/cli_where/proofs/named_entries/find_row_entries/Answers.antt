@@ -1,7 +1,6 @@
-use Rattle.std.proofs.Common.{◌≡◌, ap, arith, length, sym}
+use Rattle.cli_where.proofs.Prelude.{◌≡◌, ap, arith, length, sym, cell_of}
 use Rattle.std.proofs.lemmas.List.FromFn.{map-range_with_len_more}
 use Rattle.table_schema.specs.Columns.{columns_of}
-use Rattle.cli_where.specs.Entries.{cell_of}
 use Rattle.cli_where.proofs.NamedLemmas.{finds_as, finds_more, finds_nothing}
 use Rattle.cli_where.proofs.named_entries.find_row_entries.Goals as goal
 

@@ -1,7 +1,4 @@
-use Rattle.std.proofs.Common.{map}
-use Rattle.std.specs.List.{range_with_len}
-use Rattle.cli_where.specs.Entries.{cell_of}
-use Rattle.cli_where.specs.Kept.{FindsFirst}
+use Rattle.cli_where.proofs.Prelude.{map, range_with_len, cell_of, FindsFirst}
 use Rattle.cli_where.proofs.named_entries.find_row_entries.Given as goal
 
 abbrev pub invariant-loop-column : goal.invariant-loop-column

@@ -1,6 +1,5 @@
-use Rattle.std.proofs.Common.{◌≡◌, ◌∙◌, ◌-◌, ap, arith}
+use Rattle.cli_where.proofs.Prelude.{◌≡◌, ◌∙◌, ◌-◌, ap, arith, row_cells}
 use Rattle.schema.specs.Sizes.{Sizes, count_of}
-use Rattle.cli_where.specs.Entries.{row_cells}
 use Rattle.cli_where.proofs.NamedLemmas.{finds_as, finds_more, finds_nothing, rows_more}
 use Rattle.cli_where.proofs.named_entries.find_table_entries.Goals as goal
 

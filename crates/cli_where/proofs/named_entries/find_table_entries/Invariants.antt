@@ -1,7 +1,4 @@
-use Rattle.std.proofs.Common.{◌-◌}
-use Rattle.std.specs.List.{flat_map, range_with_len}
-use Rattle.cli_where.specs.Entries.{row_cells}
-use Rattle.cli_where.specs.Kept.{FindsFirst}
+use Rattle.cli_where.proofs.Prelude.{◌-◌, flat_map, range_with_len, row_cells, FindsFirst}
 use Rattle.cli_where.proofs.named_entries.find_table_entries.Given as goal
 
 abbrev pub invariant-loop-row : goal.invariant-loop-row

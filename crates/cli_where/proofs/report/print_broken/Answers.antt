@@ -1,5 +1,4 @@
-use Rattle.std.proofs.Common.{◌≡◌, inr, map, refl, rules}
-use Rattle.cli_regions.specs.Kept.{seen}
+use Rattle.cli_where.proofs.Prelude.{◌≡◌, inr, map, refl, rules, seen}
 use Rattle.cli_where.proofs.report.print_broken.Goals as goal
 
 pub returns-in-Ok : goal.returns-in-Ok

@@ -1,12 +1,4 @@
-use Rattle.std.proofs.Common.{◌≡◌, ◌∷◌, ◌++◌, [], ℕ, List, Ok, arith, codes, eqb-true, length, map, refl, rules, sym, true, false}
-use Rattle.std.specs.Prelude.{◌==◌}
-use Rattle.cli_input.specs.declared.opened.Input.{Input}
-use Rattle.cli_lines.specs.Lines.{word}
-use Rattle.cli_lines.specs.Printed.{Printed, Prints}
-use Rattle.cli_regions.specs.Kept.{seen}
-use Rattle.cli_regions.specs.declared.searches.Structure.{Structure}
-use Rattle.cli_where.specs.Located.{HasContents, HasFound, where_lines}
-use Rattle.cli_where.specs.Where.{AreStructuresAt}
+use Rattle.cli_where.proofs.Prelude.{◌≡◌, ◌∷◌, ◌++◌, [], ℕ, List, Ok, arith, codes, eqb-true, length, map, refl, rules, sym, true, false, ◌==◌, Input, word, Printed, Prints, seen, Structure, HasContents, HasFound, where_lines, AreStructuresAt}
 use Rattle.cli_where.specs.declared.report.Found.TheVariants.{Something, Nothing}
 use Rattle.cli_where.specs.declared.walk.Reach.TheVariants.{Entries}
 use Rattle.cli_where.proofs.report.print_entire.Goals as goal

@@ -1,20 +1,7 @@
-use Rattle.std.proofs.Common.{◌≡◌, ◌∷◌, ◌++◌, [], ℕ, List, false, length, map, subst, sym}
-use Rattle.std.specs.Prelude.{◌==◌}
+use Rattle.cli_where.proofs.Prelude.{◌≡◌, ◌∷◌, ◌++◌, [], ℕ, List, false, length, map, subst, sym, ◌==◌, Input, Metadata, IsModelOfFile, CliHeader, AreOfResources, field_lines, method_lines, Part, Prints, seen, Structure, all_fields, structure_line, HasContents, where_lines}
 use Rattle.cli_input.specs.Checked.{IsModelOf}
-use Rattle.cli_input.specs.declared.opened.Input.{Input}
 use Rattle.cli_input.specs.declared.opened.Input.TheVariants.{BareRoot, File}
-use Rattle.metadata.specs.Metadata.{Metadata}
-use Rattle.metadata.specs.Model.{IsModelOfFile}
-use Rattle.cli_header.specs.declared.header.CliHeader.{CliHeader}
-use Rattle.cli_contents.specs.Lines.{AreOfResources, field_lines, method_lines}
-use Rattle.cli_lines.specs.Lines.{Part}
-use Rattle.cli_lines.specs.Printed.{Prints}
-use Rattle.cli_regions.specs.Kept.{seen}
-use Rattle.cli_regions.specs.declared.searches.Structure.{Structure}
 use Rattle.cli_found.specs.Values.{value_lines}
-use Rattle.cli_where.specs.FieldData.{all_fields}
-use Rattle.cli_where.specs.Lines.{structure_line}
-use Rattle.cli_where.specs.Located.{HasContents, where_lines}
 use Rattle.cli_where.proofs.report.print_found.Goals as goal
 
 module _ (bytes : List ℕ) (offset : ℕ) (P : List (List Part) → Type 0) where

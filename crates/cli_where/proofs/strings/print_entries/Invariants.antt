@@ -1,8 +1,4 @@
-use Rattle.std.proofs.Common.{◌≤◌, ◌+◌, List}
-use Rattle.std.specs.List.{flat_map}
-use Rattle.cli_lines.specs.Printed.{Printed, Prints}
-use Rattle.cli_where.specs.Lines.{entry_lines}
-use Rattle.cli_where.specs.UserStrings.{AreEntries, Entry}
+use Rattle.cli_where.proofs.Prelude.{◌≤◌, ◌+◌, List, flat_map, Printed, Prints, entry_lines, AreEntries, Entry}
 use Rattle.cli_where.proofs.strings.print_entries.Given as goal
 
 -- with the entries that are left, the lines of all are printed

@@ -1,9 +1,4 @@
-use Rattle.std.proofs.Common.{◌≡◌, ◌∙◌, List, ℕ, rules, subst}
-use Rattle.std.specs.List.{flat_map}
-use Rattle.heap_entries.specs.Padding.{zero_padded}
-use Rattle.cli_lines.specs.Printed.{Prints}
-use Rattle.cli_where.specs.Lines.{entry_lines}
-use Rattle.cli_where.specs.UserStrings.{AreEntries, Entry}
+use Rattle.cli_where.proofs.Prelude.{◌≡◌, ◌∙◌, List, ℕ, rules, subst, flat_map, zero_padded, Prints, entry_lines, AreEntries, Entry}
 use Rattle.cli_where.proofs.strings.print_strings.Goals as goal
 
 pub returns-in-Ok-padded_copy : goal.returns-in-Ok-padded_copy

@@ -1,9 +1,4 @@
-use Rattle.std.proofs.Common.{◌+◌, ◌∷◌, [], List, drop, get_or, map, subst}
-use Rattle.std.proofs.lemmas.List.{drop_all, drop_more}
-use Rattle.cli_lines.specs.Printed.{Completes}
-use Rattle.cli_regions.specs.Kept.{seen}
-use Rattle.cli_regions.specs.declared.searches.Structure.{Structure}
-use Rattle.cli_where.specs.Lines.{structure_line}
+use Rattle.cli_where.proofs.Prelude.{◌+◌, ◌∷◌, [], List, drop, get_or, map, subst, drop_all, drop_more, Completes, seen, Structure, structure_line}
 use Rattle.cli_where.proofs.structure_lines.print_structures.Goals as goal
 
 pub loop-structure-init : goal.loop-structure-init

@@ -1,7 +1,4 @@
-use Rattle.std.proofs.Common.{drop, map}
-use Rattle.cli_lines.specs.Printed.{Completes}
-use Rattle.cli_regions.specs.Kept.{seen}
-use Rattle.cli_where.specs.Lines.{structure_line}
+use Rattle.cli_where.proofs.Prelude.{drop, map, Completes, seen, structure_line}
 use Rattle.cli_where.proofs.structure_lines.print_structures.Given as goal
 
 abbrev pub invariant-loop-structure : goal.invariant-loop-structure

@@ -1,6 +1,4 @@
-use Rattle.std.proofs.Common.{◌≡◌, rules}
-use Rattle.cli_regions.specs.Kept.{words_text}
-use Rattle.cli_where.specs.Lines.{line_with}
+use Rattle.cli_where.proofs.Prelude.{◌≡◌, rules, words_text, line_with}
 use Rattle.cli_where.proofs.structure_lines.print_words.Goals as goal
 
 pub returns-in-Ok-clause-words : goal.returns-in-Ok-clause-words

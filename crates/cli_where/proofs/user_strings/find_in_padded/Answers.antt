@@ -1,5 +1,4 @@
-use Rattle.std.proofs.Common.{[], ◌∷◌, arith, refl}
-use Rattle.cli_regions.proofs.SearchLemmas.{adds_none, and_then}
+use Rattle.cli_where.proofs.Prelude.{[], ◌∷◌, arith, refl, adds_none, and_then}
 use Rattle.cli_where.proofs.UserLemmas.{no_entry_past}
 use Rattle.cli_where.proofs.user_strings.find_in_padded.Goals as goal
 

@@ -1,7 +1,4 @@
-use Rattle.std.proofs.Common.{◌≤◌, ◌+◌, List, map}
-use Rattle.cli_regions.specs.Kept.{Adds, Searched}
-use Rattle.cli_where.specs.Kept.{heap_of}
-use Rattle.cli_where.specs.UserStrings.{AreEntries, Entry, user_region}
+use Rattle.cli_where.proofs.Prelude.{◌≤◌, ◌+◌, List, map, Adds, Searched, heap_of, AreEntries, Entry, user_region}
 use Rattle.cli_where.proofs.user_strings.find_in_padded.Given as goal
 
 -- with the entries that are left, the search has looked at all

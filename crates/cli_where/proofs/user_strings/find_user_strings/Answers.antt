@@ -1,8 +1,4 @@
-use Rattle.std.proofs.Common.{◌≡◌, List, ℕ, map, refl, rules, subst}
-use Rattle.heap_entries.specs.Padding.{zero_padded}
-use Rattle.cli_regions.specs.Kept.{Adds, Finds, Searched}
-use Rattle.cli_where.specs.Entries.{Heap}
-use Rattle.cli_where.specs.UserStrings.{AreEntries, AreUsersAt, Entry, user_region}
+use Rattle.cli_where.proofs.Prelude.{◌≡◌, List, ℕ, map, refl, rules, subst, zero_padded, Adds, Finds, Searched, Heap, AreEntries, AreUsersAt, Entry, user_region}
 use Rattle.cli_where.proofs.FindLemmas.{finds_failed, finds_joined}
 use Rattle.cli_where.proofs.UserLemmas.{padded_already}
 use Rattle.cli_where.proofs.user_strings.find_user_strings.Goals as goal

@@ -1,11 +1,8 @@
-use Rattle.std.proofs.Common.{◌∙◌, ap, subst, sym}
+use Rattle.cli_where.proofs.Prelude.{◌∙◌, ap, subst, sym, Finds, said_as, AreInImage}
 use Rattle.pe.specs.Headers.{image_of}
 use Rattle.pe.specs.Image.{Image}
 use Rattle.pe.specs.Rules.{rules_of_image}
-use Rattle.cli_regions.specs.Kept.{Finds}
 use Rattle.cli_regions.specs.PeHeaders.{image_regions}
-use Rattle.cli_regions.proofs.SearchLemmas.{said_as}
-use Rattle.cli_where.specs.Where.{AreInImage}
 use Rattle.cli_where.proofs.FindLemmas.{adds_find, broken_layer, finds_then, whole_layer}
 use Rattle.cli_where.proofs.walk.find_in_file.Goals as goal
 

@@ -1,6 +1,4 @@
-use Rattle.std.proofs.Common.{◌≡◌, ◌∙◌, refl}
-use Rattle.cli_where.specs.Entries.{heaps_at}
-use Rattle.cli_where.specs.Kept.{heaps_of}
+use Rattle.cli_where.proofs.Prelude.{◌≡◌, ◌∙◌, refl, heaps_at, heaps_of}
 use Rattle.cli_where.proofs.FindLemmas.{finds_none, finds_then}
 use Rattle.cli_where.proofs.walk.find_in_heaps.Goals as goal
 

@@ -1,11 +1,7 @@
-use Rattle.std.proofs.Common.{◌∙◌, List, ℕ, ap, arith, subst}
+use Rattle.cli_where.proofs.Prelude.{◌∙◌, List, ℕ, ap, arith, subst, CliHeader, Finds, said_as, AreInRoot}
 use Rattle.cli_header.specs.Rules.{rules_of_cli_header}
-use Rattle.cli_header.specs.declared.header.CliHeader.{CliHeader}
 use Rattle.metadata.specs.Streams.{root_in}
 use Rattle.cli_regions.specs.Files.{cli_regions}
-use Rattle.cli_regions.specs.Kept.{Finds}
-use Rattle.cli_regions.proofs.SearchLemmas.{said_as}
-use Rattle.cli_where.specs.Where.{AreInRoot}
 use Rattle.cli_where.proofs.FindLemmas.{adds_find, broken_layer, finds_then, whole_layer}
 use Rattle.cli_where.proofs.walk.find_in_image.Goals as goal
 

@@ -1,9 +1,6 @@
-use Rattle.std.proofs.Common.{◌≡◌, arith, subst}
+use Rattle.cli_where.proofs.Prelude.{◌≡◌, arith, subst, Finds, Heap, AreInStream}
 use Rattle.schema.specs.Header.{sizes_of}
 use Rattle.schema.specs.Rules.{rules_of_stream}
-use Rattle.cli_regions.specs.Kept.{Finds}
-use Rattle.cli_where.specs.Entries.{Heap}
-use Rattle.cli_where.specs.Where.{AreInStream}
 use Rattle.cli_where.proofs.FindLemmas.{adds_find, broken_layer, finds_then, whole_layer}
 use Rattle.cli_where.proofs.walk.find_in_streams.Goals as goal
 

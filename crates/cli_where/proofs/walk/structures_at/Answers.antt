@@ -1,8 +1,6 @@
 use Rattle.std.proofs.Common.{◌≡◌, ◌∙◌, ℕ, Some, List, [], ◌++◌, ap, subst, sym}
 use Rattle.std.proofs.lemmas.Result.{IfOk-weaker}
-use Rattle.cli_regions.specs.Kept.{Finds, Searched}
-use Rattle.cli_regions.specs.Regions.{Region}
-use Rattle.cli_where.specs.Where.{AreStructuresAt}
+use Rattle.cli_where.proofs.Prelude.{Finds, Searched, Region, AreStructuresAt}
 use Rattle.cli_where.proofs.walk.structures_at.Goals as goal
 
 -- what a search has found that began with nothing

@@ -1,5 +1,4 @@
-use Rattle.std.proofs.Common.{List, ℕ, sym, subst}
-use Rattle.metadata.specs.Model.{IsModel}
+use Rattle.clim_c.proofs.Prelude.{List, ℕ, sym, subst, IsModel}
 use Rattle.clim_c.proofs.attributes.clim_attribute_items.Goals as goal
 
 pub returns-in-None-clause-complete : goal.returns-in-None-clause-complete

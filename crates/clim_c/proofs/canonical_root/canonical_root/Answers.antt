@@ -1,7 +1,5 @@
-use Rattle.std.proofs.Common.{◌^◌, ◌<◌, List, ℕ, length, inl, inr, refl, sym, subst}
+use Rattle.clim_c.proofs.Prelude.{◌^◌, ◌<◌, List, ℕ, length, inl, inr, refl, sym, subst, IsModel, canonical}
 use Rattle.std.specs.Prelude.{⊤}
-use Rattle.metadata.specs.Model.{IsModel}
-use Rattle.root_writer.specs.Canonical.{canonical}
 use Rattle.writer.specs.declared.error.WriteError.{WriteError}
 use Rattle.writer.specs.Errors.{MatchError}
 use Rattle.clim_c.proofs.canonical_root.canonical_root.Goals as goal

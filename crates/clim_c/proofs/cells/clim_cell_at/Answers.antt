@@ -1,8 +1,4 @@
-use Rattle.std.proofs.Common.{◌≡◌, ℕ, List, sym, subst}
-use Rattle.std.proofs.lemmas.Option.{same_Some}
-use Rattle.table_schema.specs.declared.table.TableId.{TableId}
-use Rattle.metadata.specs.Model.{IsModel}
-use Rattle.clim_c.specs.Reported.{ReportsCell}
+use Rattle.clim_c.proofs.Prelude.{◌≡◌, ℕ, List, sym, subst, same_Some, TableId, IsModel, ReportsCell}
 use Rattle.clim_c.proofs.cells.clim_cell_at.Goals as goal
 
 pub returns-clause-shown : goal.returns-clause-shown

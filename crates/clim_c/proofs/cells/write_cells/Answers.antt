@@ -1,6 +1,4 @@
-use Rattle.std.proofs.Common.{◌<◌, ◌+◌, length, ◌∙◌, arith}
-use Rattle.std.proofs.lemmas.List.{length-set}
-use Rattle.clim_c.specs.Reported.{ReportsCell}
+use Rattle.clim_c.proofs.Prelude.{◌<◌, ◌+◌, length, ◌∙◌, arith, length-set, ReportsCell}
 use Rattle.clim_c.proofs.Written.{one_more, tail_stays}
 use Rattle.clim_c.proofs.cells.write_cells.Goals as goal
 

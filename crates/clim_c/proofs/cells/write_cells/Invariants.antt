@@ -1,9 +1,4 @@
-use Rattle.std.proofs.Common.{◌≡◌, ◌<◌, ◌+◌, ℕ, length, slice_index_or}
-use Rattle.std.specs.List.{SameFrom}
-use Rattle.metadata.specs.Metadata.{Metadata}
-use Rattle.metadata.specs.Model.{IsModel}
-use Rattle.c_values.specs.declared.cell.ClimCell.{ClimCell}
-use Rattle.clim_c.specs.Reported.{ReportsCell}
+use Rattle.clim_c.proofs.Prelude.{◌≡◌, ◌<◌, ◌+◌, ℕ, length, slice_index_or, SameFrom, Metadata, IsModel, ClimCell, ReportsCell}
 use Rattle.clim_c.proofs.cells.write_cells.Given as goal
 
 abbrev pub invariant-loop-k : goal.invariant-loop-k

@@ -1,6 +1,4 @@
-use Rattle.std.proofs.Common.{ℕ, List, refl, sym, subst, arith}
-use Rattle.metadata.specs.Model.{IsModel}
-use Rattle.clim_c.specs.Compared.{IsFirst, all_differences}
+use Rattle.clim_c.proofs.Prelude.{ℕ, List, refl, sym, subst, arith, IsModel, IsFirst, all_differences}
 use Rattle.clim_c.proofs.ComparedLemmas.{nothing_differs, something_differs}
 use Rattle.clim_c.proofs.compared.clim_compare.Goals as goal
 

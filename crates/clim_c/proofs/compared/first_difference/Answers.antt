@@ -1,5 +1,4 @@
-use Rattle.std.proofs.Common.{◌∙◌, List, ap, slice_get}
-use Rattle.comparison.specs.declared.difference.Difference.{Difference}
+use Rattle.clim_c.proofs.Prelude.{◌∙◌, List, ap, slice_get, Difference}
 use Rattle.clim_c.proofs.ComparedLemmas.{cell_first, outline_first}
 use Rattle.clim_c.proofs.compared.first_difference.Goals as goal
 

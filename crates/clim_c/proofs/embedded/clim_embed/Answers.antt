@@ -1,6 +1,4 @@
-use Rattle.std.proofs.Common.{subst}
-use Rattle.embedding.specs.declared.strong_name.StrongName.{StrongName}
-use Rattle.c_values.specs.Copies.{IsAsked, IsCopied}
+use Rattle.clim_c.proofs.Prelude.{subst, StrongName, IsAsked, IsCopied}
 use Rattle.clim_c.proofs.EmbedLemmas.{one_choice}
 use Rattle.clim_c.proofs.embedded.clim_embed.Goals as goal
 

@@ -1,5 +1,4 @@
-use Rattle.std.proofs.Common.{◌≡◌, ◌∙◌}
-use Rattle.std.proofs.lemmas.Option.{same_Some}
+use Rattle.clim_c.proofs.Prelude.{◌≡◌, ◌∙◌, same_Some}
 use Rattle.clim_c.proofs.explained.clim_explain.Goals as goal
 
 pub returns-in-Some-clause-known : goal.returns-in-Some-clause-known

@@ -1,9 +1,4 @@
-use Rattle.std.proofs.Common.{◌<◌, ◌≤◌, ℕ, List, sym, subst, ◌∙◌, arith}
-use Rattle.table_schema.specs.declared.table.TableId.TheVariants.{TypeDef}
-use Rattle.metadata.specs.Metadata.{cell_in}
-use Rattle.metadata.specs.Model.{IsModel}
-use Rattle.metadata.specs.SourceAt.{source_of}
-use Rattle.metadata.specs.Source.{rows_in}
+use Rattle.clim_c.proofs.Prelude.{◌<◌, ◌≤◌, ℕ, List, sym, subst, ◌∙◌, arith, TypeDef, cell_in, IsModel, source_of, rows_in}
 use Rattle.metadata.specs.Lookups.{IsFirstType, HasRow, HasNames}
 use Rattle.clim_c.proofs.Texts.{name_is, namespace_is, has_name, has_namespace, some_of, none_of}
 use Rattle.clim_c.proofs.look_ups.clim_find_type.Goals as goal

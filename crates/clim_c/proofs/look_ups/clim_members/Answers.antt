@@ -1,9 +1,4 @@
-use Rattle.std.proofs.Common.{◌≡◌, ◌≤◌, ℕ, List, sym, subst, arith}
-use Rattle.std.proofs.lemmas.Option.{same_Some}
-use Rattle.table_schema.specs.declared.table.TableId.{TableId}
-use Rattle.metadata.specs.Model.{IsModel}
-use Rattle.opening.specs.Views.{row_count}
-use Rattle.clim_c.specs.LookUps.{IsOwned}
+use Rattle.clim_c.proofs.Prelude.{◌≡◌, ◌≤◌, ℕ, List, sym, subst, arith, same_Some, TableId, IsModel, row_count, IsOwned}
 use Rattle.clim_c.proofs.look_ups.clim_members.Goals as goal
 
 pub returns-clause-run : goal.returns-clause-run

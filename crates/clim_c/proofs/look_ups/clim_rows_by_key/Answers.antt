@@ -1,8 +1,4 @@
-use Rattle.std.proofs.Common.{◌≡◌, ℕ, List, length, take, sym, subst}
-use Rattle.std.proofs.lemmas.Option.{same_Some}
-use Rattle.table_schema.specs.declared.table.TableId.{TableId}
-use Rattle.metadata.specs.Model.{IsModel}
-use Rattle.clim_c.specs.LookUps.{AreFirstByKey}
+use Rattle.clim_c.proofs.Prelude.{◌≡◌, ℕ, List, length, take, sym, subst, same_Some, TableId, IsModel, AreFirstByKey}
 use Rattle.clim_c.proofs.look_ups.clim_rows_by_key.Goals as goal
 
 pub returns-clause-sound : goal.returns-clause-sound

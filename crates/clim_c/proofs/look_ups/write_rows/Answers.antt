@@ -1,5 +1,4 @@
-use Rattle.std.proofs.Common.{◌<◌, length, ◌∙◌, arith}
-use Rattle.std.proofs.lemmas.List.{length-set}
+use Rattle.clim_c.proofs.Prelude.{◌<◌, length, ◌∙◌, arith, length-set}
 use Rattle.clim_c.proofs.Written.{tail_stays, next_left, all_left, room_left}
 use Rattle.clim_c.proofs.look_ups.write_rows.Goals as goal
 

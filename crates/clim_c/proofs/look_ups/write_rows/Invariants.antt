@@ -1,5 +1,4 @@
-use Rattle.std.proofs.Common.{◌≡◌, ◌≤◌, ◌++◌, length, take}
-use Rattle.std.specs.List.{SameFrom}
+use Rattle.clim_c.proofs.Prelude.{◌≡◌, ◌≤◌, ◌++◌, length, take, SameFrom}
 use Rattle.clim_c.proofs.look_ups.write_rows.Given as goal
 
 -- the rows written so far are the first ones that were found

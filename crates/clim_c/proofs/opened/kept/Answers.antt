@@ -1,5 +1,4 @@
-use Rattle.std.proofs.Common.{ℕ, List, sym, subst}
-use Rattle.opening.specs.Views.{HasModel, AreFound}
+use Rattle.clim_c.proofs.Prelude.{ℕ, List, sym, subst, HasModel, AreFound}
 use Rattle.clim_c.proofs.opened.kept.Goals as goal
 
 pub invariant_of-result : goal.invariant_of-result

@@ -1,6 +1,4 @@
-use Rattle.std.proofs.Common.{List, ℕ, sym, subst}
-use Rattle.metadata.specs.Model.{IsModel}
-use Rattle.c_texts.specs.RowTexts.{IsTokenIn}
+use Rattle.clim_c.proofs.Prelude.{List, ℕ, sym, subst, IsModel, IsTokenIn}
 use Rattle.clim_c.proofs.row_texts.clim_declaration.Goals as goal
 
 pub returns-in-Some-clause-text : goal.returns-in-Some-clause-text

@@ -1,6 +1,4 @@
-use Rattle.std.proofs.Common.{List, ℕ, refl, sym, subst}
-use Rattle.metadata.specs.Model.{IsModel}
-use Rattle.c_texts.specs.RowTexts.{IsTokenIn}
+use Rattle.clim_c.proofs.Prelude.{List, ℕ, refl, sym, subst, IsModel, IsTokenIn}
 use Rattle.clim_c.proofs.row_texts.clim_row_name.Goals as goal
 
 pub returns-in-Some-clause-text : goal.returns-in-Some-clause-text

@@ -1,9 +1,5 @@
-use Rattle.std.proofs.Common.{rules, ◌≡◌, List, ℕ, sym, ap, subst, ◌∙◌}
+use Rattle.clim_c.proofs.Prelude.{rules, ◌≡◌, List, ℕ, sym, ap, subst, ◌∙◌, column_at, column_of, cell_in, IsModel}
 use Rattle.table_schema.specs.Tables.{table_number}
-use Rattle.table_schema.specs.Columns.{column_at}
-use Rattle.table_schema.specs.CellColumns.{column_of}
-use Rattle.metadata.specs.Metadata.{cell_in}
-use Rattle.metadata.specs.Model.{IsModel}
 use Rattle.clim_c.specs.SignatureCells.{HasSignature}
 use Rattle.clim_c.proofs.signature_text.clim_signature_text.Goals as goal
 

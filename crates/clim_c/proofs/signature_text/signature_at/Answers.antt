@@ -1,12 +1,5 @@
-use Rattle.std.proofs.Common.{rules, ◌≡◌, ◌≤◌, subst}
+use Rattle.clim_c.proofs.Prelude.{rules, ◌≡◌, ◌≤◌, subst, ColumnKind, column_at, column_of, cell_in, rows_in, source_of, ShowsSignature}
 use Rattle.table_schema.specs.declared.column.ColumnKind.TheVariants.{Signature}
-use Rattle.table_schema.specs.declared.column.ColumnKind.{ColumnKind}
-use Rattle.table_schema.specs.Columns.{column_at}
-use Rattle.table_schema.specs.CellColumns.{column_of}
-use Rattle.metadata.specs.Metadata.{cell_in}
-use Rattle.metadata.specs.Source.{rows_in}
-use Rattle.metadata.specs.SourceAt.{source_of}
-use Rattle.reading.specs.Shown.{ShowsSignature}
 use Rattle.clim_c.proofs.SignatureLemmas.{blob_of_cell, row_within}
 use Rattle.clim_c.proofs.signature_text.signature_at.Goals as goal
 

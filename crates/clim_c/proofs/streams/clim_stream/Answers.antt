@@ -1,5 +1,4 @@
-use Rattle.std.proofs.Common.{◌≡◌, ℕ, List, Some, slice_get, option_map, sym, ◌∙◌, ap}
-use Rattle.root.specs.Streams.{Header}
+use Rattle.clim_c.proofs.Prelude.{◌≡◌, ℕ, List, Some, slice_get, option_map, sym, ◌∙◌, ap, Header}
 use Rattle.root.specs.Views.{view}
 use Rattle.clim_c.proofs.HeaderLemmas.{there_is}
 use Rattle.clim_c.proofs.streams.clim_stream.Goals as goal

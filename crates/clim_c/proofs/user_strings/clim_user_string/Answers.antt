@@ -1,7 +1,5 @@
-use Rattle.std.proofs.Common.{◌%◌, ◌^◌, ℕ, List, sym, subst, ◌∙◌, ap}
-use Rattle.heap_entries.specs.Entries.{IsUserString}
+use Rattle.clim_c.proofs.Prelude.{◌%◌, ◌^◌, ℕ, List, sym, subst, ◌∙◌, ap, IsUserString, user_of}
 use Rattle.heap_entries.specs.Padding.{zero_padded}
-use Rattle.opening.specs.Views.{user_of}
 use Rattle.clim_c.proofs.user_strings.clim_user_string.Goals as goal
 
 pub returns-in_default-write_user_string-clause-complete : goal.returns-in_default-write_user_string-clause-complete

@@ -1,5 +1,4 @@
-use Rattle.std.proofs.Common.{ℕ, List, sym, subst}
-use Rattle.metadata.specs.Model.{IsModel}
+use Rattle.clim_c.proofs.Prelude.{ℕ, List, sym, subst, IsModel}
 use Rattle.clim_c.proofs.view_parts.clim_version.Goals as goal
 
 pub returns-in-Some-clause-open : goal.returns-in-Some-clause-open

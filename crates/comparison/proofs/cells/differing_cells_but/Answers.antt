@@ -1,12 +1,5 @@
 use Rattle.std.proofs.Common.{◌≡◌, ◌∙◌, ◌<◌, ◌≤◌, ℕ, List, [], All, ap, length, take, get_or, refl, subst, sym, arith}
-use Rattle.table_schema.specs.declared.table.TableId.{TableId}
-use Rattle.table_schema.specs.declared.table.TableId.TheVariants.{Module}
-use Rattle.table_schema.specs.Tables.{tables}
-use Rattle.metadata.specs.Model.{IsModel}
-use Rattle.metadata.specs.Source.{Source}
-use Rattle.metadata.specs.SourceAt.{source_of}
-use Rattle.comparison.specs.Alike.{AreSameParts}
-use Rattle.comparison.specs.declared.difference.Difference.{Difference}
+use Rattle.comparison.proofs.Prelude.{TableId, Module, tables, IsModel, Source, source_of, AreSameParts, Difference}
 use Rattle.comparison.specs.Differences.{Grows, IsThere, cell_differences_but, table_differences}
 use Rattle.comparison.proofs.CellSteps.{item_found, tables_are, there_kept}
 use Rattle.comparison.proofs.ComparedLemmas.{blobs_kept}

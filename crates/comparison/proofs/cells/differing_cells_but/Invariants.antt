@@ -1,9 +1,4 @@
-use Rattle.std.proofs.Common.{◌≡◌, ◌≤◌, All, length, take}
-use Rattle.std.specs.List.{flat_map}
-use Rattle.table_schema.specs.Tables.{tables}
-use Rattle.metadata.specs.Metadata.{Metadata}
-use Rattle.metadata.specs.Model.{IsModel}
-use Rattle.comparison.specs.ComparedCells.{HasBlobNames}
+use Rattle.comparison.proofs.Prelude.{◌≡◌, ◌≤◌, All, length, take, flat_map, tables, Metadata, IsModel, HasBlobNames}
 use Rattle.comparison.specs.Differences.{IsThere, table_differences}
 use Rattle.comparison.proofs.cells.differing_cells_but.Given as goal
 

@@ -1,10 +1,5 @@
 use Rattle.std.proofs.Common.{◌≡◌, ◌∙◌, ℕ, List, subst, sym, arith}
-use Rattle.table_schema.specs.CellColumns.{cell_count}
-use Rattle.metadata.specs.Model.{IsModel}
-use Rattle.metadata.specs.SourceAt.{source_of}
-use Rattle.comparison.specs.Alike.{AreAlike}
-use Rattle.comparison.specs.declared.difference.Difference.{Difference}
-use Rattle.comparison.specs.Differences.{Grows, cell_difference}
+use Rattle.comparison.proofs.Prelude.{cell_count, IsModel, source_of, AreAlike, Difference, Grows, cell_difference}
 use Rattle.comparison.proofs.GrowthLemmas.{grows_nothing}
 use Rattle.comparison.proofs.CellSteps.{number_found, row_is, there_kept}
 use Rattle.comparison.proofs.ComparedLemmas.{outcomes_kept}

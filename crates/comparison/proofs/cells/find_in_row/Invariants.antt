@@ -1,8 +1,4 @@
-use Rattle.std.proofs.Common.{◌≡◌, ◌≤◌, All, length}
-use Rattle.std.specs.List.{flat_map, range_with_len}
-use Rattle.metadata.specs.Metadata.{Metadata}
-use Rattle.metadata.specs.Model.{IsModel}
-use Rattle.comparison.specs.ComparedCells.{AreOutcomes}
+use Rattle.comparison.proofs.Prelude.{◌≡◌, ◌≤◌, All, length, flat_map, range_with_len, Metadata, IsModel, AreOutcomes}
 use Rattle.comparison.specs.Differences.{Grows, IsThere, cell_difference}
 use Rattle.comparison.proofs.cells.find_in_row.Given as goal
 

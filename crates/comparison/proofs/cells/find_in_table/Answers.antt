@@ -1,10 +1,5 @@
 use Rattle.std.proofs.Common.{◌≡◌, ◌∙◌, ◌+◌, ℕ, List, refl, ap₂, min, subst, sym, arith}
-use Rattle.metadata.specs.Metadata.{count_in}
-use Rattle.metadata.specs.Model.{IsModel}
-use Rattle.metadata.specs.SourceAt.{source_of}
-use Rattle.comparison.specs.Alike.{AreAlike}
-use Rattle.comparison.specs.declared.difference.Difference.{Difference}
-use Rattle.comparison.specs.Differences.{Grows, row_differences}
+use Rattle.comparison.proofs.Prelude.{count_in, IsModel, source_of, AreAlike, Difference, Grows, row_differences}
 use Rattle.comparison.proofs.GrowthLemmas.{grows_nothing}
 use Rattle.comparison.proofs.CellSteps.{number_found, table_is, there_kept}
 use Rattle.comparison.proofs.ComparedLemmas.{outcomes_kept}

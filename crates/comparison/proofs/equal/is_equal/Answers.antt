@@ -1,6 +1,4 @@
-use Rattle.std.proofs.Common.{◌∙◌, ap, length, sym, arith}
-use Rattle.std.proofs.lemmas.Bool.Decides.{Decides-eqb}
-use Rattle.comparison.specs.Differences.{outline_differences}
+use Rattle.comparison.proofs.Prelude.{◌∙◌, ap, length, sym, arith, Decides-eqb, outline_differences}
 use Rattle.comparison.proofs.EqualLemmas.{nothing_long, outline_none, outline_some}
 use Rattle.comparison.proofs.equal.is_equal.Goals as goal
 

@@ -1,11 +1,5 @@
 use Rattle.std.proofs.Common.{◌≡◌, ◌∙◌, ◌<◌, ◌≤◌, List, ap, length, get_or, sym, arith}
-use Rattle.std.specs.List.{flat_map}
-use Rattle.std.proofs.lemmas.List.{take_all}
-use Rattle.table_schema.specs.declared.table.TableId.{TableId}
-use Rattle.table_schema.specs.declared.table.TableId.TheVariants.{Module}
-use Rattle.table_schema.specs.Tables.{tables}
-use Rattle.comparison.specs.declared.difference.Difference.TheVariants.{RowCount}
-use Rattle.comparison.specs.Differences.{count_difference}
+use Rattle.comparison.proofs.Prelude.{flat_map, take_all, TableId, Module, tables, RowCount, count_difference}
 use Rattle.comparison.proofs.OutlineLemmas.{count_differs, count_same, first_found, none_more}
 use Rattle.comparison.proofs.outlines.count_difference.Goals as goal
 

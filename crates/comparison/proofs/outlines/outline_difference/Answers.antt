@@ -1,6 +1,5 @@
 use Rattle.std.proofs.Common.{◌≡◌, ◌∙◌, List, [], ◌∷◌, take, subst, sym}
-use Rattle.std.specs.Prelude.{IfSome, IfNone}
-use Rattle.comparison.specs.declared.difference.Difference.{Difference}
+use Rattle.comparison.proofs.Prelude.{IfSome, IfNone, Difference}
 use Rattle.comparison.proofs.OutlineLemmas.{outline_counts, outline_user, outline_version}
 use Rattle.comparison.proofs.PaddingLemmas.{parts_differ, parts_same, unzero}
 use Rattle.comparison.proofs.outlines.outline_difference.Goals as goal

@@ -1,9 +1,6 @@
 use Rattle.std.proofs.Common.{◌≡◌, ◌≢◌, ℕ, List, ap, length, arith, below_more}
-use Rattle.table_schema.specs.declared.column.Column.{Column}
+use Rattle.comparison.proofs.Prelude.{Column, TableId, column_at, number_of}
 use Rattle.table_schema.specs.declared.column.ColumnKind.TheVariants as kind
-use Rattle.table_schema.specs.declared.table.TableId.{TableId}
-use Rattle.table_schema.specs.Columns.{column_at}
-use Rattle.metadata.specs.Source.{number_of}
 use Rattle.comparison.proofs.same_bytes.has_null_start.Goals as goal
 
 pub loop-column-preserved : goal.loop-column-preserved

@@ -1,8 +1,5 @@
-use Rattle.std.proofs.Common.{◌≡◌, ◌≢◌, ℕ, ◌<◌}
-use Rattle.table_schema.specs.declared.table.TableId.{TableId}
+use Rattle.comparison.proofs.Prelude.{◌≡◌, ◌≢◌, ℕ, ◌<◌, TableId, column_at, number_of}
 use Rattle.table_schema.specs.declared.column.ColumnKind.TheVariants.{List}
-use Rattle.table_schema.specs.Columns.{column_at}
-use Rattle.metadata.specs.Source.{number_of}
 use Rattle.comparison.proofs.same_bytes.has_null_start.Given as goal
 
 abbrev pub invariant-loop-column : goal.invariant-loop-column

@@ -1,6 +1,4 @@
-use Rattle.std.proofs.Common.{arith}
-use Rattle.std.proofs.lemmas.Bool.Decides.{Decides-eqb}
-use Rattle.std.proofs.lemmas.Slice.Eq.{slice_eq-Decides}
+use Rattle.comparison.proofs.Prelude.{arith, Decides-eqb, slice_eq-Decides}
 use Rattle.comparison.proofs.AlikeLemmas.{same_numbers}
 use Rattle.comparison.proofs.same_bytes.have_same_bytes.Goals as goal
 

@@ -1,8 +1,5 @@
 use Rattle.std.proofs.Common.{◌≡◌, ◌∙◌, ◌<◌, ℕ, List, ap, length, get_or, refl, sym, subst, arith, below_more}
-use Rattle.table_schema.specs.declared.table.TableId.{TableId}
-use Rattle.table_schema.specs.declared.table.TableId.TheVariants.{Module}
-use Rattle.table_schema.specs.Tables.{table_index_of, tables}
-use Rattle.metadata.specs.Source.{rows_in}
+use Rattle.comparison.proofs.Prelude.{TableId, Module, table_index_of, tables, rows_in}
 use Rattle.comparison.proofs.same_bytes.have_same_layout.Goals as goal
 
 pub returns-then-heap_sizes : goal.returns-then-heap_sizes

@@ -1,7 +1,4 @@
-use Rattle.std.proofs.Common.{◌≡◌, ℕ, ◌<◌, get_or}
-use Rattle.table_schema.specs.declared.table.TableId.TheVariants.{Module}
-use Rattle.table_schema.specs.Tables.{tables}
-use Rattle.metadata.specs.Source.{rows_in}
+use Rattle.comparison.proofs.Prelude.{◌≡◌, ℕ, ◌<◌, get_or, Module, tables, rows_in}
 use Rattle.comparison.proofs.same_bytes.have_same_layout.Given as goal
 
 abbrev pub invariant-loop-table : goal.invariant-loop-table

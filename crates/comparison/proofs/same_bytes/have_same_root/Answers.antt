@@ -1,7 +1,5 @@
 use Rattle.std.proofs.Common.{ℕ, List, sym, subst}
-use Rattle.std.proofs.lemmas.Bool.Decides.{Decides-eqb}
-use Rattle.std.proofs.lemmas.Slice.Eq.{slice_eq-Decides}
-use Rattle.metadata.specs.Model.{IsModel}
+use Rattle.comparison.proofs.Prelude.{Decides-eqb, slice_eq-Decides, IsModel}
 use Rattle.comparison.proofs.AlikeLemmas.{compared}
 use Rattle.comparison.proofs.EqualLemmas.{cells_alike, same_alike}
 use Rattle.comparison.proofs.same_bytes.have_same_root.Goals as goal

@@ -1,5 +1,4 @@
-use Rattle.std.proofs.Common.{◌∙◌}
-use Rattle.std.proofs.lemmas.Bool.Decides.{Decides-eqb}
+use Rattle.comparison.proofs.Prelude.{◌∙◌, Decides-eqb}
 use Rattle.comparison.proofs.same_bytes.is_null_start.Goals as goal
 
 pub returns-in-List : goal.returns-in-List

@@ -1,8 +1,4 @@
-use Rattle.std.proofs.Common.{◌≢◌, ◌≤◌, ◌+◌, subst, sym, arith}
-use Rattle.schema.specs.Sizes.{SameCounts}
-use Rattle.metadata.specs.Source.{Source, number_of, rows_in}
-use Rattle.metadata.specs.SourceAt.{source_of}
-use Rattle.comparison.specs.Alike.{HaveSameNumbers}
+use Rattle.comparison.proofs.Prelude.{◌≢◌, ◌≤◌, ◌+◌, subst, sym, arith, SameCounts, Source, number_of, rows_in, source_of, HaveSameNumbers}
 use Rattle.comparison.proofs.AlikeLemmas.{row_decided}
 use Rattle.comparison.proofs.same_bytes.is_same_row.Goals as goal
 

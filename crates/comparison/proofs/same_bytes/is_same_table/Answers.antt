@@ -1,8 +1,4 @@
-use Rattle.std.proofs.Common.{◌+◌, ◌∙◌, ℕ, ap, subst, sym, arith}
-use Rattle.schema.specs.Sizes.{SameCounts}
-use Rattle.metadata.specs.Source.{Source}
-use Rattle.metadata.specs.SourceAt.{source_of}
-use Rattle.comparison.specs.Alike.{HaveSameNumbers}
+use Rattle.comparison.proofs.Prelude.{◌+◌, ◌∙◌, ℕ, ap, subst, sym, arith, SameCounts, Source, source_of, HaveSameNumbers}
 use Rattle.comparison.proofs.AlikeLemmas.{table_decided}
 use Rattle.comparison.proofs.same_bytes.is_same_table.Goals as goal
 

@@ -1,7 +1,4 @@
-use Rattle.std.proofs.Common.{◌∙◌, ap, sym}
-use Rattle.std.proofs.lemmas.Bool.Decides.{Decides-eqb}
-use Rattle.std.proofs.lemmas.Slice.Eq.{slice_eq-Decides}
-use Rattle.sig_grammar.specs.Encodes.{short}
+use Rattle.comparison.proofs.Prelude.{◌∙◌, ap, sym, Decides-eqb, slice_eq-Decides, short}
 use Rattle.comparison.proofs.SignatureLemmas.{same_short}
 use Rattle.comparison.proofs.same_cells.same_signature.Goals as goal
 

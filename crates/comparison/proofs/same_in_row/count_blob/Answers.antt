@@ -1,7 +1,4 @@
-use Rattle.std.proofs.Common.{◌∙◌, ap, sym}
-use Rattle.std.proofs.lemmas.Result.{on_ok_weaker}
-use Rattle.metadata.specs.Source.{Source}
-use Rattle.metadata.specs.SourceAt.{source_of}
+use Rattle.comparison.proofs.Prelude.{◌∙◌, ap, sym, on_ok_weaker, Source, source_of}
 use Rattle.comparison.proofs.NameLemmas.{names_kept}
 use Rattle.comparison.proofs.same_in_row.count_blob.Goals as goal
 

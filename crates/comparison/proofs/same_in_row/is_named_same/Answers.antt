@@ -1,7 +1,5 @@
 use Rattle.std.proofs.Common.{◌∙◌, List, ℕ, ap, subst, sym}
-use Rattle.metadata.specs.Source.{Source}
-use Rattle.metadata.specs.SourceAt.{source_of}
-use Rattle.comparison.specs.BlobNames.{AreSameBlobs}
+use Rattle.comparison.proofs.Prelude.{Source, source_of, AreSameBlobs}
 use Rattle.comparison.proofs.NameLemmas.{named_outcome, names_kept}
 use Rattle.comparison.proofs.same_in_row.is_named_same.Goals as goal
 

@@ -1,7 +1,5 @@
 use Rattle.std.proofs.Common.{List, ℕ, subst, sym}
-use Rattle.table_schema.specs.declared.column.ColumnKind.{ColumnKind}
-use Rattle.metadata.specs.Model.{IsModel}
-use Rattle.comparison.specs.ComparedCells.{IsInHeap}
+use Rattle.comparison.proofs.Prelude.{ColumnKind, IsModel, IsInHeap}
 use Rattle.comparison.proofs.ComparedLemmas.{outcomes_kept, tested_in_row}
 use Rattle.comparison.proofs.same_in_row.is_same_in_row.Goals as goal
 

@@ -1,6 +1,4 @@
-use Rattle.std.proofs.Common.{◌∙◌, ap, sym}
-use Rattle.metadata.specs.Source.{Source}
-use Rattle.metadata.specs.SourceAt.{source_of}
+use Rattle.comparison.proofs.Prelude.{◌∙◌, ap, sym, Source, source_of}
 use Rattle.comparison.proofs.TextLemmas.{any_noted}
 use Rattle.comparison.proofs.same_in_row.noted_of_texts.Goals as goal
 

@@ -1,8 +1,4 @@
-use Rattle.std.proofs.Common.{refl, sym, ap}
-use Rattle.std.specs.Prelude.{codes, option_map}
-use Rattle.full_names.proofs.TextLemmas.{writes_same}
-use Rattle.declarations.specs.Declarations.{after_space, marshalled}
-use Rattle.declarations.specs.Descriptors.{marshal_text}
+use Rattle.declarations.proofs.Prelude.{refl, sym, ap, codes, option_map, writes_same, after_space, marshalled, marshal_text}
 use Rattle.declarations.proofs.DescriptorLemmas.{writes_then}
 use Rattle.declarations.proofs.descriptors.write_after_space.Goals as goal
 

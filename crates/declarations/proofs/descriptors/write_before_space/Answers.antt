@@ -1,8 +1,4 @@
-use Rattle.std.proofs.Common.{refl, sym, ap}
-use Rattle.std.specs.Prelude.{codes, option_map}
-use Rattle.full_names.proofs.TextLemmas.{writes_same}
-use Rattle.declarations.specs.Declarations.{before_space, marshalled}
-use Rattle.declarations.specs.Descriptors.{marshal_text}
+use Rattle.declarations.proofs.Prelude.{refl, sym, ap, codes, option_map, writes_same, before_space, marshalled, marshal_text}
 use Rattle.declarations.proofs.DescriptorLemmas.{writes_then}
 use Rattle.declarations.proofs.descriptors.write_before_space.Goals as goal
 

@@ -1,6 +1,5 @@
-use Rattle.std.proofs.Common.{arith, refl}
+use Rattle.declarations.proofs.Prelude.{arith, refl, all_bytes, one_byte_more, other_bytes_passed, writes_nothing}
 use Rattle.table_schema.specs.Tokens.{hexadecimal}
-use Rattle.full_names.proofs.TextLemmas.{all_bytes, one_byte_more, other_bytes_passed, writes_nothing}
 use Rattle.declarations.proofs.descriptors.write_bytes.Goals as goal
 
 pub loop-byte-init : goal.loop-byte-init

@@ -1,6 +1,4 @@
-use Rattle.std.proofs.Common.{take}
-use Rattle.std.specs.Fmt.{WritesInCalls}
-use Rattle.declarations.specs.Descriptors.{bytes_text}
+use Rattle.declarations.proofs.Prelude.{take, WritesInCalls, bytes_text}
 use Rattle.declarations.proofs.descriptors.write_bytes.Given as goal
 
 abbrev pub invariant-loop-byte : goal.invariant-loop-byte

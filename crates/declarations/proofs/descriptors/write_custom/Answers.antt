@@ -1,6 +1,4 @@
-use Rattle.std.proofs.Common.{◌++◌, refl}
-use Rattle.std.specs.Prelude.{codes}
-use Rattle.declarations.specs.Descriptors.{library_text, quoted_text}
+use Rattle.declarations.proofs.Prelude.{◌++◌, refl, codes, library_text, quoted_text}
 use Rattle.declarations.proofs.DescriptorLemmas.{writes_then}
 use Rattle.declarations.proofs.descriptors.write_custom.Goals as goal
 

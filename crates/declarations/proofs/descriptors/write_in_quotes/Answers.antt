@@ -1,6 +1,4 @@
-use Rattle.std.proofs.Common.{◌++◌, refl}
-use Rattle.std.specs.Prelude.{codes}
-use Rattle.full_names.specs.Quoted.{quoted_bytes}
+use Rattle.declarations.proofs.Prelude.{◌++◌, refl, codes, quoted_bytes}
 use Rattle.declarations.proofs.DescriptorLemmas.{writes_then}
 use Rattle.declarations.proofs.descriptors.write_in_quotes.Goals as goal
 

@@ -1,6 +1,4 @@
-use Rattle.std.proofs.Common.{◌++◌, refl}
-use Rattle.std.specs.Prelude.{codes}
-use Rattle.declarations.specs.Descriptors.{content_text, descriptor_in}
+use Rattle.declarations.proofs.Prelude.{◌++◌, refl, codes, content_text, descriptor_in}
 use Rattle.declarations.proofs.DescriptorLemmas.{writes_then}
 use Rattle.declarations.proofs.descriptors.write_marshal.Goals as goal
 

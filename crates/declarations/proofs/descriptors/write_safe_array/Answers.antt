@@ -1,6 +1,4 @@
-use Rattle.std.proofs.Common.{◌++◌, refl}
-use Rattle.std.specs.Prelude.{codes}
-use Rattle.declarations.specs.Descriptors.{type_after, variant_text}
+use Rattle.declarations.proofs.Prelude.{◌++◌, refl, codes, type_after, variant_text}
 use Rattle.declarations.proofs.DescriptorLemmas.{writes_then}
 use Rattle.declarations.proofs.descriptors.write_safe_array.Goals as goal
 

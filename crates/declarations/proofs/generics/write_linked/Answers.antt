@@ -1,5 +1,4 @@
-use Rattle.std.proofs.Common.{length}
-use Rattle.type_heads.proofs.HeadLemmas.{is_none, is_some}
+use Rattle.declarations.proofs.Prelude.{length, is_none, is_some}
 use Rattle.declarations.proofs.GenericLemmas.{no_rows, some_rows}
 use Rattle.declarations.proofs.generics.write_linked.Goals as goal
 

@@ -1,9 +1,5 @@
-use Rattle.std.proofs.Common.{◌≡◌, None, refl, sym, ◌∙◌, subst}
-use Rattle.std.specs.Prelude.{⊤}
-use Rattle.full_names.specs.Names.{Wrote}
+use Rattle.declarations.proofs.Prelude.{◌≡◌, None, refl, sym, ◌∙◌, subst, ⊤, Wrote, AreLinksOf, AreParams, IsDeclaredPiece, generic_rows, Declared}
 use Rattle.full_names.specs.TextEnd.{IsWhole}
-use Rattle.declarations.specs.Declarations.{AreLinksOf, AreParams, IsDeclaredPiece, generic_rows}
-use Rattle.declarations.specs.declared.method_text.Declared.{Declared}
 use Rattle.full_names.proofs.SinkLemmas.{received}
 use Rattle.declarations.proofs.ParamExists.{declared_texts}
 use Rattle.declarations.proofs.method_text.put_declaration.Goals as goal

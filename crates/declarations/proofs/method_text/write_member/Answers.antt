@@ -1,8 +1,4 @@
-use Rattle.std.proofs.Common.{refl, ◌++◌}
-use Rattle.std.specs.Prelude.{codes}
-use Rattle.full_names.specs.declared.quoted.NameKind.TheVariants.{Member}
-use Rattle.full_names.specs.Quoted.{name_text}
-use Rattle.full_names.proofs.TextLemmas.{writes_append}
+use Rattle.declarations.proofs.Prelude.{refl, ◌++◌, codes, Member, name_text, writes_append}
 use Rattle.declarations.proofs.method_text.write_member.Goals as goal
 
 pub returns : goal.returns

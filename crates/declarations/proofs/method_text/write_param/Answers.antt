@@ -1,8 +1,4 @@
-use Rattle.std.proofs.Common.{◌++◌, refl}
-use Rattle.std.specs.Prelude.{option_map}
-use Rattle.full_names.proofs.PieceLemmas.{ok_then}
-use Rattle.full_names.proofs.TextLemmas.{writes_append}
-use Rattle.declarations.specs.Declarations.{after_space, marshalled, spaced}
+use Rattle.declarations.proofs.Prelude.{◌++◌, refl, option_map, ok_then, writes_append, after_space, marshalled, spaced}
 use Rattle.declarations.proofs.method_text.write_param.Goals as goal
 
 pub returns : goal.returns

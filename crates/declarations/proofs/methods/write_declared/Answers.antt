@@ -1,12 +1,4 @@
-use Rattle.std.proofs.Common.{subst, sym, rules, ◌∙◌, ap}
-use Rattle.std.specs.Fmt.{WritesInCalls}
-use Rattle.sig_text.specs.Declares.{member_text}
-use Rattle.declarations.specs.declared.method_text.Declared.{Declared}
-use Rattle.full_names.specs.Names.{Wrote}
-use Rattle.full_names.specs.RowNames.{IsRowNameBy}
-use Rattle.full_names.specs.Texts.{ArePiecesText}
-use Rattle.declarations.specs.Declarations.{AreLinksOf, AreParams, IsDeclaredPiece, generic_rows}
-use Rattle.full_names.proofs.PieceLemmas.{ok_then}
+use Rattle.declarations.proofs.Prelude.{subst, sym, rules, ◌∙◌, ap, WritesInCalls, member_text, Declared, Wrote, IsRowNameBy, ArePiecesText, AreLinksOf, AreParams, IsDeclaredPiece, generic_rows, ok_then}
 use Rattle.declarations.proofs.methods.write_declared.Goals as goal
 
 pub returns : goal.returns

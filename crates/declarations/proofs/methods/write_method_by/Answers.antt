@@ -1,12 +1,5 @@
-use Rattle.std.proofs.Common.{arith, refl, inl}
-use Rattle.table_schema.specs.declared.table.TableId.TheVariants.{MethodDef}
+use Rattle.declarations.proofs.Prelude.{arith, refl, inl, MethodDef, cell_columns, method_body, Encodes, HasRow, IsDeclarationWith, generic_rows, encoded_by, on_wrote}
 use Rattle.table_schema.specs.declared.column.SigKind.TheVariants as kind
-use Rattle.table_schema.specs.CellColumns.{cell_columns}
-use Rattle.sig_grammar.specs.Syntax.{method_body}
-use Rattle.sig_grammar.specs.Encodes.{Encodes}
-use Rattle.metadata.specs.Lookups.{HasRow}
-use Rattle.declarations.specs.Declarations.{IsDeclarationWith, generic_rows}
-use Rattle.full_names.proofs.PieceLemmas.{encoded_by, on_wrote}
 use Rattle.declarations.proofs.ClassNames.{type_named}
 use Rattle.declarations.proofs.methods.write_method_by.Goals as goal
 

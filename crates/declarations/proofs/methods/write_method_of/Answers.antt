@@ -1,8 +1,6 @@
-use Rattle.std.proofs.Common.{List, ℕ, subst, sym}
+use Rattle.declarations.proofs.Prelude.{List, ℕ, subst, sym, Wrote, IsDeclarationWith}
 use Rattle.metadata.specs.Model.{IsModel}
 use Rattle.std.specs.Prelude.{OnOk}
-use Rattle.full_names.specs.Names.{Wrote}
-use Rattle.declarations.specs.Declarations.{IsDeclarationWith}
 use Rattle.declarations.proofs.methods.write_method_of.Goals as goal
 
 pub returns : goal.returns

@@ -1,13 +1,5 @@
-use Rattle.std.proofs.Common.{arith, refl, inl, inr}
-use Rattle.table_schema.specs.declared.table.TableId.TheVariants.{Property}
+use Rattle.declarations.proofs.Prelude.{arith, refl, inl, inr, Property, cell_columns, property, Encodes, as_method, HasRow, IsPropertyDeclarationBy, encoded_by, on_wrote}
 use Rattle.table_schema.specs.declared.column.SigKind.TheVariants as kind
-use Rattle.table_schema.specs.CellColumns.{cell_columns}
-use Rattle.sig_grammar.specs.Syntax.{property}
-use Rattle.sig_grammar.specs.Encodes.{Encodes}
-use Rattle.sig_text.specs.Declares.{as_method}
-use Rattle.metadata.specs.Lookups.{HasRow}
-use Rattle.declarations.specs.Declarations.{IsPropertyDeclarationBy}
-use Rattle.full_names.proofs.PieceLemmas.{encoded_by, on_wrote}
 use Rattle.declarations.proofs.ClassNames.{type_named}
 use Rattle.declarations.proofs.methods.write_property_within.Goals as goal
 

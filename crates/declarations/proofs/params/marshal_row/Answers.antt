@@ -1,8 +1,5 @@
-use Rattle.std.proofs.Common.{subst}
-use Rattle.std.proofs.Math.Logic.{∥∥₁_elim, ∥∥₁_map}
+use Rattle.declarations.proofs.Prelude.{subst, ∥∥₁_elim, ∥∥₁_map, FieldMarshal, AreLinksOf}
 use Rattle.std.proofs.Props.{props}
-use Rattle.table_schema.specs.declared.table.TableId.TheVariants.{FieldMarshal}
-use Rattle.declarations.specs.Declarations.{AreLinksOf}
 use Rattle.declarations.proofs.MarshalLemmas.{first_there}
 use Rattle.declarations.proofs.params.marshal_row.Goals as goal
 

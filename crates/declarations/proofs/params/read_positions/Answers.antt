@@ -1,10 +1,5 @@
-use Rattle.std.proofs.Common.{◌≡◌, ◌∙◌, ℕ, ◌+◌, ◌-◌, ◌≤◌, ◌∷◌, [], ◌++◌, List, ap, arith, sym}
-use Rattle.std.proofs.lemmas.List.Elements.{All-cons, All-nil, All-same, All-append}
+use Rattle.declarations.proofs.Prelude.{◌≡◌, ◌∙◌, ℕ, ◌+◌, ◌-◌, ◌≤◌, ◌∷◌, [], ◌++◌, List, ap, arith, sym, All-cons, All-nil, All-same, All-append, Param, KeyedRow, keyed_row, keyed_rows, position_in, position_of}
 use Rattle.std.proofs.lemmas.List.FromFn.{map-range_with_len_more}
-use Rattle.table_schema.specs.declared.table.TableId.TheVariants.{Param}
-use Rattle.navigation.specs.declared.keyed.KeyedRow.{KeyedRow}
-use Rattle.navigation.specs.Keyed.{keyed_row, keyed_rows}
-use Rattle.declarations.specs.Declarations.{position_in, position_of}
 use Rattle.declarations.proofs.params.read_positions.Goals as goal
 
 pub loop-row-preserved : goal.loop-row-preserved

@@ -1,9 +1,5 @@
-use Rattle.std.proofs.Common.{◌≡◌, ◌-◌, ◌≤◌}
+use Rattle.declarations.proofs.Prelude.{◌≡◌, ◌-◌, ◌≤◌, Param, Metadata, keyed_rows, position_in}
 use Rattle.std.specs.List.{All}
-use Rattle.table_schema.specs.declared.table.TableId.TheVariants.{Param}
-use Rattle.metadata.specs.Metadata.{Metadata}
-use Rattle.navigation.specs.Keyed.{keyed_rows}
-use Rattle.declarations.specs.Declarations.{position_in}
 use Rattle.declarations.proofs.params.read_positions.Given as goal
 
 -- the rows before this one are read

@@ -1,10 +1,5 @@
 use Rattle.std.proofs.Common.{rules, ◌≡◌, ◌∙◌, ◌==◌, ◌++◌, List, ℕ, true, false, length, subst, sym}
-use Rattle.std.specs.Prelude.{codes}
-use Rattle.std.specs.Fmt.{WritesInCalls}
-use Rattle.full_names.specs.declared.quoted.NameKind.TheVariants.{Identifier}
-use Rattle.full_names.specs.Quoted.{name_text}
-use Rattle.full_names.proofs.TextLemmas.{writes_last, writes_nothing, writes_same}
-use Rattle.declarations.specs.Declarations.{spaced}
+use Rattle.declarations.proofs.Prelude.{codes, WritesInCalls, Identifier, name_text, writes_last, writes_nothing, writes_same, spaced}
 use Rattle.declarations.proofs.ParamLemmas.{spaced_after, spaced_alone}
 use Rattle.declarations.proofs.params.write_spaced.Goals as goal
 

@@ -1,8 +1,4 @@
-use Rattle.std.proofs.Common.{◌≤◌, arith, refl, subst, sym}
-use Rattle.table_schema.specs.declared.table.TableId.{TableId}
-use Rattle.table_schema.specs.declared.table.TableId.TheVariants.{MemberRef, TypeDef}
-use Rattle.metadata.specs.Lookups.{HasRow}
-use Rattle.declarations.specs.Declarations.{IsClassUnder}
+use Rattle.declarations.proofs.Prelude.{◌≤◌, arith, refl, subst, sym, TableId, MemberRef, TypeDef, HasRow, IsClassUnder}
 use Rattle.declarations.proofs.ClassNames.{class_under, parent_named, type_named}
 use Rattle.declarations.proofs.references.class_of_member.Goals as goal
 

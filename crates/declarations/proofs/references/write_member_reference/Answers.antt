@@ -1,12 +1,5 @@
-use Rattle.std.proofs.Common.{arith, refl, inr}
-use Rattle.table_schema.specs.declared.table.TableId.TheVariants.{MemberRef}
+use Rattle.declarations.proofs.Prelude.{arith, refl, inr, MemberRef, cell_columns, Encodes, HasRow, cell_in, IsReferenceBy, encoded_by, on_wrote, signature_of}
 use Rattle.table_schema.specs.declared.column.SigKind.TheVariants as kind
-use Rattle.table_schema.specs.CellColumns.{cell_columns}
-use Rattle.sig_grammar.specs.Encodes.{Encodes}
-use Rattle.metadata.specs.Lookups.{HasRow}
-use Rattle.metadata.specs.Metadata.{cell_in}
-use Rattle.declarations.specs.Declarations.{IsReferenceBy}
-use Rattle.full_names.proofs.PieceLemmas.{encoded_by, on_wrote, signature_of}
 use Rattle.declarations.proofs.references.write_member_reference.Goals as goal
 
 pub returns : goal.returns

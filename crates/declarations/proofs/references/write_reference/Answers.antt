@@ -1,10 +1,4 @@
-use Rattle.std.proofs.Common.{◌≤◌, arith, subst}
-use Rattle.table_schema.specs.declared.table.TableId.{TableId}
-use Rattle.table_schema.specs.declared.table.TableId.TheVariants.{MethodDef, MemberRef}
-use Rattle.metadata.specs.Lookups.{HasRow}
-use Rattle.full_names.specs.RowNames.{IsRowNameBy}
-use Rattle.full_names.proofs.PieceLemmas.{on_wrote}
-use Rattle.declarations.specs.Declarations.{IsReference, IsReferenceBy}
+use Rattle.declarations.proofs.Prelude.{◌≤◌, arith, subst, TableId, MethodDef, MemberRef, HasRow, IsRowNameBy, on_wrote, IsReference, IsReferenceBy}
 use Rattle.declarations.proofs.ReferenceLemmas.{member_row, method_row, other_row}
 use Rattle.declarations.proofs.references.write_reference.Goals as goal
 

@@ -1,7 +1,4 @@
-use Rattle.std.proofs.Common.{◌≡◌, ℕ, ◌+◌, ◌≤◌, List, [], ◌∷◌, length, take, drop, ap, arith}
-use Rattle.std.proofs.lemmas.List.{length-drop, drop-drop}
-use Rattle.packed.specs.Number.{little_endian}
-use Rattle.embedding.specs.Bytes.{sum_of_words}
+use Rattle.embedding.proofs.Prelude.{◌≡◌, ℕ, ◌+◌, ◌≤◌, List, [], ◌∷◌, length, take, drop, ap, arith, length-drop, drop-drop, little_endian, sum_of_words}
 use Rattle.embedding.proofs.change.sum_of_words.Goals as goal
 
 two_first : (bytes : List ℕ) → 2 ≤ length bytes → sum_of_words bytes ≡ little_endian (take 2 bytes) + sum_of_words (drop 2 bytes)

@@ -1,5 +1,4 @@
-use Rattle.std.proofs.Common.{◌≡◌, ◌+◌, ◌*◌, ◌-◌, ◌≤◌, length, drop}
-use Rattle.embedding.specs.Bytes.{sum_of_words}
+use Rattle.embedding.proofs.Prelude.{◌≡◌, ◌+◌, ◌*◌, ◌-◌, ◌≤◌, length, drop, sum_of_words}
 use Rattle.embedding.proofs.change.sum_of_words.Given as goal
 
 -- the words before the offset are added

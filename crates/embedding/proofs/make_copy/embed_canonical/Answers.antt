@@ -1,17 +1,8 @@
-use Rattle.std.proofs.Common.{◌≡◌, ◌<◌, inl, inr, List, ℕ, length, refl, subst, sym, ap, ◌∙◌, arith}
-use Rattle.std.proofs.lemmas.Result.{err_from_is_err_and}
-use Rattle.std.proofs.Math.Logic.{∥∥₁_map}
+use Rattle.embedding.proofs.Prelude.{◌≡◌, ◌<◌, inl, inr, List, ℕ, length, refl, subst, sym, ap, ◌∙◌, arith, err_from_is_err_and, ∥∥₁_map, byte_limit, Metadata, IsModel, user_of, IsEmbedded, IsReason, result_of}
 use Rattle.std.specs.Bool.{⊤}
-use Rattle.packed.specs.Limit.{byte_limit}
 use Rattle.writer.specs.declared.error.WriteError.{WriteError}
 use Rattle.writer.specs.Errors.{MatchError}
-use Rattle.metadata.specs.Metadata.{Metadata}
-use Rattle.metadata.specs.Model.{IsModel}
-use Rattle.opening.specs.Views.{user_of}
 use Rattle.root_writer.specs.Canonical.{canonical}
-use Rattle.embedding.specs.Embedded.{IsEmbedded}
-use Rattle.embedding.specs.Errors.{IsReason}
-use Rattle.embedding.specs.Planned.{result_of}
 use Rattle.embedding.proofs.Canonical.{AreRead, leads}
 use Rattle.embedding.proofs.make_copy.embed_canonical.Goals as goal
 

@@ -1,7 +1,5 @@
-use Rattle.std.proofs.Common.{◌≡◌, rules, List, ℕ, min, refl, sym, ap, ◌∙◌, drop, length, replicate, subst, arith}
+use Rattle.embedding.proofs.Prelude.{◌≡◌, rules, List, ℕ, min, refl, sym, ap, ◌∙◌, drop, length, replicate, subst, arith, false≢true, not-false, Decides-eqb}
 use mathlib.Core.Bool.{not}
-use Rattle.std.proofs.lemmas.Bool.{false≢true, not-false}
-use Rattle.std.proofs.lemmas.Bool.Decides.{Decides-eqb}
 use Rattle.std.proofs.lemmas.Slice.Eq.{slice_eq-Decides}
 use Rattle.embedding.proofs.Padded.{padded_alike, same_begin, same_fours, zeros_after}
 use Rattle.embedding.proofs.matching.are_padded_alike.Goals as goal

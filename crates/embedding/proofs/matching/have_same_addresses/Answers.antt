@@ -1,9 +1,5 @@
-use Rattle.std.proofs.Common.{◌≡◌, ◌≤◌, ℕ, arith}
-use Rattle.std.proofs.lemmas.Bool.{false≢true}
+use Rattle.embedding.proofs.Prelude.{◌≡◌, ◌≤◌, ℕ, arith, false≢true, number_of, source_of, row_count}
 use borrow.Author.Count.{below_more}
-use Rattle.metadata.specs.Source.{number_of}
-use Rattle.metadata.specs.SourceAt.{source_of}
-use Rattle.opening.specs.Views.{row_count}
 use Rattle.embedding.proofs.matching.have_same_addresses.Goals as goal
 
 pub loop-row-preserved : goal.loop-row-preserved

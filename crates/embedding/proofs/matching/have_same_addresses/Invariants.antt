@@ -1,6 +1,4 @@
-use Rattle.std.proofs.Common.{◌≡◌, ◌<◌, ◌≤◌, ℕ}
-use Rattle.metadata.specs.Source.{number_of}
-use Rattle.metadata.specs.SourceAt.{source_of}
+use Rattle.embedding.proofs.Prelude.{◌≡◌, ◌<◌, ◌≤◌, ℕ, number_of, source_of}
 use Rattle.embedding.proofs.matching.have_same_addresses.Given as goal
 
 -- the rows before this one have the same addresses

@@ -1,11 +1,4 @@
-use Rattle.std.proofs.Common.{◌≡◌, List, ℕ, length, ap, sym, subst, ◌∙◌, arith}
-use Rattle.packed.specs.Rule.{AllHold, FirstBroken}
-use Rattle.pe.specs.Headers.{image_of}
-use Rattle.pe.specs.Image.{Image}
-use Rattle.cli_header.specs.Rules.{rules_of_cli_header}
-use Rattle.cli_header.specs.Said.{header_of}
-use Rattle.metadata.specs.Model.{IsModel}
-use Rattle.metadata.specs.Streams.{root_in}
+use Rattle.embedding.proofs.Prelude.{◌≡◌, List, ℕ, length, ap, sym, subst, ◌∙◌, arith, AllHold, FirstBroken, image_of, Image, rules_of_cli_header, header_of, IsModel, root_in}
 use Rattle.embedding.proofs.Opens.{image_fails, header_fails, same_root, opens_with}
 use Rattle.embedding.proofs.plan.open_file.Goals as goal
 

@@ -1,14 +1,5 @@
-use Rattle.std.proofs.Common.{◌≡◌, List, ℕ, subst, sym, ap, ◌∙◌}
-use Rattle.std.proofs.lemmas.Bool.{false≢true}
-use Rattle.std.proofs.Math.Logic.{∥∥₁_elim}
-use Rattle.std.specs.Coded.{le_prop}
-use Rattle.pe.specs.Headers.{image_of}
-use Rattle.cli_header.specs.Said.{header_of}
-use Rattle.metadata.specs.Streams.{root_in}
-use Rattle.embedding.specs.Matching.{LeadsAlike}
+use Rattle.embedding.proofs.Prelude.{◌≡◌, List, ℕ, subst, sym, ap, ◌∙◌, false≢true, ∥∥₁_elim, le_prop, image_of, header_of, root_in, LeadsAlike, FirstBroken, rules_of_file, rules_of_metadata}
 use Rattle.embedding.proofs.Misfits.{opens_by}
-use Rattle.packed.specs.Rule.{FirstBroken}
-use Rattle.metadata.specs.Rules.{rules_of_file, rules_of_metadata}
 use Rattle.embedding.proofs.Opens.{no_fault}
 use Rattle.embedding.proofs.plan.plan_embedding.Goals as goal
 

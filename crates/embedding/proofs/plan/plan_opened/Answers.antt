@@ -1,12 +1,4 @@
-use Rattle.std.proofs.Common.{List, ℕ, length, refl, subst, sym, ◌∙◌}
-use Rattle.std.proofs.lemmas.Bool.{false≢true}
-use Rattle.std.proofs.lemmas.Result.{err_from_is_err_and}
-use Rattle.cli_header.specs.declared.header.CliHeader.{CliHeader}
-use Rattle.metadata.specs.SourceAt.{source_of}
-use Rattle.embedding.specs.Embedded.{AreHeadersApart}
-use Rattle.embedding.specs.Matching.{LeadsAlike}
-use Rattle.embedding.specs.Slots.{FitsAt}
-use Rattle.embedding.specs.Planned.{Planned, IsPlanned}
+use Rattle.embedding.proofs.Prelude.{List, ℕ, length, refl, subst, sym, ◌∙◌, false≢true, err_from_is_err_and, CliHeader, source_of, AreHeadersApart, LeadsAlike, FitsAt, Planned, IsPlanned}
 use Rattle.embedding.proofs.Misfits.{misfit_is_reason, opens_by}
 use Rattle.embedding.proofs.plan.plan_opened.Goals as goal
 

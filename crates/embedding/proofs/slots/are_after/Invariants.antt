@@ -1,5 +1,4 @@
-use Rattle.std.proofs.Common.{◌≡◌, ◌<◌, ◌≤◌, ◌⊎◌, ℕ}
-use Rattle.file_ranges.specs.Fields.{raw_size, raw_offset}
+use Rattle.embedding.proofs.Prelude.{◌≡◌, ◌<◌, ◌≤◌, ◌⊎◌, ℕ, raw_size, raw_offset}
 use Rattle.embedding.proofs.slots.are_after.Given as goal
 
 -- the sections before this one begin after the offset

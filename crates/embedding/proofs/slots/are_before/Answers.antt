@@ -1,6 +1,5 @@
-use Rattle.std.proofs.Common.{◌≤◌, ℕ, arith}
+use Rattle.embedding.proofs.Prelude.{◌≤◌, ℕ, arith, address_end, raw_end, virtual_address}
 use borrow.Author.Count.{below_more}
-use Rattle.file_ranges.specs.Fields.{address_end, raw_end, virtual_address}
 use Rattle.embedding.proofs.slots.are_before.Goals as goal
 
 pub loop-other-preserved : goal.loop-other-preserved

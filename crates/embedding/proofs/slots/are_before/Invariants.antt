@@ -1,5 +1,4 @@
-use Rattle.std.proofs.Common.{◌<◌, ◌≤◌, ℕ}
-use Rattle.file_ranges.specs.Fields.{address_end, raw_end, virtual_address}
+use Rattle.embedding.proofs.Prelude.{◌<◌, ◌≤◌, ℕ, address_end, raw_end, virtual_address}
 use Rattle.embedding.proofs.slots.are_before.Given as goal
 
 -- the sections before this one end before the last

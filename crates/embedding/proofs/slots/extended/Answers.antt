@@ -1,6 +1,4 @@
-use Rattle.std.proofs.Common.{◌≡◌, ◌-◌, ◌<◌, ◌≤◌, arith, ap, subst, ◌∙◌, ℕ}
-use Rattle.file_ranges.specs.Fields.{aligned, virtual_address, raw_end, address_end, last}
-use Rattle.embedding.specs.Slots.{EndsFile}
+use Rattle.embedding.proofs.Prelude.{◌≡◌, ◌-◌, ◌<◌, ◌≤◌, arith, ap, subst, ◌∙◌, ℕ, aligned, virtual_address, raw_end, address_end, last, EndsFile}
 use Rattle.embedding.proofs.slots.extended.Goals as goal
 
 pub returns-clause-section : goal.returns-clause-section

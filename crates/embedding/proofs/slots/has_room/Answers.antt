@@ -1,6 +1,4 @@
-use Rattle.std.proofs.Common.{◌≡◌, ◌+◌, ℕ, List, length, replicate, subst, ap, arith}
-use Rattle.packed.specs.Offsets.{part}
-use Rattle.file_ranges.specs.Fields.{headers_end}
+use Rattle.embedding.proofs.Prelude.{◌≡◌, ◌+◌, ℕ, List, length, replicate, subst, ap, arith, part, headers_end}
 use Rattle.embedding.proofs.Padded.{zeros_at}
 use Rattle.embedding.proofs.slots.has_room.Goals as goal
 

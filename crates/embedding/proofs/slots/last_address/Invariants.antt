@@ -1,5 +1,4 @@
-use Rattle.std.proofs.Common.{◌≡◌, ◌<◌, ◌^◌}
-use Rattle.embedding.specs.Slots.{address_before}
+use Rattle.embedding.proofs.Prelude.{◌≡◌, ◌<◌, ◌^◌, address_before}
 use Rattle.embedding.proofs.slots.last_address.Given as goal
 
 -- the end of the sections before this one

@@ -1,8 +1,4 @@
-use Rattle.std.proofs.Common.{eq-eqb, sym, subst, ◌∙◌}
-use Rattle.std.proofs.lemmas.Bool.{false≢true}
-use Rattle.pe.specs.Image.{Image}
-use Rattle.pe.specs.Offset.{IsFileOffset}
-use Rattle.metadata.specs.Source.{Source}
+use Rattle.embedding.proofs.Prelude.{eq-eqb, sym, subst, ◌∙◌, false≢true, Image, IsFileOffset, Source}
 use Rattle.file_ranges.specs.Occupied.{IsFree}
 use Rattle.embedding.proofs.slots.reused.Goals as goal
 use Rattle.embedding.proofs.slots.reused.Goals.{in-Some, in-None, else-is_found-via-then-is_found+else-is_free, else-is_found-via-else-is_found}

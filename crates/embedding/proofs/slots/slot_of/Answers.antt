@@ -1,6 +1,4 @@
-use Rattle.std.proofs.Common.{sym, ◌∙◌, arith}
-use Rattle.std.proofs.lemmas.Bool.{false≢true}
-use Rattle.metadata.specs.SourceAt.{source_of}
+use Rattle.embedding.proofs.Prelude.{sym, ◌∙◌, arith, false≢true, source_of}
 use Rattle.embedding.proofs.Misfits.{no_longer_section, no_new_section}
 use Rattle.embedding.proofs.slots.slot_of.Goals as goal
 

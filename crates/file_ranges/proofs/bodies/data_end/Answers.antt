@@ -1,5 +1,4 @@
-use Rattle.std.proofs.Common.{◌≡◌, ℕ, ◌+◌, ◌-◌, Some, ap, sym, ◌∙◌, arith}
-use Rattle.file_ranges.specs.Bodies.{data_end}
+use Rattle.file_ranges.proofs.Prelude.{◌≡◌, ℕ, ◌+◌, ◌-◌, Some, ap, sym, ◌∙◌, arith, data_end}
 use Rattle.file_ranges.proofs.BodyLemmas.{none_left, past_end, too_short, ends_here, goes_on}
 use Rattle.file_ranges.proofs.bodies.data_end.Goals as goal
 

@@ -1,5 +1,4 @@
-use Rattle.std.proofs.Common.{◌≡◌, ◌-◌, ◌<◌, ◌^◌}
-use Rattle.file_ranges.specs.Bodies.{data_end}
+use Rattle.file_ranges.proofs.Prelude.{◌≡◌, ◌-◌, ◌<◌, ◌^◌, data_end}
 use Rattle.file_ranges.proofs.bodies.data_end.Given as goal
 
 -- what is left of the data sections gives the end

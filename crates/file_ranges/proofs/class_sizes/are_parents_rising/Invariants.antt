@@ -1,5 +1,4 @@
-use Rattle.std.proofs.Common.{◌<◌, ◌≤◌, ◌-◌, ℕ}
-use Rattle.file_ranges.specs.ClassSizes.{parent}
+use Rattle.file_ranges.proofs.Prelude.{◌<◌, ◌≤◌, ◌-◌, ℕ, parent}
 use Rattle.file_ranges.proofs.class_sizes.are_parents_rising.Given as goal
 
 -- Parents rise up to the row before this one

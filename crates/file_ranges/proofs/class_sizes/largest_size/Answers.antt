@@ -1,6 +1,4 @@
-use Rattle.std.proofs.Common.{◌≤◌, ◌∙◌, arith}
-use Rattle.table_schema.specs.declared.table.TableId.TheVariants.{ClassLayout}
-use Rattle.metadata.specs.Source.{rows_in}
+use Rattle.file_ranges.proofs.Prelude.{◌≤◌, ◌∙◌, arith, ClassLayout, rows_in}
 use Rattle.file_ranges.proofs.SizeLemmas.{any_size}
 use Rattle.file_ranges.proofs.class_sizes.largest_size.Goals as goal
 

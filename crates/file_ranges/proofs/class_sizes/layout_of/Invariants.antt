@@ -1,7 +1,4 @@
-use Rattle.std.proofs.Common.{◌<◌, ◌≤◌, ◌+◌, ◌-◌, ℕ}
-use Rattle.table_schema.specs.declared.table.TableId.TheVariants.{ClassLayout}
-use Rattle.metadata.specs.Source.{rows_in}
-use Rattle.file_ranges.specs.ClassSizes.{MayHaveLayout}
+use Rattle.file_ranges.proofs.Prelude.{◌<◌, ◌≤◌, ◌+◌, ◌-◌, ℕ, ClassLayout, rows_in, MayHaveLayout}
 use Rattle.file_ranges.proofs.class_sizes.layout_of.Given as goal
 
 -- the row of the type is one of those that are left

@@ -1,6 +1,5 @@
-use Rattle.std.proofs.Common.{rules, ◌≤◌, ℕ, refl, arith}
+use Rattle.file_ranges.proofs.Prelude.{rules, ◌≤◌, ℕ, refl, arith, IsRowApart}
 use borrow.Author.Count.{below_more}
-use Rattle.file_ranges.specs.Occupied.{IsRowApart}
 use Rattle.file_ranges.proofs.field_data.is_data_apart.Goals as goal
 
 pub loop-row-preserved : goal.loop-row-preserved

@@ -1,5 +1,4 @@
-use Rattle.std.proofs.Common.{◌<◌, ◌≤◌, ℕ}
-use Rattle.file_ranges.specs.Occupied.{IsRowApart}
+use Rattle.file_ranges.proofs.Prelude.{◌<◌, ◌≤◌, ℕ, IsRowApart}
 use Rattle.file_ranges.proofs.field_data.is_data_apart.Given as goal
 
 -- the data of the rows before this one is apart

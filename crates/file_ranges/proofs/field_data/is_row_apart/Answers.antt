@@ -1,5 +1,4 @@
-use Rattle.std.proofs.Common.{arith}
-use Rattle.std.proofs.lemmas.Bool.{false≢true}
+use Rattle.file_ranges.proofs.Prelude.{arith, false≢true}
 use Rattle.file_ranges.proofs.FieldLemmas.{no_blob, row_apart, value_apart}
 use Rattle.file_ranges.proofs.field_data.is_row_apart.Goals as goal
 

@@ -1,7 +1,4 @@
-use Rattle.std.proofs.Common.{◌<◌, ◌≤◌, ℕ}
-use Rattle.table_schema.specs.declared.table.TableId.TheVariants.{MethodDef}
-use Rattle.metadata.specs.Source.{number_of}
-use Rattle.file_ranges.specs.Occupied.{IsCodeApart}
+use Rattle.file_ranges.proofs.Prelude.{◌<◌, ◌≤◌, ℕ, MethodDef, number_of, IsCodeApart}
 use Rattle.file_ranges.proofs.occupied.are_bodies_apart.Given as goal
 
 -- the bodies of the rows before this one are apart

@@ -1,6 +1,5 @@
-use Rattle.std.proofs.Common.{rules, refl, ℕ, arith}
+use Rattle.file_ranges.proofs.Prelude.{rules, refl, ℕ, arith, IsDirectoryApart}
 use borrow.Author.Count.{below_more}
-use Rattle.file_ranges.specs.Occupied.{IsDirectoryApart}
 use Rattle.file_ranges.proofs.occupied.are_directories_apart.Goals as goal
 
 pub loop-index-preserved : goal.loop-index-preserved

@@ -1,5 +1,4 @@
-use Rattle.std.proofs.Common.{◌<◌, ℕ}
-use Rattle.file_ranges.specs.Occupied.{IsDirectoryApart}
+use Rattle.file_ranges.proofs.Prelude.{◌<◌, ℕ, IsDirectoryApart}
 use Rattle.file_ranges.proofs.occupied.are_directories_apart.Given as goal
 
 -- the directories before this one are apart

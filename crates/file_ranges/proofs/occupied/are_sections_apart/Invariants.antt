@@ -1,5 +1,4 @@
-use Rattle.std.proofs.Common.{◌<◌, ℕ}
-use Rattle.file_ranges.specs.Occupied.{IsSectionApart}
+use Rattle.file_ranges.proofs.Prelude.{◌<◌, ℕ, IsSectionApart}
 use Rattle.file_ranges.proofs.occupied.are_sections_apart.Given as goal
 
 -- the sections before this one are apart

@@ -1,6 +1,4 @@
-use Rattle.std.proofs.Common.{◌≡◌, ℕ, List, rules, subst, sym, ◌∙◌}
-use Rattle.std.proofs.lemmas.Bool.{false≢true}
-use Rattle.file_ranges.specs.Occupied.{AreBodiesApart}
+use Rattle.file_ranges.proofs.Prelude.{◌≡◌, ℕ, List, rules, subst, sym, ◌∙◌, false≢true, AreBodiesApart}
 use Rattle.file_ranges.proofs.Lowest.{one_lowest}
 use Rattle.file_ranges.proofs.occupied.is_free.Goals as goal
 

@@ -1,7 +1,5 @@
-use Rattle.std.proofs.Common.{ℕ, sym, ◌∙◌, arith}
-use Rattle.std.proofs.lemmas.Bool.{false≢true}
+use Rattle.file_ranges.proofs.Prelude.{ℕ, sym, ◌∙◌, arith, false≢true, HasMetadata}
 use borrow.Author.Count.{below_more}
-use Rattle.file_ranges.specs.Occupied.{HasMetadata}
 use Rattle.file_ranges.proofs.occupied.lowest_address.Goals as goal
 
 pub loop-index-preserved : goal.loop-index-preserved

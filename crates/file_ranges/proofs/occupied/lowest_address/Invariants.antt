@@ -1,5 +1,4 @@
-use Rattle.std.proofs.Common.{◌<◌, ℕ}
-use Rattle.file_ranges.specs.Occupied.{HasMetadata}
+use Rattle.file_ranges.proofs.Prelude.{◌<◌, ℕ, HasMetadata}
 use Rattle.file_ranges.proofs.occupied.lowest_address.Given as goal
 
 -- no section before this one has all of the metadata

@@ -1,5 +1,4 @@
-use Rattle.table_schema.specs.declared.table.TableId.TheVariants.{TypeDef}
-use Rattle.full_names.specs.Names.{IsOuter, IsOwnText}
+use Rattle.full_names.proofs.Prelude.{TypeDef, IsOuter, IsOwnText}
 use Rattle.full_names.proofs.TextLemmas.{chain_left_out, chain_alone, chain_nested}
 use Rattle.full_names.proofs.names.+write_type_def_within.Goals as goal
 

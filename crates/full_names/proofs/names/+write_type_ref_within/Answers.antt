@@ -1,6 +1,4 @@
-use Rattle.table_schema.specs.declared.table.TableId.TheVariants.{TypeRef}
-use Rattle.navigation.specs.Nesting.{IsScope}
-use Rattle.full_names.specs.Names.{IsOwnText}
+use Rattle.full_names.proofs.Prelude.{TypeRef, IsScope, IsOwnText}
 use Rattle.full_names.proofs.TextLemmas.{chain_left_out, chain_alone, chain_nested}
 use Rattle.full_names.proofs.names.+write_type_ref_within.Goals as goal
 

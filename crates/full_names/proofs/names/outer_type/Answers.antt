@@ -1,5 +1,4 @@
-use Rattle.navigation.specs.Nesting.{IsEnclosed}
-use Rattle.full_names.specs.Names.{IsOuter}
+use Rattle.full_names.proofs.Prelude.{IsEnclosed, IsOuter}
 use Rattle.full_names.proofs.PieceLemmas.{on_none, on_some}
 use Rattle.full_names.proofs.names.outer_type.Goals as goal
 

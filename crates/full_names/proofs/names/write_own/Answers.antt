@@ -1,6 +1,4 @@
-use Rattle.std.proofs.Common.{arith, refl}
-use Rattle.metadata.specs.Lookups.{HasRow}
-use Rattle.full_names.specs.Names.{IsOwnText}
+use Rattle.full_names.proofs.Prelude.{arith, refl, HasRow, IsOwnText}
 use Rattle.full_names.proofs.NameExists.{own_text}
 use Rattle.full_names.proofs.PieceLemmas.{passed_over}
 use Rattle.full_names.proofs.names.write_own.Goals as goal

@@ -1,5 +1,4 @@
-use Rattle.std.proofs.Common.{ℕ, ◌<◌, IsTrue, slice_index}
-use Rattle.full_names.specs.Quoted.{is_verbatim}
+use Rattle.full_names.proofs.Prelude.{ℕ, ◌<◌, IsTrue, slice_index, is_verbatim}
 use Rattle.full_names.proofs.quoted.are_verbatim.Given as goal
 
 abbrev pub invariant-loop-byte : goal.invariant-loop-byte

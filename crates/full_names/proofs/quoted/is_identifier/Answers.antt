@@ -1,6 +1,5 @@
 use Rattle.std.proofs.Common.{◌∙◌, ◌&&◌, ap, sym}
-use Rattle.std.specs.List.{list_all}
-use Rattle.full_names.specs.Quoted.{is_in_identifier}
+use Rattle.full_names.proofs.Prelude.{list_all, is_in_identifier}
 use Rattle.full_names.proofs.QuotedLemmas.{first_is}
 use Rattle.full_names.proofs.quoted.is_identifier.Goals as goal
 

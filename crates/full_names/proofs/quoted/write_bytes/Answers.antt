@@ -1,5 +1,4 @@
-use Rattle.std.proofs.Common.{arith, refl}
-use Rattle.full_names.specs.Quoted.{quoted_byte}
+use Rattle.full_names.proofs.Prelude.{arith, refl, quoted_byte}
 use Rattle.full_names.proofs.TextLemmas.{all_bytes, one_byte_more, other_bytes_passed, writes_nothing}
 use Rattle.full_names.proofs.quoted.write_bytes.Goals as goal
 

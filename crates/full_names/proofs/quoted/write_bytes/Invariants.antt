@@ -1,6 +1,4 @@
-use Rattle.std.proofs.Common.{take}
-use Rattle.std.specs.Fmt.{WritesInCalls}
-use Rattle.full_names.specs.Quoted.{quoted_bytes}
+use Rattle.full_names.proofs.Prelude.{take, WritesInCalls, quoted_bytes}
 use Rattle.full_names.proofs.quoted.write_bytes.Given as goal
 
 abbrev pub invariant-loop-byte : goal.invariant-loop-byte

@@ -1,6 +1,4 @@
-use Rattle.std.proofs.Common.{◌≡◌, ◌∙◌, ◌++◌, ap, sym, true, false}
-use Rattle.std.specs.Prelude.{codes}
-use Rattle.full_names.specs.Quoted.{is_word, name_text, quoted_bytes}
+use Rattle.full_names.proofs.Prelude.{◌≡◌, ◌∙◌, ◌++◌, ap, sym, true, false, codes, is_word, name_text, quoted_bytes}
 use Rattle.full_names.proofs.QuotedLemmas.{in_quotes, word_alone}
 use Rattle.full_names.proofs.TextLemmas.{writes_last, writes_same}
 use Rattle.full_names.proofs.quoted.write_name.Goals as goal

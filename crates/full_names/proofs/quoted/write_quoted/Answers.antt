@@ -1,5 +1,4 @@
-use Rattle.std.proofs.Common.{◌≡◌, ℕ, List, refl, subst}
-use Rattle.full_names.specs.Quoted.{quoted_bytes}
+use Rattle.full_names.proofs.Prelude.{◌≡◌, ℕ, List, refl, subst, quoted_bytes}
 use Rattle.full_names.proofs.QuotedLemmas.{verbatim_text}
 use Rattle.full_names.proofs.TextLemmas.{writes_same}
 use Rattle.full_names.proofs.quoted.write_quoted.Goals as goal

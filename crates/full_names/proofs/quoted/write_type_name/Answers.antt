@@ -1,7 +1,5 @@
 use Rattle.std.proofs.Common.{◌≡◌, ◌∙◌, ◌==◌, ◌++◌, true, false, length, rules, sym}
-use Rattle.std.specs.Prelude.{codes}
-use Rattle.full_names.specs.declared.quoted.NameKind.TheVariants.{Identifier, Dotted}
-use Rattle.full_names.specs.Quoted.{name_text, type_text}
+use Rattle.full_names.proofs.Prelude.{codes, Identifier, Dotted, name_text, type_text}
 use Rattle.full_names.proofs.QuotedLemmas.{type_alone, type_after}
 use Rattle.full_names.proofs.TextLemmas.{writes_last, writes_same}
 use Rattle.full_names.proofs.quoted.write_type_name.Goals as goal

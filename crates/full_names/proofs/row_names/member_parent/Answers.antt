@@ -1,11 +1,5 @@
 use Rattle.std.proofs.Common.{false, Option, ◌∙◌, ap, subst, arith}
-use Rattle.std.proofs.lemmas.Grind.{not_there}
-use Rattle.table_schema.specs.declared.table.TableId.TheVariants.{MemberRef}
-use Rattle.table_schema.specs.declared.token.Token.{Token}
-use Rattle.table_schema.specs.CellColumns.{cell_columns}
-use Rattle.metadata.specs.Cell.{Ref}
-use Rattle.metadata.specs.Lookups.{HasRow}
-use Rattle.metadata.specs.Valid.{MayRefer}
+use Rattle.full_names.proofs.Prelude.{not_there, MemberRef, Token, cell_columns, Ref, HasRow, MayRefer}
 use Rattle.full_names.proofs.RowNameLemmas.{parent_there}
 use Rattle.full_names.proofs.row_names.member_parent.Goals as goal
 

@@ -1,6 +1,5 @@
 use Rattle.std.proofs.Common.{Some, refl, subst, sym}
-use Rattle.table_schema.specs.declared.table.TableId.{TableId}
-use Rattle.full_names.specs.RowNames.{IsMemberOf}
+use Rattle.full_names.proofs.Prelude.{TableId, IsMemberOf}
 use Rattle.full_names.proofs.RowNameLemmas.{no_member}
 use Rattle.full_names.proofs.row_names.type_of_member.Goals as goal
 

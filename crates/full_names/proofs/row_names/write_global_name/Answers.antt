@@ -1,7 +1,4 @@
-use Rattle.std.proofs.Common.{◌++◌}
-use Rattle.std.specs.Prelude.{codes}
-use Rattle.full_names.specs.declared.quoted.NameKind.TheVariants.{Dotted, Member}
-use Rattle.full_names.specs.Quoted.{name_text}
+use Rattle.full_names.proofs.Prelude.{◌++◌, codes, Dotted, Member, name_text}
 use Rattle.full_names.proofs.TextLemmas.{writes_last}
 use Rattle.full_names.proofs.row_names.write_global_name.Goals as goal
 

@@ -1,7 +1,4 @@
-use Rattle.std.proofs.Common.{refl, ◌++◌}
-use Rattle.std.specs.Prelude.{codes}
-use Rattle.full_names.specs.declared.quoted.NameKind.TheVariants.{Member}
-use Rattle.full_names.specs.Quoted.{name_text}
+use Rattle.full_names.proofs.Prelude.{refl, ◌++◌, codes, Member, name_text}
 use Rattle.full_names.proofs.TextLemmas.{writes_append}
 use Rattle.full_names.proofs.row_names.write_member_name.Goals as goal
 

@@ -1,11 +1,4 @@
-use Rattle.std.proofs.Common.{◌≤◌, ◌++◌, List, ℕ, refl, subst, sym}
-use Rattle.std.specs.Prelude.{codes}
-use Rattle.table_schema.specs.declared.table.TableId.{TableId}
-use Rattle.table_schema.specs.declared.table.TableId.TheVariants.{MemberRef}
-use Rattle.full_names.specs.declared.quoted.NameKind.TheVariants.{Dotted, Member}
-use Rattle.full_names.specs.Quoted.{name_text}
-use Rattle.full_names.specs.RowNames.{IsNameIn, IsNameUnder}
-use Rattle.full_names.specs.Texts.{IsMemberName}
+use Rattle.full_names.proofs.Prelude.{◌≤◌, ◌++◌, List, ℕ, refl, subst, sym, codes, TableId, MemberRef, Dotted, Member, name_text, IsNameIn, IsNameUnder, IsMemberName}
 use Rattle.full_names.proofs.PieceLemmas.{on_wrote}
 use Rattle.full_names.proofs.RowNameLemmas.{named_under}
 use Rattle.full_names.proofs.row_names.write_member_ref.Goals as goal

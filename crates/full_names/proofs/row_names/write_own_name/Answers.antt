@@ -1,6 +1,4 @@
-use Rattle.std.specs.Prelude.{codes}
-use Rattle.full_names.specs.declared.quoted.NameKind.TheVariants.{Member}
-use Rattle.full_names.specs.Quoted.{name_text}
+use Rattle.full_names.proofs.Prelude.{codes, Member, name_text}
 use Rattle.full_names.proofs.TextLemmas.{writes_last}
 use Rattle.full_names.proofs.row_names.write_own_name.Goals as goal
 

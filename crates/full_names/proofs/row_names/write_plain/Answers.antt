@@ -1,9 +1,4 @@
-use Rattle.std.proofs.Common.{refl, subst, sym}
-use Rattle.std.specs.Prelude.{codes}
-use Rattle.table_schema.specs.declared.table.TableId.{TableId}
-use Rattle.full_names.specs.declared.quoted.NameKind.TheVariants.{Identifier, Dotted}
-use Rattle.full_names.specs.Quoted.{name_text, type_text}
-use Rattle.full_names.specs.RowNames.{IsPlainName}
+use Rattle.full_names.proofs.Prelude.{refl, subst, sym, codes, TableId, Identifier, Dotted, name_text, type_text, IsPlainName}
 use Rattle.full_names.proofs.PieceLemmas.{wrote_plain}
 use Rattle.full_names.proofs.RowNameLemmas.{no_name}
 use Rattle.full_names.proofs.row_names.write_plain.Goals as goal

@@ -1,7 +1,4 @@
-use Rattle.std.proofs.Common.{refl, arith}
-use Rattle.table_schema.specs.declared.table.TableId.TheVariants.{Field, MethodDef, Event, Property, MemberRef}
-use Rattle.full_names.specs.RowNames.{IsNameIn, IsRowNameBy}
-use Rattle.full_names.specs.Texts.{IsMemberName}
+use Rattle.full_names.proofs.Prelude.{refl, arith, Field, MethodDef, Event, Property, MemberRef, IsNameIn, IsRowNameBy, IsMemberName}
 use Rattle.full_names.proofs.PieceLemmas.{on_wrote}
 use Rattle.full_names.proofs.RowNameLemmas.{plain_name, row_named}
 use Rattle.full_names.proofs.row_names.write_row_name.Goals as goal

@@ -1,7 +1,4 @@
-use Rattle.std.proofs.Common.{◌≤◌, [], refl, subst, sym}
-use Rattle.std.specs.Prelude.{codes}
-use Rattle.table_schema.specs.declared.table.TableId.{TableId}
-use Rattle.full_names.specs.Scopes.{IsScopeIn, in_brackets}
+use Rattle.full_names.proofs.Prelude.{◌≤◌, [], refl, subst, sym, codes, TableId, IsScopeIn, in_brackets}
 use Rattle.full_names.proofs.PieceLemmas.{wrote_plain}
 use Rattle.full_names.proofs.ScopeLemmas.{no_scope}
 use Rattle.full_names.proofs.TextLemmas.{writes_nothing}

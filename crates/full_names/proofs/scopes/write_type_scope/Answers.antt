@@ -1,7 +1,5 @@
 use Rattle.std.proofs.Common.{[], Some, None, arith, refl, subst}
-use Rattle.table_schema.specs.declared.table.TableId.TheVariants.{TypeRef}
-use Rattle.metadata.specs.Lookups.{HasRow}
-use Rattle.full_names.specs.Scopes.{IsScopeIn, IsScopeWithin, IsTypeScope}
+use Rattle.full_names.proofs.Prelude.{TypeRef, HasRow, IsScopeIn, IsScopeWithin, IsTypeScope}
 use Rattle.full_names.proofs.NameExists.{type_scope}
 use Rattle.full_names.proofs.PieceLemmas.{on_wrote, passed_over}
 use Rattle.full_names.proofs.TextLemmas.{writes_nothing}

@@ -1,7 +1,4 @@
-use Rattle.std.proofs.Common.{refl, sym, subst, rules}
-use Rattle.sig_text.specs.SignatureText.{text_of}
-use Rattle.full_names.specs.Names.{Wrote}
-use Rattle.full_names.specs.Texts.{ArePiecesText, IsPieceText}
+use Rattle.full_names.proofs.Prelude.{refl, sym, subst, rules, text_of, Wrote, ArePiecesText, IsPieceText}
 use Rattle.full_names.proofs.PieceLemmas.{ok_then}
 use Rattle.full_names.proofs.signature_text.write_signature.Goals as goal
 

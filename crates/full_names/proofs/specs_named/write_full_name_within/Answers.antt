@@ -1,10 +1,5 @@
-use Rattle.std.proofs.Common.{subst, arith}
-use Rattle.table_schema.specs.declared.table.TableId.{TableId}
-use Rattle.table_schema.specs.declared.table.TableId.TheVariants.{TypeSpec}
+use Rattle.full_names.proofs.Prelude.{subst, arith, TableId, TypeSpec, cell_columns, HasRow, cell_in}
 use Rattle.table_schema.specs.declared.column.SigKind.TheVariants as kind
-use Rattle.table_schema.specs.CellColumns.{cell_columns}
-use Rattle.metadata.specs.Lookups.{HasRow}
-use Rattle.metadata.specs.Metadata.{cell_in}
 use Rattle.full_names.proofs.PieceLemmas.{signature_of, spec_name}
 use Rattle.full_names.proofs.specs_named.write_full_name_within.Goals as goal
 

@@ -1,9 +1,5 @@
-use Rattle.std.proofs.Common.{arith, refl}
-use Rattle.table_schema.specs.declared.table.TableId.TheVariants.{TypeSpec}
+use Rattle.full_names.proofs.Prelude.{arith, refl, TypeSpec, cell_columns, Encodes, HasRow}
 use Rattle.table_schema.specs.declared.column.SigKind.TheVariants as kind
-use Rattle.table_schema.specs.CellColumns.{cell_columns}
-use Rattle.sig_grammar.specs.Encodes.{Encodes}
-use Rattle.metadata.specs.Lookups.{HasRow}
 use Rattle.full_names.proofs.NameExists.{inner_name}
 use Rattle.full_names.proofs.PieceLemmas.{encoded_by}
 use Rattle.full_names.proofs.specs_named.write_type_spec.Goals as goal

@@ -1,7 +1,4 @@
-use Rattle.std.proofs.Common.{length, take, subst, sym, ◌∙◌, ap, arith, length-drop, eq-eqb}
-use Rattle.std.proofs.lemmas.Bool.{eqb-true}
-use Rattle.memchr.specs.Find.{NoneBefore, Nowhere, Passes, is_byte}
-use Rattle.heap_entries.specs.Entries.{IsEnded}
+use Rattle.heap_entries.proofs.Prelude.{length, take, subst, sym, ◌∙◌, ap, arith, length-drop, eq-eqb, eqb-true, NoneBefore, Nowhere, Passes, is_byte, IsEnded}
 use Rattle.heap_entries.proofs.TextLemmas.{ended_from, ended_length, nul_behind}
 use Rattle.heap_entries.proofs.strings.ended_at.Goals as goal
 

@@ -1,6 +1,4 @@
-use Rattle.std.proofs.Common.{sym, ◌∙◌}
-use Rattle.std.proofs.lemmas.Bool.{false≢true}
-use Rattle.std.proofs.lemmas.Str.{IsUtf8-from_is_utf8, is_utf8-from_IsUtf8}
+use Rattle.heap_entries.proofs.Prelude.{sym, ◌∙◌, false≢true, IsUtf8-from_is_utf8, is_utf8-from_IsUtf8}
 use Rattle.heap_entries.proofs.strings.known_text.Goals as goal
 
 pub from_utf8_unchecked-requires : goal.from_utf8_unchecked-requires

@@ -1,7 +1,5 @@
-use Rattle.std.proofs.Common.{inl, inr, refl, sym, true≢false, subst}
+use Rattle.heap_entries.proofs.Prelude.{inl, inr, refl, sym, true≢false, subst, EncodesUserText, user_text}
 use Rattle.std.proofs.lemmas.Result.{err_from_is_err_and}
-use Rattle.heap_entries.specs.Entries.{EncodesUserText}
-use Rattle.heap_entries.specs.UserView.{user_text}
 use Rattle.heap_entries.proofs.UserLemmas.{encodes_from, encodes_only, encodes_odd, blob_bytes}
 use Rattle.heap_entries.proofs.user_strings.user_string.Goals as goal
 

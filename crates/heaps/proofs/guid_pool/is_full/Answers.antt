@@ -1,5 +1,4 @@
-use Rattle.std.proofs.Common.{arith}
-use Rattle.std.proofs.lemmas.Bool.{eqb-true}
+use Rattle.heaps.proofs.Prelude.{arith, eqb-true}
 use Rattle.heaps.proofs.GuidLemmas.{full_at_most, room_below}
 use Rattle.heaps.proofs.guid_pool.is_full.Goals as goal
 

@@ -1,5 +1,4 @@
-use Rattle.std.proofs.Common.{◌<◌, All, length, slice_index, sym, subst}
-use Rattle.heaps.specs.EqualBlobs.{IsKey, IsKeyAt}
+use Rattle.heaps.proofs.Prelude.{◌<◌, All, length, slice_index, sym, subst, IsKey, IsKeyAt}
 use Rattle.heaps.proofs.EntryLemmas.{key_added}
 use Rattle.heaps.proofs.overlaps.add_key.Goals as goal
 

@@ -1,5 +1,4 @@
-use Rattle.std.proofs.Common.{sym, subst, ◌∙◌, arith}
-use Rattle.heaps.specs.Windows.{HavePositions}
+use Rattle.heaps.proofs.Prelude.{sym, subst, ◌∙◌, arith, HavePositions}
 use Rattle.heaps.proofs.overlaps.find_equal.Goals as goal
 
 pub double-requires-clause-positions : goal.double-requires-clause-positions

@@ -1,6 +1,4 @@
-use Rattle.std.proofs.Common.{◌≡◌, ◌<◌, ◌-◌, length}
-use Rattle.heaps.specs.EqualBlobs.{AreEarlierBlobs}
-use Rattle.heaps.specs.Windows.{AreNames, HavePositions}
+use Rattle.heaps.proofs.Prelude.{◌≡◌, ◌<◌, ◌-◌, length, AreEarlierBlobs, AreNames, HavePositions}
 use Rattle.heaps.proofs.overlaps.find_equal.Given as goal
 
 abbrev pub invariant-loop-windows : goal.invariant-loop-windows

@@ -1,5 +1,4 @@
-use Rattle.std.proofs.Common.{All, sym, subst}
-use Rattle.heaps.specs.EqualBlobs.{IsKey}
+use Rattle.heaps.proofs.Prelude.{All, sym, subst, IsKey}
 use Rattle.heaps.proofs.overlaps.find_in_level.Goals as goal
 
 pub returns-clause-earlier : goal.returns-clause-earlier

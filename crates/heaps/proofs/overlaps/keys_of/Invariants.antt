@@ -1,5 +1,4 @@
-use Rattle.std.proofs.Common.{All}
-use Rattle.heaps.specs.EqualBlobs.{IsKey}
+use Rattle.heaps.proofs.Prelude.{All, IsKey}
 use Rattle.heaps.proofs.overlaps.keys_of.Given as goal
 
 abbrev pub invariant-loop-use_index : goal.invariant-loop-use_index

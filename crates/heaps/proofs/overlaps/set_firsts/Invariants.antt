@@ -1,5 +1,4 @@
-use Rattle.std.proofs.Common.{◌≡◌, ℕ, List, All, length}
-use Rattle.heaps.specs.EqualBlobs.{AreEarlierBlobs, IsKey}
+use Rattle.heaps.proofs.Prelude.{◌≡◌, ℕ, List, All, length, AreEarlierBlobs, IsKey}
 use Rattle.heaps.proofs.overlaps.set_firsts.Given as goal
 
 abbrev pub invariant-loop-key : goal.invariant-loop-key

@@ -1,5 +1,4 @@
-use Rattle.std.proofs.Common.{◌≡◌, ◌++◌, take, flat_map}
-use Rattle.heap_entries.specs.Units.{unit_bytes}
+use Rattle.heaps.proofs.Prelude.{◌≡◌, ◌++◌, take, flat_map, unit_bytes}
 use Rattle.heaps.proofs.user_heap.put_units.Given as goal
 
 abbrev pub invariant-loop-unit : goal.invariant-loop-unit

@@ -1,8 +1,4 @@
-use Rattle.std.proofs.Common.{◌≡◌, ◌++◌, ◌∷◌, [], List, ℕ, length, flat_map, ap, ◌∙◌, append_assoc}
-use Rattle.packed.specs.Packed.{short_unsigned}
-use Rattle.heaps.specs.FirstByte.{begun}
-use Rattle.heap_entries.specs.Units.{unit_bytes}
-use Rattle.heaps.specs.UserEntries.{last_byte, user_length, user_entry}
+use Rattle.heaps.proofs.Prelude.{◌≡◌, ◌++◌, ◌∷◌, [], List, ℕ, length, flat_map, ap, ◌∙◌, append_assoc, short_unsigned, begun, unit_bytes, last_byte, user_length, user_entry}
 use Rattle.heaps.proofs.BytesLemmas.{take_shorter, on_err}
 use Rattle.heaps.proofs.user_heap.write_user_string.Goals as goal
 

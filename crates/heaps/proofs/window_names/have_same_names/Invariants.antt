@@ -1,5 +1,4 @@
-use Rattle.std.proofs.Common.{◌≡◌, ◌-◌, ℕ, List}
-use Rattle.heaps.specs.Windows.{AreNames, window}
+use Rattle.heaps.proofs.Prelude.{◌≡◌, ◌-◌, ℕ, List, AreNames, window}
 use Rattle.heaps.proofs.window_names.have_same_names.Given as goal
 
 abbrev pub invariant-loop-step : goal.invariant-loop-step

@@ -1,7 +1,4 @@
-use Rattle.std.proofs.Common.{◌≡◌, ◌∙◌, ℕ, ◌<◌, ◌^◌, Option, None, Some, IfSome, get_or, sym, rules}
-use Rattle.std.specs.Prelude.{IsSomeAnd, option_map}
-use Rattle.marshal_descriptors.specs.Parts.{IsDescriptor}
-use Rattle.marshal_descriptors.specs.Reading.{descriptor_of}
+use Rattle.marshal_descriptors.proofs.Prelude.{◌≡◌, ◌∙◌, ℕ, ◌<◌, ◌^◌, Option, None, Some, IfSome, get_or, sym, rules, IsSomeAnd, option_map, IsDescriptor, descriptor_of}
 use Rattle.marshal_descriptors.proofs.AgainLemmas.{descriptor_again}
 use Rattle.marshal_descriptors.proofs.FormLemmas.{descriptor_found}
 use Rattle.marshal_descriptors.proofs.PartLemmas.{NumbersAreRead, bytes_each}

@@ -1,5 +1,4 @@
-use Rattle.std.proofs.Common.{ℕ, ◌+◌, ◌*◌, ◌^◌, sym, ap, ◌∙◌}
-use Rattle.table_schema.specs.CodedIndexes.{tag_bits}
+use Rattle.metadata.proofs.Prelude.{ℕ, ◌+◌, ◌*◌, ◌^◌, sym, ap, ◌∙◌, tag_bits}
 use Rattle.metadata.proofs.KeyLemmas.{KeysKnown, tag_is}
 use Rattle.metadata.proofs.laws.coded_indexes_are_row_numbers.Goals as goal
 

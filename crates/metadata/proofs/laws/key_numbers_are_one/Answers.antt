@@ -1,7 +1,4 @@
-use Rattle.std.proofs.Common.{ap}
-use Rattle.table_schema.specs.CellColumns.{column_of}
-use Rattle.metadata.specs.Valid.{kind_at}
-use Rattle.metadata.specs.KeyOrder.{key_number}
+use Rattle.metadata.proofs.Prelude.{ap, column_of, kind_at, key_number}
 use Rattle.metadata.proofs.KeyLemmas.{KeysKnown}
 use Rattle.metadata.proofs.NumberLemmas.{reports_key}
 use Rattle.metadata.proofs.laws.key_numbers_are_one.Goals as goal

@@ -1,5 +1,4 @@
-use Rattle.table_schema.specs.CellColumns.{column_of}
-use Rattle.metadata.specs.SourceAt.{source_of}
+use Rattle.metadata.proofs.Prelude.{column_of, source_of}
 use Rattle.metadata.proofs.KeyLemmas.{KeysKnown, key_is, order_in_model, order_in_root}
 use Rattle.metadata.proofs.laws.keys_are_in_order.Goals as goal
 

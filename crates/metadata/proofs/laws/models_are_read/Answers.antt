@@ -1,8 +1,4 @@
-use Rattle.std.proofs.Common.{List, ℕ}
-use Rattle.table_schema.specs.declared.table.TableId.{TableId}
-use Rattle.metadata.specs.Metadata.{Metadata, rows_of}
-use Rattle.metadata.specs.Model.{IsModel}
-use Rattle.metadata.specs.SourceAt.{source_of}
+use Rattle.metadata.proofs.Prelude.{List, ℕ, TableId, Metadata, rows_of, IsModel, source_of}
 use Rattle.metadata.proofs.ModelLemmas.{AreRead, version_read, user_read, stream_read, table_read, rows_count, rows_long, rows_cell, tables_long, ordered_read, owned_read, nested_read}
 use Rattle.metadata.proofs.laws.models_are_read.Goals as goal
 

@@ -1,6 +1,5 @@
-use Rattle.std.proofs.Common.{length, None, sym, arith}
+use Rattle.metadata.proofs.Prelude.{length, None, sym, arith, is_table}
 use Rattle.std.proofs.lemmas.List.Sums.{position_or_len_is}
-use Rattle.sig_grammar.specs.Parts.{is_table}
 use Rattle.metadata.proofs.row_numbers.tag_of.Goals as goal
 
 pub returns-clause-value : goal.returns-clause-value

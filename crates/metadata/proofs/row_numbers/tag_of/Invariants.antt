@@ -1,5 +1,4 @@
-use Rattle.std.proofs.Common.{◌≡◌, ℕ, ◌<◌, false, None, slice_index_or}
-use Rattle.sig_grammar.specs.Parts.{is_table}
+use Rattle.metadata.proofs.Prelude.{◌≡◌, ℕ, ◌<◌, false, None, slice_index_or, is_table}
 use Rattle.metadata.proofs.row_numbers.tag_of.Given as goal
 
 abbrev pub invariant-loop-tag : goal.invariant-loop-tag

@@ -1,8 +1,4 @@
-use Rattle.std.proofs.Common.{◌≡◌, ◌≤◌, Some, IfSome, IfNone, subst, arith}
-use Rattle.table_schema.specs.declared.column.ColumnKind.{ColumnKind}
-use Rattle.metadata.specs.Cell.{Ref}
-use Rattle.metadata.specs.Kinds.{IsOfKind}
-use Rattle.metadata.specs.KeyOrder.{row_number}
+use Rattle.metadata_source.proofs.Prelude.{◌≡◌, ◌≤◌, Some, IfSome, IfNone, subst, arith, ColumnKind, Ref, IsOfKind, row_number}
 use Rattle.metadata_source.proofs.KeyLemmas.{reports, none_takes}
 use Rattle.metadata_source.proofs.by_key.key_number.Goals as goal
 

@@ -1,11 +1,6 @@
-use Rattle.std.proofs.Common.{◌≡◌, ℕ, ◌+◌, ◌-◌, ◌*◌, ◌<◌, ◌≤◌, ◌==◌, ◌↔◌, List, length, sym, ◌∙◌, subst, arith, ⊎_elim}
-use Rattle.std.proofs.lemmas.Bool.{cases_lt}
+use Rattle.metadata_source.proofs.Prelude.{◌≡◌, ℕ, ◌+◌, ◌-◌, ◌*◌, ◌<◌, ◌≤◌, ◌==◌, ◌↔◌, List, length, sym, ◌∙◌, subst, arith, ⊎_elim, cases_lt, IsStrictlyIncreasing, HasRow, HasKey, key_at, binary_digits, rows_with}
 use Rattle.std.proofs.lemmas.Grind.{not_there}
-use Rattle.std.specs.List.Sorted.{IsStrictlyIncreasing}
 use Rattle.std.specs.List.{Contains}
-use Rattle.metadata.specs.Lookups.{HasRow, HasKey}
-use Rattle.rows.specs.Keys.{key_at, binary_digits}
-use Rattle.reading.specs.KeyRows.{rows_with}
 use Rattle.metadata_source.proofs.KeyLemmas.{numbers_count, keys_rise, rows_are, none_has}
 use Rattle.metadata_source.proofs.RowLemmas.{that_rise}
 use Rattle.metadata_source.proofs.by_key.rows_by_key.Goals as goal

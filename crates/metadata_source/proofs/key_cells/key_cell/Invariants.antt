@@ -1,5 +1,4 @@
-use Rattle.std.proofs.Common.{◌≢◌, ℕ, ◌<◌, Some}
-use Rattle.table_schema.specs.CellColumns.{column_of}
+use Rattle.metadata_source.proofs.Prelude.{◌≢◌, ℕ, ◌<◌, Some, column_of}
 use Rattle.metadata_source.proofs.key_cells.key_cell.Given as goal
 
 abbrev pub invariant-loop-cell : goal.invariant-loop-cell

@@ -1,9 +1,5 @@
-use Rattle.std.proofs.Common.{◌↔◌, IsTrue, List, Option, Some, sym, subst}
+use Rattle.metadata_source.proofs.Prelude.{◌↔◌, IsTrue, List, Option, Some, sym, subst, TableId, ColumnKind, Ref, IsOfKind}
 use Rattle.std.specs.Prelude.{Contains}
-use Rattle.table_schema.specs.declared.table.TableId.{TableId}
-use Rattle.table_schema.specs.declared.column.ColumnKind.{ColumnKind}
-use Rattle.metadata.specs.Cell.{Ref}
-use Rattle.metadata.specs.Kinds.{IsOfKind}
 use Rattle.metadata_source.proofs.row_numbers.takes.Goals as goal
 
 pub returns-in-Coded : goal.returns-in-Coded

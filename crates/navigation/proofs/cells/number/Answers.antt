@@ -1,8 +1,4 @@
-use Rattle.std.proofs.Common.{arith}
-use Rattle.std.proofs.lemmas.Grind.{not_there}
-use Rattle.metadata.specs.Lookups.{HasRow}
-use Rattle.metadata.specs.Metadata.{cell_in}
-use Rattle.metadata.specs.Valid.{kind_at}
+use Rattle.navigation.proofs.Prelude.{arith, not_there, HasRow, cell_in, kind_at}
 use Rattle.navigation.proofs.CellLemmas.{shows_number}
 use Rattle.navigation.proofs.cells.number.Goals as goal
 

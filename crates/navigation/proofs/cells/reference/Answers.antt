@@ -1,11 +1,4 @@
-use Rattle.std.proofs.Common.{◌∙◌, Option, ap, arith}
-use Rattle.std.proofs.Math.Logic.{∥∥₁_map}
-use Rattle.std.proofs.lemmas.Grind.{not_there}
-use Rattle.metadata.specs.Cell.{Ref}
-use Rattle.metadata.specs.Lookups.{HasRow}
-use Rattle.metadata.specs.Metadata.{cell_in}
-use Rattle.metadata.specs.Valid.{kind_at}
-use Rattle.table_schema.specs.declared.token.Token.{Token}
+use Rattle.navigation.proofs.Prelude.{◌∙◌, Option, ap, arith, ∥∥₁_map, not_there, Ref, HasRow, cell_in, kind_at, Token}
 use Rattle.navigation.proofs.CellLemmas.{referred, refers_to, shows_reference}
 use Rattle.navigation.proofs.cells.reference.Goals as goal
 

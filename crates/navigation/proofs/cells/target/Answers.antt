@@ -1,11 +1,4 @@
-use Rattle.std.proofs.Common.{◌∙◌, None, Option, Some, ap, arith, rules, subst, sym}
-use Rattle.std.proofs.Math.Logic.{∥∥₁_elim}
-use Rattle.std.proofs.lemmas.Grind.{not_there}
-use Rattle.std.specs.Coded.{le_prop}
-use Rattle.table_schema.specs.declared.column.ColumnKind.{ColumnKind}
-use Rattle.table_schema.specs.declared.token.Token.{Token}
-use Rattle.metadata.specs.Cell.{Ref}
-use Rattle.metadata.specs.Kinds.{IsOfKind}
+use Rattle.navigation.proofs.Prelude.{◌∙◌, None, Option, Some, ap, arith, rules, subst, sym, ∥∥₁_elim, not_there, le_prop, ColumnKind, Token, Ref, IsOfKind}
 use Rattle.navigation.proofs.CellLemmas.{to_row}
 use Rattle.navigation.proofs.cells.target.Goals as goal
 

@@ -1,10 +1,4 @@
-use Rattle.std.proofs.Common.{subst, arith}
-use Rattle.std.proofs.lemmas.Grind.{not_there}
-use Rattle.table_schema.specs.declared.column.ColumnKind.{ColumnKind}
-use Rattle.metadata.specs.Lookups.{HasRow}
-use Rattle.metadata.specs.Kinds.{IsOfKind}
-use Rattle.metadata.specs.Metadata.{cell_in}
-use Rattle.reading.specs.Shown.{Shows}
+use Rattle.navigation.proofs.Prelude.{subst, arith, not_there, ColumnKind, HasRow, IsOfKind, cell_in, Shows}
 use Rattle.navigation.proofs.CellLemmas.{shows_text}
 use Rattle.navigation.proofs.cells.text.Goals as goal
 

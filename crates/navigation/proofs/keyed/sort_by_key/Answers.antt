@@ -1,6 +1,4 @@
-use Rattle.std.proofs.Common.{◌∙◌, rules, sym}
-use Rattle.std.proofs.lemmas.List.Sorted.{IsNonDecreasingBy-from_sort_by_key, answers_always}
-use Rattle.navigation.specs.Keyed.{key_of}
+use Rattle.navigation.proofs.Prelude.{◌∙◌, rules, sym, IsNonDecreasingBy-from_sort_by_key, answers_always, key_of}
 use Rattle.navigation.proofs.KeyedLemmas.{ties_are}
 use Rattle.navigation.proofs.keyed.sort_by_key.Goals as goal
 

@@ -1,8 +1,4 @@
-use Rattle.std.proofs.Common.{◌+◌, ◌<◌, ltb, leb, ltb-true, ltb-false, leb-true, leb-false, List, ap, arith, rules, subst, sym}
-use Rattle.std.specs.List.Sorted.{IsNonDecreasingBy}
-use Rattle.std.proofs.lemmas.List.Sorted.{IsNonDecreasingBy-drop, IsPartitionPoint-from_clause, IsPartitionedBy-leb, IsPartitionedBy-ltb}
-use Rattle.navigation.specs.declared.keyed.KeyedRow.{KeyedRow}
-use Rattle.navigation.specs.Keyed.{key_of}
+use Rattle.navigation.proofs.Prelude.{◌+◌, ◌<◌, ltb, leb, ltb-true, ltb-false, leb-true, leb-false, List, ap, arith, rules, subst, sym, IsNonDecreasingBy, IsNonDecreasingBy-drop, IsPartitionPoint-from_clause, IsPartitionedBy-leb, IsPartitionedBy-ltb, KeyedRow, key_of}
 use Rattle.navigation.proofs.KeyedLemmas.{keyed_found}
 use Rattle.navigation.proofs.keyed.with_key.Goals as goal
 

@@ -1,9 +1,5 @@
-use Rattle.std.proofs.Common.{◌≡◌, ◌∙◌, ℕ, ◌+◌, ◌-◌, ◌≤◌, ◌∷◌, [], ◌++◌, List, ap, arith, sym}
+use Rattle.navigation.proofs.Prelude.{◌≡◌, ◌∙◌, ℕ, ◌+◌, ◌-◌, ◌≤◌, ◌∷◌, [], ◌++◌, List, ap, arith, sym, row_count, KeyedRow, keyed_row, keyed_rows, number_in, table_of}
 use Rattle.std.proofs.lemmas.List.FromFn.{map-range_with_len_more}
-use Rattle.opening.specs.Views.{row_count}
-use Rattle.navigation.specs.declared.keyed.KeyedRow.{KeyedRow}
-use Rattle.navigation.specs.Keyed.{keyed_row, keyed_rows}
-use Rattle.navigation.specs.Linked.{number_in, table_of}
 use Rattle.navigation.proofs.links.read_references.Goals as goal
 
 pub loop-row-init : goal.loop-row-init

@@ -1,6 +1,4 @@
-use Rattle.std.proofs.Common.{◌≡◌, ◌-◌}
-use Rattle.navigation.specs.Keyed.{keyed_rows}
-use Rattle.navigation.specs.Linked.{number_in}
+use Rattle.navigation.proofs.Prelude.{◌≡◌, ◌-◌, keyed_rows, number_in}
 use Rattle.navigation.proofs.links.read_references.Given as goal
 
 -- the rows before this one are read

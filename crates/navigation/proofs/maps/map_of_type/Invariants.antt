@@ -1,6 +1,4 @@
-use Rattle.std.proofs.Common.{ℕ, ◌<◌}
-use Rattle.metadata.specs.Metadata.{Metadata}
-use Rattle.navigation.specs.Maps.{IsMapOf}
+use Rattle.navigation.proofs.Prelude.{ℕ, ◌<◌, Metadata, IsMapOf}
 use Rattle.navigation.proofs.maps.map_of_type.Given as goal
 
 abbrev pub invariant-loop-map : goal.invariant-loop-map

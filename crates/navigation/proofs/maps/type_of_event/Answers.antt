@@ -1,6 +1,4 @@
-use Rattle.std.proofs.Common.{ℕ, sym, subst}
-use Rattle.table_schema.specs.declared.table.TableId.TheVariants.{EventMap}
-use Rattle.navigation.specs.Maps.{IsMapOf}
+use Rattle.navigation.proofs.Prelude.{ℕ, sym, subst, EventMap, IsMapOf}
 use Rattle.navigation.proofs.maps.type_of_event.Goals as goal
 
 pub returns-clause-one : goal.returns-clause-one

@@ -1,6 +1,4 @@
-use Rattle.std.proofs.Common.{ℕ, sym, subst}
-use Rattle.table_schema.specs.declared.table.TableId.TheVariants.{PropertyMap}
-use Rattle.navigation.specs.Maps.{IsMapOf}
+use Rattle.navigation.proofs.Prelude.{ℕ, sym, subst, PropertyMap, IsMapOf}
 use Rattle.navigation.proofs.maps.type_of_property.Goals as goal
 
 pub returns-clause-one : goal.returns-clause-one

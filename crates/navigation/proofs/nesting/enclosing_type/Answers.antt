@@ -1,10 +1,4 @@
-use Rattle.std.proofs.Common.{◌<◌, subst}
-use Rattle.std.proofs.Math.Logic.{∥∥₁_elim}
-use Rattle.std.specs.Coded.{le_prop}
-use Rattle.table_schema.specs.declared.table.TableId.TheVariants.{NestedClass}
-use Rattle.metadata.specs.Cell.{Cell}
-use Rattle.metadata.specs.Metadata.{cell_in}
-use Rattle.metadata.specs.Valid.{row_in}
+use Rattle.navigation.proofs.Prelude.{◌<◌, subst, ∥∥₁_elim, le_prop, NestedClass, Cell, cell_in, row_in}
 use Rattle.navigation.proofs.nesting.enclosing_type.Goals as goal
 
 pub returns-in-Some-clause-before : goal.returns-in-Some-clause-before

@@ -1,6 +1,4 @@
-use Rattle.std.proofs.Common.{◌≡◌, ◌≤◌, rules, subst}
-use Rattle.table_schema.specs.declared.table.TableId.{TableId}
-use Rattle.table_schema.specs.declared.table.TableId.TheVariants.{TypeRef}
+use Rattle.navigation.proofs.Prelude.{◌≡◌, ◌≤◌, rules, subst, TableId, TypeRef}
 use Rattle.navigation.proofs.nesting.enclosing_type_ref.Goals as goal
 
 pub returns-clause-last : goal.returns-clause-last

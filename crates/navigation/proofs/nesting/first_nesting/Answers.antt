@@ -1,5 +1,4 @@
-use Rattle.table_schema.specs.declared.table.TableId.TheVariants.{NestedClass}
-use Rattle.std.proofs.Math.Logic.{∥∥₁_map}
+use Rattle.navigation.proofs.Prelude.{NestedClass, ∥∥₁_map}
 use Rattle.navigation.proofs.NestingLemmas.{first_nests, none_nests, first_there}
 use Rattle.navigation.proofs.nesting.first_nesting.Goals as goal
 

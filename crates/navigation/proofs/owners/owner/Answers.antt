@@ -1,9 +1,4 @@
-use Rattle.std.proofs.Common.{◌≡◌, ℕ, ◌≤◌, ◌<◌, ◌+◌, subst, arith}
-use Rattle.std.proofs.Math.Logic.{∥∥₁_elim}
-use Rattle.std.specs.Coded.{le_prop}
-use Rattle.table_schema.specs.declared.table.TableId.{TableId}
-use Rattle.metadata.specs.Metadata.{count_in}
-use Rattle.metadata_source.specs.MemberLists.{owner_of, member_of}
+use Rattle.navigation.proofs.Prelude.{◌≡◌, ℕ, ◌≤◌, ◌<◌, ◌+◌, subst, arith, ∥∥₁_elim, le_prop, TableId, count_in, owner_of, member_of}
 use Rattle.navigation.proofs.OwnerLemmas.{start_of, some_owner, from_one, owns, owns_alone}
 use Rattle.navigation.proofs.owners.owner.Goals as goal
 

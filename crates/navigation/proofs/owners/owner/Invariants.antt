@@ -1,6 +1,4 @@
-use Rattle.std.proofs.Common.{◌+◌, ◌-◌, ◌<◌, ◌≤◌}
-use Rattle.metadata.specs.Metadata.{Metadata, count_in}
-use Rattle.metadata_source.specs.MemberLists.{owner_of}
+use Rattle.navigation.proofs.Prelude.{◌+◌, ◌-◌, ◌<◌, ◌≤◌, Metadata, count_in, owner_of}
 use Rattle.navigation.proofs.OwnerLemmas.{start_of}
 use Rattle.navigation.proofs.owners.owner.Given as goal
 

@@ -1,10 +1,4 @@
-use Rattle.std.proofs.Common.{◌∙◌, ℕ, ◌+◌, List, length, ap, sym, subst, arith}
-use Rattle.std.proofs.lemmas.List.{length_push}
-use Rattle.table_schema.specs.declared.table.TableId.TheVariants.{NestedClass}
-use Rattle.table_schema.specs.CellColumns.{column_of}
-use Rattle.metadata.specs.Source.{number_of}
-use Rattle.metadata.specs.SourceAt.{source_of}
-use Rattle.navigation.specs.Starts.{AreNestedKeys}
+use Rattle.navigation.proofs.Prelude.{◌∙◌, ℕ, ◌+◌, List, length, ap, sym, subst, arith, length_push, NestedClass, column_of, number_of, source_of, AreNestedKeys}
 use Rattle.navigation.proofs.StartLemmas.{one_more}
 use Rattle.navigation.proofs.starts.nested_keys.Goals as goal
 

@@ -1,5 +1,4 @@
-use Rattle.std.proofs.Common.{◌≡◌, length}
-use Rattle.navigation.specs.Starts.{AreNestedKeys}
+use Rattle.navigation.proofs.Prelude.{◌≡◌, length, AreNestedKeys}
 use Rattle.navigation.proofs.starts.nested_keys.Given as goal
 
 abbrev pub invariant-loop-earlier : goal.invariant-loop-earlier

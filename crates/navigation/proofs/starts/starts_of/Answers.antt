@@ -1,12 +1,6 @@
-use Rattle.std.proofs.Common.{◌≡◌, ◌∙◌, ℕ, ◌+◌, ◌≤◌, List, length, ap, sym, subst, arith}
-use Rattle.table_schema.specs.declared.table.TableId.{TableId}
-use Rattle.std.proofs.lemmas.List.{length_push}
-use Rattle.metadata.specs.Metadata.{cell_in}
+use Rattle.navigation.proofs.Prelude.{◌≡◌, ◌∙◌, ℕ, ◌+◌, ◌≤◌, List, length, ap, sym, subst, arith, TableId, length_push, cell_in, start_in, row_count, AreStarts}
 use Rattle.metadata.specs.Model.{IsModel}
-use Rattle.metadata.specs.Valid.{start_in}
 use Rattle.metadata_source.specs.MemberLists.{cell_of, owner_of}
-use Rattle.opening.specs.Views.{row_count}
-use Rattle.navigation.specs.Starts.{AreStarts}
 use Rattle.navigation.proofs.StartLemmas.{one_more}
 use Rattle.navigation.proofs.starts.starts_of.Goals as goal
 

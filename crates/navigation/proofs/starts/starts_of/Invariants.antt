@@ -1,5 +1,4 @@
-use Rattle.std.proofs.Common.{◌≡◌, length}
-use Rattle.navigation.specs.Starts.{AreStarts}
+use Rattle.navigation.proofs.Prelude.{◌≡◌, length, AreStarts}
 use Rattle.navigation.proofs.starts.starts_of.Given as goal
 
 abbrev pub invariant-loop-earlier : goal.invariant-loop-earlier

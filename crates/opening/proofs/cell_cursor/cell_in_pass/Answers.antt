@@ -1,11 +1,5 @@
-use Rattle.std.proofs.Common.{ℕ, ◌≤◌, sym, subst}
-use Rattle.table_schema.specs.Columns.{column_at}
-use Rattle.table_schema.specs.CellColumns.{column_of}
-use Rattle.metadata.specs.Metadata.{cell_in}
-use Rattle.metadata.specs.Source.{Source, rows_in, number_of}
-use Rattle.metadata.specs.Rows.{StandsIn}
+use Rattle.opening.proofs.Prelude.{ℕ, ◌≤◌, sym, subst, column_at, column_of, cell_in, Source, rows_in, number_of, StandsIn, Shows, ShowsBlob}
 use Rattle.reading.specs.Cursors.{AreCursors}
-use Rattle.reading.specs.Shown.{Shows, ShowsBlob}
 use Rattle.opening.proofs.cell_cursor.cell_in_pass.Goals as goal
 
 pub cell_onward-requires : goal.cell_onward-requires

@@ -1,13 +1,5 @@
-use Rattle.std.proofs.Common.{ap, sym, subst}
-use Rattle.std.proofs.lemmas.Result.{err_from_is_err_and}
-use Rattle.metadata.specs.Source.{Source}
-use Rattle.metadata.specs.SourceAt.{SourceAt}
-use Rattle.checks.specs.Budgets.{IsBelow}
-use Rattle.row_order.specs.Orders.{ReportsOrder}
-use Rattle.checks.specs.Within.{TextsSpend, counted_bytes}
-use Rattle.checks.specs.declared.budget.BoundedError.TheVariants.{BudgetSpent}
+use Rattle.opening.proofs.Prelude.{ap, sym, subst, err_from_is_err_and, Source, SourceAt, IsBelow, ReportsOrder, TextsSpend, counted_bytes, BudgetSpent, user_of}
 use Rattle.opening.proofs.Parts.{same_error, ok_has_none}
-use Rattle.opening.specs.Views.{user_of}
 use Rattle.opening.proofs.SourceAt.{tables_fail_within, metadata_holds, stream_breaks_first}
 use Rattle.opening.proofs.open.check_root_within.Goals as goal
 

@@ -1,5 +1,4 @@
-use Rattle.std.proofs.Math.Logic.{∥∥₁_map}
-use Rattle.metadata.specs.Metadata.{cell_in}
+use Rattle.owned_model.proofs.Prelude.{∥∥₁_map, cell_in}
 use Rattle.owned_model.proofs.cell.load_cell.Goals as goal
 
 pub own_cell-requires : goal.own_cell-requires

@@ -1,7 +1,4 @@
-use Rattle.std.proofs.Common.{subst}
-use Rattle.std.proofs.Math.Logic.{∥∥₁_map}
-use Rattle.reading.specs.Shown.{Shows}
-use Rattle.reading.specs.declared.cell_ref.CellRef.{CellRef}
+use Rattle.owned_model.proofs.Prelude.{subst, ∥∥₁_map, Shows, CellRef}
 use Rattle.owned_model.proofs.cell.own_cell.Goals as goal
 
 pub own_signature-requires : goal.own_signature-requires

@@ -1,10 +1,6 @@
-use Rattle.std.proofs.Common.{◌≡◌, List, ℕ, Err, refl, ap, subst}
-use Rattle.std.proofs.lemmas.Grind.{not_there}
-use Rattle.table_schema.specs.declared.column.ColumnKind.{ColumnKind}
+use Rattle.owned_model.proofs.Prelude.{◌≡◌, List, ℕ, Err, refl, ap, subst, not_there, ColumnKind, SigKind, ShowsSignature}
 use Rattle.table_schema.specs.declared.column.ColumnKind.TheVariants.{Signature}
-use Rattle.table_schema.specs.declared.column.SigKind.{SigKind}
 use Rattle.metadata.specs.Cell.{Cell as Says}
-use Rattle.reading.specs.Shown.{ShowsSignature}
 use Rattle.owned_model.proofs.cell.own_signature.Goals as goal
 
 no_signature : (kind : ColumnKind) (blob : List ℕ) (cell : Says) → ((column : SigKind) → kind ≡ Signature column → ⊥) → ShowsSignature kind blob cell → ⊥

@@ -1,12 +1,6 @@
-use Rattle.std.proofs.Common.{List, ℕ, sym, ap, subst, ◌∙◌}
-use Rattle.std.proofs.lemmas.Grind.{not_there}
-use Rattle.std.proofs.Math.Logic.{∥∥₁_map}
+use Rattle.owned_model.proofs.Prelude.{List, ℕ, sym, ap, subst, ◌∙◌, not_there, ∥∥₁_map, Metadata, IsModel, IsModelOfFile, rules_of_file, HasHeaderAndModel}
 use Rattle.cli_header.specs.declared.header.CliHeader.{CliHeader}
-use Rattle.metadata.specs.Metadata.{Metadata}
 use Rattle.metadata.specs.Streams.{root_in}
-use Rattle.metadata.specs.Model.{IsModel, IsModelOfFile}
-use Rattle.metadata.specs.Rules.{rules_of_file}
-use Rattle.owned_model.specs.Refused.{HasHeaderAndModel}
 use Rattle.owned_model.proofs.Refusing.{fault_refused, memory_refused}
 use Rattle.owned_model.proofs.load.load_image.Goals as goal
 

@@ -1,8 +1,4 @@
-use Rattle.std.proofs.Common.{List, ℕ, sym, subst}
-use Rattle.std.proofs.lemmas.Grind.{not_there}
-use Rattle.metadata.specs.Model.{IsModel}
-use Rattle.metadata.specs.Rules.{rules_of_metadata}
-use Rattle.opening.specs.Views.{HasModel}
+use Rattle.owned_model.proofs.Prelude.{List, ℕ, sym, subst, not_there, IsModel, rules_of_metadata, HasModel}
 use Rattle.owned_model.proofs.Refusing.{fault_refused}
 use Rattle.owned_model.proofs.load.load_root.Goals as goal
 

@@ -1,7 +1,4 @@
-use Rattle.std.proofs.Common.{slice_get}
-use Rattle.std.proofs.lemmas.Grind.{not_there}
-use Rattle.metadata.specs.Metadata.{row_of}
-use Rattle.opening.specs.Views.{row_count}
+use Rattle.owned_model.proofs.Prelude.{slice_get, not_there, row_of, row_count}
 use Rattle.type_records.specs.Shapes.{shape_of}
 use Rattle.owned_model.proofs.RefRowLemmas.{held_stable, row_held, value_holds, row_said}
 use Rattle.owned_model.proofs.row_values.cells_of.Goals as goal

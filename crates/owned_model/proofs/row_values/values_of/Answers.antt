@@ -1,8 +1,4 @@
-use Rattle.std.proofs.Common.{◌<◌, ℕ, length, Option, ◌∙◌, arith}
-use Rattle.std.proofs.lemmas.List.{length-set}
-use Rattle.metadata.specs.Metadata.{cell_in}
-use Rattle.reading.specs.declared.cell_ref.CellRef.{CellRef}
-use Rattle.owned_model.specs.RefRows.{IsShown}
+use Rattle.owned_model.proofs.Prelude.{◌<◌, ℕ, length, Option, ◌∙◌, arith, length-set, cell_in, CellRef, IsShown}
 use Rattle.owned_model.proofs.RefRowLemmas.{cells_few, one_more}
 use Rattle.owned_model.proofs.row_values.values_of.Goals as goal
 

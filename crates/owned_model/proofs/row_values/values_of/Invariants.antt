@@ -1,7 +1,4 @@
-use Rattle.std.proofs.Common.{◌≡◌, ℕ, ◌<◌, length, slice_get}
-use Rattle.metadata.specs.Metadata.{Metadata, cell_in}
-use Rattle.metadata.specs.Model.{IsModel}
-use Rattle.owned_model.specs.RefRows.{IsShown}
+use Rattle.owned_model.proofs.Prelude.{◌≡◌, ℕ, ◌<◌, length, slice_get, Metadata, cell_in, IsModel, IsShown}
 use Rattle.owned_model.proofs.row_values.values_of.Given as goal
 
 -- the values so far equal their cells

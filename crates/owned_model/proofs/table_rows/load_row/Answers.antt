@@ -1,9 +1,5 @@
-use Rattle.std.proofs.Common.{◌≤◌, ◌<◌, length, ap, ◌∙◌, arith}
-use Rattle.std.proofs.lemmas.List.{take_all}
-use Rattle.tables.specs.Said.{all_said}
+use Rattle.owned_model.proofs.Prelude.{◌≤◌, ◌<◌, length, ap, ◌∙◌, arith, take_all, all_said, row_of, row_count}
 use Rattle.metadata.specs.Cell.{Number}
-use Rattle.metadata.specs.Metadata.{row_of}
-use Rattle.opening.specs.Views.{row_count}
 use Rattle.owned_model.proofs.PaddingLemmas.{next_cell}
 use Rattle.owned_model.proofs.table_rows.load_row.Goals as goal
 

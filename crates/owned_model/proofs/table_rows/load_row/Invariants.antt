@@ -1,7 +1,4 @@
-use Rattle.std.proofs.Common.{◌≡◌, take}
-use Rattle.tables.specs.Said.{all_said}
-use Rattle.metadata.specs.Metadata.{Metadata, row_of}
-use Rattle.metadata.specs.Model.{IsModel}
+use Rattle.owned_model.proofs.Prelude.{◌≡◌, take, all_said, Metadata, row_of, IsModel}
 use Rattle.owned_model.proofs.table_rows.load_row.Given as goal
 
 -- the cells so far are the first cells of the row

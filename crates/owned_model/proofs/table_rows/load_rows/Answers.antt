@@ -1,11 +1,5 @@
-use Rattle.std.proofs.Common.{◌≡◌, ℕ, ◌+◌, ◌-◌, ◌≤◌, ◌<◌, List, [], length, take, get_or, ap, ◌∙◌, arith}
-use Rattle.std.proofs.lemmas.List.{take_all}
-use Rattle.table_schema.specs.Tables.{table_index_of}
-use Rattle.tables.specs.Said.{all_said}
+use Rattle.owned_model.proofs.Prelude.{◌≡◌, ℕ, ◌+◌, ◌-◌, ◌≤◌, ◌<◌, List, [], length, take, get_or, ap, ◌∙◌, arith, take_all, table_index_of, all_said, Metadata, rows_of, with_row, with_rows}
 use Rattle.metadata.specs.Cell.{Cell}
-use Rattle.metadata.specs.Metadata.{Metadata, rows_of}
-use Rattle.tables.specs.Push.{with_row}
-use Rattle.owned_model.specs.Padded.{with_rows}
 use Rattle.owned_model.proofs.PaddingLemmas.{next_row}
 use Rattle.owned_model.proofs.table_rows.load_rows.Goals as goal
 

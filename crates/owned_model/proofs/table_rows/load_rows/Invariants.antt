@@ -1,7 +1,4 @@
-use Rattle.std.proofs.Common.{◌≡◌, [], length, take}
-use Rattle.metadata.specs.Metadata.{Metadata, rows_of}
-use Rattle.metadata.specs.Model.{IsModel}
-use Rattle.owned_model.specs.Padded.{with_rows}
+use Rattle.owned_model.proofs.Prelude.{◌≡◌, [], length, take, Metadata, rows_of, IsModel, with_rows}
 use Rattle.owned_model.proofs.table_rows.load_rows.Given as goal
 
 -- the rows so far are the first rows of the table

@@ -1,11 +1,6 @@
-use Rattle.std.proofs.Common.{◌≡◌, ℕ, ◌<◌, List, [], ◌++◌, length, take, drop, get_or, sym, ap, ◌∙◌, arith}
-use Rattle.table_schema.specs.declared.table.TableId.{TableId}
-use Rattle.table_schema.specs.declared.table.TableId.TheVariants.{Module}
-use Rattle.table_schema.specs.Tables.{table_index_of}
+use Rattle.owned_model.proofs.Prelude.{◌≡◌, ℕ, ◌<◌, List, [], ◌++◌, length, take, drop, get_or, sym, ap, ◌∙◌, arith, TableId, Module, table_index_of, Metadata, rows_of, with_rows}
 use Rattle.table_schema.proofs.TableFacts.{table_index_at}
 use Rattle.metadata.specs.Cell.{Cell}
-use Rattle.metadata.specs.Metadata.{Metadata, rows_of}
-use Rattle.owned_model.specs.Padded.{with_rows}
 use Rattle.owned_model.proofs.PaddingLemmas.{next_left, padded_length, all_padded, next_table}
 use Rattle.owned_model.proofs.table_rows.load_tables.Goals as goal
 

@@ -1,6 +1,4 @@
-use Rattle.std.proofs.Common.{◌≡◌, ◌++◌, take, drop}
-use Rattle.metadata.specs.Metadata.{Metadata}
-use Rattle.metadata.specs.Model.{IsModel}
+use Rattle.owned_model.proofs.Prelude.{◌≡◌, ◌++◌, take, drop, Metadata, IsModel}
 use Rattle.owned_model.proofs.table_rows.load_tables.Given as goal
 
 -- the tables so far are the first tables of the model

@@ -1,7 +1,4 @@
-use Rattle.std.proofs.Common.{ℕ, List, ap, sym, subst, ◌∙◌}
-use Rattle.std.proofs.Math.Logic.{∥∥₁_map}
-use Rattle.metadata.specs.Metadata.{Metadata}
-use Rattle.metadata.specs.Valid.{IsValid}
+use Rattle.owned_model.proofs.Prelude.{ℕ, List, ap, sym, subst, ◌∙◌, ∥∥₁_map, Metadata, IsValid}
 use Rattle.owned_model.proofs.to_model.tables_of.Goals as goal
 
 pub returns-clause-model : goal.returns-clause-model

@@ -1,5 +1,4 @@
-use Rattle.std.proofs.Common.{arith}
-use Rattle.std.proofs.lemmas.Grind.{common_steps}
+use Rattle.pe.proofs.Prelude.{arith, common_steps}
 use Rattle.pe.proofs.headers.read_optional_header.Goals as goal
 
 pub returns-then-size-lt-PE32_SIZE : goal.returns-then-size-lt-PE32_SIZE

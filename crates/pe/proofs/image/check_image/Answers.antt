@@ -1,5 +1,4 @@
-use Rattle.std.proofs.Common.{arith}
-use Rattle.std.proofs.lemmas.Grind.{common_steps}
+use Rattle.pe.proofs.Prelude.{arith, common_steps}
 use Rattle.pe.proofs.image.check_image.Goals as goal
 
 pub returns-in_err-lfanew : goal.returns-in_err-lfanew

@@ -1,5 +1,4 @@
-use Rattle.std.proofs.Common.{arith}
-use Rattle.std.proofs.lemmas.Grind.{common_steps}
+use Rattle.pe.proofs.Prelude.{arith, common_steps}
 use Rattle.pe.proofs.ImageLemmas.{reports_all, reports_first, reports_found, reports_only}
 use Rattle.pe.proofs.image.read_pe.Goals as goal
 

@@ -1,7 +1,4 @@
-use Rattle.std.proofs.Common.{◌≡◌, ◌+◌, ◌*◌, ◌-◌}
-use Rattle.std.specs.List.{find}
-use Rattle.pe.specs.Headers.{sections_from}
-use Rattle.pe.specs.Offset.{has_bytes}
+use Rattle.pe.proofs.Prelude.{◌≡◌, ◌+◌, ◌*◌, ◌-◌, find, sections_from, has_bytes}
 use Rattle.pe.proofs.section.find_section.Given as goal
 
 abbrev pub invariant-loop-number : goal.invariant-loop-number

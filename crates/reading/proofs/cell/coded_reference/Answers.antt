@@ -1,6 +1,4 @@
-use Rattle.std.proofs.Common.{Some, ◌∙◌, ap}
-use Rattle.std.proofs.lemmas.Option.{same_Some}
-use Rattle.table_schema.specs.declared.token.Token.{Token}
+use Rattle.reading.proofs.Prelude.{Some, ◌∙◌, ap, same_Some, Token}
 use Rattle.reading.proofs.cell.coded_reference.Goals as goal
 
 pub unreachable-requires : goal.unreachable-requires

@@ -1,7 +1,4 @@
-use Rattle.std.proofs.Common.{◌≡◌, ℕ, Some, sym, ◌∙◌, ap}
-use Rattle.std.proofs.lemmas.Option.{same_Some}
-use Rattle.table_schema.specs.declared.table.TableId.{TableId}
-use Rattle.table_schema.specs.declared.token.Token.{Token}
+use Rattle.reading.proofs.Prelude.{◌≡◌, ℕ, Some, sym, ◌∙◌, ap, same_Some, TableId, Token}
 use Rattle.reading.proofs.coded.named_by.Goals as goal
 
 pub returns-in_err-table-clause-complete : goal.returns-in_err-table-clause-complete

@@ -1,5 +1,4 @@
-use Rattle.std.proofs.Common.{sym, ◌∙◌, arith}
-use Rattle.metadata.specs.Starts.{start_of}
+use Rattle.reading.proofs.Prelude.{sym, ◌∙◌, arith, start_of}
 use Rattle.reading.proofs.StartLemmas.{start_here, start_next, one_more}
 use Rattle.reading.proofs.kept_starts.start_up_to.Goals as goal
 

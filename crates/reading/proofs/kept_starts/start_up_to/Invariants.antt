@@ -1,5 +1,4 @@
-use Rattle.std.proofs.Common.{◌≡◌, ◌≤◌, ℕ}
-use Rattle.metadata.specs.Starts.{start_of}
+use Rattle.reading.proofs.Prelude.{◌≡◌, ◌≤◌, ℕ, start_of}
 use Rattle.reading.proofs.kept_starts.start_up_to.Given as goal
 
 -- the owners up to this one have the same start

@@ -1,7 +1,4 @@
-use Rattle.std.proofs.Common.{◌≡◌, ℕ, ◌+◌, ◌-◌, ◌*◌, ◌/◌, refl, sym, subst, ◌∙◌, ap, arith}
-use Rattle.std.proofs.lemmas.Nat.{div-add-mod', mod_below}
-use Rattle.metadata.specs.Starts.{start_of}
-use Rattle.reading.specs.KnownStarts.{IsKnown}
+use Rattle.reading.proofs.Prelude.{◌≡◌, ℕ, ◌+◌, ◌-◌, ◌*◌, ◌/◌, refl, sym, subst, ◌∙◌, ap, arith, div-add-mod', mod_below, start_of, IsKnown}
 use Rattle.reading.proofs.KnownLemmas.{known_past, known_between}
 use Rattle.reading.proofs.StartLemmas.{start_past}
 use Rattle.reading.proofs.kept_starts.starts_in.Goals as goal

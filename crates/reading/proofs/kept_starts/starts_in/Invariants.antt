@@ -1,6 +1,4 @@
-use Rattle.std.proofs.Common.{◌≡◌, ◌≤◌, ◌<◌, ◌*◌, ◌+◌}
-use Rattle.metadata.specs.Starts.{start_of}
-use Rattle.reading.specs.KnownStarts.{IsKnown}
+use Rattle.reading.proofs.Prelude.{◌≡◌, ◌≤◌, ◌<◌, ◌*◌, ◌+◌, start_of, IsKnown}
 use Rattle.reading.proofs.kept_starts.starts_in.Given as goal
 
 abbrev pub invariant-loop-kept : goal.invariant-loop-kept

@@ -1,5 +1,4 @@
-use Rattle.std.proofs.Common.{◌≢◌, ℕ, ◌<◌, ◌≤◌}
-use Rattle.rows.specs.Keys.{key_at}
+use Rattle.reading.proofs.Prelude.{◌≢◌, ℕ, ◌<◌, ◌≤◌, key_at}
 use Rattle.reading.proofs.key_rows.next_with.Given as goal
 
 abbrev pub invariant-loop-row : goal.invariant-loop-row

@@ -1,12 +1,5 @@
 use Rattle.std.proofs.Common.{◌≡◌, ℕ, zero, suc, ◌-◌, ◌≤◌, List, length, slice_index, refl, ap, sym, ◌∙◌, arith, inl, inr}
-use Rattle.std.proofs.lemmas.Bool.{cases_eq}
-use Rattle.table_schema.specs.Columns.{column_at}
-use Rattle.table_schema.specs.CellColumns.{column_of}
-use Rattle.metadata.specs.Cell.{Start}
-use Rattle.metadata.specs.Metadata.{cell_in}
-use Rattle.metadata.specs.Source.{rows_in, number_of}
-use Rattle.metadata.specs.Starts.{start_of}
-use Rattle.reading.specs.Starts.{down_from}
+use Rattle.reading.proofs.Prelude.{cases_eq, column_at, column_of, Start, cell_in, rows_in, number_of, start_of, down_from}
 use Rattle.reading.proofs.CellLemmas.{list_cell}
 use Rattle.reading.proofs.starts.starts_of.Goals as goal
 

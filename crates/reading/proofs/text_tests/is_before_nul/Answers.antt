@@ -1,6 +1,4 @@
-use Rattle.std.proofs.Common.{ℕ, ◌∷◌, Some, None, sym, ◌∙◌, ap}
-use Rattle.std.proofs.lemmas.Bool.{eqb-true}
-use Rattle.std.proofs.lemmas.Bool.Decides.{Decides-eqb}
+use Rattle.reading.proofs.Prelude.{ℕ, ◌∷◌, Some, None, sym, ◌∙◌, ap, eqb-true, Decides-eqb}
 use Rattle.std.proofs.lemmas.Slice.Eq.{strip_prefix_is}
 use Rattle.reading.proofs.TextLemmas.{no_prefix, no_end, other_end, ends, first_is, first_none}
 use Rattle.reading.proofs.text_tests.is_before_nul.Goals as goal

@@ -1,10 +1,5 @@
 use Rattle.std.proofs.Common.{◌≡◌, ℕ, List, IsTrue, ◌↔◌, sym, ◌∙◌, ap, subst}
-use Rattle.heap_entries.specs.Entries.{IsText}
-use Rattle.table_schema.specs.Columns.{column_at}
-use Rattle.table_schema.specs.CellColumns.{column_of}
-use Rattle.metadata.specs.Metadata.{cell_in}
-use Rattle.metadata.specs.Source.{number_of}
-use Rattle.metadata.specs.Starts.{start_of}
+use Rattle.reading.proofs.Prelude.{IsText, column_at, column_of, cell_in, number_of, start_of}
 use Rattle.reading.proofs.CellLemmas.{text_cell, same_text}
 use Rattle.reading.proofs.text_tests.is_text_at.Goals as goal
 

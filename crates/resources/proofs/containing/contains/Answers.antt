@@ -1,5 +1,4 @@
-use Rattle.std.proofs.Common.{◌≤◌, ◌<◌, ◌+◌, ℕ, length, subst, sym}
-use Rattle.resources.specs.Resources.{Where, elsewhere, here}
+use Rattle.resources.proofs.Prelude.{◌≤◌, ◌<◌, ◌+◌, ℕ, length, subst, sym, Where, elsewhere, here}
 use Rattle.resources.proofs.containing.contains.Goals as goal
 
 -- a location in this file has the byte

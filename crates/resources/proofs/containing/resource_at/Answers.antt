@@ -1,6 +1,5 @@
-use Rattle.std.proofs.Common.{◌≡◌, ◌≤◌, ◌<◌, ℕ, true, ⊎_elim, arith, subst}
+use Rattle.resources.proofs.Prelude.{◌≡◌, ◌≤◌, ◌<◌, ℕ, true, ⊎_elim, arith, subst, HasByte}
 use Rattle.std.proofs.lemmas.Bool.{cases_lt}
-use Rattle.resources.specs.Resources.{HasByte}
 use Rattle.resources.proofs.containing.resource_at.Goals as goal
 
 pub loop-row-preserved : goal.loop-row-preserved

@@ -1,8 +1,4 @@
-use Rattle.std.proofs.Common.{ℕ, ◌<◌, ◌≤◌, List}
-use Rattle.cli_header.specs.declared.header.CliHeader.{CliHeader}
-use Rattle.metadata.specs.Metadata.{Metadata}
-use Rattle.metadata.specs.Model.{IsModel}
-use Rattle.resources.specs.Resources.{HasByte, IsDirectoryOf}
+use Rattle.resources.proofs.Prelude.{ℕ, ◌<◌, ◌≤◌, List, CliHeader, Metadata, IsModel, HasByte, IsDirectoryOf}
 use Rattle.resources.proofs.containing.resource_at.Given as goal
 
 -- no resource in a row before this one has the byte

@@ -1,8 +1,4 @@
-use Rattle.std.proofs.Common.{◌≡◌, ◌∙◌, [], ◌∷◌, length, take, ap, arith, subst, sym}
-use Rattle.packed.specs.Fields.{literal}
-use Rattle.packed.specs.Offsets.{part}
-use Rattle.pe.specs.Image.{Image}
-use Rattle.pe.specs.Offset.{IsFileOffset}
+use Rattle.resources.proofs.Prelude.{◌≡◌, ◌∙◌, [], ◌∷◌, length, take, ap, arith, subst, sym, literal, part, Image, IsFileOffset}
 use Rattle.resources.proofs.directory.directory_of.Goals as goal
 
 pub returns-in_default : goal.returns-in_default

@@ -1,6 +1,4 @@
-use Rattle.std.proofs.Common.{Option, subst}
-use Rattle.resources.specs.Resources.{IsDirectoryOf}
-use Rattle.resources.specs.declared.directory.Directory.{Directory}
+use Rattle.resources.proofs.Prelude.{Option, subst, IsDirectoryOf, Directory}
 use Rattle.resources.proofs.LocationLemmas.{stored_found, stored_only}
 use Rattle.resources.proofs.location.content_in.Goals as goal
 

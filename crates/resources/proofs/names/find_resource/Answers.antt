@@ -1,5 +1,4 @@
-use Rattle.std.proofs.Common.{arith}
-use Rattle.table_schema.specs.declared.table.TableId.TheVariants.{ManifestResource}
+use Rattle.resources.proofs.Prelude.{arith, ManifestResource}
 use Rattle.resources.proofs.names.find_resource.Goals as goal
 
 pub returns-clause-none : goal.returns-clause-none

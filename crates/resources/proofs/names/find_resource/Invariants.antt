@@ -1,7 +1,4 @@
-use Rattle.std.proofs.Common.{ℕ, ◌<◌, ◌≤◌}
-use Rattle.metadata.specs.Metadata.{Metadata}
-use Rattle.metadata.specs.Model.{IsModel}
-use Rattle.resources.specs.Resources.{HasName}
+use Rattle.resources.proofs.Prelude.{ℕ, ◌<◌, ◌≤◌, Metadata, IsModel, HasName}
 use Rattle.resources.proofs.names.find_resource.Given as goal
 
 abbrev pub invariant-loop-row : goal.invariant-loop-row

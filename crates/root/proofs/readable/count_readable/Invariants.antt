@@ -1,6 +1,4 @@
-use Rattle.std.proofs.Common.{◌≡◌, ◌<◌, ℕ}
-use Rattle.root.specs.Fields.{header_offset}
-use Rattle.root.specs.Rules.{HasHeader}
+use Rattle.root.proofs.Prelude.{◌≡◌, ◌<◌, ℕ, header_offset, HasHeader}
 use Rattle.root.proofs.readable.count_readable.Given as goal
 
 abbrev pub invariant-loop-number : goal.invariant-loop-number

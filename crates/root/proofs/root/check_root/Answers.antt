@@ -1,8 +1,4 @@
-use Rattle.std.proofs.lemmas.Result.{err_from_is_err_and}
-use Rattle.packed.specs.Rule.{rules_from}
-use Rattle.packed.proofs.RuleLemmas.{all_append, fails_prefix, fails_back}
-use Rattle.root.specs.Rules.{rules_of_root_header, rules_of_header, rules_of_tables}
-use Rattle.root.specs.Fields.{header_count}
+use Rattle.root.proofs.Prelude.{err_from_is_err_and, rules_from, all_append, fails_prefix, fails_back, rules_of_root_header, rules_of_header, rules_of_tables, header_count}
 use Rattle.root.proofs.WalkLemmas.{shows_from_all}
 use Rattle.root.proofs.RootLemmas.{within_from_all}
 use Rattle.root.proofs.root.check_root.Goals as goal

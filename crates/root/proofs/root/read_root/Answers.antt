@@ -1,5 +1,4 @@
-use Rattle.packed.proofs.RuleLemmas.{reports_first}
-use Rattle.root.specs.Rules.{rules_of_root}
+use Rattle.root.proofs.Prelude.{reports_first, rules_of_root}
 use Rattle.root.proofs.RootLemmas.{root_meets, reports_all, reports_found, reports_only}
 use Rattle.root.proofs.root.read_root.Goals as goal
 

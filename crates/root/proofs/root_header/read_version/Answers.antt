@@ -1,6 +1,4 @@
-use Rattle.std.proofs.Common.{◌≡◌, ◌∙◌, take, ap, arith}
-use Rattle.packed.specs.Offsets.{part}
-use Rattle.root.specs.Fields.{before_nul, version_length}
+use Rattle.root.proofs.Prelude.{◌≡◌, ◌∙◌, take, ap, arith, part, before_nul, version_length}
 use Rattle.root.proofs.NulLemmas.{nul_found, nul_missing}
 use Rattle.root.proofs.HeaderLemmas.{err_from_none, ok_from_some}
 use Rattle.root.proofs.VersionLemmas.{version_shows, has_version}

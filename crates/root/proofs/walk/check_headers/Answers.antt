@@ -1,10 +1,4 @@
-use Rattle.std.proofs.Common.{◌≡◌, ◌∙◌, ap, arith, sym}
-use Rattle.std.proofs.lemmas.Result.{err_from_is_err_and}
-use Rattle.packed.proofs.RuleLemmas.{before_more, before_fails}
-use Rattle.root.specs.Rules.{rules_of_header}
-use Rattle.root.specs.Fields.{header_at, header_count}
-use Rattle.root.specs.Streams.{Header}
-use Rattle.root.specs.Views.{view}
+use Rattle.root.proofs.Prelude.{◌≡◌, ◌∙◌, ap, arith, sym, err_from_is_err_and, before_more, before_fails, rules_of_header, header_at, header_count, Header, view}
 use Rattle.root.proofs.WalkLemmas.{offset_more, shows_from_before}
 use Rattle.root.proofs.walk.check_headers.Goals as goal
 

@@ -1,7 +1,4 @@
-use Rattle.std.proofs.Common.{◌≡◌, ◌≤◌, length}
-use Rattle.packed.specs.Rule.{HoldBefore}
-use Rattle.root.specs.Fields.{header_offset}
-use Rattle.root.specs.Rules.{rules_of_header}
+use Rattle.root.proofs.Prelude.{◌≡◌, ◌≤◌, length, HoldBefore, header_offset, rules_of_header}
 use Rattle.root.proofs.walk.check_headers.Given as goal
 
 abbrev pub invariant-loop-number : goal.invariant-loop-number

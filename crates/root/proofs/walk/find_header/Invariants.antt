@@ -1,6 +1,4 @@
-use Rattle.std.proofs.Common.{◌≡◌, None}
-use Rattle.root.specs.Fields.{header_offset, headers_before}
-use Rattle.root.specs.Streams.{named, stream_name}
+use Rattle.root.proofs.Prelude.{◌≡◌, None, header_offset, headers_before, named, stream_name}
 use Rattle.root.proofs.walk.find_header.Given as goal
 
 abbrev pub invariant-loop : goal.invariant-loop

@@ -1,6 +1,4 @@
-use Rattle.std.proofs.Common.{List, slice_index_or, ap, arith, ◌∙◌, length-set}
-use Rattle.table_schema.specs.declared.table.TableId.{TableId}
-use Rattle.table_schema.specs.declared.table.TableId.TheVariants.{Module}
+use Rattle.row_order.proofs.Prelude.{List, slice_index_or, ap, arith, ◌∙◌, length-set, TableId, Module}
 use Rattle.row_order.proofs.OrderLemmas.{reported_more}
 use Rattle.row_order.proofs.key_order.find_order.Goals as goal
 

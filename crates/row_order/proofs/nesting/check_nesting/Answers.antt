@@ -1,7 +1,4 @@
-use Rattle.std.proofs.Common.{arith}
-use Rattle.std.proofs.lemmas.Result.{err_from_is_err_and}
-use Rattle.packed.proofs.RuleLemmas.{before_none, before_more, before_all, before_fails}
-use Rattle.metadata.specs.Rules.{rules_of_nesting}
+use Rattle.row_order.proofs.Prelude.{arith, err_from_is_err_and, before_none, before_more, before_all, before_fails, rules_of_nesting}
 use Rattle.row_order.proofs.nesting.check_nesting.Goals as goal
 
 pub loop-row-init : goal.loop-row-init

@@ -1,5 +1,4 @@
-use Rattle.packed.specs.Rule.{HoldBefore}
-use Rattle.metadata.specs.Rules.{rules_of_key_in}
+use Rattle.row_order.proofs.Prelude.{HoldBefore, rules_of_key_in}
 use Rattle.row_order.proofs.order.check_keys.Given as goal
 
 abbrev pub invariant-loop-row : goal.invariant-loop-row

@@ -1,9 +1,4 @@
-use Rattle.std.proofs.Common.{List, get_or, ap, arith}
-use Rattle.std.proofs.lemmas.Result.{err_from_is_err_and}
-use Rattle.packed.proofs.RuleLemmas.{before_none, before_more, before_all, before_fails}
-use Rattle.table_schema.specs.declared.table.TableId.{TableId}
-use Rattle.table_schema.specs.declared.table.TableId.TheVariants.{Module}
-use Rattle.metadata.specs.Rules.{rules_of_order, rules_of_order_at}
+use Rattle.row_order.proofs.Prelude.{List, get_or, ap, arith, err_from_is_err_and, before_none, before_more, before_all, before_fails, TableId, Module, rules_of_order, rules_of_order_at}
 use Rattle.row_order.proofs.order.check_order.Goals as goal
 
 pub loop-table_index-init : goal.loop-table_index-init

@@ -1,5 +1,4 @@
-use Rattle.packed.specs.Rule.{HoldBefore}
-use Rattle.metadata.specs.Rules.{rules_of_order_at}
+use Rattle.row_order.proofs.Prelude.{HoldBefore, rules_of_order_at}
 use Rattle.row_order.proofs.order.check_order.Given as goal
 
 abbrev pub invariant-loop-table_index : goal.invariant-loop-table_index

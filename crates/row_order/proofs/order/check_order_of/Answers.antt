@@ -1,8 +1,4 @@
-use Rattle.std.proofs.Common.{◌≡◌, ℕ, Option, Some, sym, ◌∙◌, subst}
-use Rattle.packed.specs.Rule.{AllHold}
-use Rattle.table_schema.specs.Columns.{key_of}
-use Rattle.metadata.specs.RowRules.{is_said_sorted}
-use Rattle.metadata.specs.Rules.{rules_of_order_by}
+use Rattle.row_order.proofs.Prelude.{◌≡◌, ℕ, Option, Some, sym, ◌∙◌, subst, AllHold, key_of, is_said_sorted, rules_of_order_by}
 use Rattle.row_order.proofs.Orders.{order_met}
 use Rattle.row_order.proofs.order.check_order_of.Goals as goal
 

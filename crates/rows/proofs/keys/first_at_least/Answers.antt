@@ -1,5 +1,4 @@
-use Rattle.std.proofs.Common.{◌≡◌, ℕ, ◌+◌, ◌-◌, ◌/◌, List, length, refl, ap, ◌∙◌, arith}
-use Rattle.rows.specs.Keys.{key_at}
+use Rattle.rows.proofs.Prelude.{◌≡◌, ℕ, ◌+◌, ◌-◌, ◌/◌, List, length, refl, ap, ◌∙◌, arith, key_at}
 use Rattle.rows.proofs.HalvingLemmas.{digits_few, halves_whole, halves_more, key_rises}
 use Rattle.rows.proofs.keys.first_at_least.Goals as goal
 

@@ -1,5 +1,4 @@
-use Rattle.std.proofs.Common.{◌≡◌, ℕ, ◌+◌, ◌-◌, ◌<◌, ◌≤◌, length}
-use Rattle.rows.specs.Keys.{key_at, binary_digits}
+use Rattle.rows.proofs.Prelude.{◌≡◌, ℕ, ◌+◌, ◌-◌, ◌<◌, ◌≤◌, length, key_at, binary_digits}
 use Rattle.rows.proofs.HalvingLemmas.{Halves}
 use Rattle.rows.proofs.keys.first_at_least.Given as goal
 

@@ -1,9 +1,5 @@
-use Rattle.std.proofs.Common.{◌≡◌, ℕ, ◌+◌, ◌<◌, ◌++◌, [], drop, length, get_or, arith, ◌∙◌, ap, sym, append-nil, append_assoc, refl}
-use Rattle.std.proofs.lemmas.List.{drop_all}
+use Rattle.rows.proofs.Prelude.{◌≡◌, ℕ, ◌+◌, ◌<◌, ◌++◌, [], drop, length, get_or, arith, ◌∙◌, ap, sym, append-nil, append_assoc, refl, drop_all, columns_of, col, Sizes, width_of, number_bytes, row_bytes}
 use Rattle.table_schema.specs.declared.column.ColumnKind.TheVariants as kind
-use Rattle.table_schema.specs.Columns.{columns_of, col}
-use Rattle.schema.specs.Sizes.{Sizes, width_of}
-use Rattle.schema.specs.LaidOut.{number_bytes, row_bytes}
 use Rattle.rows.proofs.RowLemmas.{length_of_fit, fit_at, row_more, width_more, width_none}
 use Rattle.rows.proofs.put.put_row.Goals as goal
 

@@ -1,7 +1,4 @@
-use Rattle.std.proofs.Common.{◌≡◌, ◌+◌, ◌≤◌, ◌++◌, drop, vec_len, vec_capacity}
-use Rattle.table_schema.specs.Columns.{columns_of}
-use Rattle.schema.specs.Offsets.{columns_width}
-use Rattle.schema.specs.LaidOut.{row_bytes}
+use Rattle.rows.proofs.Prelude.{◌≡◌, ◌+◌, ◌≤◌, ◌++◌, drop, vec_len, vec_capacity, columns_of, columns_width, row_bytes}
 use Rattle.rows.proofs.put.put_row.Given as goal
 
 -- what was written and the columns that are left make the whole row, and there is room for them

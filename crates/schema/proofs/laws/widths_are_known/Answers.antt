@@ -1,5 +1,4 @@
-use Rattle.std.proofs.Common.{refl}
-use Rattle.schema.specs.Sizes.{width_of}
+use Rattle.schema.proofs.Prelude.{refl, width_of}
 use Rattle.schema.proofs.TableLayoutLemmas.{width_known}
 use Rattle.schema.proofs.laws.widths_are_known.Goals as goal
 

@@ -1,8 +1,4 @@
-use Rattle.std.proofs.Common.{ℕ, List, get_or, ap, sym, subst, arith, below_more}
-use Rattle.table_schema.specs.declared.table.TableId.{TableId}
-use Rattle.table_schema.specs.declared.table.TableId.TheVariants.{Module}
-use Rattle.table_schema.specs.Tables.{table_index_of, tables}
-use Rattle.schema.specs.LocatedCells.{HasCell}
+use Rattle.schema.proofs.Prelude.{ℕ, List, get_or, ap, sym, subst, arith, below_more, TableId, Module, table_index_of, tables, HasCell}
 use Rattle.schema.proofs.located_cells.cell_at.Goals as goal
 
 pub loop-table-preserved : goal.loop-table-preserved

@@ -1,5 +1,4 @@
-use Rattle.std.proofs.Common.{ℕ, subst}
-use Rattle.schema.specs.LocatedCells.{HasCell}
+use Rattle.schema.proofs.Prelude.{ℕ, subst, HasCell}
 use Rattle.schema.proofs.LocatedCellLemmas.{in_row, one_row}
 use Rattle.schema.proofs.located_cells.cell_in.Goals as goal
 

@@ -1,6 +1,5 @@
-use Rattle.std.proofs.Common.{arith}
+use Rattle.schema.proofs.Prelude.{arith, HasCell}
 use borrow.Author.Count.{below_more}
-use Rattle.schema.specs.LocatedCells.{HasCell}
 use Rattle.schema.proofs.located_cells.column_at.Goals as goal
 use Rattle.schema.proofs.located_cells.column_at.Goals.{else-start-offset-via-then-start-offset+else-offset-start, else-start-offset-via-else-start-offset}
 

@@ -1,5 +1,4 @@
-use Rattle.std.proofs.Common.{ℕ, ◌<◌}
-use Rattle.schema.specs.LocatedCells.{HasCell}
+use Rattle.schema.proofs.Prelude.{ℕ, ◌<◌, HasCell}
 use Rattle.schema.proofs.located_cells.column_at.Given as goal
 
 abbrev pub invariant-loop-column : goal.invariant-loop-column

@@ -1,5 +1,4 @@
-use Rattle.std.proofs.Common.{◌≡◌, ℕ, ◌+◌, ◌-◌, ◌*◌, ◌/◌, ◌<◌, ◌≤◌, sym, subst, suc, zero, arith}
-use Rattle.std.proofs.Math.Nat.{div-lt_iff_lt-mul, lt-div-mul-add, div-mul-le_self}
+use Rattle.schema.proofs.Prelude.{◌≡◌, ℕ, ◌+◌, ◌-◌, ◌*◌, ◌/◌, ◌<◌, ◌≤◌, sym, subst, suc, zero, arith, div-lt_iff_lt-mul, lt-div-mul-add, div-mul-le_self}
 use Rattle.schema.proofs.located_cells.row_at.Goals as goal
 
 -- the offset is in the row after this number of rows

@@ -1,5 +1,4 @@
-use Rattle.std.proofs.Common.{◌∙◌, sym, eqb-true, eq-eqb}
-use Rattle.schema.specs.Header.{has_bit}
+use Rattle.schema.proofs.Prelude.{◌∙◌, sym, eqb-true, eq-eqb, has_bit}
 use Rattle.schema.proofs.BitLemmas.{names_tables}
 use Rattle.schema.proofs.read.names_tables.Goals as goal
 

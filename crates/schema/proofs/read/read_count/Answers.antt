@@ -1,9 +1,4 @@
-use Rattle.std.proofs.Common.{◌≡◌, ℕ, ◌∙◌, ap, sym, inl, arith}
-use Rattle.packed.specs.declared.code.FaultCode.TheVariants.{RowCount}
-use Rattle.packed.specs.Rule.{fault}
-use Rattle.packed.specs.Number.{little_endian}
-use Rattle.packed.specs.Offsets.{part}
-use Rattle.schema.specs.Header.{has_bit, valid_of, count_in}
+use Rattle.schema.proofs.Prelude.{◌≡◌, ℕ, ◌∙◌, ap, sym, inl, arith, RowCount, fault, little_endian, part, has_bit, valid_of, count_in}
 use Rattle.schema.proofs.HeaderLemmas.{bit_there, count_within, count_counted, count_uncounted}
 use Rattle.schema.proofs.read.read_count.Goals as goal
 

@@ -1,12 +1,4 @@
-use Rattle.std.proofs.Common.{◌∙◌, ap, sym, subst, refl, arith, get_or, List, length-set}
-use Rattle.std.proofs.lemmas.Result.{err_from_is_err_and}
-use Rattle.packed.specs.Rule.{AllHold, FirstBroken}
-use Rattle.packed.proofs.RuleLemmas.{before_none, before_more, before_all, before_fails}
-use Rattle.table_schema.specs.declared.table.TableId.{TableId}
-use Rattle.table_schema.specs.declared.table.TableId.TheVariants.{Module}
-use Rattle.table_schema.specs.Tables.{tables}
-use Rattle.schema.specs.Header.{has_bit, valid_of, count_in}
-use Rattle.schema.specs.Rules.{rules_of_count, rules_of_count_at}
+use Rattle.schema.proofs.Prelude.{◌∙◌, ap, sym, subst, refl, arith, get_or, List, length-set, err_from_is_err_and, AllHold, FirstBroken, before_none, before_more, before_all, before_fails, TableId, Module, tables, has_bit, valid_of, count_in, rules_of_count, rules_of_count_at}
 use Rattle.schema.proofs.TableLayoutLemmas.{number_kept}
 use Rattle.schema.proofs.HeaderLemmas.{offset_at, offset_set, offset_clear, counts_are, bit_there}
 use Rattle.schema.proofs.read.read_counts.Goals as goal

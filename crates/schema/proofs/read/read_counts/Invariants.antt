@@ -1,11 +1,4 @@
-use Rattle.std.proofs.Common.{◌≡◌, ℕ, ◌+◌, ◌*◌, ◌<◌, ◌≤◌, length, get_or, take}
-use Rattle.std.specs.List.{count_by}
-use Rattle.packed.specs.Rule.{HoldBefore}
-use Rattle.table_schema.specs.declared.table.TableId.TheVariants.{Module}
-use Rattle.table_schema.specs.Tables.{tables}
-use Rattle.schema.specs.Sizes.{header_size}
-use Rattle.schema.specs.Header.{has_bit, valid_of, count_in}
-use Rattle.schema.specs.Rules.{rules_of_count_at}
+use Rattle.schema.proofs.Prelude.{◌≡◌, ℕ, ◌+◌, ◌*◌, ◌<◌, ◌≤◌, length, get_or, take, count_by, HoldBefore, Module, tables, header_size, has_bit, valid_of, count_in, rules_of_count_at}
 use Rattle.schema.proofs.read.read_counts.Given as goal
 
 abbrev pub invariant-loop-table_index : goal.invariant-loop-table_index

@@ -1,15 +1,4 @@
-use Rattle.std.proofs.Common.{◌≡◌, ℕ, ◌+◌, ◌*◌, ◌≤◌, ◌∙◌, ap, sym, subst, refl, inl, length, arith}
-use Rattle.std.proofs.lemmas.Result.{err_from_is_err_and}
-use Rattle.std.specs.List.{count_by}
-use Rattle.packed.specs.declared.code.FaultCode.TheVariants.{TablesShort}
-use Rattle.packed.specs.Rule.{rules_from, fault}
-use Rattle.packed.proofs.RuleLemmas.{all_append, fails_prefix, fails_back}
-use Rattle.table_schema.specs.Tables.{tables}
-use Rattle.schema.specs.Sizes.{header_size}
-use Rattle.schema.specs.Offsets.{tables_end}
-use Rattle.schema.specs.Header.{has_bit, sizes_of}
-use Rattle.schema.specs.Rules.{rules_of_header, rules_of_count_at, rules_of_tables}
-use Rattle.schema.specs.Kept.{AreFew}
+use Rattle.schema.proofs.Prelude.{◌≡◌, ℕ, ◌+◌, ◌*◌, ◌≤◌, ◌∙◌, ap, sym, subst, refl, inl, length, arith, err_from_is_err_and, count_by, TablesShort, rules_from, fault, all_append, fails_prefix, fails_back, tables, header_size, tables_end, has_bit, sizes_of, rules_of_header, rules_of_count_at, rules_of_tables, AreFew}
 use Rattle.schema.proofs.HeaderLemmas.{same_sizes, few_from}
 use Rattle.schema.proofs.read.read_layout.Goals as goal
 

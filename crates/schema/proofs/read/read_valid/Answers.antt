@@ -1,8 +1,4 @@
-use Rattle.std.proofs.Common.{◌≡◌, ◌∙◌, ap, subst, inl, inr, arith, rules, ℕ}
-use Rattle.std.specs.List.{count_by}
-use Rattle.table_schema.specs.Tables.{tables}
-use Rattle.schema.specs.Header.{has_bit, valid_of}
-use Rattle.schema.specs.Rules.{NamesTables}
+use Rattle.schema.proofs.Prelude.{◌≡◌, ◌∙◌, ap, subst, inl, inr, arith, rules, ℕ, count_by, tables, has_bit, valid_of, NamesTables}
 use Rattle.schema.proofs.read.read_valid.Goals as goal
 
 pub returns-then-bytes-counted-clause-reports : goal.returns-then-bytes-counted-clause-reports

@@ -1,11 +1,4 @@
-use Rattle.std.proofs.Common.{◌∙◌, ap, sym, arith, get_or, List}
-use Rattle.std.proofs.lemmas.List.{take_all}
-use Rattle.table_schema.specs.declared.table.TableId.{TableId}
-use Rattle.table_schema.specs.declared.table.TableId.TheVariants.{Module}
-use Rattle.table_schema.specs.Tables.{tables}
-use Rattle.schema.specs.LaidOut.{bits_of}
-use Rattle.schema.specs.Header.{has_bit}
-use Rattle.table_schema.proofs.TableFacts.{length-tables}
+use Rattle.schema.proofs.Prelude.{◌∙◌, ap, sym, arith, get_or, List, take_all, TableId, Module, tables, bits_of, has_bit, length-tables}
 use Rattle.schema.proofs.BitLemmas.{bit_set, bit_clear, bit_low, no_bits}
 use Rattle.schema.proofs.read.table_bits.Goals as goal
 use Rattle.schema.proofs.read.table_bits.Goals.{then-is_set, else-is_set}

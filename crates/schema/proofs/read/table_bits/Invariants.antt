@@ -1,7 +1,4 @@
-use Rattle.std.proofs.Common.{◌≡◌, ◌≤◌, ◌*◌, ◌^◌, take}
-use Rattle.table_schema.specs.Tables.{tables}
-use Rattle.schema.specs.LaidOut.{bits_of}
-use Rattle.schema.specs.Header.{has_bit}
+use Rattle.schema.proofs.Prelude.{◌≡◌, ◌≤◌, ◌*◌, ◌^◌, take, tables, bits_of, has_bit}
 use Rattle.schema.proofs.read.table_bits.Given as goal
 
 abbrev pub invariant-loop-table : goal.invariant-loop-table

@@ -1,7 +1,4 @@
-use Rattle.std.proofs.Common.{◌≡◌, map, drop}
-use Rattle.sig_grammar.specs.Views.{local_of}
-use Rattle.sig_encoder.specs.Run.{run}
-use Rattle.sig_encoder.specs.Items.{locals_items}
+use Rattle.sig_encoder.proofs.Prelude.{◌≡◌, map, drop, local_of, run, locals_items}
 use Rattle.sig_encoder.proofs.bodies.visit_locals.Given as goal
 
 abbrev pub invariant-loop-local : goal.invariant-loop-local

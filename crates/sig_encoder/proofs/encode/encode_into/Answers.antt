@@ -1,7 +1,4 @@
-use Rattle.std.proofs.Common.{◌∙◌, ◌-◌, ◌≤◌, length, ap, arith}
-use Rattle.sig_grammar.specs.Views.{body_of}
-use Rattle.sig_grammar.specs.Encodes.{short}
-use Rattle.sig_encoder.specs.Written.{Written}
+use Rattle.sig_encoder.proofs.Prelude.{◌∙◌, ◌-◌, ◌≤◌, length, ap, arith, body_of, short, Written}
 use Rattle.sig_encoder.proofs.Padded.{body_padded}
 use Rattle.sig_encoder.proofs.encode.encode_into.Goals as goal
 

@@ -1,7 +1,5 @@
-use Rattle.std.proofs.Common.{◌≡◌, [], ◌∷◌, ◌∙◌, sym, ap, get_or, rules, w32, to_z, of_z}
+use Rattle.sig_encoder.proofs.Prelude.{◌≡◌, [], ◌∷◌, ◌∙◌, sym, ap, get_or, rules, w32, to_z, of_z, signed, part}
 use Rattle.std.specs.Prelude.{ℤ, pos}
-use Rattle.sig_grammar.specs.Parts.{signed}
-use Rattle.sig_encoder.specs.Items.{part}
 use Rattle.sig_encoder.proofs.Steps.{run_last}
 use Rattle.sig_encoder.proofs.Loops.{goes_by, stops_by, list_next}
 use Rattle.sig_encoder.proofs.items.visit_bounds.Goals as goal

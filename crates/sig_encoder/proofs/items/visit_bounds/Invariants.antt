@@ -1,8 +1,4 @@
-use Rattle.std.proofs.Common.{◌≡◌, drop, [], ◌∷◌}
-use Rattle.sig_grammar.specs.Parts.{signed}
-use Rattle.sig_grammar.specs.Grammar.{list_parts}
-use Rattle.sig_encoder.specs.Run.{run}
-use Rattle.sig_encoder.specs.Items.{parts_items}
+use Rattle.sig_encoder.proofs.Prelude.{◌≡◌, drop, [], ◌∷◌, signed, list_parts, run, parts_items}
 use Rattle.sig_encoder.proofs.items.visit_bounds.Given as goal
 
 abbrev pub invariant-loop-bound : goal.invariant-loop-bound

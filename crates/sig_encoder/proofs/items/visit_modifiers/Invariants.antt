@@ -1,7 +1,4 @@
-use Rattle.std.proofs.Common.{◌≡◌, drop}
-use Rattle.sig_grammar.specs.Grammar.{list_parts, modifier_parts}
-use Rattle.sig_encoder.specs.Run.{run}
-use Rattle.sig_encoder.specs.Items.{parts_items}
+use Rattle.sig_encoder.proofs.Prelude.{◌≡◌, drop, list_parts, modifier_parts, run, parts_items}
 use Rattle.sig_encoder.proofs.items.visit_modifiers.Given as goal
 
 abbrev pub invariant-loop-modifier : goal.invariant-loop-modifier

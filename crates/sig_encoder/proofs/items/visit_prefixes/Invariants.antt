@@ -1,7 +1,4 @@
-use Rattle.std.proofs.Common.{◌≡◌, drop}
-use Rattle.sig_grammar.specs.Grammar.{list_parts, prefix_parts}
-use Rattle.sig_encoder.specs.Run.{run}
-use Rattle.sig_encoder.specs.Items.{parts_items}
+use Rattle.sig_encoder.proofs.Prelude.{◌≡◌, drop, list_parts, prefix_parts, run, parts_items}
 use Rattle.sig_encoder.proofs.items.visit_prefixes.Given as goal
 
 abbrev pub invariant-loop-prefix : goal.invariant-loop-prefix

@@ -1,6 +1,4 @@
-use Rattle.std.proofs.Common.{[], ◌∷◌, ◌∙◌, sym}
-use Rattle.sig_grammar.specs.Parts.{number}
-use Rattle.sig_encoder.specs.Items.{part}
+use Rattle.sig_encoder.proofs.Prelude.{[], ◌∷◌, ◌∙◌, sym, number, part}
 use Rattle.sig_encoder.proofs.Steps.{run_last}
 use Rattle.sig_encoder.proofs.Loops.{goes_by, stops_by, list_next}
 use Rattle.sig_encoder.proofs.items.visit_sizes.Goals as goal

@@ -1,5 +1,4 @@
-use Rattle.std.proofs.Common.{arith, refl}
-use Rattle.sig_grammar.specs.Views.{body_of}
+use Rattle.sig_encoder.proofs.Prelude.{arith, refl, body_of}
 use Rattle.sig_encoder.proofs.Measured.{refused, measured}
 use Rattle.sig_encoder.proofs.length.encoded_len.Goals as goal
 

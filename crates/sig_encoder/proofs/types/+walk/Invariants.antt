@@ -1,7 +1,4 @@
-use Rattle.std.proofs.Common.{◌≡◌, map, drop}
-use Rattle.sig_grammar.specs.Views.{type_of, types_from, slot_of, slots_from}
-use Rattle.sig_encoder.specs.Run.{run}
-use Rattle.sig_encoder.specs.Items.{types_items, slots_items, behind}
+use Rattle.sig_encoder.proofs.Prelude.{◌≡◌, map, drop, type_of, types_from, slot_of, slots_from, run, types_items, slots_items, behind}
 use Rattle.sig_encoder.proofs.types.+walk.Given as goal
 
 abbrev pub invariant-visit_types-loop-of : goal.invariant-visit_types-loop-of

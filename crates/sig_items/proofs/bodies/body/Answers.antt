@@ -1,7 +1,4 @@
-use Rattle.std.proofs.Common.{◌≢◌, ◌∙◌, refl, sym, rules}
-use Rattle.std.proofs.lemmas.Bool.{ne_eqb}
-use Rattle.sig_grammar.specs.Columns.{body_at}
-use Rattle.sig_items.specs.Positions.{position_at, field_reported, property_reported, variables_reported, arguments_reported}
+use Rattle.sig_items.proofs.Prelude.{◌≢◌, ◌∙◌, refl, sym, rules, ne_eqb, body_at, position_at, field_reported, property_reported, variables_reported, arguments_reported}
 use Rattle.sig_items.proofs.Heads.{body_end, body_method_def, body_type_spec, member_method, alone_method}
 use Rattle.sig_items.proofs.bodies.body.Goals as goal
 

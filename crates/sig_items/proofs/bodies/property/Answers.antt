@@ -1,7 +1,6 @@
-use Rattle.std.proofs.Common.{◌∙◌, false, sym, ap}
+use Rattle.sig_items.proofs.Prelude.{◌∙◌, false, sym, ap, item_then, params_reported}
 use Rattle.sig_items.specs.declared.item.Item.TheVariants as item
 use Rattle.sig_items.specs.declared.position.Position.TheVariants as position
-use Rattle.sig_items.specs.Positions.{item_then, params_reported}
 use Rattle.sig_items.proofs.Counts.{next_joined}
 use Rattle.sig_items.proofs.Heads.{property_is}
 use Rattle.sig_items.proofs.bodies.property.Goals as goal

@@ -1,7 +1,4 @@
-use Rattle.std.proofs.Common.{◌∙◌, Some, None, Option, List, ap, sym, subst}
-use Rattle.sig_items.specs.declared.position.Position.{Position}
-use Rattle.sig_items.specs.declared.position.Frame.{Frame}
-use Rattle.sig_items.specs.Steps.{pushed, all_at, IsStacked}
+use Rattle.sig_items.proofs.Prelude.{◌∙◌, Some, None, Option, List, ap, sym, subst, Position, Frame, pushed, all_at, IsStacked}
 use Rattle.sig_items.proofs.Stacks.{all_next, stacked_pushed, advanced_roomy}
 use Rattle.sig_items.proofs.follow.followed.Goals as goal
 

@@ -1,6 +1,4 @@
-use Rattle.std.proofs.Common.{◌∙◌, Some, List, ap}
-use Rattle.sig_items.specs.declared.position.Frame.{Frame}
-use Rattle.sig_items.specs.Steps.{all_at}
+use Rattle.sig_items.proofs.Prelude.{◌∙◌, Some, List, ap, Frame, all_at}
 use Rattle.sig_items.proofs.Stacks.{stacked_pop, resumed_fits, resumed_reported, resumed_roomy}
 use Rattle.sig_items.proofs.follow.resumed.Goals as goal
 

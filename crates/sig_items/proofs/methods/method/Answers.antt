@@ -1,7 +1,5 @@
-use Rattle.std.proofs.Common.{◌≡◌, ◌∙◌, ◌/◌, ◌%◌, eqb, true, false, sym, ap, rules}
+use Rattle.sig_items.proofs.Prelude.{◌≡◌, ◌∙◌, ◌/◌, ◌%◌, eqb, true, false, sym, ap, rules, method_head, item_then, params_reported}
 use Rattle.sig_items.specs.declared.position.Position.TheVariants as position
-use Rattle.sig_items.specs.ItemsOf.{method_head}
-use Rattle.sig_items.specs.Positions.{item_then, params_reported}
 use Rattle.sig_items.proofs.Counts.{next_joined}
 use Rattle.sig_items.proofs.Heads.{method_bad, method_is}
 use Rattle.sig_items.proofs.methods.method.Goals as goal

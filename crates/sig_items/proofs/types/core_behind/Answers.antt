@@ -1,7 +1,4 @@
-use Rattle.std.proofs.Common.{◌∙◌, refl, sym}
-use Rattle.sig_grammar.specs.Reading.{core_by}
-use Rattle.sig_items.specs.Positions.{code_reported, instance_reported}
-use Rattle.sig_items.specs.Steps.{reported}
+use Rattle.sig_items.proofs.Prelude.{◌∙◌, refl, sym, core_by, code_reported, instance_reported, reported}
 use Rattle.sig_items.proofs.Arms.{pointer_reported, function_reported, code_vector, code_array}
 use Rattle.sig_items.proofs.types.core_behind.Goals as goal
 

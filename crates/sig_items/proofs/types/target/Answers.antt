@@ -1,5 +1,4 @@
-use Rattle.std.proofs.Common.{◌≡◌, ◌∙◌, false, sym, rules}
-use Rattle.sig_grammar.specs.Reading.{starts_modifier}
+use Rattle.sig_items.proofs.Prelude.{◌≡◌, ◌∙◌, false, sym, rules, starts_modifier}
 use Rattle.sig_items.proofs.Arms.{target_void}
 use Rattle.sig_items.proofs.types.target.Goals as goal
 

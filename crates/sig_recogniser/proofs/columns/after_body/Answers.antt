@@ -1,5 +1,4 @@
-use Rattle.std.proofs.Common.{sym}
-use Rattle.sig_recogniser.specs.Skips.{remains, bad_token, skip_core}
+use Rattle.sig_recogniser.proofs.Prelude.{sym, remains, bad_token, skip_core}
 use Rattle.sig_recogniser.proofs.Loops.{skip_body_end}
 use Rattle.sig_recogniser.proofs.columns.after_body.Goals as goal
 

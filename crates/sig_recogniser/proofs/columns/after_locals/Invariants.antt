@@ -1,5 +1,4 @@
-use Rattle.std.proofs.Common.{◌≡◌, ◌-◌}
-use Rattle.sig_recogniser.specs.Skips.{left, skip_many, skip_local, skip_core}
+use Rattle.sig_recogniser.proofs.Prelude.{◌≡◌, ◌-◌, left, skip_many, skip_local, skip_core}
 use Rattle.sig_recogniser.proofs.columns.after_locals.Given as goal
 
 abbrev pub invariant-loop-done : goal.invariant-loop-done

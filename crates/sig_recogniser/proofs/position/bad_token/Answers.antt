@@ -1,5 +1,4 @@
-use Rattle.std.proofs.Common.{◌≡◌, ◌≢◌, ◌∙◌, sym, rules}
-use Rattle.sig_recogniser.specs.Skips.{bad_of}
+use Rattle.sig_recogniser.proofs.Prelude.{◌≡◌, ◌≢◌, ◌∙◌, sym, rules, bad_of}
 use Rattle.sig_recogniser.proofs.Positions.{bad_none, bad_some}
 use Rattle.sig_recogniser.proofs.position.bad_token.Goals as goal
 

@@ -1,5 +1,4 @@
-use Rattle.std.proofs.Common.{◌+◌, ◌<◌, ◌^◌, arith}
-use Rattle.sig_recogniser.specs.Skips.{offset_of}
+use Rattle.sig_recogniser.proofs.Prelude.{◌+◌, ◌<◌, ◌^◌, arith, offset_of}
 use Rattle.sig_recogniser.proofs.Positions.{count_fits, number_found, number_none, same_bad}
 use Rattle.sig_recogniser.proofs.position.long_number.Goals as goal
 

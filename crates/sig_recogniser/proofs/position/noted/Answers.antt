@@ -1,5 +1,4 @@
-use Rattle.std.proofs.Common.{◌≡◌, ◌≢◌, ◌∙◌, sym, rules}
-use Rattle.sig_recogniser.specs.Skips.{bad_of}
+use Rattle.sig_recogniser.proofs.Prelude.{◌≡◌, ◌≢◌, ◌∙◌, sym, rules, bad_of}
 use Rattle.sig_recogniser.proofs.Positions.{noted_good, noted_before, noted_bad, same_bytes}
 use Rattle.sig_recogniser.proofs.position.noted.Goals as goal
 

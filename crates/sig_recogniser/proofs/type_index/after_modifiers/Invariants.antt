@@ -1,5 +1,4 @@
-use Rattle.std.proofs.Common.{◌≡◌, length}
-use Rattle.sig_recogniser.specs.Skips.{left, remains, skip_modifiers}
+use Rattle.sig_recogniser.proofs.Prelude.{◌≡◌, length, left, remains, skip_modifiers}
 use Rattle.sig_recogniser.proofs.type_index.after_modifiers.Given as goal
 
 abbrev pub invariant-loop-here : goal.invariant-loop-here

@@ -1,6 +1,4 @@
-use Rattle.std.proofs.Common.{◌≡◌, ◌∙◌, sym, subst, true, false, None, Some, List, ℕ}
-use Rattle.sig_grammar.specs.Reading.{starts_prefix}
-use Rattle.sig_recogniser.specs.Skips.{left, remains, bad_token}
+use Rattle.sig_recogniser.proofs.Prelude.{◌≡◌, ◌∙◌, sym, subst, true, false, None, Some, List, ℕ, starts_prefix, left, remains, bad_token}
 use Rattle.sig_recogniser.proofs.ItemLemmas.{prefix_moves, prefix_shrinks, prefixes_end}
 use Rattle.sig_recogniser.proofs.type_index.after_prefixes.Goals as goal
 

@@ -1,5 +1,4 @@
-use Rattle.std.proofs.Common.{◌+◌, ◌*◌, ◌-◌, ◌≡◌}
-use Rattle.sig_recogniser.specs.Skips.{left, skip_core, skip_many, skip_typed, skip_params}
+use Rattle.sig_recogniser.proofs.Prelude.{◌+◌, ◌*◌, ◌-◌, ◌≡◌, left, skip_core, skip_many, skip_typed, skip_params}
 use Rattle.sig_recogniser.proofs.walk.+walk.Given as goal
 
 abbrev pub decreases-after_core : goal.decreases-after_core

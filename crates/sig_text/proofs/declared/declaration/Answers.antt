@@ -1,7 +1,4 @@
-use Rattle.std.proofs.Common.{ℕ, List, [], ◌∷◌, ◌++◌}
-use Rattle.std.specs.Prelude.{codes}
-use Rattle.sig_text.specs.SignatureText.{word, method_name, generics_text}
-use Rattle.sig_text.specs.Shown.{core_shown, declared_shown, named_slots_shown}
+use Rattle.sig_text.proofs.Prelude.{ℕ, List, [], ◌∷◌, ◌++◌, codes, word, method_name, generics_text, core_shown, declared_shown, named_slots_shown}
 use Rattle.sig_text.proofs.Chains.{and_then, read_on}
 use Rattle.sig_text.proofs.declared.declaration.Goals as goal
 

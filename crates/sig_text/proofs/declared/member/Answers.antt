@@ -1,6 +1,4 @@
-use Rattle.std.proofs.Common.{rules}
-use Rattle.std.proofs.lemmas.Bool.{ne_eqb}
-use Rattle.sig_text.specs.Shown.{member_shown}
+use Rattle.sig_text.proofs.Prelude.{rules, ne_eqb, member_shown}
 use Rattle.sig_text.proofs.Chains.{and_then}
 use Rattle.sig_text.proofs.declared.member.Goals as goal
 

@@ -1,7 +1,4 @@
-use Rattle.std.proofs.Common.{rules, arith, ◌≡◌, ◌<◌, ◌-◌, ◌+◌, [], ◌∷◌, List, ℕ, ap, refl}
-use Rattle.std.specs.Prelude.{codes}
-use Rattle.sig_text.specs.SignatureText.{Piece, param_name}
-use Rattle.sig_text.specs.Shown.{core_shown, before, named_slots_shown}
+use Rattle.sig_text.proofs.Prelude.{rules, arith, ◌≡◌, ◌<◌, ◌-◌, ◌+◌, [], ◌∷◌, List, ℕ, ap, refl, codes, Piece, param_name, core_shown, before, named_slots_shown}
 use Rattle.sig_text.proofs.Chains.{pass_on, pieces_first, start_left, end_left, shut_left}
 use Rattle.sig_text.proofs.ShapeShown.{named_more, named_end}
 use Rattle.sig_text.proofs.declared.params.Goals as goal

@@ -1,5 +1,4 @@
-use Rattle.std.proofs.Common.{sym}
-use Rattle.sig_text.specs.Shown.{core_shown, member_shown}
+use Rattle.sig_text.proofs.Prelude.{sym, core_shown, member_shown}
 use Rattle.sig_text.proofs.Bodies.{member_is}
 use Rattle.sig_text.proofs.Chains.{ended}
 use Rattle.sig_text.proofs.Encoded.{NumbersAreRead}

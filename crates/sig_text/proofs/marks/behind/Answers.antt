@@ -1,7 +1,5 @@
-use Rattle.std.proofs.Common.{arith, ◌≡◌, ◌∙◌, sym, refl, ap}
-use Rattle.sig_text.specs.Shown.{mark_at, marks_in}
+use Rattle.sig_text.proofs.Prelude.{arith, ◌≡◌, ◌∙◌, sym, refl, ap, None, Some, ◌≤◌, mark_at, marks_in}
 use Rattle.sig_text.proofs.MarksShown.{marks_next, marks_end}
-use Rattle.std.proofs.Common.{None, Some, ◌≤◌}
 use Rattle.sig_text.proofs.marks.behind.Goals as goal
 
 pub loop-done-init : goal.loop-done-init

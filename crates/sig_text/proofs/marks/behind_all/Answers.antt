@@ -1,7 +1,5 @@
-use Rattle.std.proofs.Common.{arith, ◌≡◌, ◌∙◌, sym, refl, ap}
-use Rattle.sig_text.specs.Shown.{mark_at, marks_in, marks_of}
+use Rattle.sig_text.proofs.Prelude.{arith, ◌≡◌, ◌∙◌, sym, refl, ap, None, Some, ◌≤◌, length, mark_at, marks_in, marks_of}
 use Rattle.sig_text.proofs.MarksShown.{marks_next, marks_end}
-use Rattle.std.proofs.Common.{None, Some, ◌≤◌, length}
 use Rattle.sig_text.proofs.marks.behind_all.Goals as goal
 
 pub loop-count-init : goal.loop-count-init

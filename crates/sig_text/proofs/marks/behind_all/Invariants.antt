@@ -1,5 +1,4 @@
-use Rattle.std.proofs.Common.{◌≡◌}
-use Rattle.sig_text.specs.Shown.{marks_in}
+use Rattle.sig_text.proofs.Prelude.{◌≡◌, marks_in}
 use Rattle.sig_text.proofs.marks.behind_all.Given as goal
 
 abbrev pub invariant-loop-count : goal.invariant-loop-count

@@ -1,6 +1,5 @@
-use Rattle.std.proofs.Common.{rules, ◌≡◌, false, sym}
+use Rattle.sig_text.proofs.Prelude.{rules, ◌≡◌, false, sym, starts_prefix}
 use Rattle.sig_text.proofs.MarksShown.{mark_read, mark_none}
-use Rattle.sig_grammar.specs.Reading.{starts_prefix}
 use Rattle.sig_text.proofs.marks.mark.Goals as goal
 
 pub returns-then-not-has_prefix : goal.returns-then-not-has_prefix

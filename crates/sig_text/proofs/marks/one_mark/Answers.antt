@@ -1,8 +1,6 @@
-use Rattle.std.proofs.Common.{◌≡◌, sym, Some, None}
-use Rattle.sig_text.specs.Shown.{mark_at}
+use Rattle.sig_text.proofs.Prelude.{◌≡◌, sym, Some, None, mark_at, Mod, Pinned}
 use Rattle.sig_text.proofs.Chains.{silent}
 use Rattle.sig_text.proofs.MarksShown.{one_text, no_text}
-use Rattle.sig_grammar.specs.declared.body.Prefix.TheVariants.{Mod, Pinned}
 use Rattle.sig_text.proofs.marks.one_mark.Goals as goal
 
 pub returns-in-Some-Mod-default : goal.returns-in-Some-Mod-default

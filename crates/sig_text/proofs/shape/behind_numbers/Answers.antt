@@ -1,5 +1,4 @@
-use Rattle.std.proofs.Common.{arith, ◌≡◌, ◌∙◌, sym, ap}
-use Rattle.std.proofs.Common.{◌<◌, ◌-◌, ◌+◌}
+use Rattle.std.proofs.Common.{arith, ◌≡◌, ◌∙◌, sym, ap, ◌<◌, ◌-◌, ◌+◌}
 use Rattle.sig_text.proofs.ShapeShown.{behind_more, behind_end}
 use Rattle.sig_text.proofs.shape.behind_numbers.Goals as goal
 

@@ -1,5 +1,4 @@
-use Rattle.std.proofs.Common.{◌≡◌, ◌-◌}
-use Rattle.sig_text.specs.Shown.{numbers_behind}
+use Rattle.sig_text.proofs.Prelude.{◌≡◌, ◌-◌, numbers_behind}
 use Rattle.sig_text.proofs.shape.behind_numbers.Given as goal
 
 abbrev pub invariant-loop-done : goal.invariant-loop-done

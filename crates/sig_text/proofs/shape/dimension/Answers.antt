@@ -1,6 +1,5 @@
-use Rattle.std.proofs.Common.{rules, arith, ◌≡◌, w64}
+use Rattle.sig_text.proofs.Prelude.{rules, arith, ◌≡◌, w64, ints}
 use Rattle.std.proofs.Math.IntN.{pos, ◌+ℤ◌, ◌-ℤ◌}
-use Rattle.std.proofs.lemmas.Int.{ints}
 use mir.Val.{to_z, of_z, SFits}
 use Rattle.sig_text.proofs.Chains.{and_then, silent}
 use Rattle.sig_text.proofs.shape.dimension.Goals as goal

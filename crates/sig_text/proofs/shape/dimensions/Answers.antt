@@ -1,6 +1,4 @@
-use Rattle.std.proofs.Common.{rules, arith, ◌≡◌, ◌<◌, ◌-◌, ◌+◌, refl}
-use Rattle.std.specs.Prelude.{codes}
-use Rattle.sig_text.specs.Shown.{before}
+use Rattle.sig_text.proofs.Prelude.{rules, arith, ◌≡◌, ◌<◌, ◌-◌, ◌+◌, refl, codes, before}
 use Rattle.sig_text.proofs.Chains.{pieces_first, start_left, end_left, shut_left}
 use Rattle.sig_text.proofs.ShapeShown.{dimensions_next, dimensions_end}
 use Rattle.sig_text.proofs.shape.dimensions.Goals as goal

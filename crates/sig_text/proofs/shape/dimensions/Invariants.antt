@@ -1,6 +1,4 @@
-use Rattle.std.proofs.Common.{◌-◌, []}
-use Rattle.std.specs.Prelude.{codes}
-use Rattle.sig_text.specs.Shown.{before, dimensions_shown}
+use Rattle.sig_text.proofs.Prelude.{◌-◌, [], codes, before, dimensions_shown}
 use Rattle.sig_text.proofs.Chains.{Left}
 use Rattle.sig_text.proofs.shape.dimensions.Given as goal
 

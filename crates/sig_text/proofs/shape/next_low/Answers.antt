@@ -1,10 +1,6 @@
-use Rattle.std.proofs.Common.{rules, arith, ◌≡◌, sym, refl}
-use Rattle.std.proofs.Common.{◌<◌}
-use Rattle.sig_text.specs.Shown.{signed_or}
+use Rattle.sig_text.proofs.Prelude.{rules, arith, ◌≡◌, sym, refl, ◌<◌, w32, signed_or, ints}
 use Rattle.sig_text.proofs.ShapeShown.{next_none, next_some}
 use mir.Val.{to_z, of_z, SFits}
-use Rattle.std.proofs.Common.{w32}
-use Rattle.std.proofs.lemmas.Int.{ints}
 use Rattle.sig_text.proofs.shape.next_low.Goals as goal
 
 pub returns-then-left-eq0 : goal.returns-then-left-eq0

@@ -1,6 +1,4 @@
-use Rattle.std.proofs.Common.{arith, sym, refl}
-use Rattle.std.proofs.Common.{◌<◌}
-use Rattle.sig_text.specs.Shown.{number_or}
+use Rattle.sig_text.proofs.Prelude.{arith, sym, refl, ◌<◌, number_or}
 use Rattle.sig_text.proofs.ShapeShown.{next_none, next_some}
 use Rattle.sig_text.proofs.shape.next_size.Goals as goal
 

@@ -1,8 +1,4 @@
-use Rattle.std.proofs.Common.{rules, arith, ◌≡◌, ◌<◌, ◌+◌, ◌-◌, eqb, true, false, refl, ℕ, List, ◌∷◌, ◌++◌}
-use Rattle.std.specs.Prelude.{codes}
-use Rattle.std.proofs.lemmas.Bool.{ne_eqb}
-use Rattle.sig_text.specs.Shown.{slot_shown, content_shown, by_ref_shown, core_shown, code_shown, around_shown, enclosed_shown, instance_shown, listed_shown, method_shown, after_element_shown, number_or, before}
-use Rattle.sig_text.specs.SignatureText.{word, arity_text}
+use Rattle.sig_text.proofs.Prelude.{rules, arith, ◌≡◌, ◌<◌, ◌+◌, ◌-◌, eqb, true, false, refl, ℕ, List, ◌∷◌, ◌++◌, codes, ne_eqb, slot_shown, content_shown, by_ref_shown, core_shown, code_shown, around_shown, enclosed_shown, instance_shown, listed_shown, method_shown, after_element_shown, number_or, before, word, arity_text}
 use Rattle.sig_text.proofs.Chains.{silent, and_then, pieces_only, pieces_first, pieces_last, in_turn, start_left, end_left, shut_left}
 use Rattle.sig_text.proofs.Arms.{core_none, core_element, core_code}
 use Rattle.sig_text.proofs.ShapeShown.{listed_next, listed_end}

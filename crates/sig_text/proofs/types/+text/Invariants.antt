@@ -1,6 +1,4 @@
-use Rattle.std.proofs.Common.{◌+◌, ◌*◌, ◌-◌, []}
-use Rattle.std.specs.Prelude.{codes}
-use Rattle.sig_text.specs.Shown.{before, core_shown, listed_shown}
+use Rattle.sig_text.proofs.Prelude.{◌+◌, ◌*◌, ◌-◌, [], codes, before, core_shown, listed_shown}
 use Rattle.sig_text.proofs.Chains.{Left}
 use Rattle.sig_text.proofs.types.+text.Given as goal
 

@@ -1,6 +1,4 @@
-use Rattle.std.proofs.Common.{rules}
-use Rattle.std.proofs.lemmas.Bool.{ne_eqb}
-use Rattle.sig_text.specs.Shown.{after_element_shown}
+use Rattle.sig_text.proofs.Prelude.{rules, ne_eqb, after_element_shown}
 use Rattle.sig_text.proofs.Chains.{silent, pieces_only}
 use Rattle.sig_text.proofs.types.after_element.Goals as goal
 

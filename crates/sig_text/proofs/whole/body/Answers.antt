@@ -1,5 +1,4 @@
-use Rattle.std.proofs.Common.{rules}
-use Rattle.sig_text.specs.Shown.{core_shown, body_shown}
+use Rattle.sig_text.proofs.Prelude.{rules, core_shown, body_shown}
 use Rattle.sig_text.proofs.Bodies.{body_other}
 use Rattle.sig_text.proofs.whole.body.Goals as goal
 

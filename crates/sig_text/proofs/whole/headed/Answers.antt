@@ -1,6 +1,4 @@
-use Rattle.std.proofs.Common.{rules}
-use Rattle.std.proofs.lemmas.Bool.{ne_eqb}
-use Rattle.sig_text.specs.Shown.{headed_shown}
+use Rattle.sig_text.proofs.Prelude.{rules, ne_eqb, headed_shown}
 use Rattle.sig_text.proofs.whole.headed.Goals as goal
 
 pub returns-in-6 : goal.returns-in-6

@@ -1,7 +1,4 @@
-use Rattle.std.proofs.Common.{ℕ, List, ◌∷◌}
-use Rattle.std.specs.Prelude.{codes}
-use Rattle.sig_text.specs.SignatureText.{word}
-use Rattle.sig_text.specs.Shown.{core_shown, enclosed_shown, property_shown}
+use Rattle.sig_text.proofs.Prelude.{ℕ, List, ◌∷◌, codes, word, core_shown, enclosed_shown, property_shown}
 use Rattle.sig_text.proofs.Chains.{pieces_first, in_turn}
 use Rattle.sig_text.proofs.whole.property.Goals as goal
 

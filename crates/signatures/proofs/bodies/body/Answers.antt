@@ -1,6 +1,4 @@
-use Rattle.std.proofs.Common.{[], refl}
-use Rattle.sig_grammar.specs.Reading.{core_at}
-use Rattle.sig_grammar.specs.Columns.{body_at}
+use Rattle.signatures.proofs.Prelude.{[], refl, core_at, body_at}
 use Rattle.signatures.proofs.Cores.{fails_end, body_end}
 use Rattle.signatures.proofs.Items.{failed}
 use Rattle.signatures.proofs.bodies.body.Goals as goal

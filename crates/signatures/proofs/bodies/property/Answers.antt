@@ -1,8 +1,5 @@
-use Rattle.std.proofs.Common.{List, refl}
+use Rattle.signatures.proofs.Prelude.{List, refl, slot_of, change, many_at, core_at, slot_at, both, property_from, headed_at}
 use Rattle.sig_grammar.specs.Syntax.{Slot}
-use Rattle.sig_grammar.specs.Views.{slot_of}
-use Rattle.sig_grammar.specs.Reading.{change, many_at, core_at, slot_at, both}
-use Rattle.sig_grammar.specs.Columns.{property_from, headed_at}
 use Rattle.signatures.proofs.Parameters.{many_is, many_fails}
 use Rattle.signatures.proofs.Cores.{fails_change}
 use Rattle.signatures.proofs.bodies.property.Goals as goal

@@ -1,10 +1,5 @@
-use Rattle.std.proofs.Common.{◌∙◌, map, Option, List, ℕ, sym, subst}
-use Rattle.std.proofs.lemmas.List.{map-append}
+use Rattle.signatures.proofs.Prelude.{◌∙◌, map, Option, List, ℕ, sym, subst, map-append, core_at, local_at, local_of, Fails}
 use Rattle.sig_grammar.specs.Syntax.{LocalVariable}
-use Rattle.sig_grammar.specs.Reading.{core_at}
-use Rattle.sig_grammar.specs.Columns.{local_at}
-use Rattle.sig_grammar.specs.Views.{local_of}
-use Rattle.signatures.specs.Gives.{Fails}
 use Rattle.signatures.proofs.Items.{failed, many_next, many_bad, many_end}
 use Rattle.signatures.proofs.bodies.variables.Goals as goal
 

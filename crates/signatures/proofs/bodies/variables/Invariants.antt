@@ -1,7 +1,4 @@
-use Rattle.std.proofs.Common.{◌≡◌, ◌-◌, map}
-use Rattle.sig_grammar.specs.Reading.{many_at, core_at}
-use Rattle.sig_grammar.specs.Columns.{local_at}
-use Rattle.sig_grammar.specs.Views.{local_of}
+use Rattle.signatures.proofs.Prelude.{◌≡◌, ◌-◌, map, many_at, core_at, local_at, local_of}
 use Rattle.signatures.proofs.Items.{with_head}
 use Rattle.signatures.proofs.bodies.variables.Given as goal
 

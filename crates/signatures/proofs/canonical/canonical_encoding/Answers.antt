@@ -1,7 +1,5 @@
-use Rattle.std.proofs.Common.{◌∙◌, ◌<◌, ◌≤◌, ◌^◌, length, List, ℕ, ap, subst, sym}
+use Rattle.signatures.proofs.Prelude.{◌∙◌, ◌<◌, ◌≤◌, ◌^◌, length, List, ℕ, ap, subst, sym, AllByRecursion, encoded_item, HasItemEncoding}
 use Rattle.std.specs.Prelude.{flat_map}
-use Rattle.std.specs.List.{AllByRecursion}
-use Rattle.sig_items.specs.ItemParts.{encoded_item, HasItemEncoding}
 use Rattle.signatures.proofs.canonical.canonical_encoding.Goals as goal
 
 pub encode_items-requires : goal.encode_items-requires

@@ -1,7 +1,5 @@
-use Rattle.std.proofs.Common.{◌≡◌, ◌++◌}
+use Rattle.signatures.proofs.Prelude.{◌≡◌, ◌++◌, AllByRecursion, encoded_item, HasItemEncoding}
 use Rattle.std.specs.Prelude.{flat_map}
-use Rattle.std.specs.List.{AllByRecursion}
-use Rattle.sig_items.specs.ItemParts.{encoded_item, HasItemEncoding}
 use Rattle.signatures.proofs.canonical.encode_items.Given as goal
 
 -- the items that are left complete what is written

@@ -1,8 +1,4 @@
-use Rattle.std.proofs.Common.{◌≡◌, ◌∙◌, sym, Option, List, ℕ, subst, false}
-use Rattle.sig_grammar.specs.declared.types.Modifier.{Modifier}
-use Rattle.sig_grammar.specs.Reading.{modifier_at, modifiers_at, starts_modifier}
-use Rattle.signatures.specs.Gives.{Fails}
-use Rattle.sig_grammar.proofs.Items.{modifier_steps}
+use Rattle.signatures.proofs.Prelude.{◌≡◌, ◌∙◌, sym, Option, List, ℕ, subst, false, Modifier, modifier_at, modifiers_at, starts_modifier, Fails, modifier_steps}
 use Rattle.signatures.proofs.Items.{failed, given, head_next, head_end, head_bad, item_shorter}
 use Rattle.signatures.proofs.modifiers.modifiers.Goals as goal
 

@@ -1,5 +1,4 @@
-use Rattle.std.proofs.Common.{◌≡◌, length}
-use Rattle.sig_grammar.specs.Reading.{modifiers_at}
+use Rattle.signatures.proofs.Prelude.{◌≡◌, length, modifiers_at}
 use Rattle.signatures.proofs.Items.{with_head}
 use Rattle.signatures.proofs.modifiers.modifiers.Given as goal
 

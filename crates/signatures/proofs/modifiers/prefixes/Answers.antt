@@ -1,8 +1,5 @@
-use Rattle.std.proofs.Common.{◌≡◌, ◌∙◌, sym, Option, List, ℕ, subst, false}
+use Rattle.signatures.proofs.Prelude.{◌≡◌, ◌∙◌, sym, Option, List, ℕ, subst, false, prefix_at, prefixes_at, starts_prefix, Fails, prefix_steps}
 use Rattle.sig_grammar.specs.declared.body.Prefix.{Prefix}
-use Rattle.sig_grammar.specs.Reading.{prefix_at, prefixes_at, starts_prefix}
-use Rattle.signatures.specs.Gives.{Fails}
-use Rattle.sig_grammar.proofs.Items.{prefix_steps}
 use Rattle.signatures.proofs.Items.{failed, given, head_next, head_end, head_bad, item_shorter}
 use Rattle.signatures.proofs.modifiers.prefixes.Goals as goal
 

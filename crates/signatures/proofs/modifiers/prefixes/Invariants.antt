@@ -1,5 +1,4 @@
-use Rattle.std.proofs.Common.{◌≡◌, length}
-use Rattle.sig_grammar.specs.Reading.{prefixes_at}
+use Rattle.signatures.proofs.Prelude.{◌≡◌, length, prefixes_at}
 use Rattle.signatures.proofs.Items.{with_head}
 use Rattle.signatures.proofs.modifiers.prefixes.Given as goal
 

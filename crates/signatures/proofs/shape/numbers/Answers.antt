@@ -1,6 +1,4 @@
-use Rattle.std.proofs.Common.{◌∙◌, sym, ℕ, Option, List, subst}
-use Rattle.sig_grammar.specs.Reading.{number_at}
-use Rattle.signatures.specs.Gives.{Fails}
+use Rattle.signatures.proofs.Prelude.{◌∙◌, sym, ℕ, Option, List, subst, number_at, Fails}
 use Rattle.signatures.proofs.Items.{failed, many_next, many_bad, many_end}
 use Rattle.signatures.proofs.shape.numbers.Goals as goal
 

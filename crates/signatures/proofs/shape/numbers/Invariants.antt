@@ -1,5 +1,4 @@
-use Rattle.std.proofs.Common.{◌≡◌, ◌-◌}
-use Rattle.sig_grammar.specs.Reading.{many_at, number_at}
+use Rattle.signatures.proofs.Prelude.{◌≡◌, ◌-◌, many_at, number_at}
 use Rattle.signatures.proofs.Items.{with_head}
 use Rattle.signatures.proofs.shape.numbers.Given as goal
 

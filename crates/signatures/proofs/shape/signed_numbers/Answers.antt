@@ -1,7 +1,5 @@
 use Rattle.std.proofs.Common.{◌∙◌, sym, ℕ, ℤ, SFits, w32, Option, List, subst, rules}
-use Rattle.std.proofs.lemmas.Int.{to_z-of_z}
-use Rattle.sig_grammar.specs.Reading.{signed_at}
-use Rattle.signatures.specs.Gives.{Fails}
+use Rattle.signatures.proofs.Prelude.{to_z-of_z, signed_at, Fails}
 use Rattle.signatures.proofs.Items.{failed, many_next, many_bad, many_end}
 use Rattle.signatures.proofs.shape.signed_numbers.Goals as goal
 

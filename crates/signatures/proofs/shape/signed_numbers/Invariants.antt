@@ -1,5 +1,4 @@
-use Rattle.std.proofs.Common.{◌≡◌, ◌-◌}
-use Rattle.sig_grammar.specs.Reading.{many_at, signed_at}
+use Rattle.signatures.proofs.Prelude.{◌≡◌, ◌-◌, many_at, signed_at}
 use Rattle.signatures.proofs.Items.{with_head}
 use Rattle.signatures.proofs.shape.signed_numbers.Given as goal
 

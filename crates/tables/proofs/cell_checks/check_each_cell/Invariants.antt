@@ -1,5 +1,4 @@
-use Rattle.packed.specs.Rule.{HoldBefore}
-use Rattle.metadata.specs.Refusals.{refusals_of_cell}
+use Rattle.tables.proofs.Prelude.{HoldBefore, refusals_of_cell}
 use Rattle.tables.proofs.cell_checks.check_each_cell.Given as goal
 
 abbrev pub invariant-loop-cell_index : goal.invariant-loop-cell_index

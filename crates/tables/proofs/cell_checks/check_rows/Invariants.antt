@@ -1,5 +1,4 @@
-use Rattle.packed.specs.Rule.{HoldBefore}
-use Rattle.metadata.specs.Refusals.{refusals_of_row}
+use Rattle.tables.proofs.Prelude.{HoldBefore, refusals_of_row}
 use Rattle.tables.proofs.cell_checks.check_rows.Given as goal
 
 abbrev pub invariant-loop-row : goal.invariant-loop-row

@@ -1,6 +1,5 @@
 -- Search finds this too. It is written so that a check that refuses an edit of this function ends sooner.
-use Rattle.std.proofs.Common.{rules}
-use Rattle.metadata.specs.Refusals.{refusals_of_run}
+use Rattle.tables.proofs.Prelude.{rules, refusals_of_run}
 use Rattle.tables.proofs.members.check_run.Goals as goal
 
 pub returns-then-count-eq0 : goal.returns-then-count-eq0

@@ -1,5 +1,4 @@
-use Rattle.packed.specs.Rule.{HoldBefore}
-use Rattle.metadata.specs.Refusals.{refusals_of_nesting_in}
+use Rattle.tables.proofs.Prelude.{HoldBefore, refusals_of_nesting_in}
 use Rattle.tables.proofs.nesting.check_nesting.Given as goal
 
 abbrev pub invariant-loop-row : goal.invariant-loop-row

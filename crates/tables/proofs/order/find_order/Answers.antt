@@ -1,8 +1,4 @@
-use Rattle.std.proofs.Common.{◌≡◌, ◌↔◌, ℕ, Bool, false, IsTrue, Some, List, slice_index_or, ap, arith, ◌∙◌, length-set}
-use Rattle.table_schema.specs.declared.table.TableId.{TableId}
-use Rattle.table_schema.specs.declared.table.TableId.TheVariants.{Module}
-use Rattle.table_schema.specs.Columns.{key_of}
-use Rattle.metadata.specs.KeyOrder.{IsKeyOrdered}
+use Rattle.tables.proofs.Prelude.{◌≡◌, ◌↔◌, ℕ, Bool, false, IsTrue, Some, List, slice_index_or, ap, arith, ◌∙◌, length-set, TableId, Module, key_of, IsKeyOrdered}
 use Rattle.tables.proofs.CountLemmas.{known_more}
 use Rattle.tables.proofs.order.find_order.Goals as goal
 

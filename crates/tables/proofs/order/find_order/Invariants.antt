@@ -1,8 +1,4 @@
-use Rattle.std.proofs.Common.{◌≡◌, ◌<◌, ◌↔◌, ℕ, IsTrue, Some, false, slice_index_or, length}
-use Rattle.table_schema.specs.declared.table.TableId.{TableId}
-use Rattle.table_schema.specs.Tables.{table_number, table_index_of}
-use Rattle.table_schema.specs.Columns.{key_of}
-use Rattle.metadata.specs.KeyOrder.{IsKeyOrdered}
+use Rattle.tables.proofs.Prelude.{◌≡◌, ◌<◌, ◌↔◌, ℕ, IsTrue, Some, false, slice_index_or, length, TableId, table_number, table_index_of, key_of, IsKeyOrdered}
 use Rattle.tables.proofs.order.find_order.Given as goal
 
 abbrev pub invariant-loop-table_index : goal.invariant-loop-table_index

@@ -1,7 +1,5 @@
-use Rattle.std.proofs.Common.{ℕ, ◌<◌, ◌≤◌, ◌-◌}
-use Rattle.metadata.specs.Metadata.{count_in}
+use Rattle.tables.proofs.Prelude.{ℕ, ◌<◌, ◌≤◌, ◌-◌, count_in, key_in}
 use Rattle.metadata.specs.Lookups.{IsKeyCell}
-use Rattle.metadata.specs.KeyOrder.{key_in}
 use Rattle.tables.proofs.order.never_fall.Given as goal
 
 abbrev pub invariant-loop-cell_index : goal.invariant-loop-cell_index

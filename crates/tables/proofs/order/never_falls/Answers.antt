@@ -1,6 +1,4 @@
-use Rattle.std.proofs.Common.{ℕ, arith}
-use Rattle.metadata.specs.Metadata.{count_in}
-use Rattle.metadata.specs.KeyOrder.{key_in}
+use Rattle.tables.proofs.Prelude.{ℕ, arith, count_in, key_in}
 use Rattle.tables.proofs.KeyLemmas.{key_here, rising_more, falls_there}
 use Rattle.tables.proofs.order.never_falls.Goals as goal
 

@@ -1,5 +1,4 @@
-use Rattle.packed.specs.Rule.{HoldBefore}
-use Rattle.metadata.specs.Refusals.{refusals_of_signature}
+use Rattle.tables.proofs.Prelude.{HoldBefore, refusals_of_signature}
 use Rattle.tables.proofs.signature_checks.check_row.Given as goal
 
 abbrev pub invariant-loop-cell_index : goal.invariant-loop-cell_index

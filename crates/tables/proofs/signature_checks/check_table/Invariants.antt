@@ -1,5 +1,4 @@
-use Rattle.packed.specs.Rule.{HoldBefore}
-use Rattle.metadata.specs.Refusals.{refusals_of_signatures_in}
+use Rattle.tables.proofs.Prelude.{HoldBefore, refusals_of_signatures_in}
 use Rattle.tables.proofs.signature_checks.check_table.Given as goal
 
 abbrev pub invariant-loop-row : goal.invariant-loop-row

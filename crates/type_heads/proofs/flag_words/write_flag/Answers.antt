@@ -1,6 +1,4 @@
-use Rattle.std.proofs.Common.{rules, ◌≡◌, ◌==◌, false, true}
-use Rattle.std.specs.Prelude.{bit_and, codes}
-use Rattle.full_names.proofs.TextLemmas.{writes_last, writes_nothing}
+use Rattle.type_heads.proofs.Prelude.{rules, ◌≡◌, ◌==◌, false, true, bit_and, codes, writes_last, writes_nothing}
 use Rattle.type_heads.proofs.flag_words.write_flag.Goals as goal
 
 pub returns-then-flags-word : goal.returns-then-flags-word

@@ -1,8 +1,4 @@
-use Rattle.std.proofs.Common.{◌≡◌, ◌∙◌, ◌≤◌, List, ap, length, sym, subst, arith}
-use Rattle.std.specs.Fmt.{WritesInCalls}
-use Rattle.std.proofs.lemmas.List.{length-map, take_all}
-use Rattle.full_names.proofs.TextLemmas.{writes_nothing}
-use Rattle.type_heads.specs.FlagWords.{Word, leading_words, shown_word, words_of}
+use Rattle.type_heads.proofs.Prelude.{◌≡◌, ◌∙◌, ◌≤◌, List, ap, length, sym, subst, arith, WritesInCalls, length-map, take_all, writes_nothing, Word, leading_words, shown_word, words_of}
 use Rattle.type_heads.proofs.FlagLemmas.{word_more}
 use Rattle.type_heads.proofs.flag_words.write_flags.Goals as goal
 

@@ -1,6 +1,4 @@
-use Rattle.std.proofs.Common.{take}
-use Rattle.std.specs.Fmt.{WritesInCalls}
-use Rattle.type_heads.specs.FlagWords.{leading_words, words_of}
+use Rattle.type_heads.proofs.Prelude.{take, WritesInCalls, leading_words, words_of}
 use Rattle.type_heads.proofs.flag_words.write_flags.Given as goal
 
 -- the words before this one are written

@@ -1,5 +1,4 @@
-use Rattle.std.proofs.Common.{◌<◌, subst, sym}
-use Rattle.table_schema.specs.CellColumns.{cell_count}
+use Rattle.type_heads.proofs.Prelude.{◌<◌, subst, sym, cell_count}
 use Rattle.table_schema.specs.declared.table.TableId.{TableId}
 use Rattle.type_heads.proofs.HeadLemmas.{second_cell}
 use Rattle.type_heads.proofs.heads.reference.Goals as goal

@@ -1,8 +1,5 @@
-use Rattle.std.proofs.Common.{[], length, sym}
-use Rattle.std.specs.Prelude.{codes}
-use Rattle.full_names.proofs.TextLemmas.{writes_nothing}
+use Rattle.type_heads.proofs.Prelude.{[], length, sym, codes, writes_nothing, IsTypeOf}
 use Rattle.navigation.specs.declared.links.Link.TheVariants as link_of
-use Rattle.type_heads.specs.Heads.{IsTypeOf}
 use Rattle.type_heads.proofs.HeadLemmas.{constraints_written, enclosed_none, is_none, is_some, listed_none}
 use Rattle.type_heads.proofs.heads.write_constraints.Goals as goal
 

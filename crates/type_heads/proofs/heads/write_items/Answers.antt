@@ -1,12 +1,5 @@
-use Rattle.std.proofs.Common.{◌≤◌, [], map, subst, sym}
-use Rattle.std.specs.Prelude.{All}
-use Rattle.full_names.proofs.PieceLemmas.{on_wrote}
-use Rattle.navigation.specs.declared.keyed.KeyedRow.{KeyedRow}
-use Rattle.navigation.specs.declared.links.Link.{Link}
-use Rattle.navigation.specs.Keyed.{row_of}
-use Rattle.navigation.specs.Linked.{table_of}
+use Rattle.type_heads.proofs.Prelude.{◌≤◌, [], map, subst, sym, All, on_wrote, KeyedRow, Link, row_of, table_of, AreListed, IsGenericParam, IsInHead, IsTypeOf}
 use Rattle.opening.specs.Views.{row_count}
-use Rattle.type_heads.specs.Heads.{AreListed, IsGenericParam, IsInHead, IsTypeOf}
 use Rattle.type_heads.proofs.HeadLemmas.{other_items}
 use Rattle.type_heads.proofs.heads.write_items.Goals as goal
 

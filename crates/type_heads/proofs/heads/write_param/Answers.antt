@@ -1,6 +1,5 @@
-use Rattle.std.proofs.Common.{ap, sym}
+use Rattle.type_heads.proofs.Prelude.{ap, sym, flags_in, name_in, param_token}
 use Rattle.metadata.specs.Cell.{Cell}
-use Rattle.type_heads.specs.Heads.{flags_in, name_in, param_token}
 use Rattle.type_heads.proofs.HeadLemmas.{param_written}
 use Rattle.type_heads.proofs.heads.write_param.Goals as goal
 

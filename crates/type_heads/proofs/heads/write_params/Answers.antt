@@ -1,5 +1,4 @@
-use Rattle.std.proofs.Common.{refl, rules}
-use Rattle.type_heads.specs.Heads.{IsGenericParam}
+use Rattle.type_heads.proofs.Prelude.{refl, rules, IsGenericParam}
 use Rattle.type_heads.proofs.HeadLemmas.{none_left, one_more, passed_over, param_text}
 use Rattle.type_heads.proofs.heads.write_params.Goals as goal
 

@@ -1,12 +1,5 @@
-use Rattle.std.proofs.Common.{◌≡◌, ◌∙◌, [], Option, Some, None, refl, subst, sym}
-use Rattle.table_schema.specs.declared.token.Token.{Token}
-use Rattle.metadata.specs.Metadata.{cell_in}
+use Rattle.type_heads.proofs.Prelude.{◌≡◌, ◌∙◌, [], Option, Some, None, refl, subst, sym, Token, cell_in, on_wrote, writes_nothing, reference_in, table_of, IsTypeName, IsTypeOf}
 use Rattle.full_names.specs.Texts.{IsFullNameBy}
-use Rattle.full_names.proofs.PieceLemmas.{on_wrote}
-use Rattle.full_names.proofs.TextLemmas.{writes_nothing}
-use Rattle.navigation.specs.Cells.{reference_in}
-use Rattle.navigation.specs.Linked.{table_of}
-use Rattle.type_heads.specs.Heads.{IsTypeName, IsTypeOf}
 use Rattle.type_heads.proofs.heads.write_type.Goals as goal
 
 pub returns-in-Some : goal.returns-in-Some

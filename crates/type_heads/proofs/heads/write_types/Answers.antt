@@ -1,5 +1,4 @@
-use Rattle.std.proofs.Common.{refl, rules}
-use Rattle.type_heads.specs.Heads.{IsTypeOf}
+use Rattle.type_heads.proofs.Prelude.{refl, rules, IsTypeOf}
 use Rattle.type_heads.proofs.HeadLemmas.{none_left, one_more, passed_over, type_text}
 use Rattle.type_heads.proofs.heads.write_types.Goals as goal
 

@@ -1,11 +1,6 @@
 use denote.Shadow.{shadow}
 use denote.Text.{Utf8}
-use Rattle.std.proofs.Common.{[], map}
-use Rattle.metadata.specs.Metadata.{Metadata}
-use Rattle.metadata.specs.Model.{IsModel}
-use Rattle.full_names.specs.Names.{Wrote}
-use Rattle.navigation.specs.Keyed.{row_of}
-use Rattle.type_heads.specs.Heads.{AreListed, IsTypeOf}
+use Rattle.type_heads.proofs.Prelude.{[], map, Metadata, IsModel, Wrote, row_of, AreListed, IsTypeOf}
 use Rattle.type_heads.proofs.HeadLemmas.{WroteFrom}
 use Rattle.type_heads.proofs.heads.write_types.Given as goal
 

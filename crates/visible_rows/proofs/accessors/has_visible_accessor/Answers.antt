@@ -1,11 +1,7 @@
-use Rattle.std.proofs.Common.{◌∙◌, ◌||◌, Bool, ap, ap₂, sym}
-use Rattle.std.specs.List.{list_any}
-use Rattle.std.proofs.lemmas.List.{take_all}
+use Rattle.visible_rows.proofs.Prelude.{◌∙◌, ◌||◌, Bool, ap, ap₂, sym, list_any, take_all, Metadata, is_visible_accessor}
 use Rattle.std.proofs.lemmas.List.Folds.{list_any_at, list_any_more}
-use Rattle.metadata.specs.Metadata.{Metadata}
 use Rattle.navigation.specs.declared.keyed.KeyedRow.{KeyedRow}
 use Rattle.navigation.specs.Keyed.{row_of}
-use Rattle.visible_rows.specs.Visible.{is_visible_accessor}
 use Rattle.visible_rows.proofs.ResultLemmas.{any_of_map}
 use Rattle.visible_rows.proofs.accessors.has_visible_accessor.Goals as goal
 

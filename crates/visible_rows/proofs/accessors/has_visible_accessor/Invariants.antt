@@ -1,8 +1,4 @@
-use Rattle.std.proofs.Common.{◌≡◌, take, false}
-use Rattle.std.specs.List.{list_any}
-use Rattle.metadata.specs.Metadata.{Metadata}
-use Rattle.metadata.specs.Model.{IsModel}
-use Rattle.visible_rows.specs.Visible.{is_visible_accessor}
+use Rattle.visible_rows.proofs.Prelude.{◌≡◌, take, false, list_any, Metadata, IsModel, is_visible_accessor}
 use Rattle.visible_rows.proofs.accessors.has_visible_accessor.Given as goal
 
 -- none so far is visible

@@ -1,8 +1,4 @@
-use Rattle.std.proofs.Common.{◌≡◌, ◌∙◌, ◌+◌, ap, arith, length, map}
-use Rattle.std.specs.List.{range_with_len}
-use Rattle.std.proofs.lemmas.List.{length_push}
-use Rattle.opening.specs.Views.{row_count}
-use Rattle.visible_rows.specs.Visible.{has_visible_accessor}
+use Rattle.visible_rows.proofs.Prelude.{◌≡◌, ◌∙◌, ◌+◌, ap, arith, length, map, range_with_len, length_push, row_count, has_visible_accessor}
 use Rattle.visible_rows.proofs.ResultLemmas.{results_more}
 use Rattle.visible_rows.proofs.accessors.visible_accessors.Goals as goal
 

@@ -1,8 +1,4 @@
-use Rattle.std.proofs.Common.{◌≡◌, length, map}
-use Rattle.std.specs.List.{range_with_len}
-use Rattle.metadata.specs.Metadata.{Metadata}
-use Rattle.metadata.specs.Model.{IsModel}
-use Rattle.visible_rows.specs.Visible.{has_visible_accessor}
+use Rattle.visible_rows.proofs.Prelude.{◌≡◌, length, map, range_with_len, Metadata, IsModel, has_visible_accessor}
 use Rattle.visible_rows.proofs.accessors.visible_accessors.Given as goal
 
 -- the rows so far

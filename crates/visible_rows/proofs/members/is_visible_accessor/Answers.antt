@@ -1,7 +1,5 @@
-use Rattle.std.proofs.Common.{◌∙◌, ap, sym}
+use Rattle.visible_rows.proofs.Prelude.{◌∙◌, ap, sym, row_in, is_visible_method}
 use Rattle.metadata.specs.Cell.{Cell}
-use Rattle.metadata.specs.Valid.{row_in}
-use Rattle.visible_rows.specs.Visible.{is_visible_method}
 use Rattle.visible_rows.proofs.members.is_visible_accessor.Goals as goal
 
 pub returns : goal.returns

@@ -1,8 +1,5 @@
-use Rattle.std.proofs.Common.{◌∙◌, ap}
-use Rattle.metadata.specs.Metadata.{cell_in}
+use Rattle.visible_rows.proofs.Prelude.{◌∙◌, ap, cell_in, Field, access_in, is_open_member, owner_in}
 use Rattle.metadata_source.specs.declared.member_lists.MemberList.TheVariants as list
-use Rattle.table_schema.specs.declared.table.TableId.TheVariants.{Field}
-use Rattle.visible_rows.specs.Visible.{access_in, is_open_member, owner_in}
 use Rattle.visible_rows.proofs.OwnerLemmas.{owner_is}
 use Rattle.visible_rows.proofs.ResultLemmas.{member_is}
 use Rattle.visible_rows.proofs.members.is_visible_field.Goals as goal

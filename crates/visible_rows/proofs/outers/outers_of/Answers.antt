@@ -1,10 +1,4 @@
-use Rattle.std.proofs.Common.{◌≡◌, ◌∙◌, ◌+◌, ◌-◌, ◌∷◌, ℕ, List, add-one, ap, arith, get_or, length, length-set, replicate, rules, set, subst, sym}
-use Rattle.std.specs.List.{range_with_len}
-use Rattle.std.proofs.lemmas.List.{get_or-replicate, length-replicate}
-use Rattle.table_schema.specs.declared.table.TableId.TheVariants.{NestedClass}
-use Rattle.metadata.specs.Metadata.{count_in}
-use Rattle.metadata.specs.Valid.{row_in}
-use Rattle.visible_rows.specs.Visible.{outer_among}
+use Rattle.visible_rows.proofs.Prelude.{◌≡◌, ◌∙◌, ◌+◌, ◌-◌, ◌∷◌, ℕ, List, add-one, ap, arith, get_or, length, length-set, replicate, rules, set, subst, sym, range_with_len, get_or-replicate, length-replicate, NestedClass, count_in, row_in, outer_among}
 use Rattle.visible_rows.proofs.OuterLemmas.{AreAmong, outers_more}
 use Rattle.visible_rows.proofs.outers.outers_of.Goals as goal
 

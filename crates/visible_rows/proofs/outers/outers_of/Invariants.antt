@@ -1,9 +1,4 @@
-use Rattle.std.proofs.Common.{◌≡◌, ◌+◌, ◌-◌, length}
-use Rattle.std.specs.List.{range_with_len}
-use Rattle.table_schema.specs.declared.table.TableId.TheVariants.{TypeDef}
-use Rattle.metadata.specs.Metadata.{Metadata}
-use Rattle.metadata.specs.Model.{IsModel}
-use Rattle.opening.specs.Views.{row_count}
+use Rattle.visible_rows.proofs.Prelude.{◌≡◌, ◌+◌, ◌-◌, length, range_with_len, TypeDef, Metadata, IsModel, row_count}
 use Rattle.visible_rows.proofs.OuterLemmas.{AreAmong}
 use Rattle.visible_rows.proofs.outers.outers_of.Given as goal
 

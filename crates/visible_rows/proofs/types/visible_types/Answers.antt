@@ -1,10 +1,4 @@
-use Rattle.std.proofs.Common.{◌≡◌, ◌∙◌, ◌+◌, ◌<◌, ◌++◌, ◌∷◌, [], List, Bool, false, ap, arith, length, map, refl}
-use Rattle.std.specs.List.{range_with_len}
-use Rattle.std.proofs.lemmas.List.{get_or_read, length_push}
-use Rattle.table_schema.specs.declared.table.TableId.TheVariants.{TypeDef}
-use Rattle.metadata.specs.Metadata.{Metadata}
-use Rattle.opening.specs.Views.{row_count}
-use Rattle.visible_rows.specs.Visible.{is_visible_type, is_visible_within}
+use Rattle.visible_rows.proofs.Prelude.{◌≡◌, ◌∙◌, ◌+◌, ◌<◌, ◌++◌, ◌∷◌, [], List, Bool, false, ap, arith, length, map, refl, range_with_len, get_or_read, length_push, TypeDef, Metadata, row_count, is_visible_type, is_visible_within}
 use Rattle.visible_rows.proofs.ResultLemmas.{results_more}
 use Rattle.visible_rows.proofs.types.visible_types.Goals as goal
 

@@ -1,8 +1,4 @@
-use Rattle.std.proofs.Common.{◌≡◌, ◌+◌, length, map}
-use Rattle.std.specs.List.{range_with_len}
-use Rattle.metadata.specs.Metadata.{Metadata}
-use Rattle.metadata.specs.Model.{IsModel}
-use Rattle.visible_rows.specs.Visible.{is_visible_type}
+use Rattle.visible_rows.proofs.Prelude.{◌≡◌, ◌+◌, length, map, range_with_len, Metadata, IsModel, is_visible_type}
 use Rattle.visible_rows.proofs.types.visible_types.Given as goal
 
 -- the types so far

@@ -1,6 +1,5 @@
 use Rattle.std.proofs.Common.{◌∙◌, ℕ, ◌<◌, ◌^◌, List, Some, length, get_or, ap, is_some, arith, rules}
-use Rattle.attribute_values.specs.Items.{Item}
-use Rattle.attribute_values.specs.Steps.{all_at, items_in}
+use Rattle.attribute_values.proofs.Prelude.{Item, all_at, items_in}
 use Rattle.attribute_values.proofs.PartLemmas.{NumbersAreRead, bytes_each}
 use Rattle.attribute_values.proofs.LengthLemmas.{few_items}
 use Rattle.attribute_values.proofs.StepLemmas.{none_read, whole_read, whole_some, whole_value, value_items, value_ends}

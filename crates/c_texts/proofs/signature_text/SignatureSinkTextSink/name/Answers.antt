@@ -1,7 +1,5 @@
-use Rattle.std.proofs.Common.{rules, ◌≡◌, ◌+◌, ◌<◌, ◌++◌, drop, sym, ap, refl, ◌∙◌}
+use Rattle.c_texts.proofs.Prelude.{rules, ◌≡◌, ◌+◌, ◌<◌, ◌++◌, drop, sym, ap, refl, ◌∙◌, hexadecimal, token_text, text_limit}
 use Rattle.table_schema.specs.Tables.{table_number}
-use Rattle.table_schema.specs.Tokens.{hexadecimal, token_text}
-use Rattle.c_texts.specs.Texts.{text_limit}
 use Rattle.c_texts.proofs.Buffers.{stays}
 use Rattle.c_texts.proofs.HexLemmas.{two_of_byte}
 use Rattle.c_texts.proofs.SinkLemmas.{in_parts}

@@ -1,6 +1,4 @@
-use Rattle.std.proofs.Common.{ℕ, List, slice_index, refl, sym, subst}
-use Rattle.std.proofs.lemmas.Bool.{false≢true}
-use Rattle.heap_entries.specs.Entries.{IsBlob}
+use Rattle.checks.proofs.Prelude.{ℕ, List, slice_index, refl, sym, subst, false≢true, IsBlob}
 use Rattle.checks.proofs.BlobLemmas.{near_blob}
 use Rattle.checks.proofs.blobs.Blobs.has.Goals as goal
 

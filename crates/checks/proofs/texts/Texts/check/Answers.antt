@@ -1,8 +1,4 @@
-use Rattle.std.proofs.Common.{◌≡◌, ℕ, ◌+◌, ◌-◌, ◌*◌, ◌/◌, ◌%◌, List, slice_index, sym, ap, ◌∙◌, inl, inr, arith}
-use Rattle.std.proofs.lemmas.Bool.{cases_lt, false≢true}
-use Rattle.std.proofs.lemmas.Nat.{div-add-mod', mod_below}
-use Rattle.std.proofs.lemmas.Result.{err_from_is_err_and}
-use Rattle.checks.specs.TextBytes.{text_length}
+use Rattle.checks.proofs.Prelude.{◌≡◌, ℕ, ◌+◌, ◌-◌, ◌*◌, ◌/◌, ◌%◌, List, slice_index, sym, ap, ◌∙◌, inl, inr, arith, cases_lt, false≢true, div-add-mod', mod_below, err_from_is_err_and, text_length}
 use Rattle.checks.proofs.TextBytes.{none_before, text_length_is}
 use Rattle.checks.proofs.texts.Texts.check.Goals as goal
 

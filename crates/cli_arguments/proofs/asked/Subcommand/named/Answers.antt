@@ -1,10 +1,5 @@
-use Rattle.std.proofs.Common.{◌≡◌, ◌∙◌, Bool, List, ◌∷◌, Some, ap, cond, sym}
-use Rattle.std.specs.Prelude.{find}
-use Rattle.std.specs.Str.{bytes_eq}
-use Rattle.std.proofs.lemmas.List.{at_drop_all, at_drop_more}
+use Rattle.cli_arguments.proofs.Prelude.{◌≡◌, ◌∙◌, Bool, List, ◌∷◌, Some, ap, cond, sym, find, bytes_eq, at_drop_all, at_drop_more, name_of, subcommands, Subcommand}
 use Rattle.clap.specs.Words.{Shape, Text}
-use Rattle.cli_arguments.specs.CommandLine.{name_of, subcommands}
-use Rattle.cli_arguments.specs.declared.asked.Subcommand.{Subcommand}
 use Rattle.cli_arguments.proofs.asked.Subcommand.named.Goals as goal
 
 -- the first of these subcommands is the one, or a later one

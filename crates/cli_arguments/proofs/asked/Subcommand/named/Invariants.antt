@@ -1,8 +1,4 @@
-use Rattle.std.proofs.Common.{◌≡◌, drop}
-use Rattle.std.specs.Prelude.{find}
-use Rattle.std.specs.Str.{bytes_eq}
-use Rattle.cli_arguments.specs.Asked.{subcommand_named}
-use Rattle.cli_arguments.specs.CommandLine.{name_of}
+use Rattle.cli_arguments.proofs.Prelude.{◌≡◌, drop, find, bytes_eq, subcommand_named, name_of}
 use Rattle.cli_arguments.proofs.asked.Subcommand.named.Given as goal
 
 abbrev pub invariant-loop-subcommand : goal.invariant-loop-subcommand

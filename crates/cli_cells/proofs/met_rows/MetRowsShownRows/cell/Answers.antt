@@ -1,8 +1,4 @@
-use Rattle.std.proofs.Common.{◌≤◌, ◌∙◌, ap, subst, sym}
-use Rattle.table_schema.specs.CellColumns.{column_of}
-use Rattle.reading.specs.Shown.{ShowsCell}
-use Rattle.cli_cells.specs.MetRows.{Met, rows_before}
-use Rattle.cli_cells.specs.Shown.{Content, cell_at, content_at}
+use Rattle.cli_cells.proofs.Prelude.{◌≤◌, ◌∙◌, ap, subst, sym, column_of, ShowsCell, Met, rows_before, Content, cell_at, content_at}
 use Rattle.cli_cells.proofs.BrokenLemmas.{row_met}
 use Rattle.cli_cells.proofs.ReadLemmas.{cell_of_row}
 use Rattle.cli_cells.proofs.met_rows.MetRowsShownRows.cell.Goals as goal

@@ -1,6 +1,4 @@
-use Rattle.std.proofs.Common.{◌∙◌, ap, sym}
-use Rattle.cli_cells.specs.MetRows.{Met}
-use Rattle.cli_cells.specs.Shown.{Content, content_at}
+use Rattle.cli_cells.proofs.Prelude.{◌∙◌, ap, sym, Met, Content, content_at}
 use Rattle.cli_cells.proofs.met_rows.MetRowsShownRows.count.Goals as goal
 
 pub returns : goal.returns

@@ -1,5 +1,4 @@
-use Rattle.std.proofs.Common.{◌∙◌, sym}
-use Rattle.std.specs.declared.io.ErrorKind.TheVariants.{OutOfMemory}
+use Rattle.cli_lines.proofs.Prelude.{◌∙◌, sym, OutOfMemory}
 use Rattle.cli_lines.proofs.PrintedLemmas.{begins_stopped, begun, begun_cut}
 use Rattle.cli_lines.proofs.printer.Printer.begin.Goals as goal
 

@@ -1,5 +1,4 @@
-use Rattle.std.proofs.Common.{◌∙◌, sym}
-use Rattle.cli_lines.specs.Shown.{shown_file}
+use Rattle.cli_lines.proofs.Prelude.{◌∙◌, sym, shown_file}
 use Rattle.cli_lines.proofs.PrintedLemmas.{ended, ended_cut, ends_stopped}
 use Rattle.cli_lines.proofs.printer.Printer.end.Goals as goal
 

@@ -1,5 +1,4 @@
-use Rattle.std.proofs.Common.{◌∙◌, sym}
-use Rattle.std.specs.declared.io.ErrorKind.TheVariants.{OutOfMemory}
+use Rattle.cli_lines.proofs.Prelude.{◌∙◌, sym, OutOfMemory}
 use Rattle.cli_lines.proofs.PrintedLemmas.{added_cut, adds_stopped, prints_cut, prints_stopped}
 use Rattle.cli_lines.proofs.printer.Printer.fail.Goals as goal
 

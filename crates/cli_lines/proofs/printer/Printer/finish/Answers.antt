@@ -1,7 +1,5 @@
 use Rattle.std.proofs.Common.{List, [], ℕ, Result, Ok, Err, refl, subst, sym}
-use Rattle.std.specs.Prelude.{IsOk, IsSome, OnOk, ◌↔◌}
-use Rattle.cli_lines.specs.Printed.{Asked, Printed, SendsOrFails, waits}
-use Rattle.cli_sending.proofs.SentLemmas.{nothing_sent, same_printed}
+use Rattle.cli_lines.proofs.Prelude.{IsOk, IsSome, OnOk, ◌↔◌, Asked, Printed, SendsOrFails, waits, nothing_sent, same_printed}
 use Rattle.cli_lines.proofs.printer.Printer.finish.Goals as goal
 
 pub returns-clause-sent : goal.returns-clause-sent

@@ -1,10 +1,6 @@
-use Rattle.std.proofs.Common.{◌≡◌, ◌∙◌, ℕ, ◌+◌, ◌*◌, ap, sym, arith}
-use Rattle.table_schema.specs.CellColumns.{cell_columns}
+use Rattle.cli_outline.proofs.Prelude.{◌≡◌, ◌∙◌, ℕ, ◌+◌, ◌*◌, ap, sym, arith, cell_columns, Events, Properties, table_of, token_at}
 use Rattle.navigation.specs.declared.links.Link.TheVariants as linked_by
 use Rattle.navigation.specs.Linked.{number_to}
-use Rattle.cli_outline.specs.declared.mapped.Mapped.TheVariants.{Events, Properties}
-use Rattle.cli_outline.specs.Outline.{table_of}
-use Rattle.cli_declarations.specs.Parts.{token_at}
 use Rattle.cli_outline.proofs.mapped.Mapped.accessed.Goals as goal
 
 of_event : (row : ℕ) → row * 2 ≡ number_to linked_by.Accessors (token_at (table_of Events) row)

@@ -1,9 +1,4 @@
-use Rattle.std.proofs.Common.{◌≡◌, ◌∙◌, ◌≤◌, ◌-◌, ℕ, All, ap, get_or, subst, sym}
-use Rattle.std.specs.Prelude.{slice_get}
-use Rattle.std.proofs.lemmas.List.{get_or_default, get_or_past}
-use Rattle.table_schema.specs.Tables.{table_index_of}
-use Rattle.opening.specs.Views.{row_count}
-use Rattle.cli_outline.specs.Orders.{IsRowIn, rows_of}
+use Rattle.cli_outline.proofs.Prelude.{◌≡◌, ◌∙◌, ◌≤◌, ◌-◌, ℕ, All, ap, get_or, subst, sym, slice_get, get_or_default, get_or_past, table_index_of, row_count, IsRowIn, rows_of}
 use Rattle.cli_outline.proofs.source.Source.row_at.Goals as goal
 
 pub returns-in-Some : goal.returns-in-Some

@@ -1,8 +1,5 @@
-use Rattle.std.proofs.Common.{List, ℕ, subst, subst₂, sym}
-use Rattle.metadata.specs.Model.{IsModel}
-use Rattle.cli_outline.specs.declared.source.OutlineOptions.{OutlineOptions}
+use Rattle.cli_outline.proofs.Prelude.{List, ℕ, subst, subst₂, sym, IsModel, OutlineOptions, IsOrder, row_in}
 use Rattle.cli_outline.specs.declared.source.Sorting.{Sorting}
-use Rattle.cli_outline.specs.Orders.{IsOrder, row_in}
 use Rattle.cli_outline.proofs.OrderLemmas.{if_ok}
 use Rattle.cli_outline.proofs.source.Source.sorted.Goals as goal
 

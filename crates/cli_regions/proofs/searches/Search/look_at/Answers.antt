@@ -1,6 +1,4 @@
-use Rattle.std.proofs.Common.{◌∙◌, ap, sym}
-use Rattle.cli_regions.specs.Kept.{seen}
-use Rattle.cli_regions.specs.Regions.{has_byte}
+use Rattle.cli_regions.proofs.Prelude.{◌∙◌, ap, sym, seen, has_byte}
 use Rattle.cli_regions.proofs.SearchLemmas.{none_kept, one_kept}
 use Rattle.cli_regions.proofs.searches.Search.look_at.Goals as goal
 

@@ -1,5 +1,4 @@
-use Rattle.std.proofs.Common.{refl}
-use Rattle.comparison.specs.Ignored.{no_columns}
+use Rattle.comparison.proofs.Prelude.{refl, no_columns}
 use Rattle.comparison.proofs.ignored.IgnoredColumns.none.Goals as goal
 
 pub returns : goal.returns

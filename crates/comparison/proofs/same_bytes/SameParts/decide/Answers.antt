@@ -1,7 +1,5 @@
 use Rattle.std.proofs.Common.{◌<◌, ℕ, List, ap, length, sym, subst, arith, below_more}
-use Rattle.table_schema.specs.declared.column.Column.{Column}
-use Rattle.table_schema.specs.Columns.{column_at, columns_of}
-use Rattle.comparison.specs.Alike.{HaveSameHeap}
+use Rattle.comparison.proofs.Prelude.{Column, column_at, columns_of, HaveSameHeap}
 use Rattle.comparison.proofs.AlikeLemmas.{heap_differs, heap_same}
 use Rattle.comparison.proofs.same_bytes.SameParts.decide.Goals as goal
 

@@ -1,7 +1,4 @@
-use Rattle.std.proofs.Common.{ℕ, ◌<◌}
-use Rattle.table_schema.specs.Columns.{column_at}
-use Rattle.metadata.specs.Source.{Source}
-use Rattle.comparison.specs.Alike.{AreSameParts, HaveSameHeap}
+use Rattle.comparison.proofs.Prelude.{ℕ, ◌<◌, column_at, Source, AreSameParts, HaveSameHeap}
 use Rattle.comparison.proofs.same_bytes.SameParts.decide.Given as goal
 
 abbrev pub invariant-loop-column : goal.invariant-loop-column

@@ -1,5 +1,4 @@
-use Rattle.std.proofs.lemmas.Bool.Decides.{Decides-eqb}
-use Rattle.std.proofs.lemmas.Slice.Eq.{slice_eq-Decides}
+use Rattle.comparison.proofs.Prelude.{Decides-eqb, slice_eq-Decides}
 use Rattle.comparison.proofs.AlikeLemmas.{compared}
 use Rattle.comparison.proofs.same_bytes.SameParts.of.Goals as goal
 

@@ -1,5 +1,4 @@
-use Rattle.std.proofs.Common.{refl, sym, ◌∙◌}
-use Rattle.full_names.proofs.PieceLemmas.{on_taken}
+use Rattle.declarations.proofs.Prelude.{refl, sym, ◌∙◌, on_taken}
 use Rattle.declarations.proofs.method_text.MethodTextMethodSink.generic_params.Goals as goal
 
 pub returns-clause-piece : goal.returns-clause-piece

@@ -1,6 +1,4 @@
-use Rattle.std.proofs.Common.{refl, sym, ◌∙◌}
-use Rattle.full_names.proofs.PieceLemmas.{on_taken}
-use Rattle.type_heads.specs.FlagWords.{leading_words, words_of}
+use Rattle.declarations.proofs.Prelude.{refl, sym, ◌∙◌, on_taken, leading_words, words_of}
 use Rattle.type_heads.specs.declared.flag_words.FlagTable.TheVariants as table
 use Rattle.declarations.proofs.method_text.MethodTextMethodSink.param_flags.Goals as goal
 

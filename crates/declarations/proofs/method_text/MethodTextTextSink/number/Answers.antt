@@ -1,6 +1,4 @@
-use Rattle.std.proofs.Common.{refl, sym, ◌∙◌}
-use Rattle.std.specs.Fmt.{decimal}
-use Rattle.full_names.proofs.PieceLemmas.{on_taken}
+use Rattle.declarations.proofs.Prelude.{refl, sym, ◌∙◌, decimal, on_taken}
 use Rattle.declarations.proofs.method_text.MethodTextTextSink.number.Goals as goal
 
 pub returns-clause-piece : goal.returns-clause-piece

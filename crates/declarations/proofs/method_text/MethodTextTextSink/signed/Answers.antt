@@ -1,8 +1,6 @@
-use Rattle.std.proofs.Common.{◌≡◌, ap, arith, refl, rules, sym, w64, ◌∙◌}
+use Rattle.declarations.proofs.Prelude.{◌≡◌, ap, arith, refl, rules, sym, w64, ◌∙◌, signed_decimal, on_taken}
 use Rattle.std.proofs.lemmas.Int.{ints}
 use mir.Val.{SFits, of_z, to_z}
-use Rattle.std.specs.Fmt.{signed_decimal}
-use Rattle.full_names.proofs.PieceLemmas.{on_taken}
 use Rattle.declarations.proofs.method_text.MethodTextTextSink.signed.Goals as goal
 
 pub returns-clause-piece : goal.returns-clause-piece

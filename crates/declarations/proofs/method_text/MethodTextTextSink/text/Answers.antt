@@ -1,5 +1,4 @@
-use Rattle.std.proofs.Common.{refl, sym, ◌∙◌}
-use Rattle.full_names.proofs.PieceLemmas.{on_taken}
+use Rattle.declarations.proofs.Prelude.{refl, sym, ◌∙◌, on_taken}
 use Rattle.declarations.proofs.method_text.MethodTextTextSink.text.Goals as goal
 
 pub returns-then-is_reached-clause-piece : goal.returns-then-is_reached-clause-piece

@@ -1,7 +1,4 @@
-use Rattle.std.proofs.Common.{◌∙◌, List, ℕ, Some, None, ap}
-use Rattle.std.specs.Prelude.{option_map}
-use Rattle.declarations.specs.Declarations.{marshal_by, marshalled}
-use Rattle.declarations.specs.Descriptors.{marshal_text}
+use Rattle.declarations.proofs.Prelude.{◌∙◌, List, ℕ, Some, None, ap, option_map, marshal_by, marshalled, marshal_text}
 use Rattle.declarations.proofs.params.Params.descriptor.Goals as goal
 
 pub returns-in_err-param : goal.returns-in_err-param

@@ -1,9 +1,4 @@
-use Rattle.std.proofs.Common.{◌∙◌, ◌-◌, ◌≤◌, List, ap, arith}
-use Rattle.std.specs.List.{filter}
-use Rattle.std.proofs.lemmas.List.Elements.{All-filter, All-same}
-use Rattle.table_schema.specs.declared.table.TableId.TheVariants.{Param}
-use Rattle.navigation.specs.declared.keyed.KeyedRow.{KeyedRow}
-use Rattle.navigation.specs.Keyed.{has_key}
+use Rattle.declarations.proofs.Prelude.{◌∙◌, ◌-◌, ◌≤◌, List, ap, arith, filter, All-filter, All-same, Param, KeyedRow, has_key}
 use Rattle.declarations.proofs.params.Params.new.Goals as goal
 
 pub returns-clause-rows : goal.returns-clause-rows

@@ -1,10 +1,4 @@
-use Rattle.std.proofs.Common.{◌∙◌, ◌≤◌, ap, arith, ltb-false, ltb-true, subst, sym}
-use Rattle.std.specs.List.{filter}
-use Rattle.std.proofs.lemmas.List.Elements.{All-same}
-use Rattle.table_schema.specs.declared.table.TableId.TheVariants.{Param}
-use Rattle.navigation.specs.declared.keyed.KeyedRow.{KeyedRow}
-use Rattle.navigation.specs.Keyed.{has_key}
-use Rattle.declarations.specs.Declarations.{IsParamAt}
+use Rattle.declarations.proofs.Prelude.{◌∙◌, ◌≤◌, ap, arith, ltb-false, ltb-true, subst, sym, filter, All-same, Param, KeyedRow, has_key, IsParamAt}
 use Rattle.declarations.proofs.ParamNames.{found_row, no_row}
 use Rattle.declarations.proofs.params.Params.row.Goals as goal
 

@@ -1,6 +1,4 @@
-use Rattle.std.proofs.Common.{sym, ap, ◌∙◌}
-use Rattle.embedding.specs.declared.slot.Target.{Target}
-use Rattle.embedding.specs.Planned.{Planned, target_in}
+use Rattle.embedding.proofs.Prelude.{sym, ap, ◌∙◌, Target, Planned, target_in}
 use Rattle.embedding.proofs.Written.{result_long}
 use Rattle.embedding.proofs.plan.EmbedPlan.len.Goals as goal
 

@@ -1,6 +1,4 @@
-use Rattle.std.proofs.Common.{◌≡◌, ◌∙◌, ◌-◌, ◌≤◌, ℕ, List, ◌++◌, length, take, replicate, vec_len, ap, arith}
-use Rattle.std.proofs.lemmas.List.{take_all}
-use Rattle.embedding.specs.Planned.{target_in}
+use Rattle.embedding.proofs.Prelude.{◌≡◌, ◌∙◌, ◌-◌, ◌≤◌, ℕ, List, ◌++◌, length, take, replicate, vec_len, ap, arith, take_all, target_in}
 use Rattle.embedding.proofs.plan.EmbedPlan.make.Goals as goal
 
 -- the bytes that stay, and zeros up to a length

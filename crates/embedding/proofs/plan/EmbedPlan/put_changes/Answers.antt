@@ -1,8 +1,4 @@
-use Rattle.std.proofs.Common.{ap, ◌∙◌, length}
-use Rattle.embedding.specs.Bytes.{changed, with_bytes}
-use Rattle.embedding.specs.Embedded.{certificate_changes, copied, strong_name_changes, with_checksum}
-use Rattle.embedding.specs.Slots.{metadata_changes, slot_changes, root_bytes}
-use Rattle.embedding.specs.Planned.{target_in}
+use Rattle.embedding.proofs.Prelude.{ap, ◌∙◌, length, changed, with_bytes, certificate_changes, copied, strong_name_changes, with_checksum, metadata_changes, slot_changes, root_bytes, target_in}
 use Rattle.embedding.proofs.Written.{changed_in_parts}
 use Rattle.embedding.proofs.plan.EmbedPlan.put_changes.Goals as goal
 

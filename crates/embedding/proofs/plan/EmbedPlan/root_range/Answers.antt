@@ -1,7 +1,4 @@
-use Rattle.std.proofs.Common.{◌≡◌, length, ap, refl, subst, ◌∙◌}
-use Rattle.packed.specs.Offsets.{part}
-use Rattle.embedding.specs.declared.slot.Target.{Target}
-use Rattle.embedding.specs.Planned.{Planned, shown_plan, result_of}
+use Rattle.embedding.proofs.Prelude.{◌≡◌, length, ap, refl, subst, ◌∙◌, part, Target, Planned, shown_plan, result_of}
 use Rattle.embedding.proofs.Written.{root_in_result}
 use Rattle.embedding.proofs.plan.EmbedPlan.root_range.Goals as goal
 

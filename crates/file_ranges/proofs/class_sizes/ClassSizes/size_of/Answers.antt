@@ -1,6 +1,5 @@
-use Rattle.std.proofs.Common.{subst}
+use Rattle.file_ranges.proofs.Prelude.{subst, AreSizes}
 use Rattle.file_ranges.specs.declared.class_sizes.ClassSizes.{ClassSizes}
-use Rattle.file_ranges.specs.ClassSizes.{AreSizes}
 use Rattle.file_ranges.proofs.SizeLemmas.{only_size}
 use Rattle.file_ranges.proofs.class_sizes.ClassSizes.size_of.Goals as goal
 

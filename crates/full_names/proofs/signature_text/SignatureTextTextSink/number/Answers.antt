@@ -1,5 +1,4 @@
-use Rattle.std.proofs.Common.{refl, sym, ◌∙◌}
-use Rattle.std.specs.Fmt.{decimal}
+use Rattle.full_names.proofs.Prelude.{refl, sym, ◌∙◌, decimal}
 use Rattle.full_names.proofs.PieceLemmas.{on_taken}
 use Rattle.full_names.proofs.signature_text.SignatureTextTextSink.number.Goals as goal
 

@@ -1,7 +1,6 @@
-use Rattle.std.proofs.Common.{◌≡◌, ap, arith, refl, rules, sym, w64, ◌∙◌}
+use Rattle.full_names.proofs.Prelude.{◌≡◌, ap, arith, refl, rules, sym, w64, ◌∙◌, signed_decimal}
 use Rattle.std.proofs.lemmas.Int.{ints}
 use mir.Val.{SFits, of_z, to_z}
-use Rattle.std.specs.Fmt.{signed_decimal}
 use Rattle.full_names.proofs.PieceLemmas.{on_taken}
 use Rattle.full_names.proofs.signature_text.SignatureTextTextSink.signed.Goals as goal
 

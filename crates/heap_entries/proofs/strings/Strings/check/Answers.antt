@@ -1,8 +1,4 @@
-use Rattle.std.proofs.Common.{ℕ, subst, refl, sym, ap, ◌∙◌, inl, inr, arith, IsUtf8, ◌≡◌}
-use Rattle.std.specs.Prelude.{IsCharBoundary, unwrap_or}
-use Rattle.std.proofs.lemmas.Bool.{false≢true}
-use Rattle.packed.specs.Rule.{Reports}
-use Rattle.heap_entries.specs.Rules.{at_offset, rules_of_text}
+use Rattle.heap_entries.proofs.Prelude.{ℕ, subst, refl, sym, ap, ◌∙◌, inl, inr, arith, IsUtf8, ◌≡◌, IsCharBoundary, unwrap_or, false≢true, Reports, at_offset, rules_of_text}
 use Rattle.heap_entries.proofs.WholeLemmas.{whole_is, last_is, text_begins, bytes_utf8, ended_up_to}
 use Rattle.heap_entries.proofs.strings.Strings.check.Goals.{then-start-last+else-is_char_boundary, else-start-last}
 use Rattle.heap_entries.proofs.strings.Strings.check.Goals as goal

@@ -1,5 +1,4 @@
-use Rattle.std.proofs.Common.{ap, ◌∙◌}
-use Rattle.std.specs.Str.{is_utf8}
+use Rattle.heap_entries.proofs.Prelude.{ap, ◌∙◌, is_utf8}
 use Rattle.heap_entries.proofs.WholeLemmas.{utf8_is}
 use Rattle.heap_entries.proofs.strings.Strings.is_utf8.Goals as goal
 

@@ -1,5 +1,4 @@
-use Rattle.std.proofs.Common.{sym, subst}
-use Rattle.heap_entries.specs.StringsView.{IsWhole}
+use Rattle.heap_entries.proofs.Prelude.{sym, subst, IsWhole}
 use Rattle.heap_entries.proofs.WholeLemmas.{whole_found, last_found}
 use Rattle.heap_entries.proofs.strings.Strings.new.Goals as goal
 

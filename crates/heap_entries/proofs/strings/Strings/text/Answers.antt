@@ -1,9 +1,5 @@
-use Rattle.std.proofs.Common.{[], subst, refl, sym, ◌∙◌, inl, inr, ap, arith, length, take, drop, ◌+◌, ◌-◌, ℕ, List, ◌≡◌}
-use Rattle.std.proofs.lemmas.Bool.{false≢true}
+use Rattle.heap_entries.proofs.Prelude.{[], subst, refl, sym, ◌∙◌, inl, inr, ap, arith, length, take, drop, ◌+◌, ◌-◌, ℕ, List, ◌≡◌, false≢true, Reports, at_offset, rules_of_text, IsEnded, IsText}
 use Rattle.std.specs.Prelude.{IfOk, IsOkAnd, IsCharBoundary}
-use Rattle.packed.specs.Rule.{Reports}
-use Rattle.heap_entries.specs.Rules.{at_offset, rules_of_text}
-use Rattle.heap_entries.specs.Entries.{IsEnded, IsText}
 use Rattle.heap_entries.proofs.TextLemmas.{ended_length, text_ended, text_same, bytes_are}
 use Rattle.heap_entries.proofs.WholeLemmas.{whole_is, end_boundary, text_begins}
 use Rattle.heap_entries.proofs.strings.Strings.text.Goals as goal

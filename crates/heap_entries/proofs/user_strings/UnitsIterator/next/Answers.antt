@@ -1,5 +1,4 @@
-use Rattle.std.proofs.Common.{List, ℕ, sym, ap, ◌∙◌, ◌+◌, length, rules, arith}
-use Rattle.heap_entries.specs.UserView.{units_in}
+use Rattle.heap_entries.proofs.Prelude.{List, ℕ, sym, ap, ◌∙◌, ◌+◌, length, rules, arith, units_in}
 use Rattle.heap_entries.proofs.UserLemmas.{fewer_units}
 use Rattle.heap_entries.proofs.user_strings.UnitsIterator.next.Goals as goal
 

@@ -1,5 +1,4 @@
-use Rattle.std.proofs.Common.{◌∙◌, ap}
-use Rattle.heap_entries.specs.Entries.{UserText}
+use Rattle.heap_entries.proofs.Prelude.{◌∙◌, ap, UserText}
 use Rattle.heap_entries.proofs.UserLemmas.{last_at}
 use Rattle.heap_entries.proofs.user_strings.UserString.flag.Goals as goal
 

@@ -1,9 +1,4 @@
-use Rattle.std.proofs.Common.{◌≡◌, ◌+◌, ◌<◌, false, ◌==◌, List, ℕ, max, length, refl, sym, ap, ◌∙◌, arith}
-use Rattle.std.proofs.lemmas.Result.{err_from_is_err_and}
-use Rattle.std.proofs.lemmas.Bool.Decides.{nat_tests}
-use Rattle.packed.specs.Packed.{short_unsigned}
-use Rattle.heap_pools.specs.BlobHeap.{blob_heap, blob_index, counted}
-use Rattle.heap_pools.specs.Distinct.{is_among, pooled}
+use Rattle.heaps.proofs.Prelude.{◌≡◌, ◌+◌, ◌<◌, false, ◌==◌, List, ℕ, max, length, refl, sym, ap, ◌∙◌, arith, err_from_is_err_and, nat_tests, short_unsigned, blob_heap, blob_index, counted, is_among, pooled}
 use Rattle.heaps.proofs.BlobLemmas.{length-counted, length-pooled, blob_index-push}
 use Rattle.heaps.proofs.blob_pool.BlobPool.add.Goals as goal
 

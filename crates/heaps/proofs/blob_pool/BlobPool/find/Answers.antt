@@ -1,6 +1,4 @@
-use Rattle.std.proofs.Common.{◌≡◌, ◌∙◌, List, ℕ, subst, true, false, IfSome, IfNone}
-use Rattle.heap_pools.specs.BlobHeap.{blob_from}
-use Rattle.heap_pools.specs.Distinct.{is_among}
+use Rattle.heaps.proofs.Prelude.{◌≡◌, ◌∙◌, List, ℕ, subst, true, false, IfSome, IfNone, blob_from, is_among}
 use Rattle.heaps.proofs.BlobLemmas.{found_there, found_new}
 use Rattle.heaps.proofs.blob_pool.BlobPool.find.Goals as goal
 

@@ -1,11 +1,5 @@
-use Rattle.std.proofs.Common.{◌≡◌, ◌++◌, ◌∷◌, [], List, ℕ, Vec, Global, Result, Ok, Err, IsOk, OnOk, None, nat_eq, false, length, sym, ap, subst, ◌∙◌, true≢false, arith, length-append}
-use Rattle.std.specs.Cmp.Lexicographic.{pointwise}
-use Rattle.std.specs.Map.{values_of, lookup}
+use Rattle.heaps.proofs.Prelude.{◌≡◌, ◌++◌, ◌∷◌, [], List, ℕ, Vec, Global, Result, Ok, Err, IsOk, OnOk, None, nat_eq, false, length, sym, ap, subst, ◌∙◌, true≢false, arith, length-append, pointwise, values_of, lookup, blob_heap, counted, starts_from, is_among, begun}
 use Rattle.indexmap.proofs.CallerLemmas.{insert_entry-new}
-use Rattle.heap_pools.specs.BlobHeap.{blob_heap, counted}
-use Rattle.heaps.specs.BlobPoolView.{starts_from}
-use Rattle.heap_pools.specs.Distinct.{is_among}
-use Rattle.heaps.specs.FirstByte.{begun}
 use Rattle.heaps.proofs.BlobLemmas.{names_of, lookup_new, blob_heap-push, names_of-push, starts-push}
 use Rattle.heaps.proofs.blob_pool.BlobPool.insert.Goals as goal
 

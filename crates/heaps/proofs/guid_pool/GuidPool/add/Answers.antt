@@ -1,6 +1,4 @@
-use Rattle.std.proofs.Common.{◌≡◌, ◌≤◌, ◌<◌, ◌^◌, All, length, sym, subst, ◌∙◌, ap, refl, true≢false}
-use Rattle.heap_pools.specs.Distinct.{pooled}
-use Rattle.heap_pools.specs.GuidHeap.{guid_heap, pooled_guid}
+use Rattle.heaps.proofs.Prelude.{◌≡◌, ◌≤◌, ◌<◌, ◌^◌, All, length, sym, subst, ◌∙◌, ap, refl, true≢false, pooled, guid_heap, pooled_guid}
 use Rattle.heaps.proofs.GuidLemmas.{fits_itself, pooled_sixteen, pooled_fits, inserted_is}
 use Rattle.heaps.proofs.guid_pool.GuidPool.add.Goals as goal
 

@@ -1,5 +1,4 @@
-use Rattle.std.proofs.Common.{◌≡◌, ◌-◌, ◌++◌, List, ℕ, length, replicate, ap, ◌∙◌, arith}
-use Rattle.heap_entries.specs.Padding.{zero_padded}
+use Rattle.heaps.proofs.Prelude.{◌≡◌, ◌-◌, ◌++◌, List, ℕ, length, replicate, ap, ◌∙◌, arith, zero_padded}
 use Rattle.heaps.proofs.UserHeapLemmas.{take_zeros, padded_is}
 use Rattle.heaps.proofs.user_heap.UserHeap.padded.Goals as goal
 

@@ -1,6 +1,4 @@
-use Rattle.std.proofs.Common.{◌++◌, List, ℕ, length, inl, inr, refl, ap, ◌∙◌, arith}
-use Rattle.std.proofs.lemmas.Result.{err_from_is_err_and}
-use Rattle.heaps.specs.UserEntries.{user_entry}
+use Rattle.heaps.proofs.Prelude.{◌++◌, List, ℕ, length, inl, inr, refl, ap, ◌∙◌, arith, err_from_is_err_and, user_entry}
 use Rattle.heaps.proofs.BytesLemmas.{length-begun}
 use Rattle.heaps.proofs.UserHeapLemmas.{pushed_lengths}
 use Rattle.heaps.proofs.user_heap.UserHeap.push.Goals as goal

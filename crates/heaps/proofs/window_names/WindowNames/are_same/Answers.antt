@@ -1,5 +1,4 @@
-use Rattle.std.proofs.Common.{◌-◌, sym, subst, arith}
-use Rattle.heaps.specs.Windows.{AreNames}
+use Rattle.heaps.proofs.Prelude.{◌-◌, sym, subst, arith, AreNames}
 use Rattle.heaps.proofs.WindowLemmas.{covered}
 use Rattle.heaps.proofs.window_names.WindowNames.are_same.Goals as goal
 

@@ -1,5 +1,4 @@
-use Rattle.std.proofs.Common.{◌<◌, ◌-◌, length}
-use Rattle.heaps.specs.Windows.{AreNames, HavePositions}
+use Rattle.heaps.proofs.Prelude.{◌<◌, ◌-◌, length, AreNames, HavePositions}
 use Rattle.heaps.proofs.window_names.WindowNames.of_heap.Given as goal
 
 abbrev pub invariant-loop-windows : goal.invariant-loop-windows

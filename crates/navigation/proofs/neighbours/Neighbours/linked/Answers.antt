@@ -1,10 +1,4 @@
-use Rattle.std.proofs.Common.{◌∙◌, ◌+◌, ◌<◌, ◌≤◌, ap, arith, map}
-use Rattle.std.specs.List.{filter}
-use Rattle.std.proofs.lemmas.List.Elements.{All-same, All-weaker}
-use Rattle.opening.specs.Views.{row_count}
-use Rattle.navigation.specs.declared.keyed.KeyedRow.{KeyedRow}
-use Rattle.navigation.specs.Keyed.{has_key, row_of}
-use Rattle.navigation.specs.Linked.{number_in, table_of}
+use Rattle.navigation.proofs.Prelude.{◌∙◌, ◌+◌, ◌<◌, ◌≤◌, ap, arith, map, filter, All-same, All-weaker, row_count, KeyedRow, has_key, row_of, number_in, table_of}
 use Rattle.navigation.proofs.KeyedLemmas.{keyed_among}
 use Rattle.navigation.proofs.LinkModelLemmas.{rows_linked}
 use Rattle.navigation.proofs.neighbours.Neighbours.linked.Goals as goal

@@ -1,8 +1,4 @@
-use Rattle.std.proofs.Common.{◌≡◌, ◌∙◌, ℕ, ◌+◌, ◌-◌, ◌<◌, length, slice_index, ap, subst, sym, arith}
-use Rattle.metadata.specs.Cell.{Start}
-use Rattle.metadata.specs.Lookups.{HasRow}
-use Rattle.metadata_source.specs.MemberLists.{owner_of}
-use Rattle.opening.specs.Views.{row_count}
+use Rattle.navigation.proofs.Prelude.{◌≡◌, ◌∙◌, ℕ, ◌+◌, ◌-◌, ◌<◌, length, slice_index, ap, subst, sym, arith, Start, HasRow, owner_of, row_count}
 use Rattle.navigation.proofs.OwnerLemmas.{is_start, start_of}
 use Rattle.navigation.proofs.neighbours_held.NeighboursReadMetadata.start.Goals as goal
 

@@ -1,8 +1,4 @@
-use Rattle.std.proofs.Common.{ℕ, List, subst}
-use Rattle.table_schema.specs.CellColumns.{column_of}
-use Rattle.metadata.specs.Source.{number_of}
-use Rattle.metadata.specs.SourceAt.{source_of}
-use Rattle.reading.specs.Shown.{ShowsBlob}
+use Rattle.opening.proofs.Prelude.{ℕ, List, subst, column_of, number_of, source_of, ShowsBlob}
 use Rattle.opening.proofs.cell_cursor.CellCursor.cell.Goals as goal
 
 pub returns-clause-blob : goal.returns-clause-blob

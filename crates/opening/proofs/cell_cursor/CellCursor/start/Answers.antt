@@ -1,9 +1,4 @@
-use Rattle.std.proofs.Common.{◌≡◌, ℕ, List, sym, subst}
-use Rattle.table_schema.specs.declared.table.TableId.{TableId}
-use Rattle.metadata.specs.Cell.{Start}
-use Rattle.metadata.specs.Metadata.{cell_in}
-use Rattle.metadata.specs.Model.{IsModel}
-use Rattle.metadata_source.specs.MemberLists.{owner_of}
+use Rattle.opening.proofs.Prelude.{◌≡◌, ℕ, List, sym, subst, TableId, Start, cell_in, IsModel, owner_of}
 use Rattle.opening.proofs.cell_cursor.CellCursor.start.Goals as goal
 
 pub returns-clause-start : goal.returns-clause-start

@@ -1,5 +1,4 @@
-use Rattle.std.proofs.Common.{ℕ, List, subst}
-use Rattle.opening.specs.Views.{HasModel}
+use Rattle.opening.proofs.Prelude.{ℕ, List, subst, HasModel}
 use Rattle.opening.proofs.cell_cursor.CellCursor.view.Goals as goal
 
 pub returns-clause-model : goal.returns-clause-model

@@ -1,13 +1,5 @@
-use Rattle.std.proofs.Common.{◌≡◌, ◌≤◌, ℕ, Some, sym, ap, subst, ◌∙◌, arith}
-use Rattle.table_schema.specs.CellColumns.{column_of}
+use Rattle.opening.proofs.Prelude.{◌≡◌, ◌≤◌, ℕ, Some, sym, ap, subst, ◌∙◌, arith, column_of, cell_in, Source, number_of, rows_in, source_of, start_of, kind_at, nullable_at, IsNumberOf, row_count}
 use Rattle.rows.specs.Columns.{number_in_row}
-use Rattle.metadata.specs.Metadata.{cell_in}
-use Rattle.metadata.specs.Source.{Source, number_of, rows_in}
-use Rattle.metadata.specs.SourceAt.{source_of}
-use Rattle.metadata.specs.Starts.{start_of}
-use Rattle.metadata.specs.Valid.{kind_at, nullable_at}
-use Rattle.metadata_source.specs.ColumnNumbers.{IsNumberOf}
-use Rattle.opening.specs.Views.{row_count}
 use Rattle.opening.proofs.ColumnLemmas.{number_is}
 use Rattle.opening.proofs.metadata_held.ViewReadCells.column_numbers.Goals as goal
 

@@ -1,6 +1,4 @@
-use Rattle.metadata.specs.SourceAt.{source_of}
-use Rattle.metadata_source.specs.SharedBlobs.{cell_by_id}
-use Rattle.std.proofs.Common.{arith}
+use Rattle.opening.proofs.Prelude.{source_of, cell_by_id, arith}
 use Rattle.opening.proofs.SharedLemmas.{represented}
 use Rattle.opening.proofs.metadata_held.ViewReadCells.shared_blobs_are_one.Goals as goal
 

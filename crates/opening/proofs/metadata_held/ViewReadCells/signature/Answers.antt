@@ -1,11 +1,4 @@
-use Rattle.std.proofs.Common.{◌≤◌, subst, arith}
-use Rattle.std.proofs.lemmas.Grind.{not_there}
-use Rattle.table_schema.specs.declared.column.ColumnKind.{ColumnKind}
-use Rattle.metadata.specs.Metadata.{count_in, cell_in}
-use Rattle.metadata.specs.Valid.{kind_at}
-use Rattle.reading.specs.Shown.{Shows}
-use Rattle.reading.specs.declared.cell_ref.CellRef.{CellRef}
-use Rattle.opening.specs.Views.{row_count}
+use Rattle.opening.proofs.Prelude.{◌≤◌, subst, arith, not_there, ColumnKind, count_in, cell_in, kind_at, Shows, CellRef, row_count}
 use Rattle.opening.proofs.SignatureLemmas.{signature_seen}
 use Rattle.opening.proofs.metadata_held.ViewReadCells.signature.Goals as goal
 

@@ -1,9 +1,4 @@
-use Rattle.std.proofs.Common.{ℕ, List, refl, sym, ap, subst, ◌∙◌, arith}
-use Rattle.table_schema.specs.CellColumns.{column_of}
-use Rattle.heap_entries.specs.Entries.{IsText}
-use Rattle.metadata.specs.Source.{Source, number_of}
-use Rattle.metadata.specs.SourceAt.{source_of}
-use Rattle.metadata_source.specs.SharedBlobs.{cell_by_id}
+use Rattle.opening.proofs.Prelude.{ℕ, List, refl, sym, ap, subst, ◌∙◌, arith, column_of, IsText, Source, number_of, source_of, cell_by_id}
 use Rattle.opening.proofs.SharedLemmas.{text_stands}
 use Rattle.opening.proofs.metadata_held.ViewReadCells.strings_heap.Goals as goal
 

@@ -1,8 +1,4 @@
-use Rattle.std.proofs.Common.{◌≡◌, ℕ, subst}
-use Rattle.table_schema.specs.declared.table.TableId.{TableId}
-use Rattle.metadata.specs.Cell.{Start}
-use Rattle.metadata.specs.Metadata.{cell_in}
-use Rattle.metadata_source.specs.MemberLists.{owner_of}
+use Rattle.opening.proofs.Prelude.{◌≡◌, ℕ, subst, TableId, Start, cell_in, owner_of}
 use Rattle.opening.proofs.metadata_held.ViewReadMetadata.start.Goals as goal
 
 pub returns : goal.returns

@@ -1,10 +1,4 @@
-use Rattle.std.proofs.Common.{◌≡◌, ℕ, ◌≤◌, sym, subst}
-use Rattle.table_schema.specs.Columns.{column_at}
-use Rattle.metadata.specs.Metadata.{cell_in}
-use Rattle.table_schema.specs.CellColumns.{column_of}
-use Rattle.metadata.specs.Source.{Source, rows_in, number_of}
-use Rattle.metadata.specs.Rows.{StandsIn}
-use Rattle.reading.specs.Shown.{Shows, ShowsBlob}
+use Rattle.opening.proofs.Prelude.{◌≡◌, ℕ, ◌≤◌, sym, subst, column_at, cell_in, column_of, Source, rows_in, number_of, StandsIn, Shows, ShowsBlob}
 use Rattle.opening.proofs.view.View.cell_of_kind.Goals as goal
 
 pub cell_of_kind-requires : goal.cell_of_kind-requires

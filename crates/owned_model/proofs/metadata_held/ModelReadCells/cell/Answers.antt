@@ -1,8 +1,5 @@
-use Rattle.std.proofs.Common.{sym, subst, ap, ◌∙◌}
+use Rattle.owned_model.proofs.Prelude.{sym, subst, ap, ◌∙◌, IsOfKind, kind_at, said}
 use Rattle.metadata.specs.Cell.{Cell}
-use Rattle.metadata.specs.Kinds.{IsOfKind}
-use Rattle.metadata.specs.Valid.{kind_at}
-use Rattle.tables.specs.Said.{said}
 use Rattle.owned_model.proofs.CellLemmas.{no_signature}
 use Rattle.owned_model.proofs.metadata_held.ModelReadCells.cell.Goals as goal
 

@@ -1,6 +1,4 @@
-use Rattle.std.proofs.Common.{ap, ◌∙◌}
-use Rattle.heap_entries.specs.Padding.{zero_padded}
-use Rattle.metadata.specs.Metadata.{Metadata}
+use Rattle.owned_model.proofs.Prelude.{ap, ◌∙◌, zero_padded, Metadata}
 use Rattle.owned_model.proofs.CellLemmas.{padded_is}
 use Rattle.owned_model.proofs.metadata_held.ModelReadMetadata.user.Goals as goal
 

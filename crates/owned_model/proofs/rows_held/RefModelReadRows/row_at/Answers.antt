@@ -1,7 +1,5 @@
-use Rattle.std.proofs.Common.{◌≡◌, List, sym, subst, ◌∙◌}
+use Rattle.owned_model.proofs.Prelude.{◌≡◌, List, sym, subst, ◌∙◌, Metadata, row_of, kinds_of, AreOfKinds}
 use Rattle.metadata.specs.Cell.{Cell}
-use Rattle.metadata.specs.Metadata.{Metadata, row_of}
-use Rattle.type_records.specs.Kinds.{kinds_of, AreOfKinds}
 use Rattle.owned_model.proofs.rows_held.RefModelReadRows.row_at.Goals as goal
 
 pub returns-clause-complete : goal.returns-clause-complete

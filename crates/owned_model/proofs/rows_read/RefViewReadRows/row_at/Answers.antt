@@ -1,5 +1,4 @@
-use Rattle.metadata.specs.Metadata.{row_of}
-use Rattle.type_records.specs.Kinds.{kinds_of}
+use Rattle.owned_model.proofs.Prelude.{row_of, kinds_of}
 use Rattle.owned_model.proofs.RefRowLemmas.{row_is_one}
 use Rattle.owned_model.proofs.rows_read.RefViewReadRows.row_at.Goals as goal
 

@@ -1,7 +1,4 @@
-use Rattle.std.proofs.Common.{sym, subst, ◌∙◌}
-use Rattle.std.proofs.Math.Logic.{∥∥₁_map}
-use Rattle.metadata.specs.Metadata.{Metadata}
-use Rattle.metadata.specs.Model.{IsModel}
+use Rattle.owned_model.proofs.Prelude.{sym, subst, ◌∙◌, ∥∥₁_map, Metadata, IsModel}
 use Rattle.owned_model.proofs.to_model.ViewToModel.model.Goals as goal
 
 pub returns-clause-model : goal.returns-clause-model

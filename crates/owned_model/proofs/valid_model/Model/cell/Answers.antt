@@ -1,7 +1,4 @@
-use Rattle.std.proofs.Common.{length, ap, arith}
-use Rattle.std.proofs.lemmas.List.{length-map}
-use Rattle.metadata.specs.Metadata.{row_of}
-use Rattle.tables.specs.Said.{said}
+use Rattle.owned_model.proofs.Prelude.{length, ap, arith, length-map, row_of, said}
 use Rattle.owned_model.proofs.CellLemmas.{item_said}
 use Rattle.owned_model.proofs.valid_model.Model.cell.Goals as goal
 

@@ -1,5 +1,4 @@
-use Rattle.std.proofs.Common.{◌≡◌, ◌+◌, ◌-◌, ap, arith, length, refl}
-use Rattle.pe.specs.Image.{Image}
+use Rattle.pe.proofs.Prelude.{◌≡◌, ◌+◌, ◌-◌, ap, arith, length, refl, Image}
 use Rattle.pe.proofs.OffsetLemmas.{offset_found}
 use Rattle.pe.proofs.image.Pe.range.Goals as goal
 

@@ -1,6 +1,4 @@
-use Rattle.std.proofs.Common.{◌≡◌, ◌≢◌, ℕ, ◌+◌, ◌<◌, ◌≤◌, ◌∷◌, rules, ap, length, sym, subst, ◌∙◌, arith}
-use Rattle.rows.specs.Keys.{key_at}
-use Rattle.reading.specs.KeyRows.{RowsLeft, rows_with}
+use Rattle.reading.proofs.Prelude.{◌≡◌, ◌≢◌, ℕ, ◌+◌, ◌<◌, ◌≤◌, ◌∷◌, rules, ap, length, sym, subst, ◌∙◌, arith, key_at, RowsLeft, rows_with}
 use Rattle.reading.proofs.KeyLemmas.{IsNextWith, with_none, with_first}
 use Rattle.reading.proofs.key_rows.KeyRowsIterator.next.Goals.{then-self, else-self}
 use Rattle.reading.proofs.key_rows.KeyRowsIterator.next.Given.{Over}

@@ -1,5 +1,4 @@
-use Rattle.std.proofs.Common.{ℕ, ◌+◌, ap, sym, ◌∙◌, arith}
-use Rattle.metadata.specs.Starts.{start_of}
+use Rattle.reading.proofs.Prelude.{ℕ, ◌+◌, ap, sym, ◌∙◌, arith, start_of}
 use Rattle.reading.proofs.StartLemmas.{start_here, start_next, start_past, one_more}
 use Rattle.reading.proofs.start_cursor.StartCursor.at.Goals as goal
 

@@ -1,6 +1,4 @@
-use Rattle.std.proofs.Common.{◌≡◌, ◌≢◌, ℕ, zero, suc, ◌+◌, ◌-◌, ◌∷◌, length, rules, refl, ap, sym, ◌∙◌, arith}
-use Rattle.metadata.specs.Starts.{start_of}
-use Rattle.reading.specs.Starts.{down_from}
+use Rattle.reading.proofs.Prelude.{◌≡◌, ◌≢◌, ℕ, zero, suc, ◌+◌, ◌-◌, ◌∷◌, length, rules, refl, ap, sym, ◌∙◌, arith, start_of, down_from}
 use Rattle.reading.proofs.starts.StartsIterator.next.Goals as goal
 
 one_down : (value : ℕ → ℕ) (n : ℕ) → n ≢ 0 → down_from value n ≡ value n ∷ down_from value (n - 1)

@@ -1,6 +1,4 @@
-use Rattle.std.proofs.Common.{◌+◌, ◌≤◌, length, sym, subst, arith}
-use Rattle.root.specs.Streams.{RootRead}
-use Rattle.root.specs.Views.{view}
+use Rattle.root.proofs.Prelude.{◌+◌, ◌≤◌, length, sym, subst, arith, RootRead, view}
 use Rattle.root.proofs.RootLemmas.{found_within}
 use Rattle.root.proofs.root.Root.stream_place.Goals as goal
 

@@ -1,5 +1,4 @@
-use Rattle.std.proofs.Common.{ℕ, ◌≤◌, ◌<◌, true}
-use Rattle.rows.specs.Columns.{number_in_row}
+use Rattle.rows.proofs.Prelude.{ℕ, ◌≤◌, ◌<◌, true, number_in_row}
 use Rattle.rows.proofs.column_numbers.ColumnNumbers.first_failing_by.Given as goal
 
 abbrev pub invariant-loop-row : goal.invariant-loop-row

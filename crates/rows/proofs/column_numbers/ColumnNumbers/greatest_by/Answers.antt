@@ -1,6 +1,4 @@
-use Rattle.std.proofs.Common.{◌≡◌, ℕ, ◌+◌, ◌<◌, ◌≤◌, max, inl, inr, arith}
-use Rattle.std.proofs.lemmas.Bool.{cases_lt}
-use Rattle.rows.specs.Columns.{ColumnBytes, number_in_row, IsAmong}
+use Rattle.rows.proofs.Prelude.{◌≡◌, ℕ, ◌+◌, ◌<◌, ◌≤◌, max, inl, inr, arith, cases_lt, ColumnBytes, number_in_row, IsAmong}
 use Rattle.rows.proofs.column_numbers.ColumnNumbers.greatest_by.Goals as goal
 
 bound_more : (column : ColumnBytes) (end number greatest most : ℕ) → number ≡ number_in_row column end → most ≡ max number greatest

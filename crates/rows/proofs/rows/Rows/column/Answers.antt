@@ -1,8 +1,4 @@
-use Rattle.std.proofs.Common.{◌≡◌, ◌+◌, ◌≤◌, length, ap, ◌∙◌, arith, rules}
-use Rattle.packed.specs.Number.{little_endian}
-use Rattle.schema.specs.Sizes.{count_of}
-use Rattle.schema.specs.Offsets.{row_width}
-use Rattle.schema.specs.Cells.{cell_width}
+use Rattle.rows.proofs.Prelude.{◌≡◌, ◌+◌, ◌≤◌, length, ap, ◌∙◌, arith, rules, little_endian, count_of, row_width, cell_width}
 use Rattle.rows.proofs.OffsetLemmas.{cell_within, cell_in_part}
 use Rattle.rows.proofs.rows.Rows.column.Goals as goal
 use Rattle.rows.proofs.rows.Rows.column.Goals.{then-count-eq0, else-count-eq0}

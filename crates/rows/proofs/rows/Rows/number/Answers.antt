@@ -1,5 +1,4 @@
-use Rattle.std.proofs.Common.{◌≡◌, ◌∙◌, rules}
-use Rattle.schema.specs.Cells.{number_at}
+use Rattle.rows.proofs.Prelude.{◌≡◌, ◌∙◌, rules, number_at}
 use Rattle.rows.proofs.rows.Rows.number.Goals as goal
 
 pub returns-clause-cell : goal.returns-clause-cell

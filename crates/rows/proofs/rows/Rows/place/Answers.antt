@@ -1,8 +1,4 @@
-use Rattle.std.proofs.Common.{◌≡◌, ◌∙◌, ◌<◌, length, sym, subst, rules, arith}
-use Rattle.table_schema.specs.Tables.{table_index_of, tables}
-use Rattle.schema.specs.Offsets.{cell_start}
-use Rattle.schema.specs.LaidOut.{StandsAt, number_bytes, number_in}
-use Rattle.schema.specs.Cells.{cell_width}
+use Rattle.rows.proofs.Prelude.{◌≡◌, ◌∙◌, ◌<◌, length, sym, subst, rules, arith, table_index_of, tables, cell_start, StandsAt, number_bytes, number_in, cell_width}
 use Rattle.rows.proofs.OffsetLemmas.{offset_behind}
 use Rattle.rows.proofs.rows.Rows.place.Goals as goal
 

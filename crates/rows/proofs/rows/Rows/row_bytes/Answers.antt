@@ -1,8 +1,4 @@
-use Rattle.std.proofs.Common.{◌≡◌, ◌≤◌, ◌<◌, ◌-◌, ◌*◌, ◌∙◌, length, ap, ap₂, subst, arith, rules}
-use Rattle.packed.specs.Offsets.{part}
-use Rattle.table_schema.specs.Tables.{table_index_of, tables}
-use Rattle.schema.specs.Offsets.{row_start, row_width, tables_end}
-use Rattle.rows.specs.Cells.{IsWhole, Stream}
+use Rattle.rows.proofs.Prelude.{◌≡◌, ◌≤◌, ◌<◌, ◌-◌, ◌*◌, ◌∙◌, length, ap, ap₂, subst, arith, rules, part, table_index_of, tables, row_start, row_width, tables_end, IsWhole, Stream}
 use Rattle.rows.proofs.RowBytesLemmas.{read_in_rows, rows_between, rows_in_order, rows_long, rows_within}
 use Rattle.rows.proofs.rows.Rows.row_bytes.Goals as goal
 

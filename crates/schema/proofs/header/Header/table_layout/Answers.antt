@@ -1,10 +1,4 @@
-use Rattle.std.proofs.Common.{◌≡◌, ◌≤◌, ℕ, ◌<◌, length, take, get_or, arith, ◌∙◌, sym, refl, ap, length-set, List, false}
-use Rattle.std.proofs.lemmas.List.{take_all}
-use Rattle.table_schema.specs.declared.column.ColumnKind.TheVariants.{U8}
-use Rattle.table_schema.specs.declared.column.Column.{Column}
-use Rattle.schema.specs.Offsets.{columns_width}
-use Rattle.schema.specs.Kept.{sizes_kept}
-use Rattle.table_schema.proofs.TableFacts.{columns_few}
+use Rattle.schema.proofs.Prelude.{◌≡◌, ◌≤◌, ℕ, ◌<◌, length, take, get_or, arith, ◌∙◌, sym, refl, ap, length-set, List, false, take_all, U8, Column, columns_width, sizes_kept, columns_few}
 use Rattle.schema.proofs.CellLemmas.{columns_width-nil}
 use Rattle.schema.proofs.TableLayoutLemmas.{columns_width_more, number_kept}
 use Rattle.schema.proofs.header.Header.table_layout.Goals as goal

@@ -1,6 +1,4 @@
-use Rattle.std.proofs.Common.{◌≡◌, ◌≤◌, ◌<◌, ◌*◌, ℕ, length, get_or, take}
-use Rattle.schema.specs.Offsets.{columns_width}
-use Rattle.schema.specs.Kept.{sizes_kept}
+use Rattle.schema.proofs.Prelude.{◌≡◌, ◌≤◌, ◌<◌, ◌*◌, ℕ, length, get_or, take, columns_width, sizes_kept}
 use Rattle.schema.proofs.header.Header.table_layout.Given as goal
 
 abbrev pub invariant-loop-index : goal.invariant-loop-index

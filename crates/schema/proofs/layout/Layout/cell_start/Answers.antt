@@ -1,7 +1,4 @@
-use Rattle.std.proofs.Common.{[], false, arith}
-use Rattle.schema.specs.declared.table_layout.TableLayout.{TableLayout}
-use Rattle.table_schema.specs.declared.column.ColumnKind.TheVariants.{U8}
-use Rattle.schema.specs.Kept.{sizes_kept}
+use Rattle.schema.proofs.Prelude.{[], false, arith, TableLayout, U8, sizes_kept}
 use Rattle.schema.proofs.TableLayoutLemmas.{table_layout_kept, cell_at, cell_within}
 use Rattle.schema.proofs.layout.Layout.cell_start.Goals as goal
 

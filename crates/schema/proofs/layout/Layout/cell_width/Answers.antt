@@ -1,10 +1,4 @@
-use Rattle.std.proofs.Common.{◌≡◌, ℕ, ◌+◌, ◌-◌, ◌≤◌, ◌∙◌, [], ap, get_or, arith, false}
-use Rattle.schema.specs.declared.table_layout.TableLayout.{TableLayout}
-use Rattle.table_schema.specs.declared.column.Column.{Column}
-use Rattle.table_schema.specs.declared.column.ColumnKind.TheVariants.{U8}
-use Rattle.table_schema.specs.Columns.{columns_of}
-use Rattle.schema.specs.Sizes.{Sizes, width_of}
-use Rattle.schema.specs.Kept.{sizes_kept}
+use Rattle.schema.proofs.Prelude.{◌≡◌, ℕ, ◌+◌, ◌-◌, ◌≤◌, ◌∙◌, [], ap, get_or, arith, false, TableLayout, Column, U8, columns_of, Sizes, width_of, sizes_kept}
 use Rattle.schema.proofs.TableLayoutLemmas.{table_layout_kept, columns_width_more, width_known}
 use Rattle.schema.proofs.layout.Layout.cell_width.Goals as goal
 

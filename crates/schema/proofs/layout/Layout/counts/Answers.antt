@@ -1,8 +1,4 @@
-use Rattle.std.proofs.Common.{refl, arith, ◌∙◌, ap, get_or, List, length-set}
-use Rattle.table_schema.specs.declared.table.TableId.{TableId}
-use Rattle.table_schema.specs.declared.table.TableId.TheVariants.{Module}
-use Rattle.table_schema.specs.Tables.{table_number}
-use Rattle.schema.specs.Sizes.{count_of}
+use Rattle.schema.proofs.Prelude.{refl, arith, ◌∙◌, ap, get_or, List, length-set, TableId, Module, table_number, count_of}
 use Rattle.schema.proofs.ReadLemmas.{table_kept, others_kept, no_counts, tables_kept}
 use Rattle.schema.proofs.layout.Layout.counts.Goals as goal
 

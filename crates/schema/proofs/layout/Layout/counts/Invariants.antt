@@ -1,8 +1,4 @@
-use Rattle.std.proofs.Common.{◌≡◌, ◌≢◌, ℕ, ◌<◌, length, get_or}
-use Rattle.table_schema.specs.declared.table.TableId.{TableId}
-use Rattle.table_schema.specs.declared.table.TableId.TheVariants.{Module}
-use Rattle.table_schema.specs.Tables.{table_number, tables}
-use Rattle.schema.specs.Sizes.{count_of}
+use Rattle.schema.proofs.Prelude.{◌≡◌, ◌≢◌, ℕ, ◌<◌, length, get_or, TableId, Module, table_number, tables, count_of}
 use Rattle.schema.proofs.layout.Layout.counts.Given as goal
 
 abbrev pub invariant-loop-table : goal.invariant-loop-table

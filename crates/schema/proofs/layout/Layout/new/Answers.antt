@@ -1,7 +1,4 @@
-use Rattle.std.proofs.Common.{◌*◌, ◌≤◌, ◌<◌, get_or, arith, ◌∙◌, refl, length-set, mul-le-mul}
-use Rattle.table_schema.specs.declared.table.TableId.TheVariants.{Module}
-use Rattle.table_schema.specs.Tables.{tables}
-use Rattle.schema.specs.Kept.{IsTableLayout, sizes_kept}
+use Rattle.schema.proofs.Prelude.{◌*◌, ◌≤◌, ◌<◌, get_or, arith, ◌∙◌, refl, length-set, mul-le-mul, Module, tables, IsTableLayout, sizes_kept}
 use Rattle.schema.proofs.CellLemmas.{tables_size-nil}
 use Rattle.schema.proofs.TableLayoutLemmas.{item_kept, next_start, start_at}
 use Rattle.schema.proofs.layout.Layout.new.Goals as goal

@@ -1,7 +1,4 @@
-use Rattle.std.proofs.Common.{◌≡◌, ◌≤◌, ◌*◌, ◌+◌, take, length}
-use Rattle.table_schema.specs.Tables.{tables}
-use Rattle.schema.specs.Offsets.{tables_size}
-use Rattle.schema.specs.Kept.{sizes_kept, AreFirstTableLayouts}
+use Rattle.schema.proofs.Prelude.{◌≡◌, ◌≤◌, ◌*◌, ◌+◌, take, length, tables, tables_size, sizes_kept, AreFirstTableLayouts}
 use Rattle.schema.proofs.layout.Layout.new.Given as goal
 
 abbrev pub invariant-loop-table_index : goal.invariant-loop-table_index

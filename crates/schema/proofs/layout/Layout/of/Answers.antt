@@ -1,11 +1,4 @@
-use Rattle.std.proofs.Common.{◌≡◌, ℕ, ◌∙◌, ap, refl, arith, get_or, ltb, lt-ltb, le-ltb, List, length-set}
-use Rattle.std.specs.List.{count_by}
-use Rattle.std.proofs.lemmas.List.{take_all}
-use Rattle.table_schema.specs.declared.table.TableId.{TableId}
-use Rattle.table_schema.specs.declared.table.TableId.TheVariants.{Module}
-use Rattle.table_schema.specs.Tables.{table_number, tables}
-use Rattle.schema.specs.Sizes.{Sizes, header_size, sizes_by_number, count_of}
-use Rattle.table_schema.proofs.TableFacts.{length-tables}
+use Rattle.schema.proofs.Prelude.{◌≡◌, ℕ, ◌∙◌, ap, refl, arith, get_or, ltb, lt-ltb, le-ltb, List, length-set, count_by, take_all, TableId, Module, table_number, tables, Sizes, header_size, sizes_by_number, count_of, length-tables}
 use Rattle.schema.proofs.TableLayoutLemmas.{number_kept}
 use Rattle.schema.proofs.HeaderLemmas.{offset_set, offset_clear, counts_are, count_is, same_sizes}
 use Rattle.schema.proofs.layout.Layout.of.Goals as goal

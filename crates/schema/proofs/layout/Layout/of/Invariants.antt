@@ -1,8 +1,4 @@
-use Rattle.std.proofs.Common.{◌≡◌, ℕ, ◌+◌, ◌*◌, ◌<◌, ◌≤◌, length, get_or, take, ltb}
-use Rattle.std.specs.List.{count_by}
-use Rattle.table_schema.specs.declared.table.TableId.TheVariants.{Module}
-use Rattle.table_schema.specs.Tables.{table_number, tables}
-use Rattle.schema.specs.Sizes.{header_size}
+use Rattle.schema.proofs.Prelude.{◌≡◌, ℕ, ◌+◌, ◌*◌, ◌<◌, ◌≤◌, length, get_or, take, ltb, count_by, Module, table_number, tables, header_size}
 use Rattle.schema.proofs.layout.Layout.of.Given as goal
 
 abbrev pub invariant-loop-table_index : goal.invariant-loop-table_index

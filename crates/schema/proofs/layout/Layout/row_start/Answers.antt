@@ -1,6 +1,4 @@
-use Rattle.std.proofs.Common.{[]}
-use Rattle.schema.specs.declared.table_layout.TableLayout.{TableLayout}
-use Rattle.schema.specs.Kept.{sizes_kept}
+use Rattle.schema.proofs.Prelude.{[], TableLayout, sizes_kept}
 use Rattle.schema.proofs.TableLayoutLemmas.{table_layout_kept, row_at}
 use Rattle.schema.proofs.layout.Layout.row_start.Goals as goal
 

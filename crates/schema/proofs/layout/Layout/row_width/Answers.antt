@@ -1,8 +1,4 @@
-use Rattle.std.proofs.Common.{◌∙◌, ap, []}
-use Rattle.schema.specs.declared.table_layout.TableLayout.{TableLayout}
-use Rattle.schema.specs.Sizes.{Sizes}
-use Rattle.schema.specs.Offsets.{row_width}
-use Rattle.schema.specs.Kept.{sizes_kept}
+use Rattle.schema.proofs.Prelude.{◌∙◌, ap, [], TableLayout, Sizes, row_width, sizes_kept}
 use Rattle.schema.proofs.TableLayoutLemmas.{table_layout_kept}
 use Rattle.schema.proofs.layout.Layout.row_width.Goals as goal
 

@@ -1,6 +1,4 @@
-use Rattle.std.proofs.Common.{◌≡◌, ◌∙◌, true, Option, Some, is_some, [], ◌∷◌, sym, ap, subst, arith}
-use Rattle.sig_items.specs.declared.position.Position.{Position}
-use Rattle.sig_items.specs.Steps.{all_at, items_left}
+use Rattle.sig_items.proofs.Prelude.{◌≡◌, ◌∙◌, true, Option, Some, is_some, [], ◌∷◌, sym, ap, subst, arith, Position, all_at, items_left}
 use Rattle.sig_items.proofs.Stacks.{next_items, reported_somewhere, ended_items}
 use Rattle.sig_items.proofs.items.ItemsIterator.next.Goals as goal
 

@@ -1,9 +1,4 @@
-use Rattle.std.proofs.Common.{◌≡◌, ℕ, List, slice_index_or, ap, arith, ◌∙◌, length-set}
-use Rattle.packed.proofs.RuleLemmas.{before_more}
-use Rattle.table_schema.specs.declared.table.TableId.{TableId}
-use Rattle.table_schema.specs.declared.table.TableId.TheVariants.{Module}
-use Rattle.metadata.specs.Metadata.{count_in}
-use Rattle.metadata.specs.Refusals.{refusals_of_count}
+use Rattle.tables.proofs.Prelude.{◌≡◌, ℕ, List, slice_index_or, ap, arith, ◌∙◌, length-set, before_more, TableId, Module, count_in, refusals_of_count}
 use Rattle.tables.proofs.CountLemmas.{known_more, few_rows}
 use Rattle.tables.proofs.counted.Counted.new.Goals as goal
 

@@ -1,9 +1,4 @@
-use Rattle.std.proofs.Common.{◌≡◌, ◌<◌, length, slice_index}
-use Rattle.packed.specs.Rule.{HoldBefore}
-use Rattle.table_schema.specs.declared.table.TableId.{TableId}
-use Rattle.table_schema.specs.Tables.{table_number, table_index_of}
-use Rattle.metadata.specs.Metadata.{count_in}
-use Rattle.metadata.specs.Refusals.{refusals_of_count}
+use Rattle.tables.proofs.Prelude.{◌≡◌, ◌<◌, length, slice_index, HoldBefore, TableId, table_number, table_index_of, count_in, refusals_of_count}
 use Rattle.tables.proofs.counted.Counted.new.Given as goal
 
 abbrev pub invariant-loop-table_index : goal.invariant-loop-table_index

@@ -1,10 +1,5 @@
-use Rattle.std.proofs.Common.{◌∙◌, ◌≤◌, ℕ, List, ap, subst, sym}
-use Rattle.table_schema.specs.declared.table.TableId.{TableId}
-use Rattle.table_schema.specs.declared.table.TableId.TheVariants.{Event, Property}
-use Rattle.metadata.specs.Model.{IsModel}
+use Rattle.visible_rows.proofs.Prelude.{◌∙◌, ◌≤◌, ℕ, List, ap, subst, sym, TableId, Event, Property, IsModel, row_count, is_visible_method, is_visible_row}
 use Rattle.metadata_source.specs.declared.member_lists.MemberList.TheVariants as list
-use Rattle.opening.specs.Views.{row_count}
-use Rattle.visible_rows.specs.Visible.{is_visible_method, is_visible_row}
 use Rattle.visible_rows.proofs.OwnerLemmas.{owner_is}
 use Rattle.visible_rows.proofs.ResultLemmas.{read_accessed, read_type}
 use Rattle.visible_rows.proofs.visible.VisibleRows.is_visible_row.Goals as goal

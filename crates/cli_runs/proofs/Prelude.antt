@@ -1,0 +1,24 @@
+-- What several proofs of this crate name of std, of the crates below, and of its own definitions.
+pub use Rattle.std.proofs.Common.{◌≡◌, ◌∙◌, ℕ, List, [], ◌∷◌, ◌++◌, map, length, get_or, drop, ap, sym, subst, arith, inl, inr, Option, None, Some, Result, Ok, Err, ◌≢◌, append-nil, refl, ◌≤◌, ◌<◌, ◌+◌, ◌&&◌, ◌||◌, ◌⊎◌, Bool, true, false, max, rules}
+pub use Rattle.std.proofs.lemmas.List.{length_push, map-append, nil_from_length, drop_all, drop_more}
+pub use Rattle.std.specs.Borrow.{Bor}
+pub use Rattle.std.specs.Prelude.{◌==◌, IfErr, IsSome, OnErr, OnOk, MatchResult}
+pub use Rattle.packed.specs.declared.fault.Fault.{Fault}
+pub use Rattle.table_schema.specs.declared.token.Token.{Token}
+pub use Rattle.metadata.specs.Metadata.{Metadata}
+pub use Rattle.cli_faults.specs.Status.{IsOutput, IsUnread}
+pub use Rattle.cli_faults.specs.declared.failure.Failure.{Failure}
+pub use Rattle.cli_faults.specs.declared.failure.Failure.TheVariants.{NotUtf8, OutOfMemory}
+pub use Rattle.cli_sending.specs.Sent.{Sent}
+pub use Rattle.cli_input.specs.declared.opened.Input.{Input}
+pub use Rattle.cli_input.specs.declared.opened.Input.TheVariants.{BareRoot, File}
+pub use Rattle.cli_lines.specs.Lines.{Part, Style, report_text, style}
+unfoldable pub use Rattle.cli_lines.specs.Lines.{styled_text}
+pub use Rattle.cli_lines.specs.Printed.{Printed, Prints, Asked}
+pub use Rattle.cli_outline.specs.declared.source.OutlineOptions.{OutlineOptions}
+pub use Rattle.cli_regions.specs.Kept.{seen}
+pub use Rattle.cli_runs.specs.Printing.{Hands, HasPrinted, AreNone}
+pub use Rattle.cli_runs.specs.Reports.{AreDeclared, AreSomeDeclared, IsListed, OfModel, ended_at, ended_by, AreNamed, AreOut, HasEnded, IsFaultOut, IsPrinted, IsStopped, everything, lead_of, style_of, verdict_lines, label}
+pub use Rattle.cli_runs.specs.Runs.{AreListed, AreCut, AreSent, IsReported, AreRun, AreRunAll, AreVisited, EndsAs, IsCutIn, IsNext, IsRun, IsVisited, is_input, IsCutAt}
+pub use Rattle.cli_runs.specs.declared.report.Listing.{Listing}
+pub use Rattle.cli_runs.specs.declared.report.Request.{Request}
