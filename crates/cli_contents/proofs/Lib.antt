@@ -1,3 +1,1 @@
-mod BodyLemmas
-mod DataLemmas
 mod Prelude

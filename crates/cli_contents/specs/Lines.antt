@@ -42,21 +42,15 @@ first_lines image line found = if nat_le (section_count image.bytes) section_lim
 
 -- ---- methods (II.22.26, II.25.4)
 
-abbrev pub method_line : Metadata → Body → List Part
-method_line = row_line MethodDef 3 (codes "method")
-
 -- the lines of the first methods whose bodies contain the byte at an offset of a file
 abbrev pub method_lines : Image → Metadata → ℕ → List (List Part)
-method_lines image model offset = first_lines image (method_line model) (bodies_at image model offset)
+method_lines image model offset = first_lines image (row_line MethodDef 3 (codes "method") model) (bodies_at image model offset)
 
 -- ---- fields with data (II.22.18)
 
-abbrev pub field_line : Metadata → Body → List Part
-field_line = row_line Field 1 (codes "field")
-
 -- the lines of the first of these fields whose data contains the byte at an offset of a file
 abbrev pub field_lines : Image → Metadata → List FieldData → ℕ → List (List Part)
-field_lines image model fields offset = first_lines image (field_line model) (data_at image fields offset)
+field_lines image model fields offset = first_lines image (row_line Field 1 (codes "field") model) (data_at image fields offset)
 
 -- ---- resources (II.22.24)
 

@@ -16,30 +16,14 @@ use cli_header::read_cli;
 use cli_lines::Printer;
 use opening::{TableId, Token, View};
 use pe::read_pe;
-use resources::{Content, Directory, Location, NotWithin, directory_of, location_of, resource_at};
+use resources::{Directory, Location, NotWithin, directory_of, location_of, resource_at};
 use std::io::Write;
 
 /// The index of the cell with the name of a resource (II.22.24).
 const NAME: usize = 2;
 
-/// Prints the line of the resource in a row, which has this content in the file.
-#[tactic(auto, unfolding(table_schema::specs::CellColumns::cell_columns))]
-fn print_stored<W: Write>(view: &View<'_>, row: u32, content: Content<'_>, out: &mut Printer<'_, W>)
-    requires first { 1 ≤ row }
-    requires last { row ≤ row_count view.now ManifestResource }
-    ensures { (model : Metadata) → IsModel view.now model
-        → Prints out.old out.new (resource_line model row content.entry.offset content.entry.bytes.now ∷ []) }
-{
-    let resource = Token {
-        table: TableId::ManifestResource,
-        row,
-    };
-    let name = text(view, resource.table, resource.row, NAME);
-    let size = content.bytes.len() as u64;
-    print_content(content.offset, size, "resource", resource, name, out);
-}
-
 /// Prints the line of the resource in a row, which is in the file.
+#[tactic(auto, unfolding(table_schema::specs::CellColumns::cell_columns))]
 fn print_located<W: Write>(
     directory: Option<Directory<'_>>,
     view: &View<'_>,
@@ -53,7 +37,15 @@ fn print_located<W: Write>(
         → Prints out.old out.new (resource_line model row offset content ∷ []) }
 {
     match location_of(directory, view, row) {
-        Ok(Location::Here(content)) => print_stored(view, row, content, out),
+        Ok(Location::Here(content)) => {
+            let resource = Token {
+                table: TableId::ManifestResource,
+                row,
+            };
+            let name = text(view, resource.table, resource.row, NAME);
+            let size = content.bytes.len() as u64;
+            print_content(content.offset, size, "resource", resource, name, out);
+        }
         Ok(Location::Elsewhere(_)) => {}
         Err(NotWithin) => {}
     }

@@ -1,5 +1,5 @@
 -- The words of the flags in a cell (ECMA-335 II.22 and II.23.1).
-use Rattle.std.specs.Prelude.{ℕ, ◌==◌, if◌then◌else◌, bit_and, List, [], ◌∷◌, ◌++◌, codes, Option, None, Some}
+use Rattle.std.specs.Prelude.{ℕ, ◌==◌, if◌then◌else◌, bit_and, List, [], ◌∷◌, ◌++◌, codes, fold, Option, None, Some}
 use Rattle.table_schema.specs.declared.table.TableId.{TableId}
 use Rattle.table_schema.specs.declared.table.TableId.TheVariants.{Assembly, AssemblyRef, Event, ExportedType, Field, File, GenericParam, ImplMap, ManifestResource, MethodDef, MethodSemantics, Param, Property, TypeDef}
 use Rattle.type_heads.specs.FlagWords.{Word, words_of}
@@ -38,13 +38,9 @@ after_words (first ∷ words) word = (first ∷ words) ++ (codes " " ++ word)
 abbrev pub with_word : ℕ → List ℕ → Word → List ℕ
 with_word number words of = if bit_and number of.mask == of.value then after_words words of.text else words
 
-abbrev pub with_words : ℕ → List ℕ → List Word → List ℕ
-with_words number words [] = words
-with_words number words (of ∷ more) = with_words number (with_word number words of) more
-
 -- the words that flags have, in the order of the standard, with a space between them
 abbrev pub flag_text : FlagTable → ℕ → List ℕ
-flag_text of number = with_words number [] (words_of of)
+flag_text of number = fold (with_word number) [] (words_of of)
 
 -- they follow a space; in JSON they are a member
 abbrev pub text_parts : Name → List ℕ → List Part

@@ -24,6 +24,7 @@ use Rattle.cli_lines.specs.declared.names.Name.{Name}
 use Rattle.cli_lines.specs.declared.names.Name.TheVariants as name
 use Rattle.cli_lines.specs.Lines.{Part, Value, field, member, number, plain, word}
 use Rattle.cli_regions.specs.Regions.{Region, What, cell}
+use Rattle.cli_found.specs.declared.lines.Lead.{Lead}
 
 -- ---- what a line says
 
@@ -89,21 +90,18 @@ is_cell source at = nat_le 1 at.row && nat_le at.row (rows_in source at.table) &
 abbrev pub number_in : Source → TableCell → Option ℕ
 number_in source at = if is_cell source at then Some (number_of source at.table at.row at.column) else None
 
--- the number in the same column of the row before
-abbrev pub earlier_parts : ℕ → Option ℕ → List Part
-earlier_parts row None = []
-earlier_parts row (Some of) = limit_parts (codes "row ") name.Row (number row) of []
+-- the number in another cell, if the tables have it
+abbrev pub number_limit : List ℕ → Name → Value → Option ℕ → List Part
+number_limit before label value None = []
+number_limit before label value (Some of) = limit_parts before label value of []
 
+-- that in the same column of the row before
 abbrev pub earlier_limit : Source → TableCell → List Part
-earlier_limit source at = earlier_parts (at.row - 1) (number_in source (record at { row = at.row - 1 }))
+earlier_limit source at = number_limit (codes "row ") name.Row (number (at.row - 1)) (number_in source (record at { row = at.row - 1 }))
 
--- the number in column NestedClass of the same row (II.22.32)
-abbrev pub nested_parts : Option ℕ → List Part
-nested_parts None = []
-nested_parts (Some of) = limit_parts [] name.Column (plain (codes "NestedClass")) of []
-
+-- that in column NestedClass of the same row (II.22.32)
 abbrev pub nested_limit : Source → TableCell → List Part
-nested_limit source at = nested_parts (number_in source (record at { column = 0 }))
+nested_limit source at = number_limit [] name.Column (plain (codes "NestedClass")) (number_in source (record at { column = 0 }))
 
 -- by the rule: for the order of rows a number in another cell, or the number of rows without an owner (II.22)
 abbrev pub limit_of : FaultCode → Source → TableCell → ℕ → List Part
@@ -146,10 +144,18 @@ field_size EntryPoint = 4
 field_size UnknownTable = 8
 field_size _ = 0
 
--- the line of a number in a header, or that of its offset if the bytes end before it
+-- the number of this size at an offset, if the bytes have it
+abbrev pub lead_at : List ℕ → ℕ → ℕ → Option Coded → Option Lead
+lead_at bytes offset size coded =
+    if nat_le (offset + size) (length bytes) then Some (record { offset = offset; number = little_endian (part bytes offset size); coded = coded }) else None
+
+-- its line, or that of the offset
+abbrev pub lines_at : ℕ → Option Lead → List (List Part)
+lines_at offset None = offset_line offset ∷ []
+lines_at offset (Some lead) = value_line lead.offset lead.number lead.coded [] ∷ []
+
 abbrev pub field_lines : FaultCode → List ℕ → ℕ → List (List Part)
-field_lines rule bytes offset =
-    if nat_le (offset + field_size rule) (length bytes) then value_line offset (little_endian (part bytes offset (field_size rule))) None [] ∷ [] else offset_line offset ∷ []
+field_lines rule bytes offset = lines_at offset (lead_at bytes offset (field_size rule) None)
 
 -- ---- the line at a fault
 

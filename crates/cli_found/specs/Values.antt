@@ -1,6 +1,5 @@
 -- The line of the number that a structure is, and of a cell what the number means (ECMA-335 II.22, II.24.2.6 and II.25).
 use Rattle.std.specs.Prelude.{ℕ, ◌&&◌, nat_le, nat_lt, Bool, true, false, if◌then◌else◌, List, [], ◌∷◌, ◌++◌, Option, None, Some}
-use Rattle.table_schema.specs.declared.coded.Coded.{Coded}
 use Rattle.table_schema.specs.declared.column.ColumnKind.{ColumnKind}
 use Rattle.table_schema.specs.declared.column.ColumnKind.TheVariants as kind
 use Rattle.table_schema.specs.CellColumns.{cell_count}
@@ -25,13 +24,15 @@ refers kind.U32 = false
 refers kind.Padding = false
 refers _ = true
 
-abbrev pub has_cell : Metadata → TableCell → Bool
-has_cell model at = nat_le 1 at.row && nat_le at.row (count_in model at.table) && nat_lt (column_number at) (cell_count at.table)
+-- the tables have such a cell
+abbrev pub is_reference : Metadata → TableCell → Bool
+is_reference model at =
+    refers (kind_of at) && nat_le 1 at.row && nat_le at.row (count_in model at.table) && nat_lt (column_number at) (cell_count at.table)
 
 -- what `show` prints of a cell, after a space; in JSON the member with the name of its column
 abbrev pub reference : Metadata → TableCell → List Part
 reference model at =
-    if refers (kind_of at) && has_cell model at
+    if is_reference model at
     then spaced (name.Cell at.table (column_number at)) (cell_value (cell_in model at.table at.row (column_number at))) ∷ [] else []
 
 -- of flags their words, else what the number refers to
@@ -57,12 +58,9 @@ meaning_in model (cell at) number = meaning model at number
 meaning_in model _ number = []
 
 -- the number after its offset, and what it means
-abbrev pub lead_line : Metadata → What → Lead → List Part
-lead_line model what lead = value_line lead.offset lead.number lead.coded [] ++ meaning_in model what lead.number
-
 abbrev pub lead_lines : Metadata → What → Option Lead → List (List Part)
 lead_lines model what None = []
-lead_lines model what (Some lead) = lead_line model what lead ∷ []
+lead_lines model what (Some lead) = (value_line lead.offset lead.number lead.coded [] ++ meaning_in model what lead.number) ∷ []
 
 abbrev pub lines_of : Metadata → List ℕ → Region → List (List Part)
 lines_of model bytes of = lead_lines model of.what (lead_in bytes of of.what)

@@ -110,17 +110,6 @@ pub(crate) fn row_of(coded: Coded, number: u64) -> u64
     number >> coded.tag_bits()
 }
 
-/// The number of rows of the table of a coded index, by its tag (II.24.2.6).
-fn coded_limit(source: &Source<'_>, coded: Coded, number: u32) -> Option<Limit<'static>>
-    ensures { shown_limit result ≡ kind_limit source.now.source (ColumnKind.Coded coded) number }
-{
-    let tag = tag_of(coded, u64::from(number));
-    match coded.tables().get(tag as usize) {
-        Some(Some(table)) => rows_limit(source, *table),
-        _ => None,
-    }
-}
-
 /// The size of what a number in a column of a kind refers to.
 fn kind_limit(source: &Source<'_>, kind: ColumnKind, number: u32) -> Option<Limit<'static>>
     ensures { shown_limit result ≡ kind_limit source.now.source kind number }
@@ -132,7 +121,13 @@ fn kind_limit(source: &Source<'_>, kind: ColumnKind, number: u32) -> Option<Limi
             heap_limit(Kind::Blobs, source.blobs().len(), " bytes")
         }
         ColumnKind::Row(table) | ColumnKind::List(table) => rows_limit(source, table),
-        ColumnKind::Coded(coded) => coded_limit(source, coded, number),
+        ColumnKind::Coded(coded) => {
+            let tag = tag_of(coded, u64::from(number));
+            match coded.tables().get(tag as usize) {
+                Some(Some(table)) => rows_limit(source, *table),
+                _ => None,
+            }
+        }
         ColumnKind::U8 | ColumnKind::U16 | ColumnKind::U32 | ColumnKind::Padding => None,
     }
 }

@@ -6,8 +6,8 @@ ghost use Rattle.packed.specs.Offsets.{part};
 ghost use Rattle.cli_lines.specs.Lines.{Part as ThePart};
 ghost use Rattle.cli_lines.specs.Printed.{Prints};
 ghost use Rattle.cli_regions.specs.Kept.{seen, seen_what};
-ghost use Rattle.cli_found.specs.Found.{AreFound, AreOfCell, cell_lines, cell_of, field_lines, field_size, innermost, last_of, offset_line, offset_text, value_line};
-ghost use Rattle.cli_found.specs.Kept.{IsFieldSize, lead_at, lead_of, lead_text, shown_limit};
+ghost use Rattle.cli_found.specs.Found.{AreFound, AreOfCell, cell_lines, cell_of, field_lines, field_size, innermost, last_of, lead_at, offset_line, value_line};
+ghost use Rattle.cli_found.specs.Kept.{IsFieldSize, lead_of, lead_text, shown_limit};
 
 use crate::limits::{Limit, coded_of, kind_of, limit_of, number_in, row_of, tag_of};
 use cli_faults::FaultCode;
@@ -51,21 +51,13 @@ impl fmt::Display for Lead {
     }
 }
 
-/// Prints the line of an offset, which has this text.
-#[tactic(auto, unfolding(crate::specs::Found::offset_line))]
-fn print_start<W: Write>(text: &str, offset: u64, out: &mut Printer<'_, W>)
-    requires { text.now ≡ offset_text offset }
-    ensures { Prints out.old out.new (offset_line offset ∷ []) }
-{
-    out.line(&[Member(Name::Offset, Number(offset)), Word(text)]);
-}
-
 /// Prints the line of an offset at which there is no number to print.
+#[tactic(auto, unfolding(crate::specs::Found::offset_line))]
 fn print_offset<W: Write>(alloc: Global, offset: u64, out: &mut Printer<'_, W>)
     ensures { Prints out.old out.new (offset_line offset ∷ []) }
 {
     match format!(in alloc; "0x{offset:01x}") {
-        Ok(text) => print_start(&text, offset, out),
+        Ok(text) => out.line(&[Member(Name::Offset, Number(offset)), Word(&text)]),
         Err(_) => out.fail(),
     }
 }
@@ -263,10 +255,7 @@ pub(crate) fn last_of<'a>(structures: &[Structure<'a>]) -> Option<Structure<'a>>
 fn innermost(structures: &[Structure<'_>]) -> Option<TableCell>
     ensures { result ≡ innermost (map seen structures.now) }
 {
-    match last_of(structures) {
-        Some(last) => cell_of(last.what),
-        None => None,
-    }
+    cell_of(last_of(structures)?.what)
 }
 
 /// Prints the line of the number in the cell of a fault, or that of its offset if there is none.

@@ -1,15 +1,13 @@
 //! Prints the number that a structure is, and what it means.
-ghost use Rattle.std.specs.Prelude.{◌≡◌, ◌≤◌, ◌<◌, ◌∷◌, ◌++◌, [], IsTrue, map};
+ghost use Rattle.std.specs.Prelude.{◌≡◌, ◌≤◌, ◌<◌, IsTrue, map};
 ghost use Rattle.table_schema.specs.CellColumns.{cell_count};
 ghost use Rattle.metadata.specs.Metadata.{Metadata};
 ghost use Rattle.metadata.specs.Model.{IsModel};
 ghost use Rattle.cli_lines.specs.Printed.{Adds, Prints};
 ghost use Rattle.cli_regions.specs.Kept.{seen, seen_what};
-ghost use Rattle.cli_found.specs.Found.{value_line};
-ghost use Rattle.cli_found.specs.Kept.{lead_text};
 ghost use Rattle.opening.specs.Views.{row_count};
 ghost use Rattle.cli_found.specs.Columns.{column_number};
-ghost use Rattle.cli_found.specs.Values.{cell_lead, has_cell, lead_in, lead_line, lines_of, meaning, meaning_in, reference, refers, value_lines};
+ghost use Rattle.cli_found.specs.Values.{cell_lead, is_reference, lead_in, lines_of, meaning, meaning_in, reference, refers, value_lines};
 
 use crate::columns::column_number;
 use crate::flags::{flags_at, print_flags};
@@ -36,12 +34,13 @@ fn refers(kind: ColumnKind) -> bool
     )
 }
 
-/// Whether the tables have a cell, which is no padding.
-fn has_cell(view: &View<'_>, cell: TableCell) -> bool
-    ensures value { (model : Metadata) → IsModel view.now model → result ≡ has_cell model cell }
+/// Whether the tables have a cell, and its number stands for something else.
+fn is_reference(view: &View<'_>, cell: TableCell) -> bool
+    ensures value { (model : Metadata) → IsModel view.now model → result ≡ is_reference model cell }
     ensures there { IsTrue result → (1 ≤ cell.row) × (cell.row ≤ row_count view.now cell.table) × (column_number cell < cell_count cell.table) }
 {
-    1 <= cell.row
+    refers(kind_of(cell))
+        && 1 <= cell.row
         && cell.row <= view.count(cell.table)
         && column_number(cell) < cell_count(cell.table)
 }
@@ -56,10 +55,7 @@ fn print_reference<W: Write>(
     ensures { (model : Metadata) → IsModel view.now model → Adds out.old out.new (reference model cell) }
 {
     cli_lines::laws::parts_follow::<W>();
-    if !refers(kind_of(cell)) {
-        return;
-    }
-    if !has_cell(view, cell) {
+    if !is_reference(view, cell) {
         return;
     }
     let cell_index = column_number(cell);
@@ -111,29 +107,6 @@ fn print_what<W: Write>(
     }
 }
 
-/// Prints the line of a number, which begins with this text.
-#[tactic(auto, unfolding(crate::specs::Found::value_line))]
-fn print_lead<W: Write>(
-    alloc: Global,
-    view: &View<'_>,
-    lead: Lead,
-    text: &str,
-    what: What<'_>,
-    out: &mut Printer<'_, W>,
-)
-    requires { text.now ≡ lead_text lead }
-    ensures { (model : Metadata) → IsModel view.now model → Prints out.old out.new (lead_line model (seen_what what.entry) lead ∷ []) }
-{
-    cli_lines::laws::parts_follow::<W>();
-    out.begin(&[
-        Member(Name::Offset, Number(lead.offset)),
-        Word(text),
-        Member(Name::Value, Number(lead.number)),
-    ]);
-    print_what(alloc, view, what, lead.number, out);
-    out.end();
-}
-
 /// The number that a cell is; padding is none (II.22.9).
 fn cell_lead(bytes: &[u8], of: Structure<'_>, kind: ColumnKind) -> Option<Lead>
     ensures { result ≡ cell_lead bytes.now (seen of.entry) kind }
@@ -156,6 +129,7 @@ fn lead_in(bytes: &[u8], of: Structure<'_>) -> Option<Lead>
 }
 
 /// Prints the line of the number that a structure is, if it is one.
+#[tactic(auto, unfolding(crate::specs::Found::value_line))]
 fn print_number<W: Write>(
     alloc: Global,
     bytes: &[u8],
@@ -166,9 +140,18 @@ fn print_number<W: Write>(
     ensures { (model : Metadata) → IsModel view.now model → Prints out.old out.new (lines_of model bytes.now (seen of.entry)) }
 {
     cli_lines::laws::lines_follow::<W>();
+    cli_lines::laws::parts_follow::<W>();
     match lead_in(bytes, of) {
         Some(lead) => match lead.to_string(alloc) {
-            Ok(text) => print_lead(alloc, view, lead, &text, of.what, out),
+            Ok(text) => {
+                out.begin(&[
+                    Member(Name::Offset, Number(lead.offset)),
+                    Word(&text),
+                    Member(Name::Value, Number(lead.number)),
+                ]);
+                print_what(alloc, view, of.what, lead.number, out);
+                out.end();
+            }
             Err(_) => out.fail(),
         },
         None => {}

@@ -1,4 +1,3 @@
 mod PathLemmas
 mod Prelude
 mod RefLemmas
-mod SubjectLemmas

@@ -1,11 +1,10 @@
 -- The types of other modules that an argument means, and what belongs to them.
-use Rattle.cli_paths.proofs.Prelude.{◌≡◌, ◌∙◌, ◌↔◌, ◌==◌, Bool, true, false, cond, IsTrue, ℕ, zero, suc, ◌<◌, List, [], ◌∷◌, ◌++◌, Option, None, Some, get_or, length, map, refl, ap, sym, subst, arith, Bor, get_or_default, length-map, get_or-map, TypeRef, Token, Cell, Ref, Text, HasRow, Metadata, cell_in, IsScope, IsFullName, BelongsTo, HasRefName, IsRefAt, IsWantedRef, generic_at, generic_of, type_of_ref}
-use Rattle.std.specs.Prelude.{IfNone, IfSome, is_some, not, option_map, slice_index_or}
+use Rattle.cli_paths.proofs.Prelude.{◌≡◌, ◌∙◌, ◌↔◌, ◌==◌, Bool, true, false, cond, IsTrue, ℕ, List, [], ◌∷◌, ◌++◌, Option, None, Some, length, refl, ap, sym, subst, TypeRef, TableId, Token, HasRow, Metadata, BelongsTo, IsWantedRef, generic_at, generic_of, type_of_ref}
+use Rattle.std.specs.Prelude.{option_map}
 use Rattle.packed.specs.Packed.{IsPacked}
 use Rattle.packed.specs.Prefix.{unsigned_at}
 use Rattle.table_schema.specs.declared.column.SigKind.TheVariants as column
 use Rattle.table_schema.specs.declared.coded.Coded.TheVariants.{TypeDefOrRef}
-use Rattle.table_schema.specs.declared.table.TableId.{TableId}
 use Rattle.table_schema.specs.CodedIndexes.{IsCoded}
 use Rattle.sig_grammar.specs.declared.element.Element.{Element}
 use Rattle.sig_grammar.specs.declared.element.Element.TheVariants.{Boolean, Char, I1, U1, I2, U2, I4, U4, I8, U8, R4, R8, String, I, U, Object}
@@ -17,54 +16,6 @@ use Rattle.sig_grammar.specs.Parts.{EncodesParts, IsIndex, Part, byte, index, nu
 use Rattle.sig_grammar.specs.Reading.{index_at, number_at, token_of}
 use Rattle.sig_grammar.specs.Syntax.{Body, Core, array, by_ref, class, field, function, instance, instance_body, locals, method_body, mvar, plain, pointer, property, simple, slot, some_ret, type_spec, typed_ref, value, var, vector, void_pointer, void_ret}
 use Rattle.cli_paths.specs.declared.refs.Wanted.{Wanted}
-use Rattle.cli_paths.proofs.PathLemmas.{one_name}
-
--- a text is the full name of one type
-module _ (model : Metadata) (part a n : List ℕ) (row : ℕ) (full : IsFullName part a n) where
-  pub ref_namespace : cell_in model TypeRef row 1 ≡ Text n → (test : Bool) → IsTrue test ↔ (cell_in model TypeRef row 2 ≡ Text a) → IsTrue test ↔ HasRefName model part row
-  ref_namespace named test iff =
-      (λ yes. (a, n, full, named, iff.0 yes), λ own. iff.1 (own.4 ∙ ap (λ t. Text t) (one_name part own.0 a own.1 n own.2 full).0))
-
-  pub ref_no_name : (test : Bool) → test ≡ false → IsTrue test ↔ (cell_in model TypeRef row 1 ≡ Text n) → IsTrue test ↔ HasRefName model part row
-  ref_no_name test fails iff =
-      (λ yes. absurd cc, λ own. iff.1 (own.3 ∙ ap (λ t. Text t) (one_name part own.0 a own.1 n own.2 full).1))
-
--- at most one TypeRef encloses another
-row_of : Cell → ℕ
-row_of (Ref (Some token)) = token.row
-row_of _ = 0
-
-one_scope : (model : Metadata) (row a b : ℕ) → IsScope model row a → IsScope model row b → a ≡ b
-unfolding row_of
-one_scope model row a b p q = ap row_of (sym p ∙ q)
-
-module _ (model : Metadata) (parts : List (List ℕ)) where
-  -- the enclosing TypeRef is looked at next
-  pub ref_step : (k row outer : ℕ) → HasRefName model (slice_index_or parts (suc k) []) row → IsScope model row outer → IsRefAt model parts (suc k) row ↔ IsRefAt model parts k outer
-  ref_step k row outer name scope =
-      (λ at. subst (λ (o : ℕ). IsRefAt model parts k o) (one_scope model row at.1.0 outer at.1.1 scope) at.1.2, λ at. (name, (outer, scope, at)))
-
-  pub ref_named : (k row : ℕ) → IsRefAt model parts k row → HasRefName model (slice_index_or parts k []) row
-  ref_named zero row at = at.0
-  ref_named (suc k) row at = at.0
-
-  pub ref_scoped : (k row : ℕ) → IsRefAt model parts (suc k) row → ((outer : ℕ) → ¬ IsScope model row outer) → ⊥
-  ref_scoped k row at none = none at.1.0 at.1.1
-
-  -- no other TypeRef encloses it
-  pub none_decides : (row : ℕ) (found : Option ℕ) (test : Bool) → is_some found ≡ not test → IfSome found (IsScope model row) → IfNone found ((outer : ℕ) → ¬ IsScope model row outer)
-      → IsTrue test ↔ ((outer : ℕ) → ¬ IsScope model row outer)
-  none_decides row None true is some none = ((λ yes. none), (λ outermost. refl))
-  none_decides row None false is some none = absurd cc
-  none_decides row (Some outer) true is some none = absurd cc
-  none_decides row (Some outer) false is some none = ((λ yes. absurd cc), (λ outermost. absurd (outermost outer some)))
-
--- a part of a path, as a list of texts has it
-pub part_text : (parts : List (Bor (List ℕ))) (k : ℕ) (d : Bor (List ℕ)) → k < length parts
-    → slice_index_or (map (λ (part : Bor (List ℕ)). part.now) parts) k [] ≡ (get_or parts k d).now
-part_text parts k d lt =
-    let long = length-map parts (λ (part : Bor (List ℕ)). part.now) in
-    get_or_default (map (λ (part : Bor (List ℕ)). part.now) parts) k [] d.now (omega (arith, long, lt)) ∙ get_or-map (λ (part : Bor (List ℕ)). part.now) parts k d
 
 -- ---- the generic type in the bytes of a signature
 

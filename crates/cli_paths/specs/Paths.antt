@@ -1,10 +1,11 @@
 -- The type that a path means: the names of the types that enclose it, the outermost first, and its own, with slashes between them
 -- (ECMA-335 II.22.32 and II.22.37).
-use Rattle.std.specs.Prelude.{◌≡◌, ◌≢◌, ◌==◌, ℕ, zero, suc, ◌+◌, ◌-◌, ◌<◌, ◌≤◌, ◌⊎◌, Bool, List, [], length, Option, None, Some, IfSome, slice_index, slice_index_or, EachIndex}
+use Rattle.std.specs.Prelude.{◌≡◌, ◌≢◌, ◌==◌, ◌↔◌, ℕ, zero, suc, ◌+◌, ◌<◌, ◌≤◌, ◌⊎◌, Bool, List, [], length, Option, None, Some, IfNone, IfSome, IsNone, slice_index, slice_index_or, EachIndex}
 use Rattle.std.specs.List.{slice_split}
+use Rattle.table_schema.specs.declared.table.TableId.{TableId}
 use Rattle.table_schema.specs.declared.table.TableId.TheVariants.{TypeDef}
 use Rattle.metadata.specs.Cell.{Text}
-use Rattle.metadata.specs.Lookups.{HasNames, HasRow}
+use Rattle.metadata.specs.Lookups.{HasRow}
 use Rattle.metadata.specs.Metadata.{Metadata, cell_in}
 use Rattle.full_names.specs.Names.{IsOuter}
 use Rattle.cli_names.specs.Names.{IsFullName}
@@ -16,55 +17,49 @@ is_slash byte = byte == 47
 abbrev pub IsBare : List ℕ → Type 0
 IsBare path = EachIndex path (λ k. (slice_index path k ≢ 46) × (slice_index path k ≢ 47))
 
--- a type has the name that a part of a path is, after its namespace and a dot
-abbrev pub HasOwnName : Metadata → List ℕ → ℕ → Type 0
-HasOwnName model part row = (namespace name : List ℕ) × IsFullName part namespace name × HasNames model namespace name row
+-- a row of TypeDef or TypeRef has the name that a part of a path is, after its namespace and a dot
+abbrev pub HasOwnName : Metadata → TableId → List ℕ → ℕ → Type 0
+HasOwnName model table part row =
+    (namespace name : List ℕ) × IsFullName part namespace name × (cell_in model table row 1 ≡ Text name) × (cell_in model table row 2 ≡ Text namespace)
 
--- the first parts of a path, this many, are the names of the types that enclose a type
-abbrev pub IsWithin : Metadata → List (List ℕ) → ℕ → ℕ → Type 0
-IsWithin model parts zero row = (outer : ℕ) → ¬ IsOuter model row outer
-IsWithin model parts (suc depth) row =
-    (outer : ℕ) × IsOuter model row outer × HasOwnName model (slice_index_or parts depth []) outer × IsWithin model parts depth outer
+-- what is outside of a row, if something is
+abbrev pub IsAround : (ℕ → ℕ → Type 0) → ℕ → Option ℕ → Type 0
+IsAround is_outside row found = IfSome found (is_outside row) × IfNone found ((outer : ℕ) → ¬ is_outside row outer)
 
--- a part of a path is the name of a type, and the parts before it are the names of the types that enclose it
-abbrev pub IsAt : Metadata → List (List ℕ) → ℕ → ℕ → Type 0
-IsAt model parts index row = (index < length parts) × HasOwnName model (slice_index_or parts index []) row × IsWithin model parts index row
+-- the first parts of a path, this many, are the names of a row and of those outside of it; none are those of no row
+abbrev pub HasParts : (ℕ → ℕ → Type 0) → (List ℕ → ℕ → Type 0) → List (List ℕ) → ℕ → Option ℕ → Type 0
+HasParts is_outside has_name parts zero found = IsNone found
+HasParts is_outside has_name parts (suc count) None = ⊥
+HasParts is_outside has_name parts (suc count) (Some row) =
+    has_name (slice_index_or parts count []) row × (outer : Option ℕ) × IsAround is_outside row outer × HasParts is_outside has_name parts count outer
 
--- the index of that part, if there is one
-pub record IsPartOf (model : Metadata) (parts : List (List ℕ)) (row : ℕ) (found : Option ℕ) : Type 0 where
-  pub sound : IfSome found (λ index. IsAt model parts index row)
-  pub complete : (index : ℕ) → IsAt model parts index row → found ≡ Some index
-
--- those of the types from the first row on
-abbrev pub ArePartsOf : Metadata → List (List ℕ) → List (Option ℕ) → Type 0
-ArePartsOf model parts found = (row : ℕ) → row < length found → IsPartOf model parts (row + 1) (slice_index_or found row None)
-
--- indexes, if there are any, are below a limit
-abbrev pub AreBelow : ℕ → List (Option ℕ) → Type 0
-AreBelow limit found = (k : ℕ) → k < length found → IfSome (slice_index_or found k None) (λ index. index < limit)
+abbrev pub HasTypeParts : Metadata → List (List ℕ) → ℕ → Option ℕ → Type 0
+HasTypeParts model parts count class = HasParts (IsOuter model) (HasOwnName model TypeDef) parts count class
 
 -- a type has a path
 abbrev pub HasPath : Metadata → List ℕ → ℕ → Type 0
-HasPath model path row = let parts = slice_split is_slash path in IsAt model parts (length parts - 1) row
+HasPath model path row = let parts = slice_split is_slash path in HasTypeParts model parts (length parts) (Some row)
 
--- the first type with a path
-pub record IsFirstAt (model : Metadata) (path : List ℕ) (row : ℕ) : Type 0 where
+-- how many of the first parts are the names of a type and of those that enclose it, if it is on the path; for private clauses
+abbrev pub IsMatched : Metadata → List (List ℕ) → Option ℕ → Option ℕ → Type 0
+IsMatched model parts class found = (count : ℕ) → count ≤ length parts → HasTypeParts model parts count class ↔ (found ≡ Some count)
+
+-- that of the types from the first row on
+abbrev pub AreMatched : Metadata → List (List ℕ) → List (Option ℕ) → Type 0
+AreMatched model parts found = (row : ℕ) → row < length found → IsMatched model parts (Some (row + 1)) (slice_index_or found row None)
+
+-- the first type after a row that has a property
+pub record IsNext (model : Metadata) (Has : ℕ → Type 0) (after row : ℕ) : Type 0 where
   pub there : HasRow model TypeDef row
-  pub has : HasPath model path row
-  pub first : (earlier : ℕ) → 1 ≤ earlier → earlier < row → ¬ HasPath model path earlier
+  pub later : after < row
+  pub has : Has row
+  pub first : (earlier : ℕ) → earlier < row → after < earlier → ¬ Has earlier
 
 -- a type has this name, in whatever namespace or type
 abbrev pub HasName : Metadata → List ℕ → ℕ → Type 0
 HasName model name row = cell_in model TypeDef row 1 ≡ Text name
 
--- the first such type after a row
-pub record IsNextNamed (model : Metadata) (name : List ℕ) (after row : ℕ) : Type 0 where
-  pub there : HasRow model TypeDef row
-  pub later : after < row
-  pub named : HasName model name row
-  pub first : (earlier : ℕ) → after < earlier → earlier < row → ¬ HasName model name earlier
-
--- the only such type
+-- the only type with this name
 pub record IsOnly (model : Metadata) (name : List ℕ) (row : ℕ) : Type 0 where
   pub there : HasRow model TypeDef row
   pub named : HasName model name row
@@ -73,5 +68,5 @@ pub record IsOnly (model : Metadata) (name : List ℕ) (row : ℕ) : Type 0 wher
 -- the type that a path means: the first that has it; or else the only type with this name, if the path is a name alone
 abbrev pub IsMeant : Metadata → List ℕ → ℕ → Type 0
 IsMeant model path row =
-    IsFirstAt model path row
+    IsNext model (HasPath model path) 0 row
     ⊎ (((other : ℕ) → HasRow model TypeDef other → ¬ HasPath model path other) × IsBare path × IsOnly model path row)

@@ -1,5 +1,5 @@
 -- The types of other modules that an argument means, and what the assembly refers to of them (ECMA-335 II.22.25 and II.22.38).
-use Rattle.std.specs.Prelude.{◌≡◌, ◌≤◌, ◌↔◌, ◌==◌, ℕ, zero, suc, ◌-◌, if◌then◌else◌, List, [], ◌∷◌, length, map, option_and_then, option_map, Option, None, Some, slice_index_or}
+use Rattle.std.specs.Prelude.{◌≡◌, ◌↔◌, ◌==◌, ℕ, if◌then◌else◌, List, [], ◌∷◌, length, map, option_and_then, option_map, Option, None, Some}
 use Rattle.std.specs.List.{slice_split}
 use Rattle.table_schema.specs.declared.table.TableId.{TableId}
 use Rattle.table_schema.specs.declared.table.TableId.TheVariants.{MemberRef, TypeRef, TypeSpec}
@@ -7,32 +7,20 @@ use Rattle.table_schema.specs.declared.token.Token.{Token}
 use Rattle.sig_grammar.specs.ElementTypes.{GENERICINST}
 use Rattle.sig_grammar.specs.Reading.{index_at}
 use Rattle.sig_grammar.specs.Syntax.{Body, instance, plain, slot, some_ret, type_spec}
-use Rattle.metadata.specs.Cell.{Cell, Sig, Text}
+use Rattle.metadata.specs.Cell.{Cell, Sig}
 use Rattle.metadata.specs.Lookups.{HasRow}
 use Rattle.metadata.specs.Metadata.{Metadata, cell_in}
 use Rattle.navigation.specs.Cells.{reference_in}
 use Rattle.navigation.specs.Nesting.{IsScope}
-use Rattle.cli_names.specs.Names.{IsFullName}
 use Rattle.cli_paths.specs.declared.refs.Wanted.{Wanted}
 use Rattle.cli_paths.specs.declared.refs.Wanted.TheVariants as wanted
 use Rattle.cli_paths.specs.declared.subject.Subject.{Subject}
 use Rattle.cli_paths.specs.declared.subject.Subject.TheVariants.{Path, Row}
-use Rattle.cli_paths.specs.Paths.{is_slash}
-
--- a TypeRef has the name that a part of a path is, after its namespace and a dot
-abbrev pub HasRefName : Metadata → List ℕ → ℕ → Type 0
-HasRefName model part row =
-    (namespace name : List ℕ) × IsFullName part namespace name × (cell_in model TypeRef row 1 ≡ Text name) × (cell_in model TypeRef row 2 ≡ Text namespace)
-
--- a part of a path is the name of a TypeRef, and the parts before it are the names of the TypeRefs that enclose it
-abbrev pub IsRefAt : Metadata → List (List ℕ) → ℕ → ℕ → Type 0
-IsRefAt model parts zero row = HasRefName model (slice_index_or parts 0 []) row × ((outer : ℕ) → ¬ IsScope model row outer)
-IsRefAt model parts (suc index) row =
-    HasRefName model (slice_index_or parts (suc index) []) row × ((outer : ℕ) × IsScope model row outer × IsRefAt model parts index outer)
+use Rattle.cli_paths.specs.Paths.{HasOwnName, HasParts, is_slash}
 
 -- a TypeRef has a path that consists of these parts
 abbrev pub HasRefParts : Metadata → List (List ℕ) → ℕ → Type 0
-HasRefParts model parts row = (1 ≤ length parts) × IsRefAt model parts (length parts - 1) row
+HasRefParts model parts row = HasParts (IsScope model) (HasOwnName model TypeRef) parts (length parts) (Some row)
 
 -- a TypeRef is meant: it has the path, or it is the row with this token
 abbrev pub IsMeantRef : Metadata → Subject → ℕ → Type 0

@@ -1,5 +1,5 @@
 //! The types of other modules that an argument means, and what belongs to them (II.22.25, II.22.38).
-ghost use Rattle.std.specs.Prelude.{◌≡◌, ◌≤◌, ◌<◌, ◌↔◌, IfOk, IsTrue, length, map};
+ghost use Rattle.std.specs.Prelude.{◌≡◌, ◌≤◌, ◌↔◌, IfOk, IsTrue, map};
 ghost use Rattle.table_schema.specs.declared.column.SigKind.TheVariants as kind;
 ghost use Rattle.table_schema.specs.declared.table.TableId.TheVariants.{TypeRef, TypeSpec};
 ghost use Rattle.sig_grammar.specs.Encodes.{Encodes};
@@ -8,23 +8,16 @@ ghost use Rattle.metadata.specs.Lookups.{HasRow};
 ghost use Rattle.metadata.specs.Metadata.{Metadata, cell_in};
 ghost use Rattle.metadata.specs.Model.{IsModel};
 ghost use Rattle.opening.specs.Views.{row_count};
-ghost use Rattle.cli_paths.specs.Refs.{BelongsTo, HasRefName, HasRefParts, HasSome, IsRefAt, IsWantedRef, Wants, generic_at, generic_in, generic_of as generic_type, type_of_parent, type_of_ref};
+ghost use Rattle.cli_paths.specs.Refs.{BelongsTo, HasRefParts, HasSome, IsWantedRef, Wants, generic_at, generic_in, generic_of as generic_type, type_of_parent, type_of_ref};
 
-use crate::path::parts_of;
+use crate::path::{has_own_name, parts_of};
 use crate::subject::Subject;
-use cli_names::names_of_type;
 use full_names::member_parent;
 use navigation::enclosing_type_ref;
 use opening::{CellRef, ReadMetadata, TableId, Token, View};
 use sig_grammar::element_type::GENERICINST;
 use sig_recogniser::{byte, index};
 use std::alloc::{AllocError, Global};
-
-/// The cell of a TypeRef's name (II.22.38).
-const NAME: usize = 1;
-
-/// The cell of a TypeRef's namespace (II.22.38).
-const NAMESPACE: usize = 2;
 
 /// The cell of the signature of a TypeSpec (II.22.39).
 const TYPE_SIGNATURE: usize = 0;
@@ -48,57 +41,31 @@ pub fn wanted_types<'p>(alloc: Global, subject: Subject<'p>) -> Result<Wanted<'p
     ensures { IfOk result (λ found. (model : Metadata) → Wants model subject.entry found) }
 {
     match subject {
-        Subject::Path(path) => {
-            let parts = parts_of(alloc, path)?;
-            Ok(Wanted::Path(parts))
-        }
+        Subject::Path(path) => Ok(Wanted::Path(parts_of(alloc, path)?)),
         Subject::Row(token) => Ok(Wanted::Row(token)),
     }
 }
 
-/// Whether a TypeRef has the name that a part of a path is, after its namespace and a dot.
+/// Whether these parts of a path are the names of a TypeRef and of those that enclose it. The scopes of TypeRefs may go in a
+/// circle, but no more of them are looked at than there are parts.
 #[tactic(auto, unfolding(table_schema::specs::CellColumns::cell_columns))]
-fn has_ref_name(view: &View<'_>, row: u32, part: &str) -> bool
-    requires first { 1 ≤ row }
-    requires last { row ≤ row_count view.now TypeRef }
-    ensures { (model : Metadata) → IsModel view.now model → IsTrue result ↔ HasRefName model part.now row }
-{
-    let (namespace, name) = names_of_type(part);
-    view.is_text(TableId::TypeRef, row, NAME, name)
-        && view.is_text(TableId::TypeRef, row, NAMESPACE, namespace)
-}
-
-/// Whether the part at an index of a path is the name of a TypeRef, and the parts before it are the names of those that enclose
-/// it. The scopes of TypeRefs may go in a circle, but no more of them are looked at than there are parts.
-fn is_ref_at(view: &View<'_>, parts: &[&str], top: usize, row: u32) -> bool
-    requires within { top < length parts.now }
-    requires first { 1 ≤ row }
-    requires last { row ≤ row_count view.now TypeRef }
-    ensures { (model : Metadata) → IsModel view.now model → IsTrue result ↔ IsRefAt model (map (λ part. part.now) parts.now) top row }
-{
-    let mut inner = row;
-    for below in 0..top {
-        if !has_ref_name(view, inner, parts[top - below]) {
-            return false;
-        }
-        match enclosing_type_ref(view, inner) {
-            Some(outer) => inner = outer,
-            None => return false,
-        }
-    }
-    has_ref_name(view, inner, parts[0]) && enclosing_type_ref(view, inner).is_none()
-}
-
-/// Whether a TypeRef has a path that consists of these parts.
 fn has_ref_parts(view: &View<'_>, parts: &[&str], row: u32) -> bool
     requires first { 1 ≤ row }
     requires last { row ≤ row_count view.now TypeRef }
     ensures { (model : Metadata) → IsModel view.now model → IsTrue result ↔ HasRefParts model (map (λ part. part.now) parts.now) row }
 {
-    if parts.is_empty() {
-        return false;
+    let mut left = Some(row);
+    for below in 0..parts.len() {
+        let Some(inner) = left else {
+            return false;
+        };
+        let part = parts[parts.len() - 1 - below];
+        if !has_own_name(view, TableId::TypeRef, inner, part) {
+            return false;
+        }
+        left = enclosing_type_ref(view, inner);
     }
-    is_ref_at(view, parts, parts.len() - 1, row)
+    left.is_none()
 }
 
 /// Whether a TypeRef exists and is wanted.

@@ -1,5 +1,7 @@
 -- The structures that a loop looks at.
-use Rattle.cli_regions.proofs.Prelude.{◌≡◌, ℕ, ◌+◌, ◌-◌, ◌<◌, ◌≤◌, List, [], ◌∷◌, ◌++◌, ap, sym, suc, arith, range_with_len, Adds, Searched, Region}
+use Rattle.std.proofs.Common.{◌≡◌, List, [], ◌++◌, sym}
+use Rattle.cli_regions.specs.Kept.{Adds, Searched}
+use Rattle.cli_regions.specs.Regions.{Region}
 use Rattle.cli_regions.proofs.SearchLemmas.{adds_none, and_then, said_as}
 
 -- if what is left is looked at, too, the search has looked at all
@@ -14,12 +16,3 @@ more_left left tail completes next is = λ later more. completes later (said_as 
 -- nothing is left
 pub none_left : {start now : Searched} {all : List Region} (left : List Region) → Completes start now left all → left ≡ [] → Adds start now all
 none_left {start} {now} left completes none = completes now (said_as (adds_none now) (sym none))
-
--- the numbers that are left
-pub range_next : (i n : ℕ) → i < n → range_with_len i (n - i) ≡ i ∷ range_with_len (i + 1) (n - (i + 1))
-range_next i n lt =
-    let one_less : n - i ≡ suc (n - (i + 1)) = omega (arith, lt) in
-    ap (λ (k : ℕ). range_with_len i k) one_less
-
-pub range_end : (i n : ℕ) → n ≤ i → range_with_len i (n - i) ≡ []
-range_end i n le = let none : n - i ≡ 0 = omega (arith, le) in ap (λ (k : ℕ). range_with_len i k) none

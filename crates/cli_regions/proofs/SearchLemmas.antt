@@ -1,5 +1,8 @@
 -- What a search keeps.
-use Rattle.cli_regions.proofs.Prelude.{◌≡◌, ◌∙◌, ℕ, true, false, List, [], ◌∷◌, ◌++◌, refl, ap, subst, sym, cond, append_assoc, append-nil, filter-append, Adds, Joins, Searched, Region, has_byte, regions_at}
+use Rattle.std.proofs.Common.{◌≡◌, ◌∙◌, ℕ, List, [], ◌++◌, refl, ap, subst, sym, append_assoc, append-nil}
+use Rattle.std.proofs.lemmas.List.Elements.{filter-append}
+use Rattle.cli_regions.specs.Kept.{Adds, Joins, Searched}
+use Rattle.cli_regions.specs.Regions.{Region, has_byte, regions_at}
 
 pub joins_none : (search : Searched) → Joins search search []
 joins_none search = record { offset = refl; found = λ found is. (found, is, sym (append-nil found)) }
@@ -21,21 +24,9 @@ adds_none search = record { joins = joins_none search }
 pub and_then : {old between new : Searched} {xs ys : List Region} → Adds old between xs → Adds between new ys → Adds old new (xs ++ ys)
 unfolding regions_at
 and_then {old} {between} {new} {xs} {ys} first later =
-    let has = λ (offset : ℕ) (of : Region). has_byte of.start of.size offset in
-    record {
-      joins = subst (λ (zs : List Region). Joins old new zs)
-          (ap (λ (offset : ℕ). regions_at old.offset xs ++ regions_at offset ys) first.joins.offset ∙ sym (filter-append (has old.offset) xs ys))
-          (joins_more first.joins later.joins);
-    }
+    let there = subst (λ (offset : ℕ). Joins between new (regions_at offset ys)) first.joins.offset later.joins in
+    record { joins = rw (filter-append (λ (of : Region). has_byte of.start of.size old.offset) xs ys) (joins_more first.joins there) }
 
 -- the same structures by another name
 pub said_as : {old new : Searched} {xs ys : List Region} → Adds old new xs → xs ≡ ys → Adds old new ys
 said_as {old} {new} {xs} {ys} adds is = subst (λ (zs : List Region). Adds old new zs) is adds
-
-pub one_kept : {old new : Searched} {of : Region} → has_byte of.start of.size old.offset ≡ true → Joins old new (of ∷ []) → Adds old new (of ∷ [])
-unfolding regions_at
-one_kept {old} {new} {of} is joins = record { joins = subst (λ b. Joins old new (cond b (of ∷ []) [])) (sym is) joins }
-
-pub none_kept : (search : Searched) (of : Region) → has_byte of.start of.size search.offset ≡ false → Adds search search (of ∷ [])
-unfolding regions_at
-none_kept search of is = record { joins = subst (λ b. Joins search search (cond b (of ∷ []) [])) (sym is) (joins_none search) }

@@ -58,7 +58,5 @@ IsUnfound file name (Outside of) =
     (of ≡ resource_in of.row) × OfFile file (λ header model. IsFirstNamed model name of.row × IsNowhere file header model of.row)
 
 -- what was found of a file that was opened: it has a model, which is that of the view, and this is its resources directory
-pub record IsOpened (file : List ℕ) (opened : Opened) : Type 0 where
-  pub whole : IsWhole input.File file
-  pub directory : (header : CliHeader) (model : Metadata) → IsModelOfFile file header model → IsDirectoryOf file header opened.directory
-  pub model : (header : CliHeader) (model : Metadata) → IsModelOfFile file header model → IsModel opened.view model
+abbrev pub IsOpened : List ℕ → Opened → Type 0
+IsOpened file opened = OfFile file (λ header model. IsDirectoryOf file header opened.directory × IsModel opened.view model)

@@ -3,7 +3,7 @@ ghost use Rattle.std.specs.Prelude.{◌≡◌, ◌≤◌, ◌∷◌, []};
 ghost use Rattle.cli_lines.specs.Lines.{field, text as is_text};
 ghost use Rattle.cli_lines.specs.Printed.{Prints};
 ghost use Rattle.cli_lines.specs.Shown.{shown_value};
-ghost use Rattle.cli_resources.specs.ResourceLines.{elsewhere_line, here_line, holder, resource_line, visibility};
+ghost use Rattle.cli_resources.specs.ResourceLines.{holder, resource_line, visibility};
 ghost use Rattle.metadata.specs.Metadata.{Metadata};
 ghost use Rattle.metadata.specs.Model.{IsModel};
 ghost use Rattle.opening.specs.Views.{row_count};
@@ -16,7 +16,7 @@ use cli_lines::Part::{Close, Field, Member, Open, Word};
 use cli_lines::Value::{Hex, Number, Plain, Text};
 use cli_lines::{Name, Printer, Value};
 use opening::View;
-use resources::{Content, Location, TableId, Token};
+use resources::{Location, TableId, Token};
 use std::io::Write;
 
 /// The indexes of the cells with the flags and the name of a resource (II.22.24).
@@ -68,58 +68,6 @@ fn holder<'a>(view: &View<'a>, of: Token) -> (Name, &'a str)
     }
 }
 
-/// Prints the line of a resource in this file.
-#[tactic(auto, unfolding(crate::specs::ResourceLines::here_line))]
-fn print_here<W: Write>(
-    row: Token,
-    content: Content<'_>,
-    flags: u32,
-    name: &str,
-    out: &mut Printer<'_, W>,
-)
-    ensures { Prints out.old out.new (here_line row content.entry.offset content.entry.bytes.now flags name.now ∷ []) }
-{
-    let size = content.bytes.len() as u64;
-    out.line(&[
-        Open(Name::Resource),
-        Member(Name::Token, Value::Token(row)),
-        Word("resource "),
-        Field(Name::Offset, Number(content.offset)),
-        Word(" "),
-        Field(Name::Size, Number(size)),
-        Word(" "),
-        Field(Name::Visibility, visibility(flags)),
-        Word(" "),
-        Field(Name::Name, Text(name)),
-        Close,
-    ]);
-}
-
-/// Prints the line of a resource in the file or the assembly with this name.
-#[tactic(auto, unfolding(crate::specs::ResourceLines::elsewhere_line))]
-fn print_elsewhere<'a, W: Write>(
-    row: Token,
-    holder: (Name, &'a str),
-    flags: u32,
-    name: &'a str,
-    out: &mut Printer<'_, W>,
-)
-    ensures { Prints out.old out.new (elsewhere_line row (field holder.entry.0 (is_text holder.entry.1.now)) flags name.now ∷ []) }
-{
-    let (member, holder_name) = holder;
-    out.line(&[
-        Open(Name::Resource),
-        Member(Name::Token, Value::Token(row)),
-        Word("resource in "),
-        Field(member, Text(holder_name)),
-        Word(" "),
-        Field(Name::Visibility, visibility(flags)),
-        Word(" "),
-        Field(Name::Name, Text(name)),
-        Close,
-    ]);
-}
-
 /// Prints the line of the resource in a row, which is at this location.
 #[tactic(auto, unfolding(table_schema::specs::CellColumns::cell_columns))]
 pub(crate) fn print_resource<W: Write>(
@@ -137,7 +85,35 @@ pub(crate) fn print_resource<W: Write>(
     let name = text(view, TableId::ManifestResource, row, NAME);
     let token = resource_in(row);
     match location {
-        Location::Here(content) => print_here(token, content, flags, name, out),
-        Location::Elsewhere(of) => print_elsewhere(token, holder(view, of), flags, name, out),
+        Location::Here(content) => {
+            let size = content.bytes.len() as u64;
+            out.line(&[
+                Open(Name::Resource),
+                Member(Name::Token, Value::Token(token)),
+                Word("resource "),
+                Field(Name::Offset, Number(content.offset)),
+                Word(" "),
+                Field(Name::Size, Number(size)),
+                Word(" "),
+                Field(Name::Visibility, visibility(flags)),
+                Word(" "),
+                Field(Name::Name, Text(name)),
+                Close,
+            ]);
+        }
+        Location::Elsewhere(of) => {
+            let (member, holder_name) = holder(view, of);
+            out.line(&[
+                Open(Name::Resource),
+                Member(Name::Token, Value::Token(token)),
+                Word("resource in "),
+                Field(member, Text(holder_name)),
+                Word(" "),
+                Field(Name::Visibility, visibility(flags)),
+                Word(" "),
+                Field(Name::Name, Text(name)),
+                Close,
+            ]);
+        }
     }
 }

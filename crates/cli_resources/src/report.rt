@@ -1,36 +1,21 @@
 //! `clim resources FILE`: where each resource is.
-ghost use Rattle.std.specs.Prelude.{◌≡◌, ◌≤◌, ◌∷◌, [], ℕ, List, IfErr, IfNone, IfSome, MatchBool, OnErr, OnOk};
+ghost use Rattle.std.specs.Prelude.{◌≡◌, ℕ, List, IfErr, IfNone, IfSome, OnErr, OnOk};
 ghost use Rattle.cli_header.specs.declared.header.CliHeader.{CliHeader as Header};
 ghost use Rattle.cli_input.specs.Checked.{IsWhole};
 ghost use Rattle.cli_input.specs.declared.opened.Input.TheVariants.{File};
 ghost use Rattle.cli_lines.specs.Printed.{Prints};
-ghost use Rattle.cli_resources.specs.ResourceLines.{AreLocations, resource_line, resource_lines};
-ghost use Rattle.cli_resources.specs.Unfound.{AreAllLocated, IsFirstOutside, IsNowhere, IsLocated, IsUnlisted};
+ghost use Rattle.cli_resources.specs.ResourceLines.{AreLocations, resource_lines};
+ghost use Rattle.cli_resources.specs.Unfound.{AreAllLocated, IsFirstOutside, IsUnlisted};
 ghost use Rattle.metadata.specs.Metadata.{Metadata};
 ghost use Rattle.metadata.specs.Model.{IsModel, IsModelOfFile};
-ghost use Rattle.opening.specs.Views.{row_count};
-ghost use Rattle.resources.specs.Resources.{IsDirectoryOf, IsLocation, Where};
-ghost use Rattle.table_schema.specs.declared.table.TableId.TheVariants.{ManifestResource};
+ghost use Rattle.resources.specs.Resources.{IsDirectoryOf, Where};
 
 use crate::lines::print_resource;
 use crate::opened::{Unfound, open_file, resource_in};
 use cli_lines::Printer;
 use opening::View;
-use resources::{Directory, NotWithin, TableId, location_of};
+use resources::{Directory, TableId, location_of};
 use std::io::Write;
-
-/// Whether the resource in a row is in this file, and is not within the resources directory.
-fn is_outside(directory: Option<Directory<'_>>, view: &View<'_>, row: u32) -> bool
-    requires first { 1 ≤ row }
-    requires last { row ≤ row_count view.now ManifestResource }
-    ensures { (file : List ℕ) (header : Header) (model : Metadata) → IsDirectoryOf file header directory.entry → IsModel view.now model
-        → MatchBool result (IsNowhere file header model row) (IsLocated file header model row) }
-{
-    match location_of(directory, view, row) {
-        Ok(_) => false,
-        Err(NotWithin) => true,
-    }
-}
 
 /// The first row whose resource is in this file, and is not within the resources directory.
 fn first_outside(directory: Option<Directory<'_>>, view: &View<'_>) -> Option<u32>
@@ -40,29 +25,11 @@ fn first_outside(directory: Option<Directory<'_>>, view: &View<'_>) -> Option<u3
         → IfNone result (AreAllLocated file header model) }
 {
     for row in 1..view.count(TableId::ManifestResource) + 1 {
-        if is_outside(directory, view, row) {
+        let Ok(_) = location_of(directory, view, row) else {
             return Some(row);
-        }
+        };
     }
     None
-}
-
-/// Prints the line of the resource in a row, which is somewhere.
-fn print_row<W: Write>(
-    directory: Option<Directory<'_>>,
-    view: &View<'_>,
-    row: u32,
-    out: &mut Printer<'_, W>,
-)
-    requires first { 1 ≤ row }
-    requires last { row ≤ row_count view.now ManifestResource }
-    ensures { (file : List ℕ) (header : Header) (model : Metadata) → IsDirectoryOf file header directory.entry → IsModel view.now model
-        → (location : Where) → IsLocation file header model row location → Prints out.old out.new (resource_line model row location ∷ []) }
-{
-    match location_of(directory, view, row) {
-        Ok(location) => print_resource(view, row, location, out),
-        Err(NotWithin) => {}
-    }
 }
 
 /// Prints the lines of all rows. The resource in each is somewhere.
@@ -71,8 +38,12 @@ fn print_rows<W: Write>(directory: Option<Directory<'_>>, view: &View<'_>, out: 
         → (locations : ℕ → Where) → AreLocations file header model locations → Prints out.old out.new (resource_lines model locations) }
 {
     cli_lines::laws::rows_follow::<W>();
-    for earlier in 0..view.count(TableId::ManifestResource) {
-        print_row(directory, view, earlier + 1, out);
+    let count = view.count(TableId::ManifestResource);
+    for earlier in 0..count {
+        let Ok(location) = location_of(directory, view, earlier + 1) else {
+            return;
+        };
+        print_resource(view, earlier + 1, location, out);
     }
 }
 

@@ -1,9 +1,8 @@
-use Rattle.cli_found.proofs.Prelude.{◌∙◌, ap, sym, option_map, seen, Region, cell_of}
-use Rattle.std.specs.Prelude.{option_and_then}
+use Rattle.std.proofs.Common.{refl}
 use Rattle.cli_found.proofs.lines.innermost.Goals as goal
 
-pub returns-in-Some : goal.returns-in-Some
-returns-in-Some c = c.cell_of.ensures ∙ ap (option_and_then (λ (of : Region). cell_of of.what)) (ap (option_map seen) (sym c.in-Some.is) ∙ c.last_of.ensures)
+pub returns-in_err-last_of : goal.returns-in_err-last_of
+returns-in_err-last_of c = rw (c.from_residual.ensures, ← c.last_of.ensures, c.in_err-last_of.was) refl
 
-pub returns-in-None : goal.returns-in-None
-returns-in-None c = ap (option_and_then (λ (of : Region). cell_of of.what)) (ap (option_map seen) (sym c.in-None.is) ∙ c.last_of.ensures)
+pub returns : goal.returns
+returns c = rw (← c.last_of.ensures, c.in_ok-last_of.was) c.cell_of.ensures

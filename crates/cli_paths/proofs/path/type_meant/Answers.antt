@@ -1,23 +1,17 @@
-use Rattle.cli_paths.proofs.Prelude.{inl, inr, IsMeant, IsOnly}
-use Rattle.cli_paths.proofs.PathLemmas.{not_meant}
-use Rattle.cli_paths.proofs.SubjectLemmas.{on_none, on_some}
+use Rattle.cli_paths.proofs.Prelude.{ℕ, inl, inr, List, TypeDef, HasRow, Metadata, HasPath, IsBare, IsMeant, IsOnly}
 use Rattle.cli_paths.proofs.path.type_meant.Goals as goal
+
+not_meant : (model : Metadata) (path : List ℕ) → ((row : ℕ) → HasRow model TypeDef row → ¬ HasPath model path row) → (IsBare path → (row : ℕ) → ¬ IsOnly model path row) → (row : ℕ) → ¬ IsMeant model path row
+not_meant model path none not_only row meant = elim meant [ inl first ↦ none row first.there first.has | inr only ↦ not_only only.1 row only.2 ]
 
 pub returns-in-Some-clause-sound : goal.returns-in-Some-clause-sound
 returns-in-Some-clause-sound c = λ model is. inl (rw c.in-Some.is at (c.in_ok-row.ensures.sound model is))
 
-pub returns-in-None-clause-sound : goal.returns-in-None-clause-sound
-returns-in-None-clause-sound c = λ model is.
-    let none = rw c.in-None.is at (c.in_ok-row.ensures.none model is) in
-    on_some (IsOnly model c.args.path.now) (IsMeant model c.args.path.now) c.only_named.result (c.only_named.ensures.sound model is)
-    (λ row only. inr (none, c.is_bare.ensures.0 c.if-is_bare.true, only))
+pub returns-then-not-is_bare-clause-none : goal.returns-then-not-is_bare-clause-none
+returns-then-not-is_bare-clause-none c = λ model is.
+    not_meant model c.args.path.now (rw c.in_default.is at (c.in_ok-row.ensures.none model is)) (λ bare. let yes = c.is_bare.ensures.1 bare in let no = c.if-not-is_bare.true in absurd cc)
 
-pub returns-in-None-clause-none : goal.returns-in-None-clause-none
-returns-in-None-clause-none c = λ model is.
-    let none = rw c.in-None.is at (c.in_ok-row.ensures.none model is) in
-    on_none c.only_named.result (c.only_named.ensures.none model is) (λ not_only. not_meant model c.args.path.now none (λ bare. not_only))
-
-pub returns-in-None-2-clause-none : goal.returns-in-None-2-clause-none
-returns-in-None-2-clause-none c = λ model is.
-    let none = rw c.in-None-2.is at (c.in_ok-row.ensures.none model is) in
-    not_meant model c.args.path.now none (λ bare. let yes = c.is_bare.ensures.1 bare in let fails = c.if-is_bare.false in absurd cc)
+pub returns-in_default-named_after-clause-none : goal.returns-in_default-named_after-clause-none
+returns-in_default-named_after-clause-none c = λ model is.
+    not_meant model c.args.path.now (rw c.in_default.is at (c.in_ok-row.ensures.none model is))
+    (λ bare row only. (rw c.in_default-named_after.is at (c.named_after.ensures.none model is)) row only.there only.there.0 only.named)

@@ -1,5 +1,4 @@
-use Rattle.cli_regions.proofs.Prelude.{ap, arith, map, drop_all, drop_more, fields_from, seen_field}
-use Rattle.cli_regions.proofs.LoopLemmas.{more_left, none_left}
+use Rattle.cli_regions.proofs.Prelude.{ap, arith, map, drop_all, drop_more, fields_from, seen_field, more_left, none_left}
 use Rattle.cli_regions.proofs.fields.find_fields.Goals as goal
 
 pub loop-field-init : goal.loop-field-init

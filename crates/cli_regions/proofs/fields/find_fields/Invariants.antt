@@ -1,5 +1,4 @@
-use Rattle.cli_regions.proofs.Prelude.{◌+◌, ◌*◌, ◌≤◌, drop, map, fields_from, seen_field}
-use Rattle.cli_regions.proofs.LoopLemmas.{Completes}
+use Rattle.cli_regions.proofs.Prelude.{◌+◌, ◌*◌, ◌≤◌, drop, map, fields_from, seen_field, Completes}
 use Rattle.cli_regions.proofs.fields.find_fields.Given as goal
 
 abbrev pub invariant-loop-field : goal.invariant-loop-field

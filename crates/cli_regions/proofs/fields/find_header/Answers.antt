@@ -1,4 +1,4 @@
-use Rattle.cli_regions.proofs.SearchLemmas.{and_then}
+use Rattle.cli_regions.proofs.Prelude.{and_then}
 use Rattle.cli_regions.proofs.fields.find_header.Goals as goal
 
 pub returns : goal.returns

@@ -1,5 +1,4 @@
-use Rattle.cli_regions.proofs.Prelude.{ap, file_header_regions, image_regions}
-use Rattle.cli_regions.proofs.SearchLemmas.{and_then, said_as}
+use Rattle.cli_regions.proofs.Prelude.{ap, file_header_regions, image_regions, and_then, said_as}
 use Rattle.cli_regions.proofs.files.find_image.Goals as goal
 
 pub returns : goal.returns

@@ -1,6 +1,4 @@
-use Rattle.cli_regions.proofs.Prelude.{ap, flat_map, other_stream_regions}
-use Rattle.cli_regions.proofs.LoopLemmas.{more_left, none_left}
-use Rattle.cli_regions.proofs.SearchLemmas.{said_as}
+use Rattle.cli_regions.proofs.Prelude.{ap, flat_map, other_stream_regions, said_as, more_left, none_left}
 use Rattle.cli_regions.proofs.headers.find_other_streams.Goals as goal
 
 pub loop-header-init : goal.loop-header-init

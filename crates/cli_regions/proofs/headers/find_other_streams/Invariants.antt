@@ -1,5 +1,4 @@
-use Rattle.cli_regions.proofs.Prelude.{flat_map, other_stream_regions}
-use Rattle.cli_regions.proofs.LoopLemmas.{Completes}
+use Rattle.cli_regions.proofs.Prelude.{flat_map, other_stream_regions, Completes}
 use Rattle.cli_regions.proofs.headers.find_other_streams.Given as goal
 
 abbrev pub invariant-loop-header : goal.invariant-loop-header

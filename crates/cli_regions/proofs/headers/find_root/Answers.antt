@@ -1,6 +1,6 @@
 use Rattle.root.specs.Fields.{root_read}
 use Rattle.cli_regions.proofs.HeaderLemmas.{root_headers_end}
-use Rattle.cli_regions.proofs.SearchLemmas.{and_then}
+use Rattle.cli_regions.proofs.Prelude.{and_then}
 use Rattle.cli_regions.proofs.headers.find_root.Goals as goal
 
 pub find_root_header-requires-clause-room : goal.find_root_header-requires-clause-room

@@ -1,5 +1,5 @@
 use Rattle.cli_regions.specs.Headers.{root_header_regions}
-use Rattle.cli_regions.proofs.SearchLemmas.{and_then}
+use Rattle.cli_regions.proofs.Prelude.{and_then}
 use Rattle.cli_regions.proofs.headers.find_root_header.Goals as goal
 
 pub returns : goal.returns

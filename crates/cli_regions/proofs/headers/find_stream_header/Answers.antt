@@ -1,5 +1,4 @@
-use Rattle.cli_regions.proofs.Prelude.{◌≡◌, ℕ, ◌+◌, ◌-◌, ◌*◌, ◌/◌, ◌∷◌, [], ap, arith, codes, length, view, stream_header_regions, region}
-use Rattle.cli_regions.proofs.SearchLemmas.{and_then, said_as}
+use Rattle.cli_regions.proofs.Prelude.{◌≡◌, ℕ, ◌+◌, ◌-◌, ◌*◌, ◌/◌, ◌∷◌, [], ap, arith, codes, length, view, stream_header_regions, region, and_then, said_as}
 use Rattle.cli_regions.proofs.headers.find_stream_header.Goals as goal
 
 name_long : (size : ℕ) → size ≡ 8 + size - 8

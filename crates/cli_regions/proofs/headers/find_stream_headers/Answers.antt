@@ -1,7 +1,5 @@
-use Rattle.cli_regions.proofs.Prelude.{ap, flat_map, All-rest, All-same, view, stream_header_regions}
+use Rattle.cli_regions.proofs.Prelude.{ap, flat_map, All-rest, All-same, view, stream_header_regions, said_as, more_left, none_left}
 use Rattle.cli_regions.proofs.HeaderLemmas.{EndsBy}
-use Rattle.cli_regions.proofs.LoopLemmas.{more_left, none_left}
-use Rattle.cli_regions.proofs.SearchLemmas.{said_as}
 use Rattle.cli_regions.proofs.headers.find_stream_headers.Goals as goal
 
 pub loop-header-init : goal.loop-header-init

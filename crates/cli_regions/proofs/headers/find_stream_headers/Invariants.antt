@@ -1,6 +1,5 @@
-use Rattle.cli_regions.proofs.Prelude.{All, flat_map, stream_header_regions}
+use Rattle.cli_regions.proofs.Prelude.{All, flat_map, stream_header_regions, Completes}
 use Rattle.cli_regions.proofs.HeaderLemmas.{EndsBy}
-use Rattle.cli_regions.proofs.LoopLemmas.{Completes}
 use Rattle.cli_regions.proofs.headers.find_stream_headers.Given as goal
 
 abbrev pub invariant-loop-header : goal.invariant-loop-header

@@ -1,4 +1,4 @@
-use Rattle.cli_regions.proofs.SearchLemmas.{adds_none, and_then}
+use Rattle.cli_regions.proofs.Prelude.{adds_none, and_then}
 use Rattle.cli_regions.proofs.headers.find_streams.Goals as goal
 
 pub returns : goal.returns

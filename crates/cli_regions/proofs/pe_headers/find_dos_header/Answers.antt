@@ -1,5 +1,5 @@
 use Rattle.cli_regions.specs.PeHeaders.{dos_header_regions}
-use Rattle.cli_regions.proofs.SearchLemmas.{and_then}
+use Rattle.cli_regions.proofs.Prelude.{and_then}
 use Rattle.cli_regions.proofs.pe_headers.find_dos_header.Goals as goal
 
 pub returns : goal.returns

@@ -1,5 +1,5 @@
 use Rattle.cli_regions.specs.PeHeaders.{file_header_regions}
-use Rattle.cli_regions.proofs.SearchLemmas.{and_then}
+use Rattle.cli_regions.proofs.Prelude.{and_then}
 use Rattle.cli_regions.proofs.pe_headers.find_file_header.Goals as goal
 
 pub returns : goal.returns

@@ -1,5 +1,4 @@
-use Rattle.cli_regions.proofs.Prelude.{◌≡◌, [], ◌∙◌, ◌+◌, ◌-◌, ap, arith, codes, little_endian, part, lfanew, optional_header_size, header_regions, optional_fields, optional_header_regions}
-use Rattle.cli_regions.proofs.SearchLemmas.{said_as}
+use Rattle.cli_regions.proofs.Prelude.{◌≡◌, [], ◌∙◌, ◌+◌, ◌-◌, ap, arith, codes, little_endian, part, lfanew, optional_header_size, header_regions, optional_fields, optional_header_regions, said_as}
 use Rattle.cli_regions.proofs.pe_headers.find_optional_header.Goals as goal
 
 pub returns : goal.returns

@@ -1,5 +1,4 @@
-use Rattle.cli_regions.proofs.Prelude.{◌≡◌, ◌∷◌, [], ◌++◌, ◌∙◌, ◌+◌, ap, arith, codes, drop, length, map, length-drop, length-take, part, before_nul, section_at, header_regions, numbered, section_bytes, section_header_regions, section_offset, section_regions, region, SECTION_HEADER}
-use Rattle.cli_regions.proofs.SearchLemmas.{said_as}
+use Rattle.cli_regions.proofs.Prelude.{◌≡◌, ◌∷◌, [], ◌++◌, ◌∙◌, ◌+◌, ap, arith, codes, drop, length, map, length-drop, length-take, part, before_nul, section_at, header_regions, numbered, section_bytes, section_header_regions, section_offset, section_regions, region, SECTION_HEADER, said_as}
 use Rattle.cli_regions.proofs.sections.find_part.Goals as goal
 
 pub returns-in-Header : goal.returns-in-Header

@@ -1,5 +1,4 @@
-use Rattle.cli_regions.proofs.Prelude.{◌-◌, flat_map, range_with_len, section_count, part_regions}
-use Rattle.cli_regions.proofs.LoopLemmas.{Completes}
+use Rattle.cli_regions.proofs.Prelude.{◌-◌, flat_map, range_with_len, section_count, part_regions, Completes}
 use Rattle.cli_regions.proofs.sections.find_sections.Given as goal
 
 abbrev pub invariant-loop-index : goal.invariant-loop-index

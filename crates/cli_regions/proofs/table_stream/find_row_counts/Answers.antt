@@ -1,7 +1,5 @@
-use Rattle.cli_regions.proofs.Prelude.{◌∙◌, ◌+◌, ◌∷◌, ◌++◌, ap, arith, codes, drop, get_or, sym, drop_all, drop_more, counts_from, table_words, field_region}
+use Rattle.cli_regions.proofs.Prelude.{◌∙◌, ◌+◌, ◌∷◌, ◌++◌, ap, arith, codes, drop, get_or, sym, drop_all, drop_more, counts_from, table_words, field_region, said_as, more_left, none_left}
 use Rattle.table_schema.specs.declared.table.TableId.TheVariants.{Module}
-use Rattle.cli_regions.proofs.LoopLemmas.{more_left, none_left}
-use Rattle.cli_regions.proofs.SearchLemmas.{said_as}
 use Rattle.cli_regions.proofs.table_stream.find_row_counts.Goals as goal
 
 pub loop-table-init : goal.loop-table-init

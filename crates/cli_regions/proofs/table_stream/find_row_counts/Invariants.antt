@@ -1,5 +1,4 @@
-use Rattle.cli_regions.proofs.Prelude.{◌+◌, ◌*◌, ◌≤◌, drop, counts_from}
-use Rattle.cli_regions.proofs.LoopLemmas.{Completes}
+use Rattle.cli_regions.proofs.Prelude.{◌+◌, ◌*◌, ◌≤◌, drop, counts_from, Completes}
 use Rattle.cli_regions.proofs.table_stream.find_row_counts.Given as goal
 
 abbrev pub invariant-loop-table : goal.invariant-loop-table

@@ -1,5 +1,5 @@
 use Rattle.cli_regions.specs.Headers.{table_stream_regions}
-use Rattle.cli_regions.proofs.SearchLemmas.{and_then}
+use Rattle.cli_regions.proofs.Prelude.{and_then}
 use Rattle.cli_regions.proofs.table_stream.find_table_stream.Goals as goal
 
 pub returns : goal.returns

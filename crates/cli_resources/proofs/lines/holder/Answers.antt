@@ -1,19 +1,22 @@
-use Rattle.cli_resources.proofs.Prelude.{◌∙◌, ap, sym, TableId, field, text, holder}
+use Rattle.cli_resources.proofs.Prelude.{◌≡◌, ℕ, [], refl, TableId, AssemblyRef, ExportedType, File, Metadata, field, text, holder}
 use Rattle.cli_lines.specs.declared.names.Name.TheVariants as name
-use Rattle.cli_resources.proofs.ResourceLemmas.{other_holder}
 use Rattle.cli_resources.proofs.lines.holder.Goals as goal
 
+other_holder : (model : Metadata) (table : TableId) (row : ℕ) → (table ≡ File → ⊥) → (table ≡ AssemblyRef → ⊥) → (table ≡ ExportedType → ⊥)
+    → field name.Type (text []) ≡ holder model table row
+other_holder model File row a b d = absurd (a refl)
+other_holder model AssemblyRef row a b d = absurd (b refl)
+other_holder model ExportedType row a b d = absurd (d refl)
+other_holder model _ row a b d = refl
+
 pub returns-in-File : goal.returns-in-File
-returns-in-File c = λ model is.
-    (λ i. field name.File (text (c.text.ensures model is i))) ∙ sym (ap (λ (t : TableId). holder model t c.args.of.row) c.in-File.is)
+returns-in-File c = λ model is. rw (c.in-File.is, c.text.ensures model is)
 
 pub returns-in-AssemblyRef : goal.returns-in-AssemblyRef
-returns-in-AssemblyRef c = λ model is.
-    (λ i. field name.Assembly (text (c.text-in-AssemblyRef.ensures model is i))) ∙ sym (ap (λ (t : TableId). holder model t c.args.of.row) c.in-AssemblyRef.is)
+returns-in-AssemblyRef c = λ model is. rw (c.in-AssemblyRef.is, c.text-in-AssemblyRef.ensures model is)
 
 pub returns-in-ExportedType : goal.returns-in-ExportedType
-returns-in-ExportedType c = λ model is.
-    (λ i. field name.Type (text (c.text-in-ExportedType.ensures model is i))) ∙ sym (ap (λ (t : TableId). holder model t c.args.of.row) c.in-ExportedType.is)
+returns-in-ExportedType c = λ model is. rw (c.in-ExportedType.is, c.text-in-ExportedType.ensures model is)
 
 pub returns-in_default : goal.returns-in_default
 returns-in_default c = λ model is.

@@ -5,4 +5,4 @@ use Rattle.cli_resources.proofs.report.first_outside.Given as goal
 abbrev pub invariant-loop-row : goal.invariant-loop-row
 invariant-loop-row l =
     (file : List ℕ) (header : CliHeader) (model : Metadata) → IsDirectoryOf file header l.directory → IsModel l.view model
-    → (earlier : ℕ) → 1 ≤ earlier → earlier < l.row → IsLocated file header model earlier
+    → (earlier : ℕ) → earlier < l.row → 1 ≤ earlier → IsLocated file header model earlier

@@ -1,25 +1,22 @@
-use Rattle.cli_resources.proofs.Prelude.{◌≡◌, ◌≤◌, ◌<◌, ◌+◌, ℕ, List, arith, ManifestResource, count_in, Part, resource_line}
+use Rattle.cli_resources.proofs.Prelude.{◌+◌, arith}
 use Rattle.cli_resources.proofs.report.print_rows.Goals as goal
 
 pub loop-earlier-init : goal.loop-earlier-init
 loop-earlier-init g c = λ file header model later of is locations located printed.
-    let line : ℕ → List Part = λ row. resource_line model row (locations row) in
-    c.rows_follow.ensures.all _ _ line (count_in model ManifestResource) printed
+    rw (← c.count-count.ensures.model model is) (c.rows_follow.ensures.all _ _ _ _ printed)
+
+pub returns-in_default : goal.returns-in_default
+returns-in_default g c = λ file header model of is locations located.
+    let row = c.loop-earlier.earlier + 1 in
+    absurd (c.in_default.ensures.complete file header model of is (locations row) (located row (omega arith, omega (arith, c.count-count.ensures.model model is))))
 
 pub loop-earlier-preserved : goal.loop-earlier-preserved
 loop-earlier-preserved g c = λ file header model later of is locations located printed.
-    let line : ℕ → List Part = λ row. resource_line model row (locations row) in
-    let earlier = c.loop-earlier.earlier in
-    let count : c.count-earlier-end.result ≡ count_in model ManifestResource = c.count-earlier-end.ensures.model model is in
-    let within : earlier < count_in model ManifestResource = omega (arith, count, c.loop-earlier-test.true) in
+    let row = c.loop-earlier.earlier + 1 in
+    let same = c.in-Ok.ensures.complete file header model of is (locations row) (located row (omega arith, omega (arith, c.count-count.ensures.model model is))) in
     c.loop-earlier.invariant file header model later of is locations located
-    (c.rows_follow.ensures.more _ _ _ line earlier (count_in model ManifestResource) within
-    (c.print_row.ensures file header model of is (locations (earlier + 1)) (located (earlier + 1) (omega arith, omega arith))) printed)
+    (c.rows_follow.ensures.more _ _ _ _ c.loop-earlier.earlier _ c.loop-earlier-test.true (rw same at (c.print_resource.ensures model is)) printed)
 
 pub returns : goal.returns
 returns g c = λ file header model of is locations located.
-    let line : ℕ → List Part = λ row. resource_line model row (locations row) in
-    let count : c.count-earlier-end.result ≡ count_in model ManifestResource = c.count-earlier-end.ensures.model model is in
-    let past : count_in model ManifestResource ≤ c.loop-earlier.earlier = omega (arith, count, c.loop-earlier-test.false) in
-    c.loop-earlier.invariant file header model c.loop-earlier.out of is locations located
-    (c.rows_follow.ensures.none c.loop-earlier.out line c.loop-earlier.earlier (count_in model ManifestResource) past)
+    c.loop-earlier.invariant file header model c.loop-earlier.out of is locations located (c.rows_follow.ensures.none _ _ _ _ c.loop-earlier-test.false)

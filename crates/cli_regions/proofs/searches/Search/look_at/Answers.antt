@@ -1,13 +1,10 @@
-use Rattle.cli_regions.proofs.Prelude.{◌∙◌, ap, sym, seen, has_byte}
-use Rattle.cli_regions.proofs.SearchLemmas.{none_kept, one_kept}
+use Rattle.cli_regions.proofs.Prelude.{regions_at, joins_none}
 use Rattle.cli_regions.proofs.searches.Search.look_at.Goals as goal
 
 pub returns-then-has_byte : goal.returns-then-has_byte
-returns-then-has_byte c =
-    let of = c.args.structure in
-    one_kept (ap (has_byte of.start of.size) (sym c.offset.ensures) ∙ sym c.has_byte.ensures ∙ c.if-has_byte.true) c.keep.ensures
+unfolding regions_at
+returns-then-has_byte c = let has = rw c.offset.ensures at c.has_byte.ensures in record { joins = rw (← has, c.if-has_byte.true) c.keep.ensures }
 
 pub returns-else-has_byte : goal.returns-else-has_byte
-returns-else-has_byte c =
-    let of = c.args.structure in
-    none_kept c.args.self.now (seen of) (ap (has_byte of.start of.size) (sym c.offset.ensures) ∙ sym c.has_byte.ensures ∙ c.if-has_byte.false)
+unfolding regions_at
+returns-else-has_byte c = let has = rw c.offset.ensures at c.has_byte.ensures in record { joins = rw (← has, c.if-has_byte.false) (joins_none c.args.self.now) }

@@ -1,4 +1,0 @@
-use Rattle.cli_contents.proofs.resource_line.print_stored.Goals as goal
-
-pub returns : goal.returns
-returns g c = λ model is. rw (← c.text-name.ensures model is) c.print_content.ensures
