@@ -18,11 +18,6 @@ same_end xs ys x y is =
 abbrev pub texts : List (Bor Text) → List Text
 texts = map (λ word. word.now)
 
-some_in : {X : Type 0} (xs ys : List X) (x : X) → xs ≡ ys ++ x ∷ [] → 0 < length xs
-some_in [] [] x is = cc
-some_in [] (y ∷ ys) x is = cc
-some_in (z ∷ xs) ys x is = omega arith
-
 -- an emptiness test of the arguments
 pub some_given : (words : List (Bor Text)) (is_empty : Bool) → is_empty ≡ eqb (length words) 0 → IsTrue (not is_empty) → texts words ≢ []
 some_given [] true is some = cc
@@ -42,42 +37,27 @@ part_if Refs P Q word is part = (is part.0, part.1)
 part_if Where P Q word is part = tt
 part_if _ P Q word is part = part
 
-module _ (of : Subcommand) (Listed : Type 0) where
-  -- the last of these arguments says what to print
-  abbrev pub EndsWithPart : List Text → Type 0
-  EndsWithPart words = (before : List Text) × (last : Text) × IsPartLast of Listed words before last
+-- several arguments, of which the last is known
+module _ (of : Subcommand) (Listed : Type 0) (words before : List (Bor Text)) (last : Bor Text) (is : words ≡ before ++ last ∷ []) (has_files : Bool)
+    (has : IsTrue has_files ↔ (Listed ⊎ (texts before ≢ []))) where
+  ends : (files : List Text) (part : Text) → texts words ≡ files ++ part ∷ [] → (texts before ≡ files) × (last.now ≡ part)
+  ends files part end = same_end (texts before) files last.now part (sym (ap texts is ∙ map-append (λ (word : Bor Text). word.now) before (last ∷ [])) ∙ end)
 
-  -- it is taken
-  pub part_taken : (words files : List (Bor Text)) (part : Option (Bor Text)) → words ≡ files ++ option_to_list part → (0 < length words → IsSome part)
-      → EndsWithPart (texts words) → AreParts of Listed (texts words) (texts files) (option_map (λ word. word.now) part)
-  part_taken words files None is some ends = let wrong = some (length_of words (some_in (texts words) ends.0 ends.1 ends.2.0)) in cc
-    where
-      length_of : (xs : List (Bor Text)) → 0 < length (texts xs) → 0 < length xs
-      length_of [] lt = lt
-      length_of (x ∷ xs) lt = omega arith
-  part_taken words files (Some part) is some ends =
-      let whole : texts words ≡ texts files ++ part.now ∷ [] = ap texts is ∙ map-append (λ (word : Bor Text). word.now) files (part ∷ []) in
-      let same = same_end ends.0 (texts files) ends.1 part.now (sym ends.2.0 ∙ whole) in (
+  -- it is taken if it says what to print
+  pub part_taken : (files : List (Bor Text)) (part : Option (Bor Text)) → words ≡ files ++ option_to_list part → (0 < length words → IsSome part)
+      → IsPart of (IsTrue has_files) last.now → AreParts of Listed (texts words) (texts files) (option_map (λ word. word.now) part)
+  part_taken files None popped some it = let wrong = some (omega (arith, ap length is, length_push before last)) in cc
+  part_taken files (Some part) popped some it =
+      let whole : texts words ≡ texts files ++ part.now ∷ [] = ap texts popped ∙ map-append (λ (word : Bor Text). word.now) files (part ∷ []) in
+      let same = ends (texts files) part.now whole in (
         whole,
         subst (λ (word : Text). IsPart of (Listed ⊎ (texts files ≢ [])) word) same.1
-            (subst (λ (before : List Text). IsPart of (Listed ⊎ (before ≢ [])) ends.1) same.0 ends.2.1),
+            (part_if of (IsTrue has_files) (Listed ⊎ (texts files ≢ [])) last.now (subst (λ (xs : List Text). IsTrue has_files → Listed ⊎ (xs ≢ [])) same.0 has.0) it),
       )
 
-  module _ (words before : List (Bor Text)) (last : Bor Text) (is : words ≡ before ++ last ∷ []) (has_files : Bool)
-      (has : IsTrue has_files ↔ (Listed ⊎ (texts before ≢ []))) where
-    whole : texts words ≡ texts before ++ last.now ∷ []
-    whole = ap texts is ∙ map-append (λ (word : Bor Text). word.now) before (last ∷ [])
-
-    pub ends_there : IsPart of (IsTrue has_files) last.now → EndsWithPart (texts words)
-    ends_there part = (texts before, last.now, (whole, part_if of (IsTrue has_files) (Listed ⊎ (texts before ≢ [])) last.now has.0 part))
-
-    pub part_there : EndsWithPart (texts words) → IsPart of (IsTrue has_files) last.now
-    part_there ends =
-        let same = same_end ends.0 (texts before) ends.1 last.now (sym ends.2.0 ∙ whole) in
-        part_if of (Listed ⊎ (texts before ≢ [])) (IsTrue has_files) last.now has.1
-        (subst (λ (word : Text). IsPart of (Listed ⊎ (texts before ≢ [])) word) same.1
-        (subst (λ (files : List Text). IsPart of (Listed ⊎ (files ≢ [])) ends.1) same.0 ends.2.1))
-
-  pub none_ends : (words : List (Bor Text)) → length words ≡ 0 → EndsWithPart (texts words) → ⊥
-  none_ends [] none ends = let some = some_in [] ends.0 ends.1 ends.2.0 in absurd (omega (arith, some))
-  none_ends (word ∷ words) none ends = absurd (omega (arith, none))
+  -- if the last of these arguments says what to print, it does
+  pub part_there : (files : List Text) (part : Text) → IsPartLast of Listed (texts words) files part → IsPart of (IsTrue has_files) last.now
+  part_there files part it =
+      let same = ends files part it.0 in
+      part_if of (Listed ⊎ (files ≢ [])) (IsTrue has_files) last.now (subst (λ (xs : List Text). Listed ⊎ (xs ≢ []) → IsTrue has_files) same.0 has.1)
+      (subst (λ (word : Text). IsPart of (Listed ⊎ (files ≢ [])) word) (sym same.1) it.1)

@@ -1,7 +1,7 @@
 -- What several proofs of this crate name of std, of the crates below, and of its own definitions.
 pub use Rattle.std.proofs.Common.{◌≡◌, ◌&&◌, ◌||◌, ◌∙◌, Bool, true, false, cond, List, [], ◌∷◌, Option, Some, None, ap, is_some, refl, subst, sym, ℕ, not, codes, ap₂, take, drop, ◌<◌}
 pub use Rattle.std.proofs.lemmas.List.{length_push, map-append, take_all, map_more, at_drop_all, at_drop_more}
-pub use Rattle.std.proofs.lemmas.Result.{err_from_is_err_and, IfOk-weaker}
+pub use Rattle.std.proofs.lemmas.Result.{IfOk-weaker}
 pub use Rattle.std.proofs.lemmas.Slice.Eq.{bytes_eq-Decides}
 pub use Rattle.std.specs.Borrow.{Bor}
 pub use Rattle.std.specs.Prelude.{find, IsSome}

@@ -1,9 +1,7 @@
 -- What the getters of `clap`'s matches return, if the matches are those of the arguments.
-use Rattle.std.proofs.Common.{◌≡◌, ◌↔◌, ◌∙◌, ℕ, Result, Ok, Err, Bool, true, false, IsTrue, List, [], ap, ap₂, sym, Option, Some, None, refl, codes, subst}
+use Rattle.std.proofs.Common.{◌≡◌, ◌↔◌, ◌∙◌, ℕ, Result, Ok, Err, Bool, true, false, IsTrue, List, [], ap, ap₂, sym, Option, Some, None, refl, codes}
 use Rattle.std.specs.Prelude.{map, option_map, unwrap_or}
 use Rattle.cli_arguments.proofs.Prelude.{Bor, bytes_eq, ParsesBool, ParsesUnsigned, bytes_eq-Decides, IsCountOf, subcommand_named, name_of, subcommands, Subcommand}
-use Rattle.std.specs.Option.{option_eq}
-use mathlib.Core.Bool.{beq}
 use Rattle.clap.specs.Words.{Row, Text, ReadsOne, subcommand_name_of, subcommand_rows_of}
 use Rattle.clap.specs.declared.ArgMatches.{ArgMatches}
 use Rattle.clap.specs.declared.ArgMatches.TheViews.{out-ArgMatches}
@@ -30,13 +28,13 @@ pub named_back : (word : Text) (s : Subcommand) → subcommand_named word ≡ So
 named_back word s e = (bytes_eq-Decides word (name_of s)).0 (found_passes (λ of. bytes_eq word (name_of of)) (λ _. true) subcommands s e refl).0
 
 -- a flag is read as true if and only if its text is `true`
-flag_reads : (E : Type 0) (o : Option Text) (r : Option Bool) → (o ≡ None → r ≡ None)
-    → ((t : Text) → o ≡ Some t → ReadsOne {E = E} ParsesBool t r) → (r ≡ Some true) ↔ (o ≡ Some (codes "true"))
-flag_reads E None r none value = ((λ is. let nothing = none refl in cc), (λ is. cc))
-flag_reads E (Some t) None none value =
-    ((λ is. cc), (λ is. absurd ((value t refl).1.0 (ap (λ o. unwrap_or o t) is))))
-flag_reads E (Some t) (Some true) none value = ((λ _. ap Some (value t refl)), (λ _. refl))
-flag_reads E (Some t) (Some false) none value =
+pub flag_is : (E : Type 0) (o : Option Text) (r : Option Bool) → (o ≡ None → r ≡ None) → ((t : Text) → o ≡ Some t → ReadsOne {E = E} ParsesBool t r)
+    → IsTrue (unwrap_or r false) ↔ (o ≡ Some (codes "true"))
+flag_is E None None none value = ((λ is. cc), (λ is. cc))
+flag_is E None (Some read) none value = ((λ is. let nothing = none refl in cc), (λ is. cc))
+flag_is E (Some t) None none value = ((λ is. cc), (λ is. absurd ((value t refl).1.0 (ap (λ o. unwrap_or o t) is))))
+flag_is E (Some t) (Some true) none value = ((λ _. ap Some (value t refl)), (λ _. refl))
+flag_is E (Some t) (Some false) none value =
     ((λ is. cc), (λ is. let word = value t refl in let other = ap (λ o. unwrap_or o t) is in cc))
 
 -- the number of bytes that a getter returns
@@ -46,26 +44,8 @@ count_is E gives parses None r none value = none refl
 count_is E gives parses (Some t) (Some number) none value = parses t (Ok number) (value t refl)
 count_is E gives parses (Some t) None none value = let e = value t refl in parses t (Err e.0) e.1
 
-equals_true : (r : Option Bool) → IsTrue (option_eq beq r (Some true)) ↔ (r ≡ Some true)
-equals_true None = ((λ h. cc), (λ e. cc))
-equals_true (Some true) = ((λ h. refl), (λ e. refl))
-equals_true (Some false) = ((λ h. cc), (λ e. cc))
-
-pub flag_is : (E : Type 0) (o : Option Text) (r : Option Bool) (b : Bool) → b ≡ option_eq beq r (Some true) → (o ≡ None → r ≡ None)
-    → ((t : Text) → o ≡ Some t → ReadsOne {E = E} ParsesBool t r) → IsTrue b ↔ (o ≡ Some (codes "true"))
-flag_is E o r b is none value =
-    let eq = equals_true r in
-    let reads = flag_reads E o r none value in
-    ((λ h. reads.0 (eq.0 (subst IsTrue is h))), (λ h. subst IsTrue (sym is) (eq.1 (reads.1 h))))
-
-files_there : (o : Option (Bor (List (Bor Text)))) (default : Bor (List (Bor Text))) → default.now ≡ []
-    → map (λ word. word.now) (unwrap_or o default).now ≡ unwrap_or (option_map (λ s. map (λ word. word.now) s.now) o) []
-files_there None default empty = ap (λ (s : List (Bor Text)). map (λ word. word.now) s) empty
-files_there (Some s) default empty = refl
-
 -- the files are all values of their argument; none if it was not used
-pub files_read : {files : List Text} {slice : Bor (List (Bor Text))} (o : Option (Bor (List (Bor Text)))) (default : Bor (List (Bor Text))) (p : Option (List Text)) → default.now ≡ []
-    → files ≡ map (λ word. word.now) slice.now → slice ≡ unwrap_or o default → option_map (λ s. map (λ word. word.now) s.now) o ≡ p → files ≡ unwrap_or p []
-files_read o default p empty copied is given =
-    copied ∙ ap (λ (s : Bor (List (Bor Text))). map (λ word. word.now) s.now) is ∙ files_there o default empty
-    ∙ ap (λ (q : Option (List Text)). unwrap_or q []) given
+pub files_read : (o : Option (Bor (List (Bor Text)))) (default : Bor (List (Bor Text))) → default.now ≡ []
+    → map (λ word. word.now) (unwrap_or o default).now ≡ unwrap_or (option_map (λ s. map (λ word. word.now) s.now) o) []
+files_read None default empty = ap (λ (s : List (Bor Text)). map (λ word. word.now) s) empty
+files_read (Some s) default empty = refl

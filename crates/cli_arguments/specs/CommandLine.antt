@@ -92,10 +92,6 @@ recursive = record (flag (codes "recursive")) { short = Some 114 }
 abbrev pub quiet : Rule
 quiet = record (flag (codes "quiet")) { short = Some 113 }
 
--- `--until-fault`, for broken files
-abbrev pub until_fault : Rule
-until_fault = flag (codes "until-fault")
-
 -- the value after the file
 abbrev pub second : Rule
 second = required (value (codes "second"))
@@ -126,14 +122,14 @@ name_of Explain = codes "explain"
 -- the arguments of a subcommand
 abbrev pub rules_of : Subcommand → List Rule
 -- `root [--bare] [--files-from LIST] [-0] [-r] [--json] [--until-fault] [FILE]..`
-rules_of Root = files ∷ bare ∷ files_from ∷ null ∷ recursive ∷ json ∷ until_fault ∷ []
+rules_of Root = files ∷ bare ∷ files_from ∷ null ∷ recursive ∷ json ∷ flag (codes "until-fault") ∷ []
 -- `info [--bare] [--budget N] [--files-from LIST] [-0] [-r] [--json] [FILE]..`
 rules_of Info = files ∷ bare ∷ budget ∷ files_from ∷ null ∷ recursive ∷ json ∷ []
 -- `check [--bare] [--budget N] [--files-from LIST] [-0] [-r] [-q] [--json] [--where] [FILE]..`
 rules_of Check = files ∷ bare ∷ budget ∷ files_from ∷ null ∷ recursive ∷ quiet ∷ json ∷ flag (codes "where") ∷ []
 -- `show [--bare] [--budget N] [--files-from LIST] [-0] [-r] [--json] [--names] [--until-fault] [FILE].. [TABLE]`; here, of
 -- `outline`, `refs` and `where` the last argument is among the values of FILE
-rules_of Show = files ∷ bare ∷ budget ∷ files_from ∷ null ∷ recursive ∷ json ∷ flag (codes "names") ∷ until_fault ∷ []
+rules_of Show = files ∷ bare ∷ budget ∷ files_from ∷ null ∷ recursive ∷ json ∷ flag (codes "names") ∷ flag (codes "until-fault") ∷ []
 -- `types [--bare] [--budget N] [--files-from LIST] [-0] [-r] [--json] [FILE]..`
 rules_of Types = files ∷ bare ∷ budget ∷ files_from ∷ null ∷ recursive ∷ json ∷ []
 -- `outline [--bare] [--budget N] [--files-from LIST] [-0] [-r] [--json] [--no-tokens] [--public] [--sorted] [FILE].. [NAME]`

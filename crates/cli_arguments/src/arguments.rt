@@ -89,7 +89,7 @@ fn asked<'a>(
 pub(crate) fn flag(given: &ArgMatches<'_>, id: &str) -> bool
     ensures { IsTrue result ↔ (one_of id.now (rows_of (found_of given.now)) ≡ Some (codes "true")) }
 {
-    given.get_one::<bool>(id) == Some(true)
+    given.get_one::<bool>(id).unwrap_or(false)
 }
 
 /// All values of the argument, in the order given; none if it was not used. Fails only if out of memory.

@@ -1,7 +1,7 @@
 //! The files among the arguments, and the last argument if it is none of them.
-ghost use Rattle.std.specs.Prelude.{◌≡◌, ◌≢◌, ◌↔◌, ◌⊎◌, [], IsTrue, List, map, option_map};
-ghost use Rattle.clap.specs.Words.{Text, found_of, rows_of};
-ghost use Rattle.cli_arguments.specs.Asked.{AreParts, IsPart, IsPartLast, IsPlainWord, TakesList, ends_in, has_directory, is_assembly, is_path};
+ghost use Rattle.std.specs.Prelude.{◌≡◌, ◌≢◌, ◌↔◌, ◌⊎◌, [], IsTrue, map, option_map};
+ghost use Rattle.clap.specs.Words.{found_of, rows_of};
+ghost use Rattle.cli_arguments.specs.Asked.{AreParts, IsPart, IsPlainWord, TakesList, ends_in, has_directory, is_assembly, is_path};
 
 use crate::arguments::flag;
 use crate::asked::Subcommand;
@@ -16,21 +16,13 @@ pub(crate) fn take_part<'a>(
     ensures { AreParts subcommand (TakesList (rows_of (found_of given.now))) (map (λ word. word.now) words.old.items)
         (map (λ word. word.now) words.new.items) (option_map (λ word. word.now) result) }
 {
-    if ends_with_part(subcommand, given, words.as_slice()) {
+    let Some((last, before)) = words.as_slice().split_last() else {
+        return None;
+    };
+    if is_part(subcommand, has_files(given, before), last) {
         words.pop()
     } else {
         None
-    }
-}
-
-/// Whether the last argument says what to print of the files before it, or of those of a list.
-fn ends_with_part(subcommand: Subcommand, given: &ArgMatches<'_>, words: &[&str]) -> bool
-    ensures { IsTrue result ↔ ((before : List Text) × (last : Text)
-        × IsPartLast subcommand (TakesList (rows_of (found_of given.now))) (map (λ word. word.now) words.now) before last) }
-{
-    match words.split_last() {
-        Some((last, before)) => is_part(subcommand, has_files(given, before), last),
-        None => false,
     }
 }
 

@@ -1,3 +1,2 @@
-pub mod DifferenceLemmas
 pub mod OffsetLemmas
 pub mod Prelude

@@ -1,20 +1,18 @@
 //! The lines of what differs.
-ghost use Rattle.std.specs.Prelude.{◌≡◌, ◌++◌, ◌∷◌, ◌<◌, [], All, length, map, slice_index};
+ghost use Rattle.std.specs.Prelude.{◌≡◌, ◌∷◌, ◌<◌, [], All, length, slice_index};
 ghost use Rattle.heap_entries.specs.Padding.{zero_padded};
 ghost use Rattle.metadata.specs.Metadata.{Metadata};
 ghost use Rattle.metadata.specs.Model.{IsModel};
 ghost use Rattle.comparison.specs.Differences.{IsThere};
-ghost use Rattle.comparison.specs.declared.difference.Difference.TheVariants.{Cell, RowCount, UserStrings, Version};
-ghost use Rattle.table_schema.specs.CellColumns.{cell_count};
 ghost use Rattle.cli_lines.specs.Printed.{Adds, Begins, Prints};
-ghost use Rattle.cli_compare.specs.ComparedLines.{HasColumn, HasRows, compared_lines, difference_line, equal_line, label_parts, offset_parts, same_bytes, value_part};
+ghost use Rattle.cli_compare.specs.ComparedLines.{HasColumn, HasRows, compared_lines, difference_line, label_parts, offset_parts, same_bytes, value_part};
 
 use cli_cells::{Names, column_name, print_cell};
 use cli_lines::Part::{Field, Member, Note, Word};
 use cli_lines::Value::{self, Byte, Number, Plain, Text, Yes};
 use cli_lines::{Name, Printer};
 use comparison::Difference;
-use opening::{CellCursor, TableId, Token, View};
+use opening::{CellCursor, Token, View};
 use std::alloc::Global;
 use std::io::Write;
 
@@ -22,6 +20,7 @@ use std::io::Write;
 /// if there is none. WHAT is `version`, `user strings`, `rows NN NAME`, or the token of a row and the name of a column. A
 /// cell is printed as by `clim show`. Of user strings A and B are the numbers of bytes, and ` at OFFSET` follows: the first
 /// offset in `#US` at which they differ.
+#[tactic(auto, unfolding(crate::specs::ComparedLines::equal_line))]
 pub fn print_differences<W: Write>(
     alloc: Global,
     left: &View<'_>,
@@ -33,33 +32,10 @@ pub fn print_differences<W: Write>(
     ensures { (model other : Metadata) → IsModel left.now model → IsModel right.now other
         → Prints out.old out.new (compared_lines model other found.now) }
 {
-    if found.is_empty() {
-        return print_equal(out);
-    }
-    print_each(alloc, left, right, found, out);
-}
-
-/// Prints the line of two views that do not differ.
-#[tactic(auto, unfolding(crate::specs::ComparedLines::equal_line))]
-fn print_equal<W: Write>(out: &mut Printer<'_, W>)
-    ensures { Prints out.old out.new (equal_line ∷ []) }
-{
-    out.line(&[Word("equal"), Member(Name::Equal, Yes)]);
-}
-
-/// Prints a line for each thing that differs.
-fn print_each<W: Write>(
-    alloc: Global,
-    left: &View<'_>,
-    right: &View<'_>,
-    found: &[Difference],
-    out: &mut Printer<'_, W>,
-)
-    requires { All (IsThere left.now right.now) found.now }
-    ensures { (model other : Metadata) → IsModel left.now model → IsModel right.now other
-        → Prints out.old out.new (map (difference_line model other) found.now) }
-{
     cli_lines::laws::reports_are_completed::<W>();
+    if found.is_empty() {
+        return out.line(&[Word("equal"), Member(Name::Equal, Yes)]);
+    }
     let mut one = CellCursor::new(left);
     let mut other = CellCursor::new(right);
     for difference in found {
@@ -92,67 +68,37 @@ fn print_difference<W: Write>(
 }
 
 /// Begins a line with what differs.
+#[tactic(auto, unfolding(crate::specs::ComparedLines::label_parts))]
 fn begin_label<W: Write>(difference: Difference, out: &mut Printer<'_, W>)
     requires { HasColumn difference }
     ensures { Begins out.old out.new (label_parts difference) }
 {
     match difference {
-        Difference::Version => begin_version(out),
-        Difference::UserStrings => begin_user_strings(out),
-        Difference::RowCount { table, .. } => begin_rows(table, out),
+        Difference::Version => {
+            out.begin(&[Member(Name::Difference, Plain("Version")), Word("version")]);
+        }
+        Difference::UserStrings => out.begin(&[
+            Member(Name::Difference, Plain("UserStrings")),
+            Word("user strings"),
+        ]),
+        Difference::RowCount { table, .. } => out.begin(&[
+            Member(Name::Difference, Plain("RowCount")),
+            Word("rows "),
+            Note(Byte(table.number())),
+            Word(" "),
+            Field(Name::Table, Plain(table.name())),
+        ]),
         Difference::Cell {
             table,
             row,
             cell_index,
-        } => begin_cell(table, row, cell_index, out),
+        } => out.begin(&[
+            Member(Name::Difference, Plain("Cell")),
+            Field(Name::Token, Value::Token(Token { table, row })),
+            Word(" "),
+            Field(Name::Column, Plain(column_name(table, cell_index))),
+        ]),
     }
-}
-
-/// Begins a line of two versions.
-#[tactic(auto, unfolding(crate::specs::ComparedLines::label_parts))]
-fn begin_version<W: Write>(out: &mut Printer<'_, W>)
-    ensures { Begins out.old out.new (label_parts Version) }
-{
-    out.begin(&[Member(Name::Difference, Plain("Version")), Word("version")]);
-}
-
-/// Begins a line of user strings.
-#[tactic(auto, unfolding(crate::specs::ComparedLines::label_parts))]
-fn begin_user_strings<W: Write>(out: &mut Printer<'_, W>)
-    ensures { Begins out.old out.new (label_parts UserStrings) }
-{
-    out.begin(&[
-        Member(Name::Difference, Plain("UserStrings")),
-        Word("user strings"),
-    ]);
-}
-
-/// Begins a line of two numbers of rows.
-#[tactic(auto, unfolding(crate::specs::ComparedLines::label_parts))]
-fn begin_rows<W: Write>(table: TableId, out: &mut Printer<'_, W>)
-    ensures { Begins out.old out.new (label_parts (RowCount table 0 0)) }
-{
-    out.begin(&[
-        Member(Name::Difference, Plain("RowCount")),
-        Word("rows "),
-        Note(Byte(table.number())),
-        Word(" "),
-        Field(Name::Table, Plain(table.name())),
-    ]);
-}
-
-/// Begins a line of two cells.
-#[tactic(auto, unfolding(crate::specs::ComparedLines::label_parts))]
-fn begin_cell<W: Write>(table: TableId, row: u32, cell_index: usize, out: &mut Printer<'_, W>)
-    requires { cell_index < cell_count table }
-    ensures { Begins out.old out.new (label_parts (Cell table row cell_index)) }
-{
-    out.begin(&[
-        Member(Name::Difference, Plain("Cell")),
-        Field(Name::Token, Value::Token(Token { table, row })),
-        Word(" "),
-        Field(Name::Column, Plain(column_name(table, cell_index))),
-    ]);
 }
 
 /// Adds what a view has where something differs.
@@ -217,14 +163,14 @@ fn print_offset<W: Write>(
 }
 
 /// The number of bytes before the first that differs, of two heaps that are padded with zeros to a multiple of four.
+#[tactic(auto, using(crate::proofs::OffsetLemmas::at_end, crate::proofs::OffsetLemmas::next_differs, crate::proofs::OffsetLemmas::next_same))]
 fn same_bytes(left: &[u8], right: &[u8]) -> usize
     ensures { result ≡ same_bytes (zero_padded left.now) (zero_padded right.now) }
 {
     let most = padded_len(left).min(padded_len(right));
     for offset in 0..most {
         let here = padded_byte(left, offset);
-        let there = padded_byte(right, offset);
-        if here != there {
+        if here != padded_byte(right, offset) {
             return offset;
         }
     }
@@ -232,6 +178,7 @@ fn same_bytes(left: &[u8], right: &[u8]) -> usize
 }
 
 /// The byte at an offset of bytes that are padded with zeros to a multiple of four.
+#[tactic(auto, using(std::proofs::lemmas::List::places))]
 fn padded_byte(bytes: &[u8], offset: usize) -> u8
     requires { offset < length (zero_padded bytes.now) }
     ensures { result ≡ slice_index (zero_padded bytes.now) offset }

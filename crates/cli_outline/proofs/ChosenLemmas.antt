@@ -1,5 +1,5 @@
 -- Rows that are chosen, one after another.
-use Rattle.cli_outline.proofs.Prelude.{◌≡◌, ◌∙◌, ℕ, Bool, true, false, List, [], ◌∷◌, ◌++◌, Option, None, Some, ⊎_elim, ap, inl, inr, refl, subst, sym, Decides-like, Decides-and, Decides-eqb, TableId, Token, Metadata, AreChosenBy, IsChosen, IsDescribing, PrintsChosen, PrintsRows, OutlineOptions}
+use Rattle.cli_outline.proofs.Prelude.{◌≡◌, ◌∙◌, Bool, true, false, List, [], ◌∷◌, ◌++◌, Option, None, Some, ⊎_elim, ap, inl, inr, refl, subst, sym, Decides-like, Decides-and, Decides-eqb, TableId, Token, Metadata, Part, Prints, AreChosenBy, IsChosen, IsDescribing, PrintsChosen, PrintsRows, OutlineOptions}
 use Rattle.std.specs.Bool.{Decides}
 use Rattle.std.specs.Option.{option_eq}
 use denote.Enum.Bare.{same_true, true_same}
@@ -8,10 +8,11 @@ use Rattle.table_schema.specs.contracts.table.TableIdPartialEq.TheImpl as tables
 use Rattle.table_schema.specs.contracts.token.TokenPartialEq.TheImpl as tokens
 use Rattle.declaring_types.specs.Declaring.{IsDeclaring}
 use Rattle.cli_lines.specs.Printed.{Printed}
+use Rattle.cli_outline.specs.declared.chosen.Choice.{Choice}
 use Rattle.cli_outline.specs.declared.chosen.Choice.TheVariants as choice
-use Rattle.cli_outline.proofs.PrintedLemmas.{rows_are}
+use Rattle.cli_outline.proofs.PrintedLemmas.{rows_are, rows_more, rows_nothing}
 
-pub chosen_append : (Yes No : Token → Type 0) (xs ys a b : List Token) → AreChosenBy Yes No xs a → AreChosenBy Yes No ys b → AreChosenBy Yes No (xs ++ ys) (a ++ b)
+chosen_append : (Yes No : Token → Type 0) (xs ys a b : List Token) → AreChosenBy Yes No xs a → AreChosenBy Yes No ys b → AreChosenBy Yes No (xs ++ ys) (a ++ b)
 chosen_append Yes No [] ys a b are more = subst (λ (found : List Token). AreChosenBy Yes No ys (found ++ b)) (sym are) more
 chosen_append Yes No (x ∷ xs) ys a b are more = (
   are.0 ++ b,
@@ -20,6 +21,18 @@ chosen_append Yes No (x ∷ xs) ys a b are more = (
       (λ it. inl (it.0, ap (λ (found : List Token). found ++ b) it.1))
       (λ it. inr (it.0, ap (λ (found : List Token). found ++ b) it.1))
       are.2,
+)
+
+pub chosen_nothing : {W : Type 0} (options : OutlineOptions) (model : Metadata) (of : Choice) (a : Printed W) → Prints a a [] → PrintsChosen options model of a a []
+chosen_nothing options model of a printed = ([], refl, rows_nothing options model a printed)
+
+pub chosen_more : {W : Type 0} (options : OutlineOptions) (model : Metadata) (of : Choice) → ((a b c : Printed W) (xs ys : List (List Part)) → Prints a b xs → Prints b c ys → Prints a c (xs ++ ys))
+    → (old between new : Printed W) (first second : List Token) → PrintsChosen options model of old between first → PrintsChosen options model of between new second
+    → PrintsChosen options model of old new (first ++ second)
+chosen_more options model of joined old between new first second prefix back = (
+  prefix.0 ++ back.0,
+  chosen_append (IsChosen model of true) (IsChosen model of false) first second prefix.0 back.0 prefix.1 back.1,
+  rows_more options model joined old between new prefix.0 back.0 prefix.2 back.2,
 )
 
 -- all rows are chosen
@@ -35,12 +48,9 @@ all_printed {W} {options} {model} {a} {b} {rows} printed = rows_are (all_chosen 
 pub table_decides : (a b : TableId) → Decides (tables.eq-value.it a b) (a ≡ b)
 table_decides a b = (λ h. same_true table.the_type tt a b h, λ e. true_same table.the_type a b e)
 
-token_same : (a b : Token) → a.table ≡ b.table → a.row ≡ b.row → a ≡ b
-token_same a b h k = ap (λ (t : TableId). record { table = t; row = a.row }) h ∙ ap (λ (n : ℕ). record { table = b.table; row = n }) k
-
 token_decides : (a b : Token) → Decides (tokens.eq-value.it a b) (a ≡ b)
 token_decides a b =
-    Decides-like _ (λ p. token_same a b p.0 p.1) (λ e. (ap (λ (t : Token). t.table) e, ap (λ (t : Token). t.row) e))
+    Decides-like _ (λ p i. record { table = p.0 i; row = p.1 i }) (λ e. (ap (λ (t : Token). t.table) e, ap (λ (t : Token). t.row) e))
     (Decides-and _ _ (table_decides a.table b.table) (Decides-eqb a.row b.row))
 
 pub some_decides : (found : Option Token) (class : Token) → Decides (option_eq tokens.eq-value.it found (Some class)) (found ≡ Some class)

@@ -1,41 +1,30 @@
 -- The first word of a declaration, and its line in each form.
-use Rattle.cli_outline.proofs.Prelude.{◌≡◌, ◌<◌, ◌≤◌, get_or, Bool, true, false, inl, inr, ℕ, List, length, ltb, lt-ltb, None, Some, sym, arith, [], ◌∷◌, ◌++◌, Option, refl, subst, position, position_or_len, cases_lt, nat_tests, Token, Text, Letters, JsonLines, Part, line_from, style, styled_text, as_is, Tokens, declaration_line, ends_word, json_line, text_line, unindented}
+use Rattle.cli_outline.proofs.Prelude.{◌≡◌, ◌<◌, Bool, true, false, not, ℕ, List, None, Some, sym, arith, [], ◌∷◌, ◌++◌, Option, refl, subst, inl, inr, get_or, length, ltb, lt-ltb, le-ltb, cases_lt, unwrap_or, position, position_or_len, nat_tests, Token, Text, Letters, JsonLines, Part, line_from, style, styled_text, as_is, Tokens, declaration_line, ends_word, json_line, text_line, unindented}
 use Rattle.std.specs.Str.{IsCharBoundary}
-use Rattle.std.proofs.lemmas.List.Quantifiers.{position-Some}
-use Rattle.std.proofs.lemmas.List.Sums.{position_or_len_is}
+use Rattle.std.proofs.lemmas.List.Sums.{passes_at_first, prefix_len-le-length}
 use Rattle.cli_lines.specs.declared.parts.Form.{Form}
 use Rattle.cli_lines.specs.Printed.{Asked, Printed, Prints}
 use Rattle.cli_escapes.specs.Letters.{readable_after}
 use Rattle.cli_outline.specs.declared.source.Tokens.TheVariants.{Shown, Hidden}
 
--- the length of the first word that a search returns
-module _ (p : ℕ → Bool) (text : List ℕ) where
-  pub word_found : (i : ℕ) → Some i ≡ position p text → (i < length text) × (i ≡ position_or_len p text)
-  word_found i e =
-      let found = position-Some p text i 0 (sym e) in
-      let lt = found.0 in
-      (lt, sym (position_or_len_is p text i 0 (omega arith) found.2 (λ below. found.1)))
-
-  pub no_word_end : None ≡ position p text → length text ≤ position_or_len p text
-  no_word_end e =
-      elim (cases_lt (position_or_len p text) (length text)) [
-        | inl lt ↦
-            let t : ltb (position_or_len p text) (length text) ≡ true = lt-ltb _ _ lt in
-            let at : None ≡ Some (position_or_len p text) = rw t at e in
-            cc
-        | inr le ↦ le
-      ]
-
 -- the byte that ends a word is ASCII
 ends_low : (byte : ℕ) → ends_word byte ≡ true → byte < 128
 ends_low byte ends = grind (arith, nat_tests)
 
-pub word_boundary : (text : List ℕ) (i : ℕ) → Some i ≡ position ends_word text → IsCharBoundary text i
-word_boundary text i e =
-    let found = position-Some ends_word text i 0 (sym e) in
-    let low = ends_low (get_or text i 0) found.1 in
-    let within = found.0 in
-    (omega (arith, within), λ lt high. absurd (omega (arith, low, high)))
+pub word_boundary : (text : List ℕ) → IsCharBoundary text (position_or_len ends_word text)
+word_boundary text = (
+  prefix_len-le-length (λ byte. not (ends_word byte)) text,
+  λ lt high. let low = ends_low (get_or text (position_or_len ends_word text) 0) (passes_at_first ends_word text 0 lt) in absurd (omega (arith, low, high)),
+)
+
+-- a search finds its end
+pub word_len : (text : List ℕ) → unwrap_or (position ends_word text) (length text) ≡ position_or_len ends_word text
+word_len text =
+    let most = prefix_len-le-length (λ byte. not (ends_word byte)) text in
+    elim (cases_lt (position_or_len ends_word text) (length text)) [
+      | inl lt ↦ let t : ltb (position_or_len ends_word text) (length text) ≡ true = lt-ltb _ _ lt in rw t refl
+      | inr le ↦ let t : ltb (position_or_len ends_word text) (length text) ≡ false = le-ltb _ _ le in rw t (omega (arith, le, most))
+    ]
 
 -- ---- the line in each form
 

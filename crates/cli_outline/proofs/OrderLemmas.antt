@@ -1,10 +1,9 @@
 -- Rows in the order of their keys.
-use Rattle.cli_outline.proofs.Prelude.{◌≡◌, ◌∙◌, ℕ, zero, suc, ◌+◌, ◌-◌, ◌<◌, ◌≤◌, List, [], ◌∷◌, ◌++◌, All, ⊎_elim, None, Some, Result, Ok, Err, ap, arith, get_or, length, length-append, map, refl, subst, sym, IfOk, slice_get, unwrap_or, range_with_len, IsPermutation, cases_lt, ext_get_or, get_or-append-add, get_or_append_left, get_or_default, All-permutation, length_permutation, TableId, Field, MethodDef, Metadata, Keyed, TableOrder, OutlineOptions, AreInOrder, IsOrder, IsOrdered, KeepsRuns, keyed_cmp, row_at, rows_of, Order}
+use Rattle.cli_outline.proofs.Prelude.{◌≡◌, ◌∙◌, ℕ, zero, suc, ◌+◌, ◌-◌, ◌<◌, ◌≤◌, List, [], ◌∷◌, ◌++◌, All, ⊎_elim, None, Some, ap, arith, get_or, length, length-append, map, refl, subst, sym, slice_get, unwrap_or, range_with_len, IsPermutation, cases_lt, ext_get_or, get_or-append-add, get_or_append_left, get_or_default, All-permutation, length_permutation, TableId, Metadata, IsModel, Keyed, TableOrder, OutlineOptions, AreGrouped, AreInOrder, IsOrdered, IsRowIn, grouping_of, keyed_cmp, row_at, rows_of}
 use Rattle.std.specs.Cmp.{IsTotalOrder}
 use Rattle.std.proofs.lemmas.Cmp.{nat_cmp_total, nat_list_cmp_total, on_total, then_total}
-use Rattle.std.proofs.lemmas.List.FromFn.{get_or-map-range_with_len, get_or-range_with_len, length-map-range_with_len, length-range_with_len}
-use Rattle.metadata_source.specs.declared.member_lists.MemberList.TheVariants as list
-use Rattle.cli_outline.specs.declared.source.Sorting.TheVariants.{ByName}
+use Rattle.std.proofs.lemmas.List.{map-id}
+use Rattle.std.proofs.lemmas.List.FromFn.{get_or-map-range_with_len, get_or-range_with_len, length-map-range_with_len, length-range_with_len, map-range_with_len_more}
 
 pub keyed_cmp_total : IsTotalOrder keyed_cmp
 keyed_cmp_total = then_total (on_total (λ (item : Keyed). item.key.items) nat_list_cmp_total) (on_total (λ (item : Keyed). item.row) nat_cmp_total)
@@ -19,12 +18,9 @@ range_between first past = λ k d lt.
     (omega (arith, is), omega (arith, is, lt, long))
 
 module _ (options : OutlineOptions) (model : Metadata) (table : TableId) (first past : ℕ) (found : List ℕ) (are : AreInOrder options model table first past found) where
-  -- their number is that of the rows, and they are among them
+  -- their number is that of the rows
   pub length-found : length found ≡ past - first
   length-found = ap length are.rows ∙ length_permutation _ _ are.same ∙ length-range_with_len first (past - first)
-
-  pub found_between : All (IsBetween first past) found
-  found_between = subst (All (IsBetween first past)) (sym are.rows) (All-permutation (IsBetween first past) _ _ are.same (range_between first past))
 
   -- appended where the row of the first is due, they are at these positions
   pub appended : (before : List ℕ) → length before + 1 ≡ first → IsOrdered options model table (row_at (before ++ found)) first past
@@ -53,33 +49,10 @@ still_ordered options model table first past before later from within are =
     ∙ sym (get_or-map-range_with_len new first n k (first + k) 0 below refl ∙ get_or_append_left before later (first + k) (first + k - 1) (omega (arith, from, within, below)))) in
     subst (AreInOrder options model table first past) same are
 
--- the row at a position between is between
-pub kept_between : (options : OutlineOptions) (model : Metadata) (table : TableId) (rows : ℕ → ℕ) (first past position : ℕ) → IsOrdered options model table rows first past → first ≤ position → position < past
-    → IsBetween first past (rows position)
-kept_between options model table rows first past position are from to =
-    let n = past - first in
-    let k = position - first in
-    let within : k < n = omega (arith, from, to) in
-    let there : k < length (map rows (range_with_len first n)) = omega (arith, within, length-map-range_with_len rows first n) in
-    subst (IsBetween first past) (get_or-map-range_with_len rows first n k position 0 within (omega (arith, from))) (found_between options model table first past _ are k 0 there)
-
--- the order of the names keeps the fields of a type, and its methods
-pub by_name_keeps : (options : OutlineOptions) (model : Metadata) (order : Order) → IsOrder options ByName model order → KeepsRuns model order
-by_name_keeps options model order is list.Fields types class there position from to = kept_between options model Field (order Field) _ _ position (is Field class there) from to
-by_name_keeps options model order is list.Methods types class there position from to = kept_between options model MethodDef (order MethodDef) _ _ position (is MethodDef class there) from to
-by_name_keeps options model order is list.Params types class there position from to = absurd cc
-by_name_keeps options model order is list.Events types class there position from to = absurd cc
-by_name_keeps options model order is list.Properties types class there position from to = absurd cc
-
 -- one more number
-pub range_more : (a n : ℕ) → range_with_len a (n + 1) ≡ range_with_len a n ++ (a + n) ∷ []
-range_more a zero =
-    let same : a ≡ a + 0 = omega arith in
-    ap (λ k. k ∷ []) same
-range_more a (suc n) =
-    let more : suc n + 1 ≡ suc (n + 1) = omega arith in
-    let last : a + 1 + n ≡ a + suc n = omega arith in
-    ap (range_with_len a) more ∙ ap (λ xs. a ∷ xs) (range_more (a + 1) n ∙ ap (λ k. range_with_len (a + 1) n ++ k ∷ []) last)
+pub range_more : (a n last : ℕ) → a + n ≡ last → range_with_len a (n + 1) ≡ range_with_len a n ++ last ∷ []
+range_more a n last is =
+    sym (map-id (range_with_len a (n + 1))) ∙ map-range_with_len_more (λ k. k) a n last is ∙ ap (λ xs. xs ++ last ∷ []) (map-id (range_with_len a n))
 
 -- numbers in whatever order are those of a table
 pub rows_within : (first past count : ℕ) (found : List ℕ) → IsPermutation (range_with_len first (past - first)) found → 1 ≤ first → past ≤ count + 1
@@ -88,11 +61,6 @@ rows_within first past count found same from to = λ k d lt.
     let is = All-permutation (IsBetween first past) _ _ same (range_between first past) k d lt in
     (omega (arith, is.0, from), omega (arith, is.1, to))
 
--- what follows from a fact of the value
-pub if_ok : {X E : Type 0} {P Q : X → Type 0} (result : Result X E) → IfOk result P → ((x : X) → P x → Q x) → IfOk result Q
-if_ok (Ok x) has follows = follows x has
-if_ok (Err e) has follows = tt
-
 -- each item at its index, after one more
 pub pushed : {X : Type 0} (P : ℕ → X → Type 0) (xs : List X) (y : X) → ((k : ℕ) (x : X) → slice_get xs k ≡ Some x → P k x) → P (length xs) y → (k : ℕ) (x : X)
     → slice_get (xs ++ y ∷ []) k ≡ Some x → P k x
@@ -100,6 +68,11 @@ pushed P [] y all here zero x is = subst (P 0) (ap (λ o. unwrap_or o y) is) her
 pushed P [] y all here (suc k) x is = absurd cc
 pushed P (z ∷ xs) y all here zero x is = all zero x is
 pushed P (z ∷ xs) y all here (suc k) x is = pushed (λ n. P (suc n)) xs y (λ n x is. all (suc n) x is) here k x is
+
+-- these are the rows of a table, in the order of their names
+abbrev pub AreKnown : List ℕ → OutlineOptions → List ℕ → TableId → Type 0
+AreKnown root options rows table =
+    All (IsRowIn root table) rows × ((model : Metadata) → IsModel root model → AreGrouped options model table (row_at rows) (grouping_of table))
 
 -- the members of the owners before one are in order
 abbrev pub AreMembers : OutlineOptions → Metadata → TableId → (ℕ → ℕ) → List ℕ → ℕ → Type 0

@@ -1,8 +1,9 @@
 -- What several proofs of this crate name of std, of the crates below, and of its own definitions.
-pub use Rattle.std.proofs.Common.{◌≡◌, ◌∙◌, ℕ, Bool, true, false, List, [], ◌∷◌, ◌++◌, Option, None, Some, ⊎_elim, ap, inl, inr, refl, subst, sym, ◌<◌, ◌≤◌, get_or, length, ltb, lt-ltb, arith, zero, suc, ◌+◌, ◌-◌, All, Result, Ok, Err, length-append, map, cond, append_assoc, append-nil, add-one, drop, drop-cons, ◌≢◌, ◌&&◌, codes, take, ◌*◌, subst₂, rules}
-pub use Rattle.std.proofs.lemmas.Bool.{cases_lt, le-leb, lt-leb}
+pub use Rattle.std.proofs.Common.{◌≡◌, ◌∙◌, ℕ, Bool, true, false, List, [], ◌∷◌, ◌++◌, Option, None, Some, ⊎_elim, ap, inl, inr, refl, subst, sym, ◌<◌, ◌≤◌, get_or, length, ltb, lt-ltb, arith, zero, suc, ◌+◌, ◌-◌, All, Result, Ok, Err, length-append, map, cond, append_assoc, append-nil, add-one, drop, drop-cons, ◌≢◌, ◌&&◌, codes, take, not, subst₂, rules}
+pub use Rattle.std.proofs.lemmas.Bool.{cases_lt, le-leb, le-ltb, lt-leb}
 pub use Rattle.std.proofs.lemmas.Bool.Decides.{Decides-like, Decides-and, Decides-eqb, nat_tests, Decides-at}
-pub use Rattle.std.proofs.lemmas.List.{ext_get_or, get_or-append-add, get_or_append_left, get_or_default, drop_all, take_all, take_min, map-append, take_more, get_or_past}
+pub use Rattle.std.proofs.lemmas.Result.{IfOk-weaker}
+pub use Rattle.std.proofs.lemmas.List.{drop_more, ext_get_or, get_or-append-add, get_or_append_left, get_or_default, drop_all, take_all, take_min, map-append, map_more, get_or_past}
 pub use Rattle.std.proofs.lemmas.List.Elements.{filter-append, All-push, All-append}
 pub use Rattle.std.proofs.lemmas.List.Sorted.{All-permutation, length_permutation, IsPermutation-map, answers_always, ranks_by}
 pub use Rattle.std.specs.List.{position, position_or_len, range_with_len, flat_map}
@@ -31,15 +32,14 @@ pub use Rattle.cli_lines.specs.declared.parts.Form.TheVariants.{Text, Letters, J
 pub use Rattle.cli_declarations.specs.Parts.{token_at}
 pub use Rattle.cli_paths.specs.Refs.{BelongsTo, HasSome, IsMeantRef, IsWantedRef, Wants}
 pub use Rattle.cli_paths.specs.declared.refs.Wanted.{Wanted}
-pub use Rattle.cli_outline.specs.Chosen.{AreChosenBy, IsChosen, IsDescribing, PrintsChosen, PrintsType, AreDescribing}
+pub use Rattle.cli_outline.specs.Chosen.{AreChosenBy, IsChosen, IsDescribing, PrintsChosen, AreDescribing, AreTypeRows}
 pub use Rattle.cli_outline.specs.Declarations.{ends_word, json_line, text_line, unindented, has_directive}
 unfoldable pub use Rattle.cli_outline.specs.Declarations.{declaration_line}
-pub use Rattle.cli_outline.specs.Orders.{AreInOrder, IsOrder, IsOrdered, KeepsRuns, keyed_cmp, row_at, rows_of, row_in, IsKeyIf, IsKey, IsKeyed, key_limit, row_of_keyed, IsRowIn, AreGrouped, grouping_of}
-pub use Rattle.cli_outline.specs.Outline.{Order, run_start, all_rows, row_by, table_of, accessed_by, mapped_rows, link_of, list_of, class_by, members, refs_rows}
+pub use Rattle.cli_outline.specs.Orders.{AreInOrder, IsOrder, IsOrdered, keyed_cmp, row_at, rows_of, row_in, IsKeyIf, IsKey, IsKeyed, key_limit, row_of_keyed, IsRowIn, AreGrouped, grouping_of}
+pub use Rattle.cli_outline.specs.Outline.{run_start, all_rows, row_by, accessed_by, map_link, mapped_rows, class_by, members, refs_rows}
 unfoldable pub use Rattle.cli_outline.specs.Outline.{each_from, accessed_rows, type_rows, outline_rows, class_rows}
 pub use Rattle.cli_outline.specs.Printed.{PrintsRows, AreLines, IsLine}
 pub use Rattle.cli_outline.specs.Shown.{is_shown, shown_rows, has_line}
-pub use Rattle.cli_outline.specs.declared.mapped.Mapped.TheVariants.{Events, Properties}
 pub use Rattle.cli_outline.specs.declared.orders.Keyed.{Keyed}
 pub use Rattle.cli_outline.specs.declared.orders.TableOrder.{TableOrder}
 pub use Rattle.cli_outline.specs.declared.source.OutlineOptions.{OutlineOptions}

@@ -1,9 +1,9 @@
 -- The run of an owner's members (ECMA-335 II.22.12, II.22.26, II.22.35 and II.22.37).
-use Rattle.cli_outline.proofs.Prelude.{◌≡◌, ◌≢◌, ◌∙◌, ℕ, zero, suc, ◌+◌, ◌-◌, ◌<◌, ◌≤◌, Bool, Some, cond, refl, subst, sym, ap, arith, ⊎_elim, cases_lt, le-leb, lt-leb, TableId, TypeDef, cell_columns, cell_count, HasRow, IsRun, Metadata, cell_in, count_in, MemberList, cell_of, member_of, owner_of, type_token, IsMemberOf, run_start}
-use Rattle.table_schema.specs.declared.column.ColumnKind.{ColumnKind}
+use Rattle.cli_outline.proofs.Prelude.{◌≡◌, ◌≢◌, ◌∙◌, ℕ, zero, suc, ◌+◌, ◌-◌, ◌<◌, ◌≤◌, Bool, cond, subst, sym, ap, arith, ⊎_elim, cases_lt, le-leb, lt-leb, TableId, TypeDef, MethodDef, cell_columns, HasRow, IsRun, Metadata, cell_in, count_in, MemberList, cell_of, member_of, owner_of, run_start}
 use Rattle.table_schema.specs.declared.column.ColumnKind.TheVariants as kind
 use Rattle.metadata.specs.Cell.{Cell}
-use Rattle.metadata.specs.Valid.{HasOwners, IsValid, IsWithinMembers, kind_at, start_in}
+use Rattle.metadata.specs.Valid.{HasOwners, IsValid, IsWithinMembers, start_in}
+use Rattle.table_schema.specs.declared.table.TableId.TheVariants.{EventMap, PropertyMap}
 use Rattle.metadata_source.specs.declared.member_lists.MemberList.TheVariants as list
 
 -- what is valid of each list
@@ -14,21 +14,15 @@ owners model valid list.Params = valid.params
 owners model valid list.Events = valid.events
 owners model valid list.Properties = valid.properties
 
-kind_is : (of : MemberList) → kind_at (owner_of of) (cell_of of) ≡ kind.List (member_of of)
+-- a start is at most one past the last member
+starts_within : (model : Metadata) → IsValid model → (of : MemberList) (row : ℕ) → HasRow model (owner_of of) row
+    → IsWithinMembers model (kind.List (member_of of)) (cell_in model (owner_of of) row (cell_of of))
 unfolding cell_columns
-kind_is list.Fields = refl
-kind_is list.Methods = refl
-kind_is list.Params = refl
-kind_is list.Events = refl
-kind_is list.Properties = refl
-
-cell_is : (of : MemberList) → cell_of of < cell_count (owner_of of)
-unfolding cell_columns
-cell_is list.Fields = omega arith
-cell_is list.Methods = omega arith
-cell_is list.Params = omega arith
-cell_is list.Events = omega arith
-cell_is list.Properties = omega arith
+starts_within model valid list.Fields row there = (valid.cells TypeDef row 4 there (omega arith)).within
+starts_within model valid list.Methods row there = (valid.cells TypeDef row 5 there (omega arith)).within
+starts_within model valid list.Params row there = (valid.cells MethodDef row 5 there (omega arith)).within
+starts_within model valid list.Events row there = (valid.cells EventMap row 1 there (omega arith)).within
+starts_within model valid list.Properties row there = (valid.cells PropertyMap row 1 there (omega arith)).within
 
 -- starts are at least 1
 module _ (model : Metadata) (owner : TableId) (cell : ℕ) (member : TableId) (owned : HasOwners model owner cell member) where
@@ -63,10 +57,7 @@ module _ (model : Metadata) (of : MemberList) (row first past : ℕ) (from : 1 �
   run_to valid =
       ⊎_elim
       (λ (more : row < count_in model (owner_of of)).
-      let there : HasRow model (owner_of of) (row + 1) = (omega arith, omega (arith, more)) in
-      let members = subst (λ (k : ColumnKind). IsWithinMembers model k (cell_in model (owner_of of) (row + 1) (cell_of of))) (kind_is of)
-      (valid.cells (owner_of of) (row + 1) (cell_of of) there (cell_is of)).within in
-      subst (λ (c : Cell). IsWithinMembers model (kind.List (member_of of)) c) (run.next more) members)
+      subst (λ (c : Cell). IsWithinMembers model (kind.List (member_of of)) c) (run.next more) (starts_within model valid of (row + 1) (omega arith, omega (arith, more))))
       (λ all. let end = run.last (omega (arith, all, within)) in omega (arith, end))
       (cases_lt row (count_in model (owner_of of)))
 
@@ -83,9 +74,7 @@ module _ (model : Metadata) (of : MemberList) (row first past : ℕ) (from : 1 �
       let next = ap start_in (run.next more) in
       omega (arith, start, next, up))
       (λ all.
-      let members = subst (λ (k : ColumnKind). IsWithinMembers model k (cell_in model (owner_of of) row (cell_of of))) (kind_is of)
-      (valid.cells (owner_of of) row (cell_of of) (from, within) (cell_is of)).within in
-      let there = subst (λ (c : Cell). IsWithinMembers model (kind.List (member_of of)) c) run.start members in
+      let there = subst (λ (c : Cell). IsWithinMembers model (kind.List (member_of of)) c) run.start (starts_within model valid of row (from, within)) in
       let end = run.last (omega (arith, all, within)) in
       omega (arith, end, there))
       (cases_lt row (count_in model (owner_of of)))
@@ -102,17 +91,6 @@ module _ (model : Metadata) (of : MemberList) (row first past : ℕ) (from : 1 �
       (λ more. ap choice (le-leb (row + 1) (count_in model (owner_of of)) (omega (arith, more))) ∙ ap start_in (run.next more))
       (λ all. ap choice (lt-leb (row + 1) (count_in model (owner_of of)) (omega (arith, within))) ∙ sym (run.last (omega (arith, all, within))))
       (cases_lt row (count_in model (owner_of of))))
-
--- a field or a method in the run of a type is a member of it
-pub is_member : (model : Metadata) (of : MemberList) → owner_of of ≡ TypeDef → (class row first past : ℕ) → HasRow model TypeDef class
-    → IsRun model (owner_of of) (cell_of of) (member_of of) class first past → first ≤ row → row < past → IsMemberOf model (member_of of) row (Some (type_token class))
-is_member model list.Fields types class row first past there run from to =
-    (type_token class, (class, record { there = there; first = first; past = past; run = run; from = from; to = to }, refl), refl)
-is_member model list.Methods types class row first past there run from to =
-    (type_token class, (class, record { there = there; first = first; past = past; run = run; from = from; to = to }, refl), refl)
-is_member model list.Params types class row first past there run from to = absurd cc
-is_member model list.Events types class row first past there run from to = absurd cc
-is_member model list.Properties types class row first past there run from to = absurd cc
 
 module _ (model : Metadata) (of : MemberList) (valid : IsValid model) where
   -- the members of the first owner begin at the first row

@@ -13,7 +13,7 @@ use Rattle.cli_outline.specs.declared.chosen.Choice.TheVariants as choice
 use Rattle.cli_outline.specs.declared.source.OutlineOptions.{OutlineOptions}
 use Rattle.cli_outline.specs.Orders.{IsOrder}
 use Rattle.cli_outline.specs.Outline.{Order, all_rows, class_rows, last_tables}
-use Rattle.cli_outline.specs.Printed.{PrintsRows, PrintsSome}
+use Rattle.cli_outline.specs.Printed.{PrintsRows}
 
 -- those of some rows that one property holds of, in the same order; of each of the others the other property holds
 abbrev pub AreChosenBy : (Token → Type 0) → (Token → Type 0) → List Token → List Token → Type 0
@@ -43,15 +43,8 @@ PrintsChosen options model of old new rows =
 abbrev pub AreDescribing : Metadata → Token → List Token → List Token → Type 0
 AreDescribing model class rows found = AreChosenBy (IsDescribing model class true) (IsDescribing model class false) rows found
 
--- the rows that describe a type or what it declares, table by table
-abbrev pub AreDescribingType : Order → Metadata → ℕ → List Token → Type 0
-AreDescribingType order model class found = AreDescribing model (type_token class) (flat_map (all_rows order model) last_tables) found
-
 -- the rows of a type and its members, and those that describe them, in the order that is asked for
 abbrev pub AreTypeRows : OutlineOptions → Metadata → ℕ → List Token → Type 0
 AreTypeRows options model class rows =
-    (order : Order) × IsOrder options options.sorting model order × (found : List Token) × AreDescribingType order model class found × (rows ≡ class_rows order model class ++ found)
-
--- the lines of these were printed, or memory ran out before
-abbrev pub PrintsType : {W : Type 0} → OutlineOptions → Metadata → ℕ → Printed W → Printed W → Type 0
-PrintsType options model class old new = PrintsSome options model (AreTypeRows options model class) old new
+    (order : Order) × IsOrder options options.sorting model order × (found : List Token)
+    × AreDescribing model (type_token class) (flat_map (all_rows order model) last_tables) found × (rows ≡ class_rows order model class ++ found)

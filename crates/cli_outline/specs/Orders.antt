@@ -1,5 +1,5 @@
 -- The order of the rows of an outline: that of the rows in their tables, or that of their names.
-use Rattle.std.specs.Prelude.{◌≡◌, ◌≤◌, ◌<◌, ℕ, ◌+◌, ◌-◌, ◌/◌, Bool, true, false, List, ◌∷◌, ◌++◌, [], All, Option, None, Some, ⊤, map, slice_get, slice_index_or, take}
+use Rattle.std.specs.Prelude.{◌≡◌, ◌≤◌, ℕ, ◌+◌, ◌-◌, ◌/◌, Bool, true, false, List, ◌∷◌, ◌++◌, [], All, Option, None, Some, ⊤, map, slice_get, slice_index_or, take}
 use Rattle.std.specs.Cmp.Lexicographic.{slice_cmp}
 use Rattle.std.specs.List.{range_with_len}
 use Rattle.std.specs.List.Sorted.{IsPermutation, IsSorted}
@@ -11,9 +11,8 @@ use Rattle.table_schema.specs.declared.token.Token.{Token}
 use Rattle.table_schema.specs.Tables.{table_index_of}
 use Rattle.metadata.specs.Lookups.{HasRow}
 use Rattle.metadata.specs.Metadata.{Metadata, count_in}
-use Rattle.metadata_source.specs.declared.member_lists.MemberList.{MemberList}
 use Rattle.metadata_source.specs.declared.member_lists.MemberList.TheVariants as list
-use Rattle.metadata_source.specs.MemberLists.{member_of, owner_of}
+use Rattle.metadata_source.specs.MemberLists.{owner_of}
 use Rattle.opening.specs.Views.{row_count}
 use Rattle.cli_declarations.specs.Layouts.{IsDeclared}
 use Rattle.cli_declarations.specs.Parts.{IsNameText, token_at}
@@ -113,12 +112,6 @@ rows_of (Some order) = order.rows.items
 -- the order that the orders of the first tables make, by their index
 abbrev pub row_in : List TableOrder → Order
 row_in orders table position = row_at (rows_of (slice_get orders (table_index_of table))) position
-
--- the fields of a type, and its methods, stay in their places
-abbrev pub KeepsRuns : Metadata → Order → Type 0
-KeepsRuns model order = (list : MemberList) → owner_of list ≡ TypeDef → (class : ℕ) → HasRow model TypeDef class → (position : ℕ)
-    → run_start model list class ≤ position → position < run_start model list (class + 1)
-    → (run_start model list class ≤ order (member_of list) position) × (order (member_of list) position < run_start model list (class + 1))
 
 -- all of them are rows of the table
 abbrev pub IsRowIn : List ℕ → TableId → ℕ → Type 0

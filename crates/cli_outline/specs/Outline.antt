@@ -12,8 +12,6 @@ use Rattle.metadata_source.specs.MemberLists.{cell_of, member_of, owner_of}
 use Rattle.navigation.specs.declared.links.Link.{Link}
 use Rattle.navigation.specs.declared.links.Link.TheVariants as linked_by
 use Rattle.navigation.specs.Linked.{linked}
-use Rattle.cli_outline.specs.declared.mapped.Mapped.{Mapped}
-use Rattle.cli_outline.specs.declared.mapped.Mapped.TheVariants.{Events, Properties}
 use Rattle.cli_declarations.specs.Parts.{token_at}
 
 -- the row at each position of each table, in an order of the rows
@@ -55,33 +53,25 @@ members order model list class = each_member model list (row_by order (member_of
 
 -- ---- events and properties
 
--- the lists of the events and of the properties of types, and the references of their maps to types (II.22.12, II.22.35)
-abbrev pub list_of : Mapped → MemberList
-list_of Events = list.Events
-list_of Properties = list.Properties
-
-abbrev pub link_of : Mapped → Link
-link_of Events = linked_by.Events
-link_of Properties = linked_by.Properties
-
-abbrev pub table_of : Mapped → TableId
-table_of of = member_of (list_of of)
+-- the references to types in the maps of events and of properties (II.22.12, II.22.35)
+abbrev pub map_link : MemberList → Link
+map_link list.Events = linked_by.Events
+map_link _ = linked_by.Properties
 
 -- an event or a property, and its accessors (II.22.28)
-unfoldable pub accessed_rows : Metadata → Mapped → ℕ → List Token
-accessed_rows model of row =
-    token_at (table_of of) row ∷ flat_map (row_of MethodSemantics) (linked model linked_by.Accessors (token_at (table_of of) row))
+unfoldable pub accessed_rows : Metadata → Token → List Token
+accessed_rows model of = of ∷ flat_map (row_of MethodSemantics) (linked model linked_by.Accessors of)
 
-abbrev pub accessed_by : Order → Metadata → Mapped → ℕ → List Token
-accessed_by order model of position = accessed_rows model of (order (table_of of) position)
+abbrev pub accessed_by : Order → Metadata → TableId → ℕ → List Token
+accessed_by order model table position = accessed_rows model (token_at table (order table position))
 
 -- the events or the properties of a row of EventMap or PropertyMap
-abbrev pub mapped_rows : Order → Metadata → Mapped → ℕ → List Token
-mapped_rows order model of row = each_member model (list_of of) (accessed_by order model of) row
+abbrev pub mapped_rows : Order → Metadata → MemberList → ℕ → List Token
+mapped_rows order model list row = each_member model list (accessed_by order model (member_of list)) row
 
 -- the events or the properties of a type: those of each row of the map that refers to it, wherever it stands
-unfoldable pub type_rows : Order → Metadata → Mapped → ℕ → List Token
-type_rows order model of class = flat_map (mapped_rows order model of) (linked model (link_of of) (token_at TypeDef class))
+unfoldable pub type_rows : Order → Metadata → MemberList → ℕ → List Token
+type_rows order model list class = flat_map (mapped_rows order model list) (linked model (map_link list) (token_at TypeDef class))
 
 -- ---- the whole
 
@@ -89,7 +79,7 @@ type_rows order model of class = flat_map (mapped_rows order model of) (linked m
 unfoldable pub class_rows : Order → Metadata → ℕ → List Token
 class_rows order model row =
     token_at TypeDef row
-    ∷ (members order model list.Fields row ++ (members order model list.Methods row ++ (type_rows order model Events row ++ type_rows order model Properties row)))
+    ∷ (members order model list.Fields row ++ (members order model list.Methods row ++ (type_rows order model list.Events row ++ type_rows order model list.Properties row)))
 
 abbrev pub class_by : Order → Metadata → ℕ → List Token
 class_by order model position = class_rows order model (order TypeDef position)

@@ -11,7 +11,7 @@ use Rattle.cli_outline.specs.declared.outcome.Outcome.{Outcome}
 use Rattle.cli_outline.specs.declared.outcome.Outcome.TheVariants.{Printed, NoSuchType, OutOfMemory}
 use Rattle.cli_outline.specs.declared.source.OutlineOptions.{OutlineOptions}
 use Rattle.cli_outline.specs.Chosen.{AreTypeRows}
-use Rattle.cli_outline.specs.Printed.{PrintsRows, PrintsSome}
+use Rattle.cli_outline.specs.Printed.{PrintsSome}
 use Rattle.cli_outline.specs.Shown.{has_line}
 
 -- a row has a declaration of its own
@@ -22,21 +22,11 @@ is_declared model of = is_declared_in of.table && has_line model of.table of.row
 abbrev pub AreSubjectRows : OutlineOptions → Metadata → Token → List Token → Type 0
 AreSubjectRows options model of rows = ((of.table ≡ TypeDef) × AreTypeRows options model of.row rows) ⊎ ((of.table ≢ TypeDef) × (rows ≡ of ∷ []))
 
--- the lines of these were printed, or memory ran out before
-abbrev pub PrintsRow : {W : Type 0} → OutlineOptions → Metadata → Token → Printer W → Printer W → Type 0
-PrintsRow options model of old new = PrintsSome options model (AreSubjectRows options model of) old new
-
 -- the lines of the subject were printed if there is one that has a declaration
 abbrev pub PrintsSubject : {W : Type 0} → OutlineOptions → Metadata → Subject → Printer W → Printer W → Outcome → Type 0
-PrintsSubject options model subject old new Printed = (of : Token) × IsSubject model subject of × (is_declared model of ≡ true) × PrintsRow options model of old new
+PrintsSubject options model subject old new Printed = (of : Token) × IsSubject model subject of × (is_declared model of ≡ true) × PrintsSome options model (AreSubjectRows options model of) old new
 PrintsSubject options model subject old new NoSuchType = (of : Token) → IsSubject model subject of → is_declared model of ≡ false
 PrintsSubject options model subject old new OutOfMemory = ⊤
-
--- the line of a row of another table than TypeDef was printed, if it has a declaration
-abbrev pub PrintsAlone : {W : Type 0} → OutlineOptions → Metadata → Token → Printer W → Printer W → Outcome → Type 0
-PrintsAlone options model of old new Printed = (is_declared model of ≡ true) × PrintsRows options model old new (of ∷ [])
-PrintsAlone options model of old new NoSuchType = is_declared model of ≡ false
-PrintsAlone options model of old new OutOfMemory = ⊤
 
 -- nothing was printed if there is no subject, or none was found
 abbrev pub PrintsNone : {W : Type 0} → Printer W → Printer W → Outcome → Type 0

@@ -1,15 +1,14 @@
 //! Prints the rows of some tables: all, or those that are chosen.
-ghost use Rattle.std.specs.Prelude.{◌≡◌, ◌≤◌, ◌∷◌, []};
+ghost use Rattle.std.specs.Prelude.{◌≡◌, ◌≤◌, ◌+◌, ◌∷◌, []};
 ghost use Rattle.std.specs.List.{flat_map};
 ghost use Rattle.metadata.specs.Metadata.{Metadata};
 ghost use Rattle.metadata.specs.Model.{IsModel};
 ghost use Rattle.opening.specs.Views.{row_count};
 ghost use Rattle.cli_outline.specs.Chosen.{IsChosen, PrintsChosen};
 ghost use Rattle.cli_outline.specs.Orders.{row_in};
-ghost use Rattle.cli_outline.specs.Outline.{all_rows};
+ghost use Rattle.cli_outline.specs.Outline.{all_rows, each_from, row_by};
 
-use crate::laws::{choices_follow, rows_follow};
-use crate::outline::print_row;
+use crate::line::print_row;
 use crate::source::Source;
 use cli_declarations::Declared;
 use cli_lines::Printer;
@@ -17,6 +16,7 @@ use cli_paths::{Wanted, belongs};
 use declaring_types::declaring_type;
 use opening::{TableId, Token};
 use std::io::Write;
+use std::ops::Range;
 
 /// Which rows are printed.
 #[derive(Clone, Copy)]
@@ -54,24 +54,29 @@ fn print_if_chosen<W: Write>(
     requires last { token.row ≤ row_count source.now.neighbours.view.now token.table }
     ensures { (model : Metadata) → IsModel source.now.neighbours.view.now model → PrintsChosen source.now.options model choice.entry out.old out.new (token ∷ []) }
 {
-    rows_follow::<W>();
+    cli_lines::laws::lines_follow::<W>();
     if is_chosen(source, choice, token) {
-        print_row(source, None, token, declared, out);
+        print_row(source, token, declared, out);
     }
 }
 
-/// Prints the lines of the rows of a table that are chosen.
-fn print_chosen_in<W: Write>(
+/// Prints the lines of the rows at some positions of a table that are chosen.
+pub(crate) fn print_positions<W: Write>(
     source: &Source<'_, '_>,
     table: TableId,
+    positions: Range<u32>,
     choice: Choice<'_, '_>,
     declared: &mut Declared,
     out: &mut Printer<'_, W>,
 )
-    ensures { (model : Metadata) → IsModel source.now.neighbours.view.now model → PrintsChosen source.now.options model choice.entry out.old out.new (all_rows (row_in source.now.orders.items) model table) }
+    requires first { 1 ≤ positions.start }
+    requires last { positions.«end» ≤ row_count source.now.neighbours.view.now table + 1 }
+    ensures { (model : Metadata) → IsModel source.now.neighbours.view.now model
+        → PrintsChosen source.now.options model choice.entry out.old out.new (each_from (row_by (row_in source.now.orders.items) table) positions.start positions.«end») }
 {
-    choices_follow::<W>();
-    for position in 1..source.neighbours.view.count(table) + 1 {
+    cli_lines::laws::lines_follow::<W>();
+    let (first, past) = (positions.start, positions.end);
+    for position in first..past {
         let row = source.row_at(table, position);
         print_if_chosen(source, choice, Token { table, row }, declared, out);
     }
@@ -87,8 +92,9 @@ pub(crate) fn print_chosen<W: Write>(
 )
     ensures { (model : Metadata) → IsModel source.now.neighbours.view.now model → PrintsChosen source.now.options model choice.entry out.old out.new (flat_map (all_rows (row_in source.now.orders.items) model) tables.now) }
 {
-    choices_follow::<W>();
+    cli_lines::laws::lines_follow::<W>();
     for table in tables {
-        print_chosen_in(source, *table, choice, declared, out);
+        let past = source.neighbours.view.count(*table) + 1;
+        print_positions(source, *table, 1..past, choice, declared, out);
     }
 }

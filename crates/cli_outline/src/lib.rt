@@ -16,7 +16,6 @@
 #![tactic(auto)]
 
 mod chosen;
-mod laws;
 mod line;
 mod mapped;
 mod orders;

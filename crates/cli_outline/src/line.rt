@@ -1,5 +1,5 @@
 //! The line of a declaration.
-ghost use Rattle.std.specs.Prelude.{◌≡◌, ◌≤◌, ◌∷◌, [], OnOk, string_bytes, true};
+ghost use Rattle.std.specs.Prelude.{◌≡◌, ◌≤◌, ◌∷◌, [], OnOk, string_bytes};
 ghost use Rattle.std.specs.List.{before_first, position};
 ghost use Rattle.metadata.specs.Metadata.{Metadata};
 ghost use Rattle.metadata.specs.Model.{IsModel};
@@ -7,10 +7,9 @@ ghost use Rattle.opening.specs.Views.{row_count};
 ghost use Rattle.cli_lines.specs.declared.parts.Form.TheVariants.{JsonLines};
 ghost use Rattle.cli_lines.specs.Printed.{Prints};
 ghost use Rattle.cli_lines.specs.Shown.{shown};
-ghost use Rattle.full_names.specs.RowNames.{IsMemberOf};
 ghost use Rattle.cli_outline.specs.Declarations.{declaration_line, directive_part, ends_word, has_directive, json_line, text_line, type_part};
+ghost use Rattle.cli_outline.specs.Outline.{row_of};
 ghost use Rattle.cli_outline.specs.Printed.{IsRowText, PrintsRows};
-ghost use Rattle.cli_outline.specs.Shown.{is_shown};
 ghost use Rattle.cli_outline.specs.declared.source.Tokens.{Tokens as TheTokens};
 
 use crate::source::{Source, Tokens};
@@ -19,6 +18,7 @@ use cli_escapes::text_as_is;
 use cli_lines::Part::{Member, Note, Word};
 use cli_lines::Value::{self, Plain, Text};
 use cli_lines::{Form, Name, Part, Printer};
+use full_names::type_of_member;
 use opening::{TableId, Token, View};
 use std::alloc::AllocError;
 use std::io::Write;
@@ -43,10 +43,8 @@ fn end_of_word(text: &[u8]) -> Option<usize>
 fn first_word(text: &str) -> &str
     ensures { result.now ≡ before_first ends_word text.now }
 {
-    match end_of_word(text.as_bytes()) {
-        Some(len) => text.split_at(len).0,
-        None => text,
-    }
+    let len = end_of_word(text.as_bytes()).unwrap_or(text.len());
+    text.split_at(len).0
 }
 
 /// Whether a declaration begins with a directive.
@@ -152,20 +150,22 @@ fn declare_row(
     Ok(())
 }
 
-/// Prints the line of a row: of a member of a type, if that is given.
-pub(crate) fn print_line<W: Write>(
+/// Prints the line of a row, if it has one. The type of a member is found by binary search.
+pub(crate) fn print_row<W: Write>(
     source: &Source<'_, '_>,
-    class: Option<Token>,
     token: Token,
     declared: &mut Declared,
     out: &mut Printer<'_, W>,
 )
     requires first { 1 ≤ token.row }
     requires last { token.row ≤ row_count source.now.neighbours.view.now token.table }
-    requires member { (model : Metadata) → IsModel source.now.neighbours.view.now model → IsMemberOf model token.table token.row class }
-    requires shown { (model : Metadata) → IsModel source.now.neighbours.view.now model → is_shown source.now.options model token ≡ true }
-    ensures { (model : Metadata) → IsModel source.now.neighbours.view.now model → PrintsRows source.now.options model out.old out.new (token ∷ []) }
+    ensures { (model : Metadata) → IsModel source.now.neighbours.view.now model → PrintsRows source.now.options model out.old out.new (row_of token.table token.row) }
 {
+    cli_lines::laws::lines_follow::<W>();
+    if !source.shows(token) {
+        return;
+    }
+    let class = type_of_member(&source.neighbours, token);
     match declare_row(source, token, declared) {
         Ok(()) => match out.form() {
             Form::Text | Form::Letters => {

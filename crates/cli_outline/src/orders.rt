@@ -102,13 +102,6 @@ fn key_of(
     Vec::from_slice(declared.alloc, key)
 }
 
-/// The number of bytes of a key, by the number of rows that are put in order together.
-fn key_limit(count: u32) -> usize
-    ensures { result ≡ key_limit count }
-{
-    OWN_BYTES + SHARED_BYTES / (count as usize + 1)
-}
-
 /// Some rows of a table with their keys, in ascending order.
 fn keyed_rows(
     source: &Source<'_, '_>,
@@ -122,23 +115,14 @@ fn keyed_rows(
     ensures keys { (model : Metadata) → IsModel source.now.neighbours.view.now model → IfOk result (λ keyed. All (IsKeyed source.now.options model table (key_limit (rows.«end» - rows.start))) keyed.items) }
 {
     let (first, past) = (rows.start, rows.end);
-    let limit = key_limit(past.saturating_sub(first));
+    let count = past.saturating_sub(first) as usize;
+    let limit = OWN_BYTES + SHARED_BYTES / (count + 1);
     let mut keyed = Vec::new(declared.alloc);
     for row in first..past {
         let key = key_of(source, Token { table, row }, limit, declared)?;
         keyed.push(Keyed { key, row })?;
     }
     Ok(keyed)
-}
-
-/// The order of two rows: that of the bytes of their keys; with one key, that of the rows.
-fn compare_keyed(left: &Keyed, right: &Keyed) -> Ordering
-    ensures { result ≡ keyed_cmp left.now right.now }
-{
-    match left.key.cmp(&right.key) {
-        Ordering::Equal => left.row.cmp(&right.row),
-        order => order,
-    }
 }
 
 /// Appends some rows of a table in the order of their keys.
@@ -158,7 +142,7 @@ fn push_in_order(
     keyed.sort_unstable_by(
         |left: &Keyed, right: &Keyed| -> Ordering
             ensures { result ≡ keyed_cmp left.now right.now }
-        { compare_keyed(left, right) },
+        { left.key.cmp(&right.key).then(left.row.cmp(&right.row)) },
     );
     for item in &keyed {
         order.push(item.row)?;

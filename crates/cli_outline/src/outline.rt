@@ -1,60 +1,30 @@
 //! Prints the outline of a view.
-ghost use Rattle.std.specs.Prelude.{◌≡◌, ◌≤◌, ◌+◌, Some};
+ghost use Rattle.std.specs.Prelude.{◌≡◌, ◌≤◌, ◌+◌};
 ghost use Rattle.table_schema.specs.declared.table.TableId.TheVariants.{TypeDef};
-ghost use Rattle.table_schema.specs.declared.token.Token.{Token as TheToken};
 ghost use Rattle.metadata.specs.Lookups.{IsRun};
 ghost use Rattle.metadata.specs.Metadata.{Metadata, count_in};
 ghost use Rattle.metadata.specs.Model.{IsModel};
 ghost use Rattle.metadata_source.specs.MemberLists.{cell_of, member_of, owner_of};
-ghost use Rattle.full_names.specs.RowNames.{IsMemberOf};
 ghost use Rattle.opening.specs.Views.{row_count};
-ghost use Rattle.cli_outline.specs.Chosen.{PrintsType};
-ghost use Rattle.cli_outline.specs.Outline.{class_by, class_rows, each_from, first_tables, last_tables, members, outline_rows, ref_tables, refs_rows, row_of, run_start};
+ghost use Rattle.cli_outline.specs.Chosen.{AreTypeRows};
+ghost use Rattle.cli_outline.specs.Outline.{class_by, class_rows, each_from, first_tables, last_tables, members, outline_rows, ref_tables, refs_rows, run_start};
 ghost use Rattle.cli_outline.specs.Orders.{AreOutlineRows, row_in};
 ghost use Rattle.cli_outline.specs.Printed.{PrintsRows, PrintsSome};
 ghost use Rattle.cli_outline.specs.References.{PrintsRefs};
-ghost use Rattle.cli_outline.specs.Subjects.{PrintsAlone, PrintsNone, PrintsSubject};
+ghost use Rattle.cli_outline.specs.Subjects.{PrintsNone, PrintsSubject};
 
-use crate::chosen::{Choice, print_chosen};
-use crate::laws::rows_follow;
-use crate::line::print_line;
-use crate::mapped::{Mapped, print_mapped};
+use crate::chosen::{Choice, print_chosen, print_positions};
+use crate::line::print_row;
+use crate::mapped::print_mapped;
 use crate::outcome::Outcome;
 use crate::source::{OutlineOptions, Source};
 use cli_declarations::Declared;
 use cli_lines::Printer;
 use cli_paths::{Subject, finds, found_row, wanted_types};
-use full_names::type_of_member;
 use opening::{CellCursor, MemberList, TableId, Token, View};
 use std::alloc::Global;
 use std::io::Write;
 use std::ops::Range;
-
-/// Prints the line of a row, if it has one. The type of a member is given, or found by binary search.
-pub(crate) fn print_row<W: Write>(
-    source: &Source<'_, '_>,
-    owner: Option<Token>,
-    token: Token,
-    declared: &mut Declared,
-    out: &mut Printer<'_, W>,
-)
-    requires first { 1 ≤ token.row }
-    requires last { token.row ≤ row_count source.now.neighbours.view.now token.table }
-    requires member { (class : TheToken) → owner ≡ Some class → (model : Metadata) → IsModel source.now.neighbours.view.now model → IsMemberOf model token.table token.row owner }
-    ensures { (model : Metadata) → IsModel source.now.neighbours.view.now model → PrintsRows source.now.options model out.old out.new (row_of token.table token.row) }
-{
-    rows_follow::<W>();
-    if !source.shows(token) {
-        return;
-    }
-    match owner {
-        Some(class) => print_line(source, Some(class), token, declared, out),
-        None => {
-            let class = type_of_member(&source.neighbours, token);
-            print_line(source, class, token, declared, out)
-        }
-    }
-}
 
 /// The members of an owner.
 pub(crate) fn run_of(cells: &mut CellCursor<'_, '_>, list: MemberList, row: u32) -> Range<u32>
@@ -85,22 +55,12 @@ fn print_members<W: Write>(
 )
     requires first { 1 ≤ row }
     requires last { row ≤ row_count cells.old (owner_of list) }
-    requires types { owner_of list ≡ TypeDef }
     requires at { cells.old ≡ source.now.neighbours.view.now }
     ensures same { cells.new ≡ cells.old }
     ensures lines { (model : Metadata) → IsModel source.now.neighbours.view.now model → PrintsRows source.now.options model out.old out.new (members (row_in source.now.orders.items) model list row) }
 {
-    metadata::laws::models_are_read();
-    rows_follow::<W>();
     let rows = run_of(cells, list, row);
-    let (first, past) = (rows.start, rows.end);
-    let table = TableId::TypeDef;
-    let class = Token { table, row };
-    let table = list.member();
-    for position in first..past {
-        let row = source.row_at(table, position);
-        print_row(source, Some(class), Token { table, row }, declared, out);
-    }
+    print_positions(source, list.member(), rows, Choice::All, declared, out);
 }
 
 /// Prints the lines of a type, of its fields, its methods, its events and its properties.
@@ -117,14 +77,13 @@ fn print_class<W: Write>(
     ensures same { cells.new ≡ cells.old }
     ensures lines { (model : Metadata) → IsModel source.now.neighbours.view.now model → PrintsRows source.now.options model out.old out.new (class_rows (row_in source.now.orders.items) model row) }
 {
-    rows_follow::<W>();
+    cli_lines::laws::lines_follow::<W>();
     let table = TableId::TypeDef;
-    let class = Token { table, row };
-    print_row(source, None, class, declared, out);
+    print_row(source, Token { table, row }, declared, out);
     print_members(source, cells, MemberList::Fields, row, declared, out);
     print_members(source, cells, MemberList::Methods, row, declared, out);
-    print_mapped(source, cells, Mapped::Events, row, declared, out);
-    print_mapped(source, cells, Mapped::Properties, row, declared, out);
+    print_mapped(source, cells, MemberList::Events, row, declared, out);
+    print_mapped(source, cells, MemberList::Properties, row, declared, out);
 }
 
 /// Prints the lines of all types and their members.
@@ -135,7 +94,7 @@ fn print_classes<W: Write>(
 )
     ensures { (model : Metadata) → IsModel source.now.neighbours.view.now model → PrintsRows source.now.options model out.old out.new (each_from (class_by (row_in source.now.orders.items) model) 1 (count_in model TypeDef + 1)) }
 {
-    rows_follow::<W>();
+    cli_lines::laws::lines_follow::<W>();
     let mut cells = CellCursor::new(source.neighbours.view);
     let count = source.neighbours.view.count(TableId::TypeDef);
     for position in 1..count + 1 {
@@ -181,7 +140,7 @@ fn last_tables() -> &'static [TableId]
 fn print_all<W: Write>(source: &Source<'_, '_>, declared: &mut Declared, out: &mut Printer<'_, W>)
     ensures { (model : Metadata) → IsModel source.now.neighbours.view.now model → PrintsRows source.now.options model out.old out.new (outline_rows (row_in source.now.orders.items) model) }
 {
-    rows_follow::<W>();
+    cli_lines::laws::lines_follow::<W>();
     print_chosen(source, first_tables(), Choice::All, declared, out);
     print_classes(source, declared, out);
     print_chosen(source, last_tables(), Choice::All, declared, out);
@@ -297,9 +256,9 @@ fn print_type<W: Write>(
 )
     requires first { 1 ≤ row }
     requires last { row ≤ row_count view.now TypeDef }
-    ensures { (model : Metadata) → IsModel view.now model → PrintsType options model row out.old out.new }
+    ensures { (model : Metadata) → IsModel view.now model → PrintsSome options model (AreTypeRows options model row) out.old out.new }
 {
-    rows_follow::<W>();
+    cli_lines::laws::lines_follow::<W>();
     match Source::sorted(alloc, view, options) {
         Ok(source) => {
             let mut cells = CellCursor::new(source.neighbours.view);
@@ -310,31 +269,6 @@ fn print_type<W: Write>(
             print_chosen(&source, last_tables(), describing, &mut declared, out);
         }
         Err(_) => out.fail(),
-    }
-}
-
-/// Prints the declaration of a row of another table than TypeDef, if it has one.
-fn print_alone<W: Write>(
-    alloc: Global,
-    view: &View<'_>,
-    token: Token,
-    options: OutlineOptions,
-    out: &mut Printer<'_, W>,
-) -> Outcome
-    requires first { 1 ≤ token.row }
-    requires last { token.row ≤ row_count view.now token.table }
-    ensures printed { (model : Metadata) → IsModel view.now model → PrintsAlone options model token out.old out.new result }
-    ensures untouched { PrintsNone out.old out.new result }
-{
-    match Source::new(alloc, view, options) {
-        Ok(source) => {
-            if !source.declares(token) {
-                return Outcome::NoSuchType;
-            }
-            print_row(&source, None, token, &mut Declared::new(alloc), out);
-            Outcome::Printed
-        }
-        Err(_) => Outcome::OutOfMemory,
     }
 }
 
@@ -352,15 +286,21 @@ pub fn print_outline_of<W: Write>(
     ensures printed { (model : Metadata) → IsModel view.now model → PrintsSubject options model subject.entry out.old out.new result }
     ensures untouched { PrintsNone out.old out.new result }
 {
-    match found_row(alloc, view, subject) {
-        Ok(Some(token)) => {
-            if token.table == TableId::TypeDef {
-                print_type(alloc, view, token.row, options, out);
-                return Outcome::Printed;
-            }
-            print_alone(alloc, view, token, options, out)
-        }
-        Ok(None) => Outcome::NoSuchType,
-        Err(_) => Outcome::OutOfMemory,
+    let token = match found_row(alloc, view, subject) {
+        Ok(Some(token)) => token,
+        Ok(None) => return Outcome::NoSuchType,
+        Err(_) => return Outcome::OutOfMemory,
+    };
+    if token.table == TableId::TypeDef {
+        print_type(alloc, view, token.row, options, out);
+        return Outcome::Printed;
     }
+    let Ok(source) = Source::new(alloc, view, options) else {
+        return Outcome::OutOfMemory;
+    };
+    if !source.declares(token) {
+        return Outcome::NoSuchType;
+    }
+    print_row(&source, token, &mut Declared::new(alloc), out);
+    Outcome::Printed
 }

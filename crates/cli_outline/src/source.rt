@@ -1,9 +1,7 @@
 //! What an outline is printed from, and what is shown of it.
 ghost use Rattle.std.proofs.Props.{props};
 ghost use Rattle.std.specs.Prelude.{◌≡◌, IfOk, IfSome};
-ghost use Rattle.metadata.specs.Metadata.{Metadata};
-ghost use Rattle.metadata.specs.Model.{IsModel};
-ghost use Rattle.cli_outline.specs.Orders.{AreRowsIn, KeepsRuns, row_in};
+ghost use Rattle.cli_outline.specs.Orders.{AreRowsIn};
 ghost use Rattle.cli_outline.specs.Shown.{asked};
 
 use crate::orders::{TableOrder, orders_by_name, rows_of};
@@ -70,7 +68,6 @@ pub(crate) struct Source<'v, 'a> {
     ghost same_view: { IfSome visible (λ rows. rows.view.now ≡ neighbours.view.now) } by { Prim.hlevel props },
     ghost asked: { options.rows ≡ asked visible },
     ghost within: { AreRowsIn neighbours.view.now orders.items },
-    ghost kept: { (model : Metadata) → IsModel neighbours.view.now model → KeepsRuns model (row_in orders.items) },
 }
 
 /// The visible rows of a view, if only these are shown.
@@ -97,9 +94,8 @@ impl<'v, 'a> Source<'v, 'a> {
     ghost use Rattle.metadata.specs.Metadata.{Metadata};
     ghost use Rattle.metadata.specs.Model.{IsModel};
     ghost use Rattle.opening.specs.Views.{row_count};
-    ghost use Rattle.cli_outline.specs.declared.source.Sorting.TheVariants.{ByName};
     ghost use Rattle.cli_outline.specs.Orders.{IsOrder, row_in};
-    ghost use Rattle.cli_outline.specs.Shown.{has_line, is_among, is_shown};
+    ghost use Rattle.cli_outline.specs.Shown.{has_line, is_shown};
     ghost use Rattle.cli_outline.specs.Subjects.{is_declared};
 
     /// What the outline of a view is printed from, in the order of the rows.
@@ -126,25 +122,6 @@ impl<'v, 'a> Source<'v, 'a> {
         })
     }
 
-    /// What it is printed from in the order of the names.
-    ///
-    /// # Errors
-    ///
-    /// Out of memory.
-    fn by_name(self, alloc: Global) -> Result<Source<'v, 'a>, AllocError>
-        ensures view { IfOk result (λ source. source.neighbours.view.now ≡ self.entry.neighbours.view.now) }
-        ensures options { IfOk result (λ source. source.options ≡ self.entry.options) }
-        ensures order { (model : Metadata) → IsModel self.entry.neighbours.view.now model → IfOk result (λ source. IsOrder self.entry.options ByName model (row_in source.orders.items)) }
-    {
-        let orders = orders_by_name(alloc, &self)?;
-        Ok(Source {
-            neighbours: self.neighbours,
-            options: self.options,
-            visible: self.visible,
-            orders,
-        })
-    }
-
     /// What the outline of a view is printed from, in the order that is asked for.
     ///
     /// # Errors
@@ -159,10 +136,13 @@ impl<'v, 'a> Source<'v, 'a> {
         ensures options { IfOk result (λ source. source.options ≡ options) }
         ensures order { (model : Metadata) → IsModel view.now model → IfOk result (λ source. IsOrder options options.sorting model (row_in source.orders.items)) }
     {
-        let source = Source::new(alloc, view, options)?;
+        let mut source = Source::new(alloc, view, options)?;
         match options.sorting {
             Sorting::ByRow => Ok(source),
-            Sorting::ByName => source.by_name(alloc),
+            Sorting::ByName => {
+                source.orders = orders_by_name(alloc, &source)?;
+                Ok(source)
+            }
         }
     }
 
@@ -205,24 +185,16 @@ impl<'v, 'a> Source<'v, 'a> {
         is_declared_in(token.table) && self.has_line(token)
     }
 
-    /// Whether a row is among those that are asked for.
-    fn asks_for(&self, token: Token) -> bool
-        requires first { 1 ≤ token.row }
-        requires last { token.row ≤ row_count self.now.neighbours.view.now token.table }
-        ensures { (model : Metadata) → IsModel self.now.neighbours.view.now model → result ≡ is_among self.now.options.rows model token }
-    {
-        match &self.visible {
-            Some(rows) => rows.is_visible(&self.neighbours, token),
-            None => true,
-        }
-    }
-
     /// Whether a row has a line.
     pub(crate) fn shows(&self, token: Token) -> bool
         requires first { 1 ≤ token.row }
         requires last { token.row ≤ row_count self.now.neighbours.view.now token.table }
         ensures { (model : Metadata) → IsModel self.now.neighbours.view.now model → result ≡ is_shown self.now.options model token }
     {
-        self.has_line(token) && self.asks_for(token)
+        self.has_line(token)
+            && match &self.visible {
+                Some(rows) => rows.is_visible(&self.neighbours, token),
+                None => true,
+            }
     }
 }

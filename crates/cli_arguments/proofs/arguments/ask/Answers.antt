@@ -1,5 +1,5 @@
 use Rattle.std.proofs.Common.{◌≡◌, ◌∙◌, true, Some, ap, map, refl, sym}
-use Rattle.cli_arguments.proofs.Prelude.{clap_on_literals, err_from_is_err_and, clim}
+use Rattle.cli_arguments.proofs.Prelude.{clap_on_literals, clim}
 use Rattle.clap.specs.Words.{Text, found_of, is_simple, rows_of}
 use Rattle.cli_arguments.proofs.KnownNames.{is_known}
 use Rattle.cli_arguments.proofs.Readings.{named_back, rows_met}
@@ -8,13 +8,6 @@ use Rattle.cli_arguments.proofs.arguments.ask.Goals as goal
 clim_is_simple : is_simple clim ≡ true
 unfolding clap_on_literals
 clim_is_simple = refl
-
-pub returns-in_err-matches-clause-refused : goal.returns-in_err-matches-clause-refused
-returns-in_err-matches-clause-refused c =
-    let p = err_from_is_err_and c.from_residual.result c.from_residual.ensures.1 in rw (p.1, p.2) c.in_err-matches.ensures.refused
-
-pub unwrap-requires : goal.unwrap-requires
-unwrap-requires c = c.subcommand.ensures.variant ∙ c.in_ok-matches.ensures.subcommand
 
 pub unwrap-subcommand-requires : goal.unwrap-subcommand-requires
 unwrap-subcommand-requires c =

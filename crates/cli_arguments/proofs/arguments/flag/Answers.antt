@@ -6,6 +6,5 @@ pub returns : goal.returns
 returns c =
     let found = found_of c.args.given.now in
     let id = c.args.id.now in
-    flag_is _ (one_of id (rows_of found)) c.get_one.result c.eq.result c.eq.ensures
-    (λ none. c.get_one.ensures.none (one_text-rows found id ∙ none))
-    (λ t is. c.get_one.ensures.value t (one_text-rows found id ∙ is))
+    rw c.unwrap_or.ensures (flag_is _ (one_of id (rows_of found)) c.get_one.result (λ none. c.get_one.ensures.none (one_text-rows found id ∙ none))
+    (λ t is. c.get_one.ensures.value t (one_text-rows found id ∙ is)))

@@ -1,8 +1,38 @@
-use Rattle.cli_compare.proofs.Prelude.{◌≡◌, ◌∙◌, [], List, ap, length, subst, sym, Decides-eqb, Part, Prints}
-use Rattle.cli_compare.proofs.DifferenceLemmas.{compared_some}
+use Rattle.cli_compare.proofs.Prelude.{◌∷◌, [], ◌∙◌, ◌+◌, drop, get_or, map, sym, drop_all, drop_more, IsThere, Version, difference_line, ◌≡◌, ◌==◌, List, true, false, length, refl, Metadata, Difference, compared_lines}
+use Rattle.std.proofs.lemmas.List.Elements.{All-get_or}
 use Rattle.cli_compare.proofs.differences.print_differences.Goals as goal
+
+-- the lines of what differs, if something does
+compared_some : (left right : Metadata) (found : List Difference) → (length found == 0) ≡ false → compared_lines left right found ≡ map (difference_line left right) found
+compared_some left right [] some = let bad : true ≡ false = some in cc
+compared_some left right (difference ∷ differences) some = refl
+
+pub loop-difference-init : goal.loop-difference-init
+loop-difference-init g c = record {
+  one = c.new-one.ensures;
+  other = c.new-other.ensures;
+  lines = λ model other is also. c.reports_are_completed.ensures.start _ _;
+}
+
+pub print_difference-requires : goal.print_difference-requires
+print_difference-requires g c =
+    rw (c.loop-difference.invariant.one, c.loop-difference.invariant.other)
+    (All-get_or (IsThere c.args.left.now c.args.right.now) c.args.found.now c.loop-difference.difference-index Version c.loop-difference-test.true c.requires)
+
+pub loop-difference-preserved : goal.loop-difference-preserved
+loop-difference-preserved g c = record {
+  one = c.print_difference.ensures.left ∙ c.loop-difference.invariant.one;
+  other = c.print_difference.ensures.right ∙ c.loop-difference.invariant.other;
+  lines = λ model other is also.
+      let all = c.args.found.now in
+      let index = c.loop-difference.difference-index in
+      let line = difference_line model other in
+      c.reports_are_completed.ensures.more _ _ _ (line (get_or all index Version) ∷ []) (map line (drop (index + 1) all)) (map line all)
+      (rw (drop_more all index Version c.loop-difference-test.true) at (c.loop-difference.invariant.lines model other is also))
+      (c.print_difference.ensures.line model other (rw (← c.loop-difference.invariant.one) at is) (rw (← c.loop-difference.invariant.other) at also));
+}
 
 pub returns : goal.returns
 returns g c = λ model other is also.
-    let some : c.args.found.now ≡ [] → ⊥ = λ none. let test = sym c.if-is_empty.false ∙ c.is_empty.ensures ∙ (Decides-eqb (length c.args.found.now) 0).1 (ap length none) in cc in
-    subst (λ (lines : List (List Part)). Prints c.args.out.now c.print_each.new.out lines) (sym (compared_some model other c.args.found.now some)) (c.print_each.ensures model other is also)
+    rw (compared_some model other c.args.found.now (sym c.is_empty.ensures ∙ c.if-is_empty.false))
+    (c.reports_are_completed.ensures.all _ _ _ (rw (drop_all c.loop-difference.difference-index c.args.found.now c.loop-difference-test.false) at (c.loop-difference.invariant.lines model other is also)))

@@ -1,17 +1,13 @@
-use Rattle.cli_outline.proofs.Prelude.{◌≡◌, ◌∙◌, ℕ, List, Some, None, take, ap, subst, sym, take_all, position, ends_word}
-use Rattle.cli_outline.proofs.DeclarationLemmas.{no_word_end, word_boundary, word_found}
+use Rattle.cli_outline.proofs.Prelude.{◌≡◌, ◌∙◌, ap, length, take, unwrap_or, position, position_or_len, ends_word}
+use Rattle.cli_outline.proofs.DeclarationLemmas.{word_boundary, word_len}
 use Rattle.cli_outline.proofs.line.first_word.Goals as goal
 
 pub split_at-requires : goal.split_at-requires
 split_at-requires c =
-    word_boundary c.args.text.now c.in-Some.len (subst (λ (bytes : List ℕ). Some c.in-Some.len ≡ position ends_word bytes) c.as_bytes.ensures.value c.in-Some.ensures)
+    let same : c.unwrap_or-len.result ≡ position_or_len ends_word c.args.text.now = rw (c.unwrap_or-len.ensures, c.end_of_word.ensures, c.as_bytes.ensures.value) (word_len c.args.text.now) in
+    rw same (word_boundary c.args.text.now)
 
-pub returns-in-Some : goal.returns-in-Some
-returns-in-Some c =
-    let found = subst (λ (bytes : List ℕ). Some c.in-Some.len ≡ position ends_word bytes) c.as_bytes.ensures.value c.in-Some.ensures in
-    c.split_at.ensures.front ∙ ap (λ n. take n c.args.text.now) (word_found ends_word c.args.text.now c.in-Some.len found).1
-
-pub returns-in-None : goal.returns-in-None
-returns-in-None c =
-    let none = subst (λ (bytes : List ℕ). None ≡ position ends_word bytes) c.as_bytes.ensures.value c.in-None.ensures in
-    sym (take_all _ c.args.text.now (no_word_end ends_word c.args.text.now none))
+pub returns : goal.returns
+returns c =
+    let same : c.unwrap_or-len.result ≡ position_or_len ends_word c.args.text.now = rw (c.unwrap_or-len.ensures, c.end_of_word.ensures, c.as_bytes.ensures.value) (word_len c.args.text.now) in
+    c.split_at.ensures.front ∙ ap (λ n. take n c.args.text.now) same

@@ -1,28 +1,26 @@
-use Rattle.cli_outline.proofs.Prelude.{◌≡◌, ◌∙◌, ◌+◌, ℕ, ap, drop, map, refl, sym, arith, flat_map, TypeDef, cell_columns, row_count, owner_of, Events, Properties, row_in, link_of, list_of, mapped_rows, type_rows, token_at}
-use Rattle.navigation.specs.declared.links.Link.{Link}
+use Rattle.cli_outline.proofs.Prelude.{◌≡◌, ◌∙◌, ◌+◌, ℕ, ap, drop, map, refl, sym, arith, flat_map, TypeDef, cell_columns, row_count, MemberList, owner_of, row_in, map_link, mapped_rows, type_rows, token_at}
+use Rattle.metadata_source.specs.declared.member_lists.MemberList.TheVariants as list
 use Rattle.navigation.specs.Keyed.{row_of}
 use Rattle.navigation.specs.Linked.{linked, number_to, table_of as linked_table}
-use Rattle.cli_outline.specs.declared.mapped.Mapped.{Mapped}
-use Rattle.cli_outline.proofs.PrintedLemmas.{found_left, none_left, rows_are}
+use Rattle.cli_outline.proofs.PrintedLemmas.{found_left, none_left, rows_are, rows_more, rows_nothing}
 use Rattle.cli_outline.proofs.mapped.print_mapped.Goals as goal
 
 -- the number of a reference to a type is the row of the type
-number_of_class : (of : Mapped) {link : Link} → link ≡ link_of of → (class : ℕ) → class ≡ number_to link (token_at TypeDef class)
+number_of_class : (of : MemberList) (class : ℕ) → class ≡ number_to (map_link of) (token_at TypeDef class)
 unfolding cell_columns
-number_of_class Events is class = rw is refl
-number_of_class Properties is class = rw is refl
-
-owners : (of : Mapped) → linked_table (link_of of) ≡ owner_of (list_of of)
-owners Events = refl
-owners Properties = refl
+number_of_class list.Fields class = refl
+number_of_class list.Methods class = refl
+number_of_class list.Params class = refl
+number_of_class list.Events class = refl
+number_of_class list.Properties class = refl
 
 pub print_map-requires : goal.print_map-requires
 print_map-requires g c =
     let found = c.linked-maps.ensures.within c.loop-map.map-index (record { key = 0; row = 0 }) c.loop-map-test.true in
     let first = found.0 in
     let last = found.1 in
-    let table = ap (λ l. linked_table l) c.link.ensures ∙ owners c.args.of in
-    let rows = ap (λ t. row_count c.args.source.now.neighbours.view.now t) table ∙ ap (λ root. row_count root (owner_of (list_of c.args.of))) (sym c.loop-map.invariant.same) in
+    let table = ap (λ l. linked_table l) c.map_link.ensures ∙ c.requires.maps in
+    let rows = ap (λ t. row_count c.args.source.now.neighbours.view.now t) table ∙ ap (λ root. row_count root (owner_of c.args.list)) (sym c.loop-map.invariant.same) in
     record {
       first = first;
       last = omega (arith, last, rows);
@@ -33,19 +31,19 @@ pub loop-map-preserved : goal.loop-map-preserved
 loop-map-preserved g c = record {
   same = c.print_map.ensures.same ∙ c.loop-map.invariant.same;
   lines = λ model later is printed.
-      let rows = mapped_rows (row_in c.args.source.now.orders.items) model c.args.of in
+      let rows = mapped_rows (row_in c.args.source.now.orders.items) model c.args.list in
       let maps = c.linked-maps.result.now in
       let index = c.loop-map.map-index in
       c.loop-map.invariant.lines model later is
       (rows_are (found_left rows maps index (record { key = 0; row = 0 }) c.loop-map-test.true)
-      (c.rows_follow.ensures.more c.args.source.now.options model _ _ _ _ (flat_map rows (map row_of (drop (index + 1) maps))) (c.print_map.ensures.lines model is) printed));
+      (rows_more c.args.source.now.options model c.lines_follow.ensures.more _ _ _ _ (flat_map rows (map row_of (drop (index + 1) maps))) (c.print_map.ensures.lines model is) printed));
 }
 
 pub returns-clause-lines : goal.returns-clause-lines
 unfolding type_rows
 returns-clause-lines g c = λ model is.
-    let rows = mapped_rows (row_in c.args.source.now.orders.items) model c.args.of in
+    let rows = mapped_rows (row_in c.args.source.now.orders.items) model c.args.list in
     let maps = c.linked-maps.result.now in
-    let linked_rows = c.linked-maps.ensures.rows model is (token_at TypeDef c.args.class) (number_of_class c.args.of c.link.ensures c.args.class) in
-    rows_are (ap (λ xs. flat_map rows xs) (linked_rows ∙ ap (λ l. linked model l (token_at TypeDef c.args.class)) c.link.ensures))
-    (c.loop-map.invariant.lines model c.loop-map.out is (rows_are (none_left rows maps c.loop-map.map-index c.loop-map-test.false) (c.rows_follow.ensures.nothing c.args.source.now.options model c.loop-map.out)))
+    let linked_rows = c.linked-maps.ensures.rows model is (token_at TypeDef c.args.class) (rw c.map_link.ensures (number_of_class c.args.list c.args.class)) in
+    rows_are (ap (λ xs. flat_map rows xs) (linked_rows ∙ ap (λ l. linked model l (token_at TypeDef c.args.class)) c.map_link.ensures))
+    (c.loop-map.invariant.lines model c.loop-map.out is (rows_are (none_left rows maps c.loop-map.map-index c.loop-map-test.false) (rows_nothing c.args.source.now.options model c.loop-map.out (c.lines_follow.ensures.nothing c.loop-map.out))))

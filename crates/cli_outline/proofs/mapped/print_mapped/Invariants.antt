@@ -8,6 +8,6 @@ abbrev pub invariant-loop-map : goal.invariant-loop-map
 invariant-loop-map g l = record {
   same : l.cells ≡ l.source.neighbours.view.now;
   lines : (model : Metadata) (later : Printed _) → IsModel l.source.neighbours.view.now model
-      → PrintsRows l.source.options model l.out later (flat_map (mapped_rows (row_in l.source.orders.items) model l.of) (map row_of (drop l.map-index l.maps)))
-      → PrintsRows l.source.options model l.initial.out later (flat_map (mapped_rows (row_in l.source.orders.items) model l.of) (map row_of l.maps));
+      → PrintsRows l.source.options model l.out later (flat_map (mapped_rows (row_in l.source.orders.items) model l.list) (map row_of (drop l.map-index l.maps)))
+      → PrintsRows l.source.options model l.initial.out later (flat_map (mapped_rows (row_in l.source.orders.items) model l.list) (map row_of l.maps));
 }

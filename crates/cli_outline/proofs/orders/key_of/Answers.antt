@@ -1,5 +1,4 @@
-use Rattle.cli_outline.proofs.Prelude.{◌∙◌, Bool, ap, subst, sym, take, take_min, IsKeyIf}
-use Rattle.cli_outline.proofs.OrderLemmas.{if_ok}
+use Rattle.cli_outline.proofs.Prelude.{◌∙◌, Bool, IfOk-weaker, ap, subst, sym, take, take_min, IsKeyIf}
 use Rattle.cli_outline.proofs.orders.key_of.Goals as goal
 
 pub returns : goal.returns
@@ -8,8 +7,8 @@ returns c = λ model is.
     let limit = c.args.limit in
     let whole = c.as_bytes-whole.result.now in
     let cut = c.split_at.ensures.front ∙ ap (λ n. take n whole) c.min.ensures ∙ take_min limit whole ∙ ap (take limit) (c.as_bytes-whole.ensures.value ∙ it.4) in
-    if_ok c.from_slice.result c.from_slice.ensures.items (λ key same.
-    subst (λ (shown : Bool). IsKeyIf shown model limit c.args.token key.items) (sym c.if-not-shows.false ∙ c.shows.ensures model is) (it.0, it.1, it.2, it.3, same ∙ cut))
+    IfOk-weaker c.from_slice.result _ _ (λ key same.
+    subst (λ (shown : Bool). IsKeyIf shown model limit c.args.token key.items) (sym c.if-not-shows.false ∙ c.shows.ensures model is) (it.0, it.1, it.2, it.3, same ∙ cut)) c.from_slice.ensures.items
 
 pub returns-then-not-shows : goal.returns-then-not-shows
 returns-then-not-shows c = λ model is.

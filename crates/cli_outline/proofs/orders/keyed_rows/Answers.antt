@@ -22,11 +22,11 @@ loop-row-preserved c =
     let below = c.loop-row-test.true in
     let more : row + 1 - first ≡ n + 1 = omega (arith, from) in
     let at : first + n ≡ row = omega (arith, from) in
-    let limit = c.key_limit-limit.ensures ∙ ap key_limit c.saturating_sub.ensures in
+    let limit = ap key_limit c.saturating_sub-count.ensures in
     record {
       below = omega (arith, from, below);
       rows = ap (map row_of_keyed) c.in_ok-push.ensures.items ∙ map-append row_of_keyed c.loop-row.keyed.items (item ∷ [])
-          ∙ ap (λ xs. xs ++ row ∷ []) c.loop-row.invariant.rows ∙ sym (ap (range_with_len first) more ∙ range_more first n ∙ ap (λ r. range_with_len first n ++ r ∷ []) at);
+          ∙ ap (λ xs. xs ++ row ∷ []) c.loop-row.invariant.rows ∙ sym (ap (range_with_len first) more ∙ range_more first n row at);
       keys = λ model is.
           let key = subst (λ n. IsKey c.args.source.now.options model n (token_at c.args.table row) c.in_ok-key.key.items) limit (c.in_ok-key.ensures model is) in
           subst (All (IsKeyed c.args.source.now.options model c.args.table (key_limit count))) (sym c.in_ok-push.ensures.items)

@@ -1,4 +1,4 @@
-use Rattle.cli_outline.proofs.Prelude.{◌≡◌, ◌∙◌, ◌∷◌, ◌++◌, [], ◌+◌, ◌-◌, ap, append-nil, append_assoc, get_or, map, refl, rules, subst, sym, take, range_with_len, IsPermutation, map-append, take_all, take_more, All-permutation, IsPermutation-map, answers_always, ranks_by, IsKeyed, key_limit, keyed_cmp, row_of_keyed, Keyed}
+use Rattle.cli_outline.proofs.Prelude.{◌≡◌, ◌∙◌, ◌∷◌, ◌++◌, [], ◌+◌, ◌-◌, ap, append-nil, append_assoc, get_or, map, refl, rules, subst, sym, take, range_with_len, IsPermutation, map_more, take_all, All-permutation, IsPermutation-map, answers_always, ranks_by, IsKeyed, key_limit, keyed_cmp, row_of_keyed, Keyed}
 use Rattle.std.specs.Ordering.{is_lt}
 use Rattle.cli_outline.proofs.OrderLemmas.{keyed_cmp_total, rows_within}
 use Rattle.cli_outline.proofs.orders.push_in_order.Goals as goal
@@ -15,7 +15,7 @@ loop-item-preserved c =
     let rows = map row_of_keyed (take i items) in
     let at : get_or items i item ≡ item = search rules in
     let more : map row_of_keyed (take (i + 1) items) ≡ rows ++ item.row ∷ [] =
-    ap (map row_of_keyed) (take_more items i item c.loop-item-test.true) ∙ map-append row_of_keyed (take i items) (get_or items i item ∷ []) ∙ ap (λ (it : Keyed). rows ++ it.row ∷ []) at in
+    map_more row_of_keyed items i item c.loop-item-test.true ∙ ap (λ (it : Keyed). rows ++ it.row ∷ []) at in
     c.in_ok-push.ensures.items ∙ ap (λ xs. xs ++ item.row ∷ []) c.loop-item.invariant ∙ append_assoc before rows (item.row ∷ []) ∙ sym (ap (λ xs. before ++ xs) more)
 
 pub returns : goal.returns

@@ -1,6 +1,6 @@
-use Rattle.cli_outline.proofs.Prelude.{◌≡◌, ◌∙◌, ◌++◌, [], ℕ, List, All, ◌+◌, ap, refl, subst, subst₂, sym, TableId, member_of, AreGrouped, IsOrdered, IsRowIn, row_at}
+use Rattle.cli_outline.proofs.Prelude.{◌≡◌, ◌∙◌, ◌++◌, [], ℕ, List, All, ◌+◌, IfOk-weaker, ap, refl, subst, subst₂, sym, TableId, member_of, AreGrouped, IsOrdered, IsRowIn, row_at}
 use Rattle.cli_outline.specs.declared.orders.Grouping.{Grouping}
-use Rattle.cli_outline.proofs.OrderLemmas.{appended, if_ok}
+use Rattle.cli_outline.proofs.OrderLemmas.{appended}
 use Rattle.cli_outline.proofs.orders.rows_in_order.Goals as goal
 
 pub returns-in_ok-push_in_order-in-Table-clause-within : goal.returns-in_ok-push_in_order-in-Table-clause-within
@@ -20,5 +20,5 @@ returns-in_ok-push_in_order-in-Table-clause-grouped c = λ model is.
 pub returns-in-Members-clause-grouped : goal.returns-in-Members-clause-grouped
 returns-in-Members-clause-grouped c = λ model is.
     let same : c.args.table ≡ member_of c.in-Members.list = c.in-Members.ensures.members c.in-Members.list refl in
-    if_ok c.members_in_order.result (c.members_in_order.ensures.grouped model is) (λ order grouped.
-    subst₂ (λ (table : TableId) (grouping : Grouping). AreGrouped c.args.source.now.options model table (row_at order.items) grouping) (sym same) c.in-Members.ensures.grouping grouped)
+    IfOk-weaker c.members_in_order.result _ _ (λ order.
+    subst₂ (λ (table : TableId) (grouping : Grouping). AreGrouped c.args.source.now.options model table (row_at order.items) grouping) (sym same) c.in-Members.ensures.grouping) (c.members_in_order.ensures.grouped model is)

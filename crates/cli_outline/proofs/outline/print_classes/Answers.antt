@@ -1,5 +1,5 @@
 use Rattle.cli_outline.proofs.Prelude.{◌+◌, ◌≤◌, ◌<◌, ◌∙◌, List, ℕ, ap, sym, subst, arith, TypeDef, count_in, row_count, row_in, class_by, class_rows, each_from}
-use Rattle.cli_outline.proofs.PrintedLemmas.{each_more, each_none, rows_are}
+use Rattle.cli_outline.proofs.PrintedLemmas.{each_more, each_none, rows_are, rows_more, rows_nothing}
 use Rattle.cli_outline.proofs.outline.print_classes.Goals as goal
 
 pub row_at-row-requires : goal.row_at-row-requires
@@ -22,7 +22,7 @@ loop-position-preserved g c = record {
       let rows = class_by (row_in c.args.source.now.orders.items) model in
       let past = count_in model TypeDef + 1 in
       c.loop-position.invariant.lines model later is (rows_are (sym (each_more rows c.loop-position.position past within))
-      (c.rows_follow.ensures.more c.args.source.now.options model _ _ _ _ (each_from rows (c.loop-position.position + 1) past) own printed));
+      (rows_more c.args.source.now.options model c.lines_follow.ensures.more _ _ _ _ (each_from rows (c.loop-position.position + 1) past) own printed));
 }
 
 pub returns : goal.returns
@@ -31,4 +31,4 @@ returns g c = λ model is.
     let past : count_in model TypeDef + 1 ≤ c.loop-position.position = omega (arith, counted, c.loop-position-test.false) in
     let rows = class_by (row_in c.args.source.now.orders.items) model in
     c.loop-position.invariant.lines model c.loop-position.out is
-    (rows_are (sym (each_none rows c.loop-position.position (count_in model TypeDef + 1) past)) (c.rows_follow.ensures.nothing c.args.source.now.options model c.loop-position.out))
+    (rows_are (sym (each_none rows c.loop-position.position (count_in model TypeDef + 1) past)) (rows_nothing c.args.source.now.options model c.loop-position.out (c.lines_follow.ensures.nothing c.loop-position.out)))

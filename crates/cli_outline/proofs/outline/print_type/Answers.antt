@@ -1,5 +1,5 @@
 use Rattle.cli_outline.proofs.Prelude.{List, [], ℕ, inl, inr, refl, sym, subst, flat_map, TableId, IsModel, type_token, AreDescribing, row_in, all_rows}
-use Rattle.cli_outline.proofs.PrintedLemmas.{options_are}
+use Rattle.cli_outline.proofs.PrintedLemmas.{options_are, rows_more}
 use Rattle.cli_outline.proofs.outline.print_type.Goals as goal
 
 pub returns-in-Ok : goal.returns-in-Ok
@@ -16,7 +16,7 @@ returns-in-Ok g c = λ model is.
         subst (λ (tables : List TableId). AreDescribing model (type_token c.args.row) (flat_map (all_rows order model) tables) found.0) c.last_tables.ensures found.1,
         refl,
       ),
-      options_are c.in-Ok.ensures.options (c.rows_follow.ensures.more _ model _ _ _ _ _ (c.print_class.ensures.lines model of) found.2),
+      options_are c.in-Ok.ensures.options (rows_more _ model c.lines_follow.ensures.more _ _ _ _ _ (c.print_class.ensures.lines model of) found.2),
     )
 
 pub returns-in-Err : goal.returns-in-Err

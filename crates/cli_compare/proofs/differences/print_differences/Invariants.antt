@@ -1,5 +1,5 @@
 use Rattle.cli_compare.proofs.Prelude.{◌≡◌, drop, map, Metadata, IsModel, Completes, difference_line}
-use Rattle.cli_compare.proofs.differences.print_each.Given as goal
+use Rattle.cli_compare.proofs.differences.print_differences.Given as goal
 
 abbrev pub invariant-loop-difference : goal.invariant-loop-difference
 invariant-loop-difference g l = record {

@@ -1,15 +1,20 @@
 use Rattle.cli_outline.proofs.Prelude.{◌≡◌, ◌∙◌, ◌∷◌, [], Bool, List, ℕ, inl, inr, refl, subst, sym, string_bytes, Text, Letters, JsonLines, Prints, declaration_line, has_directive, text_line}
 use Rattle.cli_outline.proofs.DeclarationLemmas.{text_printed}
-use Rattle.cli_outline.proofs.PrintedLemmas.{row_printed, rows_failed}
-use Rattle.cli_outline.proofs.line.print_line.Goals as goal
+use Rattle.cli_outline.proofs.PrintedLemmas.{row_hidden, row_printed, rows_failed}
+use Rattle.cli_outline.proofs.line.print_row.Goals as goal
+
+pub returns-then-not-shows : goal.returns-then-not-shows
+returns-then-not-shows g c = λ model is.
+    row_hidden c.args.source.now.options model c.args.out.now c.args.token (sym (c.shows.ensures model is) ∙ c.if-not-shows.true) (c.lines_follow.ensures.nothing c.args.out.now)
 
 pub returns-in-Text : goal.returns-in-Text
 returns-in-Text g c = λ model is.
     let options = c.args.source.now.options in
     let of = c.args.token in
+    let class = c.type_of_member-class.result in
     let text = string_bytes c.declare_row.new.declared.text in
-    row_printed options model c.args.out.now c.print_text.new.out of _ (c.requires.shown model is) (text, c.in-Ok.ensures model is, c.args.class, c.requires.member model is, refl)
-    (text_printed c.args.out.now c.print_text.new.out options.tokens of c.args.class (has_directive model of) text
+    row_printed options model c.args.out.now c.print_text.new.out of _ (sym (c.shows.ensures model is) ∙ c.if-not-shows.false) (text, c.in-Ok.ensures model is, class, c.type_of_member-class.ensures.member model is, refl)
+    (text_printed c.args.out.now c.print_text.new.out options.tokens of class (has_directive model of) text
     (λ json. elim c.in-Text.is [
       | inl form ↦ let f : Text ≡ JsonLines = sym form ∙ c.form.ensures ∙ json in absurd cc
       | inr form ↦ let f : Letters ≡ JsonLines = sym form ∙ c.form.ensures ∙ json in absurd cc
@@ -20,9 +25,10 @@ pub returns-in-JsonLines : goal.returns-in-JsonLines
 returns-in-JsonLines g c = λ model is.
     let options = c.args.source.now.options in
     let of = c.args.token in
+    let class = c.type_of_member-class.result in
     let text = string_bytes c.declare_row.new.declared.text in
-    row_printed options model c.args.out.now c.print_named.new.out of _ (c.requires.shown model is) (text, c.in-Ok.ensures model is, c.args.class, c.requires.member model is, refl)
-    (subst (λ (directive : Bool). Prints c.args.out.now c.print_named.new.out (declaration_line options.tokens of c.args.class directive text ∷ []))
+    row_printed options model c.args.out.now c.print_named.new.out of _ (sym (c.shows.ensures model is) ∙ c.if-not-shows.false) (text, c.in-Ok.ensures model is, class, c.type_of_member-class.ensures.member model is, refl)
+    (subst (λ (directive : Bool). Prints c.args.out.now c.print_named.new.out (declaration_line options.tokens of class directive text ∷ []))
     (c.has_directive-has_directive.ensures model is) (c.print_named.ensures (sym c.form.ensures ∙ c.in-JsonLines.is) options.tokens))
 
 pub returns-in-Err : goal.returns-in-Err
