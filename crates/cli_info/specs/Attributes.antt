@@ -1,9 +1,10 @@
 -- The custom attributes of the assembly whose arguments are all strings (ECMA-335 II.22.10 and II.23.3).
-use Rattle.std.specs.Prelude.{ℕ, zero, suc, ◌+◌, ◌-◌, ◌==◌, ◌&&◌, Bool, true, false, List, [], ◌∷◌, ◌++◌, codes, filter, flat_map, length, take, Option, None, Some, option_and_then}
+use Rattle.std.specs.Prelude.{ℕ, zero, suc, ◌+◌, ◌-◌, ◌==◌, ◌&&◌, Bool, false, List, [], ◌∷◌, ◌++◌, codes, filter, flat_map, length, take, Option, None, Some, option_and_then}
 use Rattle.std.specs.List.{range_with_len}
 use Rattle.table_schema.specs.declared.table.TableId.{TableId}
-use Rattle.table_schema.specs.declared.table.TableId.TheVariants.{Assembly, CustomAttribute, TypeDef, TypeRef}
+use Rattle.table_schema.specs.declared.table.TableId.TheVariants.{CustomAttribute, TypeDef, TypeRef}
 use Rattle.table_schema.specs.declared.token.Token.{Token}
+use Rattle.table_schema.specs.Tables.{table_number}
 use Rattle.attribute_values.specs.Items.{Item, fixed, entry, named_count, named}
 use Rattle.attribute_constructors.specs.Constructors.{type_of}
 use Rattle.attribute_constructors.specs.Params.{params_of_constructor}
@@ -45,14 +46,11 @@ abbrev pub items_parts : List Item → List Part
 items_parts [] = []
 items_parts (first ∷ others) = first_parts first ++ flat_map item_parts others
 
-abbrev pub line_head : List ℕ → List ℕ → List Part
-line_head namespace own =
-    member name.Directive (plain (codes "attribute")) ∷ word (codes "attribute ") ∷ field name.Namespace (line.text namespace)
-    ∷ word (dot_after namespace) ∷ field name.Name (line.text own) ∷ []
-
 -- the name of the type after its namespace and a dot, the fixed arguments, and the named ones
 unfoldable pub attribute_line : List ℕ → List ℕ → List Item → List Part
-attribute_line namespace own items = line_head namespace own ++ items_parts items
+attribute_line namespace own items =
+    member name.Directive (plain (codes "attribute")) ∷ word (codes "attribute ") ∷ field name.Namespace (line.text namespace)
+    ∷ word (dot_after namespace) ∷ field name.Name (line.text own) ∷ items_parts items
 
 -- of a type that is a row of TypeDef or TypeRef
 abbrev pub lines_of_type : Metadata → TableId → ℕ → List Item → List (List Part)
@@ -68,14 +66,10 @@ abbrev pub lines_of_value : Metadata → Option Token → List ℕ → List (Lis
 lines_of_value model None value = []
 lines_of_value model (Some of) value = lines_of_items model (type_of model of.table of.row) (option_and_then (λ params. texts_in params value) (params_of_constructor model of.table of.row))
 
-abbrev pub is_assembly_table : TableId → Bool
-is_assembly_table Assembly = true
-is_assembly_table _ = false
-
--- the first row of Assembly, the only one that the standard allows
+-- the first row of Assembly, whose number is 0x20 (II.22.2): the only one that the standard allows
 abbrev pub is_assembly : Option Token → Bool
 is_assembly None = false
-is_assembly (Some of) = is_assembly_table of.table && of.row == 1
+is_assembly (Some of) = table_number of.table == 0x20 && of.row == 1
 
 -- whether a row is an attribute of the assembly
 abbrev pub is_own : Metadata → ℕ → Bool
@@ -94,14 +88,11 @@ own_after model earlier count = filter (is_own model) (range_with_len (earlier +
 abbrev pub attribute_limit : ℕ
 attribute_limit = 256
 
--- a number of attributes that are not read
-abbrev pub more_line : ℕ → List Part
-more_line number = member name.Directive (plain (codes "attributes")) ∷ word (codes "more attributes ") ∷ field name.Left (line.number number) ∷ []
-
--- the same, if there are any
+-- the number of attributes that are not read, if there are any
 abbrev pub more_lines : ℕ → List (List Part)
 more_lines zero = []
-more_lines (suc others) = more_line (suc others) ∷ []
+more_lines (suc others) =
+    (member name.Directive (plain (codes "attributes")) ∷ word (codes "more attributes ") ∷ field name.Left (line.number (suc others)) ∷ []) ∷ []
 
 -- the lines of the first of these attributes, and the number of the others
 abbrev pub lines_of_rows : Metadata → List ℕ → List (List Part)

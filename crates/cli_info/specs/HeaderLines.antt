@@ -2,7 +2,7 @@
 use Rattle.std.specs.Prelude.{ℕ, ◌+◌, ◌≤◌, ◌/◌, ◌%◌, ◌==◌, ◌&&◌, nat_le, if◌then◌else◌, List, [], ◌∷◌, codes, length, Option, None, Some}
 use Rattle.packed.specs.Number.{little_endian}
 use Rattle.packed.specs.Offsets.{part}
-use Rattle.pe.specs.Headers.{lfanew, magic}
+use Rattle.pe.specs.Headers.{lfanew, magic, wider}
 use Rattle.cli_header.specs.declared.header.CliHeader.{CliHeader}
 use Rattle.table_schema.specs.declared.table.TableId.TheVariants.{MethodDef}
 use Rattle.metadata.specs.Metadata.{Metadata, cell_in, count_in}
@@ -19,16 +19,13 @@ HasRoom file = (64 ≤ length file) × (lfanew file + 240 ≤ length file)
 abbrev pub machine : List ℕ → ℕ
 machine file = little_endian (part file (lfanew file + 4) 2)
 
--- the format by Magic (II.25.2.3.1), and the number of bytes that it has more than PE32 before the data directories
+-- the format by Magic (II.25.2.3.1)
 abbrev pub format_name : ℕ → List ℕ
 format_name code = if code == 0x20B then codes "PE32+" else codes "PE32"
 
-abbrev pub wider_by : ℕ → ℕ
-wider_by code = if code == 0x20B then 16 else 0
-
 -- the size in the seventh data directory, that of debug data (II.25.2.3.3)
 abbrev pub debug_size : List ℕ → ℕ
-debug_size file = little_endian (part file (lfanew file + 172 + wider_by (magic file)) 4)
+debug_size file = little_endian (part file (lfanew file + 172 + wider file) 4)
 
 -- the names of the machines of .NET, from Microsoft's PE format
 abbrev pub machine_word : ℕ → List ℕ

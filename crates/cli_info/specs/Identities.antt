@@ -1,5 +1,5 @@
 -- The identity of an assembly as .NET prints it: its name, version, culture and public key token (ECMA-335 II.22.2 and II.22.5).
-use Rattle.std.specs.Prelude.{ℕ, ◌+◌, ◌%◌, ◌==◌, nat_lt, Bool, false, if◌then◌else◌, List, [], ◌∷◌, ◌++◌, codes, length, map, reverse, take}
+use Rattle.std.specs.Prelude.{ℕ, ◌+◌, ◌%◌, ◌==◌, nat_lt, Bool, false, if◌then◌else◌, List, [], ◌∷◌, codes, length, map, reverse, take}
 use Rattle.std.specs.List.{range_with_len}
 use Rattle.hex.specs.Hex.{encode_lower}
 use Rattle.sha1.specs.Sha1.{sha1}
@@ -55,12 +55,6 @@ abbrev pub culture_text : List ℕ → List ℕ
 culture_text [] = codes "neutral"
 culture_text culture = culture
 
--- the numbers of the version
-abbrev pub version_parts : ℕ → ℕ → ℕ → ℕ → List Part
-version_parts major minor build revision =
-    word (codes ", Version=") ∷ field name.Major (number major) ∷ word (codes ".") ∷ field name.Minor (number minor)
-    ∷ word (codes ".") ∷ field name.Build (number build) ∷ word (codes ".") ∷ field name.Revision (number revision) ∷ []
-
 -- a name or a culture in a line of text; in JSON it is as it is
 abbrev pub shown_part : List ℕ → Part
 shown_part of = note (plain (display_name of))
@@ -72,8 +66,9 @@ token_part kind flags key = field name.Token (plain (token_text kind flags key))
 abbrev pub identity_in : Kind → (ℕ → Cell) → List Part
 identity_in kind cell =
     word (word_of kind) ∷ member (name_of kind) (text (text_of (cell 6))) ∷ shown_part (text_of (cell 6))
-    ∷ version_parts (number_of (cell 0)) (number_of (cell 1)) (number_of (cell 2)) (number_of (cell 3))
-    ++ word (codes ", Culture=") ∷ member name.Culture (text (culture_text (text_of (cell 7)))) ∷ shown_part (culture_text (text_of (cell 7)))
+    ∷ word (codes ", Version=") ∷ field name.Major (number (number_of (cell 0))) ∷ word (codes ".") ∷ field name.Minor (number (number_of (cell 1)))
+    ∷ word (codes ".") ∷ field name.Build (number (number_of (cell 2))) ∷ word (codes ".") ∷ field name.Revision (number (number_of (cell 3)))
+    ∷ word (codes ", Culture=") ∷ member name.Culture (text (culture_text (text_of (cell 7)))) ∷ shown_part (culture_text (text_of (cell 7)))
     ∷ word (codes ", PublicKeyToken=") ∷ token_part kind (number_of (cell 4)) (bytes_of (cell 5)) ∷ []
 
 unfoldable pub identity_line : Kind → Metadata → ℕ → List Part

@@ -1,5 +1,5 @@
 //! Prints the attributes of the assembly whose arguments are all strings (II.22.10 and II.23.3).
-ghost use Rattle.std.specs.Prelude.{◌≡◌, ◌≤◌, ◌<◌, ◌∷◌, [], flat_map, option_map};
+ghost use Rattle.std.specs.Prelude.{◌≡◌, ◌≤◌, ◌<◌, ◌∷◌, [], option_map};
 ghost use Rattle.table_schema.specs.declared.table.TableId.TheVariants.{CustomAttribute};
 ghost use Rattle.table_schema.specs.CellColumns.{cell_count};
 ghost use Rattle.attribute_values.specs.Views.{head_view, view};
@@ -10,7 +10,7 @@ ghost use Rattle.cli_declarations.specs.Parts.{text_of};
 ghost use Rattle.cli_print.specs.TypeLines.{dot_after};
 ghost use Rattle.cli_lines.specs.Printed.{Adds, Prints};
 ghost use Rattle.cli_lines.specs.Shown.{shown_value};
-ghost use Rattle.cli_info.specs.Attributes.{argument_parts, attribute_line, attribute_lines, attributes_lines, first_parts, is_assembly, is_assembly_table, is_own, item_parts, items_parts, lines_of_type, more_lines, quoted_or_null, string_parts};
+ghost use Rattle.cli_info.specs.Attributes.{argument_parts, attribute_line, attribute_lines, attributes_lines, first_parts, is_assembly, is_own, item_parts, items_parts, lines_of_type, more_lines, quoted_or_null};
 ghost use Rattle.cli_info.specs.Texts.{string_in};
 
 use crate::texts::{string_in, texts_in};
@@ -30,6 +30,9 @@ use std::io::Write;
 const PARENT: usize = 0;
 
 const VALUE: usize = 2;
+
+/// The number of Assembly (II.22.2).
+const ASSEMBLY: u8 = 0x20;
 
 /// The largest number of attributes of the assembly that are read. Many rows can share a constructor and a value that take long.
 const ATTRIBUTE_LIMIT: u32 = 256;
@@ -72,34 +75,16 @@ fn print_item<W: Write>(item: Item<'_>, out: &mut Printer<'_, W>)
     }
 }
 
-/// Adds the items of a value after the first one.
-fn print_others<W: Write>(items: Items<'_, '_>, out: &mut Printer<'_, W>)
-    ensures { Adds out.old out.new (flat_map item_parts items.entry) }
-{
-    cli_lines::laws::parts_follow::<W>();
-    for item in items {
-        print_item(item, out);
-    }
-}
-
-/// Adds the first argument, if it is a string.
-fn print_string<W: Write>(argument: Argument<'_>, out: &mut Printer<'_, W>)
-    ensures { Adds out.old out.new (string_parts (string_in (head_view argument.entry))) }
-{
-    cli_lines::laws::parts_follow::<W>();
-    if let Some(text) = string_in(argument) {
-        out.part(&Word(" "));
-        out.part(&Field(Name::Text, quoted_or_null(text)));
-    }
-}
-
-/// Adds the first item of a value.
+/// Adds the first item of a value, if it is a string.
 fn print_first<W: Write>(item: Item<'_>, out: &mut Printer<'_, W>)
     ensures { Adds out.old out.new (first_parts (view item.entry)) }
 {
     cli_lines::laws::parts_follow::<W>();
     if let Item::Fixed(argument) = item {
-        print_string(argument, out);
+        if let Some(text) = string_in(argument) {
+            out.part(&Word(" "));
+            out.part(&Field(Name::Text, quoted_or_null(text)));
+        }
     }
 }
 
@@ -108,9 +93,12 @@ fn print_items<W: Write>(mut items: Items<'_, '_>, out: &mut Printer<'_, W>)
     ensures { Adds out.old out.new (items_parts items.entry) }
 {
     cli_lines::laws::parts_follow::<W>();
-    if let Some(first) = items.next() {
-        print_first(first, out);
-        print_others(items, out);
+    let Some(first) = items.next() else {
+        return;
+    };
+    print_first(first, out);
+    for item in items {
+        print_item(item, out);
     }
 }
 
@@ -170,19 +158,12 @@ fn print_typed<W: Write>(
     }
 }
 
-/// Whether a table is Assembly.
-fn is_assembly_table(table: TableId) -> bool
-    ensures { result ≡ is_assembly_table table }
-{
-    matches!(table, TableId::Assembly)
-}
-
 /// Whether this is the first row of Assembly.
 fn is_assembly(of: Option<Token>) -> bool
     ensures { result ≡ is_assembly of }
 {
     match of {
-        Some(of) => is_assembly_table(of.table) && of.row == 1,
+        Some(of) => of.table.number() == ASSEMBLY && of.row == 1,
         None => false,
     }
 }
@@ -234,29 +215,24 @@ fn print_more<W: Write>(number: u32, out: &mut Printer<'_, W>)
     }
 }
 
-/// Prints the lines of the first attributes of the assembly, and the number of the others.
-fn print_rows<W: Write>(source: &Neighbours<'_, '_>, out: &mut Printer<'_, W>)
-    ensures { (model : Metadata) → IsModel source.now.view.now model → Prints out.old out.new (attributes_lines model) }
-{
-    cli_lines::laws::lines_follow::<W>();
-    let mut own = 0;
-    for earlier in 0..source.view.count(TableId::CustomAttribute) {
-        if is_own(source, earlier + 1) {
-            if own < ATTRIBUTE_LIMIT {
-                print_attribute(source, earlier + 1, out);
-            }
-            own += 1;
-        }
-    }
-    print_more(own.saturating_sub(ATTRIBUTE_LIMIT), out);
-}
-
-/// Prints the attributes of the assembly whose arguments are all strings.
+/// Prints the lines of the first attributes of the assembly whose arguments are all strings, and the number of the others.
 pub(crate) fn print_attributes<W: Write>(alloc: Global, view: &View<'_>, out: &mut Printer<'_, W>)
     ensures { (model : Metadata) → IsModel view.now model → Prints out.old out.new (attributes_lines model) }
 {
-    match Neighbours::new(alloc, view) {
-        Ok(source) => print_rows(&source, out),
-        Err(_) => out.fail(),
+    cli_lines::laws::lines_follow::<W>();
+    let Ok(source) = Neighbours::new(alloc, view) else {
+        return out.fail();
+    };
+    let mut own = 0;
+    let count = view.count(TableId::CustomAttribute);
+    for earlier in 0..count {
+        if !is_own(&source, earlier + 1) {
+            continue;
+        }
+        if own < ATTRIBUTE_LIMIT {
+            print_attribute(&source, earlier + 1, out);
+        }
+        own += 1;
     }
+    print_more(own.saturating_sub(ATTRIBUTE_LIMIT), out);
 }

@@ -1,7 +1,7 @@
 //! Prints the lines of a PE file: its format and machine (II.25.2), and its CLI header (II.25.3.3).
-ghost use Rattle.std.specs.Prelude.{◌≡◌, ◌≤◌, ◌<◌, ◌∷◌, [], Some};
+ghost use Rattle.std.specs.Prelude.{◌≡◌, ◌≤◌, ◌<◌, ◌==◌, if◌then◌else◌, ◌∷◌, [], Some};
 ghost use Rattle.cli_header.specs.declared.header.CliHeader.{CliHeader as Header};
-ghost use Rattle.cli_info.specs.HeaderLines.{HasRoom, debug_size, entry_line, entry_name, flag_word, flags_line, format_name, header_lines, image_line, machine, machine_word, method_name, sizes_line, wider_by};
+ghost use Rattle.cli_info.specs.HeaderLines.{HasRoom, debug_size, entry_line, entry_name, flag_word, flags_line, format_name, header_lines, image_line, machine, machine_word, method_name};
 ghost use Rattle.cli_lines.specs.Printed.{Prints};
 ghost use Rattle.metadata.specs.Metadata.{Metadata};
 ghost use Rattle.metadata.specs.Model.{IsModel};
@@ -44,7 +44,7 @@ const METHOD_NAME: usize = 3;
 /// The name of a format, and the number of bytes that it has more than PE32 before the data directories.
 fn format_of(magic: u16) -> (&'static str, usize)
     ensures name { result.0.now ≡ format_name magic }
-    ensures wider { result.1 ≡ wider_by magic }
+    ensures wider { result.1 ≡ (if magic == 0x20B then 16 else 0) }
     ensures few { result.1 ≤ 16 }
 {
     if magic == PE32_PLUS {
@@ -114,7 +114,7 @@ fn print_flags<W: Write>(flags: u32, out: &mut Printer<'_, W>)
 }
 
 /// The name of a method, and nothing if there is no such row.
-#[tactic(auto, using(crate::proofs::HeaderLemmas::name_found, crate::proofs::HeaderLemmas::name_missing), unfolding(table_schema::specs::CellColumns::cell_columns))]
+#[tactic(auto, unfolding(crate::specs::HeaderLines::method_name, table_schema::specs::CellColumns::cell_columns))]
 fn method_name<'a>(row: u32, view: &View<'a>) -> &'a str
     ensures { (model : Metadata) → IsModel view.now model → result.now ≡ method_name row model }
 {
@@ -155,21 +155,6 @@ fn print_entry<W: Write>(token: u32, name: &str, out: &mut Printer<'_, W>)
     }
 }
 
-/// Prints the line of the sizes of what the CLI header refers to.
-#[tactic(auto, unfolding(crate::specs::HeaderLines::sizes_line))]
-fn print_sizes<W: Write>(header: &CliHeader, out: &mut Printer<'_, W>)
-    ensures { Prints out.old out.new (sizes_line header.now ∷ []) }
-{
-    let signature = header.strong_name_signature.size as u64;
-    let native = header.managed_native_header.size as u64;
-    out.line(&[
-        Word("signature "),
-        Field(Name::Signature, Number(signature)),
-        Word(" native "),
-        Field(Name::Native, Number(native)),
-    ]);
-}
-
 /// Prints the lines of a file with a CLI header, and none of a bare root.
 pub(crate) fn print_headers<W: Write>(
     file: &[u8],
@@ -186,7 +171,14 @@ pub(crate) fn print_headers<W: Write>(
             print_image(file, out);
             print_flags(header.flags, out);
             print_entry(header.entry_point_token, entry_name(header, view), out);
-            print_sizes(header, out);
+            let signature = header.strong_name_signature.size as u64;
+            let native = header.managed_native_header.size as u64;
+            out.line(&[
+                Word("signature "),
+                Field(Name::Signature, Number(signature)),
+                Word(" native "),
+                Field(Name::Native, Number(native)),
+            ]);
         }
         None => {}
     }

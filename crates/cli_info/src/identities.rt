@@ -1,6 +1,6 @@
 //! Prints the identities of assemblies, as .NET prints them (II.22.2 and II.22.5).
 ghost use Rattle.std.specs.Prelude.{◌≡◌, ◌≤◌, ◌∷◌, [], IfOk, string_bytes};
-ghost use Rattle.cli_info.specs.Identities.{culture_text, identity_line, identity_lines, shown_part, table_of, token_part, token_text, version_parts};
+ghost use Rattle.cli_info.specs.Identities.{culture_text, identity_line, identity_lines, shown_part, table_of, token_part, token_text};
 ghost use Rattle.cli_lines.specs.Printed.{Adds, Prints};
 ghost use Rattle.metadata.specs.Metadata.{Metadata};
 ghost use Rattle.metadata.specs.Model.{IsModel};
@@ -41,27 +41,19 @@ impl Kind {
     ghost use Rattle.table_schema.specs.CellColumns.{cell_count};
     ghost use Rattle.cli_info.specs.Identities.{first_cell, has_token, name_of, table_of, word_of};
 
-    /// The table, and the index of the cell with the major version. From it on eight cells are the same in both tables.
+    /// The table, and the index of the cell with the major version. From it on eight cells are the same in both tables. The word
+    /// and the name that its line begins with.
     #[tactic(auto, unfolding(table_schema::specs::CellColumns::cell_columns))]
-    fn columns(self) -> (TableId, usize)
+    fn shape(self) -> (TableId, usize, &'static str, Name)
         ensures table { result.0 ≡ table_of self }
         ensures first { result.1 ≡ first_cell self }
         ensures within { result.1 + 7 < cell_count result.0 }
+        ensures word { result.2.now ≡ word_of self }
+        ensures name { result.3 ≡ name_of self }
     {
         match self {
-            Kind::Assembly => (TableId::Assembly, 1),
-            Kind::Reference => (TableId::AssemblyRef, 0),
-        }
-    }
-
-    /// The word and the name that its line begins with.
-    fn label(self) -> (&'static str, Name)
-        ensures word { result.0.now ≡ word_of self }
-        ensures name { result.1 ≡ name_of self }
-    {
-        match self {
-            Kind::Assembly => ("assembly ", Name::Assembly),
-            Kind::Reference => ("reference ", Name::Reference),
+            Kind::Assembly => (TableId::Assembly, 1, "assembly ", Name::Assembly),
+            Kind::Reference => (TableId::AssemblyRef, 0, "reference ", Name::Reference),
         }
     }
 
@@ -168,27 +160,6 @@ fn print_shown<W: Write>(alloc: Global, name: &str, out: &mut Printer<'_, W>)
     }
 }
 
-/// Adds the numbers of a version.
-fn print_version<W: Write>(
-    major: u32,
-    minor: u32,
-    build: u32,
-    revision: u32,
-    out: &mut Printer<'_, W>,
-)
-    ensures { Adds out.old out.new (version_parts major minor build revision) }
-{
-    cli_lines::laws::parts_follow::<W>();
-    out.part(&Word(", Version="));
-    out.part(&Field(Name::Major, Number(major as u64)));
-    out.part(&Word("."));
-    out.part(&Field(Name::Minor, Number(minor as u64)));
-    out.part(&Word("."));
-    out.part(&Field(Name::Build, Number(build as u64)));
-    out.part(&Word("."));
-    out.part(&Field(Name::Revision, Number(revision as u64)));
-}
-
 /// Adds the token of a key.
 fn print_token<W: Write>(
     alloc: Global,
@@ -221,8 +192,7 @@ fn print_identity<W: Write>(
     ensures { (model : Metadata) → IsModel view.now model → Prints out.old out.new (identity_line kind model row ∷ []) }
 {
     cli_lines::laws::parts_follow::<W>();
-    let (table, first) = kind.columns();
-    let (word, name) = kind.label();
+    let (table, first, word, name) = kind.shape();
     let major = number(view, table, row, first);
     let minor = number(view, table, row, first + 1);
     let build = number(view, table, row, first + 2);
@@ -233,7 +203,14 @@ fn print_identity<W: Write>(
     let culture = culture_text(text(view, table, row, first + 7));
     out.begin(&[Word(word), Member(name, Text(own_name))]);
     print_shown(alloc, own_name, out);
-    print_version(major, minor, build, revision, out);
+    out.part(&Word(", Version="));
+    out.part(&Field(Name::Major, Number(major as u64)));
+    out.part(&Word("."));
+    out.part(&Field(Name::Minor, Number(minor as u64)));
+    out.part(&Word("."));
+    out.part(&Field(Name::Build, Number(build as u64)));
+    out.part(&Word("."));
+    out.part(&Field(Name::Revision, Number(revision as u64)));
     out.part(&Word(", Culture="));
     out.part(&Member(Name::Culture, Text(culture)));
     print_shown(alloc, culture, out);
@@ -253,9 +230,10 @@ pub(crate) fn print_identities<W: Write>(
 {
     cli_lines::laws::lines_follow::<W>();
     cli_lines::laws::rows_follow::<W>();
-    let (table, _) = kind.columns();
+    let (table, _, _, _) = kind.shape();
     let mut last = LastKey::new(alloc);
-    for earlier in 0..view.count(table) {
+    let count = view.count(table);
+    for earlier in 0..count {
         print_identity(alloc, view, kind, earlier + 1, &mut last, out);
     }
 }

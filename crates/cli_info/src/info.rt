@@ -1,5 +1,5 @@
 //! `clim info`: what one wants to know first of an assembly.
-ghost use Rattle.std.specs.Prelude.{◌≡◌, ◌≤◌, ◌∷◌, [], IfErr, IfOk, OnErr, OnOk, Option, Some};
+ghost use Rattle.std.specs.Prelude.{◌≡◌, ◌∷◌, [], IfErr, IfOk, OnErr, OnOk, Option, Some};
 ghost use Rattle.cli_header.specs.declared.header.CliHeader.{CliHeader as Header};
 ghost use Rattle.cli_info.specs.HeaderLines.{HasRoom};
 ghost use Rattle.cli_info.specs.InfoLines.{AreFacts, counts_line, info_lines, module_lines};
@@ -52,8 +52,15 @@ pub fn print_info<W: Write>(
     ensures printed { OnOk result ((header : Option Header) (model : Metadata) → AreFacts input bytes.now header model
         → Prints out.old out.new (info_lines bytes.now header model)) }
 {
+    cli_lines::laws::lines_follow::<W>();
     let (header, view) = open_facts(bytes, input)?;
-    print_facts(alloc, bytes, &header, &view, out);
+    print_identities(alloc, &view, Kind::Assembly, out);
+    print_module(&view, out);
+    print_version(view.version(), out);
+    print_headers(bytes, &header, &view, out);
+    print_counts(&view, out);
+    print_identities(alloc, &view, Kind::Reference, out);
+    print_attributes(alloc, &view, out);
     Ok(())
 }
 
@@ -67,36 +74,12 @@ fn open_facts(bytes: &[u8], input: Input) -> Result<(Option<CliHeader>, View<'_>
 {
     pe::laws::images_are_read();
     match input {
-        Input::BareRoot => {
-            let view = open_root(bytes)?;
-            Ok((None, view))
-        }
+        Input::BareRoot => Ok((None, open_root(bytes)?)),
         Input::File => {
             let (header, view) = open_image(bytes)?;
             Ok((Some(header), view))
         }
     }
-}
-
-/// Prints the lines of a CLI header, if there is one, and of the metadata.
-fn print_facts<W: Write>(
-    alloc: Global,
-    bytes: &[u8],
-    header: &Option<CliHeader>,
-    view: &View<'_>,
-    out: &mut Printer<'_, W>,
-)
-    requires { (of : Header) → header.now ≡ Some of → HasRoom bytes.now }
-    ensures { (model : Metadata) → IsModel view.now model → Prints out.old out.new (info_lines bytes.now header.now model) }
-{
-    cli_lines::laws::lines_follow::<W>();
-    print_identities(alloc, view, Kind::Assembly, out);
-    print_module(view, out);
-    print_version(view.version(), out);
-    print_headers(bytes, header, view, out);
-    print_counts(view, out);
-    print_identities(alloc, view, Kind::Reference, out);
-    print_attributes(alloc, view, out);
 }
 
 /// Prints the name and the Mvid of the module, if there is one.

@@ -1,6 +1,5 @@
 //! The values of attributes whose arguments are all strings (II.23.3).
 ghost use Rattle.std.specs.Prelude.{◌≡◌, option_map};
-ghost use Rattle.std.specs.List.{list_all};
 ghost use Rattle.attribute_values.specs.Steps.{value_items};
 ghost use Rattle.attribute_values.specs.Views.{head_view, view};
 ghost use Rattle.cli_info.specs.Texts.{are_texts, is_text, string_in, texts_in};
@@ -31,26 +30,19 @@ fn is_text(item: Item<'_>) -> bool
     }
 }
 
-/// Whether all arguments are strings.
-fn are_texts(items: Items<'_, '_>) -> bool
-    ensures { result ≡ list_all is_text items.entry }
+/// Whether a blob is a value whose arguments are all strings.
+fn are_texts(blob: &[u8], params: &[ArgumentType]) -> bool
+    ensures { result ≡ are_texts (value_items params.now blob.now) }
 {
+    let Some(items) = Items::of(blob, params) else {
+        return false;
+    };
     for item in items {
         if !is_text(item) {
             return false;
         }
     }
     true
-}
-
-/// Whether a blob is a value whose arguments are all strings.
-fn is_of_texts(blob: &[u8], params: &[ArgumentType]) -> bool
-    ensures { result ≡ are_texts (value_items params.now blob.now) }
-{
-    match Items::of(blob, params) {
-        Some(items) => are_texts(items),
-        None => false,
-    }
 }
 
 /// The items of a value for a constructor with these parameters, at least one, if all arguments are strings. `None` of a
@@ -65,7 +57,7 @@ pub(crate) fn texts_in<'a, 'p>(value: &'a [u8], params: &'p [ArgumentType]) -> O
     if value.len() > VALUE_LIMIT {
         return None;
     }
-    if !is_of_texts(value, params) {
+    if !are_texts(value, params) {
         return None;
     }
     Items::of(value, params)

@@ -1,4 +1,4 @@
-use Rattle.cli_info.proofs.Prelude.{[], ◌≡◌, List, refl, subst, sym, view, Part, Adds, first_parts}
+use Rattle.cli_info.proofs.Prelude.{[], ◌≡◌, refl, view, first_parts}
 use Rattle.attribute_values.specs.declared.item.Item.{Item}
 use Rattle.attribute_values.specs.declared.item.Item.TheVariants.{Fixed}
 use Rattle.attribute_values.specs.declared.item.Argument.{Argument}
@@ -8,10 +8,12 @@ other_item : (item : Item) → ((argument : Argument) → item ≡ Fixed argumen
 other_item (Fixed argument) not = absurd (not argument refl)
 other_item _ not = refl
 
-pub returns-in-Fixed : goal.returns-in-Fixed
-returns-in-Fixed g c =
-    subst (λ (item : Item). Adds c.args.out.now c.print_string.new.out (first_parts (view item))) (sym c.in-Fixed.is) c.print_string.ensures
+pub returns-in-Some : goal.returns-in-Some
+returns-in-Some g c =
+    rw (c.in-Fixed.is, ← c.in-Some.ensures, ← c.quoted_or_null.ensures) (c.parts_follow.ensures.more _ _ _ _ _ c.part.ensures c.part-in-Some.ensures)
+
+pub returns-in_default-string_in : goal.returns-in_default-string_in
+returns-in_default-string_in g c = rw (c.in-Fixed.is, ← c.in_default-string_in.ensures) (c.parts_follow.ensures.nothing _)
 
 pub returns-in_default : goal.returns-in_default
-returns-in_default g c =
-    subst (λ (parts : List Part). Adds c.args.out.now c.args.out.now parts) (other_item c.args.item c.in_default.not-Fixed) (c.parts_follow.ensures.nothing c.args.out.now)
+returns-in_default g c = rw (← other_item c.args.item c.in_default.not-Fixed) (c.parts_follow.ensures.nothing _)

@@ -1,11 +1,7 @@
-use Rattle.cli_info.proofs.Prelude.{◌∙◌, ◌∷◌, [], ap, subst, Part, field, plain, Adds}
-use Rattle.cli_lines.specs.declared.names.Name.TheVariants as name
 use Rattle.cli_info.proofs.identities.print_token.Goals as goal
 
 pub returns-in-Ok : goal.returns-in-Ok
-returns-in-Ok g c =
-    subst (λ (part : Part). Adds c.args.out.now c.part.new.self (part ∷ []))
-    (ap (λ of. field name.Token (plain of)) (c.deref.ensures ∙ c.in-Ok.ensures)) c.part.ensures
+returns-in-Ok g c = rw (← c.in-Ok.ensures, ← c.deref.ensures) c.part.ensures
 
 pub returns-in-Err : goal.returns-in-Err
 returns-in-Err g c = c.fail.ensures.parts _
