@@ -1,6 +1,5 @@
 -- The entries of heaps: where they are, and which of them have a byte.
-use Rattle.std.specs.Prelude.{Option, None, Some, ◌⊎◌}
-use Rattle.cli_where.proofs.Prelude.{◌≡◌, ◌≢◌, ◌∙◌, ℕ, ◌+◌, ◌-◌, ◌*◌, ◌<◌, ◌≤◌, true, List, ◌∷◌, ◌++◌, length, take, drop, slice_index, inl, inr, refl, sym, ap, subst, arith, length-append, length-drop, take-append-drop, get_or-take, get_or-drop, drop_more, drop_at, get_or_append_left, get_or_at, length-take-le, All-from_get_or, IsCounted, IsEnded, IsGuidEntry, IsRun, IsRunAt, IsRunOf, Heap, has_byte}
+use Rattle.cli_where.proofs.Prelude.{◌≡◌, ◌≢◌, ◌∙◌, ◌⊎◌, Option, None, Some, ℕ, ◌+◌, ◌-◌, ◌*◌, ◌<◌, ◌≤◌, true, List, ◌∷◌, ◌++◌, length, take, drop, slice_index, inl, inr, refl, sym, ap, subst, arith, length-append, length-drop, take-append-drop, get_or-take, get_or-drop, drop_more, drop_at, get_or_append_left, get_or_at, length-take-le, All-from_get_or, IsCounted, IsEnded, IsGuidEntry, IsRun, IsRunAt, IsRunOf, Heap, has_byte}
 use Rattle.std.proofs.lemmas.Bool.Decides.{nat_tests}
 use Rattle.packed.specs.Packed.{IsPacked}
 use Rattle.cli_where.specs.declared.entries.Run.{Run}

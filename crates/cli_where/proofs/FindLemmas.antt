@@ -1,17 +1,22 @@
 -- What a search finds.
-use Rattle.std.proofs.Common.{◌≡◌, ◌∙◌, ℕ, List, [], ◌++◌, None, ap, append_assoc, refl, subst, sym, inl, inr}
+use Rattle.std.proofs.Common.{◌≡◌, ◌∙◌, ◌==◌, ℕ, List, [], ◌∷◌, ◌++◌, ap, append_assoc, false, length, refl, subst, inl, inr}
 use Rattle.packed.specs.declared.fault.Fault.{Fault}
 use Rattle.packed.specs.Rule.{AllHold, FirstBroken, Rule}
 use Rattle.packed.proofs.RuleLemmas.{none_fails}
-use Rattle.cli_where.proofs.Prelude.{Adds, Finds, Joins, Searched, Region, joins_none, AreOf, OfLayer, Then}
+use Rattle.cli_regions.specs.Kept.{Adds, Finds, Joins, Searched}
+use Rattle.cli_regions.specs.Regions.{Region}
+use Rattle.cli_regions.specs.declared.searches.Structure.{Structure}
+use Rattle.cli_regions.proofs.SearchLemmas.{joins_none}
+use Rattle.cli_where.specs.Where.{AreOf, OfLayer, Then}
+
+-- structures that are found have a first one
+pub first_of : (structures : List Structure) → (length structures == 0) ≡ false → (first : Structure) × (later : List Structure) × (structures ≡ first ∷ later)
+first_of [] is = cc
+first_of (first ∷ later) is = (first, later, refl)
 
 -- structures that were kept
 pub finds_joined : {AreFound : ℕ → List Region → Type 0} {old new : Searched} {later : List Region} → AreFound old.offset later → Joins old new later → Finds AreFound old new
 finds_joined {AreFound} {old} {new} {later} are joins = record { offset = joins.offset; found = λ found is. let at = joins.found found is in (at.0, at.1, later, are, at.2) }
-
--- memory ran out
-pub finds_failed : (AreFound : ℕ → List Region → Type 0) (old new : Searched) → new ≡ record { offset = old.offset; found = None } → Finds AreFound old new
-finds_failed AreFound old new is = subst (λ (search : Searched). Finds AreFound old search) (sym is) (record { offset = refl; found = λ found some. cc })
 
 -- structures of a list
 pub adds_find : {old new : Searched} {regions : List Region} → Adds old new regions → Finds (AreOf regions) old new
@@ -44,5 +49,5 @@ whole_layer rules holds finds = record {
   found = λ found is. let at = finds.found found is in (at.0, at.1, at.2, inr (holds, at.3), at.4);
 }
 
-pub broken_layer : (rules : List (Rule Fault)) {AreFound : ℕ → List Region → Type 0} {fault : Fault} (search : Searched) → FirstBroken rules fault → Finds (OfLayer rules AreFound) search search
-broken_layer rules {AreFound} {fault} search broken = finds_none (OfLayer rules AreFound) search (inl ((λ all. none_fails rules fault all broken), refl))
+pub broken_layer : (rules : List (Rule Fault)) {AreFound : ℕ → List Region → Type 0} (fault : Fault) (search : Searched) → FirstBroken rules fault → Finds (OfLayer rules AreFound) search search
+broken_layer rules {AreFound} fault now broken = finds_none (OfLayer rules AreFound) now (inl ((λ all. none_fails rules fault all broken), refl))

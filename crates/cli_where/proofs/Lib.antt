@@ -3,4 +3,3 @@ pub mod EntryLemmas
 pub mod NamedLemmas
 pub mod Prelude
 pub mod UserLemmas
-pub mod FieldLemmas

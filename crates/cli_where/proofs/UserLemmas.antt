@@ -22,14 +22,9 @@ pub user_is : (heap : List ℕ) (index read : ℕ) (string : UserText) (next : �
 user_is heap index read string next some same e =
     subst (λ (n : ℕ). IsUserString heap n string) (sym same) (record { blob = e.blob; stands = inr (some, e.stands); encodes = e.encodes })
 
--- an entry begins within its heap
-entry_within : (heap : List ℕ) (index : ℕ) (string : UserText) (next : ℕ) → IsEntry heap index string next → index ≤ length heap
-entry_within heap index string next e =
-    let s = e.stands in
-    let whole : length heap ≡ length s.before + length (s.count ++ (e.blob ++ s.after)) = ap length s.whole ∙ length-append s.before (s.count ++ (e.blob ++ s.after)) in
-    let at = s.at in
-    omega (arith, whole, at)
-
 -- no entry begins after the heap
 pub no_entry_past : (heap : List ℕ) (index : ℕ) → length heap < index → AreEntries heap index []
-no_entry_past heap index past = inr (λ string next e. let within = entry_within heap index string next e in absurd (omega (arith, within, past)))
+no_entry_past heap index past = inr (λ string next e.
+    let whole = simp length-append at (ap length e.stands.whole) in
+    let at = e.stands.at in
+    absurd (omega (arith, whole, at, past)))

@@ -1,5 +1,5 @@
 -- The fields with data, and the sizes of the data (ECMA-335 II.22.8, II.22.18 and II.23.1.16).
-use Rattle.std.specs.Prelude.{ℕ, ◌+◌, ◌-◌, nat_le, if◌then◌else◌, List, [], ◌∷◌, Option, None, Some}
+use Rattle.std.specs.Prelude.{ℕ, nat_le, if◌then◌else◌, List, [], ◌∷◌, Option, None, Some}
 use Rattle.std.specs.List.{flat_map, range_with_len}
 use Rattle.std.specs.Option.{option_to_list}
 use Rattle.table_schema.specs.declared.table.TableId.{TableId}
@@ -49,10 +49,6 @@ data_by model field (Some row) =
 abbrev pub data_of : Metadata → ℕ → Option FieldData
 data_of model field = data_by model field (first_linked model link_of.FieldData (token_at Field field))
 
--- those of the rows from one on and before another
-unfoldable pub fields_from : Metadata → ℕ → ℕ → List FieldData
-fields_from model first past = flat_map (λ field. option_to_list (data_of model field)) (range_with_len first (past - first))
-
 -- the data of all fields that have data, in the order of the fields
-abbrev pub all_fields : Metadata → List FieldData
-all_fields model = fields_from model 1 (count_in model Field + 1)
+unfoldable pub all_fields : Metadata → List FieldData
+all_fields model = flat_map (λ field. option_to_list (data_of model field)) (range_with_len 1 (count_in model Field))

@@ -55,11 +55,11 @@ what_parts (user_string token) =
     ∷ word (codes " ") ∷ field name.Token (hex token) ∷ []
 
 -- the offset of a structure in the file, its number of bytes, and what it is
-unfoldable pub line_with : ℕ → ℕ → What → List Part
-line_with start size what = field name.Offset (number start) ∷ word (codes " ") ∷ field name.Size (number size) ∷ word (codes " ") ∷ what_parts what
+unfoldable pub line_with : ℕ → ℕ → List Part → List Part
+line_with start size what = field name.Offset (number start) ∷ word (codes " ") ∷ field name.Size (number size) ∷ word (codes " ") ∷ what
 
 abbrev pub structure_line : Region → List Part
-structure_line of = line_with of.start of.size of.what
+structure_line of = line_with of.start of.size (what_parts of.what)
 
 -- a user string: its token and its units
 unfoldable pub string_line : ℕ → UserText → List Part

@@ -45,30 +45,23 @@ HasContents (of ∷ later) File bytes offset P =
     × P (value_lines model bytes (of ∷ later) ++ (method_lines file.image model offset ++ (field_lines file.image model (all_fields model) offset ++ resources)))
 HasContents (of ∷ later) BareRoot bytes offset P = (model : Metadata) → IsModelOf BareRoot bytes model → P (value_lines model bytes (of ∷ later))
 
--- the lines of the structures that contain the byte at an offset were printed, and those of contents; or memory ran out before
-abbrev pub HasFound : {W : Type 0} → Input → List ℕ → ℕ → Printed W → Printed W → Result Found Failure → Type 0
-HasFound input bytes offset old new (Ok found) =
-    (structures : List Region) × AreStructuresAt input Entries bytes offset structures × (found ≡ found_of structures)
-    × HasContents structures input bytes offset (λ contents. Prints old new (where_lines structures ++ contents))
-HasFound input bytes offset old new (Err failure) = (failure ≡ OutOfMemory) × (new ≡ old)
-
--- The bytes have a model, and the lines were printed; or memory ran out before; or a rule is broken, and the lines of the
--- structures down to the cells were printed, of layers that break no rule.
+-- The bytes have a model, and the lines of the structures that contain the byte at an offset were printed, and those of contents;
+-- or memory ran out before; or a rule is broken, and the lines of the structures down to the cells were printed, of layers that
+-- break no rule.
 abbrev pub IsLocated : {W : Type 0} → Input → List ℕ → ℕ → Printed W → Printed W → Result Found Failure → Type 0
-IsLocated input bytes offset old new (Ok found) = IsWhole input bytes × HasFound input bytes offset old new (Ok found)
+IsLocated input bytes offset old new (Ok found) =
+    IsWhole input bytes × (structures : List Region) × AreStructuresAt input Entries bytes offset structures × (found ≡ found_of structures)
+    × HasContents structures input bytes offset (λ contents. Prints old new (where_lines structures ++ contents))
 IsLocated input bytes offset old new (Err failure) =
     ((failure ≡ OutOfMemory) × (new ≡ old))
     ⊎ ((fault : TheFault) × (failure ≡ Fault fault) × FirstBroken (rules_of input bytes) fault
     × (structures : List Region) × AreStructuresAt input Cells bytes offset structures × Prints old new (map structure_line structures))
 
--- the lines of the entries of a heap of user strings were printed, or memory ran out before
-abbrev pub HasEntries : {W : Type 0} → List ℕ → Printed W → Printed W → Result (Unit {0}) Failure → Type 0
-HasEntries heap old new (Ok done) = (entries : List Entry) × AreEntries heap 1 entries × Prints old new (flat_map entry_lines entries)
-HasEntries heap old new (Err failure) = (failure ≡ OutOfMemory) × (new ≡ old)
-
 -- The bytes have a model, and the lines of its user strings after the first one were printed, which has no bytes; or nothing
 -- was printed, since memory ran out or a rule is broken.
 abbrev pub AreListed : {W : Type 0} → Input → List ℕ → Printed W → Printed W → Result (Unit {0}) Failure → Type 0
-AreListed input bytes old new (Ok done) = IsWhole input bytes × ((model : Metadata) → IsModelOf input bytes model → HasEntries model.user old new (Ok done))
+AreListed input bytes old new (Ok done) =
+    IsWhole input bytes
+    × ((model : Metadata) → IsModelOf input bytes model → (entries : List Entry) × AreEntries model.user 1 entries × Prints old new (flat_map entry_lines entries))
 AreListed input bytes old new (Err failure) =
     ((failure ≡ OutOfMemory) × (new ≡ old)) ⊎ ((fault : TheFault) × (failure ≡ Fault fault) × FirstBroken (rules_of input bytes) fault × (new ≡ old))

@@ -111,7 +111,7 @@ fn run_at(heap: &[u8], byte: usize) -> Option<Run>
 }
 
 /// The run of the byte at an offset of the file, if it is one of `#Strings`.
-fn run_of(texts: Heap<'_>, offset: u64) -> Option<Run>
+pub(crate) fn run_of(texts: Heap<'_>, offset: u64) -> Option<Run>
     requires { IsLow texts }
     ensures { IsRunOf (heap_of texts.entry) offset result }
 {
@@ -123,29 +123,6 @@ fn run_of(texts: Heap<'_>, offset: u64) -> Option<Run>
         return None;
     }
     run_at(texts.bytes, byte as usize)
-}
-
-/// The byte at an offset of the file, and the heaps.
-pub(crate) fn target_of<'a>(
-    texts: Heap<'a>,
-    guids: Heap<'a>,
-    blobs: Heap<'a>,
-    offset: u64,
-) -> Target<'a>
-    requires texts { IsLow texts }
-    requires guids { IsLow guids }
-    requires blobs { IsLow blobs }
-    ensures ready { AreReady result }
-    ensures heaps { heaps_of result ≡ record { texts = heap_of texts.entry; guids = heap_of guids.entry; blobs = heap_of blobs.entry } }
-    ensures offset { result.offset ≡ offset }
-{
-    Target {
-        offset,
-        texts,
-        run: run_of(texts, offset),
-        guids,
-        blobs,
-    }
 }
 
 /// The string at an index if it has the byte.

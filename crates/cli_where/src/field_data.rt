@@ -1,11 +1,7 @@
 //! The fields with data, and the sizes of the data (II.22.8, II.22.18).
 ghost use Rattle.std.specs.Prelude.{◌≡◌, ◌≤◌, ◌++◌, All, IfOk, IfSome, OnOk};
 ghost use Rattle.std.specs.Option.{option_to_list};
-ghost use Rattle.table_schema.specs.declared.column.SigKind.TheVariants as column;
 ghost use Rattle.table_schema.specs.declared.table.TableId.TheVariants.{ClassLayout, Field, TypeDef};
-ghost use Rattle.sig_grammar.specs.Syntax.{Body};
-ghost use Rattle.sig_grammar.specs.Encodes.{Encodes};
-ghost use Rattle.sig_items.specs.ItemsOf.{items_of};
 ghost use Rattle.metadata.specs.Metadata.{Metadata, cell_in};
 ghost use Rattle.metadata.specs.Model.{IsModel};
 ghost use Rattle.opening.specs.Views.{row_count};
@@ -101,30 +97,22 @@ fn field_type(mut items: Items<'_>) -> Option<Item>
     }
 }
 
-/// The same of the signature in a blob. A longer one has too many items.
-fn type_in(blob: &[u8]) -> Option<Item>
-    ensures { (signature : Body) → Encodes column.Field signature blob.now → result ≡ field_type (items_of signature) }
-{
-    sig_values::laws::encoded_is_encodable();
-    sig_items::laws::items_are_encoded();
-    if blob.len() > LONGEST {
-        return None;
-    }
-    match Items::of(blob, SigKind::Field) {
-        Some(items) => field_type(items),
-        None => None,
-    }
-}
-
-/// The same of a field.
+/// The same of a field. A signature that is longer has too many items.
 #[tactic(auto, unfolding(table_schema::specs::CellColumns::cell_columns))]
 fn type_of_field(view: &View<'_>, field: u32) -> Option<Item>
     requires first { 1 ≤ field }
     requires last { field ≤ row_count view.now Field }
     ensures { (model : Metadata) → IsModel view.now model → result ≡ field_type (items_in (cell_in model Field field 2)) }
 {
+    sig_values::laws::encoded_is_encodable();
+    sig_items::laws::items_are_encoded();
     match view.cell(TableId::Field, field, SIGNATURE) {
-        CellRef::Sig(blob) => type_in(blob),
+        CellRef::Sig(blob) => {
+            if blob.len() > LONGEST {
+                return None;
+            }
+            field_type(Items::of(blob, SigKind::Field)?)
+        }
         _ => None,
     }
 }

@@ -4,7 +4,7 @@ ghost use Rattle.table_schema.specs.Columns.{columns_of};
 ghost use Rattle.schema.specs.Sizes.{count_of};
 ghost use Rattle.cli_regions.specs.Kept.{Finds};
 ghost use Rattle.cli_found.specs.Found.{kind_of};
-ghost use Rattle.cli_where.specs.Entries.{AreEntriesAt, row_cells, table_cells};
+ghost use Rattle.cli_where.specs.Entries.{AreEntriesAt};
 ghost use Rattle.cli_where.specs.Kept.{AreReady, FindsFirst, heaps_of};
 
 use crate::entries::{Target, entry_at, heap_named};
@@ -56,48 +56,6 @@ fn find_named(
     }
 }
 
-/// Keeps the entries that the cells of a row refer to and that contain the byte, at most this number.
-/// Returns how many of this number are left.
-fn find_row_entries(
-    rows: &Rows<'_>,
-    target: &Target<'_>,
-    table: TableId,
-    row: u32,
-    most: usize,
-    found: &mut Search<'_>,
-) -> usize
-    requires ready { AreReady target.now }
-    requires first { 1 ≤ row }
-    requires last { row ≤ count_of rows.now.sizes table }
-    ensures { FindsFirst target.now rows.now most result (row_cells table row) found.old found.new }
-{
-    let mut left = most;
-    for column in 0..columns(table).len() {
-        let cell = TableCell { table, row, column };
-        left = find_named(rows, target, cell, left, found);
-    }
-    left
-}
-
-/// Keeps the entries that the cells of a table refer to and that contain the byte, at most this number.
-/// Returns how many of this number are left.
-fn find_table_entries(
-    rows: &Rows<'_>,
-    target: &Target<'_>,
-    table: TableId,
-    most: usize,
-    found: &mut Search<'_>,
-) -> usize
-    requires ready { AreReady target.now }
-    ensures { FindsFirst target.now rows.now most result (table_cells rows.now.sizes table) found.old found.new }
-{
-    let mut left = most;
-    for row in 1..rows.layout().count(table) + 1 {
-        left = find_row_entries(rows, target, table, row, left, found);
-    }
-    left
-}
-
 /// Keeps the entries that contain the byte, for the first ten cells that refer to one. It reads all cells.
 #[tactic(auto, unfolding(crate::specs::Entries::all_cells))]
 pub(crate) fn find_entries(rows: &Rows<'_>, target: &Target<'_>, found: &mut Search<'_>)
@@ -107,7 +65,13 @@ pub(crate) fn find_entries(rows: &Rows<'_>, target: &Target<'_>, found: &mut Sea
 {
     let tables = TableId::all();
     let mut left = MOST_CELLS;
-    for table in tables {
-        left = find_table_entries(rows, target, *table, left, found);
+    for of in tables {
+        let table = *of;
+        for row in 1..rows.layout().count(table) + 1 {
+            for column in 0..columns(table).len() {
+                let cell = TableCell { table, row, column };
+                left = find_named(rows, target, cell, left, found);
+            }
+        }
     }
 }

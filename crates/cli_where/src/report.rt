@@ -2,10 +2,9 @@
 ghost use Rattle.std.specs.Prelude.{◌≡◌, ◌==◌, ◌++◌, false, length, map};
 ghost use Rattle.cli_lines.specs.Printed.{Prints};
 ghost use Rattle.cli_regions.specs.Kept.{seen};
-ghost use Rattle.cli_input.specs.Checked.{IsModelOf, IsWhole, rules_of};
+ghost use Rattle.cli_input.specs.Checked.{IsModelOf};
 ghost use Rattle.metadata.specs.Metadata.{Metadata};
 ghost use Rattle.metadata.specs.Model.{IsModel};
-ghost use Rattle.packed.specs.Rule.{FirstBroken};
 ghost use Rattle.cli_where.specs.Located.{HasContents, IsLocated, where_lines};
 
 use crate::field_data::print_data;
@@ -19,7 +18,6 @@ use cli_lines::Part::Word;
 use cli_lines::Printer;
 use cli_regions::Structure;
 use opening::View;
-use packed::Fault;
 use std::alloc::Global;
 use std::io::Write;
 
@@ -74,8 +72,24 @@ pub fn print_where<W: Write>(
     ensures { IsLocated input bytes.now offset out.old out.new result }
 {
     match open(bytes, input) {
-        Ok(view) => print_entire(alloc, bytes, input, &view, offset, out),
-        Err(fault) => print_broken(alloc, bytes, input, offset, fault, out),
+        Ok(view) => match structures_at(alloc, bytes, input, Reach::Entries, offset) {
+            Ok(structures) => {
+                if structures.is_empty() {
+                    out.line(&[Word("nothing")]);
+                    return Ok(Found::Nothing);
+                }
+                print_found(alloc, bytes, input, &view, offset, &structures, out);
+                Ok(Found::Something)
+            }
+            Err(_) => Err(Failure::OutOfMemory),
+        },
+        Err(fault) => match structures_at(alloc, bytes, input, Reach::Cells, offset) {
+            Ok(found) => {
+                print_structures(alloc, &found, out);
+                Err(Failure::Fault(fault))
+            }
+            Err(_) => Err(Failure::OutOfMemory),
+        },
     }
 }
 
@@ -104,50 +118,5 @@ fn print_found<W: Write>(
             print_data(alloc, bytes, view, offset, out);
             print_resource(bytes, view, offset, out);
         }
-    }
-}
-
-/// Prints what the byte at an offset of bytes that break no rule belongs to; `nothing` if no structure contains it.
-fn print_entire<W: Write>(
-    alloc: Global,
-    bytes: &[u8],
-    input: Input,
-    view: &View<'_>,
-    offset: u64,
-    out: &mut Printer<'_, W>,
-) -> Result<Found, Failure<'static>>
-    requires whole { IsWhole input bytes.now }
-    requires model { (model : Metadata) → IsModelOf input bytes.now model → IsModel view.now model }
-    ensures { IsLocated input bytes.now offset out.old out.new result }
-{
-    let Ok(structures) = structures_at(alloc, bytes, input, Reach::Entries, offset) else {
-        return Err(Failure::OutOfMemory);
-    };
-    if structures.is_empty() {
-        out.line(&[Word("nothing")]);
-        return Ok(Found::Nothing);
-    }
-    print_found(alloc, bytes, input, view, offset, &structures, out);
-    Ok(Found::Something)
-}
-
-/// Prints what is known of the byte at an offset of bytes with a fault, and returns the fault.
-fn print_broken<W: Write>(
-    alloc: Global,
-    bytes: &[u8],
-    input: Input,
-    offset: u64,
-    fault: Fault,
-    out: &mut Printer<'_, W>,
-) -> Result<Found, Failure<'static>>
-    requires { FirstBroken (rules_of input bytes.now) fault }
-    ensures { IsLocated input bytes.now offset out.old out.new result }
-{
-    match structures_at(alloc, bytes, input, Reach::Cells, offset) {
-        Ok(found) => {
-            print_structures(alloc, &found, out);
-            Err(Failure::Fault(fault))
-        }
-        Err(_) => Err(Failure::OutOfMemory),
     }
 }

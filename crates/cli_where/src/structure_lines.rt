@@ -1,11 +1,11 @@
 //! Prints the lines of structures.
-ghost use Rattle.std.specs.Prelude.{◌≡◌, ◌∷◌, [], false, map, true};
+ghost use Rattle.std.specs.Prelude.{◌≡◌, ◌∷◌, [], map};
 ghost use Rattle.cli_lines.specs.Printed.{Prints};
 ghost use Rattle.cli_regions.specs.Kept.{seen, words_text};
-ghost use Rattle.cli_regions.specs.Regions.{cell as a_cell, entry, scalar, user_string, words as some_words};
+ghost use Rattle.cli_regions.specs.Regions.{cell as a_cell, entry, user_string, words as some_words};
 ghost use Rattle.table_schema.specs.CellColumns.{is_padding};
 ghost use Rattle.cli_found.specs.Found.{kind_of};
-ghost use Rattle.cli_where.specs.Lines.{column_name, entry_word, line_with, structure_line};
+ghost use Rattle.cli_where.specs.Lines.{column_name, entry_word, line_with, structure_line, what_parts};
 
 use cli_found::{column_number, is_counted};
 use cli_lines::Part::{Field, Member, Note, Word};
@@ -70,8 +70,7 @@ fn print_words<W: Write>(
     words: Words<'_>,
     out: &mut Printer<'_, W>,
 )
-    ensures words { Prints out.old out.new (line_with of.entry.start of.entry.size (some_words (words_text words.entry)) ∷ []) }
-    ensures scalar { Prints out.old out.new (line_with of.entry.start of.entry.size (scalar (words_text words.entry)) ∷ []) }
+    ensures { Prints out.old out.new (line_with of.entry.start of.entry.size (what_parts (some_words (words_text words.entry))) ∷ []) }
 {
     match words.to_string(alloc) {
         Ok(text) => out.line(line![of; Field(Name::Structure, Plain(&text))]),
@@ -79,51 +78,45 @@ fn print_words<W: Write>(
     }
 }
 
-/// Prints the line of the padding of a row.
-#[tactic(auto, unfolding(crate::specs::Lines::line_with))]
-fn print_padding<W: Write>(of: Structure<'_>, cell: TableCell, out: &mut Printer<'_, W>)
-    requires { is_padding (kind_of cell) ≡ true }
-    ensures { Prints out.old out.new (line_with of.entry.start of.entry.size (a_cell cell) ∷ []) }
-{
-    out.line(line![
-        of;
-        Member(Name::Structure, Plain("padding")),
-        Word("table "),
-        Note(Byte(cell.table.number())),
-        Word(" "),
-        Field(Name::Table, Plain(cell.table.name())),
-        Word(" row "),
-        Field(Name::Row, Number(cell.row as u64)),
-        Word(" padding")
-    ]);
-}
-
-/// Prints the line of a cell that is no padding.
+/// Prints the line of a cell, or of the padding of a row.
 #[tactic(auto, unfolding(crate::specs::Lines::line_with))]
 fn print_cell<W: Write>(of: Structure<'_>, cell: TableCell, out: &mut Printer<'_, W>)
-    requires { is_padding (kind_of cell) ≡ false }
-    ensures { Prints out.old out.new (line_with of.entry.start of.entry.size (a_cell cell) ∷ []) }
+    ensures { Prints out.old out.new (line_with of.entry.start of.entry.size (what_parts (a_cell cell)) ∷ []) }
 {
-    out.line(line![
-        of;
-        Member(Name::Structure, Plain("cell")),
-        Word("table "),
-        Note(Byte(cell.table.number())),
-        Word(" "),
-        Field(Name::Table, Plain(cell.table.name())),
-        Word(" row "),
-        Field(Name::Row, Number(cell.row as u64)),
-        Word(" column "),
-        Note(Number(column_number(cell) as u64)),
-        Word(" "),
-        Field(Name::Column, Plain(column_name(cell)))
-    ]);
+    if is_padding(cell) {
+        out.line(line![
+            of;
+            Member(Name::Structure, Plain("padding")),
+            Word("table "),
+            Note(Byte(cell.table.number())),
+            Word(" "),
+            Field(Name::Table, Plain(cell.table.name())),
+            Word(" row "),
+            Field(Name::Row, Number(cell.row as u64)),
+            Word(" padding")
+        ]);
+    } else {
+        out.line(line![
+            of;
+            Member(Name::Structure, Plain("cell")),
+            Word("table "),
+            Note(Byte(cell.table.number())),
+            Word(" "),
+            Field(Name::Table, Plain(cell.table.name())),
+            Word(" row "),
+            Field(Name::Row, Number(cell.row as u64)),
+            Word(" column "),
+            Note(Number(column_number(cell) as u64)),
+            Word(" "),
+            Field(Name::Column, Plain(column_name(cell)))
+        ]);
+    }
 }
 
 /// Prints the line of an entry of a heap.
 #[tactic(auto, unfolding(crate::specs::Lines::line_with))]
 fn print_entry<W: Write>(of: Structure<'_>, heap: Kind, cell: TableCell, out: &mut Printer<'_, W>)
-    ensures { Prints out.old out.new (line_with of.entry.start of.entry.size (entry heap cell) ∷ []) }
+    ensures { Prints out.old out.new (line_with of.entry.start of.entry.size (what_parts (entry heap cell)) ∷ []) }
 {
     out.line(line![
         of;
@@ -145,7 +138,7 @@ fn print_entry<W: Write>(of: Structure<'_>, heap: Kind, cell: TableCell, out: &m
 /// Prints the line of a user string.
 #[tactic(auto, unfolding(crate::specs::Lines::line_with))]
 fn print_user_string<W: Write>(of: Structure<'_>, token: u32, out: &mut Printer<'_, W>)
-    ensures { Prints out.old out.new (line_with of.entry.start of.entry.size (user_string token) ∷ []) }
+    ensures { Prints out.old out.new (line_with of.entry.start of.entry.size (what_parts (user_string token)) ∷ []) }
 {
     out.line(line![
         of;
@@ -163,7 +156,6 @@ fn print_structure<W: Write>(alloc: Global, of: Structure<'_>, out: &mut Printer
     match of.what {
         What::Words(words) => print_words(alloc, of, words, out),
         What::Scalar(words) => print_words(alloc, of, words, out),
-        What::Cell(cell) if is_padding(cell) => print_padding(of, cell, out),
         What::Cell(cell) => print_cell(of, cell, out),
         What::Entry(heap, cell) => print_entry(of, heap, cell, out),
         What::UserString(token) => print_user_string(of, token, out),

@@ -1,5 +1,5 @@
 //! The user strings of a heap, one after another (II.24.2.4).
-ghost use Rattle.std.specs.Prelude.{◌≡◌, ◌≤◌, ◌<◌, ◌^◌, ◌-◌, [], IfNone, IfOk, IfSome, List, map, min};
+ghost use Rattle.std.specs.Prelude.{◌≡◌, ◌≤◌, ◌<◌, ◌^◌, [], IfNone, IfOk, IfSome, List, map};
 ghost use Rattle.heap_entries.specs.Padding.{zero_padded};
 ghost use Rattle.cli_regions.specs.Kept.{Adds, Finds};
 ghost use Rattle.cli_where.specs.Kept.{IsLow, heap_of};
@@ -73,13 +73,6 @@ pub(crate) fn find_user_strings(alloc: Global, heap: &Heap<'_>, found: &mut Sear
     }
 }
 
-/// The number of bytes that a user string has of a heap of this length.
-fn size_within(len: usize, index: usize, next: usize) -> usize
-    ensures { result ≡ min next len - index }
-{
-    next.min(len).saturating_sub(index)
-}
-
 /// Keeps the user string that contains the byte, of those of a heap that was padded.
 fn find_in_padded(heap: &Heap<'_>, padded: &[u8], found: &mut Search<'_>)
     requires low { IsLow heap.now }
@@ -89,9 +82,11 @@ fn find_in_padded(heap: &Heap<'_>, padded: &[u8], found: &mut Search<'_>)
     for _turn in 0..padded.len() {
         match user_entry(padded, index) {
             Some(entry) => {
+                let end = entry.next.min(heap.bytes.len());
+                let size = end.saturating_sub(index) as u64;
                 found.look_at(Structure {
                     start: heap.start + index as u64,
-                    size: size_within(heap.bytes.len(), index, entry.next) as u64,
+                    size,
                     what: What::UserString(USER_STRINGS + index as u32),
                 });
                 index = entry.next;

@@ -6,7 +6,7 @@ ghost use Rattle.cli_where.specs.Entries.{heap_at};
 ghost use Rattle.cli_where.specs.Where.{AreInFile, AreInHeaps, AreInImage, AreInRoot, AreInStream, AreStructuresAt};
 
 use crate::cells::find_cell;
-use crate::entries::{heap_in, target_of};
+use crate::entries::{Target, heap_in, run_of};
 use crate::named_entries::find_entries;
 use crate::user_strings::find_user_strings;
 use cli_header::read_cli;
@@ -36,10 +36,15 @@ fn find_in_heaps(root: &Root<'_>, rows: &Rows<'_>, start: u64, reach: Reach, fou
     match reach {
         Reach::Cells => {}
         Reach::Entries => {
+            let offset = found.offset();
             let texts = heap_in(root, Kind::Strings, start);
-            let guids = heap_in(root, Kind::Guids, start);
-            let blobs = heap_in(root, Kind::Blobs, start);
-            let target = target_of(texts, guids, blobs, found.offset());
+            let target = Target {
+                offset,
+                texts,
+                run: run_of(texts, offset),
+                guids: heap_in(root, Kind::Guids, start),
+                blobs: heap_in(root, Kind::Blobs, start),
+            };
             find_entries(rows, &target, found);
             let users = heap_in(root, Kind::UserStrings, start);
             find_user_strings(found.alloc(), &users, found);

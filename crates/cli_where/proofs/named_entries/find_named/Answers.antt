@@ -1,9 +1,9 @@
 use Rattle.cli_where.proofs.Prelude.{◌∙◌, ap, entry, heap_named}
-use Rattle.cli_where.proofs.NamedLemmas.{finds_no_more, finds_none_of, finds_one}
+use Rattle.cli_where.proofs.NamedLemmas.{finds_none_of, finds_one, finds_same}
 use Rattle.cli_where.proofs.named_entries.find_named.Goals as goal
 
 pub returns-then-most-eq0 : goal.returns-then-most-eq0
-returns-then-most-eq0 c = finds_no_more c.args.most _ c.args.found.now c.if-most-eq0.true
+returns-then-most-eq0 c = rw c.if-most-eq0.true (finds_same (λ more later are. are))
 
 pub returns-in-Some : goal.returns-in-Some
 returns-in-Some c =

@@ -13,7 +13,7 @@ loop-turn-preserved c =
       turns = omega (arith, c.loop-turn.invariant.turns, found.later);
       left = λ later remainder are adds.
           c.loop-turn.invariant.left later (record { offset = c.loop-turn.index; string = entry.string; next = entry.next } ∷ remainder) (found.token, refl, found.sound, are)
-          (and_then (rw c.size_within.ensures at c.look_at.ensures) adds);
+          (and_then (rw (c.saturating_sub-size.ensures, c.min-end.ensures) at c.look_at.ensures) adds);
     }
 
 pub returns-in-None : goal.returns-in-None

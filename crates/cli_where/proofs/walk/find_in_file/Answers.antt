@@ -1,13 +1,12 @@
-use Rattle.cli_where.proofs.Prelude.{◌∙◌, ap, subst, sym, Finds, said_as, AreInImage}
+use Rattle.cli_where.proofs.Prelude.{◌∙◌, ap, subst, sym, Finds, said_as, AreInImage, adds_find, broken_layer, finds_then, whole_layer}
 use Rattle.pe.specs.Headers.{image_of}
 use Rattle.pe.specs.Image.{Image}
 use Rattle.pe.specs.Rules.{rules_of_image}
 use Rattle.cli_regions.specs.PeHeaders.{image_regions}
-use Rattle.cli_where.proofs.FindLemmas.{adds_find, broken_layer, finds_then, whole_layer}
 use Rattle.cli_where.proofs.walk.find_in_file.Goals as goal
 
 pub returns-in_default : goal.returns-in_default
-returns-in_default c = broken_layer (rules_of_image c.args.file.now) c.args.found.now c.in_default.ensures.first_error
+returns-in_default c = broken_layer (rules_of_image c.args.file.now) c.in_default.field-0 c.args.found.now c.in_default.ensures.first_error
 
 pub find_pe-requires-clause-rules : goal.find_pe-requires-clause-rules
 find_pe-requires-clause-rules c = rw c.in-Ok.ensures.all.1 c.in-Ok.ensures.all.0

@@ -1,9 +1,9 @@
+use Rattle.cli_where.proofs.Prelude.{adds_find, broken_layer, finds_then, whole_layer}
 use Rattle.root.specs.Rules.{rules_of_root}
-use Rattle.cli_where.proofs.FindLemmas.{adds_find, broken_layer, finds_then, whole_layer}
 use Rattle.cli_where.proofs.walk.find_in_root.Goals as goal
 
 pub returns-in_default : goal.returns-in_default
-returns-in_default c = broken_layer (rules_of_root c.args.bytes.now) c.args.found.now c.in_default.ensures.first_error
+returns-in_default c = broken_layer (rules_of_root c.args.bytes.now) c.in_default.field-0 c.args.found.now c.in_default.ensures.first_error
 
 pub find_root-requires-clause-rules : goal.find_root-requires-clause-rules
 find_root-requires-clause-rules c = c.in-Ok.ensures.all.0

@@ -1,13 +1,12 @@
-use Rattle.cli_where.proofs.Prelude.{◌≡◌, arith, subst, Finds, Heap, AreInStream}
+use Rattle.cli_where.proofs.Prelude.{◌≡◌, arith, subst, Finds, Heap, AreInStream, adds_find, broken_layer, finds_then, whole_layer}
 use Rattle.schema.specs.Header.{sizes_of}
 use Rattle.schema.specs.Rules.{rules_of_stream}
-use Rattle.cli_where.proofs.FindLemmas.{adds_find, broken_layer, finds_then, whole_layer}
 use Rattle.cli_where.proofs.walk.find_in_streams.Goals as goal
 
 pub returns-in_default : goal.returns-in_default
 returns-in_default c =
     subst (λ (heap : Heap). Finds (AreInStream c.args.reach c.args.start c.args.root.now heap) c.args.found.now c.args.found.now) c.heap_in-tables.ensures.heap
-    (broken_layer (rules_of_stream c.heap_in-tables.result.bytes.now) c.args.found.now c.in_default.ensures.first_error)
+    (broken_layer (rules_of_stream c.heap_in-tables.result.bytes.now) c.in_default.field-0 c.args.found.now c.in_default.ensures.first_error)
 
 pub find_table_stream-requires-clause-room : goal.find_table_stream-requires-clause-room
 find_table_stream-requires-clause-room c =
