@@ -1,4 +1,2 @@
-pub mod Comparing
-pub mod Embeddings
 pub mod Prelude
-pub mod Rewritings
+pub mod Sending

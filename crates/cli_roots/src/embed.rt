@@ -108,7 +108,10 @@ fn put<'a, R: Files + AllocGlobal, W: Write, E: Write>(
     ensures quiet { WarnsOf options.now.strong_name file.entry.bytes.now err.old err.new }
 {
     match plan_embedding(file.bytes, root, options.strong_name) {
-        Ok(plan) => Ok(write(rt, &plan, file.path, options, out, err)?),
+        Ok(plan) => match write(rt, &plan, file.path, options, out, err) {
+            Ok(()) => Ok(()),
+            Err(failure) => Err(Stopped::from(failure)),
+        },
         Err(error) => Err(refused(error, file.path, options.root)),
     }
 }

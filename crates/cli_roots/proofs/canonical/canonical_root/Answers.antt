@@ -1,15 +1,15 @@
 use Rattle.std.proofs.Common.{inr}
-use Rattle.cli_roots.proofs.Rewritings.{rewritten, too_long}
+use Rattle.std.proofs.Math.Logic.{∥∥₁_map}
 use Rattle.cli_roots.proofs.canonical.canonical_root.Goals as goal
 
 pub returns-in-Ok-clause-sound : goal.returns-in-Ok-clause-sound
 returns-in-Ok-clause-sound c =
-    rewritten c.args.input c.args.bytes.now c.in_ok-view.view c.in_ok-view.ensures.root c.in_ok-view.ensures.model c.in-Ok.root c.in-Ok.ensures.root
+    let it = c.in_ok-view in ∥∥₁_map it.ensures.model (λ some. (it.view, some.0, it.ensures.root, some.1, c.in-Ok.ensures.root some.0 some.1))
 
 pub returns-in-Err-TooLarge-clause-first_error : goal.returns-in-Err-TooLarge-clause-first_error
 returns-in-Err-TooLarge-clause-first_error c =
+    let it = c.in_ok-view in
     inr (
       c.new.ensures,
-      too_long c.args.input c.args.bytes.now c.in_ok-view.view c.in_ok-view.ensures.root c.in_ok-view.ensures.model
-          c.in-Err-TooLarge.field-0 c.in-Err-TooLarge.field-0-is c.in-Err-TooLarge.ensures.refused,
+      ∥∥₁_map it.ensures.model (λ some. (it.view, some.0, it.ensures.root, some.1, rw c.in-Err-TooLarge.field-0-is at (c.in-Err-TooLarge.ensures.refused some.0 some.1))),
     )

@@ -1,9 +1,11 @@
 use Rattle.std.proofs.Common.{Ok, Err, inl, inr, refl}
-use Rattle.cli_roots.proofs.Embeddings.{mixed}
+use Rattle.cli_roots.proofs.Prelude.{err_from_is_err_and}
 use Rattle.cli_roots.proofs.embed.embed_file.Goals as goal
 
 pub returns-in_err-check_path : goal.returns-in_err-check_path
-returns-in_err-check_path g c = inr (mixed c.args.out.now c.args.options.now.path.now c.in_err-check_path.field-0.0 c.from_residual.result c.from_residual.ensures.1 c.in_err-check_path.ensures)
+returns-in_err-check_path g c =
+    let p = err_from_is_err_and c.from_residual.result c.from_residual.ensures.1 in
+    inr (rw p.1 (c.in_err-check_path.field-0.0, p.2, c.in_err-check_path.ensures), refl)
 
 pub returns-in_err-bytes : goal.returns-in_err-bytes
 returns-in_err-bytes g c = inl (Err c.in_err-bytes.field-0.0, (c.in_err-bytes.ensures.refused, c.from_residual-in_err-bytes.ensures.1, refl))
@@ -13,17 +15,8 @@ returns-in-None g c = inl (Ok c.deref.result.now, rw c.in-None.is (c.embed.ensur
 
 pub returns-in_err-root-in-Some : goal.returns-in_err-root-in-Some
 returns-in_err-root-in-Some g c =
-    inl (
-      Ok c.deref.result.now,
-      rw c.in-Some.is (
-        Err c.in_err-root-in-Some.field-0.0,
-        (c.in_err-root-in-Some.ensures.refused, c.from_residual-in_err-root-in-Some.ensures.1, refl),
-      ),
-    )
+    let it = c.in_err-root-in-Some in
+    inl (Ok c.deref.result.now, rw c.in-Some.is (Err it.field-0.0, (it.ensures.refused, c.from_residual-in_err-root-in-Some.ensures.1, refl)))
 
 pub returns : goal.returns
-returns g c =
-    inl (
-      Ok c.deref.result.now,
-      rw c.in-Some.is (Ok c.deref-in-Some.result.now, (c.embed-in-Some.ensures.run, c.embed-in-Some.ensures.quiet)),
-    )
+returns g c = inl (Ok c.deref.result.now, rw c.in-Some.is (Ok c.deref-in-Some.result.now, (c.embed-in-Some.ensures.run, c.embed-in-Some.ensures.quiet)))

@@ -1,33 +1,28 @@
-use Rattle.cli_roots.proofs.Prelude.{inl, refl, Appends, IsPutDone, failure_of, StopsBy}
-use Rattle.cli_roots.proofs.Embeddings.{not_done, planned_quiet, put_sent, put_stopped, put_unsent}
+use Rattle.cli_roots.proofs.Prelude.{inl, inr, refl, failure_of, result_of}
 use Rattle.cli_roots.proofs.embed.put.Goals as goal
 
-pub returns-in_ok-write-in-Ok-clause-done : goal.returns-in_ok-write-in-Ok-clause-done
-returns-in_ok-write-in-Ok-clause-done g c =
-    put_sent g.W.Write.contents g.R.File.Write.contents c.args.out.now c.write.new.out c.args.options.now.form c.args.options.now.strong_name c.args.file.bytes.now
-    c.args.root.now c.in-Ok.plan (λ text. Appends (g.W.Write.contents c.args.out.now) (g.W.Write.contents c.write.new.out) text)
-    c.in-Ok.ensures.given c.in-Ok.ensures.sound c.in_ok-write-in-Ok.ensures.done
+pub returns-in-Ok-write-clause-done : goal.returns-in-Ok-write-clause-done
+returns-in-Ok-write-clause-done g c =
+    let plan = c.in-Ok.ensures in
+    let sent = c.in-Ok-write.ensures.done in
+    rw (← plan.given.2) (result_of c.in-Ok.plan, sent.1.0, rw (← plan.given.2) at plan.sound, sent.1.1, sent.0, sent.1.2)
 
-pub returns-in_ok-write-in-Ok-clause-quiet : goal.returns-in_ok-write-in-Ok-clause-quiet
-returns-in_ok-write-in-Ok-clause-quiet g c =
-    planned_quiet c.args.options.now.strong_name c.args.file.bytes.now c.args.root.now c.in-Ok.plan c.args.err.now c.write.new.err c.in-Ok.ensures.given c.write.ensures.quiet
+pub returns-in-Ok-write-clause-quiet : goal.returns-in-Ok-write-clause-quiet
+returns-in-Ok-write-clause-quiet g c = rw (c.in-Ok.ensures.given.0, c.in-Ok.ensures.given.1) at c.write.ensures.quiet
 
-pub returns-in_err-write-in-Ok-clause-done : goal.returns-in_err-write-in-Ok-clause-done
-returns-in_err-write-in-Ok-clause-done g c =
-    not_done (StopsBy c.in_err-write-in-Ok.field-0.0)
-    (IsPutDone g.W.Write.contents g.R.File.Write.contents c.args.out.now c.write.new.out c.args.options.now.form c.args.options.now.strong_name c.args.file.bytes.now c.args.root.now)
-    c.from_residual.result c.from_residual.ensures.1
+pub returns-in-Err-write-clause-stopped : goal.returns-in-Err-write-clause-stopped
+returns-in-Err-write-clause-stopped g c =
+    let plan = c.in-Ok.ensures in (
+      c.in-Err-write.failure,
+      c.from.ensures,
+      elim c.in-Err-write.ensures.stopped [
+        | inl unwritten ↦ inl (inr unwritten.0, unwritten.1)
+        | inr cut ↦ inr (cut.0, rw (← plan.given.2) (result_of c.in-Ok.plan, cut.1.1.0, rw (← plan.given.2) at plan.sound, cut.1.1.1, cut.1.0, cut.1.1.2))
+      ],
+    )
 
-pub returns-in_err-write-in-Ok-clause-stopped : goal.returns-in_err-write-in-Ok-clause-stopped
-returns-in_err-write-in-Ok-clause-stopped g c =
-    put_stopped g.W.Write.contents g.R.File.Write.contents c.args.out.now c.write.new.out c.args.options.now.form c.args.options.now.strong_name c.args.file.bytes.now
-    c.args.options.now.path.now c.args.root.now c.in_err-write-in-Ok.field-0.0 c.from_residual.result c.from_residual.ensures.1
-    (put_unsent g.W.Write.contents g.R.File.Write.contents c.args.out.now c.write.new.out c.args.options.now.form c.args.options.now.strong_name c.args.file.bytes.now
-    c.args.options.now.path.now c.args.root.now c.in-Ok.plan c.in_err-write-in-Ok.field-0.0 c.in-Ok.ensures.given c.in-Ok.ensures.sound c.in_err-write-in-Ok.ensures.stopped)
-
-pub returns-in_err-write-in-Ok-clause-quiet : goal.returns-in_err-write-in-Ok-clause-quiet
-returns-in_err-write-in-Ok-clause-quiet g c =
-    planned_quiet c.args.options.now.strong_name c.args.file.bytes.now c.args.root.now c.in-Ok.plan c.args.err.now c.write.new.err c.in-Ok.ensures.given c.write.ensures.quiet
+pub returns-in-Err-write-clause-quiet : goal.returns-in-Err-write-clause-quiet
+returns-in-Err-write-clause-quiet g c = rw (c.in-Ok.ensures.given.0, c.in-Ok.ensures.given.1) at c.write.ensures.quiet
 
 pub returns-in-Err-clause-stopped : goal.returns-in-Err-clause-stopped
 returns-in-Err-clause-stopped g c = (failure_of c.in-Err.error, c.refused.ensures, inl (inl (c.in-Err.error, refl, c.in-Err.ensures.first_error, c.in-Err.ensures.refused), refl))

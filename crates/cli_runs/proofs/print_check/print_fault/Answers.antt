@@ -1,4 +1,4 @@
-use Rattle.cli_runs.proofs.Prelude.{◌∷◌, map, seen}
+use Rattle.cli_runs.proofs.Prelude.{[], ◌∷◌, map, seen}
 use Rattle.cli_where.specs.Lines.{structure_line}
 use Rattle.cli_runs.proofs.print_check.print_fault.Goals as goal
 
