@@ -63,6 +63,8 @@ FIXED_IN = {
 }
 # Forms of code that end with a name which is fixed there.
 FIXED_FORMS = [
+    # A name of the toolchain's library.
+    r"\bstd(?:::\w+)+",
     r"\bplace(?= = (?:record|header_offset|reported\.(?:header_)?offset|header\.place)\b)",
     # The fields StreamHeader::place and CliHeader::place, and the method Rows::place.
     r"\.place\b",
