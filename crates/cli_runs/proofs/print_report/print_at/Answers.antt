@@ -4,16 +4,16 @@ use Rattle.cli_runs.proofs.print_report.print_at.Goals as goal
 
 pub returns-in-Ok-Something : goal.returns-in-Ok-Something
 returns-in-Ok-Something g c =
-    let at = c.in-Ok-Something.ensures.1 in (
-      c.in-Ok-Something.ensures.0,
-      (at.0, at.1, sym c.in-Ok-Something.field-0-is ∙ at.2, located at.0 c.args.request.now c.args.bytes.now c.args.offset c.args.out.now c.print_where.new.out at.3),
+    let at = c.in-Ok-Something.ensures in (
+      at.0,
+      (at.1, at.2, sym c.in-Ok-Something.field-0-is ∙ at.3, located at.1 c.args.request.now c.args.bytes.now c.args.offset c.args.out.now c.print_where.new.out at.4),
     )
 
 pub returns-in-Ok-Nothing : goal.returns-in-Ok-Nothing
 returns-in-Ok-Nothing g c =
-    let at = c.in-Ok-Nothing.ensures.1 in
+    let at = c.in-Ok-Nothing.ensures in
     inl (
       refl,
-      c.in-Ok-Nothing.ensures.0,
-      (at.0, at.1, sym c.in-Ok-Nothing.field-0-is ∙ at.2, located at.0 c.args.request.now c.args.bytes.now c.args.offset c.args.out.now c.print_where.new.out at.3),
+      at.0,
+      (at.1, at.2, sym c.in-Ok-Nothing.field-0-is ∙ at.3, located at.1 c.args.request.now c.args.bytes.now c.args.offset c.args.out.now c.print_where.new.out at.4),
     )
