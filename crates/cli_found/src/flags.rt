@@ -2,7 +2,7 @@
 ghost use Rattle.std.specs.Prelude.{◌≡◌, string_bytes, OnOk, IfOk};
 ghost use Rattle.type_heads.specs.FlagWords.{shown_word};
 ghost use Rattle.cli_lines.specs.Printed.{Adds};
-ghost use Rattle.cli_found.specs.Flags.{after_words, flag_parts, flag_text, flags_at, only_at, text_parts, with_word};
+ghost use Rattle.cli_found.specs.Flags.{flag_parts, flag_text, flags_at, only_at, text_parts, with_word};
 
 use cli_lines::Part::Spaced;
 use cli_lines::Value::Plain;
@@ -41,25 +41,17 @@ pub(crate) fn flags_at(table: TableId, column: usize) -> Option<FlagTable>
     }
 }
 
-/// Appends a word, after a space if it is not the first one.
-fn push_after(word: &str, text: &mut String) -> Result<(), AllocError>
-    ensures { OnOk result (string_bytes text.new ≡ after_words (string_bytes text.old) word.now) }
-{
-    if !text.is_empty() {
-        text.push_str(" ")?;
-    }
-    text.push_str(word)
-}
-
-/// Appends a word, if the flags have its value.
+/// Appends a word, if the flags have its value; after a space if it is not the first one.
 fn push_word(number: u64, word: FlagWord, text: &mut String) -> Result<(), AllocError>
     ensures { OnOk result (string_bytes text.new ≡ with_word number (string_bytes text.old) (shown_word word)) }
 {
-    if number & word.mask as u64 == word.value as u64 {
-        push_after(word.text, text)
-    } else {
-        Ok(())
+    if number & word.mask as u64 != word.value as u64 {
+        return Ok(());
     }
+    if !text.is_empty() {
+        text.push_str(" ")?;
+    }
+    text.push_str(word.text)
 }
 
 /// The words that flags have, with a space between them.

@@ -1,8 +1,6 @@
 //! The numbers in cells, and what rules compare them with (II.22).
-ghost use Rattle.std.specs.Prelude.{◌≡◌, ◌&&◌, ◌-◌, ◌/◌, ◌%◌, ◌^◌, length, nat_le, nat_lt, Option};
+ghost use Rattle.std.specs.Prelude.{◌≡◌, ◌&&◌, ◌-◌, ◌/◌, ◌%◌, ◌^◌, Option};
 ghost use Rattle.table_schema.specs.CodedIndexes.{tag_bits};
-ghost use Rattle.table_schema.specs.Columns.{columns_of};
-ghost use Rattle.metadata.specs.Source.{rows_in};
 ghost use Rattle.cli_found.specs.Found.{coded_of, earlier_limit, heap_limit, is_cell, kind_limit, kind_of, limit_of, nested_limit, number_in, rows_limit};
 ghost use Rattle.cli_found.specs.Kept.{shown_limit};
 

@@ -1,5 +1,5 @@
 //! Prints the line of the offset of a fault.
-ghost use Rattle.std.specs.Prelude.{◌≡◌, ◌∷◌, ◌+◌, ◌≤◌, [], length, List, map, nat_le, Some};
+ghost use Rattle.std.specs.Prelude.{◌≡◌, ◌∷◌, ◌+◌, ◌≤◌, [], length, List, map, Some};
 ghost use Rattle.std.specs.Option.{option_map};
 ghost use Rattle.packed.specs.Number.{little_endian};
 ghost use Rattle.packed.specs.Offsets.{part};
@@ -138,15 +138,6 @@ fn field_size(rule: FaultCode) -> usize
     }
 }
 
-/// Whether the bytes have this many at an offset.
-fn has_bytes(bytes: &[u8], offset: u64, size: usize) -> bool
-    requires { IsFieldSize size }
-    ensures { result ≡ nat_le (offset + size) (length bytes.now) }
-{
-    let len = bytes.len() as u64;
-    offset <= len && offset + size as u64 <= len
-}
-
 /// The number in the bytes at an offset.
 fn number_at(bytes: &[u8], offset: usize, size: usize) -> u64
     requires known { IsFieldSize size }
@@ -167,7 +158,7 @@ fn lead_at(bytes: &[u8], offset: u64, size: usize, coded: Option<Coded>) -> Opti
     requires { IsFieldSize size }
     ensures { result ≡ lead_at bytes.now offset size coded }
 {
-    if !has_bytes(bytes, offset, size) {
+    if offset.saturating_add(size as u64) > bytes.len() as u64 {
         return None;
     }
     let number = number_at(bytes, offset as usize, size);
@@ -183,9 +174,7 @@ pub(crate) fn number_of(bytes: &[u8], offset: u64, size: u64, coded: Option<Code
     ensures { result ≡ lead_of bytes.now offset size coded }
 {
     match size {
-        1 => lead_at(bytes, offset, 1, coded),
-        2 => lead_at(bytes, offset, 2, coded),
-        4 => lead_at(bytes, offset, 4, coded),
+        1 | 2 | 4 => lead_at(bytes, offset, size as usize, coded),
         _ => None,
     }
 }

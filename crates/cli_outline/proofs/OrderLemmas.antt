@@ -106,6 +106,3 @@ pub rows_at : (orders : List TableOrder) (index : ℕ) (P : List ℕ → Type 0)
 rows_at [] index P there holds = absurd (omega (arith, there))
 rows_at (order ∷ orders) zero P there holds = holds order refl
 rows_at (order ∷ orders) (suc index) P there holds = rows_at orders index P (omega (arith, there)) holds
-
-pub no_item : {X : Type 0} {xs : List X} {x : X} (k : ℕ) → xs ≡ [] → slice_get xs k ≡ Some x → ⊥
-no_item {X} {xs} {x} k none is = let no : None ≡ Some x = sym (ap (λ ys. slice_get ys k) none) ∙ is in absurd cc

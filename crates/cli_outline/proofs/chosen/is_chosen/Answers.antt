@@ -9,9 +9,6 @@ belonging : (model : Metadata) (wanted : Bor Wanted) (of : Token) (test : Bool) 
 belonging model wanted of true belongs = belongs.0 refl
 belonging model wanted of false belongs = λ is. let yes = belongs.1 is in absurd cc
 
-pub returns-in-All : goal.returns-in-All
-returns-in-All c = λ model is. subst (λ (ch : Choice). IsChosen model ch true c.args.token) (sym c.in-All.is) tt
-
 pub returns-in-Describing : goal.returns-in-Describing
 returns-in-Describing c = λ model is.
     let found = c.declaring_type.result in

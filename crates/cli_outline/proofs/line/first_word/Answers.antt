@@ -1,4 +1,4 @@
-use Rattle.cli_outline.proofs.Prelude.{◌≡◌, ◌∙◌, ap, length, take, unwrap_or, position, position_or_len, ends_word}
+use Rattle.cli_outline.proofs.Prelude.{◌≡◌, ◌∙◌, ap, take, unwrap_or, position_or_len, ends_word}
 use Rattle.cli_outline.proofs.DeclarationLemmas.{word_boundary, word_len}
 use Rattle.cli_outline.proofs.line.first_word.Goals as goal
 

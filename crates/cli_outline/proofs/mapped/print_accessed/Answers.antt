@@ -4,11 +4,6 @@ use Rattle.cli_outline.specs.Outline.{accessed_rows, row_of}
 use Rattle.cli_outline.proofs.PrintedLemmas.{found_left, none_left, rows_are, rows_more, rows_nothing}
 use Rattle.cli_outline.proofs.mapped.print_accessed.Goals as goal
 
-pub print_row-requires-in-loop-accessor : goal.print_row-requires-in-loop-accessor
-print_row-requires-in-loop-accessor g c =
-    let found = c.linked-accessors.ensures.within c.loop-accessor.accessor-index (record { key = 0; row = 0 }) c.loop-accessor-test.true in
-    record { first = found.0; last = found.1 }
-
 pub loop-accessor-preserved : goal.loop-accessor-preserved
 loop-accessor-preserved g c = λ model later is printed.
     let rows = row_of MethodSemantics in

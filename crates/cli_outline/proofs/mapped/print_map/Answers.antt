@@ -1,12 +1,6 @@
-use Rattle.cli_outline.proofs.Prelude.{◌+◌, ◌≤◌, List, ℕ, ap, arith, sym, subst, TableId, IsModel, member_of, row_count, row_in, accessed_by, accessed_rows, each_from, token_at}
+use Rattle.cli_outline.proofs.Prelude.{◌+◌, List, ℕ, ap, sym, subst, IsModel, row_in, accessed_by, accessed_rows, each_from, token_at}
 use Rattle.cli_outline.proofs.PrintedLemmas.{each_more, each_none, rows_are, rows_more, rows_nothing}
 use Rattle.cli_outline.proofs.mapped.print_map.Goals as goal
-
-pub row_at-row-requires : goal.row_at-row-requires
-row_at-row-requires g c =
-    let here = subst (λ (root : List ℕ). c.run_of-rows.result.«end» ≤ row_count root (member_of c.args.list) + 1) c.requires.at c.run_of-rows.ensures.last in
-    let last = subst (λ (t : TableId). c.run_of-rows.result.«end» ≤ row_count c.args.source.now.neighbours.view.now t + 1) (sym c.member-table.ensures) here in
-    record { first = omega (arith, c.run_of-rows.ensures.first, c.loop-position.auto.position); last = omega (arith, last, c.loop-position-test.true) }
 
 pub loop-position-init : goal.loop-position-init
 loop-position-init g c = λ model later is.

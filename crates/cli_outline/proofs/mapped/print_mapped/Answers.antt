@@ -1,7 +1,7 @@
-use Rattle.cli_outline.proofs.Prelude.{◌≡◌, ◌∙◌, ◌+◌, ℕ, ap, drop, map, refl, sym, arith, flat_map, TypeDef, cell_columns, row_count, MemberList, owner_of, row_in, map_link, mapped_rows, type_rows, token_at}
+use Rattle.cli_outline.proofs.Prelude.{◌≡◌, ◌∙◌, ◌+◌, ℕ, ap, drop, map, refl, flat_map, TypeDef, cell_columns, MemberList, row_in, map_link, mapped_rows, type_rows, token_at}
 use Rattle.metadata_source.specs.declared.member_lists.MemberList.TheVariants as list
 use Rattle.navigation.specs.Keyed.{row_of}
-use Rattle.navigation.specs.Linked.{linked, number_to, table_of as linked_table}
+use Rattle.navigation.specs.Linked.{linked, number_to}
 use Rattle.cli_outline.proofs.PrintedLemmas.{found_left, none_left, rows_are, rows_more, rows_nothing}
 use Rattle.cli_outline.proofs.mapped.print_mapped.Goals as goal
 
@@ -13,19 +13,6 @@ number_of_class list.Methods class = refl
 number_of_class list.Params class = refl
 number_of_class list.Events class = refl
 number_of_class list.Properties class = refl
-
-pub print_map-requires : goal.print_map-requires
-print_map-requires g c =
-    let found = c.linked-maps.ensures.within c.loop-map.map-index (record { key = 0; row = 0 }) c.loop-map-test.true in
-    let first = found.0 in
-    let last = found.1 in
-    let table = ap (λ l. linked_table l) c.map_link.ensures ∙ c.requires.maps in
-    let rows = ap (λ t. row_count c.args.source.now.neighbours.view.now t) table ∙ ap (λ root. row_count root (owner_of c.args.list)) (sym c.loop-map.invariant.same) in
-    record {
-      first = first;
-      last = omega (arith, last, rows);
-      at = c.loop-map.invariant.same;
-    }
 
 pub loop-map-preserved : goal.loop-map-preserved
 loop-map-preserved g c = record {

@@ -9,7 +9,3 @@ returns c = λ model is.
     let cut = c.split_at.ensures.front ∙ ap (λ n. take n whole) c.min.ensures ∙ take_min limit whole ∙ ap (take limit) (c.as_bytes-whole.ensures.value ∙ it.4) in
     IfOk-weaker c.from_slice.result _ _ (λ key same.
     subst (λ (shown : Bool). IsKeyIf shown model limit c.args.token key.items) (sym c.if-not-shows.false ∙ c.shows.ensures model is) (it.0, it.1, it.2, it.3, same ∙ cut)) c.from_slice.ensures.items
-
-pub returns-then-not-shows : goal.returns-then-not-shows
-returns-then-not-shows c = λ model is.
-    subst (λ (shown : Bool). IsKeyIf shown model c.args.limit c.args.token c.new.result.items) (sym c.if-not-shows.true ∙ c.shows.ensures model is) c.new.ensures.items

@@ -2,15 +2,6 @@ use Rattle.cli_outline.proofs.Prelude.{◌≡◌, ◌∙◌, ◌∷◌, ◌++◌
 use Rattle.cli_outline.proofs.OrderLemmas.{range_more}
 use Rattle.cli_outline.proofs.orders.keyed_rows.Goals as goal
 
-pub loop-row-init : goal.loop-row-init
-loop-row-init c =
-    let none : 0 ≡ c.args.rows.start - c.args.rows.start = omega arith in
-    record {
-      below = omega arith;
-      rows = ap (map row_of_keyed) c.new-keyed.ensures.items ∙ ap (range_with_len c.args.rows.start) none;
-      keys = λ model is. subst (All (IsKeyed c.args.source.now.options model c.args.table _)) (sym c.new-keyed.ensures.items) (λ k d lt. absurd (omega (arith, lt)));
-    }
-
 pub loop-row-preserved : goal.loop-row-preserved
 loop-row-preserved c =
     let first = c.args.rows.start in
@@ -32,15 +23,3 @@ loop-row-preserved c =
           subst (All (IsKeyed c.args.source.now.options model c.args.table (key_limit count))) (sym c.in_ok-push.ensures.items)
           (All-push (IsKeyed c.args.source.now.options model c.args.table (key_limit count)) c.loop-row.keyed.items item (c.loop-row.invariant.keys model is) key);
     }
-
-pub returns-clause-rows : goal.returns-clause-rows
-returns-clause-rows c =
-    let first = c.args.rows.start in
-    let past = c.args.rows.«end» in
-    let below = c.loop-row.invariant.below in
-    let all = c.loop-row-test.false in
-    let same : c.loop-row.row - first ≡ past - first = omega (arith, below, all) in
-    c.loop-row.invariant.rows ∙ ap (range_with_len first) same
-
-pub returns-clause-keys : goal.returns-clause-keys
-returns-clause-keys c = c.loop-row.invariant.keys

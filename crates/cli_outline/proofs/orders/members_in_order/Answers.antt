@@ -3,23 +3,6 @@ use Rattle.cli_outline.proofs.OrderLemmas.{AreMembers, members_due, members_more
 use Rattle.cli_outline.proofs.RunLemmas.{run_first, run_rises}
 use Rattle.cli_outline.proofs.orders.members_in_order.Goals as goal
 
-pub run_of-rows-requires : goal.run_of-rows-requires
-run_of-rows-requires c =
-    let owners = subst (λ (t : TableId). c.loop-owner.owner ≤ row_count c.args.source.now.neighbours.view.now t) c.owner.ensures
-    (omega (arith, c.count-owner-end.ensures.rows, c.loop-owner-test.true)) in
-    record {
-      first = c.loop-owner.auto.owner;
-      last = subst (λ (root : List ℕ). c.loop-owner.owner ≤ row_count root (owner_of c.args.list)) (sym c.loop-owner.invariant.same) owners;
-    }
-
-pub push_in_order-requires : goal.push_in_order-requires
-push_in_order-requires c =
-    let here = subst (λ (root : List ℕ). c.run_of-rows.result.«end» ≤ row_count root (member_of c.args.list) + 1) c.loop-owner.invariant.same c.run_of-rows.ensures.last in
-    record {
-      first = c.run_of-rows.ensures.first;
-      last = subst (λ (t : TableId). c.run_of-rows.result.«end» ≤ row_count c.args.source.now.neighbours.view.now t + 1) (sym c.member.ensures) here;
-    }
-
 pub loop-owner-init : goal.loop-owner-init
 loop-owner-init c = record {
   same = c.new-cells.ensures;

@@ -1,9 +1,6 @@
 use Rattle.cli_outline.proofs.Prelude.{◌≡◌, ◌∙◌, ◌∷◌, [], ◌<◌, ◌≤◌, ◌+◌, ℕ, Some, ap, arith, get_or, length, length-append, subst, sym, slice_get, TableId, Module, table_index_of, tables, TableOrder}
-use Rattle.cli_outline.proofs.OrderLemmas.{AreKnown, no_item, pushed, rows_at}
+use Rattle.cli_outline.proofs.OrderLemmas.{AreKnown, pushed, rows_at}
 use Rattle.cli_outline.proofs.orders.orders_by_name.Goals as goal
-
-pub loop-table-init : goal.loop-table-init
-loop-table-init c = record { long = ap length c.new-orders.ensures.items; known = λ k order is. absurd (no_item k c.new-orders.ensures.items is) }
 
 pub loop-table-preserved : goal.loop-table-preserved
 loop-table-preserved c =

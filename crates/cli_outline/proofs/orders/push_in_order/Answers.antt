@@ -1,22 +1,7 @@
-use Rattle.cli_outline.proofs.Prelude.{◌≡◌, ◌∙◌, ◌∷◌, ◌++◌, [], ◌+◌, ◌-◌, ap, append-nil, append_assoc, get_or, map, refl, rules, subst, sym, take, range_with_len, IsPermutation, map_more, take_all, All-permutation, IsPermutation-map, answers_always, ranks_by, IsKeyed, key_limit, keyed_cmp, row_of_keyed, Keyed}
+use Rattle.cli_outline.proofs.Prelude.{◌≡◌, ◌∙◌, ◌++◌, ◌+◌, ◌-◌, ap, map, refl, rules, subst, range_with_len, IsPermutation, take_all, All-permutation, IsPermutation-map, answers_always, ranks_by, IsKeyed, key_limit, keyed_cmp, row_of_keyed, Keyed}
 use Rattle.std.specs.Ordering.{is_lt}
 use Rattle.cli_outline.proofs.OrderLemmas.{keyed_cmp_total, rows_within}
 use Rattle.cli_outline.proofs.orders.push_in_order.Goals as goal
-
-pub loop-item-init : goal.loop-item-init
-loop-item-init c = sym (append-nil c.args.order.now.items)
-
-pub loop-item-preserved : goal.loop-item-preserved
-loop-item-preserved c =
-    let items = c.deref-item-items.result.now in
-    let i = c.loop-item.item-index in
-    let before = c.args.order.now.items in
-    let item = c.item-item.result in
-    let rows = map row_of_keyed (take i items) in
-    let at : get_or items i item ≡ item = search rules in
-    let more : map row_of_keyed (take (i + 1) items) ≡ rows ++ item.row ∷ [] =
-    map_more row_of_keyed items i item c.loop-item-test.true ∙ ap (λ (it : Keyed). rows ++ it.row ∷ []) at in
-    c.in_ok-push.ensures.items ∙ ap (λ xs. xs ++ item.row ∷ []) c.loop-item.invariant ∙ append_assoc before rows (item.row ∷ []) ∙ sym (ap (λ xs. before ++ xs) more)
 
 pub returns : goal.returns
 returns c =

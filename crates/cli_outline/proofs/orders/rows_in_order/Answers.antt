@@ -1,12 +1,7 @@
-use Rattle.cli_outline.proofs.Prelude.{◌≡◌, ◌∙◌, ◌++◌, [], ℕ, List, All, ◌+◌, IfOk-weaker, ap, refl, subst, subst₂, sym, TableId, member_of, AreGrouped, IsOrdered, IsRowIn, row_at}
+use Rattle.cli_outline.proofs.Prelude.{◌≡◌, ◌∙◌, ◌++◌, [], ℕ, List, ◌+◌, IfOk-weaker, ap, refl, subst, subst₂, sym, TableId, member_of, AreGrouped, IsOrdered, row_at}
 use Rattle.cli_outline.specs.declared.orders.Grouping.{Grouping}
 use Rattle.cli_outline.proofs.OrderLemmas.{appended}
 use Rattle.cli_outline.proofs.orders.rows_in_order.Goals as goal
-
-pub returns-in_ok-push_in_order-in-Table-clause-within : goal.returns-in_ok-push_in_order-in-Table-clause-within
-returns-in_ok-push_in_order-in-Table-clause-within c =
-    let out = c.in_ok-push_in_order-in-Table.ensures in
-    subst (All (IsRowIn c.args.source.now.neighbours.view.now c.args.table)) (sym (out.1 ∙ ap (λ xs. xs ++ out.0) c.new-order.ensures.items)) out.2
 
 pub returns-in_ok-push_in_order-in-Table-clause-grouped : goal.returns-in_ok-push_in_order-in-Table-clause-grouped
 returns-in_ok-push_in_order-in-Table-clause-grouped c = λ model is.

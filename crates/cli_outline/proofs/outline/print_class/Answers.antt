@@ -1,15 +1,6 @@
-use Rattle.cli_outline.proofs.Prelude.{◌≤◌, List, ℕ, sym, subst, TypeDef, row_count, class_rows}
+use Rattle.cli_outline.proofs.Prelude.{class_rows}
 use Rattle.cli_outline.proofs.PrintedLemmas.{rows_more}
 use Rattle.cli_outline.proofs.outline.print_class.Goals as goal
-
-pub print_row-requires : goal.print_row-requires
-print_row-requires g c = record {
-  first = c.requires.first;
-  last = subst (λ (root : List ℕ). c.args.row ≤ row_count root TypeDef) c.requires.at c.requires.last;
-}
-
-pub print_members-requires-2-clause-last : goal.print_members-requires-2-clause-last
-print_members-requires-2-clause-last g c = subst (λ (root : List ℕ). c.args.row ≤ row_count root TypeDef) (sym c.print_members.ensures.same) c.requires.last
 
 pub returns-clause-lines : goal.returns-clause-lines
 unfolding class_rows

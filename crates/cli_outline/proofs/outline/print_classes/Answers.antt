@@ -1,16 +1,6 @@
-use Rattle.cli_outline.proofs.Prelude.{◌+◌, ◌≤◌, ◌<◌, ◌∙◌, List, ℕ, ap, sym, subst, arith, TypeDef, count_in, row_count, row_in, class_by, class_rows, each_from}
+use Rattle.cli_outline.proofs.Prelude.{◌+◌, ◌≤◌, ◌<◌, ◌∙◌, ap, sym, arith, TypeDef, count_in, row_in, class_by, class_rows, each_from}
 use Rattle.cli_outline.proofs.PrintedLemmas.{each_more, each_none, rows_are, rows_more, rows_nothing}
 use Rattle.cli_outline.proofs.outline.print_classes.Goals as goal
-
-pub row_at-row-requires : goal.row_at-row-requires
-row_at-row-requires g c = record { first = c.loop-position.auto.position; last = omega (arith, c.count-count.ensures.rows, c.loop-position-test.true) }
-
-pub print_class-requires : goal.print_class-requires
-print_class-requires g c = record {
-  first = c.row_at-row.ensures.first;
-  last = subst (λ (root : List ℕ). c.row_at-row.result ≤ row_count root TypeDef) (sym c.loop-position.invariant.same) c.row_at-row.ensures.last;
-  at = c.loop-position.invariant.same;
-}
 
 pub loop-position-preserved : goal.loop-position-preserved
 loop-position-preserved g c = record {

@@ -1,9 +1,6 @@
 use Rattle.cli_regions.proofs.Prelude.{ap, arith, map, drop_all, drop_more, fields_from, seen_field, more_left, none_left}
 use Rattle.cli_regions.proofs.fields.find_fields.Goals as goal
 
-pub loop-field-init : goal.loop-field-init
-loop-field-init c = record { left = λ later adds. adds; low = omega arith }
-
 pub loop-field-preserved : goal.loop-field-preserved
 loop-field-preserved c =
     let loop = c.loop-field in

@@ -2,9 +2,6 @@ use Rattle.cli_regions.proofs.Prelude.{◌∙◌, ◌+◌, ◌∷◌, ◌++◌, 
 use Rattle.table_schema.specs.declared.table.TableId.TheVariants.{Module}
 use Rattle.cli_regions.proofs.table_stream.find_row_counts.Goals as goal
 
-pub loop-table-init : goal.loop-table-init
-loop-table-init c = record { left = λ later adds. adds; low = omega arith }
-
 pub loop-table-preserved : goal.loop-table-preserved
 loop-table-preserved c =
     let loop = c.loop-table in

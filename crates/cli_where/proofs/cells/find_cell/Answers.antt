@@ -8,18 +8,6 @@ pub returns-then-offset-start : goal.returns-then-offset-start
 returns-then-offset-start c =
     finds_none _ c.args.found.now (None, (λ table row column from cell. absurd (omega (arith, from, c.if-offset-start.true, c.offset-offset.ensures))), refl)
 
-pub cell_start-requires-clause-first : goal.cell_start-requires-clause-first
-cell_start-requires-clause-first c = c.in-Some.ensures.sound.first
-
-pub cell_start-requires-clause-last : goal.cell_start-requires-clause-last
-cell_start-requires-clause-last c = c.in-Some.ensures.sound.last
-
-pub cell_start-requires-clause-column : goal.cell_start-requires-clause-column
-cell_start-requires-clause-column c = c.in-Some.ensures.sound.listed
-
-pub cell_width-requires : goal.cell_width-requires
-cell_width-requires c = c.in-Some.ensures.sound.listed
-
 pub returns-in-Some : goal.returns-in-Some
 returns-in-Some c =
     let from : c.args.start ≤ c.args.found.now.offset = omega (arith, c.if-offset-start.false, c.offset-offset.ensures) in

@@ -22,13 +22,6 @@ returns-then-index-eq0-clause-none c = λ start size is has.
       | then-index-eq0-via-else-index-eq0+else-index-run+then-target-start w ↦ omega (arith, range.0, from, w.if-target-start.true, c.from.ensures)
     ]
 
-pub overflow_sub-result : goal.overflow_sub-result
-overflow_sub-result c =
-    let found = rw c.in_ok-run.was at c.requires.run in
-    let at = found.1 in
-    let upto = found.2.upto in
-    omega (arith, at, upto, c.if-target-start.false, c.from.ensures)
-
 pub returns-clause-sound : goal.returns-clause-sound
 returns-clause-sound c =
     let found = rw c.in_ok-run.was at c.requires.run in

@@ -2,17 +2,8 @@ use Rattle.cli_where.proofs.Prelude.{◌≡◌, ◌∙◌, ◌-◌, [], ap, arit
 use Rattle.std.proofs.lemmas.List.FromFn.{map-range_with_len_more}
 use Rattle.table_schema.specs.Columns.{columns_of}
 use Rattle.schema.specs.Sizes.{Sizes, count_of}
-use Rattle.cli_where.proofs.NamedLemmas.{finds_all, finds_more, finds_same, rows_more}
+use Rattle.cli_where.proofs.NamedLemmas.{finds_all, finds_more, rows_more}
 use Rattle.cli_where.proofs.named_entries.find_entries.Goals as goal
-
-pub loop-of-init : goal.loop-of-init
-loop-of-init c = finds_same (λ more later are. are)
-
-pub loop-row-init : goal.loop-row-init
-loop-row-init c = finds_same (λ more later are. are)
-
-pub loop-column-init : goal.loop-column-init
-loop-column-init c = finds_same (λ more later are. are)
 
 pub loop-column-preserved : goal.loop-column-preserved
 loop-column-preserved c =

@@ -2,9 +2,6 @@ use Rattle.std.proofs.Common.{[], ◌∷◌, arith, refl}
 use Rattle.cli_where.proofs.UserLemmas.{no_entry_past}
 use Rattle.cli_where.proofs.strings.print_entries.Goals as goal
 
-pub loop-turn-init : goal.loop-turn-init
-loop-turn-init g c = record { turns = omega arith; left = λ later remainder are printed. (remainder, are, printed) }
-
 pub loop-turn-preserved : goal.loop-turn-preserved
 loop-turn-preserved g c =
     let entry = c.in-Some.entry in

@@ -2,9 +2,6 @@ use Rattle.cli_where.proofs.Prelude.{[], ◌∷◌, arith, refl, adds_none, and_
 use Rattle.cli_where.proofs.UserLemmas.{no_entry_past}
 use Rattle.cli_where.proofs.user_strings.find_in_padded.Goals as goal
 
-pub loop-turn-init : goal.loop-turn-init
-loop-turn-init c = record { turns = omega arith; left = λ later remainder are adds. (remainder, are, adds) }
-
 pub loop-turn-preserved : goal.loop-turn-preserved
 loop-turn-preserved c =
     let entry = c.in-Some.entry in

@@ -1,15 +1,9 @@
-use Rattle.std.proofs.Common.{arith, inl, inr}
+use Rattle.std.proofs.Common.{arith, inr}
 use Rattle.cli_where.proofs.UserLemmas.{entry_is, user_is}
 use Rattle.cli_where.proofs.user_strings.user_entry.Goals as goal
 
-pub returns-then-index-ge-PAST_TOKENS-clause-none : goal.returns-then-index-ge-PAST_TOKENS-clause-none
-returns-then-index-ge-PAST_TOKENS-clause-none c = inl (omega (arith, c.if-index-ge-PAST_TOKENS.true))
-
 pub returns-in_err-size-clause-none : goal.returns-in_err-size-clause-none
 returns-in_err-size-clause-none c = rw c.from_residual.ensures (inr (λ string next is. c.in_err-size.ensures.complete is.blob is.stands))
-
-pub returns-in-Ok-clause-token : goal.returns-in-Ok-clause-token
-returns-in-Ok-clause-token c = omega (arith, c.if-index-ge-PAST_TOKENS.false)
 
 pub returns-in-Ok-clause-sound : goal.returns-in-Ok-clause-sound
 returns-in-Ok-clause-sound c =

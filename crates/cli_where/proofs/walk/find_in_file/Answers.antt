@@ -14,9 +14,6 @@ find_pe-requires-clause-rules c = rw c.in-Ok.ensures.all.1 c.in-Ok.ensures.all.0
 pub find_pe-requires-clause-image : goal.find_pe-requires-clause-image
 find_pe-requires-clause-image c = c.in-Ok.ensures.all.1 ∙ ap (λ (image : Image). image_of image.bytes) (sym c.in-Ok.ensures.all.1)
 
-pub find_in_image-requires : goal.find_in_image-requires
-find_in_image-requires c = rw c.in-Ok.ensures.all.1 c.in-Ok.ensures.all.0.0
-
 pub returns : goal.returns
 returns c =
     let said = c.in-Ok.ensures.all.1 in

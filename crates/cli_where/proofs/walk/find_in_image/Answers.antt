@@ -1,4 +1,4 @@
-use Rattle.cli_where.proofs.Prelude.{◌∙◌, List, ℕ, ap, arith, subst, CliHeader, Finds, said_as, AreInRoot, adds_find, broken_layer, finds_then, whole_layer}
+use Rattle.cli_where.proofs.Prelude.{◌∙◌, List, ℕ, ap, subst, CliHeader, Finds, said_as, AreInRoot, adds_find, broken_layer, finds_then, whole_layer}
 use Rattle.cli_header.specs.Rules.{rules_of_cli_header}
 use Rattle.metadata.specs.Streams.{root_in}
 use Rattle.cli_regions.specs.Files.{cli_regions}
@@ -6,15 +6,6 @@ use Rattle.cli_where.proofs.walk.find_in_image.Goals as goal
 
 pub returns-in_default : goal.returns-in_default
 returns-in_default c = broken_layer (rules_of_cli_header c.args.pe.now) c.in_default.field-0 c.args.found.now c.in_default.ensures.first_error
-
-pub find_cli-requires : goal.find_cli-requires
-find_cli-requires c = omega (arith, c.in-Ok.ensures.sound.place.within, c.requires)
-
-pub root_of-root-requires : goal.root_of-root-requires
-root_of-root-requires c = rw c.bytes.ensures c.in-Ok.ensures.root
-
-pub find_in_root-requires : goal.find_in_root-requires
-find_in_root-requires c = omega (arith, c.in-Ok.ensures.root.0, c.in-Ok.ensures.root.1, c.requires)
 
 pub returns : goal.returns
 returns c =

@@ -5,15 +5,6 @@ use Rattle.cli_where.proofs.walk.find_in_root.Goals as goal
 pub returns-in_default : goal.returns-in_default
 returns-in_default c = broken_layer (rules_of_root c.args.bytes.now) c.in_default.field-0 c.args.found.now c.in_default.ensures.first_error
 
-pub find_root-requires-clause-rules : goal.find_root-requires-clause-rules
-find_root-requires-clause-rules c = c.in-Ok.ensures.all.0
-
-pub find_root-requires-clause-directory : goal.find_root-requires-clause-directory
-find_root-requires-clause-directory c = c.in-Ok.ensures.all.1
-
-pub find_in_streams-requires-clause-small : goal.find_in_streams-requires-clause-small
-find_in_streams-requires-clause-small c = rw c.in-Ok.ensures.all.1 c.in-Ok.ensures.sound.0
-
 pub returns : goal.returns
 returns c =
     whole_layer (rules_of_root c.args.bytes.now) c.in-Ok.ensures.all.0 (finds_then (adds_find c.find_root.ensures) (rw c.in-Ok.ensures.all.1 at c.find_in_streams.ensures))
