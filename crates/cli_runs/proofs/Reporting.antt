@@ -1,5 +1,5 @@
 -- What a printer was asked to print of a report, and what went out of it.
-use Rattle.cli_runs.proofs.Prelude.{◌≡◌, ◌≢◌, ℕ, List, [], ◌∷◌, ◌++◌, Option, None, Some, Result, Ok, Err, append-nil, refl, sym, subst, inl, inr, IfErr, IsSome, OnOk, Fault, Token, Metadata, IsOutput, Failure, Input, BareRoot, File, Part, Style, styled_text, Asked, Printed, Prints, Sent, OutlineOptions, AreNone, Hands, HasPrinted, AreDeclared, AreNamed, AreOut, AreSomeDeclared, HasEnded, IsFaultOut, IsListed, IsPrinted, IsStopped, OfModel, everything, lead_of, style_of, verdict_lines, AreCut, AreSent, IsReported, Listing, Request}
+use Rattle.cli_runs.proofs.Prelude.{◌≡◌, ◌≢◌, ℕ, List, [], ◌∷◌, ◌++◌, Option, None, Some, Result, Ok, Err, append-nil, refl, sym, subst, inl, inr, IfErr, IsSome, OnOk, Fault, Token, Metadata, IsOutput, Failure, Input, BareRoot, File, Part, Style, styled_text, Asked, Printed, Sent, OutlineOptions, AreNone, Hands, HasPrinted, AreDeclared, AreNamed, AreOut, AreSomeDeclared, HasEnded, IsFaultOut, IsListed, IsPrinted, IsStopped, OfModel, everything, lead_of, style_of, verdict_lines, AreCut, AreSent, IsReported, Listing, Request}
 use Rattle.std.specs.Result.{result_and}
 use Rattle.std.specs.Io.KnownBytes.{Appends}
 use Rattle.cli_faults.specs.declared.stop.Stop.{Stop}
@@ -14,23 +14,14 @@ use Rattle.cli_runs.specs.declared.report.Report.TheVariants as report
 use Rattle.cli_runs.specs.declared.report.Verdict.{Verdict}
 use Rattle.cli_runs.specs.declared.report.Verdict.TheVariants as verdict
 
--- what follows from what is true of the lines of contents
-pub contents_weaker : (structures : List Region) (input : Input) (bytes : List ℕ) (offset : ℕ) (P Q : List (List Part) → Type 0) → ((lines : List (List Part)) → P lines → Q lines)
-    → HasContents structures input bytes offset P → HasContents structures input bytes offset Q
-contents_weaker [] File bytes offset P Q follows has = follows _ has
-contents_weaker [] BareRoot bytes offset P Q follows has = follows _ has
-contents_weaker (of ∷ later) File bytes offset P Q follows has = λ header model file.
-    let is = has header model file in
-    (is.0, is.1, follows _ is.2)
-contents_weaker (of ∷ later) BareRoot bytes offset P Q follows has = λ model is. follows _ (has model is)
-
--- the lines of structures and of contents were handed to a printer
-pub located : {W : Type 0} (structures : List Region) (request : Request) (bytes : List ℕ) (offset : ℕ) (old new : Printed W)
-    → HasContents structures request.input bytes offset (λ contents. Prints old new (where_lines structures ++ contents))
-    → HasContents structures request.input bytes offset (λ contents. AreOut (Hands old new) (where_lines structures ++ contents))
-located structures request bytes offset old new has =
-    contents_weaker structures request.input bytes offset (λ contents. Prints old new (where_lines structures ++ contents))
-    (λ contents. AreOut (Hands old new) (where_lines structures ++ contents)) (λ lines are. (are, (λ live. tt))) has
+-- what follows from what is true of the lines of structures and of contents
+pub where_weaker : (P Q : List (List Part) → Type 0) → ((lines : List (List Part)) → P lines → Q lines) → (structures : List Region) (input : Input) (bytes : List ℕ) (offset : ℕ)
+    → HasContents structures input bytes offset (λ contents. P (where_lines structures ++ contents))
+    → HasContents structures input bytes offset (λ contents. Q (where_lines structures ++ contents))
+where_weaker P Q weaker [] File bytes offset has = weaker _ has
+where_weaker P Q weaker [] BareRoot bytes offset has = weaker _ has
+where_weaker P Q weaker (of ∷ later) File bytes offset has = λ header model file. let is = has header model file in (is.0, is.1, weaker _ is.2)
+where_weaker P Q weaker (of ∷ later) BareRoot bytes offset has = λ model is. weaker _ (has model is)
 
 -- ---- what went out of a report, if each of its lines does
 
@@ -41,13 +32,6 @@ module _ (P Q : Type 0 → List (List Part) → Type 0) (weaker : (all : Type 0)
   some_weaker : (options : OutlineOptions) (model : Metadata) (Are : List Token → Type 0) → AreSomeDeclared P options model Are → AreSomeDeclared Q options model Are
   some_weaker options model Are (inl out) = inl (out.0, out.1, declared_weaker options model _ out.2)
   some_weaker options model Are (inr out) = inr (weaker _ _ out)
-
-  where_weaker : (input : Input) (bytes : List ℕ) (offset : ℕ) (structures : List Region)
-      → HasContents structures input bytes offset (λ contents. AreOut P (where_lines structures ++ contents))
-      → HasContents structures input bytes offset (λ contents. AreOut Q (where_lines structures ++ contents))
-  where_weaker input bytes offset structures has =
-      contents_weaker structures input bytes offset (λ contents. AreOut P (where_lines structures ++ contents)) (λ contents. AreOut Q (where_lines structures ++ contents))
-      (λ lines are. weaker (Unit {0}) (where_lines structures ++ lines) are) has
 
   listed_weaker : (of : Listing) (model : Metadata) → IsListed P of model → IsListed Q of model
   listed_weaker (listing.Show table names) model out = weaker _ _ out
@@ -80,7 +64,7 @@ module _ (P Q : Type 0 → List (List Part) → Type 0) (weaker : (all : Type 0)
     printed_weaker (report.RefsOf subject) out =
         (out.0, (λ model is. let at = out.1 model is in (at.0, (at.1.0, at.1.1, declared_weaker everything model _ at.1.2))))
     printed_weaker (report.Tokens numbers) out = (out.0, out.1, out.2, named_weaker numbers.items out.3)
-    printed_weaker (report.Where offset) out = (out.0, (out.1.0, out.1.1, out.1.2, where_weaker request.input bytes offset out.1.0 out.1.3))
+    printed_weaker (report.Where offset) out = (out.0, (out.1.0, out.1.1, out.1.2, where_weaker (AreOut P) (AreOut Q) (weaker _) out.1.0 request.input bytes offset out.1.3))
     printed_weaker report.Digest out = (out.0, out.1, weaker _ _ out.2)
 
     stopped_weaker : (of : Report) (why : Stop) → IsStopped P request name bytes of why → IsStopped Q request name bytes of why
@@ -89,7 +73,7 @@ module _ (P Q : Type 0 → List (List Part) → Type 0) (weaker : (all : Type 0)
     stopped_weaker (report.ShowUntilFault table names) why out = (out.0, out.1, out.2, (out.3.0, out.3.1, weaker _ _ out.3.2))
     stopped_weaker (report.Tokens numbers) why out =
         (out.0, out.1, out.2, out.3, out.4, out.5, out.6, out.7, out.8, named_weaker out.3 out.9)
-    stopped_weaker (report.Where offset) why (inl out) = inl (out.0, out.1, (out.2.0, out.2.1, out.2.2, where_weaker request.input bytes offset out.2.0 out.2.3))
+    stopped_weaker (report.Where offset) why (inl out) = inl (out.0, out.1, (out.2.0, out.2.1, out.2.2, where_weaker (AreOut P) (AreOut Q) (weaker _) out.2.0 request.input bytes offset out.2.3))
     stopped_weaker (report.Where offset) why (inr out) = inr (out.0, out.1, out.2, (out.3.0, out.3.1, weaker _ _ out.3.2))
     stopped_weaker _ why out = absurd out
 

@@ -1,5 +1,5 @@
 //! Reads files and reports on each.
-ghost use Rattle.std.specs.Prelude.{◌≡◌, ◌≤◌, ◌⊎◌, ◌&&◌, ◌||◌, IfOk, IsTrue, false, map, max};
+ghost use Rattle.std.specs.Prelude.{◌≡◌, ◌≤◌, ◌⊎◌, ◌&&◌, IfOk, IsTrue, false, map};
 ghost use Rattle.cli_faults.specs.Status.{status_of};
 ghost use Rattle.cli_faults.specs.Stops.{status_of_stop};
 ghost use Rattle.cli_runs.specs.Runs.{AreRun, EndsAs, IsCutAt, IsCutIn, IsNext, IsRun, IsRunOn, is_input, status_of_ended};
@@ -81,13 +81,13 @@ pub(crate) fn run_each<R: Files + Input + AllocGlobal, W: Write, E: Write>(
         others: 0,
     };
     let mut is_read = is_read;
-    let mut greatest = 0;
+    let mut greatest: u8 = 0;
     for name in names {
         match run_next(rt, request, name, is_read, &mut room, out, err) {
-            Ok(next) => greatest = greater(greatest, next),
+            Ok(next) => greatest = greatest.max(next),
             Err(OutputFailed) => return 3,
         }
-        is_read = is_read_after(is_read, name);
+        is_read |= is_input(name);
     }
     report_others(rt.alloc(), request, room.others, err);
     greatest
@@ -98,27 +98,6 @@ pub(crate) fn is_input(name: &[u8]) -> bool
     ensures { result ≡ is_input name.now }
 {
     name == STANDARD_INPUT.as_bytes()
-}
-
-/// Whether the standard input was read, after what has this name.
-fn is_read_after(is_read: bool, name: &[u8]) -> bool
-    ensures { result ≡ (is_read || is_input name.now) }
-{
-    is_read || is_input(name)
-}
-
-/// Whether a name is that of the standard input, which was read before.
-fn is_again(is_read: bool, name: &[u8]) -> bool
-    ensures { result ≡ (is_read && is_input name.now) }
-{
-    is_read && is_input(name)
-}
-
-/// The greater of two exit codes.
-pub(crate) fn greater(left: u8, right: u8) -> u8
-    ensures { result ≡ max left right }
-{
-    if left < right { right } else { left }
 }
 
 /// Reports on what has this name: a file, or the files in a directory if it is walked. Returns the exit code. The standard input
@@ -140,7 +119,8 @@ fn run_next<R: Files + Input + AllocGlobal, W: Write, E: Write>(
         (IsCutIn request.now W.contents out.old out.new name.now) result }
 {
     let alloc = rt.alloc();
-    if is_again(is_read, name) {
+    let is_again = is_read & is_input(name);
+    if is_again {
         return Ok(refuse(alloc, Unread::InputAgain, err));
     }
     let Ok(path) = str::from_utf8(name) else {

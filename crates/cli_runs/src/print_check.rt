@@ -9,14 +9,13 @@ ghost use Rattle.cli_regions.specs.Kept.{seen};
 ghost use Rattle.cli_runs.specs.Printing.{AreNone, HasPrinted};
 ghost use Rattle.cli_runs.specs.Reports.{AreSaid, HasEnded, is_reported, label, verdict_lines};
 ghost use Rattle.cli_runs.specs.declared.report.Report.TheVariants as report;
-ghost use Rattle.cli_runs.specs.declared.report.Verdict.TheVariants.{Explained, Quiet};
+ghost use Rattle.cli_runs.specs.declared.report.Verdict.TheVariants.{Quiet};
 ghost use Rattle.cli_where.specs.Lines.{structure_line};
 ghost use Rattle.packed.specs.Rule.{FirstBroken};
 
 use crate::report::{Ended, Naming, Request, Verdict};
 use cli_faults::{Failure, Stop, code_of_number};
 use cli_found::print_found;
-use cli_input::Input;
 use cli_lines::{Form, Printer};
 use cli_print::{print_explanation, print_verdict};
 use cli_roots::check_within;
@@ -113,7 +112,15 @@ fn end_at_fault<'a, W: Write>(
         return Ended::Refused(Stop::Failed(Failure::Fault(fault)));
     }
     match verdict {
-        Verdict::Explained => explain_fault(alloc, request, fault, name, bytes, out),
+        Verdict::Explained => {
+            match structures_at(alloc, bytes, request.input, Reach::Cells, fault.offset) {
+                Ok(found) => {
+                    print_fault(alloc, request, fault, name, bytes, &found, out);
+                    Ended::Stopped(Stop::Broken)
+                }
+                Err(_) => Ended::Refused(Stop::Failed(Failure::OutOfMemory)),
+            }
+        }
         _ => {
             print_line(verdict, label_of(request.naming, name), Some(fault), out);
             Ended::Stopped(Stop::Broken)
@@ -121,28 +128,7 @@ fn end_at_fault<'a, W: Write>(
     }
 }
 
-/// Prints a fault, what has the byte at its offset, the number there, and what its rule says.
-fn explain_fault<'a, W: Write>(
-    alloc: Global,
-    request: &Request<'_>,
-    fault: Fault,
-    name: &str,
-    bytes: &[u8],
-    out: &mut Printer<'_, W>,
-) -> Ended<'a>
-    requires { FirstBroken (rules_of request.now.input bytes.now) fault }
-    ensures { HasPrinted request.now name.now bytes.now out.old out.new (report.Check Explained) result }
-{
-    match structures_at(alloc, bytes, request.input, Reach::Cells, fault.offset) {
-        Ok(found) => {
-            print_fault(alloc, request, fault, name, bytes, &found, out);
-            Ended::Stopped(Stop::Broken)
-        }
-        Err(_) => Ended::Refused(Stop::Failed(Failure::OutOfMemory)),
-    }
-}
-
-/// Prints a fault, the structures that have the byte at its offset, and what is said of it.
+/// Prints a fault, the structures that have the byte at its offset, the number there, an empty line, and what its rule says.
 fn print_fault<W: Write>(
     alloc: Global,
     request: &Request<'_>,
@@ -158,21 +144,7 @@ fn print_fault<W: Write>(
     cli_lines::laws::lines_follow::<W>();
     print_verdict(label_of(request.naming, name), Some(fault), out);
     print_structures(alloc, structures, out);
-    explain(alloc, request.input, fault, bytes, structures, out);
-}
-
-/// Prints the number at a fault, an empty line, and what its rule says.
-fn explain<W: Write>(
-    alloc: Global,
-    input: Input,
-    fault: Fault,
-    bytes: &[u8],
-    structures: &[Structure<'_>],
-    out: &mut Printer<'_, W>,
-)
-    ensures { (more : List (List Part)) × AreSaid input bytes.now (map seen structures.now) fault more × Prints out.old out.new more }
-{
-    cli_lines::laws::lines_follow::<W>();
+    let input = request.input;
     match code_of_number(fault.code) {
         Some(rule) => {
             print_found(alloc, rule, bytes, input, fault.offset, structures, out);

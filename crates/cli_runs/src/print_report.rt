@@ -1,21 +1,18 @@
 //! The lines of each report.
-ghost use Rattle.std.specs.Prelude.{◌≡◌, All, IfErr, OnErr, OnOk, Option};
-ghost use Rattle.cli_header.specs.declared.header.CliHeader.{CliHeader as Header};
-ghost use Rattle.cli_input.specs.Checked.{IsModelOf, rules_of};
+ghost use Rattle.std.specs.Prelude.{◌≡◌};
 ghost use Rattle.cli_runs.specs.Printing.{HasPrinted, Hands};
-ghost use Rattle.cli_runs.specs.Reports.{IsListed, OfModel, everything, tables_of};
+ghost use Rattle.cli_runs.specs.Reports.{IsListed, tables_of};
 ghost use Rattle.cli_runs.specs.declared.report.Report.TheVariants as report;
 ghost use Rattle.metadata.specs.Metadata.{Metadata};
 ghost use Rattle.metadata.specs.Model.{IsModel};
-ghost use Rattle.packed.specs.Rule.{FirstBroken};
 
-use crate::entry::{entered, open_entered};
+use crate::entry::open_entered;
 use crate::print_check::print_check;
-use crate::report::{Ended, Listing, Report, Request, ended_at, ended_by};
+use crate::report::{Ended, Listing, Report, Request, stop_of};
 use cli_cells::{Names, print_show, print_tokens, print_until_fault};
 use cli_faults::{Failure, Stop};
 use cli_info::print_info;
-use cli_input::{Input, open};
+use cli_input::open;
 use cli_lines::Printer;
 use cli_outline::{
     Outcome, OutlineOptions, Rows, Sorting, Subject, Tokens, print_outline, print_outline_of,
@@ -27,11 +24,18 @@ use cli_roots::{canonical_root, is_spent};
 use cli_where::{Found, print_strings, print_where};
 use comparison::digest;
 use opening::View;
-use packed::Fault;
 use std::alloc::Global;
 use std::io::Write;
 use std::slice;
 use table_schema::TableId;
+
+/// The options of an outline that shows everything, in the order of the rows.
+const EVERYTHING: OutlineOptions = OutlineOptions {
+    tokens: Tokens::Shown,
+    rows: Rows::All,
+    sorting: Sorting::ByRow,
+    entry: None,
+};
 
 /// Prints a report on the bytes of the file with this name, after a check within the budget if there is one.
 pub(crate) fn print_report<'a, W: Write>(
@@ -48,12 +52,27 @@ pub(crate) fn print_report<'a, W: Write>(
         return Ended::Refused(Stop::BudgetSpent);
     }
     match &request.report {
-        Report::Root => ended_by(print_root(bytes, input, out)),
+        Report::Root => match print_root(bytes, input, out) {
+            Ok(()) => Ended::Printed,
+            Err(fault) => Ended::Refused(Stop::Failed(Failure::Fault(fault))),
+        },
         Report::RootUntilFault => print_first_headers(request, name, bytes, out),
-        Report::Info => ended_by(print_info(alloc, bytes, input, out)),
+        Report::Info => match print_info(alloc, bytes, input, out) {
+            Ok(()) => Ended::Printed,
+            Err(fault) => Ended::Refused(Stop::Failed(Failure::Fault(fault))),
+        },
         Report::Strings => print_user_strings(alloc, request, name, bytes, out),
-        Report::Resources => ended_at(print_resources(bytes, out)),
-        Report::Listing(listing) => ended_by(print_listing(alloc, *listing, bytes, input, out)),
+        Report::Resources => match print_resources(bytes, out) {
+            Ok(()) => Ended::Printed,
+            Err(unfound) => Ended::Refused(stop_of(unfound)),
+        },
+        Report::Listing(listing) => match open(bytes, input) {
+            Ok(view) => {
+                print_view(alloc, *listing, &view, out);
+                Ended::Printed
+            }
+            Err(fault) => Ended::Refused(Stop::Failed(Failure::Fault(fault))),
+        },
         Report::Check(verdict) => print_check(alloc, request, *verdict, name, bytes, out),
         Report::ShowUntilFault(table, names) => {
             print_first_rows(alloc, request, table, *names, name, bytes, out)
@@ -74,27 +93,6 @@ fn is_check(report: &Report<'_>) -> bool {
     matches!(report, Report::Check(_))
 }
 
-/// Prints the lines of a listing.
-///
-/// # Errors
-///
-/// The fault of the first rule that fails. Then nothing was printed.
-fn print_listing<W: Write>(
-    alloc: Global,
-    listing: Listing,
-    bytes: &[u8],
-    input: Input,
-    out: &mut Printer<'_, W>,
-) -> Result<(), Fault>
-    ensures first_error { IfErr result (FirstBroken (rules_of input bytes.now)) }
-    ensures untouched { OnErr result (out.new ≡ out.old) }
-    ensures printed { OnOk result (OfModel input bytes.now (IsListed (Hands out.old out.new) listing)) }
-{
-    let view = open(bytes, input)?;
-    print_view(alloc, listing, &view, out);
-    Ok(())
-}
-
 /// Prints the lines of a listing of a view.
 fn print_view<W: Write>(alloc: Global, listing: Listing, view: &View<'_>, out: &mut Printer<'_, W>)
     ensures { (model : Metadata) → IsModel view.now model → IsListed (Hands out.old out.new) listing model }
@@ -102,19 +100,7 @@ fn print_view<W: Write>(alloc: Global, listing: Listing, view: &View<'_>, out: &
     match listing {
         Listing::Show(table, names) => print_show(alloc, view, tables_of(&table), names, out),
         Listing::Types => print_types(view, out),
-        Listing::Refs => print_refs(alloc, view, everything(), out),
-    }
-}
-
-/// The options of an outline that shows everything, in the order of the rows.
-fn everything() -> OutlineOptions
-    ensures { result ≡ everything }
-{
-    OutlineOptions {
-        tokens: Tokens::Shown,
-        rows: Rows::All,
-        sorting: Sorting::ByRow,
-        entry: None,
+        Listing::Refs => print_refs(alloc, view, EVERYTHING, out),
     }
 }
 
@@ -191,7 +177,7 @@ fn print_all<'a, W: Write>(
 {
     match open_entered(bytes, request.input) {
         Ok((entry, view)) => {
-            print_outline(alloc, &view, entered(options, entry), out);
+            print_outline(alloc, &view, OutlineOptions { entry, ..options }, out);
             Ended::Printed
         }
         Err(fault) => Ended::Refused(Stop::Failed(Failure::Fault(fault))),
@@ -212,7 +198,8 @@ fn print_row<'a, W: Write>(
 {
     match open_entered(bytes, request.input) {
         Ok((entry, view)) => {
-            match print_outline_of(alloc, &view, subject, entered(options, entry), out) {
+            let options = OutlineOptions { entry, ..options };
+            match print_outline_of(alloc, &view, subject, options, out) {
                 Outcome::Printed => Ended::Printed,
                 Outcome::NoSuchType => Ended::Refused(Stop::NoSuchType),
                 Outcome::OutOfMemory => Ended::Refused(Stop::Failed(Failure::OutOfMemory)),
@@ -234,7 +221,7 @@ fn print_type_refs<'a, W: Write>(
     ensures { HasPrinted request.now name.now bytes.now out.old out.new (report.RefsOf subject.entry) result }
 {
     match open(bytes, request.input) {
-        Ok(view) => match print_refs_of(alloc, &view, subject, everything(), out) {
+        Ok(view) => match print_refs_of(alloc, &view, subject, EVERYTHING, out) {
             Outcome::Printed => Ended::Printed,
             Outcome::NoSuchType => Ended::Refused(Stop::NoSuchType),
             Outcome::OutOfMemory => Ended::Refused(Stop::Failed(Failure::OutOfMemory)),

@@ -4,7 +4,7 @@ ghost use Rattle.cli_runs.specs.Runs.{AreVisited, EndsAs, IsCutAmong, IsCutAtOne
 ghost use Rattle.cli_runs.specs.declared.report.Directories.TheVariants.{Walked};
 ghost use Rattle.cli_walk.specs.Walks.{IsVisit};
 
-use crate::files::{OutputFailed, Room, greater, report_unread, run_on_bytes};
+use crate::files::{OutputFailed, Room, report_unread, run_on_bytes};
 use crate::report::{Directories, Report, Request, Verdict};
 use cli_faults::Failure;
 use cli_sending::send_message;
@@ -40,7 +40,7 @@ pub(crate) fn run_tree<R: Files + Input + AllocGlobal, W: Write, E: Write>(
             return Ok(greatest);
         };
         match run_visit(rt, request, visit, room, out, err) {
-            Ok(next) => greatest = greater(greatest, next),
+            Ok(next) => greatest = greatest.max(next),
             Err(OutputFailed) => return Err(OutputFailed),
         }
     }
@@ -101,23 +101,16 @@ fn run_found<R: Files + Input + AllocGlobal, W: Write, E: Write>(
     }
 }
 
-/// Reports the number of files that were passed over, if directories are walked.
+/// Reports the number of files that were passed over, if directories are walked, unless there are none or the check is quiet.
 pub(crate) fn report_others<E: Write>(alloc: Global, request: &Request<'_>, count: u64, err: &mut E)
     ensures { (err.new ≡ err.old) ⊎ (request.now.directories ≡ Walked) }
 {
     match request.directories {
         Directories::Refused => {}
-        Directories::Walked => report_count(alloc, request, count, err),
-    }
-}
-
-/// Reports this number of files, unless there are none or the check is quiet.
-fn report_count<E: Write>(alloc: Global, request: &Request<'_>, count: u64, err: &mut E) {
-    match request.report {
-        Report::Check(Verdict::Quiet) => {}
-        _ if count == 0 => {}
-        _ => {
-            let _ = send_message(alloc, &Unread::Others(count, request.input), err);
+        Directories::Walked => {
+            if count > 0 && !matches!(&request.report, Report::Check(Verdict::Quiet)) {
+                let _ = send_message(alloc, &Unread::Others(count, request.input), err);
+            }
         }
     }
 }

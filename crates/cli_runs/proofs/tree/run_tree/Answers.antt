@@ -14,10 +14,10 @@ loop-step-init g c = record { ran = ([], (refl, refl)); within = omega arith; qu
 
 pub loop-step-preserved : goal.loop-step-preserved
 loop-step-preserved g c = record {
-  ran = visit_ended c.args.request.now g.W.Write.contents c.args.out.now c.loop-step.out c.run_visit.new.out c.loop-step.greatest c.in-Ok-run_visit.next c.greater-greatest.result
-      c.greater-greatest.ensures c.loop-step.invariant.ran c.in-Ok-run_visit.ensures.2;
-  within = omega (arith, c.greater-greatest.ensures, c.loop-step.invariant.within, c.in-Ok-run_visit.ensures.0);
-  quiet = λ is. c.in-Ok-run_visit.ensures.1 (omega (arith, c.greater-greatest.ensures, is)) ∙ c.loop-step.invariant.quiet (omega (arith, c.greater-greatest.ensures, is));
+  ran = visit_ended c.args.request.now g.W.Write.contents c.args.out.now c.loop-step.out c.run_visit.new.out c.loop-step.greatest c.in-Ok-run_visit.next c.max-greatest.result
+      c.max-greatest.ensures c.loop-step.invariant.ran c.in-Ok-run_visit.ensures.2;
+  within = omega (arith, c.max-greatest.ensures, c.loop-step.invariant.within, c.in-Ok-run_visit.ensures.0);
+  quiet = λ is. c.in-Ok-run_visit.ensures.1 (omega (arith, c.max-greatest.ensures, is)) ∙ c.loop-step.invariant.quiet (omega (arith, c.max-greatest.ensures, is));
 }
 
 pub returns-in-Err-run_visit : goal.returns-in-Err-run_visit
