@@ -1,5 +1,5 @@
 -- Parts that follow one another, and readers that read them.
-use Rattle.attribute_values.proofs.Prelude.{nat_tests, ◌≡◌, ◌∙◌, ℕ, zero, suc, ◌<◌, ◌≤◌, ◌^◌, length-append, Bool, true, false, cond, Option, Some, None, IfSome, List, [], ◌∷◌, ◌++◌, length, take, drop, get_or, append_assoc, refl, sym, ap, subst, arith, ⊤, nat_lt, ◌==◌, option_and_then, eqb-true, little_endian, IsPacked, Reader, IfSome-bind, IfSome-cond, Part, sized, string, AreParts, sized_at, string_at, text_in}
+use Rattle.attribute_values.proofs.Prelude.{nat_tests, ◌≡◌, ◌∙◌, ℕ, suc, ◌<◌, ◌≤◌, ◌^◌, length-append, Bool, true, false, cond, Option, Some, None, IfSome, List, [], ◌∷◌, ◌++◌, length, take, drop, get_or, append_assoc, refl, sym, ap, subst, arith, ⊤, nat_lt, ◌==◌, option_and_then, eqb-true, little_endian, IsPacked, Reader, IfSome-bind, IfSome-cond, Part, sized, string, AreParts, sized_at, string_at, text_in}
 use Rattle.std.specs.Str.{is_utf8, IsUtf8}
 use Rattle.std.proofs.lemmas.List.{take-append-drop, length-take-le}
 use Rattle.std.proofs.lemmas.Str.{IsUtf8-from_is_utf8, is_utf8-from_IsUtf8}
