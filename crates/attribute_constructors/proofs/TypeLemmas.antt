@@ -1,5 +1,5 @@
 -- Types by their names, and enums.
-use Rattle.attribute_constructors.proofs.Prelude.{◌≡◌, ◌∙◌, ◌≤◌, ◌<◌, ◌+◌, ◌-◌, ◌↔◌, ⊎_elim, ℕ, zero, suc, Bor, Bool, true, false, IsTrue, Option, None, List, [], ◌∷◌, cond, min, length, arith, ap, refl, sym, cases_lt, le-ltb, lt-ltb, TableId, Field, TypeDef, TypeRef, Item, Cell, Ref, Text, Metadata, cell_in, count_in, start_in, Shows, ColumnKind, reference_in, items_in, enum_at, field_type, fields_end, has_row, instance_type, is_enum, is_named_type, is_static, is_text, underlying_type}
+use Rattle.attribute_constructors.proofs.Prelude.{◌≡◌, ◌∙◌, ◌≤◌, ◌<◌, ◌+◌, ◌-◌, ◌↔◌, ⊎_elim, ℕ, zero, suc, Bor, Bool, true, false, IsTrue, Option, None, List, [], ◌∷◌, cond, min, length, arith, ap, refl, sym, cases_lt, le-ltb, lt-ltb, TableId, Field, TypeDef, TypeRef, Item, Cell, Ref, Text, Metadata, cell_in, count_in, start_in, Shows, ColumnKind, items_in, enum_at, field_type, fields_end, has_row, instance_type, is_enum, is_named_type, is_static, is_text, underlying_type}
 use Rattle.std.proofs.lemmas.Bool.Decides.{same_from_decides}
 use Rattle.std.proofs.lemmas.Slice.Eq.{bytes_eq-Decides}
 use Rattle.std.specs.Bool.{Decides}
