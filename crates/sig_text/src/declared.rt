@@ -67,6 +67,7 @@ fn put_generic_params<S: MethodSink>(sink: &mut S, taken: &mut bool, count: u32)
 }
 
 /// Writes the generic parameters of the method, if it is generic.
+#[tactic(auto, using(crate::proofs::Chains::silent))]
 fn generics<S: MethodSink>(sink: &mut S, taken: &mut bool, generic: Option<u32>)
     ensures { Wrote S.refused S.gives sink.old taken.old (generics_text generic) sink.new taken.new }
 {
