@@ -100,6 +100,7 @@ pub fn method(
 
 /// Builds a pointer to a method, after FNPTR.
 #[cycle(build)]
+#[tactic(auto, using(sig_grammar::proofs::ViewLemmas::view_function))]
 pub fn function(alloc: Global, bytes: &[u8], depth: u8) -> Result<(Core, &[u8]), SigError>
     ensures { Gives (λ x. (core_of x.0, x.1.now)) result (change sig.function (method_at true (core_at depth)) bytes.now) }
 {

@@ -33,6 +33,7 @@ pub fn content(alloc: Global, bytes: &[u8], depth: u8) -> Result<(SlotKind, &[u8
 
 /// Builds a parameter or a field.
 #[cycle(build)]
+#[tactic(auto, using(crate::proofs::Cores::view_slot), unfolding(sig_grammar::specs::Reading::slot_at, sig_grammar::specs::Reading::both))]
 pub fn slot(alloc: Global, bytes: &[u8], depth: u8) -> Result<(Slot, &[u8]), SigError>
     ensures { Gives (λ x. (slot_of x.0, x.1.now)) result (slot_at (core_at depth) bytes.now) }
 {

@@ -64,6 +64,7 @@ fn core_behind(alloc: Global, code: u8, bytes: &[u8], depth: u8) -> Result<(Core
 
 /// Builds a type.
 #[cycle(build)]
+#[tactic(auto, using(crate::proofs::Cores::view_typed), unfolding(sig_grammar::specs::Reading::typed_at, sig_grammar::specs::Reading::both))]
 fn typed(alloc: Global, bytes: &[u8], depth: u8) -> Result<(TypeSig, &[u8]), SigError>
     ensures { Gives (λ x. (type_of x.0, x.1.now)) result (typed_at (core_at depth) bytes.now) }
 {
@@ -108,6 +109,7 @@ fn pointer(alloc: Global, bytes: &[u8], depth: u8) -> Result<(Core, &[u8]), SigE
 
 /// Builds an array of one dimension, after SZARRAY.
 #[cycle(build)]
+#[tactic(auto, using(sig_grammar::proofs::ViewLemmas::view_vector))]
 fn vector(alloc: Global, bytes: &[u8], depth: u8) -> Result<(Core, &[u8]), SigError>
     ensures { Gives (λ x. (core_of x.0, x.1.now)) result (change sig.vector (typed_at (core_at depth)) bytes.now) }
 {
@@ -117,6 +119,7 @@ fn vector(alloc: Global, bytes: &[u8], depth: u8) -> Result<(Core, &[u8]), SigEr
 
 /// Builds an array with a shape, after ARRAY.
 #[cycle(build)]
+#[tactic(auto, using(sig_grammar::proofs::ViewLemmas::view_array), unfolding(sig_grammar::specs::Reading::array_at, sig_grammar::specs::Reading::both))]
 fn array(alloc: Global, bytes: &[u8], depth: u8) -> Result<(Core, &[u8]), SigError>
     ensures { Gives (λ x. (core_of x.0, x.1.now)) result (change array_from (array_at (core_at depth)) bytes.now) }
 {

@@ -1,9 +1,8 @@
-use Rattle.std.proofs.lemmas.Grind.{common_steps}
-use Rattle.signatures.proofs.Prelude.{◌≡◌, ◌∙◌, ◌≢◌, ◌<◌, ◌&&◌, Bool, true, eqb, Some, map, length-append, Option, List, ℕ, refl, sym, ap, rules, subst, arith, map-append, change, both, pointer_to, instance_from, void_or, core_at, core_by, typed_at, target_at, array_at, instance_at, named_at, counted_at, content_at, slot_at, ret_at, method_at, method_from, is_method_code, head_is, type_of, slot_of, Fails, view_simple, view_void_pointer, view_pointer, view_vector, view_array, view_instance, view_function, view_typed_ref, view_plain, view_by_ref, view_void_ret}
+use Rattle.signatures.proofs.Prelude.{◌≡◌, ◌∙◌, ◌≢◌, ◌<◌, ◌&&◌, Bool, true, eqb, Some, map, length-append, Option, List, ℕ, refl, sym, ap, rules, subst, arith, map-append, change, both, pointer_to, instance_from, void_or, core_at, core_by, typed_at, target_at, instance_at, named_at, counted_at, content_at, ret_at, method_at, method_from, is_method_code, head_is, type_of, slot_of, Fails, view_simple, view_void_pointer, view_pointer, view_instance, view_typed_ref, view_plain, view_by_ref, view_void_ret}
 use Rattle.sig_grammar.specs.Syntax as sig
 use Rattle.sig_grammar.specs.Syntax.{Typed, Slot}
-use Rattle.signatures.proofs.Cores.{core_simple, core_end, core_other, deep_some, fails_map, fails_then, fails_end, void_other, content_other, named_is, view_typed, view_slot, view_slot_ret, view_method}
-use Rattle.signatures.proofs.Items.{failed, refused, many_next, many_bad, many_end}
+use Rattle.signatures.proofs.Cores.{core_simple, core_end, core_other, deep_some, fails_map, fails_then, fails_end, void_other, content_other, named_is, view_slot_ret, view_method}
+use Rattle.signatures.proofs.Items.{failed, many_next, many_bad, many_end}
 use Rattle.signatures.proofs.Parameters.{still, after_mark, params_next, params_bad, params_end}
 use Rattle.signatures.proofs.+build.Goals as goal
 use Rattle.signatures.proofs.+build.Goals.{methods::params-then-allowed, methods::params-else-allowed}
@@ -50,34 +49,6 @@ pub methods::params-returns : goal.methods::params-returns
 methods::params-returns t c =
     sym c.loop-done.invariant.so_far ∙ params_end (core_at c.args.depth) c.args.count c.loop-done.done (still c.args.allowed c.loop-done.before) c.loop-done.before c.loop-done.tail.now (map slot_of c.loop-done.all.items) c.loop-done-test.false
 
-pub types::core_behind-returns-in-17 : goal.types::core_behind-returns-in-17
-unfolding core_by
-types::core_behind-returns-in-17 t c = rw c.in-17.is c.value_type.ensures
-
-pub types::core_behind-returns-in-18 : goal.types::core_behind-returns-in-18
-unfolding core_by
-types::core_behind-returns-in-18 t c = rw c.in-18.is c.class.ensures
-
-pub types::core_behind-returns-in-19 : goal.types::core_behind-returns-in-19
-unfolding core_by
-types::core_behind-returns-in-19 t c = rw c.in-19.is c.type_parameter.ensures
-
-pub types::core_behind-returns-in-20 : goal.types::core_behind-returns-in-20
-unfolding core_by
-types::core_behind-returns-in-20 t c = rw c.in-20.is c.array.ensures
-
-pub types::core_behind-returns-in-21 : goal.types::core_behind-returns-in-21
-unfolding core_by
-types::core_behind-returns-in-21 t c = rw c.in-21.is c.instance.ensures
-
-pub types::core_behind-returns-in-29 : goal.types::core_behind-returns-in-29
-unfolding core_by
-types::core_behind-returns-in-29 t c = rw c.in-29.is c.vector.ensures
-
-pub types::core_behind-returns-in-30 : goal.types::core_behind-returns-in-30
-unfolding core_by
-types::core_behind-returns-in-30 t c = rw c.in-30.is c.method_parameter.ensures
-
 pub types::core_behind-returns-else-depth-eq0 : goal.types::core_behind-returns-else-depth-eq0
 unfolding core_by
 types::core_behind-returns-else-depth-eq0 t c =
@@ -90,30 +61,6 @@ types::core_behind-returns-else-depth-eq0-2 t c =
     let deep : 0 < c.args.depth = omega arith in
     rw (c.in-27.is, deep_some c.args.depth (change sig.function (method_at true (core_at c.args.depth))) c.args.bytes.now deep) c.function.ensures
 
-pub slots::slot-returns-in_err-mods : goal.slots::slot-returns-in_err-mods
-unfolding slot_at both
-slots::slot-returns-in_err-mods t c = failed _ _ _ _ c.from_residual.ensures (fails_map _ _ _ (fails_then _ _ _ c.in_err-mods.ensures))
-
-pub slots::slot-returns-in_err-kind : goal.slots::slot-returns-in_err-kind
-unfolding slot_at both
-slots::slot-returns-in_err-kind t c = failed _ _ _ _ c.from_residual-in_err-kind.ensures (rw c.in_ok-mods.ensures (fails_map _ _ _ (fails_map _ _ _ c.in_err-kind.ensures)))
-
-pub types::typed-returns-in_err-mods : goal.types::typed-returns-in_err-mods
-unfolding typed_at both
-types::typed-returns-in_err-mods t c = failed _ _ _ _ c.from_residual.ensures (fails_map _ _ _ (fails_then _ _ _ c.in_err-mods.ensures))
-
-pub types::typed-returns-in_err-core : goal.types::typed-returns-in_err-core
-unfolding typed_at both
-types::typed-returns-in_err-core t c = failed _ _ _ _ c.from_residual-in_err-core.ensures (rw c.in_ok-mods.ensures (fails_map _ _ _ (fails_map _ _ _ c.in_err-core.ensures)))
-
-pub types::array-returns-in_err-of : goal.types::array-returns-in_err-of
-unfolding array_at both
-types::array-returns-in_err-of t c = failed _ _ _ _ c.from_residual.ensures (fails_map _ _ _ (fails_then _ _ _ c.in_err-of.ensures))
-
-pub types::array-returns-in_err-shape : goal.types::array-returns-in_err-shape
-unfolding array_at both
-types::array-returns-in_err-shape t c = failed _ _ _ _ c.from_residual-in_err-shape.ensures (rw c.in_ok-of.ensures (fails_map _ _ _ (fails_map _ _ _ c.in_err-shape.ensures)))
-
 pub slots::ret-returns-in_err-mods : goal.slots::ret-returns-in_err-mods
 unfolding ret_at both
 slots::ret-returns-in_err-mods t c = failed _ _ _ _ c.from_residual.ensures (fails_map _ _ _ (fails_then _ _ _ c.in_err-mods.ensures))
@@ -121,36 +68,6 @@ slots::ret-returns-in_err-mods t c = failed _ _ _ _ c.from_residual.ensures (fai
 pub types::pointer-returns-in_err-mods : goal.types::pointer-returns-in_err-mods
 unfolding target_at both
 types::pointer-returns-in_err-mods t c = failed _ _ _ _ c.from_residual.ensures (fails_map _ _ _ (fails_then _ _ _ c.in_err-mods.ensures))
-
-pub types::vector-returns-in_err-of : goal.types::vector-returns-in_err-of
-types::vector-returns-in_err-of t c = failed _ _ _ _ c.from_residual.ensures (fails_map _ _ _ c.in_err-of.ensures)
-
-pub methods::function-returns-in_err-method : goal.methods::function-returns-in_err-method
-methods::function-returns-in_err-method t c = failed _ _ _ _ c.from_residual.ensures (fails_map _ _ _ c.in_err-method.ensures)
-
-pub methods::function-returns-in_err-new : goal.methods::function-returns-in_err-new
-methods::function-returns-in_err-new t c = refused _ _ _ c.from_residual-in_err-new.ensures
-
-pub methods::params-returns-in_err-push : goal.methods::params-returns-in_err-push
-methods::params-returns-in_err-push t c = refused _ _ _ c.from_residual-in_err-push.ensures
-
-pub types::types-returns-in_err-push : goal.types::types-returns-in_err-push
-types::types-returns-in_err-push t c = refused _ _ _ c.from_residual-in_err-push.ensures
-
-pub types::pointer-returns-in_err-new : goal.types::pointer-returns-in_err-new
-types::pointer-returns-in_err-new t c = refused _ _ _ c.from_residual-in_err-new.ensures
-
-pub types::vector-returns-in_err-new : goal.types::vector-returns-in_err-new
-types::vector-returns-in_err-new t c = refused _ _ _ c.from_residual-in_err-new.ensures
-
-pub types::array-returns-in_err-of-2 : goal.types::array-returns-in_err-of-2
-types::array-returns-in_err-of-2 t c = refused _ _ _ c.from_residual-in_err-of-2.ensures
-
-pub methods::params-returns-in_err-all : goal.methods::params-returns-in_err-all
-methods::params-returns-in_err-all t c = refused _ _ _ c.from_residual.ensures
-
-pub types::types-returns-in_err-all : goal.types::types-returns-in_err-all
-types::types-returns-in_err-all t c = refused _ _ _ c.from_residual.ensures
 
 pub methods::method-returns-in_err-code : goal.methods::method-returns-in_err-code
 unfolding method_at
@@ -250,16 +167,6 @@ unfolding ret_at both void_or
 slots::ret-returns-then-code-eq-VOID t c =
     rw (c.in_ok-mods.ensures, c.in_ok-code.ensures, c.if-code-eq-VOID.true, view_void_ret c.in_ok-mods.mods) refl
 
-pub slots::slot-returns : goal.slots::slot-returns
-unfolding slot_at both
-slots::slot-returns t c =
-    rw (c.in_ok-mods.ensures, c.in_ok-kind.ensures, view_slot c.in_ok-mods.mods c.in_ok-kind.kind) refl
-
-pub types::typed-returns : goal.types::typed-returns
-unfolding typed_at both
-types::typed-returns t c =
-    rw (c.in_ok-mods.ensures, c.in_ok-core.ensures, view_typed c.in_ok-mods.mods c.in_ok-core.core) refl
-
 pub types::pointer-returns-in_err-to : goal.types::pointer-returns-in_err-to
 unfolding target_at both
 types::pointer-returns-in_err-to t c =
@@ -301,19 +208,6 @@ types::instance-returns t c =
     let named = named_is c.in_ok-code.code c.args.bytes.now c.in_ok-code.tail.now c.in_ok-code.ensures c.else-code-ne-VALUETYPE.either in
     rw (named, c.in_ok-of.ensures, c.in_ok-count.ensures, c.in_ok-args.ensures, view_instance (eqb c.in_ok-code.code 0x11) c.in_ok-of.of c.in_ok-args.args) refl
 
-pub types::array-returns : goal.types::array-returns
-unfolding array_at both
-types::array-returns t c =
-    rw (c.in_ok-of.ensures, c.in_ok-shape.ensures, view_array c.in_ok-of-2.of c.in_ok-shape.shape, c.in_ok-of-2.ensures.ok) refl
-
-pub types::vector-returns : goal.types::vector-returns
-types::vector-returns t c =
-    rw (c.in_ok-of.ensures, view_vector c.in_ok-new.field-0, c.in_ok-new.ensures.ok) refl
-
-pub methods::function-returns : goal.methods::function-returns
-methods::function-returns t c =
-    rw (c.in_ok-method.ensures, view_function c.in_ok-new.field-0, c.in_ok-new.ensures.ok) refl
-
 pub methods::method-returns-in-Ok : goal.methods::method-returns-in-Ok
 unfolding method_at method_from
 methods::method-returns-in-Ok t c =
@@ -323,9 +217,3 @@ methods::method-returns-in-Ok t c =
 pub types::core-returns-in-None : goal.types::core-returns-in-None
 types::core-returns-in-None t c =
     rw (core_other c.args.depth c.in_ok-code.code c.args.bytes.now c.in_ok-code.tail.now (omega arith) c.in_ok-code.ensures c.in-None.ensures) c.core_behind.ensures
-
-pub methods::params-loop-done-init : goal.methods::params-loop-done-init
-methods::params-loop-done-init t c = grind (arith, common_steps)
-
-pub types::types-loop-done-init : goal.types::types-loop-done-init
-types::types-loop-done-init t c = grind (arith, common_steps)
