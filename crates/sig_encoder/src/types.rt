@@ -6,7 +6,7 @@ ghost use Rattle.sig_grammar.specs.Grammar.{flag, method_code, named_code, count
 ghost use Rattle.sig_encoder.specs.Run.{after, run};
 ghost use Rattle.sig_encoder.specs.Items.{part, parts_items, level, leaf_items, core_items, first_items, typed_items, types_items, content_items, slot_items, slots_items, ret_items, method_items, may_stand, is_call, stands_at, param_items};
 
-use crate::items::{visit_modifiers, visit_rule, visit_shape};
+use crate::items::{visit_leaves, visit_rule, visit_shape};
 use crate::sink::PartSink;
 use sig_grammar::element_type::{
     ARRAY, BYREF, CLASS, FNPTR, GENERICINST, MVAR, PTR, SENTINEL, SZARRAY, TYPEDBYREF, VALUETYPE,
@@ -89,7 +89,7 @@ fn visit_void_pointer<S: PartSink>(sink: &mut S, modifiers: &[Modifier], depth: 
     ensures { after result sink.new ≡ run S.step (first_items (sig.void_pointer modifiers.now) depth) sink.old }
 {
     sink.byte(u16::from(PTR))?;
-    visit_modifiers(sink, modifiers)?;
+    visit_leaves(sink, modifiers)?;
     visit_leaf(sink, VOID, depth)
 }
 
@@ -105,7 +105,7 @@ fn visit_pointer<S: PartSink>(
     ensures { after result sink.new ≡ run S.step (first_items (sig.pointer modifiers.now (core_of to.now)) depth) sink.old }
 {
     sink.byte(u16::from(PTR))?;
-    visit_modifiers(sink, modifiers)?;
+    visit_leaves(sink, modifiers)?;
     visit_core(sink, to, depth)
 }
 
@@ -165,7 +165,7 @@ fn visit_function<S: PartSink>(sink: &mut S, method: &MethodSig, depth: u8) -> O
 pub fn visit_typed<S: PartSink>(sink: &mut S, of: &TypeSig, depth: u8) -> Option<()>
     ensures { after result sink.new ≡ run S.step (typed_items (type_of of.now) depth) sink.old }
 {
-    visit_modifiers(sink, &of.mods)?;
+    visit_leaves(sink, &of.mods)?;
     visit_core(sink, &of.core, depth)
 }
 
@@ -192,7 +192,7 @@ pub fn visit_content<S: PartSink>(sink: &mut S, content: &SlotKind, depth: u8) -
         SlotKind::Plain(core) => visit_core(sink, core, depth),
         SlotKind::ByRef(modifiers, core) => {
             sink.byte(u16::from(BYREF))?;
-            visit_modifiers(sink, modifiers)?;
+            visit_leaves(sink, modifiers)?;
             visit_core(sink, core, depth)
         }
     }
@@ -204,7 +204,7 @@ pub fn visit_content<S: PartSink>(sink: &mut S, content: &SlotKind, depth: u8) -
 pub fn visit_slot<S: PartSink>(sink: &mut S, slot: &Slot, depth: u8) -> Option<()>
     ensures { after result sink.new ≡ run S.step (slot_items (slot_of slot.now) depth) sink.old }
 {
-    visit_modifiers(sink, &slot.mods)?;
+    visit_leaves(sink, &slot.mods)?;
     visit_content(sink, &slot.kind, depth)
 }
 
@@ -257,7 +257,7 @@ pub fn visit_ret<S: PartSink>(sink: &mut S, ret: &Ret, depth: u8) -> Option<()>
     match ret {
         Ret::Slot(slot) => visit_slot(sink, slot, depth),
         Ret::Void(modifiers) => {
-            visit_modifiers(sink, modifiers)?;
+            visit_leaves(sink, modifiers)?;
             visit_leaf(sink, VOID, depth)
         }
     }
