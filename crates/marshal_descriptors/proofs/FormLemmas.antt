@@ -1,5 +1,5 @@
 -- What is read is encoded so: each form of a descriptor.
-use Rattle.marshal_descriptors.proofs.Prelude.{◌≡◌, ◌∙◌, ℕ, Option, Some, None, List, [], ◌∷◌, refl, sym, ap, subst, ◌==◌, if◌then◌else◌, option_map, cond_both, eqb-true, option_and_then_some, Native, Boolean, I1, U1, I2, U2, I4, U4, I8, U8, R4, R8, LpStr, LpwStr, Int, Uint, Func, Currency, BStr, LptStr, IUnknown, IDispatch, Struct, Interface, ByValStr, AnsiBStr, TBStr, VariantBool, AsAny, LpStruct, Error, IInspectable, HString, LpUtf8Str, ArraySize, Unknown, Param, ParamAndCount, WithFlags, native_code, native_of, pick, is_interface, ARRAY, FIXED_STRING, SAFE_ARRAY, FIXED_ARRAY, CUSTOM, MAX, Descriptor, native, array, interface_of, fixed_string, fixed_array, safe_array, safe_array_of, safe_array_named, byte, number, Part, ⊤, suc, parts_of, IsKnown, AreParts, IsDescriptor, element_code, size_parts, at_end, number_at, text_at, flags_of, count_of, size_of, element_of, array_of, fixed_string_of, fixed_elements_of, fixed_array_of, named_of, safe_of, custom_by, custom_of, native_then, coded_of, descriptor_of}
+use Rattle.marshal_descriptors.proofs.Prelude.{◌≡◌, ◌∙◌, ℕ, Option, Some, None, List, [], ◌∷◌, refl, sym, ap, subst, ◌==◌, if◌then◌else◌, option_map, cond_both, eqb-true, option_and_then_some, Native, Boolean, I1, U1, I2, U2, I4, U4, I8, U8, R4, R8, LpStr, LpwStr, Int, Uint, Func, Currency, BStr, LptStr, IUnknown, IDispatch, Struct, Interface, ByValStr, AnsiBStr, TBStr, VariantBool, AsAny, LpStruct, Error, IInspectable, HString, LpUtf8Str, ArraySize, Unknown, Param, ParamAndCount, WithFlags, native_code, native_of, pick, is_interface, ARRAY, FIXED_STRING, SAFE_ARRAY, FIXED_ARRAY, CUSTOM, MAX, Descriptor, native, array, interface_of, fixed_string, fixed_array, safe_array, safe_array_of, safe_array_named, byte, number, Part, ⊤, suc, parts_of, IsKnown, AreParts, IsDescriptor, element_code, size_parts, at_end, flags_of, count_of, size_of, element_of, array_of, fixed_string_of, fixed_elements_of, fixed_array_of, named_of, safe_of, custom_by, custom_of, native_then, coded_of, descriptor_of}
 use Rattle.marshal_descriptors.proofs.PartLemmas.{AreBytes, NumbersAreRead, Ends, map_some, byte_begins, at_ended, part_then, number_then, text_then}
 
 -- ---- codes

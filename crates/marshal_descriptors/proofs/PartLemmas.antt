@@ -1,6 +1,6 @@
 -- Parts that follow one another, and the readers of numbers and texts.
 use Rattle.std.proofs.lemmas.Bool.Decides.{nat_tests}
-use Rattle.marshal_descriptors.proofs.Prelude.{◌≡◌, ◌∙◌, ℕ, zero, suc, ◌<◌, ◌≤◌, ◌^◌, length-append, Bool, true, false, cond, Option, Some, None, IfSome, List, [], ◌∷◌, ◌++◌, length, take, drop, get_or, append_assoc, refl, sym, ap, subst, arith, ⊤, nat_lt, option_map, cond_both, option_and_then_some, Part, number, text, IsPart, AreParts, byte, option_and_then, append-nil, at_end, number_at, text_at, text_in}
+use Rattle.marshal_descriptors.proofs.Prelude.{◌≡◌, ◌∙◌, ℕ, suc, ◌<◌, ◌≤◌, ◌^◌, length-append, Bool, true, false, cond, Option, Some, None, IfSome, List, [], ◌∷◌, ◌++◌, length, take, drop, get_or, append_assoc, refl, sym, ap, subst, arith, nat_lt, option_map, cond_both, option_and_then_some, Part, number, text, IsPart, AreParts, byte, option_and_then, append-nil, at_end, number_at, text_at, text_in}
 use Rattle.std.specs.Str.{is_utf8, IsUtf8}
 use Rattle.std.proofs.lemmas.List.{take-append-drop, length-take-le}
 use Rattle.std.proofs.lemmas.Str.{IsUtf8-from_is_utf8, is_utf8-from_IsUtf8}
