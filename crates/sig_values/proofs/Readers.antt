@@ -1,5 +1,5 @@
 -- What each reader must satisfy: it reads what is encoded, and what it reads is encoded so.
-use Rattle.sig_values.proofs.Prelude.{◌≡◌, ℕ, zero, suc, ◌<◌, Bool, true, false, cond, Option, Some, None, List, [], ◌∷◌, ◌++◌, get_or, ◌^◌, refl, sym, ap, subst, arith, IfSome, ◌≤◌, length, take, drop, ◌∙◌, ltb, ⊤, option_and_then, ℤ, option_map, Part, byte, EncodesPart, EncodesParts, number, signed, index, Reader, change, split, number_at, signed_at, token_of, index_at, both, many_at, counted_at, counted_within, IfSome-bind, IfSome-map, IsPacked, IsPackedSigned, Token, AllByRecursion, ltb-false, le-ltb, list_parts, headed_at}
+use Rattle.sig_values.proofs.Prelude.{◌≡◌, ℕ, zero, suc, ◌<◌, Bool, true, false, cond, Option, Some, None, List, [], ◌∷◌, ◌++◌, get_or, ◌^◌, refl, sym, ap, subst, IfSome, ◌≤◌, length, take, drop, ◌∙◌, ltb, ⊤, option_and_then, ℤ, option_map, Part, byte, EncodesPart, EncodesParts, number, signed, index, Reader, change, split, number_at, signed_at, token_of, index_at, both, many_at, counted_at, counted_within, IfSome-bind, IfSome-map, IsPacked, IsPackedSigned, Token, AllByRecursion, ltb-false, le-ltb, list_parts, headed_at}
 use Rattle.std.proofs.lemmas.List.{take-append-drop}
 use Rattle.std.proofs.Math.Seq.{drop-append_seam}
 use Rattle.packed.specs.Prefix as leading
