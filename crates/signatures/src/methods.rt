@@ -61,7 +61,7 @@ pub fn params(
 
 /// Builds a method; `own` says whether it may have a SENTINEL (II.23.2.1 to II.23.2.3).
 #[cycle(build)]
-#[tactic(auto, unfolding(sig_grammar::specs::Reading::method_at))]
+#[tactic(auto, using(crate::proofs::Cores::view_method), unfolding(sig_grammar::specs::Reading::method_at, sig_grammar::specs::Reading::method_from))]
 pub fn method(
     alloc: Global,
     bytes: &[u8],

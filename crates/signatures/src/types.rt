@@ -18,7 +18,7 @@ use std::alloc::Global;
 
 /// Builds a core of at most the given depth (II.23.2.12).
 #[cycle(build)]
-#[tactic(auto, using(crate::proofs::Cores::core_none))]
+#[tactic(auto, using(crate::proofs::Cores::core_none, crate::proofs::Cores::core_end, crate::proofs::Cores::core_other))]
 pub fn core(alloc: Global, bytes: &[u8], depth: u8) -> Result<(Core, &[u8]), SigError>
     ensures { Gives (λ x. (core_of x.0, x.1.now)) result (core_at depth bytes.now) }
 {
@@ -34,7 +34,7 @@ pub fn core(alloc: Global, bytes: &[u8], depth: u8) -> Result<(Core, &[u8]), Sig
 
 /// Builds a core after its first byte. The types in it are at most `depth` deep.
 #[cycle(build)]
-#[tactic(auto, unfolding(sig_grammar::specs::Reading::core_by))]
+#[tactic(auto, using(crate::proofs::Cores::deep_some), unfolding(sig_grammar::specs::Reading::core_by))]
 fn core_behind(alloc: Global, code: u8, bytes: &[u8], depth: u8) -> Result<(Core, &[u8]), SigError>
     ensures { Gives (λ x. (core_of x.0, x.1.now)) result (core_by depth (core_at depth) code bytes.now) }
 {
@@ -95,6 +95,7 @@ pub fn types(
 
 /// Builds a pointer, after PTR.
 #[cycle(build)]
+#[tactic(auto, using(sig_grammar::proofs::ViewLemmas::view_pointer, sig_grammar::proofs::ViewLemmas::view_void_pointer), unfolding(sig_grammar::specs::Reading::target_at, sig_grammar::specs::Reading::both, sig_grammar::specs::Reading::void_or))]
 fn pointer(alloc: Global, bytes: &[u8], depth: u8) -> Result<(Core, &[u8]), SigError>
     ensures { Gives (λ x. (core_of x.0, x.1.now)) result (change pointer_to (target_at (core_at depth)) bytes.now) }
 {
@@ -131,7 +132,7 @@ fn array(alloc: Global, bytes: &[u8], depth: u8) -> Result<(Core, &[u8]), SigErr
 
 /// Builds an instance of a generic type, after GENERICINST.
 #[cycle(build)]
-#[tactic(auto, unfolding(sig_grammar::specs::Reading::instance_at, sig_grammar::specs::Reading::both, sig_grammar::specs::Reading::named_at))]
+#[tactic(auto, using(sig_grammar::proofs::ViewLemmas::view_instance), unfolding(sig_grammar::specs::Reading::instance_at, sig_grammar::specs::Reading::both, sig_grammar::specs::Reading::named_at, sig_grammar::specs::Reading::counted_at))]
 fn instance(alloc: Global, bytes: &[u8], depth: u8) -> Result<(Core, &[u8]), SigError>
     ensures { Gives (λ x. (core_of x.0, x.1.now)) result (change instance_from (instance_at (core_at depth)) bytes.now) }
 {
