@@ -34,12 +34,10 @@ items_few model true (i ∷ items) types is =
     let len = more.2 in
     omega (arith, later, len)
 items_few model false (i ∷ items) types is =
-    let vector = params_from model true items in
-    let next = with_type false (params_from model false items) (element_type model i) in
     ⊎_elim
-    (λ (e : is_vector i ≡ true). let later = items_few model true items types (sym (λ j. cond (e j) vector next) ∙ is) in omega (arith, later))
+    (λ (e : is_vector i ≡ true). let later = items_few model true items types (rw e at is) in omega (arith, later))
     (λ (e : is_vector i ≡ false).
-    let more = one_more false (params_from model false items) (element_type model i) types (sym (λ j. cond (e j) vector next) ∙ is) in
+    let more = one_more false (params_from model false items) (element_type model i) types (rw e at is) in
     let later = items_few model false items more.0 more.1 in
     let len = more.2 in
     omega (arith, later, len))
@@ -65,14 +63,11 @@ many_items model (head ∷ result ∷ params) many =
 module _ (model : Metadata) (vector : Bool) (i : Item) (later : List Item) (got : Types) where
   pub vector_begun : begins_vector vector i ≡ true → if_few (preceded got (params_from model vector (i ∷ later))) ≡ if_few (preceded got (params_from model true later))
   unfolding params_from
-  vector_begun is = λ j. if_few (preceded got (cond (is j) (params_from model true later) (with_type vector (params_from model false later) (element_type model i))))
-
-  type_next : begins_vector vector i ≡ false → if_few (preceded got (params_from model vector (i ∷ later))) ≡ if_few (preceded got (with_type vector (params_from model false later) (element_type model i)))
-  unfolding params_from
-  type_next is = λ j. if_few (preceded got (cond (is j) (params_from model true later) (with_type vector (params_from model false later) (element_type model i))))
+  vector_begun is = rw is refl
 
   pub no_type : begins_vector vector i ≡ false → None ≡ element_type model i → if_few (preceded got (params_from model vector (i ∷ later))) ≡ None
-  no_type is none = type_next is ∙ ap (λ of. if_few (preceded got (with_type vector (params_from model false later) of))) (sym none)
+  unfolding params_from
+  no_type is none = rw (is, ← none) refl
 
   full_with : (of : ElementType) (tail : Option Types) → length got ≡ 64 → None ≡ if_few (preceded got (option_map (λ types. argument_type vector of ∷ types) tail))
   full_with of None full = refl
@@ -80,8 +75,8 @@ module _ (model : Metadata) (vector : Bool) (i : Item) (later : List Item) (got 
       (λ types is. let e : got ++ argument_type vector of ∷ tail ≡ types = cc in let len = ap length e in let sum = length-append got (argument_type vector of ∷ tail) in omega (arith, full, len, sum))
 
   pub no_room : (of : ElementType) → begins_vector vector i ≡ false → Some of ≡ element_type model i → length got ≡ 64 → if_few (preceded got (params_from model vector (i ∷ later))) ≡ None
-  no_room of is some full =
-      type_next is ∙ ap (λ of. if_few (preceded got (with_type vector (params_from model false later) of))) (sym some) ∙ sym (full_with of (params_from model false later) full)
+  unfolding params_from
+  no_room of is some full = rw (is, ← some) (sym (full_with of (params_from model false later) full))
 
   moved : (of : ElementType) (tail : Option Types) → preceded got (option_map (λ types. argument_type vector of ∷ types) tail) ≡ preceded (got ++ argument_type vector of ∷ []) tail
   moved of None = refl
@@ -89,8 +84,8 @@ module _ (model : Metadata) (vector : Bool) (i : Item) (later : List Item) (got 
 
   pub type_put : (of : ElementType) → begins_vector vector i ≡ false → Some of ≡ element_type model i
       → if_few (preceded got (params_from model vector (i ∷ later))) ≡ if_few (preceded (got ++ argument_type vector of ∷ []) (params_from model false later))
-  type_put of is some =
-      type_next is ∙ ap (λ of. if_few (preceded got (with_type vector (params_from model false later) of))) (sym some) ∙ ap if_few (moved of (params_from model false later))
+  unfolding params_from
+  type_put of is some = rw (is, ← some) (ap if_few (moved of (params_from model false later)))
 
 -- ---- the first and the last item
 

@@ -1,5 +1,5 @@
 -- Types by their names, and enums.
-use Rattle.attribute_constructors.proofs.Prelude.{◌≡◌, ◌∙◌, ◌≤◌, ◌<◌, ◌+◌, ◌-◌, ◌↔◌, ⊎_elim, ℕ, zero, suc, Bor, Bool, true, false, IsTrue, Option, None, List, [], ◌∷◌, cond, min, length, arith, ap, refl, sym, cases_lt, le-ltb, lt-ltb, TableId, Field, TypeDef, TypeRef, Item, Cell, Ref, Text, Metadata, cell_in, count_in, start_in, Shows, ColumnKind, reference_in, items_in, enum_at, field_type, fields_end, has_row, instance_type, is_enum, is_named_type, is_static, is_text, underlying_type}
+use Rattle.attribute_constructors.proofs.Prelude.{◌≡◌, ◌∙◌, ◌≤◌, ◌<◌, ◌+◌, ◌-◌, ◌↔◌, ⊎_elim, ℕ, zero, suc, Bor, Bool, true, false, IsTrue, Option, None, List, [], ◌∷◌, cond, min, length, arith, ap, refl, sym, cases_lt, le-ltb, lt-ltb, TableId, Field, TypeDef, TypeRef, Item, Cell, Ref, Text, Metadata, cell_in, count_in, start_in, Shows, ColumnKind, items_in, enum_at, field_type, fields_end, has_row, instance_type, is_enum, is_named_type, is_static, is_text, underlying_type}
 use Rattle.std.proofs.lemmas.Bool.Decides.{same_from_decides}
 use Rattle.std.proofs.lemmas.Slice.Eq.{bytes_eq-Decides}
 use Rattle.std.specs.Bool.{Decides}
@@ -57,17 +57,11 @@ run_past model row first past within run =
 -- an enum, and any other type
 module _ (model : Metadata) (row : ℕ) (base : Option Token) (extends : cell_in model TypeDef row 3 ≡ Ref base) where
   pub no_enum : is_enum model base ≡ false → None ≡ underlying_type model row
-  no_enum not =
-      let first = start_in (cell_in model TypeDef row 4) in
-      sym (ap (λ b. cond b (instance_type model (min 16 (fields_end model row - first)) first) None) (ap (λ (cell : Cell). is_enum model (reference_in cell)) extends ∙ not))
+  no_enum not = rw (extends, not) refl
 
   pub enum_run : is_enum model base ≡ true → (first past : ℕ) → row ≤ count_in model TypeDef → IsRun model TypeDef 4 Field row first past
       → instance_type model (min 16 (past - first)) first ≡ underlying_type model row
-  enum_run is first past within run =
-      let own = start_in (cell_in model TypeDef row 4) in
-      ap (λ n. instance_type model (min 16 (n - first)) first) (sym (run_past model row first past within run))
-      ∙ ap (λ n. instance_type model (min 16 (fields_end model row - n)) n) (sym (run_first model row first past run))
-      ∙ sym (ap (λ b. cond b (instance_type model (min 16 (fields_end model row - own)) own) None) (ap (λ (cell : Cell). is_enum model (reference_in cell)) extends ∙ is))
+  enum_run is first past within run = rw (extends, is, run_first model row first past run, run_past model row first past within run) refl
 
 -- ---- the first field that is not static
 
@@ -75,26 +69,19 @@ module _ (model : Metadata) where
   pub no_field : (k field : ℕ) → 1 ≤ k → has_row model Field field ≡ false → None ≡ instance_type model k field
   unfolding instance_type
   no_field zero field some not = absurd (omega (arith, some))
-  no_field (suc k) field some not =
-      sym (ap (λ b. cond b (cond (is_static (cell_in model Field field 0)) (instance_type model k (field + 1)) (field_type (items_in (cell_in model Field field 2)))) None) not)
+  no_field (suc k) field some not = rw not refl
 
   pub own_field : (k field : ℕ) → 1 ≤ k → has_row model Field field ≡ true → is_static (cell_in model Field field 0) ≡ false
       → field_type (items_in (cell_in model Field field 2)) ≡ instance_type model k field
   unfolding instance_type
   own_field zero field some there own = absurd (omega (arith, some))
-  own_field (suc k) field some there own =
-      sym (ap (λ b. cond b (cond (is_static (cell_in model Field field 0)) (instance_type model k (field + 1)) (field_type (items_in (cell_in model Field field 2)))) None) there
-      ∙ ap (λ b. cond b (instance_type model k (field + 1)) (field_type (items_in (cell_in model Field field 2)))) own)
+  own_field (suc k) field some there own = rw (there, own) refl
 
   pub next_field : (n k field : ℕ) → k ≡ n + 1 → has_row model Field field ≡ true → is_static (cell_in model Field field 0) ≡ true
       → instance_type model k field ≡ instance_type model n (field + 1)
   unfolding instance_type
   next_field n zero field one there is = absurd (omega (arith, one))
-  next_field n (suc k) field one there is =
-      let same : k ≡ n = omega (arith, one) in
-      ap (λ b. cond b (cond (is_static (cell_in model Field field 0)) (instance_type model k (field + 1)) (field_type (items_in (cell_in model Field field 2)))) None) there
-      ∙ ap (λ b. cond b (instance_type model k (field + 1)) (field_type (items_in (cell_in model Field field 2)))) is
-      ∙ ap (λ m. instance_type model m (field + 1)) same
+  next_field n (suc k) field one there is = let same : k ≡ n = omega (arith, one) in rw (there, is, same) refl
 
   pub last_field : (k field : ℕ) → k ≡ 0 → None ≡ instance_type model k field
   unfolding instance_type

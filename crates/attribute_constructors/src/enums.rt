@@ -164,6 +164,7 @@ fn enum_in<S: ReadView>(source: &S, row: u32) -> Option<Element>
 }
 
 /// The underlying type of an enum of this file.
+#[tactic(auto, using(crate::proofs::TypeLemmas::other_enum))]
 pub(crate) fn enum_type<S: ReadView>(source: &S, of: Token) -> Option<Element>
     ensures { (model : Metadata) → S.shows source.now model → result ≡ enum_type model of }
 {

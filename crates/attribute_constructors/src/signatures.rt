@@ -169,7 +169,7 @@ fn params_in_cell<S: ReadView>(
 /// The types of the parameters of a constructor (II.22.10), which is a row of MethodDef or MemberRef. `None` if a parameter
 /// has a type that values are not read of, if there are more than 64 parameters, and of a row that is no method without a
 /// result.
-#[tactic(auto, unfolding(table_schema::specs::CellColumns::cell_columns))]
+#[tactic(auto, using(crate::proofs::ParamLemmas::no_constructor), unfolding(table_schema::specs::CellColumns::cell_columns))]
 pub fn params_of<S: ReadView>(source: &S, of: Token) -> Option<Params>
     requires first { 1 ≤ of.row }
     requires last { of.row ≤ S.row_count source.now of.table }

@@ -1,42 +1,21 @@
 //! Arguments, without the elements of arrays.
-ghost use Rattle.std.specs.Prelude.{◌≡◌, None, OnOk, Some};
+ghost use Rattle.std.specs.Prelude.{◌≡◌, OnOk};
 ghost use Rattle.std.specs.Fmt.{WritesInCalls};
 ghost use Rattle.attribute_values.specs.Views.{head_view};
-ghost use Rattle.attribute_values.specs.declared.types.ArgumentType.TheVariants.{Vector};
-ghost use Rattle.attribute_values.specs.Items.{array};
 ghost use Rattle.attribute_text.specs.Texts.{intro_text, type_text};
 ghost use Rattle.attribute_text.specs.ItemTexts.{end_if_none, entries_in, head_text, head_type};
 
 use crate::scalars::{element_type, write_element};
 use crate::words::{member_word, type_word};
-use attribute_values::{Argument, ArgumentType, ElementType, Member};
-use full_names::{Limit, write_number, write_quoted, write_text};
+use attribute_values::{Argument, ArgumentType, Member};
+use full_names::{Limit, write_quoted, write_text};
 use std::fmt;
-
-/// Writes an array that is null.
-fn write_null_array<W: fmt::Write>(out: &mut W, of: ElementType) -> fmt::Result
-    ensures { OnOk result (WritesInCalls W.write_str_gives out.old (head_text (array of None)) out.new) }
-{
-    write_text(out, type_word(of))?;
-    write!(out, "[](nullref)")
-}
 
 /// The end of an array without elements.
 fn end_if_none(count: u32) -> &'static str
     ensures { result.now ≡ end_if_none count }
 {
     if count == 0 { ")" } else { "" }
-}
-
-/// Writes what precedes the elements of an array, and the end of one without elements.
-fn write_some_array<W: fmt::Write>(out: &mut W, of: ElementType, count: u32) -> fmt::Result
-    ensures { OnOk result (WritesInCalls W.write_str_gives out.old (head_text (array of (Some count))) out.new) }
-{
-    write_text(out, type_word(of))?;
-    write!(out, "[")?;
-    write_number(out, count)?;
-    write!(out, "](")?;
-    write_text(out, end_if_none(count))
 }
 
 /// Writes an argument without the elements of an array.
@@ -49,8 +28,10 @@ pub(crate) fn write_argument<W: fmt::Write, L: Limit<W>>(
 {
     match argument {
         Argument::One(value) => write_element(out, value, limit),
-        Argument::Vector(of, Some(count)) => write_some_array(out, of, count),
-        Argument::Vector(of, None) => write_null_array(out, of),
+        Argument::Vector(of, Some(count)) => {
+            write!(out, "{}[{count}]({}", type_word(of), end_if_none(count))
+        }
+        Argument::Vector(of, None) => write!(out, "{}[](nullref)", type_word(of)),
     }
 }
 
@@ -74,21 +55,13 @@ fn argument_type(argument: Argument<'_>) -> ArgumentType
     }
 }
 
-/// Writes the type of an array.
-fn write_vector<W: fmt::Write>(out: &mut W, of: ElementType) -> fmt::Result
-    ensures { OnOk result (WritesInCalls W.write_str_gives out.old (type_text (Vector of)) out.new) }
-{
-    write_text(out, type_word(of))?;
-    write!(out, "[]")
-}
-
 /// Writes the type of an argument.
 fn write_type<W: fmt::Write>(out: &mut W, of: ArgumentType) -> fmt::Result
     ensures { OnOk result (WritesInCalls W.write_str_gives out.old (type_text of) out.new) }
 {
     match of {
         ArgumentType::One(of) => write_text(out, type_word(of)),
-        ArgumentType::Vector(of) => write_vector(out, of),
+        ArgumentType::Vector(of) => write!(out, "{}[]", type_word(of)),
     }
 }
 

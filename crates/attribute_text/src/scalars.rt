@@ -1,7 +1,7 @@
 //! Values of one element.
-ghost use Rattle.std.specs.Prelude.{◌≡◌, ◌==◌, Some, OnOk, codes, if◌then◌else◌, option_map};
+ghost use Rattle.std.specs.Prelude.{◌≡◌, ◌==◌, OnOk, codes, if◌then◌else◌, option_map};
 ghost use Rattle.std.specs.Fmt.{WritesInCalls};
-ghost use Rattle.attribute_values.specs.Values.{boxed, element_type, scalar_type};
+ghost use Rattle.attribute_values.specs.Values.{element_type, scalar_type};
 ghost use Rattle.attribute_values.specs.Views.{element_view, scalar_view};
 ghost use Rattle.attribute_text.specs.Texts.{content_text, element_argument, entry_text, number_text, scalar_text, signed_text, string_text};
 
@@ -58,15 +58,6 @@ fn write_number<W: fmt::Write>(out: &mut W, of: Element, number: u64) -> fmt::Re
     }
 }
 
-/// Writes a text in double quotes.
-fn write_quotes<W: fmt::Write, L: Limit<W>>(out: &mut W, text: &str, limit: &L) -> fmt::Result
-    ensures { OnOk result (WritesInCalls W.write_str_gives out.old (string_text (Some text.now)) out.new) }
-{
-    write!(out, "\"")?;
-    write_quoted(out, text, limit)?;
-    write!(out, "\"")
-}
-
 /// Writes a string or the name of a type, in quotes unless it is null.
 fn write_string<W: fmt::Write, L: Limit<W>>(
     out: &mut W,
@@ -76,7 +67,11 @@ fn write_string<W: fmt::Write, L: Limit<W>>(
     ensures { OnOk result (WritesInCalls W.write_str_gives out.old (string_text (option_map (λ of. of.now) text.entry)) out.new) }
 {
     match text {
-        Some(text) => write_quotes(out, text, limit),
+        Some(text) => {
+            write!(out, "\"")?;
+            write_quoted(out, text, limit)?;
+            write!(out, "\"")
+        }
         None => write!(out, "nullref"),
     }
 }
@@ -121,20 +116,7 @@ fn write_scalar<W: fmt::Write, L: Limit<W>>(
     write!(out, ")")
 }
 
-/// Writes an object, which boxes a value.
-fn write_object<W: fmt::Write, L: Limit<W>>(
-    out: &mut W,
-    value: Scalar<'_>,
-    limit: &L,
-) -> fmt::Result
-    ensures { OnOk result (WritesInCalls W.write_str_gives out.old (element_argument (boxed (scalar_view value.entry))) out.new) }
-{
-    write!(out, "object(")?;
-    write_scalar(out, value, limit)?;
-    write!(out, ")")
-}
-
-/// Writes an argument of one element.
+/// Writes an argument of one element. An object boxes a value.
 pub(crate) fn write_element<W: fmt::Write, L: Limit<W>>(
     out: &mut W,
     value: Value<'_>,
@@ -144,7 +126,11 @@ pub(crate) fn write_element<W: fmt::Write, L: Limit<W>>(
 {
     match value {
         Value::Plain(value) => write_scalar(out, value, limit),
-        Value::Boxed(value) => write_object(out, value, limit),
+        Value::Boxed(value) => {
+            write!(out, "object(")?;
+            write_scalar(out, value, limit)?;
+            write!(out, ")")
+        }
     }
 }
 

@@ -1,14 +1,14 @@
 ghost use Rattle.std.specs.Prelude.{◌≡◌, OnOk};
 ghost use Rattle.std.specs.Fmt.{WritesInCalls};
-ghost use Rattle.attribute_values.specs.Items.{entry, fixed, items_of, named};
+ghost use Rattle.attribute_values.specs.Items.{items_of};
 ghost use Rattle.attribute_values.specs.Values.{AttributeValue};
-ghost use Rattle.attribute_values.specs.Views.{element_view, head_view, view};
+ghost use Rattle.attribute_values.specs.Views.{view};
 ghost use Rattle.attribute_text.specs.Texts.{value_text};
 ghost use Rattle.attribute_text.specs.ItemTexts.{entry_end, item_text, items_text, left_after};
 
 use crate::arguments::{entries_in, write_argument, write_intro};
 use crate::scalars::write_entry;
-use attribute_values::{Argument, Item, Items, Member, Value};
+use attribute_values::{Item, Items};
 use full_names::{Limit, write_text};
 use std::fmt;
 
@@ -19,46 +19,8 @@ fn entry_end(left: u32) -> &'static str
     if left == 1 { ")" } else { " " }
 }
 
-/// Writes a fixed argument, without the elements of an array.
-fn write_fixed<W: fmt::Write, L: Limit<W>>(
-    out: &mut W,
-    argument: Argument<'_>,
-    limit: &L,
-) -> fmt::Result
-    ensures { OnOk result (WritesInCalls W.write_str_gives out.old (item_text 0 (fixed (head_view argument.entry))) out.new) }
-{
-    write!(out, " ")?;
-    write_argument(out, argument, limit)
-}
-
-/// Writes an element of an array, of which this many remain with it, and what follows it.
-fn write_next<W: fmt::Write, L: Limit<W>>(
-    out: &mut W,
-    value: Value<'_>,
-    left: u32,
-    limit: &L,
-) -> fmt::Result
-    ensures { OnOk result (WritesInCalls W.write_str_gives out.old (item_text left (entry (element_view value.entry))) out.new) }
-{
-    write_entry(out, value, limit)?;
-    write_text(out, entry_end(left))
-}
-
-/// Writes a named argument, without the elements of an array.
-fn write_named<W: fmt::Write, L: Limit<W>>(
-    out: &mut W,
-    member: Member,
-    name: &str,
-    argument: Argument<'_>,
-    limit: &L,
-) -> fmt::Result
-    ensures { OnOk result (WritesInCalls W.write_str_gives out.old (item_text 0 (named member name.now (head_view argument.entry))) out.new) }
-{
-    write_intro(out, member, name, argument, limit)?;
-    write_argument(out, argument, limit)
-}
-
-/// Writes an item, if this many elements of an array remain with it.
+/// Writes an item, if this many elements of an array remain with it: an argument without the elements of its array, or one of
+/// these and what follows it.
 fn write_item<W: fmt::Write, L: Limit<W>>(
     out: &mut W,
     item: Item<'_>,
@@ -68,10 +30,19 @@ fn write_item<W: fmt::Write, L: Limit<W>>(
     ensures { OnOk result (WritesInCalls W.write_str_gives out.old (item_text left (view item.entry)) out.new) }
 {
     match item {
-        Item::Fixed(argument) => write_fixed(out, argument, limit),
-        Item::Element(value) => write_next(out, value, left, limit),
+        Item::Fixed(argument) => {
+            write!(out, " ")?;
+            write_argument(out, argument, limit)
+        }
+        Item::Element(value) => {
+            write_entry(out, value, limit)?;
+            write_text(out, entry_end(left))
+        }
         Item::NamedCount(_) => Ok(()),
-        Item::Named(member, name, argument) => write_named(out, member, name, argument, limit),
+        Item::Named(member, name, argument) => {
+            write_intro(out, member, name, argument, limit)?;
+            write_argument(out, argument, limit)
+        }
     }
 }
 

@@ -1,5 +1,5 @@
 -- The items of a value, and the bytes of its blob.
-use Rattle.attribute_values.proofs.Prelude.{◌≡◌, ◌∙◌, ◌+◌, inl, inr, ℕ, suc, ◌≤◌, length-append, Some, None, List, [], ◌∷◌, ◌++◌, length, refl, ap, arith, IsNumber, IsPacked, Element, Boolean, Char, I1, U1, I2, U2, I4, U4, I8, U8, R4, R8, ArgumentType, Elem, plain, boxed, Scalar, number, text, type_name, Argument, one, vector, Named, AttributeValue, argument_type, Part, byte, sized, value, string, IsPart, AreParts, IsAttributeValue, scalar_part, size_of, element_parts, argument_parts, named_parts, value_parts, type_parts, entries_of, fixed_items, named_items, items_of, entry, named_count}
+use Rattle.attribute_values.proofs.Prelude.{◌≡◌, ◌∙◌, ◌+◌, inl, inr, ℕ, suc, ◌≤◌, length-append, Some, None, List, [], ◌∷◌, ◌++◌, length, refl, ap, arith, IsNumber, IsPacked, Element, String, I, U, Object, ArgumentType, Elem, plain, boxed, Scalar, number, text, type_name, Argument, one, vector, Named, AttributeValue, argument_type, Part, byte, sized, value, string, IsPart, AreParts, IsAttributeValue, scalar_part, size_of, element_parts, argument_parts, named_parts, value_parts, type_parts, entries_of, fixed_items, named_items, items_of, entry, named_count}
 use Rattle.std.specs.Prelude.{flat_map, map, IsSomeAnd}
 
 -- bytes that a part has at least
@@ -18,19 +18,11 @@ least_append [] qs = omega arith
 least_append (p ∷ ps) qs = let more = least_append ps qs in omega (arith, more)
 
 number_long : (of : Element) (n : ℕ) (b : List ℕ) → IsSomeAnd (size_of of) (λ count. IsNumber count b n) → 1 ≤ length b
-number_long Boolean n b is = omega (arith, is.long)
-number_long Char n b is = omega (arith, is.long)
-number_long I1 n b is = omega (arith, is.long)
-number_long U1 n b is = omega (arith, is.long)
-number_long I2 n b is = omega (arith, is.long)
-number_long U2 n b is = omega (arith, is.long)
-number_long I4 n b is = omega (arith, is.long)
-number_long U4 n b is = omega (arith, is.long)
-number_long I8 n b is = omega (arith, is.long)
-number_long U8 n b is = omega (arith, is.long)
-number_long R4 n b is = omega (arith, is.long)
-number_long R8 n b is = omega (arith, is.long)
-number_long _ n b is = absurd is
+number_long String n b is = absurd is
+number_long I n b is = absurd is
+number_long U n b is = absurd is
+number_long Object n b is = absurd is
+number_long _ n b is = omega (arith, is.long)
 
 packed_long : (n : ℕ) (prefix : List ℕ) → IsPacked n prefix → 1 ≤ length prefix
 packed_long n prefix (inl is) = let long = ap length is.1 in omega (arith, long)

@@ -1,5 +1,5 @@
 -- Parts that follow one another, and readers that read them.
-use Rattle.attribute_values.proofs.Prelude.{nat_tests, ◌≡◌, ◌∙◌, ℕ, zero, suc, ◌<◌, ◌≤◌, ◌^◌, length-append, Bool, true, false, cond, Option, Some, None, IfSome, List, [], ◌∷◌, ◌++◌, length, take, drop, get_or, append_assoc, refl, sym, ap, subst, arith, ⊤, nat_lt, ◌==◌, option_and_then, eqb-true, little_endian, IsPacked, Reader, IfSome-bind, IfSome-cond, Part, sized, string, AreParts, sized_at, string_at, text_in}
+use Rattle.attribute_values.proofs.Prelude.{nat_tests, ◌≡◌, ◌∙◌, ℕ, suc, ◌<◌, ◌≤◌, ◌^◌, length-append, Bool, true, false, cond, Option, Some, None, IfSome, List, [], ◌∷◌, ◌++◌, length, take, drop, get_or, append_assoc, refl, sym, ap, subst, arith, ⊤, nat_lt, ◌==◌, option_and_then, eqb-true, little_endian, IsPacked, Reader, IfSome-bind, IfSome-cond, Part, sized, string, AreParts, sized_at, string_at, text_in}
 use Rattle.std.specs.Str.{is_utf8, IsUtf8}
 use Rattle.std.proofs.lemmas.List.{take-append-drop, length-take-le}
 use Rattle.std.proofs.lemmas.Str.{IsUtf8-from_is_utf8, is_utf8-from_IsUtf8}
@@ -19,21 +19,11 @@ parts_split (p ∷ ps) qs b tail f =
 -- ---- bytes
 
 abbrev pub AreBytes : List ℕ → Type 0
-AreBytes [] = ⊤
-AreBytes (b ∷ bs) = (b < 256) × AreBytes bs
-
-pub each_byte : (b : List ℕ) → AreBytes b → (k : ℕ) → get_or b k 0 < 2 ^ 8
-each_byte [] h k = omega arith
-each_byte (x ∷ b) h zero = h.0
-each_byte (x ∷ b) h (suc k) = each_byte b h.1 k
-
-pub bytes_each : (b : List ℕ) → ((k : ℕ) → get_or b k 0 < 2 ^ 8) → AreBytes b
-bytes_each [] h = tt
-bytes_each (x ∷ b) h = (h 0, bytes_each b (λ k. h (suc k)))
+AreBytes b = (k : ℕ) → get_or b k 0 < 2 ^ 8
 
 bytes_tail : (a b : List ℕ) → AreBytes (a ++ b) → AreBytes b
 bytes_tail [] b h = h
-bytes_tail (x ∷ a) b h = bytes_tail a b h.1
+bytes_tail (x ∷ a) b h = bytes_tail a b (λ k. h (suc k))
 
 pub bytes_after : (ps : List Part) (b tail : List ℕ) → AreParts ps tail b → AreBytes b → AreBytes tail
 bytes_after [] b tail e h = subst AreBytes e h
@@ -142,7 +132,7 @@ string_found known (c ∷ b) h =
     IfSome-cond (Takes string_parts (λ t. Any t) (c ∷ b)) (c == 0xFF) (Some (None, b)) _
     (λ null. record { good = tt; are = (c ∷ [], b, refl, ap (λ (x : ℕ). x ∷ []) (eqb-true c 0xFF null), refl) })
     (λ _. IfSome-bind (λ read. (read.1 ≤ length (c ∷ b)) × IsPacked read.0 (take read.1 (c ∷ b))) (Takes string_parts (λ t. Any t) (c ∷ b)) (λ x. text_in x.0 (drop x.1 (c ∷ b)))
-    (unsigned_at (c ∷ b)) (known.found (c ∷ b) (each_byte (c ∷ b) h)) (λ x at. text_found (c ∷ b) x.0 x.1 at.1))
+    (unsigned_at (c ∷ b)) (known.found (c ∷ b) h) (λ x at. text_found (c ∷ b) x.0 x.1 at.1))
 
 text_seam : (t remainder : List ℕ) → IsUtf8 t → text_in (length t) (t ++ remainder) ≡ Some (Some t, remainder)
 text_seam t remainder utf8 =

@@ -20,10 +20,7 @@ pub(crate) fn two_bytes(bytes: &[u8]) -> Option<(u16, &[u8])>
     ensures value { option_map (λ x. (x.0, x.1.now)) result ≡ sized_at 2 bytes.now }
     ensures shorter { IfSome result (λ x. length x.1.now < length bytes.now) }
 {
-    if bytes.len() < 2 {
-        return None;
-    }
-    let (number, tail) = bytes.split_at(2);
+    let (number, tail) = bytes.split_at_checked(2)?;
     Some((u16_at(number, 0), tail))
 }
 
@@ -33,10 +30,7 @@ pub(crate) fn four_bytes(bytes: &[u8]) -> Option<(u32, &[u8])>
     ensures value { option_map (λ x. (x.0, x.1.now)) result ≡ sized_at 4 bytes.now }
     ensures shorter { IfSome result (λ x. length x.1.now < length bytes.now) }
 {
-    if bytes.len() < 4 {
-        return None;
-    }
-    let (number, tail) = bytes.split_at(4);
+    let (number, tail) = bytes.split_at_checked(4)?;
     Some((u32_at(number, 0), tail))
 }
 
@@ -46,10 +40,7 @@ fn eight_bytes(bytes: &[u8]) -> Option<(u64, &[u8])>
     ensures value { option_map (λ x. (x.0, x.1.now)) result ≡ sized_at 8 bytes.now }
     ensures shorter { IfSome result (λ x. length x.1.now < length bytes.now) }
 {
-    if bytes.len() < 8 {
-        return None;
-    }
-    let (number, tail) = bytes.split_at(8);
+    let (number, tail) = bytes.split_at_checked(8)?;
     Some((u64_at(number, 0), tail))
 }
 

@@ -13,10 +13,7 @@ fn text(bytes: &[u8], len: usize) -> Option<(Option<&str>, &[u8])>
     ensures value { option_map (λ x. (option_map (λ t. t.now) x.0, x.1.now)) result ≡ text_in len bytes.now }
     ensures shorter { IfSome result (λ x. length x.1.now ≤ length bytes.now) }
 {
-    if bytes.len() < len {
-        return None;
-    }
-    let (text, tail) = bytes.split_at(len);
+    let (text, tail) = bytes.split_at_checked(len)?;
     match str::from_utf8(text) {
         Ok(text) => Some((Some(text), tail)),
         Err(_) => None,

@@ -1,6 +1,6 @@
 -- Parts that follow one another, and the readers of numbers and texts.
 use Rattle.std.proofs.lemmas.Bool.Decides.{nat_tests}
-use Rattle.marshal_descriptors.proofs.Prelude.{◌≡◌, ◌∙◌, ℕ, zero, suc, ◌<◌, ◌≤◌, ◌^◌, length-append, Bool, true, false, cond, Option, Some, None, IfSome, List, [], ◌∷◌, ◌++◌, length, take, drop, get_or, append_assoc, refl, sym, ap, subst, arith, ⊤, nat_lt, option_map, cond_both, option_and_then_some, Part, number, text, IsPart, AreParts, at_end, number_at, text_at, text_in}
+use Rattle.marshal_descriptors.proofs.Prelude.{◌≡◌, ◌∙◌, ℕ, suc, ◌<◌, ◌≤◌, ◌^◌, length-append, Bool, true, false, cond, Option, Some, None, IfSome, List, [], ◌∷◌, ◌++◌, length, take, drop, get_or, append_assoc, refl, sym, ap, subst, arith, nat_lt, option_map, cond_both, option_and_then_some, Part, number, text, IsPart, AreParts, byte, option_and_then, append-nil, at_end, number_at, text_at, text_in}
 use Rattle.std.specs.Str.{is_utf8, IsUtf8}
 use Rattle.std.proofs.lemmas.List.{take-append-drop, length-take-le}
 use Rattle.std.proofs.lemmas.Str.{IsUtf8-from_is_utf8, is_utf8-from_IsUtf8}
@@ -31,28 +31,14 @@ pub map_some : {A B P : Type 0} (f : A → B) (o : Option A) (y : B) → option_
 map_some f None y e k = cc
 map_some f (Some x) y e k = k x refl (cc)
 
-pub end_some : {A : Type 0} (v w : A) (b : List ℕ) → at_end v b ≡ Some w → (v ≡ w) × (b ≡ [])
-end_some v w [] e = (cc, refl)
-end_some v w (c ∷ b) e = cc
-
 -- ---- bytes
 
 abbrev pub AreBytes : List ℕ → Type 0
-AreBytes [] = ⊤
-AreBytes (b ∷ bs) = (b < 256) × AreBytes bs
-
-each_byte : (b : List ℕ) → AreBytes b → (k : ℕ) → get_or b k 0 < 2 ^ 8
-each_byte [] h k = omega arith
-each_byte (x ∷ b) h zero = h.0
-each_byte (x ∷ b) h (suc k) = each_byte b h.1 k
-
-pub bytes_each : (b : List ℕ) → ((k : ℕ) → get_or b k 0 < 2 ^ 8) → AreBytes b
-bytes_each [] h = tt
-bytes_each (x ∷ b) h = (h 0, bytes_each b (λ k. h (suc k)))
+AreBytes b = (k : ℕ) → get_or b k 0 < 2 ^ 8
 
 bytes_after : (a b : List ℕ) → AreBytes (a ++ b) → AreBytes b
 bytes_after [] b h = h
-bytes_after (x ∷ a) b h = bytes_after a b h.1
+bytes_after (x ∷ a) b h = bytes_after a b (λ k. h (suc k))
 
 -- ---- parts
 
@@ -62,6 +48,32 @@ pub record Begins (part : Part) (tail bytes : List ℕ) : Type 0 where
   pub split : bytes ≡ head ++ tail
   pub is : IsPart part head
   pub bytes_of_tail : AreBytes tail
+
+pub byte_begins : (c n : ℕ) (b : List ℕ) → AreBytes (c ∷ b) → c ≡ n → Begins (byte n) b (c ∷ b)
+byte_begins c n b h e = record { head = c ∷ []; split = refl; is = ap (λ (x : ℕ). x ∷ []) e; bytes_of_tail = λ k. h (suc k) }
+
+-- a good value has these parts and then others, which are the bytes
+pub record Ends {A : Type 0} (parts : A → List Part) (Good : A → Type 0) (v : A) (ps : List Part) (b : List ℕ) : Type 0 where
+  pub others : List Part
+  pub whole : parts v ≡ ps ++ others
+  pub are : AreParts others [] b
+  pub good : Good v
+
+module _ {A : Type 0} {parts : A → List Part} {Good : A → Type 0} {v : A} where
+  -- nothing remains after the parts of the value
+  pub at_ended : (w : A) → Good w → (b : List ℕ) → at_end w b ≡ Some v → Ends parts Good v (parts w) b
+  at_ended w good [] e =
+      let same : w ≡ v = cc in
+      subst (λ (x : A). Ends parts Good x (parts w) []) same (record { others = []; whole = sym (append-nil (parts w)); are = refl; good = good })
+  at_ended w good (c ∷ b) e = cc
+
+  pub part_then : {part : Part} {ps : List Part} {b c : List ℕ} → Begins part c b → Ends parts Good v (ps ++ part ∷ []) c → Ends parts Good v ps b
+  part_then {part = part} {ps = ps} {c = c} first more = record {
+    others = part ∷ more.others;
+    whole = more.whole ∙ append_assoc ps (part ∷ []) more.others;
+    are = (first.head, c, first.split, first.is, more.are);
+    good = more.good;
+  }
 
 -- packed numbers at the start are read as they are encoded
 pub record NumbersAreRead : Type 0 where
@@ -74,7 +86,7 @@ module _ (known : NumbersAreRead) where
   number_found b x h e =
       map_some (λ y. (y.0, drop y.1 b)) (unsigned_at b) x e
       (λ y read same.
-      let packed = subst (λ o. IfSome o (λ r. (r.1 ≤ length b) × IsPacked r.0 (take r.1 b))) read (known.found b (each_byte b h)) in
+      let packed = subst (λ o. IfSome o (λ r. (r.1 ≤ length b) × IsPacked r.0 (take r.1 b))) read (known.found b h) in
       let whole : b ≡ take y.1 b ++ drop y.1 b = sym (take-append-drop y.1 b) in
       subst (λ (z : ℕ × List ℕ). Begins (number z.0) z.1 b) same
       (record { head = take y.1 b; split = whole; is = packed.1; bytes_of_tail = bytes_after (take y.1 b) (drop y.1 b) (subst AreBytes whole h) }))
@@ -87,9 +99,15 @@ module _ (known : NumbersAreRead) where
   number_again n parts tail b f = rw f.2 (number_seam n f.0 f.1 f.3)
 
   -- no number is empty
-  pub number_there : (n : ℕ) (parts : List Part) (tail : List ℕ) → AreParts (number n ∷ parts) tail [] → ⊥
+  pub number_first : (n : ℕ) (parts : List Part) (tail b : List ℕ) → (f : AreParts (number n ∷ parts) tail b) → (c : ℕ) × (d : List ℕ) × (b ≡ c ∷ d) × (number_at (c ∷ d) ≡ Some (n, f.1))
   unfolding number_at unsigned_at
-  number_there n parts tail f = let e = number_again n parts tail [] f in cc
+  number_first n parts tail [] f = absurd (let e = number_again n parts tail [] f in cc)
+  number_first n parts tail (c ∷ d) f = (c, d, refl, number_again n parts tail (c ∷ d) f)
+
+  pub number_then : {A : Type 0} {parts : A → List Part} {Good : A → Type 0} {v : A} {ps : List Part} {k : ℕ × List ℕ → Option A} {b : List ℕ} → AreBytes b → option_and_then k (number_at b) ≡ Some v
+      → ((x : ℕ × List ℕ) → AreBytes x.1 → k x ≡ Some v → Ends parts Good v (ps ++ number x.0 ∷ []) x.1) → Ends parts Good v ps b
+  number_then {v = v} {k = k} {b = b} h e more =
+      option_and_then_some k (number_at b) v e (λ x read later. let first = number_found b x h read in part_then first (more x first.bytes_of_tail later))
 
   pub text_found : (b : List ℕ) (x : List ℕ × List ℕ) → AreBytes b → text_at b ≡ Some x → Begins (text x.0) x.1 b
   unfolding text_at
@@ -122,6 +140,12 @@ module _ (known : NumbersAreRead) where
       rw (e, number_seam (length t) prefix (t ++ f.1) f.3.1.1, long, take-append_seam t f.1, drop-append_seam t f.1, is_utf8-from_IsUtf8 t f.3.0) refl
 
   -- no text is without its length
-  pub text_there : (t : List ℕ) (parts : List Part) (tail : List ℕ) → AreParts (text t ∷ parts) tail [] → ⊥
+  pub text_first : (t : List ℕ) (parts : List Part) (tail b : List ℕ) → (f : AreParts (text t ∷ parts) tail b) → (c : ℕ) × (d : List ℕ) × (b ≡ c ∷ d) × (text_at (c ∷ d) ≡ Some (t, f.1))
   unfolding text_at number_at unsigned_at
-  text_there t parts tail f = let e = text_again t parts tail [] f in cc
+  text_first t parts tail [] f = absurd (let e = text_again t parts tail [] f in cc)
+  text_first t parts tail (c ∷ d) f = (c, d, refl, text_again t parts tail (c ∷ d) f)
+
+  pub text_then : {A : Type 0} {parts : A → List Part} {Good : A → Type 0} {v : A} {ps : List Part} {k : List ℕ × List ℕ → Option A} {b : List ℕ} → AreBytes b → option_and_then k (text_at b) ≡ Some v
+      → ((x : List ℕ × List ℕ) → AreBytes x.1 → k x ≡ Some v → Ends parts Good v (ps ++ text x.0 ∷ []) x.1) → Ends parts Good v ps b
+  text_then {v = v} {k = k} {b = b} h e more =
+      option_and_then_some k (text_at b) v e (λ x read later. let first = text_found b x h read in part_then first (more x first.bytes_of_tail later))

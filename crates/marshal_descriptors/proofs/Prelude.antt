@@ -1,8 +1,8 @@
 -- What several proofs of this crate name of std, of the crates below, and of its own definitions.
-pub use Rattle.std.proofs.Common.{◌≡◌, ℕ, true, Option, Some, None, List, [], ◌∷◌, refl, ◌∙◌, sym, ap, subst, zero, suc, ◌<◌, ◌≤◌, ◌^◌, length-append, Bool, false, cond, IfSome, ◌++◌, length, take, drop, get_or, append_assoc, arith, rules}
+pub use Rattle.std.proofs.Common.{◌≡◌, ℕ, true, Option, Some, None, List, [], ◌∷◌, refl, ◌∙◌, sym, ap, subst, zero, suc, ◌<◌, ◌≤◌, ◌^◌, length-append, Bool, false, cond, IfSome, ◌++◌, length, take, drop, get_or, append_assoc, append-nil, arith, rules}
 pub use Rattle.std.proofs.lemmas.Bool.{cond_both, eqb-true}
 pub use Rattle.std.proofs.lemmas.Option.{option_and_then_some}
-pub use Rattle.std.specs.Prelude.{◌==◌, if◌then◌else◌, option_map, ⊤, nat_lt, IsSomeAnd}
+pub use Rattle.std.specs.Prelude.{◌==◌, if◌then◌else◌, option_map, option_and_then, ⊤, nat_lt, IsSomeAnd}
 pub use Rattle.marshal_descriptors.specs.Codes.{native_code, is_interface, pick, ARRAY, FIXED_STRING, SAFE_ARRAY, FIXED_ARRAY, CUSTOM, MAX}
 unfoldable pub use Rattle.marshal_descriptors.specs.Codes.{native_of}
 pub use Rattle.marshal_descriptors.specs.Parts.{byte, number, text, AreParts, IsDescriptor, element_code, size_parts, parts_of, IsKnown, Part, IsPart}

@@ -19,10 +19,7 @@ pub(crate) fn number(bytes: &[u8]) -> Option<(u32, &[u8])>
 fn text_of(bytes: &[u8], len: usize) -> Option<(&str, &[u8])>
     ensures { option_map (λ x. (x.0.now, x.1.now)) result ≡ text_in len bytes.now }
 {
-    if bytes.len() < len {
-        return None;
-    }
-    let (text, tail) = bytes.split_at(len);
+    let (text, tail) = bytes.split_at_checked(len)?;
     match str::from_utf8(text) {
         Ok(text) => Some((text, tail)),
         Err(_) => None,

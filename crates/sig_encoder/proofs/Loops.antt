@@ -10,13 +10,10 @@ use Rattle.sig_encoder.proofs.Steps.{run_both, items_both, run_none}
 pub drop_next : {A : Type 0} (xs : List A) (i : ℕ) (x : A) → i < length xs → x ≡ get_or xs i x → drop i xs ≡ x ∷ drop (i + 1) xs
 drop_next {A} xs i x lt e = rw add-one (drop-cons xs i x lt ∙ ap (λ (y : A). y ∷ drop (suc i) xs) (sym e))
 
-cut : {A : Type 0} (xs : List A) (i : ℕ) (d : A) → i < length xs → drop i xs ≡ get_or xs i d ∷ drop (i + 1) xs
-cut xs i d lt = rw add-one (drop-cons xs i d lt)
-
-pub list_next : {A S : Type 0} (step : Item → S → Result S S) (parts : A → List Part) (xs : List A) (i : ℕ) (d : A) (sink : S) → i < length xs
-    → run step (parts_items (list_parts parts (drop i xs))) sink ≡ then (run step (parts_items (list_parts parts (drop (i + 1) xs)))) (run step (parts_items (parts (get_or xs i d))) sink)
-list_next step parts xs i d sink lt =
-    rw (cut xs i d lt, items_both) (run_both step (parts_items (parts (get_or xs i d))) (parts_items (list_parts parts (drop (i + 1) xs))) sink)
+pub list_next : {A S : Type 0} (step : Item → S → Result S S) (parts : A → List Part) (xs : List A) (i : ℕ) (x : A) (sink : S) → i < length xs → x ≡ get_or xs i x
+    → run step (parts_items (list_parts parts (drop i xs))) sink ≡ then (run step (parts_items (list_parts parts (drop (i + 1) xs)))) (run step (parts_items (parts x)) sink)
+list_next step parts xs i x sink lt e =
+    rw (drop_next xs i x lt e, items_both) (run_both step (parts_items (parts x)) (parts_items (list_parts parts (drop (i + 1) xs))) sink)
 
 pub list_end : {A S : Type 0} (step : Item → S → Result S S) (parts : A → List Part) (xs : List A) (i : ℕ) (sink : S) → length xs ≤ i
     → run step (parts_items (list_parts parts (drop i xs))) sink ≡ Ok sink

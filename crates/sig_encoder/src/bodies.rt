@@ -3,7 +3,7 @@ ghost use Rattle.sig_grammar.specs.Views.{slot_of, local_of, body_of};
 ghost use Rattle.sig_encoder.specs.Run.{after, run};
 ghost use Rattle.sig_encoder.specs.Items.{local_items, locals_items, body_items};
 
-use crate::items::visit_prefixes;
+use crate::items::visit_leaves;
 use crate::sink::PartSink;
 use crate::types::{
     bit, visit_content, visit_method, visit_params, visit_ret, visit_slot, visit_types,
@@ -16,7 +16,7 @@ use sig_grammar::{Local, SigBody};
 fn visit_local<S: PartSink>(sink: &mut S, local: &Local, depth: u8) -> Option<()>
     ensures { after result sink.new ≡ run S.step (local_items (local_of local.now) depth) sink.old }
 {
-    visit_prefixes(sink, &local.prefix)?;
+    visit_leaves(sink, &local.prefix)?;
     visit_content(sink, &local.kind, depth)
 }
 

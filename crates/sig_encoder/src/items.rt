@@ -1,6 +1,7 @@
-ghost use Rattle.std.specs.Prelude.{◌≡◌};
+ghost use Rattle.std.specs.Prelude.{◌≡◌, ◌∷◌, []};
 ghost use Rattle.sig_grammar.specs.Views.{shape_of};
-ghost use Rattle.sig_grammar.specs.Grammar.{modifier_parts, modifiers_parts, prefix_parts, prefixes_parts, numbers_parts, bounds_parts, shape_parts};
+ghost use Rattle.sig_grammar.specs.Grammar.{modifier_parts, prefix_parts, list_parts, shape_parts};
+ghost use Rattle.sig_grammar.specs.Parts.{number, signed};
 ghost use Rattle.sig_encoder.specs.Run.{after, run};
 ghost use Rattle.sig_encoder.specs.Items.{parts_items, rule, is_shape, shape_items};
 
@@ -18,70 +19,72 @@ pub fn visit_rule<S: PartSink>(sink: &mut S, holds: bool) -> Option<()>
     sink.broken()
 }
 
-/// Visits a modifier (II.23.2.7).
-#[tactic(auto, using(crate::proofs::Steps::steps))]
-fn visit_modifier<S: PartSink>(sink: &mut S, modifier: &Modifier) -> Option<()>
-    ensures { after result sink.new ≡ run S.step (parts_items (modifier_parts modifier.now)) sink.old }
-{
-    sink.byte(u16::from(if modifier.required {
-        CMOD_REQD
-    } else {
-        CMOD_OPT
-    }))?;
-    sink.index(modifier.of)
+/// A value without types in it.
+pub trait Leaf {
+    ghost use Rattle.std.specs.Prelude.{◌≡◌, List};
+    ghost use Rattle.sig_grammar.specs.Parts.{Part};
+    ghost use Rattle.sig_encoder.specs.Run.{after, run};
+    ghost use Rattle.sig_encoder.specs.Items.{parts_items};
+
+    /// Its parts.
+    ghost parts: { Self → List Part };
+
+    /// Passes its parts to a sink.
+    fn visit<S: PartSink>(&self, sink: &mut S) -> Option<()>
+        ensures { after result sink.new ≡ run S.step (parts_items (parts self.now)) sink.old };
 }
 
-/// Visits modifiers, one after another.
-#[tactic(auto, using(crate::proofs::Steps::steps, crate::proofs::Loops::list_steps))]
-pub fn visit_modifiers<S: PartSink>(sink: &mut S, modifiers: &[Modifier]) -> Option<()>
-    ensures { after result sink.new ≡ run S.step (parts_items (modifiers_parts modifiers.now)) sink.old }
-{
-    for modifier in modifiers {
-        visit_modifier(sink, modifier)?;
-    }
-    Some(())
-}
+/// A modifier (II.23.2.7).
+impl Leaf for Modifier {
+    ghost parts = { modifier_parts };
 
-/// Visits a modifier or PINNED before the type of a local variable (II.23.2.6).
-#[tactic(auto, using(crate::proofs::Steps::steps))]
-fn visit_prefix<S: PartSink>(sink: &mut S, prefix: &Prefix) -> Option<()>
-    ensures { after result sink.new ≡ run S.step (parts_items (prefix_parts prefix.now)) sink.old }
-{
-    match prefix {
-        Prefix::Mod(modifier) => visit_modifier(sink, modifier),
-        Prefix::Pinned => sink.byte(u16::from(PINNED)),
+    #[tactic(auto, using(crate::proofs::Steps::steps))]
+    fn visit<S: PartSink>(&self, sink: &mut S) -> Option<()> {
+        sink.byte(u16::from(if self.required { CMOD_REQD } else { CMOD_OPT }))?;
+        sink.index(self.of)
     }
 }
 
-/// Visits all modifiers and PINNED before the type of a local variable.
-#[tactic(auto, using(crate::proofs::Steps::steps, crate::proofs::Loops::list_steps))]
-pub fn visit_prefixes<S: PartSink>(sink: &mut S, prefixes: &[Prefix]) -> Option<()>
-    ensures { after result sink.new ≡ run S.step (parts_items (prefixes_parts prefixes.now)) sink.old }
-{
-    for prefix in prefixes {
-        visit_prefix(sink, prefix)?;
+/// A modifier or PINNED before the type of a local variable (II.23.2.6).
+impl Leaf for Prefix {
+    ghost parts = { prefix_parts };
+
+    #[tactic(auto, using(crate::proofs::Steps::steps))]
+    fn visit<S: PartSink>(&self, sink: &mut S) -> Option<()> {
+        match self {
+            Prefix::Mod(modifier) => modifier.visit(sink),
+            Prefix::Pinned => sink.byte(u16::from(PINNED)),
+        }
     }
-    Some(())
 }
 
-/// Visits the sizes of dimensions.
-#[tactic(auto, using(crate::proofs::Steps::steps, crate::proofs::Loops::list_steps))]
-fn visit_sizes<S: PartSink>(sink: &mut S, sizes: &[u32]) -> Option<()>
-    ensures { after result sink.new ≡ run S.step (parts_items (numbers_parts sizes.now)) sink.old }
-{
-    for size in sizes {
-        sink.number(*size as usize)?;
+/// The size of a dimension.
+impl Leaf for u32 {
+    ghost parts = { λ n. number n ∷ [] };
+
+    #[tactic(auto, using(crate::proofs::Steps::steps))]
+    fn visit<S: PartSink>(&self, sink: &mut S) -> Option<()> {
+        sink.number(*self as usize)
     }
-    Some(())
 }
 
-/// Visits the lower bounds of dimensions.
+/// The lower bound of a dimension.
+impl Leaf for i32 {
+    ghost parts = { λ z. signed z ∷ [] };
+
+    #[tactic(auto, using(crate::proofs::Steps::steps))]
+    fn visit<S: PartSink>(&self, sink: &mut S) -> Option<()> {
+        sink.signed(*self)
+    }
+}
+
+/// Visits values, one after another.
 #[tactic(auto, using(crate::proofs::Steps::steps, crate::proofs::Loops::list_steps))]
-fn visit_bounds<S: PartSink>(sink: &mut S, low: &[i32]) -> Option<()>
-    ensures { after result sink.new ≡ run S.step (parts_items (bounds_parts low.now)) sink.old }
+pub fn visit_leaves<S: PartSink, T: Leaf>(sink: &mut S, leaves: &[T]) -> Option<()>
+    ensures { after result sink.new ≡ run S.step (parts_items (list_parts T.parts leaves.now)) sink.old }
 {
-    for bound in low {
-        sink.signed(*bound)?;
+    for leaf in leaves {
+        leaf.visit(sink)?;
     }
     Some(())
 }
@@ -103,7 +106,7 @@ pub fn visit_shape<S: PartSink>(sink: &mut S, shape: &Shape) -> Option<()>
     visit_rule(sink, can_be(shape))?;
     sink.number(shape.rank as usize)?;
     sink.number(shape.sizes.len())?;
-    visit_sizes(sink, &shape.sizes)?;
+    visit_leaves(sink, &shape.sizes)?;
     sink.number(shape.low.len())?;
-    visit_bounds(sink, &shape.low)
+    visit_leaves(sink, &shape.low)
 }

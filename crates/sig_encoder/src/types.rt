@@ -6,7 +6,7 @@ ghost use Rattle.sig_grammar.specs.Grammar.{flag, method_code, named_code, count
 ghost use Rattle.sig_encoder.specs.Run.{after, run};
 ghost use Rattle.sig_encoder.specs.Items.{part, parts_items, level, leaf_items, core_items, first_items, typed_items, types_items, content_items, slot_items, slots_items, ret_items, method_items, may_stand, is_call, stands_at, param_items};
 
-use crate::items::{visit_modifiers, visit_rule, visit_shape};
+use crate::items::{visit_leaves, visit_rule, visit_shape};
 use crate::sink::PartSink;
 use sig_grammar::element_type::{
     ARRAY, BYREF, CLASS, FNPTR, GENERICINST, MVAR, PTR, SENTINEL, SZARRAY, TYPEDBYREF, VALUETYPE,
@@ -44,7 +44,7 @@ fn visit_core<S: PartSink>(sink: &mut S, core: &Core, depth: u8) -> Option<()>
 
 /// Visits a core whose level was already counted.
 #[cycle(walk)]
-#[tactic(auto, using(crate::proofs::Forms::first_forms))]
+#[tactic(auto, using(crate::proofs::Steps::run_last, sig_grammar::proofs::ViewLemmas::views))]
 fn visit_first<S: PartSink>(sink: &mut S, core: &Core, depth: u8) -> Option<()>
     ensures { after result sink.new ≡ run S.step (first_items (core_of core.now) depth) sink.old }
 {
@@ -89,7 +89,7 @@ fn visit_void_pointer<S: PartSink>(sink: &mut S, modifiers: &[Modifier], depth: 
     ensures { after result sink.new ≡ run S.step (first_items (sig.void_pointer modifiers.now) depth) sink.old }
 {
     sink.byte(u16::from(PTR))?;
-    visit_modifiers(sink, modifiers)?;
+    visit_leaves(sink, modifiers)?;
     visit_leaf(sink, VOID, depth)
 }
 
@@ -105,7 +105,7 @@ fn visit_pointer<S: PartSink>(
     ensures { after result sink.new ≡ run S.step (first_items (sig.pointer modifiers.now (core_of to.now)) depth) sink.old }
 {
     sink.byte(u16::from(PTR))?;
-    visit_modifiers(sink, modifiers)?;
+    visit_leaves(sink, modifiers)?;
     visit_core(sink, to, depth)
 }
 
@@ -161,11 +161,11 @@ fn visit_function<S: PartSink>(sink: &mut S, method: &MethodSig, depth: u8) -> O
 
 /// Visits a type.
 #[cycle(walk)]
-#[tactic(auto, using(crate::proofs::Steps::steps, crate::proofs::Forms::run_type))]
+#[tactic(auto, using(crate::proofs::Steps::steps, sig_grammar::proofs::ViewLemmas::view_type))]
 pub fn visit_typed<S: PartSink>(sink: &mut S, of: &TypeSig, depth: u8) -> Option<()>
     ensures { after result sink.new ≡ run S.step (typed_items (type_of of.now) depth) sink.old }
 {
-    visit_modifiers(sink, &of.mods)?;
+    visit_leaves(sink, &of.mods)?;
     visit_core(sink, &of.core, depth)
 }
 
@@ -183,7 +183,7 @@ pub fn visit_types<S: PartSink>(sink: &mut S, types: &[TypeSig], depth: u8) -> O
 
 /// Visits the kind and type of a parameter, a field or a local variable (II.23.2.10).
 #[cycle(walk)]
-#[tactic(auto, using(crate::proofs::Steps::steps, crate::proofs::Forms::run_typed_ref, crate::proofs::Forms::run_plain, crate::proofs::Forms::run_by_ref))]
+#[tactic(auto, using(crate::proofs::Steps::steps, crate::proofs::Forms::then_both, sig_grammar::proofs::ViewLemmas::view_typed_ref, sig_grammar::proofs::ViewLemmas::view_plain, sig_grammar::proofs::ViewLemmas::view_by_ref))]
 pub fn visit_content<S: PartSink>(sink: &mut S, content: &SlotKind, depth: u8) -> Option<()>
     ensures { after result sink.new ≡ run S.step (content_items (content_of content.now) depth) sink.old }
 {
@@ -192,7 +192,7 @@ pub fn visit_content<S: PartSink>(sink: &mut S, content: &SlotKind, depth: u8) -
         SlotKind::Plain(core) => visit_core(sink, core, depth),
         SlotKind::ByRef(modifiers, core) => {
             sink.byte(u16::from(BYREF))?;
-            visit_modifiers(sink, modifiers)?;
+            visit_leaves(sink, modifiers)?;
             visit_core(sink, core, depth)
         }
     }
@@ -200,11 +200,11 @@ pub fn visit_content<S: PartSink>(sink: &mut S, content: &SlotKind, depth: u8) -
 
 /// Visits a parameter or a field.
 #[cycle(walk)]
-#[tactic(auto, using(crate::proofs::Steps::steps, crate::proofs::Forms::run_slot))]
+#[tactic(auto, using(crate::proofs::Steps::steps, sig_grammar::proofs::ViewLemmas::view_slot))]
 pub fn visit_slot<S: PartSink>(sink: &mut S, slot: &Slot, depth: u8) -> Option<()>
     ensures { after result sink.new ≡ run S.step (slot_items (slot_of slot.now) depth) sink.old }
 {
-    visit_modifiers(sink, &slot.mods)?;
+    visit_leaves(sink, &slot.mods)?;
     visit_content(sink, &slot.kind, depth)
 }
 
@@ -250,14 +250,14 @@ pub fn visit_params<S: PartSink>(
 
 /// Visits a result (II.23.2.11).
 #[cycle(walk)]
-#[tactic(auto, using(crate::proofs::Steps::steps, crate::proofs::Forms::run_some_ret, crate::proofs::Forms::run_void_ret))]
+#[tactic(auto, using(crate::proofs::Steps::steps, sig_grammar::proofs::ViewLemmas::view_some_ret, sig_grammar::proofs::ViewLemmas::view_void_ret))]
 pub fn visit_ret<S: PartSink>(sink: &mut S, ret: &Ret, depth: u8) -> Option<()>
     ensures { after result sink.new ≡ run S.step (ret_items (ret_of ret.now) depth) sink.old }
 {
     match ret {
         Ret::Slot(slot) => visit_slot(sink, slot, depth),
         Ret::Void(modifiers) => {
-            visit_modifiers(sink, modifiers)?;
+            visit_leaves(sink, modifiers)?;
             visit_leaf(sink, VOID, depth)
         }
     }

@@ -76,17 +76,11 @@ unfolding code_reported core_by
 code_bad d c b p1 p2 p3 p4 p5 p6 p7 p8 p9 =
     rw (ne_eqb c 0x0F p1, ne_eqb c 0x11 p2, ne_eqb c 0x12 p3, ne_eqb c 0x13 p4, ne_eqb c 0x14 p5, ne_eqb c 0x15 p6, ne_eqb c 0x1B p7, ne_eqb c 0x1D p8, ne_eqb c 0x1E p9) refl
 
+pub ruleset code_arms = (code_vector, code_array, code_bad)
+
 pub ruleset core_arms = (core_none, core_end, core_simple, core_other)
 
 -- ---- an instance
-
-pub instance_end : (d : ℕ) (b : List ℕ) → b ≡ [] → instance_reported d b ≡ None
-unfolding instance_reported instance_at both named_at
-instance_end d b h = rw h refl
-
-pub instance_bad : (d c : ℕ) (b tail : List ℕ) → b ≡ c ∷ tail → c ≢ 0x11 → c ≢ 0x12 → instance_reported d b ≡ None
-unfolding instance_reported instance_at both named_at
-instance_bad d c b tail h p q = rw (h, ne_eqb c 0x11 p, ne_eqb c 0x12 q) refl
 
 abbrev pub is_named : ℕ → Bool
 is_named c = eqb c 0x11 || eqb c 0x12
@@ -99,14 +93,6 @@ named_is c tail h = at_test (eqb c 0x11) (eqb c 0x12) h
     at_test true q h = refl
     at_test false true h = refl
     at_test false false h = absurd cc
-
-pub instance_no_index : (d c : ℕ) (b tail : List ℕ) → b ≡ c ∷ tail → is_named c ≡ true → index_at tail ≡ None → instance_reported d b ≡ None
-unfolding instance_reported instance_at both
-instance_no_index d c b tail h k e = let n = named_is c tail k in rw (h, n, e) refl
-
-pub instance_no_count : (d c : ℕ) (b b1 b2 : List ℕ) (of : Token) → b ≡ c ∷ b1 → is_named c ≡ true → index_at b1 ≡ Some (of, b2) → number_at b2 ≡ None → instance_reported d b ≡ None
-unfolding instance_reported instance_at both counted_at
-instance_no_count d c b b1 b2 of h k e f = let n = named_is c b1 k in rw (h, n, e, f) refl
 
 pub instance_is : (d c n : ℕ) (b b1 b2 b3 : List ℕ) (of : Token) → b ≡ c ∷ b1 → is_named c ≡ true → index_at b1 ≡ Some (of, b2) → number_at b2 ≡ Some (n, b3) → instance_reported d b ≡ item_then (item.Instance (eqb c 0x11) of n) (types_reported n d b3)
 unfolding instance_reported instance_at both counted_at types_reported
@@ -126,14 +112,6 @@ instance_is d c n b b1 b2 b3 of h k e f =
 
 -- ---- the kind of a parameter
 
-pub content_end : (d : ℕ) (b : List ℕ) → b ≡ [] → content_reported d b ≡ None
-unfolding content_reported content_at
-content_end d b h = rw h refl
-
-pub content_typed_ref : (d c : ℕ) (b tail : List ℕ) → b ≡ c ∷ tail → c ≡ 0x16 → content_reported d b ≡ Some (item.TypedRef ∷ [], tail)
-unfolding content_reported content_at
-content_typed_ref d c b tail h code = rw (h, code) refl
-
 typed_led : (d : ℕ) (b : List ℕ) → position_at (position.Typed d) b ≡ led_at modifier_at item.Modifier core_items (core_at d) b
 unfolding position_at typed_at modifiers_at
 typed_led d b = fused (λ x. sig.typed x.0 x.1) typed_items (λ (x : List Modifier × sig.Core). map item.Modifier x.0 ++ core_items x.1) (λ x. refl) (both modifiers_at (core_at d) b)
@@ -146,8 +124,6 @@ content_by_ref d c b tail h code =
 pub content_other : (d c : ℕ) (b tail : List ℕ) → b ≡ c ∷ tail → c ≢ 0x16 → c ≢ 0x10 → content_reported d b ≡ core_reported d b
 unfolding content_reported content_at core_reported
 content_other d c b tail h p q = rw (h, ne_eqb c 0x16 p, ne_eqb c 0x10 q) (fused sig.plain content_items core_items (λ x. refl) (core_at d (c ∷ tail)))
-
-pub ruleset content_arms = (content_end, content_typed_ref, content_by_ref, content_other)
 
 -- ---- after modifiers
 
@@ -244,14 +220,6 @@ pub ret_content : (d c : ℕ) (b tail : List ℕ) → starts_modifier b ≡ fals
 unfolding content_reported
 ret_content d c b tail s h p = ret_bare d b s ∙ void_other content_items (content_at (core_at d)) c b tail h p
 
-pub marked_end : (d : ℕ) (b : List ℕ) → b ≡ [] → position_at (position.Marked d) b ≡ None
-unfolding position_at
-marked_end d b h = rw h refl
-
 pub marked_first : (d c : ℕ) (b tail : List ℕ) → b ≡ c ∷ tail → c ≡ 0x41 → position_at (position.Marked d) b ≡ item_then item.Sentinel (position_at (position.Slot d) tail)
 unfolding position_at
 marked_first d c b tail h code = rw (h, code) (sym (item_reported item.Sentinel slot_items (λ s. item.Sentinel ∷ slot_items s) (λ s. refl) (slot_at (core_at d) tail)))
-
-pub marked_bad : (d c : ℕ) (b tail : List ℕ) → b ≡ c ∷ tail → c ≢ 0x41 → position_at (position.Marked d) b ≡ None
-unfolding position_at
-marked_bad d c b tail h p = rw (h, ne_eqb c 0x41 p) refl

@@ -26,22 +26,6 @@ module _ (c n d : ℕ) (allowed : Bool) (g : Option ℕ) where
   of_ret None = refl
   of_ret (Some r) = of_params r.0 (params_at (core_at d) allowed n r.1) (params_count (core_at d) allowed n r.1)
 
-pub method_end : (own : Bool) (d : ℕ) (b : List ℕ) → b ≡ [] → method_reported own d b ≡ None
-unfolding method_reported method_at
-method_end own d b h = rw h refl
-
-pub method_bad : (own : Bool) (d c : ℕ) (b tail : List ℕ) → b ≡ c ∷ tail → is_method_code c ≡ false → method_reported own d b ≡ None
-unfolding method_reported method_at
-method_bad own d c b tail h k = rw (h, k) refl
-
-pub method_no_generic : (own : Bool) (d c : ℕ) (b tail : List ℕ) → b ≡ c ∷ tail → is_method_code c ≡ true → generic_at (eqb (c / 16 % 2) 1) tail ≡ None → method_reported own d b ≡ None
-unfolding method_reported method_at method_from
-method_no_generic own d c b tail h k e = rw (h, k, e) refl
-
-pub method_no_count : (own : Bool) (d c : ℕ) (b b1 b2 : List ℕ) (g : Option ℕ) → b ≡ c ∷ b1 → is_method_code c ≡ true → generic_at (eqb (c / 16 % 2) 1) b1 ≡ Some (g, b2) → number_at b2 ≡ None → method_reported own d b ≡ None
-unfolding method_reported method_at method_from
-method_no_count own d c b b1 b2 g h k e f = rw (h, k, e, f) refl
-
 pub method_is : (own allowed : Bool) (d c n : ℕ) (b b1 b2 b3 : List ℕ) (g : Option ℕ) → b ≡ c ∷ b1 → is_method_code c ≡ true → generic_at (eqb (c / 16 % 2) 1) b1 ≡ Some (g, b2) → number_at b2 ≡ Some (n, b3) → allowed ≡ (own && takes_sentinel (c % 16)) → method_reported own d b ≡ item_then (method_head (c % 16) (eqb (c / 32 % 2) 1) (eqb (c / 64 % 2) 1) g n) (joined (position_at (position.Ret d)) (params_reported n allowed d) b3)
 unfolding method_reported method_at method_from position_at params_reported joined
 method_is own allowed d c n b b1 b2 b3 g h k e f may = rw (h, k, e, f, ← may) (of_ret c n d allowed g (ret_at (core_at d) b3))
@@ -55,10 +39,6 @@ position_method d b = refl
 pub field_is : (b : List ℕ) → item_then item.Field (position_at (position.Slot 128) b) ≡ field_reported b
 unfolding position_at field_reported
 field_is b = item_fused item.Field slot_items sig.field items_of (λ x. refl) (slot_at (core_at 128) b)
-
-pub property_none : (this : Bool) (b : List ℕ) → number_at b ≡ None → property_reported this b ≡ None
-unfolding property_reported headed_at
-property_none this b e = rw e refl
 
 module _ (this : Bool) (n : ℕ) where
   of_list : (s : sig.Slot) (o : Option (List sig.Slot × List ℕ)) → IfSome o (HasCount n) → changed items_of (changed (property_from this) (paired s o)) ≡ item_then (item.Property this n) (before_reported (slot_items s) (changed (flat_map slot_items) o))
@@ -78,19 +58,11 @@ unfolding property_reported headed_at position_at
 property_is this n b tail e =
     rw e (property_plain this n tail ∙ ap (item_then (item.Property this n)) (joined_same (change slot_items (slot_at (core_at 128))) (change (flat_map slot_items) (many_at (slot_at (core_at 128)) n)) (params_reported n false 128) tail (λ c. sym (params_plain n 128 c))))
 
-pub locals_none : (b : List ℕ) → number_at b ≡ None → variables_reported b ≡ None
-unfolding variables_reported counted_at
-locals_none b e = rw e refl
-
 pub locals_is : (n : ℕ) (b tail : List ℕ) → number_at b ≡ Some (n, tail) → variables_reported b ≡ item_then (item.Locals n) (locals_reported n 128 tail)
 unfolding variables_reported counted_at locals_reported
 locals_is n b tail e =
     rw e (fused sig.locals items_of (λ xs. items_of (sig.locals xs)) (λ xs. refl) (many_at (local_at (core_at 128)) n tail)
     ∙ sym (counted_item (λ k. item.Locals k) (flat_map local_items) (λ xs. items_of (sig.locals xs)) (local_at (core_at 128)) (λ xs. refl) n tail))
-
-pub arguments_none : (b : List ℕ) → number_at b ≡ None → arguments_reported b ≡ None
-unfolding arguments_reported counted_at
-arguments_none b e = rw e refl
 
 pub arguments_is : (n : ℕ) (b tail : List ℕ) → number_at b ≡ Some (n, tail) → arguments_reported b ≡ item_then (item.Arguments n) (types_reported n 128 tail)
 unfolding arguments_reported counted_at types_reported
@@ -122,6 +94,8 @@ pub alone_method : (c : ℕ) (b tail : List ℕ) → b ≡ c ∷ tail → c ≢ 
 unfolding position_at body_at method_reported
 alone_method c b tail h p q = rw (h, ne_eqb c 0x06 p, ne_eqb c 0x07 q) (fused sig.method_body items_of method_items (λ x. refl) (method_at true (core_at 128) (c ∷ tail)))
 
+pub ruleset body_items = (body_end, body_method_def, body_type_spec, member_method, alone_method)
+
 -- ---- the shape of an array
 
 -- a head with the number of values that are read first
@@ -139,25 +113,6 @@ counted_both {A = A} {B = B} h f g r q e n b = of_first (many_at r n b) (many_co
 
 within_test : (n m : ℕ) → n ≤ m → ltb m n ≡ false
 within_test n m h = grind (arith, nat_tests)
-
-beyond_test : (n m : ℕ) → m < n → ltb m n ≡ true
-beyond_test n m h = grind (arith, nat_tests)
-
-pub shape_no_rank : (b : List ℕ) → number_at b ≡ None → position_at position.Shape b ≡ None
-unfolding position_at shape_at
-shape_no_rank b e = rw e refl
-
-pub shape_zero : (n : ℕ) (b tail : List ℕ) → number_at b ≡ Some (n, tail) → n ≡ 0 → position_at position.Shape b ≡ None
-unfolding position_at shape_at
-shape_zero n b tail e z = rw (e, z) refl
-
-pub shape_no_count : (n : ℕ) (b tail : List ℕ) → number_at b ≡ Some (n, tail) → n ≢ 0 → number_at tail ≡ None → position_at position.Shape b ≡ None
-unfolding position_at shape_at both counted_within
-shape_no_count n b tail e z f = rw (e, ne_eqb n 0 z, f) refl
-
-pub shape_beyond : (n m : ℕ) (b b1 b2 : List ℕ) → number_at b ≡ Some (n, b1) → n ≢ 0 → number_at b1 ≡ Some (m, b2) → n < m → position_at position.Shape b ≡ None
-unfolding position_at shape_at both counted_within
-shape_beyond n m b b1 b2 e z f lt = rw (e, ne_eqb n 0 z, f, beyond_test m n lt) refl
 
 -- sizes after their count, and what follows
 counted_is : (n m : ℕ) (b tail : List ℕ) → number_at b ≡ Some (m, tail) → m ≤ n → counted_within number_at n b ≡ many_at number_at m tail
@@ -190,10 +145,6 @@ pub sizes_more : (n rank : ℕ) (b : List ℕ) → 0 < n → position_at (positi
 unfolding position_at
 sizes_more n rank b h = let e : suc (n - 1) ≡ n = omega arith in ap (λ (m : ℕ). sizes_at m rank b) e
 
-pub size_none : (n rank : ℕ) (b : List ℕ) → number_at b ≡ None → position_at (position.Sizes n rank) b ≡ None
-unfolding position_at sizes_at both many_at
-size_none n rank b e = rw e refl
-
 pub size_is : (n rank x : ℕ) (b tail : List ℕ) → number_at b ≡ Some (x, tail) → position_at (position.Sizes n rank) b ≡ item_then (item.Size x) (sizes_at n rank tail)
 unfolding position_at sizes_at both many_at
 size_is n rank x b tail e = rw e (of_first (many_at number_at n tail))
@@ -206,14 +157,6 @@ size_is n rank x b tail e = rw e (of_first (many_at number_at n tail))
     of_first None = refl
     of_first (Some y) = of_second y.0 (counted_within signed_at rank y.1)
 
-pub low_none : (rank : ℕ) (b : List ℕ) → number_at b ≡ None → position_at (position.LowCount rank) b ≡ None
-unfolding position_at counted_within
-low_none rank b e = rw e refl
-
-pub low_beyond : (n rank : ℕ) (b tail : List ℕ) → number_at b ≡ Some (n, tail) → rank < n → position_at (position.LowCount rank) b ≡ None
-unfolding position_at counted_within
-low_beyond n rank b tail e lt = rw (e, beyond_test n rank lt) refl
-
 pub low_is : (n rank : ℕ) (b tail : List ℕ) → number_at b ≡ Some (n, tail) → n ≤ rank → position_at (position.LowCount rank) b ≡ item_then (item.LowBounds n) (bounds_at n tail)
 unfolding position_at counted_within bounds_at
 low_is n rank b tail e le = rw (e, within_test n rank le) (sym (counted_item (λ k. item.LowBounds k) (map item.LowBound) low_items signed_at (λ xs. refl) n tail))
@@ -225,10 +168,6 @@ bounds_zero n b h = rw h refl
 pub bounds_more : (n : ℕ) (b : List ℕ) → 0 < n → position_at (position.LowBounds (n - 1)) b ≡ bounds_at n b
 unfolding position_at
 bounds_more n b h = let e : suc (n - 1) ≡ n = omega arith in ap (λ (m : ℕ). bounds_at m b) e
-
-pub bound_none : (n : ℕ) (b : List ℕ) → signed_at b ≡ None → position_at (position.LowBounds n) b ≡ None
-unfolding position_at bounds_at many_at
-bound_none n b e = rw e refl
 
 pub bound_is : (n : ℕ) (z : ℤ) (b tail : List ℕ) → signed_at b ≡ Some (z, tail) → position_at (position.LowBounds n) b ≡ item_then (item.LowBound z) (bounds_at n tail)
 unfolding position_at bounds_at many_at

@@ -92,19 +92,19 @@ left_then : (i : Item) (o t : Reported) → o ≡ item_then i t → is_some o �
 left_then i o None e h = absurd (let f = ap is_some e in cc)
 left_then i o (Some x) e h = (ap items_in e, refl)
 
-pub next_items : (p : Position) (fs new : List Frame) (q : Option Position) (s : Step) (b : List ℕ) → position_at p b ≡ reported_by s → all_at q new s.tail.now ≡ and_report (stack_at fs) (next_at s.frame s.position s.tail.now) → is_some (all_at (Some p) fs b) ≡ true → (items_left (Some p) fs b ≡ s.item ∷ items_left q new s.tail.now) × (is_some (all_at q new s.tail.now) ≡ true)
+pub next_items : (o q : Option Position) (p : Position) (fs new : List Frame) (s : Step) (b : List ℕ) → o ≡ Some p → position_at p b ≡ reported_by s → all_at q new s.tail.now ≡ and_report (stack_at fs) (next_at s.frame s.position s.tail.now) → is_some (all_at o fs b) ≡ true → (items_left o fs b ≡ s.item ∷ items_left q new s.tail.now) × (is_some (all_at q new s.tail.now) ≡ true)
 unfolding items_left
-next_items p fs new q s b e tail some = left_then s.item (all_at (Some p) fs b) (all_at q new s.tail.now) whole some
+next_items o q p fs new s b is e tail some = left_then s.item (all_at o fs b) (all_at q new s.tail.now) whole some
   where
-    whole : all_at (Some p) fs b ≡ item_then s.item (all_at q new s.tail.now)
+    whole : all_at o fs b ≡ item_then s.item (all_at q new s.tail.now)
     whole =
-        all_next None (Some p) fs b ∙ ap (λ (o : Reported). and_report (stack_at fs) o) e
+        ap (λ (o : Option Position). all_at o fs b) is ∙ all_next None (Some p) fs b ∙ ap (λ (o : Reported). and_report (stack_at fs) o) e
         ∙ item_and s.item (stack_at fs) (next_at s.frame s.position s.tail.now) ∙ ap (λ (o : Reported). item_then s.item o) (sym tail)
 
 -- if reading at a position fails, there are no items
-pub reported_somewhere : (p : Position) (fs : List Frame) (b : List ℕ) → is_some (all_at (Some p) fs b) ≡ true → position_at p b ≡ None → ⊥
-reported_somewhere p fs b some none =
-    let e : all_at (Some p) fs b ≡ None = all_next None (Some p) fs b ∙ ap (λ (o : Reported). and_report (stack_at fs) o) none in
+pub reported_somewhere : (o : Option Position) (p : Position) (fs : List Frame) (b : List ℕ) → o ≡ Some p → is_some (all_at o fs b) ≡ true → position_at p b ≡ None → ⊥
+reported_somewhere o p fs b is some none =
+    let e : all_at o fs b ≡ None = ap (λ (o : Option Position). all_at o fs b) is ∙ all_next None (Some p) fs b ∙ ap (λ (o : Reported). and_report (stack_at fs) o) none in
     let f = ap is_some e in
     cc
 

@@ -22,7 +22,7 @@ fn field(tail: &[u8]) -> Step<'_>
 }
 
 /// The head of a property, whose first byte was read (II.23.2.5).
-#[tactic(auto, using(crate::proofs::Heads::property_none))]
+#[tactic(auto, unfolding(crate::specs::Positions::property_reported, sig_grammar::specs::Columns::headed_at))]
 fn property(bytes: &[u8], this: bool) -> Option<Step<'_>>
     ensures reported { reported result ≡ property_reported this bytes.now }
     ensures within { IfSome result (IsWithin 129) }
@@ -40,7 +40,7 @@ fn property(bytes: &[u8], this: bool) -> Option<Step<'_>>
 }
 
 /// The head of local variables, whose first byte was read (II.23.2.6).
-#[tactic(auto, using(crate::proofs::Heads::locals_none, crate::proofs::Heads::locals_is))]
+#[tactic(auto, using(crate::proofs::Heads::locals_is), unfolding(crate::specs::Positions::variables_reported, sig_grammar::specs::Reading::counted_at))]
 fn locals(bytes: &[u8]) -> Option<Step<'_>>
     ensures reported { reported result ≡ variables_reported bytes.now }
     ensures within { IfSome result (IsWithin 129) }
@@ -55,7 +55,7 @@ fn locals(bytes: &[u8]) -> Option<Step<'_>>
 }
 
 /// The head of the type arguments of a generic method, whose first byte was read (II.23.2.15).
-#[tactic(auto, using(crate::proofs::Heads::arguments_none, crate::proofs::Heads::arguments_is))]
+#[tactic(auto, using(crate::proofs::Heads::arguments_is), unfolding(crate::specs::Positions::arguments_reported, sig_grammar::specs::Reading::counted_at))]
 fn arguments(bytes: &[u8]) -> Option<Step<'_>>
     ensures reported { reported result ≡ arguments_reported bytes.now }
     ensures within { IfSome result (IsWithin 129) }
@@ -70,6 +70,7 @@ fn arguments(bytes: &[u8]) -> Option<Step<'_>>
 }
 
 /// The first item of a signature, in a column of a kind.
+#[tactic(auto, using(crate::proofs::Heads::body_items), unfolding(crate::specs::Positions::position_at, crate::specs::Positions::field_reported, crate::specs::Positions::property_reported, crate::specs::Positions::variables_reported, crate::specs::Positions::arguments_reported, sig_grammar::specs::Columns::body_at))]
 pub fn body(bytes: &[u8], kind: SigKind) -> Option<Step<'_>>
     ensures reported { reported result ≡ position_at (position.Body kind) bytes.now }
     ensures within { IfSome result (IsWithin 129) }

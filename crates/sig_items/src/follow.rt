@@ -21,6 +21,7 @@ fn push(frames: &mut Frames, frame: Option<Frame>)
 }
 
 /// The position of the first of several parameters, with SENTINEL if it is allowed, and the frame after it.
+#[tactic(auto, using(crate::proofs::Counts::params_opened, crate::proofs::Counts::marked_opened))]
 fn first_param(bytes: &[u8], further: u32, allowed: bool, depth: u8) -> (Option<Frame>, Position)
     ensures reported { next_at result.0 (Some result.1) bytes.now ≡ frame_at (frame.Params further allowed depth) bytes.now }
     ensures frame { IfSome result.0 (λ f. frame_depth f ≡ depth) }
@@ -34,6 +35,7 @@ fn first_param(bytes: &[u8], further: u32, allowed: bool, depth: u8) -> (Option<
 }
 
 /// The first position of a frame, and the frame after it.
+#[tactic(auto, using(crate::proofs::Counts::types_opened, crate::proofs::Counts::locals_opened, crate::proofs::Counts::shape_opened))]
 fn opened(frame: Frame, bytes: &[u8]) -> (Option<Frame>, Position)
     ensures reported { next_at result.0 (Some result.1) bytes.now ≡ frame_at frame bytes.now }
     ensures frame { IfSome result.0 (λ f. frame_depth f ≤ frame_depth frame) }

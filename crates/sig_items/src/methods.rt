@@ -49,7 +49,7 @@ fn takes_sentinel(code: u8, own: bool) -> bool
 }
 
 /// The head of a method; `own` says whether it may have a SENTINEL (II.23.2.1 to II.23.2.3).
-#[tactic(auto, using(crate::proofs::Heads::method_end, crate::proofs::Heads::method_bad, crate::proofs::Heads::method_no_generic, crate::proofs::Heads::method_no_count))]
+#[tactic(auto, unfolding(crate::specs::Positions::method_reported, sig_grammar::specs::Reading::method_at, sig_grammar::specs::Reading::method_from))]
 pub fn method(bytes: &[u8], own: bool, depth: u8) -> Option<Step<'_>>
     ensures reported { reported result ≡ method_reported own depth bytes.now }
     ensures within { IfSome result (IsWithin (suc depth)) }

@@ -36,7 +36,7 @@ fn bounds_position(count: u32) -> Option<Position>
 }
 
 /// Reads the shape of an array (II.23.2.13).
-#[tactic(auto, using(crate::proofs::Heads::shape_no_rank, crate::proofs::Heads::shape_zero, crate::proofs::Heads::shape_no_count, crate::proofs::Heads::shape_beyond, crate::proofs::Heads::shape_is))]
+#[tactic(auto, using(crate::proofs::Heads::shape_is), unfolding(crate::specs::Positions::position_at, sig_grammar::specs::Reading::shape_at, sig_grammar::specs::Reading::both, sig_grammar::specs::Reading::counted_within))]
 pub fn shape(bytes: &[u8]) -> Option<Step<'_>>
     ensures reported { reported result ≡ position_at position.Shape bytes.now }
     ensures within { IfSome result (IsWithin 0) }
@@ -57,7 +57,7 @@ pub fn shape(bytes: &[u8]) -> Option<Step<'_>>
 }
 
 /// Reads a size, with `further` sizes after it.
-#[tactic(auto, using(crate::proofs::Heads::size_none, crate::proofs::Heads::size_is))]
+#[tactic(auto, using(crate::proofs::Heads::size_is), unfolding(crate::specs::Positions::position_at, crate::specs::Positions::sizes_at, sig_grammar::specs::Reading::both, sig_grammar::specs::Reading::many_at))]
 pub fn size(bytes: &[u8], further: u32, rank: u32) -> Option<Step<'_>>
     ensures reported { reported result ≡ position_at (position.Sizes further rank) bytes.now }
     ensures within { IfSome result (IsWithin 0) }
@@ -67,7 +67,7 @@ pub fn size(bytes: &[u8], further: u32, rank: u32) -> Option<Step<'_>>
 }
 
 /// Reads the number of lower bounds of an array of this rank.
-#[tactic(auto, using(crate::proofs::Heads::low_none, crate::proofs::Heads::low_beyond, crate::proofs::Heads::low_is))]
+#[tactic(auto, using(crate::proofs::Heads::low_is), unfolding(crate::specs::Positions::position_at, sig_grammar::specs::Reading::counted_within))]
 pub fn low_count(bytes: &[u8], rank: u32) -> Option<Step<'_>>
     ensures reported { reported result ≡ position_at (position.LowCount rank) bytes.now }
     ensures within { IfSome result (IsWithin 0) }
@@ -85,7 +85,7 @@ pub fn low_count(bytes: &[u8], rank: u32) -> Option<Step<'_>>
 }
 
 /// Reads a lower bound, with `further` lower bounds after it.
-#[tactic(auto, using(crate::proofs::Heads::bound_none, crate::proofs::Heads::bound_is))]
+#[tactic(auto, using(crate::proofs::Heads::bound_is), unfolding(crate::specs::Positions::position_at, crate::specs::Positions::bounds_at, sig_grammar::specs::Reading::many_at))]
 pub fn low_bound(bytes: &[u8], further: u32) -> Option<Step<'_>>
     ensures reported { reported result ≡ position_at (position.LowBounds further) bytes.now }
     ensures within { IfSome result (IsWithin 0) }

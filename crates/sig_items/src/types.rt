@@ -46,7 +46,7 @@ pub fn variables(count: u32, depth: u8) -> Option<Frame>
 }
 
 /// Reads an instance of a generic type (II.23.2.12), after GENERICINST.
-#[tactic(auto, using(crate::proofs::Arms::instance_end, crate::proofs::Arms::instance_bad, crate::proofs::Arms::instance_no_index, crate::proofs::Arms::instance_no_count, crate::proofs::Arms::instance_is))]
+#[tactic(auto, using(crate::proofs::Arms::instance_is), unfolding(crate::specs::Positions::instance_reported, sig_grammar::specs::Reading::instance_at, sig_grammar::specs::Reading::both, sig_grammar::specs::Reading::counted_at, sig_grammar::specs::Reading::named_at))]
 fn instance(bytes: &[u8], depth: u8) -> Option<Step<'_>>
     ensures reported { reported result ≡ instance_reported depth bytes.now }
     ensures within { IfSome result (IsWithin (suc depth)) }
@@ -79,7 +79,7 @@ fn deeper(item: Item, position: Position, tail: &[u8], depth: u8) -> Option<Step
 }
 
 /// Reads a core after its first byte. The types in it are at most `depth` deep.
-#[tactic(auto, using(crate::proofs::Arms::code_bad))]
+#[tactic(auto, using(crate::proofs::Arms::code_arms), unfolding(crate::specs::Positions::code_reported, sig_grammar::specs::Reading::core_by, crate::specs::Positions::instance_reported))]
 fn core_behind(code: u8, tail: &[u8], depth: u8) -> Option<Step<'_>>
     ensures reported { reported result ≡ code_reported depth code tail.now }
     ensures within { IfSome result (IsWithin (suc depth)) }
@@ -132,7 +132,7 @@ fn core(bytes: &[u8], depth: u8) -> Option<Step<'_>>
 }
 
 /// Reads the kind and type of a parameter, a field, a result or a local variable (II.23.2.10).
-#[tactic(auto, using(crate::proofs::Arms::content_arms))]
+#[tactic(auto, using(crate::proofs::Arms::content_other), unfolding(crate::specs::Positions::content_reported, sig_grammar::specs::Reading::content_at))]
 fn content(bytes: &[u8], depth: u8) -> Option<Step<'_>>
     ensures reported { reported result ≡ content_reported depth bytes.now }
     ensures within { IfSome result (IsWithin depth) }
@@ -235,7 +235,7 @@ pub fn local(bytes: &[u8], depth: u8) -> Option<Step<'_>>
 }
 
 /// Reads SENTINEL, followed by a parameter (II.23.2.2, II.23.2.3).
-#[tactic(auto, using(crate::proofs::Arms::marked_end, crate::proofs::Arms::marked_first, crate::proofs::Arms::marked_bad))]
+#[tactic(auto, using(crate::proofs::Arms::marked_first), unfolding(crate::specs::Positions::position_at))]
 pub fn marked(bytes: &[u8], depth: u8) -> Option<Step<'_>>
     ensures reported { reported result ≡ position_at (position.Marked depth) bytes.now }
     ensures within { IfSome result (IsWithin depth) }

@@ -1,6 +1,6 @@
 -- One modifier at the start, and one modifier or PINNED.
 use Rattle.std.proofs.Common.{◌≡◌, ◌≢◌, ℕ, Bool, true, false, cond, eqb, ◌||◌, Some, None, List, ◌∷◌, refl, subst, ◌<◌, Option, [], length, ap, ◌∙◌, IfSome}
-use Rattle.sig_recogniser.proofs.Prelude.{option_map, if◌then◌else◌, option_and_then, Token, Modifier, index_at, modifier_at, modifier_after, starts_modifier, prefix_of, prefix_at, starts_prefix, Optional, leading_at, modifiers_at, prefixes_at, Part, list_parts, modifier_parts, prefix_parts, Left, noted, passed, skip_index, skip_modifiers, skip_prefixes}
+use Rattle.sig_recogniser.proofs.Prelude.{option_map, if◌then◌else◌, option_and_then, Token, Modifier, index_at, modifier_at, modifier_after, starts_modifier, prefix_of, prefix_at, starts_prefix, Optional, leading_at, modifiers_at, prefixes_at, Part, list_parts, modifier_parts, prefix_parts, Left, Skip, noted, passed, skip_index, skip_modifiers, skip_prefixes}
 use Rattle.std.proofs.lemmas.Bool.{ne_eqb, eqb-true, eqb-false}
 use Rattle.sig_grammar.specs.declared.body.Prefix.TheVariants.{Mod, Pinned}
 use Rattle.sig_grammar.proofs.Items.{Stepping, ShorterItem, leading_is, modifier_steps, prefix_steps}
@@ -82,25 +82,22 @@ noted_one : (counts : List ℕ) (bad : Option Token) (required : Bool) (of : Tok
 noted_one counts bad true of = refl
 noted_one counts bad false of = refl
 
-pub modifier_moves : (counts b t : List ℕ) (c : ℕ) (bad now : Option Token) (o : Option Left) → starts_modifier b ≡ true → b ≡ c ∷ t → now ≡ bad → o ≡ skip_index counts (t, now) → skip_modifiers counts (b, bad) ≡ option_and_then (skip_modifiers counts) o
-unfolding skip_index skip_modifiers modifiers_at
-modifier_moves counts b t c bad now o starts h e f = rw (f, e) (of_index (index_at t) refl)
-  where
-    of_index : (x : Option (Token × List ℕ)) → index_at t ≡ x → skip_modifiers counts (b, bad) ≡ option_and_then (skip_modifiers counts) (option_map {U = Left} (λ y. (y.1, noted counts bad (y.0 ∷ []))) x)
-    of_index None g = unfold skip_modifiers modifiers_at in items_bad modifier_at starts_modifier modifier_steps modifier_parts counts b bad (modifier_none c b t starts h g)
-    of_index (Some x) g =
-        unfold skip_modifiers modifiers_at in items_next modifier_at starts_modifier modifier_steps modifier_parts counts b x.1 bad _ (modifier_found c b t x.1 x.0 starts h g) ∙ ap (λ (z : Option Token). skip_modifiers counts (x.1, z)) (noted_one counts bad (eqb c 0x1F) x.0)
+-- an item was passed: the others follow, in fewer bytes
+abbrev Stepped : Skip → List ℕ → Option Token → Option Left → Type 0
+Stepped skip b bad o = (skip (b, bad) ≡ option_and_then skip o) × IfSome o (λ y. length y.0 < length b)
 
-pub modifier_shrinks : (counts b t u : List ℕ) (c : ℕ) (bad now worse : Option Token) → starts_modifier b ≡ true → b ≡ c ∷ t → now ≡ bad → ◌≡◌ {A = Option Left} (Some (u, worse)) (skip_index counts (t, now)) → length u < length b
-unfolding skip_index
-modifier_shrinks counts b t u c bad now worse starts h e f = of_index (index_at t) refl f
+pub modifier_step : (counts b t : List ℕ) (c : ℕ) (bad now : Option Token) (o : Option Left) → starts_modifier b ≡ true → b ≡ c ∷ t → now ≡ bad → o ≡ skip_index counts (t, now) → Stepped (skip_modifiers counts) b bad o
+unfolding skip_index skip_modifiers modifiers_at
+modifier_step counts b t c bad now o starts h e f = rw (f, e) (of_index (index_at t) refl)
   where
-    of_index : (x : Option (Token × List ℕ)) → index_at t ≡ x → ◌≡◌ {A = Option Left} (Some (u, worse)) (option_map {U = Left} (λ y. (y.1, noted counts now (y.0 ∷ []))) x) → length u < length b
-    of_index None g k = absurd cc
-    of_index (Some x) g k =
-        let pair : ◌≡◌ {A = Left} (u, worse) (x.1, noted counts now (x.0 ∷ [])) = cc in
-        let same : u ≡ x.1 = ap (λ (p : Left). p.0) pair in
-        rw same (item_shorter modifier_at starts_modifier modifier_steps b x.1 _ (modifier_found c b t x.1 x.0 starts h g))
+    of_index : (x : Option (Token × List ℕ)) → index_at t ≡ x → Stepped (skip_modifiers counts) b bad (option_map {U = Left} (λ y. (y.1, noted counts bad (y.0 ∷ []))) x)
+    of_index None g = unfold skip_modifiers modifiers_at in (items_bad modifier_at starts_modifier modifier_steps modifier_parts counts b bad (modifier_none c b t starts h g), tt)
+    of_index (Some x) g =
+        let found = modifier_found c b t x.1 x.0 starts h g in
+        unfold skip_modifiers modifiers_at in (
+          items_next modifier_at starts_modifier modifier_steps modifier_parts counts b x.1 bad _ found ∙ ap (λ (z : Option Token). skip_modifiers counts (x.1, z)) (noted_one counts bad (eqb c 0x1F) x.0),
+          item_shorter modifier_at starts_modifier modifier_steps b x.1 _ found,
+        )
 
 -- PINNED or a modifier by its first byte, and what follows it
 abbrev pub prefix_tail : List ℕ → ℕ → Left → Option Left
@@ -112,27 +109,24 @@ other_none c b t h other starts e = prefix_none c b t h other (modifier_none c b
 other_found : (c : ℕ) (b t u : List ℕ) (of : Token) → b ≡ c ∷ t → c ≢ 0x45 → starts_prefix b ≡ true → index_at t ≡ Some (of, u) → prefix_at b ≡ Some (Some (Mod (record { required = eqb c 0x1F; of = of })), u)
 other_found c b t u of h other starts e = prefix_found c b t u _ h other (modifier_found c b t u of (prefix_starts c b t h other starts) h e)
 
-pub prefix_moves : (counts b t : List ℕ) (c : ℕ) (bad now : Option Token) (o : Option Left) → starts_prefix b ≡ true → b ≡ c ∷ t → now ≡ bad → o ≡ prefix_tail counts c (t, now) → skip_prefixes counts (b, bad) ≡ option_and_then (skip_prefixes counts) o
+pub prefix_step : (counts b t : List ℕ) (c : ℕ) (bad now : Option Token) (o : Option Left) → starts_prefix b ≡ true → b ≡ c ∷ t → now ≡ bad → o ≡ prefix_tail counts c (t, now) → Stepped (skip_prefixes counts) b bad o
 unfolding skip_index skip_prefixes prefixes_at
-prefix_moves counts b t c bad now o starts h e f = rw (f, e) (of_code (eqb c 0x45) refl (index_at t) refl)
+prefix_step counts b t c bad now o starts h e f = rw (f, e) (of_code (eqb c 0x45) refl (index_at t) refl)
   where
-    of_code : (p : Bool) → eqb c 0x45 ≡ p → (x : Option (Token × List ℕ)) → index_at t ≡ x → skip_prefixes counts (b, bad) ≡ option_and_then (skip_prefixes counts) (cond {A = Option Left} p (Some (t, bad)) (option_map {U = Left} (λ y. (y.1, noted counts bad (y.0 ∷ []))) x))
-    of_code true pinned x g = unfold skip_prefixes prefixes_at in items_next prefix_at starts_prefix prefix_steps prefix_parts counts b t bad Pinned (pinned_found c b t h (eqb-true c 0x45 pinned)) ∙ ap (λ (z : Option Token). skip_prefixes counts (t, z)) (noted-none counts bad)
-    of_code false other None g = unfold skip_prefixes prefixes_at in items_bad prefix_at starts_prefix prefix_steps prefix_parts counts b bad (other_none c b t h (eqb-false c 0x45 other) starts g)
+    of_code : (p : Bool) → eqb c 0x45 ≡ p → (x : Option (Token × List ℕ)) → index_at t ≡ x → Stepped (skip_prefixes counts) b bad (cond {A = Option Left} p (Some (t, bad)) (option_map {U = Left} (λ y. (y.1, noted counts bad (y.0 ∷ []))) x))
+    of_code true pinned x g =
+        let found = pinned_found c b t h (eqb-true c 0x45 pinned) in
+        unfold skip_prefixes prefixes_at in (
+          items_next prefix_at starts_prefix prefix_steps prefix_parts counts b t bad Pinned found ∙ ap (λ (z : Option Token). skip_prefixes counts (t, z)) (noted-none counts bad),
+          item_shorter prefix_at starts_prefix prefix_steps b t Pinned found,
+        )
+    of_code false other None g = unfold skip_prefixes prefixes_at in (items_bad prefix_at starts_prefix prefix_steps prefix_parts counts b bad (other_none c b t h (eqb-false c 0x45 other) starts g), tt)
     of_code false other (Some x) g =
-        unfold skip_prefixes prefixes_at in items_next prefix_at starts_prefix prefix_steps prefix_parts counts b x.1 bad _ (other_found c b t x.1 x.0 h (eqb-false c 0x45 other) starts g) ∙ ap (λ (z : Option Token). skip_prefixes counts (x.1, z)) (noted_one counts bad (eqb c 0x1F) x.0)
-
-pub prefix_shrinks : (counts b t u : List ℕ) (c : ℕ) (bad now worse : Option Token) → starts_prefix b ≡ true → b ≡ c ∷ t → now ≡ bad → ◌≡◌ {A = Option Left} (Some (u, worse)) (prefix_tail counts c (t, now)) → length u < length b
-unfolding skip_index
-prefix_shrinks counts b t u c bad now worse starts h e f = of_code (eqb c 0x45) refl (index_at t) refl f
-  where
-    of_code : (p : Bool) → eqb c 0x45 ≡ p → (x : Option (Token × List ℕ)) → index_at t ≡ x → ◌≡◌ {A = Option Left} (Some (u, worse)) (cond {A = Option Left} p (Some (t, now)) (option_map {U = Left} (λ y. (y.1, noted counts now (y.0 ∷ []))) x)) → length u < length b
-    of_code true pinned x g k = let pair : ◌≡◌ {A = Left} (u, worse) (t, now) = cc in rw (ap (λ (p : Left). p.0) pair) (item_shorter prefix_at starts_prefix prefix_steps b t Pinned (pinned_found c b t h (eqb-true c 0x45 pinned)))
-    of_code false other None g k = absurd cc
-    of_code false other (Some x) g k =
-        let pair : ◌≡◌ {A = Left} (u, worse) (x.1, noted counts now (x.0 ∷ [])) = cc in
-        let same : u ≡ x.1 = ap (λ (p : Left). p.0) pair in
-        rw same (item_shorter prefix_at starts_prefix prefix_steps b x.1 _ (other_found c b t x.1 x.0 h (eqb-false c 0x45 other) starts g))
+        let found = other_found c b t x.1 x.0 h (eqb-false c 0x45 other) starts g in
+        unfold skip_prefixes prefixes_at in (
+          items_next prefix_at starts_prefix prefix_steps prefix_parts counts b x.1 bad _ found ∙ ap (λ (z : Option Token). skip_prefixes counts (x.1, z)) (noted_one counts bad (eqb c 0x1F) x.0),
+          item_shorter prefix_at starts_prefix prefix_steps b x.1 _ found,
+        )
 
 -- ---- one index
 

@@ -23,9 +23,13 @@ module _ (counts : List ℕ) where
   abbrev Same : {A : Type 0} → (A → List Part) → (A → List Part) → Type 0
   Same {A = A} parts more = (x : A) (bad : Option Token) → noted_parts counts bad (more x) ≡ noted_parts counts bad (parts x)
 
+  -- another value made of what was read after some parts
+  passed_map : {A B : Type 0} (f : A → B) (parts : A → List Part) (more : B → List Part) (now bad : Option Token) → ((x : A) → noted_parts counts now (parts x) ≡ noted_parts counts bad (more (f x))) → (o : Option (A × List ℕ)) → passed counts now parts o ≡ passed counts bad more (option_map (λ x. (f x.0, x.1)) o)
+  passed_map f parts more now bad same None = refl
+  passed_map f parts more now bad same (Some x) = ap (λ (t : Option Token). Some (x.1, t)) (same x.0)
+
   passed_change : {A B : Type 0} (f : A → B) (parts : A → List Part) (more : B → List Part) → Same parts (λ x. more (f x)) → (bad : Option Token) (o : Option (A × List ℕ)) → passed counts bad parts o ≡ passed counts bad more (option_map (λ x. (f x.0, x.1)) o)
-  passed_change f parts more same bad None = refl
-  passed_change f parts more same bad (Some x) = ap (λ (t : Option Token). Some (x.1, t)) (sym (same x.0 bad))
+  passed_change f parts more same bad o = passed_map f parts more bad bad (λ x. sym (same x bad)) o
 
   passes_change : {A B : Type 0} (skip : Skip) (f : A → B) (r : Reader A) (parts : A → List Part) (more : B → List Part) → Same parts (λ x. more (f x)) → Passes skip r parts → Passes skip (change f r) more
   passes_change skip f r parts more same passes b bad = passes b bad ∙ passed_change f parts more same bad (r b)
@@ -34,21 +38,13 @@ module _ (counts : List ℕ) where
   abbrev pair_parts : {A B : Type 0} → (A → List Part) → (B → List Part) → A × B → List Part
   pair_parts parts more x = parts x.0 ++ more x.1
 
-  passed_pair : {A B : Type 0} (parts : A → List Part) (more : B → List Part) (bad : Option Token) (x : A) (o : Option (B × List ℕ)) → passed counts (noted_parts counts bad (parts x)) more o ≡ passed counts bad (pair_parts parts more) (option_map (λ y. ((x, y.0), y.1)) o)
-  passed_pair parts more bad x None = refl
-  passed_pair parts more bad x (Some y) = ap (λ (t : Option Token). Some (y.1, t)) (sym (noted_parts-append counts bad (parts x) (more y.0)))
-
   passes_both : {A B : Type 0} (first second : Skip) (r : Reader A) (q : Reader B) (parts : A → List Part) (more : B → List Part) → Passes first r parts → Passes second q more → Passes (λ here. option_and_then second (first here)) (both r q) (pair_parts parts more)
   unfolding both
   passes_both {A = A} first second r q parts more one two b bad = ap (λ (o : Option Left). option_and_then second o) (one b bad) ∙ of_option (r b)
     where
       of_option : (o : Option (A × List ℕ)) → option_and_then second (passed counts bad parts o) ≡ passed counts bad (pair_parts parts more) (option_and_then (λ x. option_map (λ y. ((x.0, y.0), y.1)) (q x.1)) o)
       of_option None = refl
-      of_option (Some x) = two x.1 (noted_parts counts bad (parts x.0)) ∙ passed_pair parts more bad x.0 (q x.1)
-
-  passed_head : {A : Type 0} (parts : A → List Part) (bad : Option Token) (x : A) (o : Option (List A × List ℕ)) → passed counts (noted_parts counts bad (parts x)) (list_parts parts) o ≡ passed counts bad (list_parts parts) (option_map (λ y. (x ∷ y.0, y.1)) o)
-  passed_head parts bad x None = refl
-  passed_head parts bad x (Some y) = ap (λ (t : Option Token). Some (y.1, t)) (sym (noted_parts-append counts bad (parts x) (list_parts parts y.0)))
+      of_option (Some x) = two x.1 (noted_parts counts bad (parts x.0)) ∙ passed_map (λ y. (x.0, y)) more (pair_parts parts more) _ bad (λ y. sym (noted_parts-append counts bad (parts x.0) (more y))) (q x.1)
 
   nothing_noted : (b : List ℕ) (bad : Option Token) → ◌≡◌ {A = Option Left} (Some (b, bad)) (Some (b, noted_parts counts bad []))
   nothing_noted b bad = ap (λ (t : Option Token). Some (b, t)) (sym (noted-none counts bad))
@@ -60,7 +56,11 @@ module _ (counts : List ℕ) where
     where
       of_option : (o : Option (A × List ℕ)) → Passes (skip_many each n) (many_at r n) (list_parts parts) → option_and_then (skip_many each n) (passed counts bad parts o) ≡ passed counts bad (list_parts parts) (option_and_then (λ x. option_map (λ y. (x.0 ∷ y.0, y.1)) (many_at r n x.1)) o)
       of_option None more = refl
-      of_option (Some x) more = more x.1 (noted_parts counts bad (parts x.0)) ∙ passed_head parts bad x.0 (many_at r n x.1)
+      of_option (Some x) more = more x.1 (noted_parts counts bad (parts x.0)) ∙ passed_map (λ xs. x.0 ∷ xs) (list_parts parts) (list_parts parts) _ bad (λ xs. sym (noted_parts-append counts bad (parts x.0) (list_parts parts xs))) (many_at r n x.1)
+
+  passed_cond : {A : Type 0} (parts : A → List Part) (bad : Option Token) (p : Bool) (x y : Option Left) (u v : Option (A × List ℕ)) → x ≡ passed counts bad parts u → y ≡ passed counts bad parts v → cond p x y ≡ passed counts bad parts (cond p u v)
+  passed_cond parts bad true x y u v e f = e
+  passed_cond parts bad false x y u v e f = f
 
   -- ---- numbers
 
@@ -100,12 +100,8 @@ module _ (counts : List ℕ) where
 
   bounds_passes : {A : Type 0} (r : Reader A) (parts : A → List Part) → Passes skip_number r parts → (most : ℕ) → Passes (skip_bounds most) (counted_within r most) (list_parts parts)
   unfolding skip_bounds number_left counted_within
-  bounds_passes {A = A} r parts passes most b bad =
-      passed_after (λ n here. cond (ltb most n) None (skip_many skip_number n here)) (λ n t. cond (ltb most n) None (many_at r n t)) (list_parts parts) (λ n t worse. of_test (ltb most n) (skip_many skip_number n (t, worse)) (many_at r n t) worse (passes_many skip_number r parts passes n t worse)) bad (number_at b)
-    where
-      of_test : (p : Bool) (x : Option Left) (y : Option (List A × List ℕ)) (worse : Option Token) → x ≡ passed counts worse (list_parts parts) y → cond p None x ≡ passed counts worse (list_parts parts) (cond p None y)
-      of_test true x y worse e = refl
-      of_test false x y worse e = e
+  bounds_passes r parts passes most b bad =
+      passed_after (λ n here. cond (ltb most n) None (skip_many skip_number n here)) (λ n t. cond (ltb most n) None (many_at r n t)) (list_parts parts) (λ n t worse. passed_cond (list_parts parts) worse (ltb most n) None (skip_many skip_number n (t, worse)) None (many_at r n t) refl (passes_many skip_number r parts passes n t worse)) bad (number_at b)
 
   shape_passes : Passes skip_shape shape_at shape_parts
   unfolding skip_shape number_left shape_at
@@ -115,13 +111,9 @@ module _ (counts : List ℕ) where
       same rank x bad =
           noted_parts-append counts bad (numbers_parts x.0) (number (length x.1) ∷ bounds_parts x.1) ∙ sym (noted_parts-append counts bad (numbers_parts x.0) (bounds_parts x.1))
 
-      of_test : (p : Bool) (x : Option Left) (y : Option (ArrayShape × List ℕ)) (bad : Option Token) → x ≡ passed counts bad shape_parts y → cond p None x ≡ passed counts bad shape_parts (cond p None y)
-      of_test true x y bad e = refl
-      of_test false x y bad e = e
-
       of_rank : (rank : ℕ) → Passes (skip_bounds_twice rank) (shape_from rank) shape_parts
       of_rank rank b bad =
-          of_test (eqb rank 0) (option_and_then (skip_bounds rank) (skip_bounds rank (b, bad))) (change (shape_with rank) (both (counted_within number_at rank) (counted_within signed_at rank)) b) bad (passes_change (λ here. option_and_then (skip_bounds rank) (skip_bounds rank here)) (shape_with rank) (both (counted_within number_at rank) (counted_within signed_at rank)) (pair_parts numbers_parts bounds_parts) shape_parts (same rank) (passes_both (skip_bounds rank) (skip_bounds rank) (counted_within number_at rank) (counted_within signed_at rank) numbers_parts bounds_parts (bounds_passes number_at number_parts number_passes rank) (bounds_passes signed_at signed_parts signed_passes rank)) b bad)
+          passed_cond shape_parts bad (eqb rank 0) None (option_and_then (skip_bounds rank) (skip_bounds rank (b, bad))) None (change (shape_with rank) (both (counted_within number_at rank) (counted_within signed_at rank)) b) refl (passes_change (λ here. option_and_then (skip_bounds rank) (skip_bounds rank here)) (shape_with rank) (both (counted_within number_at rank) (counted_within signed_at rank)) (pair_parts numbers_parts bounds_parts) shape_parts (same rank) (passes_both (skip_bounds rank) (skip_bounds rank) (counted_within number_at rank) (counted_within signed_at rank) numbers_parts bounds_parts (bounds_passes number_at number_parts number_passes rank) (bounds_passes signed_at signed_parts signed_passes rank)) b bad)
 
   -- ---- leaves
 
@@ -139,31 +131,18 @@ module _ (counts : List ℕ) where
   named_passes : Passes skip_named named_at named_parts
   unfolding skip_named named_at
   named_passes [] bad = refl
-  named_passes (c ∷ b) bad = of_test (eqb c 0x11) (eqb c 0x12)
-    where
-      of_test : (p q : Bool) → cond p (Some (b, bad)) (cond q (Some (b, bad)) None) ≡ passed counts bad named_parts (cond p (Some (true, b)) (cond q (Some (false, b)) None))
-      of_test true q = nothing_noted b bad
-      of_test false true = nothing_noted b bad
-      of_test false false = refl
+  named_passes (c ∷ b) bad =
+      passed_cond named_parts bad (eqb c 0x11) (Some (b, bad)) _ (Some (true, b)) _ (nothing_noted b bad)
+      (passed_cond named_parts bad (eqb c 0x12) (Some (b, bad)) None (Some (false, b)) None (nothing_noted b bad) refl)
 
   -- ---- a code, or another value
 
   void_passes : {A : Type 0} (other : Skip) (r : Reader A) (parts : A → List Part) → Passes other r parts → Passes (skip_void_or other) (void_or r) (void_parts parts)
   unfolding skip_void_or void_or
   void_passes other r parts passes [] bad = refl
-  void_passes {A = A} other r parts passes (c ∷ b) bad = of_test (eqb c 0x01) (other (c ∷ b, bad)) (r (c ∷ b)) (passes (c ∷ b) bad)
-    where
-      some : (o : Option (A × List ℕ)) → passed counts bad parts o ≡ passed counts bad (void_parts parts) (option_map (λ x. (Some x.0, x.1)) o)
-      some None = refl
-      some (Some x) = refl
-
-      of_test : (p : Bool) (x : Option Left) (o : Option (A × List ℕ)) → x ≡ passed counts bad parts o → cond p (Some (b, bad)) x ≡ passed counts bad (void_parts parts) (cond p (Some (None, b)) (option_map (λ x. (Some x.0, x.1)) o))
-      of_test true x o e = nothing_noted b bad
-      of_test false x o e = e ∙ some o
-
-  passed_cond : {A : Type 0} (parts : A → List Part) (bad : Option Token) (p : Bool) (x y : Option Left) (u v : Option (A × List ℕ)) → x ≡ passed counts bad parts u → y ≡ passed counts bad parts v → cond p x y ≡ passed counts bad parts (cond p u v)
-  passed_cond parts bad true x y u v e f = e
-  passed_cond parts bad false x y u v e f = f
+  void_passes other r parts passes (c ∷ b) bad =
+      passed_cond (void_parts parts) bad (eqb c 0x01) (Some (b, bad)) _ (Some (None, b)) _ (nothing_noted b bad)
+      (passes (c ∷ b) bad ∙ passed_change (λ x. Some x) parts (void_parts parts) (λ x bad. refl) bad (r (c ∷ b)))
 
   passes_behind : {A : Type 0} (n : ℕ) (inner other : Skip) (r q : Reader A) (parts : A → List Part) → Passes inner r parts → Passes other q parts → Passes (skip_behind n inner other) (behind n r q) parts
   passes_behind n inner other r q parts one two [] bad = refl
@@ -273,10 +252,6 @@ module _ (counts : List ℕ) where
     noted_params bad x ss sentinel behind =
         ap (λ (ts : List Token). noted counts (noted_parts counts bad (slot_parts x)) ts) (tokens_any ss behind) ∙ sym (noted_parts-append counts bad (slot_parts x) (slots_parts ss None)) ∙ ap (λ (ts : List Token). noted counts bad ts) (sym (tokens_any (slot_then x ss) sentinel))
 
-    one_more : (mark : Option ℕ → Option ℕ) (bad : Option Token) (x : Slot) (o : Option ((List Slot × Option ℕ) × List ℕ)) → passed counts (noted_parts counts bad (slot_parts x)) params_parts o ≡ passed counts bad params_parts (option_map (λ y. ((x ∷ y.0.0, mark y.0.1), y.1)) o)
-    one_more mark bad x None = refl
-    one_more mark bad x (Some y) = ap (λ (t : Option Token). Some (y.1, t)) (noted_params bad x (slots_from y.0.0) (mark y.0.1) y.0.1)
-
     params_passes : (n : ℕ) (allowed : Bool) → Passes (skip_params counts s allowed n) (params_at nested allowed n) params_parts
     unfolding skip_params params_at
     params_passes zero allowed b bad = nothing_noted b bad
@@ -284,7 +259,7 @@ module _ (counts : List ℕ) where
       where
         of_slot : (stands : Bool) (mark : Option ℕ → Option ℕ) (o : Option (Slot × List ℕ)) → Passes (skip_params counts s stands n) (params_at nested stands n) params_parts → option_and_then (skip_params counts s stands n) (passed counts bad slot_parts o) ≡ passed {A = List Slot × Option ℕ} counts bad params_parts (option_and_then (λ x. option_map (λ y. ((x.0 ∷ y.0.0, mark y.0.1), y.1)) (params_at nested stands n x.1)) o)
         of_slot stands mark None more = refl
-        of_slot stands mark (Some x) more = more x.1 (noted_parts counts bad (slot_parts x.0)) ∙ one_more mark bad x.0 (params_at nested stands n x.1)
+        of_slot stands mark (Some x) more = more x.1 (noted_parts counts bad (slot_parts x.0)) ∙ passed_map (λ p. (x.0 ∷ p.0, mark p.1)) params_parts params_parts _ bad (λ p. noted_params bad x.0 (slots_from p.0) (mark p.1) p.1) (params_at nested stands n x.1)
 
         one : (stands : Bool) (mark : Option ℕ → Option ℕ) (c : List ℕ) → Passes (skip_params counts s stands n) (params_at nested stands n) params_parts → option_and_then (skip_params counts s stands n) (skip_slot counts s (c, bad)) ≡ passed {A = List Slot × Option ℕ} counts bad params_parts (option_and_then (λ x. option_map (λ y. ((x.0 ∷ y.0.0, mark y.0.1), y.1)) (params_at nested stands n x.1)) (slot_at nested c))
         one stands mark c more = ap (λ (o : Option Left). option_and_then (skip_params counts s stands n) o) (slot_passes c bad) ∙ of_slot stands mark (slot_at nested c) more
@@ -314,12 +289,10 @@ module _ (counts : List ℕ) where
       after_count generic n b = option_and_then (λ r. option_map (method_with generic r.0) (params_at nested allowed n r.1)) (ret_at nested b)
 
       of_params : (generic : Option ℕ) (ret : Ret) (o : Option ((List Slot × Option ℕ) × List ℕ)) → passed counts (noted_parts counts (noted_parts counts bad (generic_parts generic)) (ret_parts ret)) params_parts o ≡ passed counts bad method_parts (option_map (method_with generic ret) o)
-      of_params generic ret None = refl
-      of_params generic ret (Some p) =
-          let params = slots_parts (slots_from p.0.0) p.0.1 in
-          let one = noted_parts-append counts bad (generic_parts generic) (number (count_slots (slots_from p.0.0)) ∷ (ret_parts ret ++ params)) in
-          let two = noted_parts-append counts (noted_parts counts bad (generic_parts generic)) (ret_parts ret) params in
-          ap (λ (t : Option Token). Some (p.1, t)) (sym (one ∙ two))
+      of_params generic ret o =
+          passed_map (λ p. method kind this explicit generic ret (slots_from p.0) p.1) params_parts method_parts _ bad
+          (λ p. sym (noted_parts-append counts bad (generic_parts generic) (number (count_slots (slots_from p.0)) ∷ (ret_parts ret ++ params_parts p))
+          ∙ noted_parts-append counts (noted_parts counts bad (generic_parts generic)) (ret_parts ret) (params_parts p))) o
 
       of_ret : (generic : Option ℕ) (n : ℕ) (o : Option (Ret × List ℕ)) → option_and_then (skip_params counts s allowed n) (passed counts (noted_parts counts bad (generic_parts generic)) ret_parts o) ≡ passed counts bad method_parts (option_and_then (λ r. option_map (method_with generic r.0) (params_at nested allowed n r.1)) o)
       of_ret generic n None = refl

@@ -73,6 +73,7 @@ fn with_bad(here: Position, number: u32) -> Position
 }
 
 /// The first type index before a position whose row does not exist.
+#[tactic(auto, using(crate::proofs::Positions::bad_none, crate::proofs::Positions::bad_some))]
 pub fn bad_token(here: Position) -> Option<Token>
     ensures { result ≡ noted_token here }
 {
@@ -166,6 +167,7 @@ pub fn long_number(bytes: &[u8], here: Position) -> Option<(u32, Position)>
 
 /// The packed number of one byte after a position, and the position after it; `None` if another form is there.
 #[inline(always)]
+#[tactic(auto, using(crate::proofs::Positions::number_short))]
 pub fn short_number(bytes: &[u8], here: Position) -> Option<(u32, Position)>
     requires { length bytes.now < 2 ^ 29 }
     ensures number { IfSome result (λ x. number_left (left bytes.now here) ≡ Some (x.0, left bytes.now x.1)) }
@@ -237,18 +239,6 @@ pub fn number(bytes: &[u8], here: Position) -> Option<(u32, Position)>
     long_number(bytes, here)
 }
 
-/// The position after a packed number of more than one byte.
-#[cold]
-#[inline(never)]
-#[tactic(auto, unfolding(crate::specs::Skips::skip_number))]
-fn after_long_number(bytes: &[u8], here: Position) -> Option<Position>
-    requires { length bytes.now < 2 ^ 29 }
-    ensures { option_map (left bytes.now) result ≡ skip_number (left bytes.now here) }
-{
-    let (_, behind) = long_number(bytes, here)?;
-    Some(behind)
-}
-
 /// The position after a packed number.
 #[inline(always)]
 #[tactic(auto, unfolding(crate::specs::Skips::skip_number))]
@@ -256,15 +246,14 @@ pub fn after_number(bytes: &[u8], here: Position) -> Option<Position>
     requires { length bytes.now < 2 ^ 29 }
     ensures { option_map (left bytes.now) result ≡ skip_number (left bytes.now here) }
 {
-    if let Some((_, behind)) = short_number(bytes, here) {
-        return Some(behind);
-    }
-    after_long_number(bytes, here)
+    let (_, behind) = number(bytes, here)?;
+    Some(behind)
 }
 
 /// A position after one more type index, that of a token: its number is kept if it is the first whose row does not
 /// exist.
 #[inline(always)]
+#[tactic(auto, using(crate::proofs::Positions::noted_good, crate::proofs::Positions::noted_before, crate::proofs::Positions::noted_bad, crate::proofs::Positions::same_bytes))]
 pub fn noted(here: Position, number: u32, token: Token, counts: &[u32; 45]) -> Position
     requires token { token_of number ≡ Some token }
     requires limit { number < 2 ^ 29 }

@@ -18,33 +18,28 @@ fn mark(bytes: &[u8]) -> Option<(Prefix, &[u8])>
     prefix(bytes)
 }
 
-/// The number of modifiers and PINNED at the start, and the bytes after them.
-pub fn behind_all(bytes: &[u8]) -> (usize, &[u8])
-    ensures count { marks_in result.0 bytes.now ≡ marks_of bytes.now }
-    ensures tail { result.1.now ≡ (marks_of bytes.now).1 }
+/// The number of modifiers and PINNED at the start, at most `most`, and the bytes after them.
+fn first_marks(bytes: &[u8], most: usize) -> (usize, &[u8])
+    ensures count { marks_in result.0 bytes.now ≡ marks_in most bytes.now }
+    ensures tail { result.1.now ≡ (marks_in most bytes.now).1 }
 {
     let mut tail = bytes;
-    for count in 0..bytes.len() {
+    for count in 0..most {
         match mark(tail) {
             Some((_, next)) => tail = next,
             None => return (count, tail),
         }
     }
-    (bytes.len(), tail)
+    (most, tail)
 }
 
-/// The bytes after `count` modifiers and PINNED.
-fn behind(bytes: &[u8], count: usize) -> &[u8]
-    ensures { result.now ≡ (marks_in count bytes.now).1 }
+/// The number of modifiers and PINNED at the start, and the bytes after them.
+#[tactic(auto, unfolding(crate::specs::Shown::marks_of))]
+pub fn behind_all(bytes: &[u8]) -> (usize, &[u8])
+    ensures count { marks_in result.0 bytes.now ≡ marks_of bytes.now }
+    ensures tail { result.1.now ≡ (marks_of bytes.now).1 }
 {
-    let mut tail = bytes;
-    for done in 0..count {
-        match mark(tail) {
-            Some((_, next)) => tail = next,
-            None => return tail,
-        }
-    }
-    tail
+    first_marks(bytes, bytes.len())
 }
 
 /// The start of a modifier's text.
@@ -87,7 +82,8 @@ pub fn marks<S: TextSink>(sink: &mut S, taken: &mut bool, bytes: &[u8], count: u
         1 => one_mark(sink, taken, bytes),
         _ => {
             let half = count / 2;
-            marks(sink, taken, behind(bytes, half), count - half);
+            let (_, tail) = first_marks(bytes, half);
+            marks(sink, taken, tail, count - half);
             marks(sink, taken, bytes, half);
         }
     }

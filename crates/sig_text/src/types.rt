@@ -96,6 +96,7 @@ pub fn slot<'a, S: TextSink>(sink: &mut S, taken: &mut bool, bytes: &'a [u8], de
 
 /// Writes what follows modifiers: a type, or a reference to a type with its own modifiers.
 #[cycle(text)]
+#[tactic(auto, unfolding(crate::specs::Shown::content_shown))]
 fn content<'a, S: TextSink>(sink: &mut S, taken: &mut bool, bytes: &'a [u8], depth: u8) -> &'a [u8]
     ensures { Passes S.refused S.gives sink.old taken.old (content_shown (core_shown depth) bytes.now) sink.new taken.new result.now }
 {
@@ -121,6 +122,7 @@ fn by_ref<'a, S: TextSink>(sink: &mut S, taken: &mut bool, bytes: &'a [u8], dept
 
 /// Writes a type after its first byte, and returns the remaining bytes. The types in it have a smaller depth left.
 #[cycle(text)]
+#[tactic(auto, using(crate::proofs::Arms::core_none, crate::proofs::Arms::core_element, crate::proofs::Arms::core_code, crate::proofs::Chains::pieces_only, crate::proofs::Chains::silent))]
 fn core<'a, S: TextSink>(
     sink: &mut S,
     taken: &mut bool,
@@ -142,6 +144,7 @@ fn core<'a, S: TextSink>(
 /// Writes a type of more than one byte after its first byte, and returns the remaining bytes. `depth` is left for the
 /// types in it.
 #[cycle(text)]
+#[tactic(auto, unfolding(crate::specs::Shown::code_shown))]
 fn coded<'a, S: TextSink>(
     sink: &mut S,
     taken: &mut bool,
@@ -180,6 +183,7 @@ fn around<'a, S: TextSink>(
 }
 
 /// Writes what follows the target of a pointer or the element of an array, and returns the remaining bytes.
+#[tactic(auto, using(crate::proofs::Chains::pieces_only, crate::proofs::Chains::silent), unfolding(crate::specs::Shown::after_element_shown))]
 fn after_element<'a, S: TextSink>(
     sink: &mut S,
     taken: &mut bool,

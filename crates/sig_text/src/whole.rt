@@ -30,6 +30,7 @@ fn property<'a, S: TextSink>(sink: &mut S, taken: &mut bool, code: u8, bytes: &'
 }
 
 /// Writes a count of types, which are not counted in the text, between two marks, and returns the remaining bytes.
+#[tactic(auto, unfolding(crate::specs::Shown::counted_shown))]
 fn counted<'a, S: TextSink>(
     sink: &mut S,
     taken: &mut bool,
@@ -44,6 +45,7 @@ fn counted<'a, S: TextSink>(
 }
 
 /// Writes a signature by its first byte, in a column of another kind than TypeSpec.
+#[tactic(auto, unfolding(crate::specs::Shown::headed_shown))]
 fn headed<'a, S: TextSink>(sink: &mut S, taken: &mut bool, bytes: &'a [u8]) -> &'a [u8]
     ensures { Passes S.refused S.gives sink.old taken.old (headed_shown (core_shown 128) bytes.now) sink.new taken.new result.now }
 {
@@ -59,6 +61,7 @@ fn headed<'a, S: TextSink>(sink: &mut S, taken: &mut bool, bytes: &'a [u8]) -> &
 }
 
 /// Writes the bytes of a signature in a column of this kind.
+#[tactic(auto, using(crate::proofs::Bodies::body_other), unfolding(crate::specs::Shown::body_shown))]
 fn body<S: TextSink>(sink: &mut S, taken: &mut bool, bytes: &[u8], kind: SigKind)
     ensures { Wrote S.refused S.gives sink.old taken.old (body_shown (core_shown 128) kind bytes.now) sink.new taken.new }
 {

@@ -1,5 +1,5 @@
 -- The first byte of each value, and what is read after it.
-use Rattle.sig_values.proofs.Prelude.{◌≡◌, ◌≢◌, ◌⊎◌, inl, inr, ℕ, Bool, true, false, cond, eqb, ltb, ◌&&◌, Option, Some, None, List, [], ◌∷◌, refl, sym, ap, ◌∙◌, subst, IfSome, ◌≤◌, ◌++◌, ⊤, eqb-true, eq-eqb, ne_eqb, not-true, Element, Boolean, Char, I1, U1, I2, U2, I4, U4, I8, U8, R4, R8, String, I, U, Object, Core, simple, Content, typed_ref, plain, by_ref, Slot, slot, Typed, typed, Ret, some_ret, void_ret, element_code, Part, byte, core_parts, content_parts, slot_parts, typed_parts, ret_parts, modifiers_parts, Reader, element_of, pick, change, behind, head_is, both, modifiers_at, typed_at, void_or, target_at, content_at, slot_at, ret_at, ret_from, IfSome-map, IfSome-cond, Modifier, IsCoreWithin, IsTypedWithin, IsContentWithin, IsSlotWithin, IsRetWithin}
+use Rattle.sig_values.proofs.Prelude.{◌≡◌, ◌≢◌, ◌⊎◌, inl, inr, ℕ, suc, Bool, true, false, cond, eqb, ltb, ◌&&◌, Option, Some, None, List, [], ◌∷◌, refl, sym, ap, ◌∙◌, subst, IfSome, ◌≤◌, ◌++◌, ⊤, eqb-true, eq-eqb, ne_eqb, not-true, Element, Boolean, Char, I1, U1, I2, U2, I4, U4, I8, U8, R4, R8, String, I, U, Object, Core, simple, Content, typed_ref, plain, by_ref, Slot, slot, Typed, typed, Ret, some_ret, void_ret, element_code, Part, byte, core_parts, content_parts, slot_parts, typed_parts, ret_parts, modifiers_parts, Reader, element_of, pick, change, behind, head_is, both, modifiers_at, typed_at, void_or, target_at, content_at, slot_at, ret_at, ret_from, IfSome-map, IfSome-cond, Modifier, IsCoreWithin, IsTypedWithin, IsContentWithin, IsSlotWithin, IsRetWithin}
 use Rattle.sig_values.proofs.Readers.{IsBytes, Head, Takes, Reads, head_byte, behind_byte, weaken, NumbersAreRead, Any, change_reads, both_parts, BothGood}
 use Rattle.sig_values.proofs.Leading.{begins, heads, begins-heads, no, no_modifier, no_prefix, modifier_leads, led_reads}
 
@@ -82,7 +82,7 @@ module _ {A V : Type 0} {r : Reader A} {inner : A → List Part} {Inner : A → 
   form_found (c ∷ b) h =
       IfSome-cond (Takes parts Good (c ∷ b)) (eqb c n) _ _
       (λ e.
-      IfSome-map (Takes inner Inner b) (Takes parts Good (c ∷ b)) (λ x. (f x.0, x.1)) (r b) (reads.found b h.1)
+      IfSome-map (Takes inner Inner b) (Takes parts Good (c ∷ b)) (λ x. (f x.0, x.1)) (r b) (reads.found b (λ k. h (suc k)))
       (λ x t. record {
         good = good x.0 t.good;
         bytes = t.bytes;
@@ -169,11 +169,11 @@ module _ (known : NumbersAreRead) (d : ℕ) (nested : Reader Core) (cores : Read
     content_found [] h = tt
     content_found (c ∷ b) h =
         IfSome-cond (Takes content_parts (IsContentWithin d) (c ∷ b)) (eqb c 0x16) _ _
-        (λ e. record { good = (some_depth, tt); bytes = h.1; head = behind_byte c 0x16 [] b b (eqb-true c 0x16 e) refl })
+        (λ e. record { good = (some_depth, tt); bytes = λ k. h (suc k); head = behind_byte c 0x16 [] b b (eqb-true c 0x16 e) refl })
         (λ e.
         IfSome-cond (Takes content_parts (IsContentWithin d) (c ∷ b)) (eqb c 0x10) _ _
         (λ e.
-        IfSome-map (Takes (both_parts modifiers_parts core_parts) (Modified (IsCoreWithin d)) b) (Takes content_parts (IsContentWithin d) (c ∷ b)) (λ x. (by_ref x.0.0 x.0.1, x.1)) (both modifiers_at nested b) (modded_reads.found b h.1)
+        IfSome-map (Takes (both_parts modifiers_parts core_parts) (Modified (IsCoreWithin d)) b) (Takes content_parts (IsContentWithin d) (c ∷ b)) (λ x. (by_ref x.0.0 x.0.1, x.1)) (both modifiers_at nested b) (modded_reads.found b (λ k. h (suc k)))
         (λ x t. record { good = t.good.1; bytes = t.bytes; head = behind_byte c 0x10 _ b x.1 (eqb-true c 0x10 e) t.head }))
         (λ e.
         IfSome-map (Takes core_parts (IsCoreWithin d) (c ∷ b)) (Takes content_parts (IsContentWithin d) (c ∷ b)) (λ x. (plain x.0, x.1)) (nested (c ∷ b)) (cores.found (c ∷ b) h)

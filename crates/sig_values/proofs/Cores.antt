@@ -33,9 +33,9 @@ named_reads = record { found = found; only = only }
     found [] h = tt
     found (c ∷ b) h =
         IfSome-cond (Takes named_parts (λ b. Any b) (c ∷ b)) (eqb c 0x11) _ _
-        (λ e. record { good = tt; bytes = h.1; head = behind_byte c 0x11 [] b b (eqb-true c 0x11 e) refl })
+        (λ e. record { good = tt; bytes = λ k. h (suc k); head = behind_byte c 0x11 [] b b (eqb-true c 0x11 e) refl })
         (λ e. IfSome-cond (Takes named_parts (λ b. Any b) (c ∷ b)) (eqb c 0x12) _ _
-        (λ e. record { good = tt; bytes = h.1; head = behind_byte c 0x12 [] b b (eqb-true c 0x12 e) refl })
+        (λ e. record { good = tt; bytes = λ k. h (suc k); head = behind_byte c 0x12 [] b b (eqb-true c 0x12 e) refl })
         (λ e. tt))
 
     only : (b remainder : List ℕ) (v : Bool) → Any v → Head (named_parts v) b remainder → named_at b ≡ Some (v, remainder)
@@ -213,7 +213,7 @@ module _ (known : NumbersAreRead) (d : ℕ) (nested : Reader Core) (cores : Read
 next_found : NumbersAreRead → (d : ℕ) → Reads (core_at d) core_parts (IsCoreWithin d) → (b : List ℕ) → IsBytes b → IfSome (core_at (suc d) b) (Takes core_parts (IsCoreWithin (suc d)) b)
 unfolding core_at
 next_found known d cores [] h = tt
-next_found known d cores (c ∷ b) h = or_found known d (core_at d) cores c b h.1 (element_of c) (element_found c)
+next_found known d cores (c ∷ b) h = or_found known d (core_at d) cores c b (λ k. h (suc k)) (element_of c) (element_found c)
 
 pub core_reads : NumbersAreRead → (d : ℕ) → Reads (core_at d) core_parts (IsCoreWithin d)
 unfolding core_at

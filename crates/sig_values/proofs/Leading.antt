@@ -125,10 +125,10 @@ modifier_stop (c ∷ b) h = neither (eqb c 0x1F) (eqb c 0x20) _ _ _ h
 
 modifier_found : NumbersAreRead → (b : List ℕ) → IsBytes b → IfSome (modifier_at b) (TakesModifier b)
 unfolding modifier_at
-modifier_found known [] h = (tt, refl)
+modifier_found known [] h = (h, refl)
 modifier_found known (c ∷ b) h =
-    IfSome-cond (TakesModifier (c ∷ b)) (eqb c 0x1F) _ _ (λ e. after_found known true c b (eqb-true c 0x1F e) h.1)
-    (λ e. IfSome-cond (TakesModifier (c ∷ b)) (eqb c 0x20) _ _ (λ e. after_found known false c b (eqb-true c 0x20 e) h.1) (λ e. (h, refl)))
+    IfSome-cond (TakesModifier (c ∷ b)) (eqb c 0x1F) _ _ (λ e. after_found known true c b (eqb-true c 0x1F e) (λ k. h (suc k)))
+    (λ e. IfSome-cond (TakesModifier (c ∷ b)) (eqb c 0x20) _ _ (λ e. after_found known false c b (eqb-true c 0x20 e) (λ k. h (suc k))) (λ e. (h, refl)))
 
 modifier_head : (m : Modifier) (b remainder : List ℕ) → Head (modifier_parts m) b remainder → (tail : List ℕ) × (b ≡ modifier_code m.required ∷ tail) × Head (index_parts m.of) tail remainder
 modifier_head m b remainder f = (f.1, rw (f.2, f.3) refl, f.4)
@@ -158,10 +158,10 @@ prefix_of_found b (Some m, c) t = record { good = tt; bytes = t.bytes; head = t.
 
 prefix_found : NumbersAreRead → (b : List ℕ) → IsBytes b → IfSome (prefix_at b) (TakesPrefix b)
 unfolding prefix_at
-prefix_found known [] h = (tt, refl)
+prefix_found known [] h = (h, refl)
 prefix_found known (c ∷ b) h =
     IfSome-cond (TakesPrefix (c ∷ b)) (eqb c 0x45) _ _
-    (λ e. record { good = tt; bytes = h.1; head = (c ∷ [], b, refl, ap (λ (n : ℕ). n ∷ []) (eqb-true c 0x45 e), refl) })
+    (λ e. record { good = tt; bytes = λ k. h (suc k); head = (c ∷ [], b, refl, ap (λ (n : ℕ). n ∷ []) (eqb-true c 0x45 e), refl) })
     (λ e. IfSome-map (TakesModifier (c ∷ b)) (TakesPrefix (c ∷ b)) prefix_of (modifier_at (c ∷ b)) ((modifier_leads known).found (c ∷ b) h) (prefix_of_found (c ∷ b)))
 
 not_pinned : (m : Modifier) (remainder : List ℕ) (required : Bool) (tail : List ℕ) → modifier_at (modifier_code required ∷ tail) ≡ Some (Some m, remainder) → prefix_at (modifier_code required ∷ tail) ≡ Some (Some (Mod m), remainder)

@@ -40,21 +40,20 @@ abbrev IsCodeOf : ℕ → ℕ → Bool → Bool → Bool → Type 0
 IsCodeOf c kind this explicit generic =
     (c < 0x80) × (c % 16 ≡ kind) × (eqb (c / 16 % 2) 1 ≡ generic) × (eqb (c / 32 % 2) 1 ≡ this) × (eqb (c / 64 % 2) 1 ≡ explicit)
 
-bit_on : (x : ℕ) → x ≡ 1 → eqb x 1 ≡ true
-bit_on x e = rw e refl
+bit_is : (x : ℕ) (set : Bool) → x ≡ flag set 1 → eqb x 1 ≡ set
+bit_is x true e = rw e refl
+bit_is x false e = rw e refl
 
-bit_off : (x : ℕ) → x ≡ 0 → eqb x 1 ≡ false
-bit_off x e = rw e refl
+flag_bit : (set : Bool) (n : ℕ) → (flag set n ≡ flag set 1 * n) × (flag set 1 < 2)
+flag_bit true n = (omega arith, omega arith)
+flag_bit false n = (omega arith, omega arith)
 
 pub code_bits : (kind : ℕ) (this explicit generic : Bool) → kind < 16 → IsCodeOf (kind + flag generic 0x10 + flag this 0x20 + flag explicit 0x40) kind this explicit generic
-code_bits kind true true true lt = (omega arith, omega arith, bit_on _ (omega arith), bit_on _ (omega arith), bit_on _ (omega arith))
-code_bits kind true true false lt = (omega arith, omega arith, bit_off _ (omega arith), bit_on _ (omega arith), bit_on _ (omega arith))
-code_bits kind true false true lt = (omega arith, omega arith, bit_on _ (omega arith), bit_on _ (omega arith), bit_off _ (omega arith))
-code_bits kind true false false lt = (omega arith, omega arith, bit_off _ (omega arith), bit_on _ (omega arith), bit_off _ (omega arith))
-code_bits kind false true true lt = (omega arith, omega arith, bit_on _ (omega arith), bit_off _ (omega arith), bit_on _ (omega arith))
-code_bits kind false true false lt = (omega arith, omega arith, bit_off _ (omega arith), bit_off _ (omega arith), bit_on _ (omega arith))
-code_bits kind false false true lt = (omega arith, omega arith, bit_on _ (omega arith), bit_off _ (omega arith), bit_off _ (omega arith))
-code_bits kind false false false lt = (omega arith, omega arith, bit_off _ (omega arith), bit_off _ (omega arith), bit_off _ (omega arith))
+code_bits kind this explicit generic lt =
+    let g = flag_bit generic 0x10 in
+    let t = flag_bit this 0x20 in
+    let e = flag_bit explicit 0x40 in
+    (omega arith, omega arith, bit_is _ generic (omega arith), bit_is _ this (omega arith), bit_is _ explicit (omega arith))
 
 pub kind_lt : (kind : ℕ) → IsMethodKind kind → kind < 16
 kind_lt kind (inl h) = omega arith
@@ -150,7 +149,7 @@ module _ (known : NumbersAreRead) (d : ℕ) (nested : Reader Core) (cores : Read
       marked : (n : ℕ) (may : Bool) (b : List ℕ) → IsBytes b → may ≡ true → b ≡ 0x41 ∷ drop 1 b → ((t : List ℕ) → IsBytes t → IfSome (params_at nested false n t) (TakesParams false n t)) → IfSome (option_and_then (λ x. option_map (λ y. ((x.0 ∷ y.0.0, Some 0), y.1)) (params_at nested false n x.1)) (slot_at nested (drop 1 b))) (TakesParams may (suc n) b)
       marked n may [] h stands e more = absurd cc
       marked n may (c ∷ tail) h stands e more =
-          IfSome-bind (Takes slot_parts (IsSlotWithin d) tail) (TakesParams may (suc n) (c ∷ tail)) (λ x. option_map (λ y. ((x.0 ∷ y.0.0, Some 0), y.1)) (params_at nested false n x.1)) (slot_at nested tail) (slots.found tail h.1)
+          IfSome-bind (Takes slot_parts (IsSlotWithin d) tail) (TakesParams may (suc n) (c ∷ tail)) (λ x. option_map (λ y. ((x.0 ∷ y.0.0, Some 0), y.1)) (params_at nested false n x.1)) (slot_at nested tail) (slots.found tail (λ k. h (suc k)))
           (λ x t.
           IfSome-map (TakesParams false n x.1) (TakesParams may (suc n) (c ∷ tail)) (λ y. ((x.0 ∷ y.0.0, Some 0), y.1)) (params_at nested false n x.1) (more x.1 t.bytes)
           (λ y u.
@@ -251,7 +250,7 @@ module _ (known : NumbersAreRead) (d : ℕ) (nested : Reader Core) (cores : Read
   unfolding method_at
   method_found own [] h = tt
   method_found own (c ∷ b) h =
-      IfSome-cond (Takes method_parts (IsMethodOf own) (c ∷ b)) (is_method_code c) _ _ (λ e. remainder_found own c b e h.1) (λ e. tt)
+      IfSome-cond (Takes method_parts (IsMethodOf own) (c ∷ b)) (is_method_code c) _ _ (λ e. remainder_found own c b e (λ k. h (suc k))) (λ e. tt)
 
   method_only : (own : Bool) (b remainder : List ℕ) (m : Method) → IsMethodOf own m → Head (method_parts m) b remainder → method_at own nested b ≡ Some (m, remainder)
   unfolding method_at method_from

@@ -1,27 +1,16 @@
 -- What each reader must satisfy: it reads what is encoded, and what it reads is encoded so.
-use Rattle.sig_values.proofs.Prelude.{◌≡◌, ℕ, zero, suc, ◌<◌, Bool, true, false, cond, Option, Some, None, List, [], ◌∷◌, ◌++◌, get_or, ◌^◌, refl, sym, ap, subst, arith, IfSome, ◌≤◌, length, take, drop, ◌∙◌, ltb, ⊤, option_and_then, ℤ, option_map, Part, byte, EncodesPart, EncodesParts, number, signed, index, Reader, change, split, number_at, signed_at, token_of, index_at, both, many_at, counted_at, counted_within, IfSome-bind, IfSome-map, IsPacked, IsPackedSigned, Token, AllByRecursion, ltb-false, le-ltb, list_parts, headed_at}
+use Rattle.sig_values.proofs.Prelude.{◌≡◌, ℕ, zero, suc, ◌<◌, Bool, true, false, cond, Option, Some, None, List, [], ◌∷◌, ◌++◌, get_or, ◌^◌, refl, sym, ap, subst, IfSome, ◌≤◌, length, take, drop, ◌∙◌, ltb, ⊤, option_and_then, ℤ, option_map, Part, byte, EncodesPart, EncodesParts, number, signed, index, Reader, change, split, number_at, signed_at, token_of, index_at, both, many_at, counted_at, counted_within, IfSome-bind, IfSome-map, IsPacked, IsPackedSigned, Token, AllByRecursion, ltb-false, le-ltb, list_parts, headed_at}
 use Rattle.std.proofs.lemmas.List.{take-append-drop}
 use Rattle.std.proofs.Math.Seq.{drop-append_seam}
 use Rattle.packed.specs.Prefix as leading
 use Rattle.sig_grammar.proofs.Indexes.{Names, token_found, token_again}
 
 abbrev pub IsBytes : List ℕ → Type 0
-IsBytes [] = ⊤
-IsBytes (b ∷ bs) = (b < 256) × IsBytes bs
-
--- each element of a byte list is below 2^8, and a list of such elements is a byte list
-pub IsBytes-each : (b : List ℕ) → IsBytes b → (k : ℕ) → get_or b k 0 < 2 ^ 8
-IsBytes-each [] h k = omega arith
-IsBytes-each (x ∷ b) h zero = h.0
-IsBytes-each (x ∷ b) h (suc k) = IsBytes-each b h.1 k
-
-pub IsBytes-from_each : (b : List ℕ) → ((k : ℕ) → get_or b k 0 < 2 ^ 8) → IsBytes b
-IsBytes-from_each [] h = tt
-IsBytes-from_each (x ∷ b) h = (h 0, IsBytes-from_each b (λ k. h (suc k)))
+IsBytes b = (k : ℕ) → get_or b k 0 < 2 ^ 8
 
 pub IsBytes-tail : (a b : List ℕ) → IsBytes (a ++ b) → IsBytes b
 IsBytes-tail [] b h = h
-IsBytes-tail (x ∷ a) b h = IsBytes-tail a b h.1
+IsBytes-tail (x ∷ a) b h = IsBytes-tail a b (λ k. h (suc k))
 
 -- b starts with encodings of the parts, and rest is the remainder
 abbrev pub Head : List Part → List ℕ → List ℕ → Type 0
@@ -154,14 +143,14 @@ split_again x s mid tail b o e same read = rw (read, e, drop-append_seam s mid, 
 pub number_reads : NumbersAreRead → Reads number_at number_parts (λ n. Any n)
 unfolding number_at
 number_reads known = record {
-  found = λ b h. split_found IsPacked (λ n. number n) (λ n s is. is) b (leading.unsigned_at b) h (known.unsigned_found b (IsBytes-each b h));
+  found = λ b h. split_found IsPacked (λ n. number n) (λ n s is. is) b (leading.unsigned_at b) h (known.unsigned_found b h);
   only = λ b tail n _ f. split_again n f.0 f.1 tail b (leading.unsigned_at b) f.2 f.4 (ap (λ (t : List ℕ). leading.unsigned_at t) f.2 ∙ known.unsigned_again n f.0 f.1 f.3);
 }
 
 pub signed_reads : NumbersAreRead → Reads signed_at signed_parts (λ z. Any z)
 unfolding signed_at
 signed_reads known = record {
-  found = λ b h. split_found IsPackedSigned (λ z. signed z) (λ z s is. is) b (leading.signed_at b) h (known.signed_found b (IsBytes-each b h));
+  found = λ b h. split_found IsPackedSigned (λ z. signed z) (λ z s is. is) b (leading.signed_at b) h (known.signed_found b h);
   only = λ b tail z _ f. split_again z f.0 f.1 tail b (leading.signed_at b) f.2 f.4 (ap (λ (t : List ℕ). leading.signed_at t) f.2 ∙ known.signed_again z f.0 f.1 f.3);
 }
 

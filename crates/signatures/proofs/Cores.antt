@@ -1,6 +1,6 @@
 -- Cores and their parts: reading by the first byte, and the content of values in a `Box` and in a `Vec`.
-use Rattle.std.proofs.Common.{◌≡◌, ◌∙◌, ℕ, zero, suc, ◌-◌, ◌<◌, ◌≢◌, ◌⊎◌, inl, inr, Bool, eqb, Option, Some, None, List, [], ◌∷◌, Vec, Global, map, refl, ap, arith}
-use Rattle.signatures.proofs.Prelude.{ne_eqb, option_map, option_and_then, Modifier, core_of, type_of, content_of, slot_of, ret_of, method_of, slots_from, Reader, change, deep, void_or, named_at, leading_within, leading_at, modifiers_at, content_at, ret_at, method_at, both, core_at, core_by, element_of, body_at, view_some_ret, SigError, Bad, Memory, Fails}
+use Rattle.std.proofs.Common.{◌≡◌, ◌∙◌, ℕ, zero, suc, ◌-◌, ◌<◌, Bool, Option, Some, None, List, [], ◌∷◌, Vec, Global, map, refl, ap, arith}
+use Rattle.signatures.proofs.Prelude.{Modifier, core_of, type_of, content_of, slot_of, ret_of, method_of, slots_from, Reader, change, deep, void_or, leading_within, leading_at, modifiers_at, ret_at, method_at, both, core_at, core_by, element_of, body_at, view_some_ret, SigError, Bad, Memory, Fails}
 use Rattle.table_schema.specs.declared.column.SigKind.{SigKind}
 use Rattle.table_schema.specs.declared.column.SigKind.TheVariants as column
 use Rattle.sig_grammar.specs.declared.element.Element.{Element}
@@ -43,35 +43,7 @@ pub fails_change : {A B : Type 0} (e : SigError) (f : A → B) (r : Reader A) (b
 fails_change Bad f r b h = rw h refl
 fails_change Memory f r b h = tt
 
-pub fails_map : {A B : Type 0} (e : SigError) (f : A → B) (o : Option A) → Fails e o → Fails e (option_map f o)
-fails_map Bad f o h = rw h refl
-fails_map Memory f o h = tt
-
-pub fails_then : {A B : Type 0} (e : SigError) (f : A → Option B) (o : Option A) → Fails e o → Fails e (option_and_then f o)
-fails_then Bad f o h = rw h refl
-fails_then Memory f o h = tt
-
--- no byte remains
-pub fails_end : {A : Type 0} (e : SigError) (r : Reader A) (b : List ℕ) → (e ≡ Bad) × (b ≡ []) → r [] ≡ None → Fails e (r b)
-fails_end e r b h none = rw (h.0, h.1) none
-
 -- ---- by the first byte
-
--- not VOID
-pub void_other : {A : Type 0} (r : Reader A) (c : ℕ) (b tail : List ℕ) → b ≡ c ∷ tail → c ≢ 0x01 → void_or r b ≡ change (λ x. Some x) r b
-unfolding void_or
-void_other r c b tail h p = rw (h, ne_eqb c 0x01 p) refl
-
--- neither TYPEDBYREF nor BYREF
-pub content_other : (r : Reader sig.Core) (c : ℕ) (b tail : List ℕ) → b ≡ c ∷ tail → c ≢ 0x16 → c ≢ 0x10 → content_at r b ≡ change sig.plain r b
-unfolding content_at
-content_other r c b tail h p q = rw (h, ne_eqb c 0x16 p, ne_eqb c 0x10 q) refl
-
--- CLASS or VALUETYPE
-pub named_is : (c : ℕ) (b tail : List ℕ) → b ≡ c ∷ tail → (c ≢ 0x11) × (c ≡ 0x12) ⊎ (c ≡ 0x11) → named_at b ≡ Some (eqb c 0x11, tail)
-unfolding named_at
-named_is c b tail h (inl k) = rw (h, k.1) refl
-named_is c b tail h (inr k) = rw (h, k) refl
 
 -- no signature is empty
 pub body_end : (kind : SigKind) (r : Reader sig.Core) (b : List ℕ) → b ≡ [] → body_at kind r b ≡ None

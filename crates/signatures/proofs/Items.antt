@@ -7,11 +7,6 @@ pub failed : {A B : Type 0} (view : A → B) (e : SigError) (read : Option B) (r
 failed view e read (Ok x) k h = absurd k.1
 failed view e read (Err reason) k h = subst (λ (it : SigError). Fails it read) (sym k.1) h
 
--- a value in it ran out of memory, whatever is read
-pub refused : {A B : Type 0} (view : A → B) (read : Option B) (result : Result A SigError) → IsErr result × IsErrAnd result (λ reason. reason ≡ Memory) → Gives view result read
-refused view read (Ok x) k = absurd k.1
-refused view read (Err reason) k = subst (λ (it : SigError). Fails it read) (sym k.1) tt
-
 -- the result of a leaf, with `Bad` if it read nothing
 pub given : {A B : Type 0} (view : A → B) (found : Option A) (read : Option B) (result : Result A SigError) → option_map view found ≡ read → result ≡ ok_or found Bad → Gives view result read
 given view None read result e f = rw f (sym e)

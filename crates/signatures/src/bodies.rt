@@ -68,7 +68,7 @@ fn method_body(
 }
 
 /// Builds a property, after its first byte, whose bit 0x20 is HASTHIS (II.23.2.5).
-#[tactic(auto, unfolding(sig_grammar::specs::Columns::headed_at, sig_grammar::specs::Reading::both))]
+#[tactic(auto, using(crate::proofs::Parameters::many_is, crate::proofs::Parameters::many_fails, crate::proofs::Cores::fails_change), unfolding(sig_grammar::specs::Columns::headed_at, sig_grammar::specs::Reading::both))]
 fn property(
     alloc: Global,
     bytes: &[u8],
@@ -118,7 +118,7 @@ fn type_spec(alloc: Global, bytes: &[u8], depth: u8) -> Result<(SigBody, &[u8]),
 }
 
 /// Builds the signature at the start, in a column of a kind.
-#[tactic(auto, unfolding(sig_grammar::specs::Columns::body_at))]
+#[tactic(auto, using(crate::proofs::Cores::body_end), unfolding(sig_grammar::specs::Columns::body_at))]
 pub fn body(
     alloc: Global,
     bytes: &[u8],

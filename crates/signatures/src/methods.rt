@@ -61,7 +61,7 @@ pub fn params(
 
 /// Builds a method; `own` says whether it may have a SENTINEL (II.23.2.1 to II.23.2.3).
 #[cycle(build)]
-#[tactic(auto, unfolding(sig_grammar::specs::Reading::method_at))]
+#[tactic(auto, using(crate::proofs::Cores::view_method), unfolding(sig_grammar::specs::Reading::method_at, sig_grammar::specs::Reading::method_from))]
 pub fn method(
     alloc: Global,
     bytes: &[u8],
@@ -100,6 +100,7 @@ pub fn method(
 
 /// Builds a pointer to a method, after FNPTR.
 #[cycle(build)]
+#[tactic(auto, using(sig_grammar::proofs::ViewLemmas::view_function))]
 pub fn function(alloc: Global, bytes: &[u8], depth: u8) -> Result<(Core, &[u8]), SigError>
     ensures { Gives (λ x. (core_of x.0, x.1.now)) result (change sig.function (method_at true (core_at depth)) bytes.now) }
 {

@@ -13,6 +13,7 @@ use std::alloc::Global;
 
 /// Builds the kind and type of a parameter, a field or a local variable (II.23.2.10).
 #[cycle(build)]
+#[tactic(auto, using(sig_grammar::proofs::ViewLemmas::view_typed_ref, sig_grammar::proofs::ViewLemmas::view_plain, sig_grammar::proofs::ViewLemmas::view_by_ref), unfolding(sig_grammar::specs::Reading::content_at, sig_grammar::specs::Reading::both))]
 pub fn content(alloc: Global, bytes: &[u8], depth: u8) -> Result<(SlotKind, &[u8]), SigError>
     ensures { Gives (λ x. (content_of x.0, x.1.now)) result (content_at (core_at depth) bytes.now) }
 {
@@ -33,6 +34,7 @@ pub fn content(alloc: Global, bytes: &[u8], depth: u8) -> Result<(SlotKind, &[u8
 
 /// Builds a parameter or a field.
 #[cycle(build)]
+#[tactic(auto, using(crate::proofs::Cores::view_slot), unfolding(sig_grammar::specs::Reading::slot_at, sig_grammar::specs::Reading::both))]
 pub fn slot(alloc: Global, bytes: &[u8], depth: u8) -> Result<(Slot, &[u8]), SigError>
     ensures { Gives (λ x. (slot_of x.0, x.1.now)) result (slot_at (core_at depth) bytes.now) }
 {
@@ -43,6 +45,7 @@ pub fn slot(alloc: Global, bytes: &[u8], depth: u8) -> Result<(Slot, &[u8]), Sig
 
 /// Builds a result (II.23.2.11).
 #[cycle(build)]
+#[tactic(auto, using(crate::proofs::Cores::view_slot_ret, sig_grammar::proofs::ViewLemmas::view_void_ret), unfolding(sig_grammar::specs::Reading::ret_at, sig_grammar::specs::Reading::both, sig_grammar::specs::Reading::void_or))]
 pub fn ret(alloc: Global, bytes: &[u8], depth: u8) -> Result<(Ret, &[u8]), SigError>
     ensures { Gives (λ x. (ret_of x.0, x.1.now)) result (ret_at (core_at depth) bytes.now) }
 {

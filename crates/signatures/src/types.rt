@@ -18,7 +18,7 @@ use std::alloc::Global;
 
 /// Builds a core of at most the given depth (II.23.2.12).
 #[cycle(build)]
-#[tactic(auto, using(crate::proofs::Cores::core_none))]
+#[tactic(auto, using(crate::proofs::Cores::core_none, crate::proofs::Cores::core_end, crate::proofs::Cores::core_other))]
 pub fn core(alloc: Global, bytes: &[u8], depth: u8) -> Result<(Core, &[u8]), SigError>
     ensures { Gives (λ x. (core_of x.0, x.1.now)) result (core_at depth bytes.now) }
 {
@@ -34,7 +34,7 @@ pub fn core(alloc: Global, bytes: &[u8], depth: u8) -> Result<(Core, &[u8]), Sig
 
 /// Builds a core after its first byte. The types in it are at most `depth` deep.
 #[cycle(build)]
-#[tactic(auto, unfolding(sig_grammar::specs::Reading::core_by))]
+#[tactic(auto, using(crate::proofs::Cores::deep_some), unfolding(sig_grammar::specs::Reading::core_by))]
 fn core_behind(alloc: Global, code: u8, bytes: &[u8], depth: u8) -> Result<(Core, &[u8]), SigError>
     ensures { Gives (λ x. (core_of x.0, x.1.now)) result (core_by depth (core_at depth) code bytes.now) }
 {
@@ -64,6 +64,7 @@ fn core_behind(alloc: Global, code: u8, bytes: &[u8], depth: u8) -> Result<(Core
 
 /// Builds a type.
 #[cycle(build)]
+#[tactic(auto, using(crate::proofs::Cores::view_typed), unfolding(sig_grammar::specs::Reading::typed_at, sig_grammar::specs::Reading::both))]
 fn typed(alloc: Global, bytes: &[u8], depth: u8) -> Result<(TypeSig, &[u8]), SigError>
     ensures { Gives (λ x. (type_of x.0, x.1.now)) result (typed_at (core_at depth) bytes.now) }
 {
@@ -94,6 +95,7 @@ pub fn types(
 
 /// Builds a pointer, after PTR.
 #[cycle(build)]
+#[tactic(auto, using(sig_grammar::proofs::ViewLemmas::view_pointer, sig_grammar::proofs::ViewLemmas::view_void_pointer), unfolding(sig_grammar::specs::Reading::target_at, sig_grammar::specs::Reading::both, sig_grammar::specs::Reading::void_or))]
 fn pointer(alloc: Global, bytes: &[u8], depth: u8) -> Result<(Core, &[u8]), SigError>
     ensures { Gives (λ x. (core_of x.0, x.1.now)) result (change pointer_to (target_at (core_at depth)) bytes.now) }
 {
@@ -108,6 +110,7 @@ fn pointer(alloc: Global, bytes: &[u8], depth: u8) -> Result<(Core, &[u8]), SigE
 
 /// Builds an array of one dimension, after SZARRAY.
 #[cycle(build)]
+#[tactic(auto, using(sig_grammar::proofs::ViewLemmas::view_vector))]
 fn vector(alloc: Global, bytes: &[u8], depth: u8) -> Result<(Core, &[u8]), SigError>
     ensures { Gives (λ x. (core_of x.0, x.1.now)) result (change sig.vector (typed_at (core_at depth)) bytes.now) }
 {
@@ -117,6 +120,7 @@ fn vector(alloc: Global, bytes: &[u8], depth: u8) -> Result<(Core, &[u8]), SigEr
 
 /// Builds an array with a shape, after ARRAY.
 #[cycle(build)]
+#[tactic(auto, using(sig_grammar::proofs::ViewLemmas::view_array), unfolding(sig_grammar::specs::Reading::array_at, sig_grammar::specs::Reading::both))]
 fn array(alloc: Global, bytes: &[u8], depth: u8) -> Result<(Core, &[u8]), SigError>
     ensures { Gives (λ x. (core_of x.0, x.1.now)) result (change array_from (array_at (core_at depth)) bytes.now) }
 {
@@ -128,7 +132,7 @@ fn array(alloc: Global, bytes: &[u8], depth: u8) -> Result<(Core, &[u8]), SigErr
 
 /// Builds an instance of a generic type, after GENERICINST.
 #[cycle(build)]
-#[tactic(auto, unfolding(sig_grammar::specs::Reading::instance_at, sig_grammar::specs::Reading::both, sig_grammar::specs::Reading::named_at))]
+#[tactic(auto, using(sig_grammar::proofs::ViewLemmas::view_instance), unfolding(sig_grammar::specs::Reading::instance_at, sig_grammar::specs::Reading::both, sig_grammar::specs::Reading::named_at, sig_grammar::specs::Reading::counted_at))]
 fn instance(alloc: Global, bytes: &[u8], depth: u8) -> Result<(Core, &[u8]), SigError>
     ensures { Gives (λ x. (core_of x.0, x.1.now)) result (change instance_from (instance_at (core_at depth)) bytes.now) }
 {

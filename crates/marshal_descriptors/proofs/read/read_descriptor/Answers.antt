@@ -1,7 +1,7 @@
 use Rattle.marshal_descriptors.proofs.Prelude.{◌≡◌, ◌∙◌, ℕ, ◌<◌, ◌^◌, Option, None, Some, IfSome, get_or, sym, rules, IsSomeAnd, option_map, IsDescriptor, descriptor_of}
 use Rattle.marshal_descriptors.proofs.AgainLemmas.{descriptor_again}
 use Rattle.marshal_descriptors.proofs.FormLemmas.{descriptor_found}
-use Rattle.marshal_descriptors.proofs.PartLemmas.{NumbersAreRead, bytes_each}
+use Rattle.marshal_descriptors.proofs.PartLemmas.{NumbersAreRead}
 use Rattle.marshal_descriptors.proofs.read.read_descriptor.Goals as goal
 
 -- facts of the value in an option, by what it is a map of
@@ -19,7 +19,7 @@ returns c =
     let blob = c.args.blob.now in
     let small : (k : ℕ) → get_or c.args.blob.now k 0 < 2 ^ 8 = λ k. let f = c.type_inv.blob k in search rules in
     record {
-      sound = some_seen (λ v. IsDescriptor v blob) _ c.first.result (descriptor_of blob) c.first.ensures (λ v is. descriptor_found known blob v (bytes_each blob small) is);
+      sound = some_seen (λ v. IsDescriptor v blob) _ c.first.result (descriptor_of blob) c.first.ensures (λ v is. descriptor_found known v blob small is);
       complete = λ v is. some_there _ c.first.result v (c.first.ensures ∙ descriptor_again known v blob is);
       value = c.first.ensures;
     }

@@ -1,13 +1,8 @@
-use Rattle.sig_items.proofs.Prelude.{◌≡◌, ◌∙◌, ◌/◌, ◌%◌, eqb, true, false, sym, ap, rules, method_head, item_then, params_reported}
+use Rattle.sig_items.proofs.Prelude.{◌≡◌, ◌∙◌, ◌/◌, ◌%◌, eqb, true, sym, ap, rules, method_head, item_then, params_reported}
 use Rattle.sig_items.specs.declared.position.Position.TheVariants as position
 use Rattle.sig_items.proofs.Counts.{next_joined}
-use Rattle.sig_items.proofs.Heads.{method_bad, method_is}
+use Rattle.sig_items.proofs.Heads.{method_is}
 use Rattle.sig_items.proofs.methods.method.Goals as goal
-
-pub returns-then-not-begins_method-clause-reported : goal.returns-then-not-begins_method-clause-reported
-returns-then-not-begins_method-clause-reported c =
-    let stops : c.begins_method.result ≡ false = search rules in
-    sym (method_bad c.args.own c.args.depth c.in_ok-code.code c.args.bytes.now c.in_ok-code.tail.now c.in_ok-code.ensures (sym c.begins_method.ensures ∙ stops))
 
 pub returns-clause-reported : goal.returns-clause-reported
 returns-clause-reported c =

@@ -1,6 +1,5 @@
-use Rattle.sig_text.proofs.Prelude.{rules, arith, ◌≡◌, ◌<◌, ◌+◌, ◌-◌, eqb, true, false, refl, ℕ, List, ◌∷◌, ◌++◌, codes, ne_eqb, slot_shown, content_shown, by_ref_shown, core_shown, code_shown, around_shown, enclosed_shown, instance_shown, listed_shown, method_shown, after_element_shown, number_or, before, word, arity_text}
-use Rattle.sig_text.proofs.Chains.{silent, and_then, pieces_only, pieces_first, pieces_last, in_turn, start_left, end_left, shut_left}
-use Rattle.sig_text.proofs.Arms.{core_none, core_element, core_code}
+use Rattle.sig_text.proofs.Prelude.{rules, arith, ◌≡◌, ◌<◌, ◌+◌, ◌-◌, refl, ℕ, List, ◌∷◌, ◌++◌, codes, slot_shown, by_ref_shown, core_shown, code_shown, around_shown, enclosed_shown, instance_shown, listed_shown, method_shown, after_element_shown, number_or, before, word, arity_text}
+use Rattle.sig_text.proofs.Chains.{and_then, pieces_first, pieces_last, in_turn, start_left, end_left, shut_left}
 use Rattle.sig_text.proofs.ShapeShown.{listed_next, listed_end}
 use Rattle.sig_text.proofs.types.+text.Goals as goal
 
@@ -8,63 +7,13 @@ pub slot-returns : goal.slot-returns
 unfolding slot_shown
 slot-returns g t c = rw (← c.behind_all-count.ensures.tail, ← c.behind_all-count.ensures.count) (pieces_last c.content-tail.ensures c.marks.ensures)
 
-pub content-returns-then-code-eq-BYREF : goal.content-returns-then-code-eq-BYREF
-unfolding content_shown
-content-returns-then-code-eq-BYREF g t c = let e : eqb c.byte-code.result.0 0x10 ≡ true = search rules in rw (← c.byte-code.ensures, e) c.by_ref.ensures
-
-pub content-returns : goal.content-returns
-unfolding content_shown
-content-returns g t c = let e : eqb c.byte-code.result.0 0x10 ≡ false = search rules in rw (← c.byte-code.ensures, e) c.core.ensures
-
 pub by_ref-returns : goal.by_ref-returns
 unfolding by_ref_shown
 by_ref-returns g t c = rw (← c.behind_all-marked.ensures.tail, ← c.behind_all-marked.ensures.count, ← c.byte-code.ensures) (pieces_last c.core-tail.ensures (and_then c.marks.ensures c.put_text.ensures))
 
-pub core-returns-then-depth-eq0 : goal.core-returns-then-depth-eq0
-core-returns-then-depth-eq0 g t c = rw (core_none c.args.depth c.args.code c.args.bytes.now c.if-depth-eq0.true) (pieces_only silent)
-
-pub core-returns-in-Some : goal.core-returns-in-Some
-core-returns-in-Some g t c = let lt : 0 < c.args.depth = omega arith in rw (core_element c.args.depth c.args.code c.args.bytes.now c.in-Some.element lt c.in-Some.ensures, ← c.element_name.ensures) c.word.ensures
-
-pub core-returns-in-None : goal.core-returns-in-None
-core-returns-in-None g t c = let lt : 0 < c.args.depth = omega arith in rw (core_code c.args.depth c.args.code c.args.bytes.now lt c.in-None.ensures) c.coded.ensures
-
-pub coded-returns-in-19 : goal.coded-returns-in-19
-unfolding code_shown
-coded-returns-in-19 g t c = rw c.in-19.is c.parameter.ensures
-
-pub coded-returns-in-30 : goal.coded-returns-in-30
-unfolding code_shown
-coded-returns-in-30 g t c = rw c.in-30.is c.parameter-in-30.ensures
-
-pub coded-returns-in-1 : goal.coded-returns-in-1
-unfolding code_shown
-coded-returns-in-1 g t c = rw c.in-1.is c.word.ensures
-
 pub coded-returns-in-22 : goal.coded-returns-in-22
 unfolding code_shown
 coded-returns-in-22 g t c = rw c.in-22.is c.word-in-22.ensures
-
-pub coded-returns-in-27 : goal.coded-returns-in-27
-unfolding code_shown
-coded-returns-in-27 g t c = rw c.in-27.is c.method.ensures
-
-pub coded-returns-in-21 : goal.coded-returns-in-21
-unfolding code_shown
-coded-returns-in-21 g t c = rw c.in-21.is c.instance.ensures
-
-pub coded-returns-in-18 : goal.coded-returns-in-18
-unfolding code_shown
-coded-returns-in-18 g t c = rw c.in-18.is (rw c.in-18.is at c.named.ensures)
-
-pub coded-returns-in-17 : goal.coded-returns-in-17
-unfolding code_shown
-coded-returns-in-17 g t c = rw c.in-17.is (rw c.in-17.is at c.named-in-17.ensures)
-
-pub coded-returns-in_default : goal.coded-returns-in_default
-unfolding code_shown
-coded-returns-in_default g t c =
-    rw (ne_eqb c.args.code 18 (search rules), ne_eqb c.args.code 17 (search rules), ne_eqb c.args.code 19 (search rules), ne_eqb c.args.code 30 (search rules), ne_eqb c.args.code 1 (search rules), ne_eqb c.args.code 22 (search rules), ne_eqb c.args.code 27 (search rules), ne_eqb c.args.code 21 (search rules)) c.around.ensures
 
 pub around-returns : goal.around-returns
 unfolding around_shown

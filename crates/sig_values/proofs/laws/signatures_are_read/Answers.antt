@@ -1,4 +1,4 @@
-use Rattle.sig_values.proofs.Readers.{NumbersAreRead, IsBytes-from_each}
+use Rattle.sig_values.proofs.Readers.{NumbersAreRead}
 use Rattle.sig_values.proofs.Bodies.{encoded_read, read_encoded, one_signature}
 use Rattle.sig_values.proofs.laws.signatures_are_read.Goals as goal
 
@@ -13,6 +13,6 @@ known c = record {
 pub returns : goal.returns
 returns c = record {
   read = encoded_read (known c);
-  encoded = λ kind signature bytes each limit read. read_encoded (known c) kind signature bytes (IsBytes-from_each bytes each) limit read;
+  encoded = read_encoded (known c);
   one = one_signature (known c);
 }
