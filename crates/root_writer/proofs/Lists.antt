@@ -1,21 +1,8 @@
 -- Items of lists: membership, and properties of all items from an index on.
-use Rattle.root_writer.proofs.Prelude.{◌≡◌, ℕ, zero, suc, ◌+◌, ◌<◌, ◌≤◌, Bool, true, List, [], ◌∷◌, ◌++◌, length, get_or, filter, Contains, refl, sym, ap, subst, ◌∙◌, ◌⊎◌, inl, inr, ⊎_elim, arith, flat_map, AllByRecursion, cond_both, AreFrom}
+use Rattle.root_writer.proofs.Prelude.{◌≡◌, ℕ, zero, suc, ◌+◌, ◌<◌, ◌≤◌, Bool, List, [], ◌∷◌, ◌++◌, length, get_or, filter, refl, sym, subst, ◌⊎◌, inl, inr, ⊎_elim, arith, flat_map, AllByRecursion, cond_both, AreFrom}
+use Rattle.heap_pools.proofs.MemberLemmas.{IsIn}
 
 -- ---- membership
-
-abbrev pub IsIn : {X : Type 0} → X → List X → Type 0
-IsIn x [] = ⊥
-IsIn x (y ∷ ys) = (y ≡ x) ⊎ IsIn x ys
-
-pub contains_from_in : {X : Type 0} (xs : List X) (x : X) → IsIn x xs → Contains xs x
-contains_from_in [] x h = absurd h
-contains_from_in (y ∷ ys) x (inl e) = (0, omega arith, e)
-contains_from_in (y ∷ ys) x (inr h) = let tail = contains_from_in ys x h in (suc tail.0, omega (arith, tail.1), tail.2)
-
-pub in_from_contains : {X : Type 0} (xs : List X) (x : X) → Contains xs x → IsIn x xs
-in_from_contains [] x (k, h, e) = absurd (omega arith)
-in_from_contains (y ∷ ys) x (zero, h, e) = inl e
-in_from_contains (y ∷ ys) x (suc k, h, e) = inr (in_from_contains ys x (k, omega arith, e))
 
 pub in_get_or : {X : Type 0} (xs : List X) (k : ℕ) (d : X) → k < length xs → IsIn (get_or xs k d) xs
 in_get_or [] k d below = absurd (omega arith)
@@ -59,10 +46,6 @@ all_from P Q each i zero (x ∷ xs) are = absurd are
 all_from P Q each i (suc n) [] are = absurd are
 all_from P Q each i (suc n) (x ∷ xs) are = (each i x are.0, all_from P Q each (i + 1) n xs are.1)
 
-pub all_weaker : {X : Type 0} (P Q : X → Type 0) → ((x : X) → P x → Q x) → (xs : List X) → AllByRecursion P xs → AllByRecursion Q xs
-all_weaker P Q each [] all = tt
-all_weaker P Q each (x ∷ xs) all = (each x all.0, all_weaker P Q each xs all.1)
-
 -- ---- items from an index on
 
 pub are_from : {X : Type 0} (P : ℕ → X → Type 0) (i n : ℕ) (xs : List X) (d : X) → length xs ≡ n → ((k j : ℕ) → k < n → j ≡ i + k → P j (get_or xs k d))
@@ -74,11 +57,6 @@ are_from P i (suc n) (x ∷ xs) d long each =
     (each 0 i (omega arith) (omega arith), are_from P (i + 1) n xs d (omega arith) (λ k j below e. each (suc k) j (omega arith) (omega arith)))
 
 -- ---- filters
-
-pub in_filter : {X : Type 0} (test : X → Bool) (x : X) (xs : List X) → IsIn x xs → test x ≡ true → IsIn x (filter test xs)
-in_filter test x [] h t = absurd h
-in_filter test x (z ∷ zs) (inl e) t = rw (ap test e ∙ t) (inl e)
-in_filter test x (z ∷ zs) (inr h) t = cond_both (test z) (z ∷ filter test zs) (filter test zs) (IsIn x) (λ e. inr (in_filter test x zs h t)) (λ e. in_filter test x zs h t)
 
 pub from_filter : {X : Type 0} (test : X → Bool) (x : X) (xs : List X) → IsIn x (filter test xs) → IsIn x xs
 from_filter test x [] h = absurd h

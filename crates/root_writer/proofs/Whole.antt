@@ -1,16 +1,20 @@
 -- The canonical root of a valid model is a root with that model.
 use Rattle.root_writer.proofs.Prelude.{◌≡◌, ℕ, ◌+◌, ◌-◌, ◌%◌, ◌^◌, ◌<◌, ◌≤◌, Bool, true, false, ltb, List, [], ◌∷◌, ◌++◌, length, refl, sym, ap, subst, ◌∙◌, ◌⊎◌, inl, inr, ⊎_elim, arith, length-append, All, Option, Some, None, IfSome, replicate, AllByRecursion, flat_map, count_by, cases_Bool, cond_both, nat_tests, append-nil, nil_from_length, All-from_recursion, Kind, Tables, Strings, UserStrings, Guids, Blobs, Header, signature, IsVersion, AreHeaders, IsRoot, IsNumber, zero_padded, is_among, first_uses, distinct, TableId, ColumnKind, tables, column_at, header_size, number_bytes, tables_bytes, IsLaidOut, Cell, Guid, Metadata, count_in, Source, cell_count, column_of, table_at, AreTables, AreByKey, AreOwned, AreNested, IsModel, used, guids_of, numbers, has_rows, is_sorted, sizes_of, header_bytes, table_stream, stream, streams_of, ended, directory, prefix, first_offset, root_of, canonical, IsValid}
+use Rattle.schema.proofs.BitLemmas.{bits_low}
 use Rattle.table_schema.specs.declared.column.ColumnKind.TheVariants as kind
 use Rattle.metadata.specs.Streams.{stream_in, source_in}
+use Rattle.std.proofs.lemmas.List.{length-replicate}
+use Rattle.metadata.proofs.ItemLemmas.{all_weaker}
 use Rattle.root_writer.proofs.HeldRoots.{MayRefer, IsValidCell, IsValidAt, IsValidRow, AreValidRows, tables_valid}
-use Rattle.root_writer.proofs.Lists.{IsIn, all_flat_map, all_from, all_weaker, in_filter, length-filter_le}
+use Rattle.root_writer.proofs.Lists.{all_flat_map, all_from, length-filter_le}
+use Rattle.heap_pools.proofs.MemberLemmas.{IsIn, in_filter}
 use Rattle.root_writer.proofs.Facts.{Facts}
 use Rattle.root_writer.proofs.Widths.{heap_sizes_low, count_is}
 use Rattle.root_writer.proofs.Stands.{IsWithin}
 use Rattle.root_writer.proofs.Rows.{fields, tables_low, fit_tables, counts_are}
 use Rattle.root_writer.proofs.Tables.{source_of, tables_stand, are_owned}
 use Rattle.root_writer.proofs.Orders.{are_by_key, are_nested}
-use Rattle.root_writer.proofs.Streams.{length_zeros, length-zero_padded, padding_of, ended_is, AreApart, all_kinds, filter_apart, in_all, headers_of, contents, are_headers, length-headers_of, stream_found, is_named, all_meet, directory_long, within}
+use Rattle.root_writer.proofs.Streams.{length-zero_padded, padding_of, ended_is, AreApart, all_kinds, filter_apart, in_all, headers_of, contents, are_headers, length-headers_of, stream_found, is_named, all_meet, directory_long, within}
 
 -- ---- each GUID of a valid model has 16 bytes
 
@@ -70,9 +74,9 @@ module _ (facts : Facts) (model : Metadata) (valid : IsValid model) where
 no_rows : (n : ℕ) → ltb 0 n ≡ false → n ≡ 0
 no_rows n e = grind (arith, nat_tests)
 
-sorted_is : Facts → (model : Metadata) → (sizes_of model).sorted < 2 ^ 64
+sorted_is : (model : Metadata) → (sizes_of model).sorted < 2 ^ 64
 unfolding sizes_of
-sorted_is facts model = facts.low (is_sorted model)
+sorted_is model = bits_low (is_sorted model)
 
 body_is : (model : Metadata) → (sizes_of model).body ≡ header_size (count_by (has_rows model) tables)
 unfolding sizes_of
@@ -88,15 +92,15 @@ laid_out facts model valid =
       reserved_byte = 1;
       counted = has_rows model;
       tail = tail;
-      whole = ap (λ l. header_bytes model ++ l ++ tail) (sym (tables_low facts model));
+      whole = ap (λ l. header_bytes model ++ l ++ tail) (sym (tables_low model));
       reserved_long = refl;
       heap_sizes_low = heap_sizes_low model;
-      sorted_low = sorted_is facts model;
-      uncounted = λ table none. count_is model facts table ∙ no_rows (count_in model table) none;
-      few = λ table. rw (count_is model facts table) (valid.few table);
+      sorted_low = sorted_is model;
+      uncounted = λ table none. count_is model table ∙ no_rows (count_in model table) none;
+      few = λ table. rw (count_is model table) (valid.few table);
       body = body_is model;
       counts = counts_are model;
-      fit = fit_tables facts model;
+      fit = fit_tables model;
     }
 
 -- ---- the root
@@ -105,7 +109,7 @@ ended_short : (version : List ℕ) → length version ≤ 254 → length (ended 
 ended_short version short = omega (
   arith,
   length-append (version ++ 0 ∷ []) (padding_of version),
-  length_zeros ((4 - length (version ++ 0 ∷ []) % 4) % 4),
+  length-replicate {A = ℕ} ((4 - length (version ++ 0 ∷ []) % 4) % 4) 0,
   length-append version (0 ∷ []),
 )
 
