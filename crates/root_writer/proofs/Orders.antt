@@ -6,7 +6,6 @@ use Rattle.metadata.specs.KeyOrder.{key_number, key_in, IsKeyOrdered}
 use Rattle.root_writer.proofs.HeldRoots.{MayRefer, IsValidCell, row_long, cell_valid}
 use Rattle.table_schema.proofs.CodedLemmas.{tables_few}
 use Rattle.table_schema.proofs.TableFacts.{key_reference, key_within}
-use Rattle.root_writer.proofs.Facts.{Facts}
 use Rattle.root_writer.proofs.Widths.{count_is, row_fits, coded_fits, tag_found}
 use Rattle.root_writer.proofs.Stands.{IsWithin}
 use Rattle.root_writer.proofs.Starts.{rises_at, rises_from}
@@ -15,7 +14,7 @@ use Rattle.root_writer.proofs.Tables.{source_of, number_at}
 
 -- ---- the number of a reference fits its column
 
-module _ (facts : Facts) (model : Metadata) (within : IsWithin model) where
+module _ (model : Metadata) (within : IsWithin model) where
   few : (table : TableId) → count_of (sizes_of model) table ≤ 0xFFFFFF
   few table = rw (count_is model table) (within.counts table)
 
@@ -74,13 +73,13 @@ keys_long : (model : Metadata) (table : TableId) (key : ℕ) → length (keys_of
 keys_long model table key =
     length-map (table_keys model table) (λ (numbers : List ℕ). slice_index numbers key) ∙ length-map (rows_of model table) (numbers_by key_number (columns_of table))
 
-module _ (facts : Facts) (model : Metadata) (valid : IsValid model) where
+module _ (model : Metadata) (valid : IsValid model) where
   key_at : (table : TableId) (key cell_index row : ℕ) → key_of table ≡ Some key → IsKeyCell table cell_index → 1 ≤ row → row ≤ count_in model table
       → get_or (keys_of model table key) (row - 1) 0 ≡ key_in model table cell_index row
   unfolding cell_columns
   key_at table key cell_index row is at first last =
       let cells = cells_of model table row in
-      let here = located key_number (columns_of table) cells 0 cell_index (col kind.U8) (Number 0) at.within (row_long facts model valid table row first last) in
+      let here = located key_number (columns_of table) cells 0 cell_index (col kind.U8) (Number 0) at.within (row_long model valid table row first last) in
       let same : column_of table cell_index ≡ key = cc in
       let index : here.index ≡ column_of table cell_index = omega (arith, here.at) in
       let number : get_or (numbers_by key_number (columns_of table) cells) (column_of table cell_index) 0 ≡ key_in model table cell_index row =
@@ -126,22 +125,22 @@ module _ (facts : Facts) (model : Metadata) (valid : IsValid model) where
       (ordered cell_index.0 (i + 2) cell_index.1 (omega arith) (omega arith)) in
       rw (low, high) up)
 
-module _ (facts : Facts) (model : Metadata) (valid : IsValid model) (within : IsWithin model) where
+module _ (model : Metadata) (valid : IsValid model) (within : IsWithin model) where
   -- the number of a key is the one by which rows are compared
   key_value : (table : TableId) (key row : ℕ) → key_of table ≡ Some key → 1 ≤ row → row ≤ count_in model table
       → number_of (source_of model) table row key ≡ get_or (keys_of model table key) (row - 1) 0
   unfolding cell_columns number_of
   key_value table key row is first last =
-      let cell_index = key_cell facts model valid table key is in
+      let cell_index = key_cell model valid table key is in
       let same : column_of table cell_index.0 ≡ key = let e = cell_index.1.key in cc in
       let column = column_at table (column_of table cell_index.0) in
       let cell = cell_in model table row cell_index.0 in
       let reference = key_reference table (column_of table cell_index.0) cell_index.1.key in
-      let good = cell_valid facts model valid table row cell_index.0 first last cell_index.1.within in
-      let fits = reference_fits facts model within column cell reference good in
-      let value = number_at facts model valid table row cell_index.0 first last cell_index.1.within ∙ mod-eq_of_lt fits ∙ column_key (pools_of model) model column cell reference good in
+      let good = cell_valid model valid table row cell_index.0 first last cell_index.1.within in
+      let fits = reference_fits model within column cell reference good in
+      let value = number_at model valid table row cell_index.0 first last cell_index.1.within ∙ mod-eq_of_lt fits ∙ column_key (pools_of model) model column cell reference good in
       subst (λ (c : ℕ). number_of (source_of model) table row c ≡ key_in model table cell_index.0 row) same value
-      ∙ sym (key_at facts model valid table key cell_index.0 row is cell_index.1 first last)
+      ∙ sym (key_at model valid table key cell_index.0 row is cell_index.1 first last)
 
   said_sorted : (table : TableId) → is_said_sorted (source_of model) table ≡ is_sorted model table
   unfolding sizes_of
@@ -176,9 +175,9 @@ module _ (facts : Facts) (model : Metadata) (valid : IsValid model) (within : Is
       let column = column_at NestedClass (column_of NestedClass cell_index) in
       let cell = cell_in model NestedClass row cell_index in
       let good : IsValidCell model (kind.Row TypeDef) column.nullable cell =
-      subst (λ k. IsValidCell model k column.nullable cell) is (cell_valid facts model valid NestedClass row cell_index first last below) in
-      let fits = row_reference_fits facts model within column.nullable TypeDef cell good in
-      number_at facts model valid NestedClass row cell_index first last below
+      subst (λ k. IsValidCell model k column.nullable cell) is (cell_valid model valid NestedClass row cell_index first last below) in
+      let fits = row_reference_fits model within column.nullable TypeDef cell good in
+      number_at model valid NestedClass row cell_index first last below
       ∙ ap (λ k. cell_number (pools_of model) k cell % 256 ^ kind_width (sizes_of model) k) is
       ∙ mod-eq_of_lt fits
       ∙ row_number_is column.nullable TypeDef cell good

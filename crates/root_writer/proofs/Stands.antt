@@ -32,7 +32,7 @@ pub record IsWithin (model : Metadata) : Type 0 where
 abbrev pub HasNull : ColumnKind → Type 0
 HasNull k = (coded : Coded) × (first : TableId) × (k ≡ kind.Coded coded) × (slice_get (tables_of coded) 0 ≡ Some (Some first))
 
-module _ (facts : Facts) (model : Metadata) (within : IsWithin model) where
+module _ (model : Metadata) (within : IsWithin model) where
   text_stands : (text : List ℕ) → IsIn text (used texts_of model) → HasNoNul text → IsUtf8 text
       → IsText (texts_stream model) (text_index (pools_of model).texts text % 256 ^ heap_width (sizes_of model) 1) text
   text_stands text here plain utf8 =
@@ -135,27 +135,27 @@ stands facts model within numbers kind.U32 nullable start cell here null starts 
 stands facts model within numbers kind.Padding nullable start cell here null starts valid = valid
 stands facts model within numbers kind.Text nullable start cell here null starts valid =
     let e = valid.3 in
-    (valid.0, rw e (text_stands facts model within valid.0 (here.texts valid.0 (rw e (inl refl))) valid.1 valid.2), e)
+    (valid.0, rw e (text_stands model within valid.0 (here.texts valid.0 (rw e (inl refl))) valid.1 valid.2), e)
 stands facts model within numbers kind.Guid nullable start cell here null starts valid =
     let e = valid.2 in
-    (valid.0, rw e (guid_stands facts model within valid.0 valid.1 (λ bytes same. here.guids bytes (rw e (rw same (inl refl))))), e)
+    (valid.0, rw e (guid_stands model within valid.0 valid.1 (λ bytes same. here.guids bytes (rw e (rw same (inl refl))))), e)
 stands facts model within numbers kind.Blob nullable start cell here null starts valid =
     let e = valid.2 in
-    (valid.0, rw e (blob_stands facts model within valid.0 (here.blobs valid.0 (rw e (inl refl))) valid.1), e)
+    (valid.0, rw e (blob_stands model within valid.0 (here.blobs valid.0 (rw e (inl refl))) valid.1), e)
 stands facts model within numbers (kind.Signature column) nullable start cell here null starts valid =
     let signature = valid.0 in
     let e = valid.4 in
     let encodes = facts.encodes column signature valid.1 valid.2 in (
       short signature,
       signature,
-      rw e (blob_stands facts model within (short signature) (here.blobs (short signature) (rw e (inl refl))) encodes.limit),
+      rw e (blob_stands model within (short signature) (here.blobs (short signature) (rw e (inl refl))) encodes.limit),
       encodes,
-      all_weaker (HasRow model) (IsThere (source_with model numbers)) (there facts model within numbers) (tokens signature) valid.3,
+      all_weaker (HasRow model) (IsThere (source_with model numbers)) (there model within numbers) (tokens signature) valid.3,
       e,
     )
-stands facts model within numbers (kind.Row table) nullable start cell here null starts valid = row_stands facts model within numbers nullable table cell valid
+stands facts model within numbers (kind.Row table) nullable start cell here null starts valid = row_stands model within numbers nullable table cell valid
 stands facts model within numbers (kind.Coded coded) nullable start cell here null starts valid =
-    coded_stands facts model within numbers nullable coded cell null valid
+    coded_stands model within numbers nullable coded cell null valid
 stands facts model within numbers (kind.List member) nullable start cell here null starts valid =
     let e = valid.2 in
     let low = low_start (count_of (sizes_of model) member) valid.0 (rw (count_is model member) valid.1) in

@@ -16,14 +16,14 @@ source_of model = source_with model (fields model)
 
 -- ---- the valid cells of a row
 
-module _ (facts : Facts) (model : Metadata) (valid : IsValid model) where
+module _ (model : Metadata) (valid : IsValid model) where
   pub cell_used : (table : TableId) (row cell_index : ℕ) → 1 ≤ row → row ≤ count_in model table → cell_index < cell_count table
       → IsUsed model (cell_in model table row cell_index)
   unfolding used
   cell_used table row cell_index first last below =
       let rows = in_get_or model.tables (table_index_of table) [] (omega (arith, valid.tables, table_index_below table)) in
       let cells = in_get_or (rows_of model table) (row - 1) [] (omega arith) in
-      let cell = in_get_or (cells_of model table row) cell_index (Number 0) (omega (arith, row_long facts model valid table row first last)) in
+      let cell = in_get_or (cells_of model table row) cell_index (Number 0) (omega (arith, row_long model valid table row first last)) in
       record {
         texts = λ value h. in_three texts_of (cell_in model table row cell_index) value (cells_of model table row) (rows_of model table) model.tables rows cells
             cell h;
@@ -44,7 +44,7 @@ module _ (facts : Facts) (model : Metadata) (valid : IsValid model) where
   is_at : (table : TableId) (row cell_index : ℕ) → 1 ≤ row → row ≤ count_in model table → cell_index < cell_count table → IsAt table row cell_index (column_of table cell_index)
   unfolding cell_columns number_of
   is_at table row cell_index first last below =
-      let here = located (cell_number (pools_of model)) (columns_of table) (cells_of model table row) 0 cell_index (col kind.U8) (Number 0) below (row_long facts model valid table row first last) in
+      let here = located (cell_number (pools_of model)) (columns_of table) (cells_of model table row) 0 cell_index (col kind.U8) (Number 0) below (row_long model valid table row first last) in
       let number = number_is model table row here.index (col kind.U8) first last here.below
       ∙ ap (λ n. n % 256 ^ width_of (sizes_of model) (column_at table here.index)) here.number in
       let same : here.index ≡ column_of table cell_index = omega (arith, here.at) in
@@ -82,7 +82,7 @@ module _ (facts : Facts) (model : Metadata) (valid : IsValid model) (within : Is
   start_at row first last =
       start_cell model (column_at table (column_of table cell_index)).kind (column_at table (column_of table cell_index)).nullable member
       (cell_in model table row cell_index) lists
-      (cell_valid facts model valid table row cell_index first last below)
+      (cell_valid model valid table row cell_index first last below)
 
   value_at : (row : ℕ) → 1 ≤ row → row ≤ count_in model table
       → number_of (source_of model) table row (column_of table cell_index) ≡ start row % 256 ^ narrow_or_wide (ltb (count_in model member) (2 ^ 16))
@@ -91,7 +91,7 @@ module _ (facts : Facts) (model : Metadata) (valid : IsValid model) (within : Is
       ap (kind_width (sizes_of model)) lists ∙ ap (λ n. narrow_or_wide (ltb n (2 ^ 16))) (count_is model member) in
       let number : cell_number (pools_of model) (column_at table (column_of table cell_index)).kind (cell_in model table row cell_index) ≡ start row =
       ap (cell_number (pools_of model) (column_at table (column_of table cell_index)).kind) (start_at row first last).is in
-      number_at facts model valid table row cell_index first last below
+      number_at model valid table row cell_index first last below
       ∙ ap (λ n. n % 256 ^ width_of (sizes_of model) (column_at table (column_of table cell_index))) number ∙ ap (λ w. start row % 256 ^ w) width
 
   -- no start is 0, because the first is 1 and none is lower than the one before
@@ -195,20 +195,20 @@ module _ (facts : Facts) (model : Metadata) (valid : IsValid model) (within : Is
       let cell = cell_in model table row cell_index in
       let start = start_of (source_of model) table row (column_of table cell_index) in
       let started : (member : TableId) → column.kind ≡ kind.List member → start member ≡ cell_number (pools_of model) column.kind cell = λ member lists.
-      let is = start_cell model column.kind column.nullable member cell lists (cell_valid facts model valid table row cell_index first last below) in
+      let is = start_cell model column.kind column.nullable member cell lists (cell_valid model valid table row cell_index first last below) in
       start_stands facts model valid within table cell_index member below lists (owners_of model valid table cell_index member lists) row first last
       ∙ sym (ap (cell_number (pools_of model) column.kind) is.is) in
-      subst (λ n. StandsFor (source_of model) column.kind column.nullable start n cell) (sym (number_at facts model valid table row cell_index first last below))
+      subst (λ n. StandsFor (source_of model) column.kind column.nullable start n cell) (sym (number_at model valid table row cell_index first last below))
       (stands facts model within (fields model) column.kind column.nullable start cell
-      (cell_used facts model valid table row cell_index first last below)
-      (λ nullable. has_null column (may_be_null table (column_of table cell_index) (column_below facts model valid table row cell_index first last below) nullable))
+      (cell_used model valid table row cell_index first last below)
+      (λ nullable. has_null column (may_be_null table (column_of table cell_index) (column_below model valid table row cell_index first last below) nullable))
       started
-      (cell_valid facts model valid table row cell_index first last below))
+      (cell_valid model valid table row cell_index first last below))
 
   row_stands : (table : TableId) (row : ℕ) → 1 ≤ row → row ≤ count_in model table → IsRow (source_of model) table row (cells_of model table row)
   unfolding IsRow
   row_stands table row first last =
-      are_from (IsCell (source_of model) table row) 0 (cell_count table) (cells_of model table row) (Number 0) (row_long facts model valid table row first last)
+      are_from (IsCell (source_of model) table row) 0 (cell_count table) (cells_of model table row) (Number 0) (row_long model valid table row first last)
       (λ k j below e. let same : k ≡ j = omega arith in
       subst (λ i. IsCell (source_of model) table row i (cell_in model table row k)) same (cell_stands table row k first last below))
 

@@ -48,7 +48,7 @@ all_first_uses P before (value ∷ values) all =
     let uses = first_uses (before ++ value ∷ []) values in
     cond_both (is_among before value) uses (value ∷ uses) (AllByRecursion P) (λ t. tail) (λ f. (all.0, tail))
 
-module _ (facts : Facts) (model : Metadata) (valid : IsValid model) where
+module _ (model : Metadata) (valid : IsValid model) where
   long_row : (table : TableId) (cells : List Cell) → IsValidRow model table cells → AllByRecursion HasLong cells
   unfolding IsValidRow
   long_row table cells row =
@@ -64,7 +64,7 @@ module _ (facts : Facts) (model : Metadata) (valid : IsValid model) where
       (λ cells has. all_flat_map IsLong HasLong guids_of (λ cell h. h) cells has) rows all)
       model.tables
       (all_from (AreValidRows model) (AllByRecursion (AllByRecursion HasLong))
-      (λ i rows are. all_weaker (IsValidRow model (table_at i)) (AllByRecursion HasLong) (long_row (table_at i)) rows are) 0 38 model.tables (tables_valid facts model valid))
+      (λ i rows are. all_weaker (IsValidRow model (table_at i)) (AllByRecursion HasLong) (long_row (table_at i)) rows are) 0 38 model.tables (tables_valid model valid))
 
   sixteen : All (λ guid. length guid ≡ 16) (distinct (used guids_of model))
   sixteen = All-from_recursion IsLong (distinct (used guids_of model)) (all_first_uses IsLong ([] ∷ []) (used guids_of model) long_used)
@@ -82,9 +82,9 @@ body_is : (model : Metadata) → (sizes_of model).body ≡ header_size (count_by
 unfolding sizes_of
 body_is model = refl
 
-laid_out : Facts → (model : Metadata) → IsValid model → IsLaidOut (table_stream model) (sizes_of model) (fields model)
+laid_out : (model : Metadata) → IsValid model → IsLaidOut (table_stream model) (sizes_of model) (fields model)
 unfolding table_stream header_bytes
-laid_out facts model valid =
+laid_out model valid =
     let body = header_bytes model ++ tables_bytes (sizes_of model) tables (numbers model) in
     let tail = replicate ((4 - length body % 4) % 4) 0 in
     record {
@@ -211,7 +211,7 @@ module _ (facts : Facts) (model : Metadata) (valid : IsValid model) (small : len
   short kind = omega (arith, stream_short facts model.version (stream model) kinds kind (holds kind), small)
 
   inside : IsWithin model
-  inside = record { texts = short Strings; blobs = short Blobs; guids = short Guids; counts = valid.few; sixteen = sixteen facts model valid }
+  inside = record { texts = short Strings; blobs = short Blobs; guids = short Guids; counts = valid.few; sixteen = sixteen model valid }
 
   root_headers : List Header
   root_headers = headers facts model.version (stream model) kinds
@@ -240,10 +240,10 @@ module _ (facts : Facts) (model : Metadata) (valid : IsValid model) (small : len
         is_root = is_root facts model.version (stream model) kinds valid.version few_kinds apart_kinds tables_held small;
         sizes = sizes_of model;
         numbers = fields model;
-        laid_out = subst (λ bytes. IsLaidOut bytes (sizes_of model) (fields model)) (sym (find Tables)) (laid_out facts model valid);
+        laid_out = subst (λ bytes. IsLaidOut bytes (sizes_of model) (fields model)) (sym (find Tables)) (laid_out model valid);
         cells = subst (λ (s : Source). AreTables s model.tables) (sym same_source) (tables_stand facts model valid inside);
-        ordered = subst (λ (s : Source). AreByKey s) (sym same_source) (are_by_key facts model valid inside);
+        ordered = subst (λ (s : Source). AreByKey s) (sym same_source) (are_by_key model valid inside);
         owned = subst (λ (s : Source). AreOwned s) (sym same_source) (are_owned facts model valid inside);
-        nested = subst (λ (s : Source). AreNested s) (sym same_source) (are_nested facts model valid inside);
+        nested = subst (λ (s : Source). AreNested s) (sym same_source) (are_nested model valid inside);
         user = user_is;
       }

@@ -8,5 +8,5 @@ returns c =
     let facts : Facts = record { encoded = c.numbers_are_encoded.ensures; encodes = c.shortest_encodes.ensures } in
     record {
       model = is_model facts;
-      order = λ model valid table key keyed. (order_reported facts model valid table key keyed, order_reports facts model valid table key keyed);
+      order = λ model valid table key keyed. (order_reported model valid table key keyed, order_reports model valid table key keyed);
     }
