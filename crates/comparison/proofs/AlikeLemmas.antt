@@ -1,6 +1,6 @@
 -- Rows of the same bytes have the same numbers, and equal numbers that are read alike stand for equal cells.
-use Rattle.std.proofs.Common.{◌≡◌, ◌≢◌, ◌↔◌, ◌∙◌, ◌<◌, ◌≤◌, inl, inr, ℕ, zero, suc, ◌+◌, ◌-◌, ◌*◌, ◌==◌, ◌||◌, Bool, true, false, IsTrue, List, [], ◌∷◌, length, take, min, refl, ap, ap₂, sym, subst, cond, arith}
-use Rattle.comparison.proofs.Prelude.{Decides, AllByRecursion, Decides-eqb, TableId, Token, Column, ColumnKind, column_at, columns_of, cell_count, column_of, IsText, IsBlob, IsGuid, tokens, Sizes, SameCounts, width_of, Metadata, cell_in, count_in, start_from, start_of, Refers, StandsFor, IsCell, IgnoredColumns, AreAlike, AreSameParts, HaveSameHeap, HaveSameNumbers, has_same_heap, cell_difference, row_differences, table_differences, is_ignored, is_same_cell}
+use Rattle.std.proofs.Common.{◌≡◌, ◌≢◌, ◌↔◌, ◌∙◌, ◌<◌, ◌≤◌, inl, inr, ℕ, zero, suc, ◌+◌, ◌-◌, ◌*◌, ◌==◌, Bool, true, false, IsTrue, List, [], ◌∷◌, length, take, refl, ap, ap₂, sym, subst, cond, arith}
+use Rattle.comparison.proofs.Prelude.{Decides, AllByRecursion, Decides-eqb, TableId, Token, Column, ColumnKind, column_at, columns_of, cell_count, column_of, IsText, IsBlob, IsGuid, tokens, Sizes, SameCounts, width_of, Metadata, cell_in, count_in, start_from, start_of, Refers, StandsFor, IsCell, IgnoredColumns, AreAlike, AreSameParts, HaveSameHeap, HaveSameNumbers, has_same_heap, row_differences, table_differences, is_same_cell}
 use Rattle.std.proofs.lemmas.List.Sums.{sum_by-le-sum_by}
 use Rattle.packed.specs.Number.{little_endian}
 use Rattle.packed.specs.Offsets.{part}
@@ -11,9 +11,8 @@ use Rattle.rows.specs.Cells.{number_in_rows}
 use Rattle.metadata.specs.Cell.{Cell, Start}
 use Rattle.metadata.specs.Source.{Source, IsThere, number_of, rows_in}
 use Rattle.reading.specs.RowBytes.{AreRowBytes}
-use Rattle.comparison.specs.declared.difference.Difference.TheVariants as difference
 use Rattle.comparison.specs.declared.same_bytes.SameParts.{SameParts}
-use Rattle.comparison.proofs.EqualLemmas.{adds_nothing, all_nothing_in, either_holds}
+use Rattle.comparison.proofs.EqualLemmas.{row_nothing, table_nothing}
 
 -- a test of two values is one of what they are equal to
 pub compared : (xs ys left right : List ℕ) (test : Bool) → Decides test (xs ≡ ys) → xs ≡ left → ys ≡ right → IsTrue test ↔ (left ≡ right)
@@ -154,27 +153,6 @@ module _ (left right : Source) (layout : SameCounts left.sizes right.sizes) wher
 
 -- ---- what differs
 
-module _ (tested : (a b : Cell) → IsTrue (is_same_cell a b) ↔ (a ≡ b)) (ignored : IgnoredColumns) (first second : Metadata) (table : TableId) where
-  pub cell_nothing : (row cell_index : ℕ) → cell_in first table row cell_index ≡ cell_in second table row cell_index → cell_difference ignored first second table row cell_index ≡ []
-  cell_nothing row cell_index same =
-      let left = cell_in first table row cell_index in
-      let right = cell_in second table row cell_index in
-      adds_nothing (is_ignored ignored table cell_index || is_same_cell left right) (difference.Cell table row cell_index)
-      (either_holds (is_ignored ignored table cell_index) (is_same_cell left right) (λ kept. (tested left right).1 same))
-
-  pub row_nothing : (row : ℕ) → ((cell_index : ℕ) → cell_index < cell_count table → cell_in first table row cell_index ≡ cell_in second table row cell_index)
-      → row_differences ignored first second table row ≡ []
-  unfolding row_differences
-  row_nothing row same =
-      all_nothing_in (cell_difference ignored first second table row) 0 (cell_count table) (λ cell_index low high. cell_nothing row cell_index (same cell_index (omega (arith, high))))
-
-  pub table_nothing : ((row cell_index : ℕ) → 1 ≤ row → row ≤ count_in first table → cell_index < cell_count table → cell_in first table row cell_index ≡ cell_in second table row cell_index)
-      → table_differences ignored first second table ≡ []
-  unfolding table_differences
-  table_nothing same =
-      all_nothing_in (row_differences ignored first second table) 1 (min (count_in first table) (count_in second table))
-      (λ row low high. row_nothing row (λ cell_index lt. same row cell_index low (omega (arith, high)) lt))
-
 module _ (tested : (a b : Cell) → IsTrue (is_same_cell a b) ↔ (a ≡ b))
     (one : (source : Source) (table : TableId) (row cell_index : ℕ) (cell other : Cell) → IsCell source table row cell_index cell → IsCell source table row cell_index other → cell ≡ other)
     (left right : Source) (first second : Metadata) (table : TableId) (alike : AreAlike left right table)
@@ -197,7 +175,7 @@ module _ (tested : (a b : Cell) → IsTrue (is_same_cell a b) ↔ (a ≡ b))
   pub table_decided : count_in first table ≡ rows_in left table → (past : ℕ) → past ≡ rows_in left table + 1 → HaveSameNumbers left right table 1 past
       → table_differences ignored first second table ≡ []
   table_decided counted past is numbers =
-      table_nothing tested ignored first second table (λ row cell_index low last lt.
+      table_nothing tested ignored first second table (λ row cell_index low last lt kept.
       let high : row ≤ rows_in left table = omega (arith, last, counted) in
       decided row cell_index low high lt (numbers row (column_of table cell_index) low (omega (arith, high, is)) (within cell_index lt))
       (λ member list. starts_of_table left right table alike past is numbers row (column_of table cell_index) low high (within cell_index lt) member))
@@ -207,7 +185,7 @@ module _ (tested : (a b : Cell) → IsTrue (is_same_cell a b) ↔ (a ≡ b))
       → ((column : ℕ) (member : TableId) → column < length (columns_of table) → (column_at table column).kind ≡ kind.List member → number_of left table row column ≢ 0)
       → row_differences ignored first second table row ≡ []
   row_decided row low high numbers known =
-      row_nothing tested ignored first second table row (λ cell_index lt.
+      row_nothing tested ignored first second table row (λ cell_index lt kept.
       let column = column_of table cell_index in
       let same = numbers row column (omega arith) (omega arith) (within cell_index lt) in
       decided row cell_index low high lt same (λ member list. start_of_row left right table alike row column low high same (known column member (within cell_index lt) list) member))
