@@ -3,11 +3,12 @@ use Rattle.cell_numbering.proofs.Prelude.{◌≡◌, ℕ, ◌<◌, ◌≤◌, �
 use Rattle.std.specs.Str.{bytes_eq}
 use Rattle.std.specs.Cmp.Lexicographic.{pointwise}
 use Rattle.heap_pools.specs.Ending.{ends_with}
-use Rattle.heap_pools.proofs.MemberLemmas.{IsIn, any_in, in_any, in_distinct}
+use Rattle.heap_pools.proofs.GrowLemmas.{pooled_again}
+use Rattle.heap_pools.proofs.MemberLemmas.{IsIn, any_in, in_any, in_distinct, distinct-push}
 use Rattle.cell_numbering.specs.StartGroups.{AreStartGroups}
-use Rattle.cell_numbering.proofs.BlobLemmas.{AreLaws, same_map, map_map}
+use Rattle.cell_numbering.proofs.BlobLemmas.{same_map, map_map}
 
-module _ (laws : AreLaws) (groups of_use starts : List ℕ) (are : AreStartGroups groups of_use starts) where
+module _ (groups of_use starts : List ℕ) (are : AreStartGroups groups of_use starts) where
   -- a new group
   pub new_start : (start : ℕ) → AreStartGroups (groups ++ start ∷ []) (of_use ++ length groups ∷ []) (starts ++ start ∷ [])
   new_start start =
@@ -23,8 +24,8 @@ module _ (laws : AreLaws) (groups of_use starts : List ℕ) (are : AreStartGroup
             (λ group low. get_or_append_left groups (start ∷ []) 0 group low) of_use are.low ∙ are.each);
         firsts = λ heap.
             let text = heap_text heap in
-            ap distinct (map_push text groups start) ∙ laws.more (map text groups) (text start) ∙ ap (λ list. pooled list (text start)) (are.firsts heap)
-            ∙ sym (laws.more (map text starts) (text start)) ∙ sym (ap distinct (map_push text starts start));
+            ap distinct (map_push text groups start) ∙ distinct-push (map text groups) (text start) ∙ ap (λ list. pooled list (text start)) (are.firsts heap)
+            ∙ sym (distinct-push (map text starts) (text start)) ∙ sym (ap distinct (map_push text starts start));
       }
 
   -- a group that is known
@@ -38,8 +39,8 @@ module _ (laws : AreLaws) (groups of_use starts : List ℕ) (are : AreStartGroup
         let below : group < length (map text groups) = omega (arith, low, length-map groups text) in
         let there : Contains (map text groups) (text start) =
         subst (Contains (map text groups)) (get_or-map text groups group 0 [] low ∙ ap text is) (Contains-get_or (map text groups) group [] below) in
-        sym (ap distinct (map_push text starts start) ∙ laws.more (map text starts) (text start) ∙ ap (λ list. pooled list (text start)) (sym (are.firsts heap))
-        ∙ laws.again (map text groups) (text start) there);
+        sym (ap distinct (map_push text starts start) ∙ distinct-push (map text starts) (text start) ∙ ap (λ list. pooled list (text start)) (sym (are.firsts heap))
+        ∙ pooled_again (map text groups) (text start) there);
   }
 
 -- no uses
