@@ -1,7 +1,8 @@
 -- Rows of the same bytes have the same numbers, and equal numbers that are read alike stand for equal cells.
 use Rattle.std.proofs.Common.{◌≡◌, ◌≢◌, ◌↔◌, ◌∙◌, ◌<◌, ◌≤◌, inl, inr, ℕ, zero, suc, ◌+◌, ◌-◌, ◌*◌, ◌==◌, Bool, true, false, IsTrue, List, [], ◌∷◌, length, take, refl, ap, ap₂, sym, subst, cond, arith}
-use Rattle.comparison.proofs.Prelude.{Decides, AllByRecursion, Decides-eqb, TableId, Token, Column, ColumnKind, column_at, columns_of, cell_count, column_of, IsText, IsBlob, IsGuid, tokens, Sizes, SameCounts, width_of, Metadata, cell_in, count_in, start_from, start_of, Refers, StandsFor, IsCell, IgnoredColumns, AreAlike, AreSameParts, HaveSameHeap, HaveSameNumbers, has_same_heap, row_differences, table_differences, is_same_cell}
-use Rattle.std.proofs.lemmas.List.Sums.{sum_by-le-sum_by}
+use Rattle.comparison.proofs.Prelude.{Decides, AllByRecursion, ne_eqb, TableId, Token, Column, ColumnKind, column_at, columns_of, cell_count, column_of, IsText, IsBlob, IsGuid, tokens, Sizes, SameCounts, width_of, Metadata, cell_in, count_in, start_from, start_of, Refers, StandsFor, IsCell, IgnoredColumns, AreAlike, AreSameParts, HaveSameHeap, HaveSameNumbers, has_same_heap, row_differences, table_differences, is_same_cell}
+use Rattle.std.proofs.Math.Path.{fun_ext}
+use Rattle.std.specs.Prelude.{sum_by}
 use Rattle.packed.specs.Number.{little_endian}
 use Rattle.packed.specs.Offsets.{part}
 use Rattle.table_schema.specs.declared.column.ColumnKind.TheVariants as kind
@@ -40,10 +41,7 @@ module _ (same : SameParts) (left right : Source) (parts : AreSameParts left rig
 same_sum : (sizes others : Sizes) → ((column : Column) → width_of sizes column ≡ width_of others column) → (columns : List Column)
     → columns_width sizes columns ≡ columns_width others columns
 unfolding columns_width
-same_sum sizes others same columns =
-    let low = sum_by-le-sum_by (width_of sizes) (width_of others) columns (λ column. omega (arith, same column)) in
-    let high = sum_by-le-sum_by (width_of others) (width_of sizes) columns (λ column. omega (arith, same column)) in
-    omega (arith, low, high)
+same_sum sizes others same columns = ap (λ (width : Column → ℕ). sum_by width columns) (fun_ext same)
 
 -- a number is at the same offset of the rows
 same_read : (sizes others : Sizes) → ((column : Column) → width_of sizes column ≡ width_of others column) → (bytes more : List ℕ) → bytes ≡ more
@@ -80,11 +78,8 @@ same_starts values others end row (suc left) same =
 -- a value that is not null is the start
 known_start : (values : ℕ → ℕ) (end row left : ℕ) → 1 ≤ left → values row ≢ 0 → start_from values end row left ≡ values row
 known_start values end row zero some known = absurd (omega (arith, some))
-known_start values end row (suc left) some known = go (values row == 0) (Decides-eqb (values row) 0)
-  where
-    go : (null : Bool) → (null ≡ true → values row ≡ 0) × (values row ≡ 0 → null ≡ true) → cond null (start_from values end (row + 1) left) (values row) ≡ values row
-    go true decides = absurd (known (decides.0 refl))
-    go false decides = refl
+known_start values end row (suc left) some known =
+    ap (λ (null : Bool). cond null (start_from values end (row + 1) left) (values row)) (ne_eqb (values row) 0 known)
 
 module _ (left right : Source) (table : TableId) (alike : AreAlike left right table) where
   -- the list values of all rows are the same
