@@ -1,6 +1,7 @@
 -- Two valid models are equal if and only if nothing differs.
-use Rattle.std.proofs.Common.{◌≡◌, ◌↔◌, ◌∙◌, ◌<◌, ◌≤◌, ℕ, zero, suc, ◌+◌, ◌-◌, ◌||◌, Bool, true, false, IsTrue, List, [], ◌∷◌, ◌++◌, length, take, get_or, min, refl, ap, sym, subst, cond, arith, ◌==◌, Option, Some, None, is_some}
-use Rattle.comparison.proofs.Prelude.{bytes_eq, IfNone, IfSome, flat_map, range_with_len, Decides-eqb, bytes_eq-Decides, TableId, Module, tables, table_index_of, cell_count, Metadata, cell_in, count_in, IsValid, Difference, IgnoredColumns, is_ignored, is_same_cell, cell_difference, cell_differences_but, count_difference, first_differences_but, outline_differences, row_differences, table_differences, user_difference, version_difference}
+use Rattle.std.proofs.Common.{◌≡◌, ◌↔◌, ◌∙◌, ◌<◌, ◌≤◌, ℕ, zero, suc, ◌+◌, ◌-◌, ◌||◌, Bool, true, false, IsTrue, List, [], ◌∷◌, ◌++◌, length, length-append, take, get_or, min, refl, ap, sym, subst, cond, arith, ◌==◌, Option, Some, None, is_some}
+use Rattle.comparison.proofs.Prelude.{bytes_eq, take_all, IfNone, IfSome, flat_map, range_with_len, Decides-eqb, bytes_eq-Decides, TableId, Module, tables, table_index_of, cell_count, Metadata, cell_in, count_in, IsValid, Difference, IgnoredColumns, is_ignored, is_same_cell, cell_difference, cell_differences_but, count_difference, first_differences_but, outline_differences, row_differences, table_differences, user_difference, version_difference}
+use Rattle.std.proofs.lemmas.List.{nil_from_length}
 use Rattle.std.proofs.lemmas.List.FromFn.{get_or-range_with_len, length-range_with_len}
 use Rattle.metadata.specs.Cell.{Cell}
 use Rattle.metadata.specs.Lookups.{HasRow}
@@ -12,12 +13,10 @@ use Rattle.comparison.proofs.OutlineLemmas.{count_same, outline_counts}
 -- ---- lists of nothing
 
 first_nothing : {X : Type 0} (xs ys : List X) → xs ++ ys ≡ [] → xs ≡ []
-first_nothing [] ys is = refl
-first_nothing (x ∷ xs) ys is = cc
+first_nothing xs ys is = nil_from_length xs (omega (arith, ap length is, length-append xs ys))
 
 last_nothing : {X : Type 0} (xs ys : List X) → xs ++ ys ≡ [] → ys ≡ []
-last_nothing [] ys is = is
-last_nothing (x ∷ xs) ys is = cc
+last_nothing xs ys is = nil_from_length ys (omega (arith, ap length is, length-append xs ys))
 
 some_nothing : {X : Type 0} (xs : List X) (n : ℕ) → 1 ≤ n → take n xs ≡ [] → xs ≡ []
 some_nothing [] n some is = refl
@@ -34,8 +33,7 @@ all_nothing f [] none = refl
 all_nothing f (y ∷ ys) none = ap (λ xs. xs ++ flat_map f ys) (none y) ∙ all_nothing f ys none
 
 pub take_of_nothing : {X : Type 0} (n : ℕ) (xs : List X) → xs ≡ [] → take n xs ≡ []
-take_of_nothing zero xs is = refl
-take_of_nothing (suc n) xs is = ap (λ ys. take (suc n) ys) is
+take_of_nothing n xs is = take_all n xs (omega (arith, ap length is)) ∙ is
 
 -- a test that adds nothing holds
 test_holds : {X : Type 0} (test : Bool) (x : X) → cond test [] (x ∷ []) ≡ [] → test ≡ true
