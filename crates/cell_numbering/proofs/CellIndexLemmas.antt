@@ -1,6 +1,6 @@
 -- The cells of a row that are left, by the columns that are left.
 use Rattle.std.proofs.Common.{lit≤}
-use Rattle.cell_numbering.proofs.Prelude.{◌≡◌, ℕ, ◌+◌, ◌<◌, ◌≤◌, false, cond, List, [], ◌∷◌, length, get_or, drop, refl, sym, ap, ◌∙◌, length-drop, arith, drop_more, drop_all, TableId, Module, tables, Column, ColumnKind, columns_of, column_at, col, Cell, Number, Metadata, rows_of, kind_at, SoFar, with_cell, with_next_cell, with_row, with_rows, with_tables, is_padding, indexes_from, cell_columns, cell_count, column_of}
+use Rattle.cell_numbering.proofs.Prelude.{◌≡◌, ℕ, ◌+◌, ◌<◌, ◌≤◌, false, cond, List, [], ◌∷◌, length, get_or, drop, refl, sym, ap, ◌∙◌, length-drop, arith, drop_more, drop_all, TableId, Module, ColumnKind, columns_of, column_at, col, Cell, Number, kind_at, SoFar, with_cell, with_next_cell, is_padding, indexes_from, cell_columns, cell_count, column_of}
 use Rattle.table_schema.specs.declared.column.ColumnKind.TheVariants as kind
 use Rattle.cell_numbering.specs.declared.numbers_so_far.Indexes.{Indexes}
 use Rattle.cell_numbering.specs.CellIndexes.{IsCellIndexOf}
@@ -45,30 +45,10 @@ unfolding cell_columns
 few_cells Module = lit≤ tt
 few_cells _ = lit≤ tt
 
--- ---- the remaining parts of a row, of rows and of tables
+-- ---- what is left of a list
 
-pub row_left : (indexes : Indexes) (columns : List Column) (i : ℕ) (cells : List Cell) (so_far whole : SoFar) → i < length columns
-    → with_row indexes (drop i columns) cells so_far ≡ whole
-    → with_next_cell (is_padding (get_or columns i (col kind.U8)).kind) (with_cell indexes (get_or columns i (col kind.U8)).kind) (with_row indexes (drop (i + 1) columns)) cells so_far ≡ whole
-row_left indexes columns i cells so_far whole below e = sym (ap (λ list. with_row indexes list cells so_far) (drop_more columns i (col kind.U8) below)) ∙ e
+pub next_left : {X Y : Type 0} (rest : List X → Y) (xs : List X) (i : ℕ) (d : X) (whole : Y) → i < length xs → rest (drop i xs) ≡ whole → rest (get_or xs i d ∷ drop (i + 1) xs) ≡ whole
+next_left rest xs i d whole below e = sym (ap rest (drop_more xs i d below)) ∙ e
 
-pub row_done : (indexes : Indexes) (columns : List Column) (i : ℕ) (cells : List Cell) (so_far whole : SoFar) → length columns ≤ i
-    → with_row indexes (drop i columns) cells so_far ≡ whole → so_far ≡ whole
-row_done indexes columns i cells so_far whole past e = sym (ap (λ list. with_row indexes list cells so_far) (drop_all i columns past)) ∙ e
-
-pub rows_left : (indexes : Indexes) (columns : List Column) (rows : List (List Cell)) (i : ℕ) (so_far whole : SoFar) → i < length rows
-    → with_rows indexes columns (drop i rows) so_far ≡ whole → with_rows indexes columns (drop (i + 1) rows) (with_row indexes columns (get_or rows i []) so_far) ≡ whole
-rows_left indexes columns rows i so_far whole below e = sym (ap (λ list. with_rows indexes columns list so_far) (drop_more rows i [] below)) ∙ e
-
-pub rows_done : (indexes : Indexes) (columns : List Column) (rows : List (List Cell)) (i : ℕ) (so_far whole : SoFar) → length rows ≤ i
-    → with_rows indexes columns (drop i rows) so_far ≡ whole → so_far ≡ whole
-rows_done indexes columns rows i so_far whole past e = sym (ap (λ list. with_rows indexes columns list so_far) (drop_all i rows past)) ∙ e
-
-pub tables_left : (indexes : Indexes) (model : Metadata) (i : ℕ) (so_far whole : SoFar) → i < length tables
-    → with_tables indexes model (drop i tables) so_far ≡ whole
-    → with_tables indexes model (drop (i + 1) tables) (with_rows indexes (columns_of (get_or tables i Module)) (rows_of model (get_or tables i Module)) so_far) ≡ whole
-tables_left indexes model i so_far whole below e = sym (ap (λ list. with_tables indexes model list so_far) (drop_more tables i Module below)) ∙ e
-
-pub tables_done : (indexes : Indexes) (model : Metadata) (i : ℕ) (so_far whole : SoFar) → length tables ≤ i
-    → with_tables indexes model (drop i tables) so_far ≡ whole → so_far ≡ whole
-tables_done indexes model i so_far whole past e = sym (ap (λ list. with_tables indexes model list so_far) (drop_all i tables past)) ∙ e
+pub none_left : {X Y : Type 0} (rest : List X → Y) (xs : List X) (i : ℕ) (whole : Y) → length xs ≤ i → rest (drop i xs) ≡ whole → rest [] ≡ whole
+none_left rest xs i whole past e = sym (ap rest (drop_all i xs past)) ∙ e

@@ -1,5 +1,6 @@
 -- Groups of starts, use by use; and the plan of the texts of the groups.
-use Rattle.cell_numbering.proofs.Prelude.{◌≡◌, ℕ, ◌<◌, ◌≤◌, ◌-◌, nat_eq, Bool, true, false, true≢false, not, ◌&&◌, Contains, List, [], ◌∷◌, ◌++◌, length, filter, map, refl, sym, ap, subst, ◌∙◌, inl, inr, ⊎_elim, arith, slice_index, list_any, fun_ext, cases_Bool, cases_lt, cond_both, false_from_ne_true, drop_all, map_push, nil_from_length, get_or_append_left, get_or_push, length_push, length-map, get_or-map, All-push, All-nil, All-weaker, Contains-get_or, distinct, first_uses, is_among, pooled, heap_text, texts_at, holders, is_holder}
+use Rattle.cell_numbering.proofs.Prelude.{◌≡◌, ℕ, ◌<◌, ◌≤◌, ◌-◌, nat_eq, Bool, true, false, true≢false, not, ◌&&◌, Contains, List, [], ◌∷◌, ◌++◌, length, filter, map, refl, sym, ap, subst, ◌∙◌, inl, inr, ⊎_elim, arith, slice_index, list_any, fun_ext, cases_lt, cond_both, drop_all, map_push, nil_from_length, get_or_append_left, get_or_push, length_push, length-map, get_or-map, All-push, All-nil, All-weaker, Contains-get_or, distinct, first_uses, is_among, pooled, heap_text, texts_at, holders, is_holder}
+use Rattle.std.proofs.lemmas.Bool.Decides.{same_from_decides}
 use Rattle.std.specs.Str.{bytes_eq}
 use Rattle.std.specs.Cmp.Lexicographic.{pointwise}
 use Rattle.heap_pools.specs.Ending.{ends_with}
@@ -73,10 +74,8 @@ module _ (test : List ℕ → Bool) (none : test [] ≡ false) where
       in_any test found.0 second (in_first ([] ∷ []) second found.0 (subst (IsIn found.0) same (in_distinct first found.0 found.1 some))) found.2
 
   any_same : (first second : List (List ℕ)) → distinct first ≡ distinct second → list_any test first ≡ list_any test second
-  any_same first second same = ⊎_elim
-      (λ (e : list_any test first ≡ true). e ∙ sym (any_then first second same e))
-      (λ (e : list_any test first ≡ false). e ∙ sym (false_from_ne_true _ (λ is. true≢false (sym (any_then second first (sym same) is) ∙ e))))
-      (cases_Bool (list_any test first))
+  any_same first second same =
+      same_from_decides (list_any test first) (list_any test second) (any_then first second same, any_then second first (sym same)) ((λ is. is), (λ is. is))
 
 -- the empty text does not end with another
 empty_ends : (text : List ℕ) → (ends_with [] text && not (bytes_eq [] text)) ≡ false

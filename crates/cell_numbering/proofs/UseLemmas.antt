@@ -145,16 +145,12 @@ all_cells_in index_of model uses cells xs k past are = subst (λ l. AreUsesIn in
 
 -- ---- all uses
 
-flat_row : {X : Type 0} (f : Cell → List X) (rows : List (List Cell)) → flat_map (flat_map f) rows ≡ flat_map f (flat_map (λ row. row) rows)
+flat_row : {X Y : Type 0} (f : Y → List X) (rows : List (List Y)) → flat_map (flat_map f) rows ≡ flat_map f (flat_map (λ row. row) rows)
 flat_row f [] = refl
 flat_row f (row ∷ rows) = ap (λ list. flat_map f row ++ list) (flat_row f rows) ∙ sym (flat_map-append f row (flat_map (λ row. row) rows))
 
 flat_flat : {X : Type 0} (f : Cell → List X) (all : List (List (List Cell))) → flat_map (flat_map (flat_map f)) all ≡ flat_map f (flat_map (flat_map (λ row. row)) all)
-flat_flat f [] = refl
-flat_flat f (rows ∷ all) =
-    ap (λ list. flat_map (flat_map f) rows ++ list) (flat_flat f all)
-    ∙ ap (λ list. list ++ flat_map f (flat_map (flat_map (λ row. row)) all)) (flat_row f rows)
-    ∙ sym (flat_map-append f (flat_map (λ row. row) rows) (flat_map (flat_map (λ row. row)) all))
+flat_flat f all = flat_row (flat_map f) all ∙ flat_row f (flat_map (λ rows. rows) all) ∙ ap (flat_map f) (sym (flat_row (λ (row : List Cell). row) all))
 
 -- the values that all cells use, from the list of all cells
 pub used_is : (values : Cell → List (List ℕ)) (model : Metadata) → used values model ≡ flat_map values (all_cells model)
