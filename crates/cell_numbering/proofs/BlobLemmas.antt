@@ -1,11 +1,8 @@
 -- Uses that refer to kept ones, use by use.
-use Rattle.cell_numbering.proofs.Prelude.{◌≡◌, ℕ, ◌<◌, ◌^◌, All, Contains, List, [], ◌∷◌, ◌++◌, length, map, refl, sym, ap, subst, ◌∙◌, arith, slice_index, map_push, get_or_append_left, get_or_push, length_push, get_or-map, All-push, All-nil, All-weaker, All-head, All-tail, Contains-get_or, distinct, pooled}
+use Rattle.cell_numbering.proofs.Prelude.{◌≡◌, ℕ, ◌<◌, ◌^◌, All, Contains, List, [], ◌∷◌, ◌++◌, length, map, refl, sym, ap, subst, ◌∙◌, arith, slice_index, map_push, get_or_append_left, get_or_push, length_push, get_or-map, All-push, All-nil, All-weaker, All-head, All-tail, Contains-get_or, pooled}
+use Rattle.heap_pools.proofs.GrowLemmas.{pooled_again}
+use Rattle.heap_pools.proofs.MemberLemmas.{distinct-push}
 use Rattle.cell_numbering.specs.BlobUses.{ReferTo, kept_blob}
-
--- the laws on pools that are needed
-pub record AreLaws : Type 0 where
-  pub more : (used : List (List ℕ)) (value : List ℕ) → distinct (used ++ value ∷ []) ≡ pooled (distinct used) value
-  pub again : (used : List (List ℕ)) (value : List ℕ) → Contains used value → pooled (distinct used) value ≡ distinct used
 
 pub same_map : {X Y : Type 0} (P : X → Type 0) (f g : X → Y) → ((x : X) → P x → f x ≡ g x) → (xs : List X) → All P xs → map f xs ≡ map g xs
 same_map P f g same [] all = refl
@@ -16,7 +13,7 @@ pub map_map : {X Y Z : Type 0} (f : Y → Z) (g : X → Y) (xs : List X) → map
 map_map f g [] = refl
 map_map f g (x ∷ xs) = ap (λ list. f (g x) ∷ list) (map_map f g xs)
 
-module _ (laws : AreLaws) (kept : List (List ℕ)) (of_use : List ℕ) (blobs : List (List ℕ)) (are : ReferTo kept of_use blobs) where
+module _ (kept : List (List ℕ)) (of_use : List ℕ) (blobs : List (List ℕ)) (are : ReferTo kept of_use blobs) where
   -- one more that is kept
   pub kept_use : (blob : List ℕ) → length blob < 2 ^ 29 → ReferTo (kept ++ blob ∷ []) (of_use ++ length kept ∷ []) (blobs ++ blob ∷ [])
   kept_use blob short =
@@ -31,7 +28,7 @@ module _ (laws : AreLaws) (kept : List (List ℕ)) (of_use : List ℕ) (blobs : 
             ∙ ap (λ list. list ++ blob ∷ []) (same_map (λ (use_index : ℕ). use_index < length kept) (kept_blob next) (kept_blob kept)
             (λ use_index low. get_or_append_left kept (blob ∷ []) [] use_index low) of_use are.low ∙ are.each);
         short = All-push (λ b. length b < 2 ^ 29) kept blob are.short short;
-        firsts = laws.more kept blob ∙ ap (λ list. pooled list blob) are.firsts ∙ sym (laws.more blobs blob);
+        firsts = distinct-push kept blob ∙ ap (λ list. pooled list blob) are.firsts ∙ sym (distinct-push blobs blob);
       }
 
   -- a use of one that is kept
@@ -42,7 +39,7 @@ module _ (laws : AreLaws) (kept : List (List ℕ)) (of_use : List ℕ) (blobs : 
         low = All-push (λ g. g < length kept) of_use use_index are.low low;
         each = map_push (kept_blob kept) of_use use_index ∙ ap (λ b. map (kept_blob kept) of_use ++ b ∷ []) has ∙ ap (λ list. list ++ blob ∷ []) are.each;
         short = are.short;
-        firsts = sym (laws.more blobs blob ∙ ap (λ list. pooled list blob) (sym are.firsts) ∙ laws.again kept blob there);
+        firsts = sym (distinct-push blobs blob ∙ ap (λ list. pooled list blob) (sym are.firsts) ∙ pooled_again kept blob there);
       }
 
 -- the indexes of the uses, from those of the kept ones

@@ -1,6 +1,6 @@
 -- The cells of a row that are left, by the columns that are left.
-use Rattle.cell_numbering.proofs.Prelude.{◌≡◌, ℕ, ◌+◌, ◌<◌, ◌≤◌, inl, inr, false, cond, List, [], ◌∷◌, length, get_or, drop, map, refl, sym, ap, subst, ◌∙◌, length-drop, arith, range_with_len, cases_Bool, drop_more, drop_all, get_or-map, TableId, Module, tables, table_index_of, Column, ColumnKind, columns_of, column_at, col, Cell, Number, Metadata, rows_of, kind_at, SoFar, with_cell, with_next_cell, with_row, with_rows, with_tables, is_padding, indexes_from, cell_columns, cell_count, column_of}
-use Rattle.std.proofs.lemmas.List.FromFn.{get_or-range_with_len}
+use Rattle.std.proofs.Common.{lit≤}
+use Rattle.cell_numbering.proofs.Prelude.{◌≡◌, ℕ, ◌+◌, ◌<◌, ◌≤◌, false, cond, List, [], ◌∷◌, length, get_or, drop, refl, sym, ap, ◌∙◌, length-drop, arith, drop_more, drop_all, TableId, Module, ColumnKind, columns_of, column_at, col, Cell, Number, kind_at, SoFar, with_cell, with_next_cell, is_padding, indexes_from, cell_columns, cell_count, column_of}
 use Rattle.table_schema.specs.declared.column.ColumnKind.TheVariants as kind
 use Rattle.cell_numbering.specs.declared.numbers_so_far.Indexes.{Indexes}
 use Rattle.cell_numbering.specs.CellIndexes.{IsCellIndexOf}
@@ -40,52 +40,15 @@ pub unpadded : (k : ColumnKind) → (k ≡ kind.Padding → ⊥) → is_padding 
 unpadded kind.Padding other = absurd (other refl)
 unpadded _ other = refl
 
-few_indexes : (index : ℕ) (columns : List Column) → length (indexes_from index columns) ≤ length columns
-few_indexes index [] = omega arith
-few_indexes index (column ∷ columns) =
-    let tail = indexes_from (index + 1) columns in
-    elim (cases_Bool (is_padding column.kind)) [
-      | inl padding ↦ subst (λ b. length (cond b tail (index ∷ tail)) ≤ length (column ∷ columns)) (sym padding) (omega (arith, few_indexes (index + 1) columns))
-      | inr other ↦ subst (λ b. length (cond b tail (index ∷ tail)) ≤ length (column ∷ columns)) (sym other) (omega (arith, few_indexes (index + 1) columns))
-    ]
-
 pub few_cells : (table : TableId) → cell_count table ≤ length (columns_of table)
 unfolding cell_columns
-few_cells table = few_indexes 0 (columns_of table)
+few_cells Module = lit≤ tt
+few_cells _ = lit≤ tt
 
--- ---- the remaining parts of a row, of rows and of tables
+-- ---- what is left of a list
 
-pub row_left : (indexes : Indexes) (columns : List Column) (i : ℕ) (cells : List Cell) (so_far whole : SoFar) → i < length columns
-    → with_row indexes (drop i columns) cells so_far ≡ whole
-    → with_next_cell (is_padding (get_or columns i (col kind.U8)).kind) (with_cell indexes (get_or columns i (col kind.U8)).kind) (with_row indexes (drop (i + 1) columns)) cells so_far ≡ whole
-row_left indexes columns i cells so_far whole below e = sym (ap (λ list. with_row indexes list cells so_far) (drop_more columns i (col kind.U8) below)) ∙ e
+pub next_left : {X Y : Type 0} (rest : List X → Y) (xs : List X) (i : ℕ) (d : X) (whole : Y) → i < length xs → rest (drop i xs) ≡ whole → rest (get_or xs i d ∷ drop (i + 1) xs) ≡ whole
+next_left rest xs i d whole below e = sym (ap rest (drop_more xs i d below)) ∙ e
 
-pub row_done : (indexes : Indexes) (columns : List Column) (i : ℕ) (cells : List Cell) (so_far whole : SoFar) → length columns ≤ i
-    → with_row indexes (drop i columns) cells so_far ≡ whole → so_far ≡ whole
-row_done indexes columns i cells so_far whole past e = sym (ap (λ list. with_row indexes list cells so_far) (drop_all i columns past)) ∙ e
-
-pub rows_left : (indexes : Indexes) (columns : List Column) (rows : List (List Cell)) (i : ℕ) (so_far whole : SoFar) → i < length rows
-    → with_rows indexes columns (drop i rows) so_far ≡ whole → with_rows indexes columns (drop (i + 1) rows) (with_row indexes columns (get_or rows i []) so_far) ≡ whole
-rows_left indexes columns rows i so_far whole below e = sym (ap (λ list. with_rows indexes columns list so_far) (drop_more rows i [] below)) ∙ e
-
-pub rows_done : (indexes : Indexes) (columns : List Column) (rows : List (List Cell)) (i : ℕ) (so_far whole : SoFar) → length rows ≤ i
-    → with_rows indexes columns (drop i rows) so_far ≡ whole → so_far ≡ whole
-rows_done indexes columns rows i so_far whole past e = sym (ap (λ list. with_rows indexes columns list so_far) (drop_all i rows past)) ∙ e
-
-pub tables_left : (indexes : Indexes) (model : Metadata) (i : ℕ) (so_far whole : SoFar) → i < length tables
-    → with_tables indexes model (drop i tables) so_far ≡ whole
-    → with_tables indexes model (drop (i + 1) tables) (with_rows indexes (columns_of (get_or tables i Module)) (rows_of model (get_or tables i Module)) so_far) ≡ whole
-tables_left indexes model i so_far whole below e = sym (ap (λ list. with_tables indexes model list so_far) (drop_more tables i Module below)) ∙ e
-
-pub tables_done : (indexes : Indexes) (model : Metadata) (i : ℕ) (so_far whole : SoFar) → length tables ≤ i
-    → with_tables indexes model (drop i tables) so_far ≡ whole → so_far ≡ whole
-tables_done indexes model i so_far whole past e = sym (ap (λ list. with_tables indexes model list so_far) (drop_all i tables past)) ∙ e
-
-table_indexes : map table_index_of tables ≡ range_with_len 0 38
-unfolding tables
-table_indexes = refl
-
--- a table is found by its index
-pub table_index_at : length tables ≡ 38 → (k : ℕ) → k < 38 → table_index_of (get_or tables k Module) ≡ k
-table_index_at count k below =
-    sym (get_or-map table_index_of tables k Module 0 (omega (arith, count))) ∙ ap (λ (l : List ℕ). get_or l k 0) table_indexes ∙ get_or-range_with_len 0 38 k 0 below ∙ omega arith
+pub none_left : {X Y : Type 0} (rest : List X → Y) (xs : List X) (i : ℕ) (whole : Y) → length xs ≤ i → rest (drop i xs) ≡ whole → rest [] ≡ whole
+none_left rest xs i whole past e = sym (ap rest (drop_all i xs past)) ∙ e

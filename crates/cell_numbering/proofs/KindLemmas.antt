@@ -1,9 +1,15 @@
 -- Which cells are in which heap, by the kinds of their columns.
-use Rattle.cell_numbering.proofs.Prelude.{◌≡◌, ℕ, Option, List, [], refl, sym, ap, subst, ◌∙◌, Bor, SigKind, ColumnKind, Cell, Number, Text, Bytes, Guid, Ref, Start, Sig, IsOfKind, Shows, ShowsSignature, CellRef, cell_number, texts_of, blobs_of, IsInNoHeap, guid_of, SoFar, no_pools, with_blob, with_cell, with_guid, with_number, with_text}
+use Rattle.cell_numbering.proofs.Prelude.{◌≡◌, ◌<◌, ◌≤◌, ℕ, Option, List, [], refl, sym, ap, subst, ◌∙◌, arith, Bor, SigKind, ColumnKind, TableId, cell_count, kind_at, cell_in, Metadata, IsValid, Cell, Number, Text, Bytes, Guid, Ref, Start, Sig, IsOfKind, Shows, ShowsSignature, CellRef, cell_number, texts_of, blobs_of, IsInNoHeap, guid_of, SoFar, no_pools, with_blob, with_cell, with_guid, with_number, with_text}
 use Rattle.table_schema.specs.declared.column.ColumnKind.TheVariants as kind
 use Rattle.sig_grammar.specs.Syntax.{Body}
+use Rattle.metadata.specs.Metadata.{count_in}
 use Rattle.reading.specs.declared.cell_ref.CellRef.TheVariants as seen
 use Rattle.cell_numbering.specs.declared.numbers_so_far.Indexes.{Indexes}
+
+-- a cell of a valid model has the kind of its column
+pub cell_fits : (model : Metadata) → IsValid model → (table : TableId) (row cell_index count : ℕ) → count_in model table ≡ count → 1 ≤ row → row ≤ count → cell_index < cell_count table
+    → IsOfKind (kind_at table cell_index) (cell_in model table row cell_index)
+cell_fits model valid table row cell_index count rows first last below = (valid.cells table row cell_index (first, omega (arith, rows, last)) below).of_kind
 
 -- ---- the number of a cell in a column of a heap is the next index
 

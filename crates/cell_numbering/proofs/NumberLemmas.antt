@@ -1,7 +1,8 @@
 -- The numbers of all cells are those of the canonical root, if each is the next index of its heap.
 use Rattle.cell_numbering.proofs.Prelude.{◌≡◌, ℕ, ◌+◌, ◌-◌, Bool, true, false, cond, List, [], ◌∷◌, ◌++◌, length, get_or, map, drop, Some, None, refl, sym, ap, ◌∙◌, append_assoc, append-nil, length-append, arith, slice_index, flat_map, AllByRecursion, fun_ext, drop_at, drop-drop, ext_get_or, get_or-drop, get_or-map, length-map, map-append, flat_map-append, All-from_get_or, recursion_from_All, Column, ColumnKind, TableId, Module, tables, columns_of, is_padding, indexes_from, cell_columns, text_index, blob_index, guid_index, Cell, Number, Text, Bytes, Guid, Ref, Start, Sig, Metadata, rows_of, IsValid, Pools, pools_of, texts_of, blobs_of, cell_number, with_next, numbers_of, table_numbers, numbers, flat, AreIndexes, all_cells, guid_of, SoFar, none_numbered, with_number, with_cell, with_next_cell, with_row, with_rows, with_tables}
 use Rattle.cell_numbering.specs.declared.numbers_so_far.Indexes.{Indexes}
-use Rattle.cell_numbering.proofs.CellIndexLemmas.{table_index_at}
+use Rattle.table_schema.proofs.TableFacts.{table_index_at}
+use Rattle.std.proofs.lemmas.List.Folds.{flat_map-map}
 
 -- ---- the next indexes of one heap
 
@@ -166,27 +167,23 @@ module _ (pools : Pools) (indexes : Indexes) where
 
 -- ---- the whole
 
-flat_of_map : {X Y Z : Type 0} (f : Y → List Z) (g : X → Y) (xs : List X) → flat_map (λ x. f (g x)) xs ≡ flat_map f (map g xs)
-flat_of_map f g [] = refl
-flat_of_map f g (x ∷ xs) = ap (λ list. f (g x) ++ list) (flat_of_map f g xs)
-
 pub rows_are : length tables ≡ 38 → (model : Metadata) → length model.tables ≡ 38 → map (rows_of model) tables ≡ model.tables
 rows_are count model long =
     let same = length-map tables (rows_of model) in
     ext_get_or [] (map (rows_of model) tables) model.tables (omega (arith, same, count, long)) (λ k below.
     get_or-map (rows_of model) tables k Module [] (omega (arith, same, below))
-    ∙ ap (λ (i : ℕ). get_or model.tables i []) (table_index_at count k (omega (arith, same, count, below))))
+    ∙ ap (λ (i : ℕ). get_or model.tables i []) (table_index_at k (omega (arith, same, count, below))))
 
 cells_by_table : length tables ≡ 38 → (model : Metadata) → length model.tables ≡ 38 → cells_in model tables ≡ all_cells model
 cells_by_table count model long =
-    flat_of_map (flat_map (λ (row : List Cell). row)) (rows_of model) tables ∙ ap (flat_map (flat_map (λ (row : List Cell). row))) (rows_are count model long)
+    sym (flat_map-map (flat_map (λ (row : List Cell). row)) (rows_of model) tables) ∙ ap (flat_map (flat_map (λ (row : List Cell). row))) (rows_are count model long)
 
 flat_numbers : (model : Metadata) → flat_map (table_flat (pools_of model) model) tables ≡ flat (numbers model)
 unfolding numbers
 flat_numbers model =
     let each : table_flat (pools_of model) model ≡ (λ (table : TableId). flat_map (λ (row : List ℕ). row) (table_numbers model table)) =
-    fun_ext (λ table. flat_of_map (λ (row : List ℕ). row) (numbers_of (pools_of model) (columns_of table)) (rows_of model table)) in
-    ap (λ f. flat_map f tables) each ∙ flat_of_map (flat_map (λ (row : List ℕ). row)) (table_numbers model) tables
+    fun_ext (λ table. sym (flat_map-map (λ (row : List ℕ). row) (numbers_of (pools_of model) (columns_of table)) (rows_of model table))) in
+    ap (λ f. flat_map f tables) each ∙ sym (flat_map-map (flat_map (λ (row : List ℕ). row)) (table_numbers model) tables)
 
 long_rows : (model : Metadata) → IsValid model → (table : TableId) → AreLong (length (indexes_from 0 (columns_of table))) (rows_of model table)
 unfolding cell_columns

@@ -1,15 +1,15 @@
 -- What several proofs of this crate name of std, of the crates below, and of the definitions that many proofs cite.
 pub use Rattle.std.proofs.Common.{◌≡◌, ℕ, ◌<◌, ◌^◌, All, Contains, List, [], ◌∷◌, ◌++◌, length, map, refl, sym, ap, subst, ◌∙◌, arith, ◌+◌, ◌≤◌, inl, inr, false, cond, get_or, drop, length-drop, Option, ◌-◌, Bool, true, Some, None, append_assoc, append-nil, length-append, nat_eq, true≢false, not, ◌&&◌, filter, ⊎_elim, zero, suc, take, ◌*◌, Err, ◌≢◌, rules, ◌↔◌}
-pub use Rattle.std.proofs.Math.Nat.{mul-le-mul_left, mul-le-mul_right, lt_of_not-le}
+pub use Rattle.std.proofs.Math.Nat.{lt_of_not-le}
 pub use Rattle.std.proofs.Math.Path.{fun_ext}
-pub use Rattle.std.proofs.lemmas.Bool.{cases_Bool, cases_lt, cond_both, false_from_ne_true}
+pub use Rattle.std.proofs.lemmas.Bool.{cases_lt, cond_both}
 pub use Rattle.std.proofs.lemmas.Grind.{not_there}
 pub use Rattle.std.proofs.lemmas.List.{map_push, get_or_append_left, get_or_push, length_push, get_or-map, drop_more, drop_all, drop_at, drop-drop, ext_get_or, get_or-drop, length-map, map-append, nil_from_length, take_more, take_all, get_or_read, take-append-drop}
 pub use Rattle.std.proofs.lemmas.List.Concat.{flat_map-append}
 pub use Rattle.std.proofs.lemmas.List.Elements.{All-push, All-nil, All-weaker, All-head, All-tail, Contains-get_or, All-from_get_or, recursion_from_All, All-take, All-get_or}
 pub use Rattle.std.proofs.lemmas.Result.{on_ok_weaker, err_from_is_err_and}
 pub use Rattle.std.specs.Borrow.{Bor}
-pub use Rattle.std.specs.List.{range_with_len, AllByRecursion, list_any, AllZip}
+pub use Rattle.std.specs.List.{AllByRecursion, list_any, AllZip}
 pub use Rattle.std.specs.Prelude.{slice_index, flat_map, IfSome, unwrap_or, IfOk}
 pub use Rattle.cell_numbering.specs.BlobBytes.{AreWritten, all_bytes, bytes_at, bytes_in, AreWrittenAs}
 pub use Rattle.cell_numbering.specs.HeapUses.{IsUseIn, IsInNoHeap, guid_of, AreIndexes, all_cells, AreUsesIn, GivesBlob, IsUseOf}

@@ -1,13 +1,15 @@
 -- Groups of starts, use by use; and the plan of the texts of the groups.
-use Rattle.cell_numbering.proofs.Prelude.{◌≡◌, ℕ, ◌<◌, ◌≤◌, ◌-◌, nat_eq, Bool, true, false, true≢false, not, ◌&&◌, Contains, List, [], ◌∷◌, ◌++◌, length, filter, map, refl, sym, ap, subst, ◌∙◌, inl, inr, ⊎_elim, arith, slice_index, list_any, fun_ext, cases_Bool, cases_lt, cond_both, false_from_ne_true, drop_all, map_push, nil_from_length, get_or_append_left, get_or_push, length_push, length-map, get_or-map, All-push, All-nil, All-weaker, Contains-get_or, distinct, first_uses, is_among, pooled, heap_text, texts_at, holders, is_holder}
+use Rattle.cell_numbering.proofs.Prelude.{◌≡◌, ℕ, ◌<◌, ◌≤◌, ◌-◌, nat_eq, Bool, true, false, true≢false, not, ◌&&◌, Contains, List, [], ◌∷◌, ◌++◌, length, filter, map, refl, sym, ap, subst, ◌∙◌, inl, inr, ⊎_elim, arith, slice_index, list_any, fun_ext, cases_lt, cond_both, drop_all, map_push, nil_from_length, get_or_append_left, get_or_push, length_push, length-map, get_or-map, All-push, All-nil, All-weaker, Contains-get_or, distinct, first_uses, is_among, pooled, heap_text, texts_at, holders, is_holder}
+use Rattle.std.proofs.lemmas.Bool.Decides.{same_from_decides}
 use Rattle.std.specs.Str.{bytes_eq}
 use Rattle.std.specs.Cmp.Lexicographic.{pointwise}
 use Rattle.heap_pools.specs.Ending.{ends_with}
-use Rattle.heap_pools.proofs.MemberLemmas.{IsIn, any_in, in_any, in_distinct}
+use Rattle.heap_pools.proofs.GrowLemmas.{pooled_again}
+use Rattle.heap_pools.proofs.MemberLemmas.{IsIn, any_in, in_any, in_distinct, distinct-push}
 use Rattle.cell_numbering.specs.StartGroups.{AreStartGroups}
-use Rattle.cell_numbering.proofs.BlobLemmas.{AreLaws, same_map, map_map}
+use Rattle.cell_numbering.proofs.BlobLemmas.{same_map, map_map}
 
-module _ (laws : AreLaws) (groups of_use starts : List ℕ) (are : AreStartGroups groups of_use starts) where
+module _ (groups of_use starts : List ℕ) (are : AreStartGroups groups of_use starts) where
   -- a new group
   pub new_start : (start : ℕ) → AreStartGroups (groups ++ start ∷ []) (of_use ++ length groups ∷ []) (starts ++ start ∷ [])
   new_start start =
@@ -23,8 +25,8 @@ module _ (laws : AreLaws) (groups of_use starts : List ℕ) (are : AreStartGroup
             (λ group low. get_or_append_left groups (start ∷ []) 0 group low) of_use are.low ∙ are.each);
         firsts = λ heap.
             let text = heap_text heap in
-            ap distinct (map_push text groups start) ∙ laws.more (map text groups) (text start) ∙ ap (λ list. pooled list (text start)) (are.firsts heap)
-            ∙ sym (laws.more (map text starts) (text start)) ∙ sym (ap distinct (map_push text starts start));
+            ap distinct (map_push text groups start) ∙ distinct-push (map text groups) (text start) ∙ ap (λ list. pooled list (text start)) (are.firsts heap)
+            ∙ sym (distinct-push (map text starts) (text start)) ∙ sym (ap distinct (map_push text starts start));
       }
 
   -- a group that is known
@@ -38,8 +40,8 @@ module _ (laws : AreLaws) (groups of_use starts : List ℕ) (are : AreStartGroup
         let below : group < length (map text groups) = omega (arith, low, length-map groups text) in
         let there : Contains (map text groups) (text start) =
         subst (Contains (map text groups)) (get_or-map text groups group 0 [] low ∙ ap text is) (Contains-get_or (map text groups) group [] below) in
-        sym (ap distinct (map_push text starts start) ∙ laws.more (map text starts) (text start) ∙ ap (λ list. pooled list (text start)) (sym (are.firsts heap))
-        ∙ laws.again (map text groups) (text start) there);
+        sym (ap distinct (map_push text starts start) ∙ distinct-push (map text starts) (text start) ∙ ap (λ list. pooled list (text start)) (sym (are.firsts heap))
+        ∙ pooled_again (map text groups) (text start) there);
   }
 
 -- no uses
@@ -72,10 +74,8 @@ module _ (test : List ℕ → Bool) (none : test [] ≡ false) where
       in_any test found.0 second (in_first ([] ∷ []) second found.0 (subst (IsIn found.0) same (in_distinct first found.0 found.1 some))) found.2
 
   any_same : (first second : List (List ℕ)) → distinct first ≡ distinct second → list_any test first ≡ list_any test second
-  any_same first second same = ⊎_elim
-      (λ (e : list_any test first ≡ true). e ∙ sym (any_then first second same e))
-      (λ (e : list_any test first ≡ false). e ∙ sym (false_from_ne_true _ (λ is. true≢false (sym (any_then second first (sym same) is) ∙ e))))
-      (cases_Bool (list_any test first))
+  any_same first second same =
+      same_from_decides (list_any test first) (list_any test second) (any_then first second same, any_then second first (sym same)) ((λ is. is), (λ is. is))
 
 -- the empty text does not end with another
 empty_ends : (text : List ℕ) → (ends_with [] text && not (bytes_eq [] text)) ≡ false

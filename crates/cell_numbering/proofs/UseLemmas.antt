@@ -1,5 +1,6 @@
 -- The values that cells use, cell by cell.
 use Rattle.cell_numbering.proofs.Prelude.{◌≡◌, ℕ, zero, suc, ◌+◌, ◌<◌, ◌≤◌, ◌^◌, List, [], ◌∷◌, ◌++◌, length, get_or, take, Some, None, Option, refl, sym, ap, subst, ◌∙◌, append_assoc, append-nil, arith, flat_map, AllZip, Bor, take_more, take_all, flat_map-append, SigKind, ColumnKind, given, Cell, Bytes, Guid, Sig, Metadata, CanBeNumbered, CellId, HasCell, IsBlobKind, ShareBlob, cell_by_id, kind_by_id, texts_of, blobs_of, guids_of, used, BlobUse, AreUsesIn, GivesBlob, IsUseIn, IsUseOf, all_cells, guid_of}
+use Rattle.std.proofs.lemmas.Slice.Zip.{AllZip-long}
 use Rattle.table_schema.specs.declared.column.ColumnKind.TheVariants as kind
 use Rattle.sig_grammar.specs.Encodes.{short}
 use Rattle.metadata_source.specs.SignatureBytes.{AreBytesOf}
@@ -10,7 +11,7 @@ use Rattle.cell_numbering.specs.declared.heap_uses.HeapUses.{HeapUses}
 use Rattle.cell_numbering.specs.declared.text_uses.TextUses.{TextUses}
 use Rattle.cell_numbering.specs.BlobUses.{AreBlobUses, IsAtIndex, ReferTo}
 use Rattle.cell_numbering.specs.TextUses.{AreTextUses}
-use Rattle.cell_numbering.proofs.BlobLemmas.{AreLaws, kept_use, known_use, no_kept}
+use Rattle.cell_numbering.proofs.BlobLemmas.{kept_use, known_use, no_kept}
 use Rattle.cell_numbering.proofs.KindLemmas.{IsNoText}
 
 -- ---- related lists
@@ -20,11 +21,6 @@ pub zip_append : {X Y : Type 0} (R : X → Y → Type 0) (xs : List X) (ys : Lis
 zip_append R [] [] more others first second = second
 zip_append R (x ∷ xs) (y ∷ ys) more others first second = (first.0, zip_append R xs ys more others first.1 second)
 zip_append R _ _ more others first second = absurd first
-
-pub zip_length : {X Y : Type 0} (R : X → Y → Type 0) (xs : List X) (ys : List Y) → AllZip R xs ys → length xs ≡ length ys
-zip_length R [] [] all = refl
-zip_length R (x ∷ xs) (y ∷ ys) all = ap suc (zip_length R xs ys all.1)
-zip_length R _ _ all = absurd all
 
 pub zip_at : {X Y : Type 0} (R : X → Y → Type 0) (xs : List X) (ys : List Y) (k : ℕ) (d : X) (e : Y) → AllZip R xs ys → k < length xs → R (get_or xs k d) (get_or ys k e)
 zip_at R [] ys k d e all below = absurd (omega (arith, below))
@@ -149,16 +145,12 @@ all_cells_in index_of model uses cells xs k past are = subst (λ l. AreUsesIn in
 
 -- ---- all uses
 
-flat_row : {X : Type 0} (f : Cell → List X) (rows : List (List Cell)) → flat_map (flat_map f) rows ≡ flat_map f (flat_map (λ row. row) rows)
+flat_row : {X Y : Type 0} (f : Y → List X) (rows : List (List Y)) → flat_map (flat_map f) rows ≡ flat_map f (flat_map (λ row. row) rows)
 flat_row f [] = refl
 flat_row f (row ∷ rows) = ap (λ list. flat_map f row ++ list) (flat_row f rows) ∙ sym (flat_map-append f row (flat_map (λ row. row) rows))
 
 flat_flat : {X : Type 0} (f : Cell → List X) (all : List (List (List Cell))) → flat_map (flat_map (flat_map f)) all ≡ flat_map f (flat_map (flat_map (λ row. row)) all)
-flat_flat f [] = refl
-flat_flat f (rows ∷ all) =
-    ap (λ list. flat_map (flat_map f) rows ++ list) (flat_flat f all)
-    ∙ ap (λ list. list ++ flat_map f (flat_map (flat_map (λ row. row)) all)) (flat_row f rows)
-    ∙ sym (flat_map-append f (flat_map (λ row. row) rows) (flat_map (flat_map (λ row. row)) all))
+flat_flat f all = flat_row (flat_map f) all ∙ flat_row f (flat_map (λ rows. rows) all) ∙ ap (flat_map f) (sym (flat_row (λ (row : List Cell). row) all))
 
 -- the values that all cells use, from the list of all cells
 pub used_is : (values : Cell → List (List ℕ)) (model : Metadata) → used values model ≡ flat_map values (all_cells model)
@@ -204,7 +196,7 @@ no_text_beside (Bytes bytes) blob has = record { texts = refl; guids = refl }
 no_text_beside (Sig signature) blob has = record { texts = refl; guids = refl }
 no_text_beside _ blob has = absurd (cc)
 
-module _ (index_of : CellId → Option ℕ) (model : Metadata) (laws : AreLaws) (before after : HeapUses) (cells : List Cell) (id : CellId) (are : AreUsesIn index_of model before cells) where
+module _ (index_of : CellId → Option ℕ) (model : Metadata) (before after : HeapUses) (cells : List Cell) (id : CellId) (are : AreUsesIn index_of model before cells) where
   abbrev cell : Cell
   cell = cell_by_id model id
 
@@ -217,7 +209,7 @@ module _ (index_of : CellId → Option ℕ) (model : Metadata) (laws : AreLaws) 
       → after.blobs.of_use.items ≡ before.blobs.of_use.items ++ length before.blobs.kept.items ∷ [] → AreUsesIn index_of model after (cells ++ cell ∷ [])
   added_use found one texts guids kept of_use =
       let known = are.blobs.kept in
-      let long : length before.blobs.kept.items ≡ length known = zip_length (IsUseIn index_of model) before.blobs.kept.items known are.blobs.each in
+      let long : length before.blobs.kept.items ≡ length known = sym (AllZip-long (IsUseIn index_of model) before.blobs.kept.items known are.blobs.each) in
       let none = no_text_beside cell one.blob one.has in
       let more : AreBlobUses (IsUseIn index_of model) after.blobs (blobs ++ one.blob ∷ []) = record {
         kept = known ++ one.blob ∷ [];
@@ -225,7 +217,7 @@ module _ (index_of : CellId → Option ℕ) (model : Metadata) (laws : AreLaws) 
             (zip_append (IsUseIn index_of model) before.blobs.kept.items known (found ∷ []) (one.blob ∷ []) are.blobs.each (one.is, tt));
         refer = subst (λ (list : List ℕ). ReferTo (known ++ one.blob ∷ []) list (blobs ++ one.blob ∷ []))
             (sym (of_use ∙ ap (λ (n : ℕ). before.blobs.of_use.items ++ n ∷ []) long))
-            (kept_use laws known before.blobs.of_use.items blobs are.blobs.refer one.blob one.is.of.short);
+            (kept_use known before.blobs.of_use.items blobs are.blobs.refer one.blob one.is.of.short);
       } in
       added_blob index_of model before after cells cell are
       (subst (λ list. AreBlobUses (IsUseIn index_of model) after.blobs (blobs ++ list)) (sym one.has) more) none.texts none.guids texts guids
@@ -237,7 +229,7 @@ module _ (index_of : CellId → Option ℕ) (model : Metadata) (laws : AreLaws) 
       → after.blobs.of_use.items ≡ before.blobs.of_use.items ++ known ∷ [] → AreUsesIn index_of model after (cells ++ cell ∷ [])
   added_known shared known column given there kind same below at texts guids kept of_use =
       let list = are.blobs.kept in
-      let long : length before.blobs.kept.items ≡ length list = zip_length (IsUseIn index_of model) before.blobs.kept.items list are.blobs.each in
+      let long : length before.blobs.kept.items ≡ length list = sym (AllZip-long (IsUseIn index_of model) before.blobs.kept.items list are.blobs.each) in
       let d = some_use before.blobs.kept.items known below in
       let here = at d in
       let blob = get_or list known [] in
@@ -256,7 +248,7 @@ module _ (index_of : CellId → Option ℕ) (model : Metadata) (laws : AreLaws) 
         kept = list;
         each = subst (λ (uses : List BlobUse). AllZip (IsUseIn index_of model) uses list) (sym kept) are.blobs.each;
         refer = subst (λ (uses : List ℕ). ReferTo list uses (blobs ++ blob ∷ [])) (sym of_use)
-            (known_use laws list before.blobs.of_use.items blobs are.blobs.refer known blob (omega (arith, below, long)) refl);
+            (known_use list before.blobs.of_use.items blobs are.blobs.refer known blob (omega (arith, below, long)) refl);
       } in
       added_blob index_of model before after cells cell are
       (subst (λ uses. AreBlobUses (IsUseIn index_of model) after.blobs (blobs ++ uses)) (sym has) more) none.texts none.guids texts guids

@@ -6,7 +6,8 @@ use Rattle.cell_numbering.specs.declared.blob_bytes.BlobBytes.{BlobBytes}
 use Rattle.cell_numbering.specs.declared.blob_bytes.BlobBytes.TheVariants.{Found}
 use Rattle.cell_numbering.specs.EqualUses.{IsSameUse}
 use Rattle.cell_numbering.proofs.BlobLemmas.{same_map}
-use Rattle.cell_numbering.proofs.UseLemmas.{zip_at, zip_length}
+use Rattle.std.proofs.lemmas.Slice.Zip.{AllZip-long}
+use Rattle.cell_numbering.proofs.UseLemmas.{zip_at}
 
 abbrev pub no_bytes : BlobBytes
 no_bytes = Found (record { ref_ptr = (0, 0); now = [] })
@@ -20,13 +21,13 @@ module _ (uses : List BlobUse) (blobs : List (List ℕ)) (all : AllZip IsUseOf u
   next_blob before blob are is =
       ap (λ list. list ++ blob ∷ []) are
       ∙ ap (λ b. take i blobs ++ b ∷ []) (is (get_or blobs i []) (subst (λ (u : BlobUse). IsUseOf u (get_or blobs i [])) (sym here) (zip_at IsUseOf uses blobs i found [] all below)))
-      ∙ sym (take_more blobs i [] (omega (arith, below, zip_length IsUseOf uses blobs all)))
+      ∙ sym (take_more blobs i [] (omega (arith, below, AllZip-long IsUseOf uses blobs all)))
 
   -- the blob of an earlier use that is one of the same blob
   pub earlier_blob : (before : List (List ℕ)) (earlier : ℕ) (next : List ℕ) → before ≡ take i blobs → earlier < length before → next ≡ get_or blobs i []
       → (earlier ≡ i) ⊎ ((earlier < i) × IsSameUse (get_or uses earlier found) (get_or uses i found)) → (used_at before earlier ≡ next) × (0 < length next)
   earlier_blob before earlier next are low is same =
-      let count = zip_length IsUseOf uses blobs all in
+      let count = AllZip-long IsUseOf uses blobs all in
       let within : i ≤ length blobs = omega (arith, below, count) in
       let lt : earlier < i = omega (arith, low, ap length are, length-take-le i blobs within) in
       ⊎_elim
@@ -38,7 +39,7 @@ module _ (uses : List BlobUse) (blobs : List (List ℕ)) (all : AllZip IsUseOf u
 
   pub short_blobs : (count : ℕ) → All (λ blob. length blob < 2 ^ 29) (take count blobs)
   short_blobs count = All-take (λ blob. length blob < 2 ^ 29) count blobs
-      (All-from_get_or (λ blob. length blob < 2 ^ 29) blobs [] (λ k h. (zip_at IsUseOf uses blobs k found [] all (omega (arith, h, zip_length IsUseOf uses blobs all))).short))
+      (All-from_get_or (λ blob. length blob < 2 ^ 29) blobs [] (λ k h. (zip_at IsUseOf uses blobs k found [] all (omega (arith, h, AllZip-long IsUseOf uses blobs all))).short))
 
 module _ (bytes : List BlobBytes) (firsts : List ℕ) (are : AreWritten bytes firsts) where
   abbrev used : List (List ℕ)

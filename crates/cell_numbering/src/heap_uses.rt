@@ -50,7 +50,6 @@ fn add_value<'a, S: ReadCells>(
         → OnOk result (AreUsesIn (S.heap_index source.now) model uses.new (cells ++ cell_in model table row cell_index ∷ [])) }
 {
     root_writer::laws::cells_can_be_numbered();
-    heap_pools::laws::pooled_are_distinct();
     source.holds_one();
     source.shared_blobs_are_one();
     if let Some(known) = uses.blobs.known(kind, index) {
@@ -86,7 +85,6 @@ fn add_signature<'a, S: ReadCells>(
         → OnOk result (AreUsesIn (S.heap_index source.now) model uses.new (cells ++ cell_in model table row cell_index ∷ [])) }
 {
     root_writer::laws::cells_can_be_numbered();
-    heap_pools::laws::pooled_are_distinct();
     source.holds_one();
     source.shared_blobs_are_one();
     let kind = ColumnKind::Signature(encoded);

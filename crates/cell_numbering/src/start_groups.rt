@@ -31,7 +31,6 @@ impl StartGroups {
         ensures { (starts : List ℕ) → AreStartGroups self.old.starts.items self.old.of_use.items starts
             → OnOk result (AreStartGroups self.new.starts.items self.new.of_use.items (starts ++ start ∷ [])) }
     {
-        heap_pools::laws::pooled_are_distinct();
         match known_group(&self.starts, last, start) {
             Some(group) => Ok(self.of_use.push(group)?),
             None => {

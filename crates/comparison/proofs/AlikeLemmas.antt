@@ -1,7 +1,8 @@
 -- Rows of the same bytes have the same numbers, and equal numbers that are read alike stand for equal cells.
-use Rattle.std.proofs.Common.{◌≡◌, ◌≢◌, ◌↔◌, ◌∙◌, ◌<◌, ◌≤◌, inl, inr, ℕ, zero, suc, ◌+◌, ◌-◌, ◌*◌, ◌==◌, ◌||◌, Bool, true, false, IsTrue, List, [], ◌∷◌, length, take, min, refl, ap, ap₂, sym, subst, cond, arith}
-use Rattle.comparison.proofs.Prelude.{Decides, AllByRecursion, Decides-eqb, TableId, Token, Column, ColumnKind, column_at, columns_of, cell_count, column_of, IsText, IsBlob, IsGuid, tokens, Sizes, SameCounts, width_of, Metadata, cell_in, count_in, start_from, start_of, Refers, StandsFor, IsCell, IgnoredColumns, AreAlike, AreSameParts, HaveSameHeap, HaveSameNumbers, has_same_heap, cell_difference, row_differences, table_differences, is_ignored, is_same_cell}
-use Rattle.std.proofs.lemmas.List.Sums.{sum_by-le-sum_by}
+use Rattle.std.proofs.Common.{◌≡◌, ◌≢◌, ◌↔◌, ◌∙◌, ◌<◌, ◌≤◌, inl, inr, ℕ, zero, suc, ◌+◌, ◌-◌, ◌*◌, ◌==◌, Bool, true, false, IsTrue, List, [], ◌∷◌, length, take, refl, ap, ap₂, sym, subst, cond, arith}
+use Rattle.comparison.proofs.Prelude.{Decides, AllByRecursion, ne_eqb, TableId, Token, Column, ColumnKind, column_at, columns_of, cell_count, column_of, IsText, IsBlob, IsGuid, tokens, Sizes, SameCounts, width_of, Metadata, cell_in, count_in, start_from, start_of, Refers, StandsFor, IsCell, IgnoredColumns, AreAlike, AreSameParts, HaveSameHeap, HaveSameNumbers, has_same_heap, row_differences, table_differences, is_same_cell}
+use Rattle.std.proofs.Math.Path.{fun_ext}
+use Rattle.std.specs.Prelude.{sum_by}
 use Rattle.packed.specs.Number.{little_endian}
 use Rattle.packed.specs.Offsets.{part}
 use Rattle.table_schema.specs.declared.column.ColumnKind.TheVariants as kind
@@ -11,9 +12,8 @@ use Rattle.rows.specs.Cells.{number_in_rows}
 use Rattle.metadata.specs.Cell.{Cell, Start}
 use Rattle.metadata.specs.Source.{Source, IsThere, number_of, rows_in}
 use Rattle.reading.specs.RowBytes.{AreRowBytes}
-use Rattle.comparison.specs.declared.difference.Difference.TheVariants as difference
 use Rattle.comparison.specs.declared.same_bytes.SameParts.{SameParts}
-use Rattle.comparison.proofs.EqualLemmas.{adds_nothing, all_nothing_in, either_holds}
+use Rattle.comparison.proofs.EqualLemmas.{row_nothing, table_nothing}
 
 -- a test of two values is one of what they are equal to
 pub compared : (xs ys left right : List ℕ) (test : Bool) → Decides test (xs ≡ ys) → xs ≡ left → ys ≡ right → IsTrue test ↔ (left ≡ right)
@@ -41,10 +41,7 @@ module _ (same : SameParts) (left right : Source) (parts : AreSameParts left rig
 same_sum : (sizes others : Sizes) → ((column : Column) → width_of sizes column ≡ width_of others column) → (columns : List Column)
     → columns_width sizes columns ≡ columns_width others columns
 unfolding columns_width
-same_sum sizes others same columns =
-    let low = sum_by-le-sum_by (width_of sizes) (width_of others) columns (λ column. omega (arith, same column)) in
-    let high = sum_by-le-sum_by (width_of others) (width_of sizes) columns (λ column. omega (arith, same column)) in
-    omega (arith, low, high)
+same_sum sizes others same columns = ap (λ (width : Column → ℕ). sum_by width columns) (fun_ext same)
 
 -- a number is at the same offset of the rows
 same_read : (sizes others : Sizes) → ((column : Column) → width_of sizes column ≡ width_of others column) → (bytes more : List ℕ) → bytes ≡ more
@@ -81,11 +78,8 @@ same_starts values others end row (suc left) same =
 -- a value that is not null is the start
 known_start : (values : ℕ → ℕ) (end row left : ℕ) → 1 ≤ left → values row ≢ 0 → start_from values end row left ≡ values row
 known_start values end row zero some known = absurd (omega (arith, some))
-known_start values end row (suc left) some known = go (values row == 0) (Decides-eqb (values row) 0)
-  where
-    go : (null : Bool) → (null ≡ true → values row ≡ 0) × (values row ≡ 0 → null ≡ true) → cond null (start_from values end (row + 1) left) (values row) ≡ values row
-    go true decides = absurd (known (decides.0 refl))
-    go false decides = refl
+known_start values end row (suc left) some known =
+    ap (λ (null : Bool). cond null (start_from values end (row + 1) left) (values row)) (ne_eqb (values row) 0 known)
 
 module _ (left right : Source) (table : TableId) (alike : AreAlike left right table) where
   -- the list values of all rows are the same
@@ -154,27 +148,6 @@ module _ (left right : Source) (layout : SameCounts left.sizes right.sizes) wher
 
 -- ---- what differs
 
-module _ (tested : (a b : Cell) → IsTrue (is_same_cell a b) ↔ (a ≡ b)) (ignored : IgnoredColumns) (first second : Metadata) (table : TableId) where
-  pub cell_nothing : (row cell_index : ℕ) → cell_in first table row cell_index ≡ cell_in second table row cell_index → cell_difference ignored first second table row cell_index ≡ []
-  cell_nothing row cell_index same =
-      let left = cell_in first table row cell_index in
-      let right = cell_in second table row cell_index in
-      adds_nothing (is_ignored ignored table cell_index || is_same_cell left right) (difference.Cell table row cell_index)
-      (either_holds (is_ignored ignored table cell_index) (is_same_cell left right) (λ kept. (tested left right).1 same))
-
-  pub row_nothing : (row : ℕ) → ((cell_index : ℕ) → cell_index < cell_count table → cell_in first table row cell_index ≡ cell_in second table row cell_index)
-      → row_differences ignored first second table row ≡ []
-  unfolding row_differences
-  row_nothing row same =
-      all_nothing_in (cell_difference ignored first second table row) 0 (cell_count table) (λ cell_index low high. cell_nothing row cell_index (same cell_index (omega (arith, high))))
-
-  pub table_nothing : ((row cell_index : ℕ) → 1 ≤ row → row ≤ count_in first table → cell_index < cell_count table → cell_in first table row cell_index ≡ cell_in second table row cell_index)
-      → table_differences ignored first second table ≡ []
-  unfolding table_differences
-  table_nothing same =
-      all_nothing_in (row_differences ignored first second table) 1 (min (count_in first table) (count_in second table))
-      (λ row low high. row_nothing row (λ cell_index lt. same row cell_index low (omega (arith, high)) lt))
-
 module _ (tested : (a b : Cell) → IsTrue (is_same_cell a b) ↔ (a ≡ b))
     (one : (source : Source) (table : TableId) (row cell_index : ℕ) (cell other : Cell) → IsCell source table row cell_index cell → IsCell source table row cell_index other → cell ≡ other)
     (left right : Source) (first second : Metadata) (table : TableId) (alike : AreAlike left right table)
@@ -197,7 +170,7 @@ module _ (tested : (a b : Cell) → IsTrue (is_same_cell a b) ↔ (a ≡ b))
   pub table_decided : count_in first table ≡ rows_in left table → (past : ℕ) → past ≡ rows_in left table + 1 → HaveSameNumbers left right table 1 past
       → table_differences ignored first second table ≡ []
   table_decided counted past is numbers =
-      table_nothing tested ignored first second table (λ row cell_index low last lt.
+      table_nothing tested ignored first second table (λ row cell_index low last lt kept.
       let high : row ≤ rows_in left table = omega (arith, last, counted) in
       decided row cell_index low high lt (numbers row (column_of table cell_index) low (omega (arith, high, is)) (within cell_index lt))
       (λ member list. starts_of_table left right table alike past is numbers row (column_of table cell_index) low high (within cell_index lt) member))
@@ -207,7 +180,7 @@ module _ (tested : (a b : Cell) → IsTrue (is_same_cell a b) ↔ (a ≡ b))
       → ((column : ℕ) (member : TableId) → column < length (columns_of table) → (column_at table column).kind ≡ kind.List member → number_of left table row column ≢ 0)
       → row_differences ignored first second table row ≡ []
   row_decided row low high numbers known =
-      row_nothing tested ignored first second table row (λ cell_index lt.
+      row_nothing tested ignored first second table row (λ cell_index lt kept.
       let column = column_of table cell_index in
       let same = numbers row column (omega arith) (omega arith) (within cell_index lt) in
       decided row cell_index low high lt same (λ member list. start_of_row left right table alike row column low high same (known column member (within cell_index lt) list) member))

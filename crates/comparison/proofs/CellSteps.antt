@@ -1,55 +1,87 @@
--- What a cell adds to the cells that differ.
-use Rattle.std.proofs.Common.{◌≡◌, ◌||◌, ◌≢◌, ◌∙◌, ◌<◌, ◌≤◌, ℕ, ◌+◌, Bool, true, false, List, [], ◌∷◌, ◌++◌, All, length, take, get_or, min, ap, sym, subst, arith, cond, length-append}
-use Rattle.comparison.proofs.Prelude.{flat_map, range_with_len, take_all, TableId, tables, cell_count, Metadata, cell_in, count_in, Difference, IgnoredColumns, is_ignored, is_same_cell}
+-- What a part of a comparison adds to the cells that were found.
+use Rattle.std.proofs.Common.{◌≡◌, ◌||◌, ◌∙◌, ◌≤◌, ℕ, ◌+◌, Bool, true, false, List, [], ◌∷◌, ◌++◌, All, length, length-append, take, min, ◌≢◌, ap, sym, subst, cond, arith}
+use Rattle.comparison.proofs.Prelude.{flat_map, range_with_len, take_all, TableId, tables, cell_count, Metadata, cell_in, count_in, IsModel, Difference, IgnoredColumns, is_ignored, is_same_cell, Comparison, Progress, Extends, IsProgress, Grows, cell_difference, cell_differences_but, row_differences, table_differences}
+use Rattle.std.proofs.lemmas.List.Elements.{All-push}
+use Rattle.comparison.specs.Differences.{IsThere}
 use Rattle.comparison.specs.declared.difference.Difference.TheVariants.{Cell}
-use Rattle.comparison.specs.Differences.{Grows, IsThere, cell_difference, cell_differences_but, row_differences, table_differences}
-use Rattle.comparison.proofs.GrowthLemmas.{grows_more, grows_nothing, item_more, number_more}
+use Rattle.comparison.proofs.GrowthLemmas.{grows_full, grows_more, grows_nothing}
 
--- nothing is found in an ignored column
-pub cell_ignored : (ignored : IgnoredColumns) (first second : Metadata) (table : TableId) (row cell_index limit : ℕ) (found : List Difference) → length found ≤ limit
-    → is_ignored ignored table cell_index ≡ true → Grows limit found found (cell_difference ignored first second table row cell_index)
-cell_ignored ignored first second table row cell_index limit found few is =
-    subst (λ (more : List Difference). Grows limit found found more)
-    (sym (ap (λ t. cond (t || is_same_cell (cell_in first table row cell_index) (cell_in second table row cell_index)) [] (Cell table row cell_index ∷ [])) is)) (grows_nothing limit found few)
+module _ (comparison : Comparison) where
+  -- nothing differs
+  pub nothing_found : (progress : Progress) (more : Metadata → Metadata → List Difference) → IsProgress comparison progress
+      → ((first second : Metadata) → IsModel comparison.left.now first → IsModel comparison.right.now second → more first second ≡ [])
+      → Extends comparison progress.found.items progress more
+  nothing_found progress more is none = record {
+    progress = is;
+    found = λ first second one other.
+        subst (λ (xs : List Difference). Grows comparison.limit progress.found.items progress.found.items xs) (sym (none first second one other))
+        (grows_nothing comparison.limit progress.found.items is.few);
+  }
 
-either : (ignored same tested : Bool) → ignored ≡ false → same ≡ tested → (ignored || tested) ≡ same
-either ignored same tested kept is = ap (λ t. t || tested) kept ∙ sym is
+  -- there is no room for more
+  pub no_room : (progress : Progress) (more : Metadata → Metadata → List Difference) → IsProgress comparison progress → length progress.found.items ≡ comparison.limit
+      → Extends comparison progress.found.items progress more
+  no_room progress more is full = record {
+    progress = is;
+    found = λ first second one other. grows_full comparison.limit progress.found.items (more first second) full;
+  }
 
-module _ (ignored : IgnoredColumns) (first second : Metadata) (table : TableId) (row cell_index : ℕ) (same : Bool) (compared : is_ignored ignored table cell_index ≡ false)
-    (tested : same ≡ is_same_cell (cell_in first table row cell_index) (cell_in second table row cell_index)) where
-  pub cell_same : (limit : ℕ) (found : List Difference) → length found ≤ limit → same ≡ true → Grows limit found found (cell_difference ignored first second table row cell_index)
-  cell_same limit found few is =
-      subst (λ (more : List Difference). Grows limit found found more) (sym (ap (λ t. cond t [] (Cell table row cell_index ∷ [])) (either (is_ignored ignored table cell_index) same (is_same_cell (cell_in first table row cell_index) (cell_in second table row cell_index)) compared tested ∙ is))) (grows_nothing limit found few)
+  -- one differs
+  pub one_found : (progress after : Progress) (one : Difference) (more : Metadata → Metadata → List Difference) → IsProgress comparison progress → length progress.found.items ≢ comparison.limit
+      → after.cells ≡ progress.cells → after.compared ≡ progress.compared → after.found.items ≡ progress.found.items ++ one ∷ []
+      → IsThere comparison.left.now comparison.right.now one
+      → ((first second : Metadata) → IsModel comparison.left.now first → IsModel comparison.right.now second → more first second ≡ one ∷ [])
+      → Extends comparison progress.found.items after more
+  one_found progress after one more is room cells compared grown there differs =
+      let long : length after.found.items ≡ length progress.found.items + 1 = ap length grown ∙ length-append progress.found.items (one ∷ []) in
+      let fits : length (progress.found.items ++ one ∷ []) ≤ comparison.limit = let few = is.few in omega (arith, ap length grown, long, few, room) in
+      record {
+        progress = record {
+          cells = rw cells is.cells;
+          names = rw compared is.names;
+          few = rw grown fits;
+          there = subst (All (IsThere comparison.left.now comparison.right.now)) (sym grown) (All-push (IsThere comparison.left.now comparison.right.now) progress.found.items one is.there there);
+        };
+        found = λ first second model other.
+            subst (λ (xs : List Difference). Grows comparison.limit progress.found.items after.found.items xs) (sym (differs first second model other))
+            (grown ∙ sym (take_all comparison.limit (progress.found.items ++ one ∷ []) fits));
+      }
 
-  pub cell_differs : (limit : ℕ) (found after : List Difference) → length found ≤ limit → length found ≢ limit → same ≡ false
-      → after ≡ found ++ Cell table row cell_index ∷ [] → Grows limit found after (cell_difference ignored first second table row cell_index)
-  cell_differs limit found after few room is grown =
-      let one : Difference = Cell table row cell_index in
-      let long = length-append found (one ∷ []) in
-      let fits : length (found ++ one ∷ []) ≤ limit = omega (arith, long, few, room) in
-      subst (λ (more : List Difference). Grows limit found after more) (sym (ap (λ t. cond t [] (one ∷ [])) (either (is_ignored ignored table cell_index) same (is_same_cell (cell_in first table row cell_index) (cell_in second table row cell_index)) compared tested ∙ is)))
-      (grown ∙ sym (take_all limit (found ++ one ∷ []) fits))
+  -- one part after another
+  pub found_more : (before : List Difference) (between after : Progress) (some more all : Metadata → Metadata → List Difference) → Extends comparison before between some
+      → Extends comparison between.found.items after more → ((first second : Metadata) → all first second ≡ some first second ++ more first second)
+      → Extends comparison before after all
+  found_more before between after some more all is also parts = record {
+    progress = also.progress;
+    found = λ first second one other.
+        subst (λ (xs : List Difference). Grows comparison.limit before after.found.items xs) (sym (parts first second))
+        (grows_more comparison.limit before between.found.items after.found.items (some first second) (more first second)
+        (is.found first second one other) (also.found first second one other));
+  }
 
--- ---- one part after another
+  -- the same cells, in other words
+  pub found_as : (before : List Difference) (after : Progress) (some all : Metadata → Metadata → List Difference) → Extends comparison before after some
+      → ((first second : Metadata) → IsModel comparison.left.now first → IsModel comparison.right.now second → some first second ≡ all first second)
+      → Extends comparison before after all
+  found_as before after some all is same = record {
+    progress = is.progress;
+    found = λ first second one other.
+        subst (λ (xs : List Difference). Grows comparison.limit before after.found.items xs) (same first second one other) (is.found first second one other);
+  }
 
-pub there_kept : (left left_now right right_now : List ℕ) (xs ys : List Difference) → left_now ≡ left → right_now ≡ right
-    → (All (IsThere left_now right_now) xs → All (IsThere left_now right_now) ys) → All (IsThere left right) xs → All (IsThere left right) ys
-there_kept left left_now right right_now xs ys left_is right_is kept all =
-    let P : List ℕ → List ℕ → List Difference → Type 0 = λ l r zs. All (IsThere l r) zs in
-    subst (λ (r : List ℕ). P left r ys) right_is (subst (λ (l : List ℕ). P l right_now ys) left_is
-    (kept (subst (λ (l : List ℕ). P l right_now xs) (sym left_is) (subst (λ (r : List ℕ). P left r xs) (sym right_is) all))))
+-- a cell that is not ignored differs, or is the same
+pub cell_is : (ignored : IgnoredColumns) (first second : Metadata) (table : TableId) (row cell_index : ℕ) (same : Bool) → is_ignored ignored table cell_index ≡ false
+    → same ≡ is_same_cell (cell_in first table row cell_index) (cell_in second table row cell_index)
+    → cell_difference ignored first second table row cell_index ≡ cond same [] (Cell table row cell_index ∷ [])
+cell_is ignored first second table row cell_index same kept is =
+    ap (λ t. cond (t || is_same_cell (cell_in first table row cell_index) (cell_in second table row cell_index)) [] (Cell table row cell_index ∷ [])) kept
+    ∙ ap (λ t. cond t [] (Cell table row cell_index ∷ [])) (sym is)
 
-pub number_found : (f : ℕ → List Difference) (a n m limit : ℕ) (before between after : List Difference) → a + n ≡ m → Grows limit before between (flat_map f (range_with_len a n))
-    → Grows limit between after (f m) → Grows limit before after (flat_map f (range_with_len a (n + 1)))
-number_found f a n m limit before between after is first second =
-    subst (λ (more : List Difference). Grows limit before after more) (sym (number_more f a n m is))
-    (grows_more limit before between after (flat_map f (range_with_len a n)) (f m) first second)
-
-pub item_found : {Y : Type 0} (f : Y → List Difference) (ys : List Y) (i limit : ℕ) (d : Y) (between after : List Difference) → i < length ys
-    → between ≡ take limit (flat_map f (take i ys)) → Grows limit between after (f (get_or ys i d)) → after ≡ take limit (flat_map f (take (i + 1) ys))
-item_found f ys i limit d between after lt first second =
-    subst (λ (more : List Difference). after ≡ take limit more) (sym (item_more f ys i d lt))
-    (grows_more limit [] between after (flat_map f (take i ys)) (f (get_or ys i d)) first second)
+-- an ignored cell
+pub cell_ignored : (ignored : IgnoredColumns) (first second : Metadata) (table : TableId) (row cell_index : ℕ) → is_ignored ignored table cell_index ≡ true
+    → cell_difference ignored first second table row cell_index ≡ []
+cell_ignored ignored first second table row cell_index is =
+    ap (λ t. cond (t || is_same_cell (cell_in first table row cell_index) (cell_in second table row cell_index)) [] (Cell table row cell_index ∷ [])) is
 
 module _ (ignored : IgnoredColumns) (first second : Metadata) where
   pub row_is : (table : TableId) (row n : ℕ) → n ≡ cell_count table → flat_map (cell_difference ignored first second table row) (range_with_len 0 n) ≡ row_differences ignored first second table row

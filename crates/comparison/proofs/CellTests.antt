@@ -8,7 +8,7 @@ use Rattle.metadata.specs.Cell.{Cell, Number, Text, Bytes, Guid, Ref, Start, Sig
 use Rattle.table_schema.specs.declared.column.ColumnKind.TheVariants as column_kind
 use Rattle.reading.specs.declared.cell_ref.CellRef.TheVariants as seen
 use Rattle.reading.specs.contracts.cell_ref.CellRefPartialEq.TheImpl as values
-use Rattle.comparison.proofs.SignatureLemmas.{tests_same}
+use Rattle.std.proofs.lemmas.Bool.Decides.{same_from_decides}
 
 module _ (same : (a b : Body) → Decides (is_same_body a b) (a ≡ b)) where
   pub cell_decides : (a b : Cell) → Decides (is_same_cell a b) (a ≡ b)
@@ -45,4 +45,4 @@ pub signatures_tested : {E : Type 0} → ((a b : Body) → Decides (is_same_body
 signatures_tested law kind column left right blob other result is left_is right_is tested first second shows also =
     let one : ShowsSignature (column_kind.Signature column) blob.now first = subst (λ (k : ColumnKind). Shows k (seen.Sig blob) first) is (subst (λ (l : CellRef). Shows kind l first) left_is shows) in
     let two : ShowsSignature (column_kind.Signature column) other.now second = subst (λ (k : ColumnKind). Shows k (seen.Sig other) second) is (subst (λ (l : CellRef). Shows kind l second) right_is also) in
-    IfOk-weaker result _ _ (λ same gives. tests_same same (is_same_body one.0 two.0) gives (law one.0 two.0) ∙ sym (ap₂ is_same_cell one.2 two.2)) (tested one.0 two.0 one.1 two.1)
+    IfOk-weaker result _ _ (λ same gives. same_from_decides same (is_same_body one.0 two.0) gives (law one.0 two.0) ∙ sym (ap₂ is_same_cell one.2 two.2)) (tested one.0 two.0 one.1 two.1)

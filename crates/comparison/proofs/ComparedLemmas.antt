@@ -1,6 +1,6 @@
 -- What is noted of two cells is so in each row with the same numbers.
 use Rattle.std.proofs.Common.{◌≡◌, ◌∙◌, ◌+◌, ◌≤◌, ◌<◌, ◌++◌, ℕ, Bool, true, false, List, Option, Some, None, ap, ap₂, sym, subst, cond, arith}
-use Rattle.comparison.proofs.Prelude.{IfSome, TableId, ColumnKind, column_at, cell_count, column_of, Metadata, cell_in, IsModel, IsCell, Source, number_of, rows_in, source_of, StandsFor, start_of, kind_at, Shows, ShowsCell, CellRef, row_count, AreBlobNames, Outcome, AreOutcomes, HasBlobNames, IsInHeap, IsNoted, IsOutcome, key_cmp, outcome_at, is_same_cell}
+use Rattle.comparison.proofs.Prelude.{IfSome, TableId, ColumnKind, column_at, cell_count, column_of, Metadata, cell_in, IsModel, IsCell, Source, number_of, rows_in, source_of, StandsFor, start_of, kind_at, Shows, ShowsCell, CellRef, row_count, AreBlobNames, Outcome, AreOutcomes, IsInBoth, IsInHeap, IsNoted, IsOutcome, key_cmp, outcome_at, is_same_cell}
 use Rattle.std.specs.Ordering.{is_eq}
 use Rattle.table_schema.specs.declared.column.ColumnKind.TheVariants as kind
 use Rattle.metadata.specs.Cell.{Cell}
@@ -41,31 +41,20 @@ one_noted left right table cell_index m n same is k h =
 
 -- what was noted of the numbers of a row is so in this row
 pub known_is : (left right : List ℕ) (table : TableId) (row cell_index m n : ℕ) (found : Option Bool) → IfSome found (IsOutcome left right table cell_index m n)
-    → 1 ≤ row → row ≤ row_count left table → row ≤ row_count right table
-    → m ≡ number_of (source_of left) table row (column_of table cell_index) → n ≡ number_of (source_of right) table row (column_of table cell_index)
+    → IsInBoth left right table row → m ≡ number_of (source_of left) table row (column_of table cell_index) → n ≡ number_of (source_of right) table row (column_of table cell_index)
     → (first second : Metadata) → IsModel left first → IsModel right second
     → IfSome found (λ same. same ≡ is_same_cell (cell_in first table row cell_index) (cell_in second table row cell_index))
-known_is left right table row cell_index m n None is low high right_high m_is n_is first second one two = tt
-known_is left right table row cell_index m n (Some same) is low high right_high m_is n_is first second one two =
-    is first second one two row low high right_high (sym m_is) (sym n_is)
-
--- of the same roots
-pub outcomes_kept : (left left_now right right_now : List ℕ) (table : TableId) (compared : ComparedCells) → left_now ≡ left → right_now ≡ right
-    → AreOutcomes left_now right_now table compared → AreOutcomes left right table compared
-outcomes_kept left left_now right right_now table compared left_is right_is all =
-    subst (λ (root : List ℕ). AreOutcomes left root table compared) right_is (subst (λ (root : List ℕ). AreOutcomes root right_now table compared) left_is all)
-
-pub blobs_kept : (left left_now right right_now : List ℕ) (compared : ComparedCells) → left_now ≡ left → right_now ≡ right → HasBlobNames left_now right_now compared → HasBlobNames left right compared
-blobs_kept left left_now right right_now compared left_is right_is named =
-    subst (λ (root : List ℕ). HasBlobNames left root compared) right_is (subst (λ (root : List ℕ). HasBlobNames root right_now compared) left_is named)
+known_is left right table row cell_index m n None is row_in m_is n_is first second one two = tt
+known_is left right table row cell_index m n (Some same) is row_in m_is n_is first second one two =
+    is first second one two row row_in.first row_in.left_last row_in.right_last (sym m_is) (sym n_is)
 
 -- ---- cells
 
 -- the number that was read is that of the root
-pub number_is : (source : Source) (root seen : List ℕ) (table : TableId) (row column cell_index number : ℕ) → number ≡ number_of source table row column → source ≡ source_of seen → seen ≡ root
+pub number_is : (source : Source) (root : List ℕ) (table : TableId) (row column cell_index number : ℕ) → number ≡ number_of source table row column → source ≡ source_of root
     → column ≡ column_of table cell_index → number ≡ number_of (source_of root) table row (column_of table cell_index)
-number_is source root seen table row column cell_index number is source_is seen_is column_is =
-    is ∙ ap (λ (s : Source). number_of s table row column) (source_is ∙ ap source_of seen_is) ∙ ap (λ (i : ℕ). number_of (source_of root) table row i) column_is
+number_is source root table row column cell_index number is source_is column_is =
+    is ∙ ap (λ (s : Source). number_of s table row column) source_is ∙ ap (λ (i : ℕ). number_of (source_of root) table row i) column_is
 
 -- the test of two values is that of the cells that they stand for
 pub tested_in_row : (kind : ColumnKind) (table : TableId) (row cell_index : ℕ) (left_value right_value : CellRef) (left right : List ℕ) (same : Bool) → kind ≡ kind_at table cell_index
@@ -100,15 +89,15 @@ module _ (one : (source : Source) (table : TableId) (row cell_index : ℕ) (cell
   -- what is so in one row is so in each with its numbers
   pub outcome_is : ((root : List ℕ) (model : Metadata) → IsModel root model → (of : TableId) (row index : ℕ) → 1 ≤ row → row ≤ rows_in (source_of root) of → index < cell_count of
       → IsCell (source_of root) of row index (cell_in model of row index))
-      → (left right : List ℕ) (row m n : ℕ) (same : Bool) → cell_index < cell_count table → 1 ≤ row → row ≤ row_count left table → row ≤ row_count right table
+      → (left right : List ℕ) (row m n : ℕ) (same : Bool) → cell_index < cell_count table → IsInBoth left right table row
       → m ≡ number_of (source_of left) table row (column_of table cell_index) → n ≡ number_of (source_of right) table row (column_of table cell_index)
       → ((first second : Metadata) → IsModel left first → IsModel right second → same ≡ is_same_cell (cell_in first table row cell_index) (cell_in second table row cell_index))
       → IsOutcome left right table cell_index m n same
   unfolding row_count
-  outcome_is read left right row m n same lt low high right_high m_is n_is tested = λ first second is also other from before right_before left_same right_same.
+  outcome_is read left right row m n same lt row_in m_is n_is tested = λ first second is also other from before right_before left_same right_same.
       tested first second is also ∙
       ap₂ is_same_cell
       (cells_same (source_of left) row other (cell_in first table row cell_index) (cell_in first table other cell_index) (left_same ∙ m_is)
-      (read left first is table row cell_index low high lt) (read left first is table other cell_index from before lt))
+      (read left first is table row cell_index row_in.first row_in.left_last lt) (read left first is table other cell_index from before lt))
       (cells_same (source_of right) row other (cell_in second table row cell_index) (cell_in second table other cell_index) (right_same ∙ n_is)
-      (read right second also table row cell_index low right_high lt) (read right second also table other cell_index from right_before lt))
+      (read right second also table row cell_index row_in.first row_in.right_last lt) (read right second also table other cell_index from right_before lt))

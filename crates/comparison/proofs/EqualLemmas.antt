@@ -1,22 +1,22 @@
 -- Two valid models are equal if and only if nothing differs.
-use Rattle.std.proofs.Common.{◌≡◌, ◌↔◌, ◌∙◌, ◌<◌, ◌≤◌, ℕ, zero, suc, ◌+◌, ◌-◌, ◌||◌, Bool, true, false, IsTrue, List, [], ◌∷◌, ◌++◌, length, take, get_or, min, refl, ap, sym, subst, cond, arith, ◌==◌, Option, Some, None, is_some}
-use Rattle.comparison.proofs.Prelude.{bytes_eq, IfNone, IfSome, flat_map, range_with_len, Decides-eqb, bytes_eq-Decides, TableId, Module, tables, table_index_of, cell_count, Metadata, cell_in, count_in, IsValid, Difference, IgnoredColumns, is_ignored, is_same_cell, cell_difference, cell_differences_but, count_difference, first_differences_but, outline_differences, row_differences, table_differences, user_difference, version_difference}
+use Rattle.std.proofs.Common.{◌≡◌, ◌↔◌, ◌∙◌, ◌<◌, ◌≤◌, ℕ, zero, suc, ◌+◌, ◌-◌, ◌||◌, Bool, true, false, IsTrue, List, [], ◌∷◌, ◌++◌, length, length-append, take, get_or, min, refl, ap, sym, subst, cond, arith, ◌==◌, Option, Some, None, is_some}
+use Rattle.comparison.proofs.Prelude.{bytes_eq, take_all, IfNone, IfSome, flat_map, range_with_len, Decides-eqb, bytes_eq-Decides, TableId, Module, tables, table_index_of, cell_count, Metadata, cell_in, count_in, IsValid, Difference, IgnoredColumns, is_ignored, is_same_cell, cell_difference, cell_differences_but, count_difference, first_differences_but, outline_differences, row_differences, table_differences, user_difference, version_difference}
+use Rattle.std.proofs.lemmas.List.{nil_from_length}
 use Rattle.std.proofs.lemmas.List.FromFn.{get_or-range_with_len, length-range_with_len}
 use Rattle.metadata.specs.Cell.{Cell}
 use Rattle.metadata.specs.Lookups.{HasRow}
 use Rattle.metadata.specs.Same.{SaysSame}
 use Rattle.comparison.specs.declared.difference.Difference.TheVariants as difference
 use Rattle.comparison.specs.EqualBut.{AreEqualBut}
+use Rattle.comparison.proofs.OutlineLemmas.{count_same, outline_counts}
 
 -- ---- lists of nothing
 
 first_nothing : {X : Type 0} (xs ys : List X) → xs ++ ys ≡ [] → xs ≡ []
-first_nothing [] ys is = refl
-first_nothing (x ∷ xs) ys is = cc
+first_nothing xs ys is = nil_from_length xs (omega (arith, ap length is, length-append xs ys))
 
 last_nothing : {X : Type 0} (xs ys : List X) → xs ++ ys ≡ [] → ys ≡ []
-last_nothing [] ys is = is
-last_nothing (x ∷ xs) ys is = cc
+last_nothing xs ys is = nil_from_length ys (omega (arith, ap length is, length-append xs ys))
 
 some_nothing : {X : Type 0} (xs : List X) (n : ℕ) → 1 ≤ n → take n xs ≡ [] → xs ≡ []
 some_nothing [] n some is = refl
@@ -33,8 +33,7 @@ all_nothing f [] none = refl
 all_nothing f (y ∷ ys) none = ap (λ xs. xs ++ flat_map f ys) (none y) ∙ all_nothing f ys none
 
 pub take_of_nothing : {X : Type 0} (n : ℕ) (xs : List X) → xs ≡ [] → take n xs ≡ []
-take_of_nothing zero xs is = refl
-take_of_nothing (suc n) xs is = ap (λ ys. take (suc n) ys) is
+take_of_nothing n xs is = take_all n xs (omega (arith, ap length is)) ∙ is
 
 -- a test that adds nothing holds
 test_holds : {X : Type 0} (test : Bool) (x : X) → cond test [] (x ∷ []) ≡ [] → test ≡ true
@@ -62,40 +61,40 @@ second_holds true same found kept = cc
 second_holds false same found kept = found
 
 module _ (tested : (a b : Cell) → IsTrue (is_same_cell a b) ↔ (a ≡ b)) (ignored : IgnoredColumns) (first second : Metadata) where
+  -- ---- nothing differs in cells that are equal or ignored
+
+  pub row_nothing : (table : TableId) (row : ℕ)
+      → ((cell_index : ℕ) → cell_index < cell_count table → is_ignored ignored table cell_index ≡ false → cell_in first table row cell_index ≡ cell_in second table row cell_index)
+      → row_differences ignored first second table row ≡ []
+  unfolding row_differences
+  row_nothing table row same =
+      all_nothing_in (cell_difference ignored first second table row) 0 (cell_count table) (λ cell_index low high.
+      let left = cell_in first table row cell_index in
+      let right = cell_in second table row cell_index in
+      adds_nothing (is_ignored ignored table cell_index || is_same_cell left right) (difference.Cell table row cell_index)
+      (either_holds (is_ignored ignored table cell_index) (is_same_cell left right) (λ kept. (tested left right).1 (same cell_index (omega (arith, high)) kept))))
+
+  pub table_nothing : (table : TableId)
+      → ((row cell_index : ℕ) → 1 ≤ row → row ≤ count_in first table → cell_index < cell_count table → is_ignored ignored table cell_index ≡ false
+      → cell_in first table row cell_index ≡ cell_in second table row cell_index)
+      → table_differences ignored first second table ≡ []
+  unfolding table_differences
+  table_nothing table same =
+      all_nothing_in (row_differences ignored first second table) 1 (min (count_in first table) (count_in second table))
+      (λ row low high. row_nothing table row (λ cell_index. same row cell_index low (omega (arith, high))))
+
   -- ---- nothing else differs between models that are equal but for ignored columns
   module _ (alike : AreEqualBut ignored first second) where
     outline_alike : outline_differences first second ≡ []
-    unfolding outline_differences
     outline_alike =
-        ap (λ (xs : List Difference). xs ++ user_difference first second ++ flat_map (count_difference first second) tables)
-        (adds_nothing (bytes_eq first.version second.version) difference.Version ((bytes_eq-Decides first.version second.version).1 alike.version))
-        ∙ ap (λ (xs : List Difference). xs ++ flat_map (count_difference first second) tables)
-        (adds_nothing (bytes_eq first.user second.user) difference.UserStrings ((bytes_eq-Decides first.user second.user).1 alike.user))
-        ∙ all_nothing (count_difference first second) tables (λ table.
-        adds_nothing (count_in first table == count_in second table) (difference.RowCount table (count_in first table) (count_in second table))
-        ((Decides-eqb (count_in first table) (count_in second table)).1 (alike.counts table)))
-
-    cell_alike : (table : TableId) (row cell_index : ℕ) → HasRow first table row → cell_index < cell_count table → cell_difference ignored first second table row cell_index ≡ []
-    cell_alike table row cell_index has lt =
-        let left = cell_in first table row cell_index in
-        let right = cell_in second table row cell_index in
-        adds_nothing (is_ignored ignored table cell_index || is_same_cell left right) (difference.Cell table row cell_index)
-        (either_holds (is_ignored ignored table cell_index) (is_same_cell left right) (λ kept. (tested left right).1 (alike.cells table row cell_index has lt kept)))
-
-    row_alike : (table : TableId) (row : ℕ) → HasRow first table row → row_differences ignored first second table row ≡ []
-    unfolding row_differences
-    row_alike table row has =
-        all_nothing_in (cell_difference ignored first second table row) 0 (cell_count table) (λ cell_index low high. cell_alike table row cell_index has (omega (arith, high)))
-
-    table_alike : (table : TableId) → table_differences ignored first second table ≡ []
-    unfolding table_differences
-    table_alike table =
-        all_nothing_in (row_differences ignored first second table) 1 (min (count_in first table) (count_in second table))
-        (λ row low high. row_alike table row (low, omega (arith, high)))
+        outline_counts first second alike.version alike.user
+        ∙ all_nothing (count_difference first second) tables (λ table. count_same first second table (alike.counts table))
 
     pub cells_alike : cell_differences_but ignored first second ≡ []
     unfolding cell_differences_but
-    cells_alike = all_nothing (table_differences ignored first second) tables table_alike
+    cells_alike =
+        all_nothing (table_differences ignored first second) tables
+        (λ table. table_nothing table (λ row cell_index low high. alike.cells table row cell_index (low, high)))
 
   -- ---- models between which nothing else differs
   module _ (many : length tables ≡ 38) (below : (table : TableId) → table_index_of table < 38) (stand : (table : TableId) → get_or tables (table_index_of table) Module ≡ table) where
@@ -198,10 +197,6 @@ outline_some (Some one) xs found test none = let nothing = take_of_nothing 1 xs 
 pub outline_none : (o : Option Difference) (xs : List Difference) → IfNone o (xs ≡ []) → is_some o ≡ false → xs ≡ []
 outline_none None xs found test = found
 outline_none (Some one) xs found test = cc
-
-pub nothing_long : {X : Type 0} (xs : List X) → length xs ≡ 0 → xs ≡ []
-nothing_long [] is = refl
-nothing_long (x ∷ xs) is = absurd (omega (arith, is))
 
 pub first_differs : (ignored : IgnoredColumns) (first second : Metadata) (limit : ℕ) → first_differences_but ignored first second limit ≡ []
     → (outline_differences first second ≡ []) × (take limit (cell_differences_but ignored first second) ≡ [])

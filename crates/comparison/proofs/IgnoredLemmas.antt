@@ -1,20 +1,12 @@
 -- The marks of ignored columns.
-use Rattle.std.proofs.Common.{◌≡◌, ◌≢◌, ◌∙◌, ◌<◌, ◌≤◌, ◌⊎◌, inl, inr, ℕ, zero, suc, ◌+◌, ◌*◌, Bool, true, false, List, length, get_or, set, replicate, refl, ap, sym, arith}
-use Rattle.comparison.proofs.Prelude.{get_or-set_same, get_or-set_other, cases_eq, cases_lt, TableId, Module, Column, columns_of, cell_columns, cell_count, indexes_from, is_padding, table_index_of, table_number, tables, IgnoredColumns, AreOthersSame, is_ignored, no_columns}
-use Rattle.std.specs.Prelude.{cond, [], ◌∷◌, slice_index_or}
+use Rattle.std.proofs.Common.{◌≡◌, ◌≢◌, ◌∙◌, ◌<◌, ◌≤◌, ◌⊎◌, inl, inr, ℕ, zero, suc, ◌+◌, ◌*◌, Bool, true, false, List, length, lit≤, get_or, set, replicate, refl, ap, sym, arith}
+use Rattle.comparison.proofs.Prelude.{get_or-set_same, get_or-set_other, cases_eq, cases_lt, TableId, Module, cell_columns, cell_count, table_index_of, table_number, tables, IgnoredColumns, AreOthersSame, is_ignored, no_columns}
+use Rattle.std.specs.Prelude.{slice_index_or}
 
-few_indexes : (index : ℕ) (columns : List Column) → length (indexes_from index columns) ≤ length columns
-few_indexes index [] = omega arith
-few_indexes index (column ∷ columns) = go (is_padding column.kind) (few_indexes (index + 1) columns)
-  where
-    go : (padding : Bool) → length (indexes_from (index + 1) columns) ≤ length columns
-        → length (cond padding (indexes_from (index + 1) columns) (index ∷ indexes_from (index + 1) columns)) ≤ length (column ∷ columns)
-    go true few = omega (arith, few)
-    go false few = omega (arith, few)
-
-pub few_cells : ((table : TableId) → length (columns_of table) ≤ 9) → (table : TableId) → cell_count table ≤ 9
+pub few_cells : (table : TableId) → cell_count table ≤ 9
 unfolding cell_columns
-few_cells few table = let cells = few_indexes 0 (columns_of table) in let columns = few table in omega (arith, cells, columns)
+few_cells Module = lit≤ tt
+few_cells _ = lit≤ tt
 
 pub marked : (marks : List Bool) (mark cell_index : ℕ) (table : TableId) → mark ≡ 9 * table_number table + cell_index → mark < length marks
     → is_ignored (record { marks = set marks mark true }) table cell_index ≡ true
@@ -39,12 +31,12 @@ module _ (stand : (table : TableId) → get_or tables (table_index_of table) Mod
         ]
       ]
 
-  pub others_kept : ((table : TableId) → length (columns_of table) ≤ 9) → (before : IgnoredColumns) (mark cell_index : ℕ) (table : TableId) → mark ≡ 9 * table_number table + cell_index
+  pub others_kept : (before : IgnoredColumns) (mark cell_index : ℕ) (table : TableId) → mark ≡ 9 * table_number table + cell_index
       → cell_index < cell_count table → AreOthersSame before (record { marks = set before.marks mark true }) table cell_index
   unfolding is_ignored
-  others_kept few before mark cell_index table is lt = λ other index within apart.
-      let cells = few_cells few table in
-      let other_cells = few_cells few other in
+  others_kept before mark cell_index table is lt = λ other index within apart.
+      let cells = few_cells table in
+      let other_cells = few_cells other in
       get_or-set_other before.marks mark (9 * table_number other + index) true false (λ same.
       let first : table_number other ≡ table_number table = omega (arith, is, lt, cells, within, other_cells, same) in
       let second : index ≡ cell_index = omega (arith, is, lt, cells, within, other_cells, same) in

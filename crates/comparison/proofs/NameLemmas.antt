@@ -1,8 +1,9 @@
 -- Blobs of two heaps that are joined, and their windows (ECMA-335 II.24.2.4).
-use Rattle.std.proofs.Common.{◌≡◌, ◌∙◌, ◌↔◌, ◌+◌, ◌<◌, ◌≤◌, ◌++◌, ℕ, true, IsTrue, List, length, take, drop, inl, inr, sym, ap, subst, arith, append_assoc, length-append, take_at, drop_at}
+use Rattle.std.proofs.Common.{◌≡◌, ◌∙◌, ◌↔◌, ◌+◌, ◌<◌, ◌≤◌, ◌++◌, ℕ, true, IsTrue, List, length, take, drop, sym, ap, subst, arith, append_assoc, length-append, take_at, drop_at}
 use Rattle.comparison.proofs.Prelude.{TableId, ColumnKind, column_at, cell_count, column_of, IsBlob, IsCounted, Metadata, cell_in, IsModel, IsCell, Source, number_of, rows_in, source_of, StandsFor, start_of, kind_at, row_count, AreSameBlobs, IsOutcome, is_same_cell}
+use Rattle.heap_entries.proofs.BlobLemmas.{blob_counted}
 use Rattle.table_schema.specs.declared.column.ColumnKind.TheVariants as kind
-use Rattle.heaps.specs.Windows.{AreNames, window}
+use Rattle.heaps.specs.Windows.{window}
 use Rattle.metadata.specs.Cell.{Cell, Bytes}
 
 -- ---- heaps that are joined
@@ -31,15 +32,6 @@ counted_right left right index blob is = record {
   counts = is.counts;
 }
 
--- a blob at an index that is not 0 has a packed length
-in_entry : (heap : List ℕ) (index : ℕ) (blob : List ℕ) → 0 < index → IsBlob heap index blob → IsCounted heap index blob
-in_entry heap index blob some (inl none) = absurd (omega (arith, some, none.0))
-in_entry heap index blob some (inr is) = is.1
-
--- the packed length at an index, and what follows it
-pub entry_behind : (heap : List ℕ) (index : ℕ) (blob : List ℕ) (counted : IsCounted heap index blob) → drop index heap ≡ counted.count ++ (blob ++ counted.after)
-entry_behind heap index blob counted = ap (drop index) counted.whole ∙ drop_at counted.before (counted.count ++ (blob ++ counted.after)) index counted.at
-
 -- ---- windows
 
 -- a blob is the window after its packed length
@@ -57,21 +49,15 @@ pub same_windows : (left right : List ℕ) (m n start other len : ℕ) → 0 < m
     → ((blob : List ℕ) (counted : IsCounted left m blob) → (start ≡ m + length counted.count) × (len ≡ length blob))
     → ((blob : List ℕ) (counted : IsCounted right n blob) → (other ≡ n + length counted.count) × (len ≡ length blob))
     → window (left ++ right) len start ≡ window (left ++ right) len (length left + other) → AreSameBlobs left right m n
-unfolding counted_left in_entry counted_right
+unfolding counted_left counted_right
 same_windows left right m n start other len low also_low at also_at same = λ blob more is also.
-    let counted = in_entry left m blob low is in
-    let also_counted = in_entry right n more also_low also in
+    let counted = blob_counted left m blob low is in
+    let also_counted = blob_counted right n more also_low also in
     let whole = left ++ right in
     let further : length left + other ≡ (length left + n) + length also_counted.count = omega (arith, (also_at more also_counted).0) in
     sym (blob_window whole m blob (counted_left left right m blob counted) start len (at blob counted).0 (at blob counted).1)
     ∙ same
     ∙ blob_window whole (length left + n) more (counted_right left right n more also_counted) (length left + other) len further (also_at more also_counted).1
-
--- of the same heaps
-pub names_kept : (left right heap other : List ℕ) (width : ℕ) (names : List ℕ) → left ≡ heap → right ≡ other → AreNames (heap ++ other) width names
-    → AreNames (left ++ right) width names
-names_kept left right heap other width names left_is right_is named =
-    subst (λ l. AreNames (l ++ right) width names) (sym left_is) (subst (λ l. AreNames (heap ++ l) width names) (sym right_is) named)
 
 -- ---- cells
 

@@ -1,17 +1,14 @@
 -- The first thing besides cells that differs.
-use Rattle.std.proofs.Common.{◌≡◌, ◌≢◌, ◌∙◌, ◌<◌, ℕ, ◌+◌, Bool, true, false, List, [], ◌∷◌, ◌++◌, length, take, drop, get_or, refl, ap, sym, cond}
-use Rattle.comparison.proofs.Prelude.{bytes_eq, flat_map, Decides, eq-eqb, ne_eqb, flat_map-append, take-append-drop, bytes_eq-Decides, TableId, tables, Metadata, count_in, Difference, Version, UserStrings, RowCount, count_difference, outline_differences, user_difference, version_difference}
+use Rattle.std.proofs.Common.{◌≡◌, ◌≢◌, ◌∙◌, ◌<◌, ℕ, ◌+◌, true, false, List, [], ◌∷◌, ◌++◌, length, take, drop, get_or, ap, sym, cond}
+use Rattle.comparison.proofs.Prelude.{bytes_eq, flat_map, eq-eqb, ne_eqb, flat_map-append, take-append-drop, bytes_eq-Decides, TableId, tables, Metadata, count_in, Difference, Version, UserStrings, RowCount, count_difference, outline_differences, user_difference, version_difference}
+use Rattle.std.proofs.lemmas.Bool.Decides.{same_from_decides}
 use Rattle.comparison.proofs.GrowthLemmas.{item_more}
 
 same_bytes : (xs ys : List ℕ) → xs ≡ ys → bytes_eq xs ys ≡ true
 same_bytes xs ys is = (bytes_eq-Decides xs ys).1 is
 
 other_bytes : (xs ys : List ℕ) → xs ≢ ys → bytes_eq xs ys ≡ false
-other_bytes xs ys apart = go (bytes_eq xs ys) (bytes_eq-Decides xs ys)
-  where
-    go : (b : Bool) → Decides b (xs ≡ ys) → b ≡ false
-    go true decides = absurd (apart (decides.0 refl))
-    go false decides = refl
+other_bytes xs ys apart = same_from_decides (bytes_eq xs ys) false (bytes_eq-Decides xs ys) ((λ e. cc), (λ same. absurd (apart same)))
 
 module _ (first second : Metadata) where
   versions_same : first.version ≡ second.version → version_difference first second ≡ []

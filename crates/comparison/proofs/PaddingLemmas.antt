@@ -1,7 +1,8 @@
 -- Bytes that are equal once they are padded with zeros.
 use Rattle.std.proofs.Common.{Bool, IsTrue, true, false, not, eqb, ◌≡◌, ◌↔◌, ◌∙◌, ℕ, suc, ◌+◌, ◌-◌, ◌*◌, ◌%◌, List, [], ◌∷◌, ◌++◌, All, length, take, drop, min, replicate, refl, ap, ap₂, sym, subst, append_assoc, arith, length-append}
-use Rattle.comparison.proofs.Prelude.{take-append_seam, drop-append_seam, length-replicate, length-take, replicate-append-replicate, take-append-drop, Decides, Decides-eqb}
+use Rattle.comparison.proofs.Prelude.{take-append_seam, drop-append_seam, length-replicate, length-take, replicate-append-replicate, take-append-drop, Decides-eqb}
 use Rattle.std.proofs.lemmas.List.Elements.{All-replicate, All-take, All-nil}
+use Rattle.std.proofs.lemmas.Bool.{not-false}
 use Rattle.std.specs.Cmp.Lexicographic.{pointwise, pointwise_decides}
 use Rattle.heap_entries.specs.Padding.{zero_padded}
 
@@ -72,18 +73,10 @@ padded_same left right left_groups right_groups left_counted right_counted =
     tails (x ∷ xs) (y ∷ ys) p q one same = absurd (omega (arith, one))
 
 pub parts_differ : (xs ys : List ℕ) (other : Bool) → other ≡ not (pointwise eqb xs ys) → other ≡ true → xs ≡ ys → ⊥
-parts_differ xs ys other tested is same = go (pointwise eqb xs ys) (pointwise_decides Decides-eqb xs ys) (sym tested ∙ is)
-  where
-    go : (b : Bool) → Decides b (xs ≡ ys) → not b ≡ true → ⊥
-    go true decides test = cc
-    go false decides test = let is_equal = decides.1 same in cc
+parts_differ xs ys other tested is same = let equal = ap not ((pointwise_decides Decides-eqb xs ys).1 same) in cc
 
 pub parts_same : (xs ys : List ℕ) (other : Bool) → other ≡ not (pointwise eqb xs ys) → other ≡ false → xs ≡ ys
-parts_same xs ys other tested is = go (pointwise eqb xs ys) (pointwise_decides Decides-eqb xs ys) (sym tested ∙ is)
-  where
-    go : (b : Bool) → Decides b (xs ≡ ys) → not b ≡ false → xs ≡ ys
-    go true decides test = decides.0 refl
-    go false decides test = cc
+parts_same xs ys other tested is = (pointwise_decides Decides-eqb xs ys).0 (not-false _ (sym tested ∙ is))
 
 pub unzero : {b : Bool} → IsTrue b → b ≡ false → ⊥
 unzero {b = true} is test = cc

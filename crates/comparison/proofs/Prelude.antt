@@ -1,5 +1,5 @@
 -- What several proofs of this crate name of std, of the crates below, and of its own definitions.
-pub use Rattle.std.proofs.Common.{◌≡◌, ◌≤◌, All, length, take, ◌∙◌, ap, sym, arith, refl, ℕ, ◌<◌, ◌≢◌, get_or, ◌+◌, subst}
+pub use Rattle.std.proofs.Common.{◌≡◌, ◌≤◌, length, take, ◌∙◌, ap, sym, arith, refl, ℕ, ◌<◌, ◌≢◌, get_or, ◌+◌, subst}
 pub use Rattle.std.proofs.Math.Seq.{take-suc, take-append_seam, drop-append_seam}
 pub use Rattle.std.proofs.lemmas.Bool.{cases_eq, cases_lt, eq-eqb, ne_eqb}
 pub use Rattle.std.proofs.lemmas.Bool.Decides.{Decides-eqb, Decides-like}
@@ -11,7 +11,7 @@ pub use Rattle.std.specs.Bool.{Decides}
 pub use Rattle.std.specs.List.{AllByRecursion, flat_map, range_with_len}
 pub use Rattle.std.specs.Prelude.{IfOk, IfSome, bytes_eq, IfNone}
 pub use Rattle.heap_entries.specs.Entries.{IsText, IsBlob, IsGuid, IsCounted}
-pub use Rattle.table_schema.specs.CellColumns.{cell_count, column_of, indexes_from, is_padding}
+pub use Rattle.table_schema.specs.CellColumns.{cell_count, column_of}
 unfoldable pub use Rattle.table_schema.specs.CellColumns.{cell_columns}
 pub use Rattle.table_schema.specs.Columns.{column_at, columns_of}
 pub use Rattle.table_schema.specs.Tables.{table_index_of, table_number}
@@ -40,12 +40,15 @@ pub use Rattle.reading.specs.declared.cell_ref.CellRef.{CellRef}
 unfoldable pub use Rattle.opening.specs.Views.{row_count}
 pub use Rattle.comparison.specs.Alike.{AreAlike, AreSameParts, HaveSameHeap, HaveSameNumbers, has_same_heap}
 pub use Rattle.comparison.specs.BlobNames.{AreBlobNames, AreSameBlobs}
-pub use Rattle.comparison.specs.ComparedCells.{AreOutcomes, HasBlobNames, IsInHeap, IsNoted, IsOutcome, key_cmp, outcome_at}
+pub use Rattle.comparison.specs.ComparedCells.{AreOutcomes, IsInBoth, IsInHeap, IsNoted, IsOutcome, key_cmp, outcome_at}
 pub use Rattle.comparison.specs.Differences.{cell_difference, count_difference, user_difference, version_difference, Grows}
 unfoldable pub use Rattle.comparison.specs.Differences.{row_differences, table_differences, cell_differences_but, first_differences_but, outline_differences}
 pub use Rattle.comparison.specs.Ignored.{AreOthersSame}
 unfoldable pub use Rattle.comparison.specs.Ignored.{is_ignored, no_columns}
+pub use Rattle.comparison.specs.Progress.{Extends, IsProgress}
 pub use Rattle.comparison.specs.SameCells.{is_same_cell, AreSignatures}
+pub use Rattle.comparison.specs.declared.cells.Comparison.{Comparison}
+pub use Rattle.comparison.specs.declared.cells.Progress.{Progress}
 pub use Rattle.comparison.specs.declared.compared_cells.Outcome.{Outcome}
 pub use Rattle.comparison.specs.declared.difference.Difference.{Difference}
 pub use Rattle.comparison.specs.declared.difference.Difference.TheVariants.{Version, UserStrings, RowCount}

@@ -1,6 +1,6 @@
 -- Two signatures in columns of one kind are equal if and only if their canonical encodings are.
-use Rattle.std.proofs.Common.{◌≡◌, Bool, true, false, List, ℕ, refl, sym, subst}
-use Rattle.comparison.proofs.Prelude.{Decides, SigKind, Body, Holds, Encodes, IsEncodable, short}
+use Rattle.std.proofs.Common.{◌≡◌, List, ℕ, sym, subst}
+use Rattle.comparison.proofs.Prelude.{SigKind, Body, Holds, Encodes, IsEncodable, short}
 
 module _ (one : (kind : SigKind) (first second : Body) (bytes : List ℕ) → Encodes kind first bytes → Encodes kind second bytes → first ≡ second)
     (encodable : (kind : SigKind) (signature : Body) (bytes : List ℕ) → Encodes kind signature bytes → IsEncodable signature)
@@ -10,10 +10,3 @@ module _ (one : (kind : SigKind) (first second : Body) (bytes : List ℕ) → En
   same_short kind first second left right is also same =
       one kind first second (short first) (encodes kind first is.column (encodable kind first left is))
       (subst (λ (bytes : List ℕ). Encodes kind second bytes) (sym same) (encodes kind second also.column (encodable kind second right also)))
-
--- two tests of one fact are the same
-pub tests_same : {P : Type 0} (first second : Bool) → Decides first P → Decides second P → first ≡ second
-tests_same true true is also = refl
-tests_same false false is also = refl
-tests_same true false is also = sym (also.1 (is.0 refl))
-tests_same false true is also = is.1 (also.0 refl)

@@ -15,6 +15,7 @@ use Rattle.opening.specs.Views.{row_count}
 use Rattle.comparison.specs.BlobNames.{AreBlobNames}
 use Rattle.comparison.specs.declared.compared_cells.ComparedCells.{ComparedCells}
 use Rattle.comparison.specs.declared.compared_cells.Outcome.{Outcome}
+use Rattle.comparison.specs.declared.same_in_row.ViewCells.{ViewCells}
 use Rattle.comparison.specs.SameCells.{is_same_cell}
 
 -- the number of a column is the index of its value in a heap, of a text or a blob
@@ -35,6 +36,17 @@ outcome_at compared key = get key_cmp compared.outcomes key
 -- the names are those of the windows of two roots, whose blob heaps are joined
 abbrev pub HasBlobNames : List ℕ → List ℕ → ComparedCells → Type 0
 HasBlobNames left right compared = AreBlobNames ((source_of left).blobs ++ (source_of right).blobs) compared.blobs
+
+-- the cells are those of two roots
+pub record AreCells (left right : List ℕ) (cells : ViewCells) : Type 0 where
+  pub left_root : cells.left ≡ left
+  pub right_root : cells.right ≡ right
+
+-- a row that two roots have
+pub record IsInBoth (left right : List ℕ) (table : TableId) (row : ℕ) : Type 0 where
+  pub first : 1 ≤ row
+  pub left_last : row ≤ row_count left table
+  pub right_last : row ≤ row_count right table
 
 module _ (left right : List ℕ) (table : TableId) where
   -- whether a cell is equal in each row of two roots that has these numbers in the column of the cell

@@ -4,5 +4,6 @@ pub mod ComparedCells
 pub mod Differences
 pub mod EqualBut
 pub mod Ignored
+pub mod Progress
 pub mod SameCells
 pub mod SameTexts

@@ -1,20 +1,20 @@
 //! The cells of two views that differ.
-ghost use Rattle.std.specs.Prelude.{◌≡◌, ◌≤◌, ◌<◌, IfOk, IsTrue, OnOk, All, length, take};
+ghost use Rattle.std.specs.Prelude.{◌≡◌, ◌<◌, IfOk, IsTrue, OnOk, All, take};
 ghost use Rattle.table_schema.specs.CellColumns.{cell_count};
 ghost use Rattle.metadata.specs.Metadata.{Metadata};
 ghost use Rattle.metadata.specs.Model.{IsModel};
 ghost use Rattle.metadata.specs.SourceAt.{source_of};
-ghost use Rattle.opening.specs.Views.{row_count};
 ghost use Rattle.comparison.specs.Alike.{AreAlike, AreSameParts};
-ghost use Rattle.comparison.specs.ComparedCells.{AreOutcomes, HasBlobNames};
-ghost use Rattle.comparison.specs.Differences.{Grows, IsThere, cell_difference, cell_differences, cell_differences_but, row_differences, table_differences};
+ghost use Rattle.comparison.specs.ComparedCells.{AreOutcomes, IsInBoth};
+ghost use Rattle.comparison.specs.Progress.{Extends, IsProgress};
+ghost use Rattle.comparison.specs.Differences.{IsThere, cell_difference, cell_differences, cell_differences_but, row_differences, table_differences};
 
-use crate::compared_cells::ComparedCells;
+use crate::compared_cells::{CellId, ComparedCells};
 use crate::difference::Difference;
 use crate::ignored::IgnoredColumns;
 use crate::same_bytes::{SameParts, have_same_root, is_same_row, is_same_table};
-use crate::same_in_row::is_same_in_row;
-use opening::{CellCursor, TableId, View};
+use crate::same_in_row::{ViewCells, is_same_in_row};
+use opening::{TableId, View};
 use std::alloc::{AllocError, Global};
 use table_schema::cell_count;
 
@@ -59,73 +59,65 @@ pub fn differing_cells_but(
         → IfOk result (λ found. found.items ≡ take limit (cell_differences_but ignored.now first second)) }
     ensures there { IfOk result (λ found. All (IsThere left.now right.now) found.items) }
 {
-    let mut found = Vec::new(alloc);
     if have_same_root(left, right) {
-        return Ok(found);
+        return Ok(Vec::new(alloc));
     }
+    let comparison = Comparison {
+        left,
+        right,
+        ignored,
+        limit,
+    };
     let same = SameParts::of(left.source(), right.source());
-    let mut left_cells = CellCursor::new(left);
-    let mut right_cells = CellCursor::new(right);
-    let mut compared = ComparedCells::new(alloc);
+    let mut progress = Progress {
+        cells: ViewCells::new(left, right),
+        compared: ComparedCells::new(alloc),
+        found: Vec::new(alloc),
+    };
     for table in TableId::all() {
-        find_in_table(
-            alloc,
-            &mut left_cells,
-            &mut right_cells,
-            *table,
-            &same,
-            ignored,
-            limit,
-            &mut compared,
-            &mut found,
-        )?;
+        find_in_table(alloc, &comparison, *table, &same, &mut progress)?;
     }
-    Ok(found)
+    Ok(progress.found)
+}
+
+/// Two views, the columns that are not compared, and the largest number of cells to find.
+#[derive(Clone, Copy)]
+struct Comparison<'c, 'a> {
+    left: &'c View<'a>,
+    right: &'c View<'a>,
+    ignored: &'c IgnoredColumns,
+    limit: usize,
+}
+
+/// How far a comparison has come.
+#[derive(Drop)]
+struct Progress<'c, 'a> {
+    cells: ViewCells<'c, 'a>,
+    compared: ComparedCells,
+    found: Vec<Difference>,
 }
 
 /// Adds the cells of a table that differ, up to the limit. No cell is read if the bytes of the rows decide that none differs.
 fn find_in_table(
     alloc: Global,
-    left: &mut CellCursor<'_, '_>,
-    right: &mut CellCursor<'_, '_>,
+    comparison: &Comparison<'_, '_>,
     table: TableId,
     same: &SameParts,
-    ignored: &IgnoredColumns,
-    limit: usize,
-    compared: &mut ComparedCells,
-    found: &mut Vec<Difference>,
+    progress: &mut Progress<'_, '_>,
 ) -> Result<(), AllocError>
-    requires same { AreSameParts (source_of left.old) (source_of right.old) same.now }
-    requires blobs { HasBlobNames left.old right.old compared.old }
-    requires few { length found.old.items ≤ limit }
-    ensures left { left.new ≡ left.old }
-    ensures right { right.new ≡ right.old }
-    ensures blobs { OnOk result (HasBlobNames left.old right.old compared.new) }
-    ensures few { OnOk result (length found.new.items ≤ limit) }
-    ensures there { OnOk result (All (IsThere left.old right.old) found.old.items → All (IsThere left.old right.old) found.new.items) }
-    ensures sound { (first second : Metadata) → IsModel left.old first → IsModel right.old second
-        → OnOk result (Grows limit found.old.items found.new.items (table_differences ignored.now first second table)) }
+    requires same { AreSameParts (source_of comparison.now.left.now) (source_of comparison.now.right.now) same.now }
+    requires progress { IsProgress comparison.now progress.old }
+    ensures { OnOk result (Extends comparison.now progress.old.found.items progress.new
+        (λ first second. table_differences comparison.now.ignored.now first second table)) }
 {
-    let (left_view, right_view) = (left.view(), right.view());
+    let (left, right) = (comparison.left, comparison.right);
     let alike = same.decide(table);
-    if is_same_table(left_view, right_view, table, alike) {
+    if is_same_table(left, right, table, alike) {
         return Ok(());
     }
-    let count = left_view.count(table).min(right_view.count(table));
-    compared.begin_table(alloc);
-    for earlier in 0..count {
-        find_in_row(
-            alloc,
-            left,
-            right,
-            table,
-            earlier + 1,
-            alike,
-            ignored,
-            limit,
-            compared,
-            found,
-        )?;
+    progress.compared.begin_table(alloc);
+    for earlier in 0..left.count(table).min(right.count(table)) {
+        find_in_row(alloc, comparison, table, earlier + 1, alike, progress)?;
     }
     Ok(())
 }
@@ -134,40 +126,28 @@ fn find_in_table(
 /// equal cells.
 fn find_in_row(
     alloc: Global,
-    left: &mut CellCursor<'_, '_>,
-    right: &mut CellCursor<'_, '_>,
+    comparison: &Comparison<'_, '_>,
     table: TableId,
     row: u32,
     alike: bool,
-    ignored: &IgnoredColumns,
-    limit: usize,
-    compared: &mut ComparedCells,
-    found: &mut Vec<Difference>,
+    progress: &mut Progress<'_, '_>,
 ) -> Result<(), AllocError>
-    requires alike { IsTrue alike → AreAlike (source_of left.old) (source_of right.old) table }
-    requires first { 1 ≤ row }
-    requires left { row ≤ row_count left.old table }
-    requires right { row ≤ row_count right.old table }
-    requires compared { AreOutcomes left.old right.old table compared.old }
-    requires few { length found.old.items ≤ limit }
-    ensures left { left.new ≡ left.old }
-    ensures right { right.new ≡ right.old }
-    ensures compared { OnOk result (AreOutcomes left.old right.old table compared.new) }
-    ensures few { OnOk result (length found.new.items ≤ limit) }
-    ensures there { OnOk result (All (IsThere left.old right.old) found.old.items → All (IsThere left.old right.old) found.new.items) }
-    ensures sound { (first second : Metadata) → IsModel left.old first → IsModel right.old second
-        → OnOk result (Grows limit found.old.items found.new.items (row_differences ignored.now first second table row)) }
+    requires alike { IsTrue alike → AreAlike (source_of comparison.now.left.now) (source_of comparison.now.right.now) table }
+    requires row { IsInBoth comparison.now.left.now comparison.now.right.now table row }
+    requires progress { IsProgress comparison.now progress.old }
+    requires outcomes { AreOutcomes comparison.now.left.now comparison.now.right.now table progress.old.compared }
+    ensures found { OnOk result (Extends comparison.now progress.old.found.items progress.new
+        (λ first second. row_differences comparison.now.ignored.now first second table row)) }
+    ensures outcomes { OnOk result (AreOutcomes comparison.now.left.now comparison.now.right.now table progress.new.compared) }
 {
-    if found.len() == limit {
+    if progress.found.len() == comparison.limit {
         return Ok(());
     }
-    if is_same_row(left.view(), right.view(), table, row, alike) {
+    if is_same_row(comparison.left, comparison.right, table, row, alike) {
         return Ok(());
     }
-    for cell_index in 0..cell_count(table) {
-        find_in_cell(
-            alloc, left, right, table, row, cell_index, ignored, limit, compared, found,
-        )?;
+    for index in 0..cell_count(table) {
+        find_in_cell(alloc, comparison, CellId { table, row, index }, progress)?;
     }
     Ok(())
 }
@@ -175,43 +155,35 @@ fn find_in_row(
 /// Adds a cell if it differs and its column is not ignored, up to the limit.
 fn find_in_cell(
     alloc: Global,
-    left: &mut CellCursor<'_, '_>,
-    right: &mut CellCursor<'_, '_>,
-    table: TableId,
-    row: u32,
-    cell_index: usize,
-    ignored: &IgnoredColumns,
-    limit: usize,
-    compared: &mut ComparedCells,
-    found: &mut Vec<Difference>,
+    comparison: &Comparison<'_, '_>,
+    cell: CellId,
+    progress: &mut Progress<'_, '_>,
 ) -> Result<(), AllocError>
-    requires first { 1 ≤ row }
-    requires left { row ≤ row_count left.old table }
-    requires right { row ≤ row_count right.old table }
-    requires cell_index { cell_index < cell_count table }
-    requires compared { AreOutcomes left.old right.old table compared.old }
-    requires few { length found.old.items ≤ limit }
-    ensures left { left.new ≡ left.old }
-    ensures right { right.new ≡ right.old }
-    ensures compared { OnOk result (AreOutcomes left.old right.old table compared.new) }
-    ensures few { OnOk result (length found.new.items ≤ limit) }
-    ensures there { OnOk result (All (IsThere left.old right.old) found.old.items → All (IsThere left.old right.old) found.new.items) }
-    ensures sound { (first second : Metadata) → IsModel left.old first → IsModel right.old second
-        → OnOk result (Grows limit found.old.items found.new.items (cell_difference ignored.now first second table row cell_index)) }
+    requires row { IsInBoth comparison.now.left.now comparison.now.right.now cell.table cell.row }
+    requires index { cell.index < cell_count cell.table }
+    requires progress { IsProgress comparison.now progress.old }
+    requires outcomes { AreOutcomes comparison.now.left.now comparison.now.right.now cell.table progress.old.compared }
+    ensures found { OnOk result (Extends comparison.now progress.old.found.items progress.new
+        (λ first second. cell_difference comparison.now.ignored.now first second cell.table cell.row cell.index)) }
+    ensures outcomes { OnOk result (AreOutcomes comparison.now.left.now comparison.now.right.now cell.table progress.new.compared) }
 {
-    if ignored.contains(table, cell_index) {
+    if comparison.ignored.contains(cell.table, cell.index) {
         return Ok(());
     }
-    let same = is_same_in_row(alloc, left, right, table, row, cell_index, compared)?;
+    let (left, right) = (comparison.left, comparison.right);
+    let (cells, compared) = (&mut progress.cells, &mut progress.compared);
+    let same = is_same_in_row(alloc, left, right, cell, cells, compared)?;
     if same {
         return Ok(());
     }
-    if found.len() == limit {
+    if progress.found.len() == comparison.limit {
         return Ok(());
     }
-    Ok(found.push(Difference::Cell {
-        table,
-        row,
-        cell_index,
-    })?)
+    Ok(
+        progress.found.push(Difference::Cell {
+            table: cell.table,
+            row: cell.row,
+            cell_index: cell.index,
+        })?,
+    )
 }

@@ -6,6 +6,18 @@ ghost use Rattle.comparison.specs.ComparedCells.{AreOutcomes, HasBlobNames, IsNo
 use crate::blob_names::BlobNames;
 use std::alloc::{AllocError, Global};
 use std::collections::BTreeMap;
+use table_schema::TableId;
+
+/// A cell of two views.
+#[derive(Clone, Copy)]
+pub(crate) struct CellId {
+    /// The table.
+    pub table: TableId,
+    /// The row, counted from 1.
+    pub row: u32,
+    /// The index of the cell in the row, counted from 0.
+    pub index: usize,
+}
 
 /// Whether cells of a column are equal: those with two numbers in the two roots, and those with the next numbers in both.
 #[derive(Clone, Copy)]

@@ -38,7 +38,6 @@ impl IgnoredColumns {
         ensures added { is_ignored self.new table cell_index ≡ true }
         ensures others { AreOthersSame self.old self.new table cell_index }
     {
-        table_schema::laws::columns_stand();
         table_schema::laws::tables_stand();
         self.marks[mark_of(table, cell_index)] = true;
     }
@@ -53,11 +52,11 @@ impl IgnoredColumns {
 }
 
 /// The index of a column's mark, by the index of its cell in a row.
+#[tactic(auto, using(crate::proofs::IgnoredLemmas::few_cells))]
 fn mark_of(table: TableId, cell_index: usize) -> usize
     requires { cell_index < cell_count table }
     ensures value { result ≡ WIDTH * table_number table + cell_index }
     ensures limit { result < MARKS }
 {
-    table_schema::laws::columns_stand();
     WIDTH * usize::from(table.number()) + cell_index
 }

@@ -1,5 +1,5 @@
 //! Whether a cell is equal in a row of two views.
-ghost use Rattle.std.specs.Prelude.{◌≡◌, ◌≤◌, ◌<◌, true, IfOk, IfSome, IsTrue, OnOk};
+ghost use Rattle.std.specs.Prelude.{◌≡◌, ◌<◌, true, IfOk, IfSome, IsTrue, OnOk};
 ghost use Rattle.table_schema.specs.declared.column.ColumnKind.TheVariants.{Text};
 ghost use Rattle.table_schema.specs.CellColumns.{cell_count, column_of};
 ghost use Rattle.metadata.specs.Metadata.{Metadata, cell_in};
@@ -7,16 +7,15 @@ ghost use Rattle.metadata.specs.Model.{IsModel};
 ghost use Rattle.metadata.specs.Source.{number_of};
 ghost use Rattle.metadata.specs.SourceAt.{source_of};
 ghost use Rattle.metadata.specs.Valid.{kind_at};
-ghost use Rattle.opening.specs.Views.{row_count};
-ghost use Rattle.comparison.specs.ComparedCells.{AreOutcomes, HasBlobNames, IsInHeap, IsNoted, IsOutcome};
+ghost use Rattle.comparison.specs.ComparedCells.{AreCells, AreOutcomes, HasBlobNames, IsInBoth, IsInHeap, IsNoted, IsOutcome};
 ghost use Rattle.comparison.specs.SameCells.{is_same_cell};
 
-use crate::compared_cells::{ComparedCells, Outcome};
+use crate::compared_cells::{CellId, ComparedCells, Outcome};
 use crate::laws;
 use crate::same_cells::same_cell;
 use crate::same_texts::same_texts;
 use metadata_source::kind_of;
-use opening::{CellCursor, CellRef, TableId};
+use opening::{CellCursor, CellRef, TableId, View};
 use std::alloc::{AllocError, Global};
 use table_schema::{ColumnKind, column_of_cell};
 
@@ -43,80 +42,86 @@ fn takes_long(left: CellRef<'_>, right: CellRef<'_>) -> bool {
     }
 }
 
-/// The numbers in the column of a cell, in a row of two views.
-fn numbers_of(
-    left: &CellCursor<'_, '_>,
-    right: &CellCursor<'_, '_>,
-    table: TableId,
-    row: u32,
-    cell_index: usize,
-) -> (u32, u32)
-    requires first { 1 ≤ row }
-    requires left { row ≤ row_count left.now table }
-    requires right { row ≤ row_count right.now table }
-    requires cell_index { cell_index < cell_count table }
-    ensures left { result.0 ≡ number_of (source_of left.now) table row (column_of table cell_index) }
-    ensures right { result.1 ≡ number_of (source_of right.now) table row (column_of table cell_index) }
+/// The cells of two views, in one pass over their rows.
+#[derive(Drop)]
+pub(crate) struct ViewCells<'v, 'a> {
+    left: CellCursor<'v, 'a>,
+    right: CellCursor<'v, 'a>,
+}
+
+impl<'v, 'a> ViewCells<'v, 'a> {
+    /// The cells, before the first row.
+    pub(crate) fn new(left: &'v View<'a>, right: &'v View<'a>) -> ViewCells<'v, 'a>
+        ensures { AreCells left.now right.now result }
+    {
+        ViewCells {
+            left: CellCursor::new(left),
+            right: CellCursor::new(right),
+        }
+    }
+}
+
+/// The numbers in the column of a cell of two views.
+fn numbers_of(left: &View<'_>, right: &View<'_>, cell: CellId) -> (u32, u32)
+    requires row { IsInBoth left.now right.now cell.table cell.row }
+    requires index { cell.index < cell_count cell.table }
+    ensures left { result.0 ≡ number_of (source_of left.now) cell.table cell.row (column_of cell.table cell.index) }
+    ensures right { result.1 ≡ number_of (source_of right.now) cell.table cell.row (column_of cell.table cell.index) }
 {
     table_schema::laws::cells_have_columns();
-    let column = column_of_cell(table, cell_index);
-    let left_number = left.view().source().number(table, row, column);
-    let right_number = right.view().source().number(table, row, column);
+    let CellId { table, row, index } = cell;
+    let column = column_of_cell(table, index);
+    let left_number = left.source().number(table, row, column);
+    let right_number = right.source().number(table, row, column);
     (left_number, right_number)
 }
 
 /// Whether the cells with two numbers are blobs whose windows have the same names, and so equal.
 fn is_named_same(
-    left: &CellCursor<'_, '_>,
-    right: &CellCursor<'_, '_>,
-    table: TableId,
-    cell_index: usize,
+    left: &View<'_>,
+    right: &View<'_>,
+    cell: CellId,
     numbers: (u32, u32),
     compared: &ComparedCells,
 ) -> bool
-    requires cell_index { cell_index < cell_count table }
+    requires index { cell.index < cell_count cell.table }
     requires blobs { HasBlobNames left.now right.now compared.now }
-    ensures { IsTrue result → IsOutcome left.now right.now table cell_index numbers.0 numbers.1 true }
+    ensures { IsTrue result → IsOutcome left.now right.now cell.table cell.index numbers.0 numbers.1 true }
 {
     metadata::laws::models_are_read();
     laws::cells_are_tested();
     if compared.blobs.windows.names.is_empty() {
         return false;
     }
-    let ColumnKind::Blob = kind_of(table, cell_index) else {
+    let ColumnKind::Blob = kind_of(cell.table, cell.index) else {
         return false;
     };
-    let left_heap = left.view().source().blobs();
-    let right_heap = right.view().source().blobs();
+    let (left_heap, right_heap) = (left.source().blobs(), right.source().blobs());
     compared.blobs.are_equal(left_heap, right_heap, numbers)
 }
 
-/// Whether a cell of a row is equal in two views, if that was noted of an earlier row with the same numbers, or if both
-/// are blobs whose windows have the same names.
+/// Whether a cell is equal in two views, if that was noted of an earlier row with the same numbers, or if both are blobs
+/// whose windows have the same names.
 fn known_in_row(
-    left: &CellCursor<'_, '_>,
-    right: &CellCursor<'_, '_>,
-    table: TableId,
-    row: u32,
-    cell_index: usize,
+    left: &View<'_>,
+    right: &View<'_>,
+    cell: CellId,
     compared: &ComparedCells,
 ) -> Option<bool>
-    requires first { 1 ≤ row }
-    requires left { row ≤ row_count left.now table }
-    requires right { row ≤ row_count right.now table }
-    requires cell_index { cell_index < cell_count table }
-    requires compared { AreOutcomes left.now right.now table compared.now }
+    requires row { IsInBoth left.now right.now cell.table cell.row }
+    requires index { cell.index < cell_count cell.table }
+    requires compared { AreOutcomes left.now right.now cell.table compared.now }
     ensures { (first second : Metadata) → IsModel left.now first → IsModel right.now second
-        → IfSome result (λ same. same ≡ is_same_cell (cell_in first table row cell_index) (cell_in second table row cell_index)) }
+        → IfSome result (λ same. same ≡ is_same_cell (cell_in first cell.table cell.row cell.index) (cell_in second cell.table cell.row cell.index)) }
 {
     if compared.is_empty() {
         return None;
     }
-    let numbers = numbers_of(left, right, table, row, cell_index);
-    if is_named_same(left, right, table, cell_index, numbers, compared) {
+    let numbers = numbers_of(left, right, cell);
+    if is_named_same(left, right, cell, numbers, compared) {
         return Some(true);
     }
-    compared.known(cell_index, numbers.0, numbers.1)
+    compared.known(cell.index, numbers.0, numbers.1)
 }
 
 /// The length of a text, in a column of texts.
@@ -131,54 +136,48 @@ fn text_len(kind: ColumnKind, value: CellRef<'_>) -> Option<usize>
 
 /// What can be noted of all texts that are equal because those of two numbers are.
 fn noted_of_texts(
-    left: &CellCursor<'_, '_>,
-    right: &CellCursor<'_, '_>,
-    table: TableId,
-    cell_index: usize,
+    left: &View<'_>,
+    right: &View<'_>,
+    cell: CellId,
     numbers: (u32, u32),
     left_value: CellRef<'_>,
 ) -> Option<Outcome>
-    requires { cell_index < cell_count table }
-    ensures { IfSome result (IsNoted left.now right.now table) }
+    requires { cell.index < cell_count cell.table }
+    ensures { IfSome result (IsNoted left.now right.now cell.table) }
 {
     metadata::laws::models_are_read();
     heap_pools::laws::texts_are_at();
     laws::cells_are_tested();
-    let len = text_len(kind_of(table, cell_index), left_value)?;
-    let left_heap = left.view().source().texts();
-    let right_heap = right.view().source().texts();
-    same_texts(left_heap, right_heap, cell_index, numbers.0, numbers.1, len)
+    let len = text_len(kind_of(cell.table, cell.index), left_value)?;
+    let (left_heap, right_heap) = (left.source().texts(), right.source().texts());
+    same_texts(left_heap, right_heap, cell.index, numbers.0, numbers.1, len)
 }
 
-/// Notes whether a cell of a row is equal in two views. Of a text this is noted of all texts that end with the same bytes.
+/// Notes whether a cell is equal in two views. Of a text this is noted of all texts that end with the same bytes.
 fn note_in_row(
-    left: &CellCursor<'_, '_>,
-    right: &CellCursor<'_, '_>,
-    table: TableId,
-    row: u32,
-    cell_index: usize,
+    left: &View<'_>,
+    right: &View<'_>,
+    cell: CellId,
     left_value: CellRef<'_>,
     same: bool,
     compared: &mut ComparedCells,
 ) -> Result<(), AllocError>
-    requires first { 1 ≤ row }
-    requires left { row ≤ row_count left.now table }
-    requires right { row ≤ row_count right.now table }
-    requires cell_index { cell_index < cell_count table }
-    requires in_heap { IsInHeap (kind_at table cell_index) }
-    requires compared { AreOutcomes left.now right.now table compared.old }
+    requires row { IsInBoth left.now right.now cell.table cell.row }
+    requires index { cell.index < cell_count cell.table }
+    requires in_heap { IsInHeap (kind_at cell.table cell.index) }
+    requires compared { AreOutcomes left.now right.now cell.table compared.old }
     requires same { (first second : Metadata) → IsModel left.now first → IsModel right.now second
-        → same ≡ is_same_cell (cell_in first table row cell_index) (cell_in second table row cell_index) }
-    ensures { OnOk result (AreOutcomes left.now right.now table compared.new) }
+        → same ≡ is_same_cell (cell_in first cell.table cell.row cell.index) (cell_in second cell.table cell.row cell.index) }
+    ensures { OnOk result (AreOutcomes left.now right.now cell.table compared.new) }
 {
     metadata::laws::models_are_read();
     metadata::laws::cells_are_one();
-    let numbers = numbers_of(left, right, table, row, cell_index);
-    if let Some(noted) = noted_of_texts(left, right, table, cell_index, numbers, left_value) {
+    let numbers = numbers_of(left, right, cell);
+    if let Some(noted) = noted_of_texts(left, right, cell, numbers, left_value) {
         return compared.note(noted);
     }
     compared.note(Outcome {
-        cell_index,
+        cell_index: cell.index,
         left: numbers.0,
         right: numbers.1,
         count: 1,
@@ -189,8 +188,8 @@ fn note_in_row(
 /// Counts the bytes of a blob that is equal in two views, so that windows are named after many of them.
 fn count_blob(
     alloc: Global,
-    left: &CellCursor<'_, '_>,
-    right: &CellCursor<'_, '_>,
+    left: &View<'_>,
+    right: &View<'_>,
     table: TableId,
     left_value: CellRef<'_>,
     same: bool,
@@ -202,45 +201,39 @@ fn count_blob(
     let (CellRef::Bytes(blob), true) = (left_value, same) else {
         return Ok(());
     };
-    let (left_source, right_source) = (left.view().source(), right.view().source());
-    compared
-        .blobs
-        .count_compared(alloc, left_source, right_source, blob.len())
+    let blobs = &mut compared.blobs;
+    blobs.count_compared(alloc, left.source(), right.source(), blob.len())
 }
 
-/// Whether a cell of a row is equal in two views. What it takes long to compare is noted, and known in a later row with the
-/// same numbers.
+/// Whether a cell is equal in two views. What it takes long to compare is noted, and known in a later row with the same
+/// numbers.
 pub(crate) fn is_same_in_row(
     alloc: Global,
-    left: &mut CellCursor<'_, '_>,
-    right: &mut CellCursor<'_, '_>,
-    table: TableId,
-    row: u32,
-    cell_index: usize,
+    left: &View<'_>,
+    right: &View<'_>,
+    cell: CellId,
+    cells: &mut ViewCells<'_, '_>,
     compared: &mut ComparedCells,
 ) -> Result<bool, AllocError>
-    requires first { 1 ≤ row }
-    requires left { row ≤ row_count left.old table }
-    requires right { row ≤ row_count right.old table }
-    requires cell_index { cell_index < cell_count table }
-    requires compared { AreOutcomes left.old right.old table compared.old }
-    ensures left { left.new ≡ left.old }
-    ensures right { right.new ≡ right.old }
-    ensures compared { OnOk result (AreOutcomes left.old right.old table compared.new) }
-    ensures same { (first second : Metadata) → IsModel left.old first → IsModel right.old second
-        → IfOk result (λ same. same ≡ is_same_cell (cell_in first table row cell_index) (cell_in second table row cell_index)) }
+    requires row { IsInBoth left.now right.now cell.table cell.row }
+    requires index { cell.index < cell_count cell.table }
+    requires cells { AreCells left.now right.now cells.old }
+    requires compared { AreOutcomes left.now right.now cell.table compared.old }
+    ensures cells { AreCells left.now right.now cells.new }
+    ensures compared { OnOk result (AreOutcomes left.now right.now cell.table compared.new) }
+    ensures same { (first second : Metadata) → IsModel left.now first → IsModel right.now second
+        → IfOk result (λ same. same ≡ is_same_cell (cell_in first cell.table cell.row cell.index) (cell_in second cell.table cell.row cell.index)) }
 {
-    if let Some(same) = known_in_row(left, right, table, row, cell_index, compared) {
+    if let Some(same) = known_in_row(left, right, cell, compared) {
         return Ok(same);
     }
-    let kind = kind_of(table, cell_index);
-    let left_value = left.cell(table, row, cell_index);
-    let right_value = right.cell(table, row, cell_index);
+    let CellId { table, row, index } = cell;
+    let kind = kind_of(table, index);
+    let left_value = cells.left.cell(table, row, index);
+    let right_value = cells.right.cell(table, row, index);
     let same = same_cell(alloc, kind, left_value, right_value)?;
     if is_in_heap(kind) && takes_long(left_value, right_value) {
-        note_in_row(
-            left, right, table, row, cell_index, left_value, same, compared,
-        )?;
+        note_in_row(left, right, cell, left_value, same, compared)?;
         count_blob(alloc, left, right, table, left_value, same, compared)?;
     }
     Ok(same)

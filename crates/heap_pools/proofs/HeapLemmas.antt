@@ -1,6 +1,7 @@
 -- The heap of the flagged texts, extended by one use index.
-use Rattle.heap_pools.proofs.Prelude.{◌≡◌, ℕ, zero, suc, ◌+◌, ◌<◌, ◌≤◌, max, Bool, true, false, List, [], ◌∷◌, ◌++◌, length, take, drop, get_or, slice_index_or, refl, sym, ap, ◌∙◌, ⊎_elim, true≢false, arith, length-append, add-one, cases_lt, false≢true, append_assoc, get_or_push, get_or_append_left, drop_at, take_at, ended, text_heap, used_at, flagged}
+use Rattle.heap_pools.proofs.Prelude.{◌≡◌, ℕ, zero, suc, ◌+◌, ◌<◌, ◌≤◌, max, Bool, true, false, List, [], ◌∷◌, ◌++◌, length, take, drop, get_or, slice_index_or, refl, sym, ap, ◌∙◌, true≢false, arith, length-append, add-one, false≢true, append_assoc, drop_at, take_at, ended, text_heap, used_at, flagged}
 use Rattle.heap_pools.proofs.PlanLemmas.{flagged_split}
+use Rattle.heap_pools.proofs.UseLemmas.{one_more}
 
 pub ended-append : (a b : List (List ℕ)) → ended (a ++ b) ≡ ended a ++ ended b
 ended-append [] b = refl
@@ -66,10 +67,7 @@ module _ (texts : List (List ℕ)) (flags : List Bool) (p : ℕ) (in_texts : p <
 
 -- one more number at the end of a list of a function's values
 pub values_more : (f : ℕ → ℕ) (xs : List ℕ) (i x : ℕ) → length xs ≡ i → x ≡ f i → ((k : ℕ) → k < i → get_or xs k 0 ≡ f k) → (k : ℕ) → k < i + 1 → get_or (xs ++ x ∷ []) k 0 ≡ f k
-values_more f xs i x long new old k h = ⊎_elim
-    (λ (lt : k < i). get_or_append_left xs (x ∷ []) 0 k (omega arith) ∙ old k lt)
-    (λ (ge : i ≤ k). let e : i ≡ k = omega arith in get_or_push xs x 0 k (long ∙ e) ∙ new ∙ ap f e)
-    (cases_lt k i)
+values_more f xs i x long new old = one_more (λ (k y : ℕ). y ≡ f k) xs x 0 i long new old
 
 -- a text at the end of an entry is at its index in the heap
 pub stands_in : (before : List (List ℕ)) (entry : List ℕ) (after : List (List ℕ)) (prefix text : List ℕ) → entry ≡ prefix ++ text

@@ -1,6 +1,8 @@
 -- The heap of the texts used first is not longer than the heap of all: each of its entries is at the end of a
 -- different entry there.
-use Rattle.heap_pools.proofs.Prelude.{◌≡◌, ℕ, ◌<◌, ◌≤◌, Bool, true, false, not, ◌&&◌, cond, true≢false, List, [], ◌∷◌, ◌++◌, length, filter, drop, ◌⊎◌, inl, inr, refl, sym, ap, subst, ◌∙◌, ⊎_elim, arith, length-append, list_any, bytes_eq, same_text, cases_Bool, cond_both, not-true, or_parts, nat_list_eq_equiv, Contains-append_left, is_among, first_uses, distinct, ends_with, is_holder, holders, ended, text_heap}
+use Rattle.heap_pools.proofs.Prelude.{◌≡◌, ℕ, ◌<◌, ◌≤◌, Bool, true, false, not, ◌&&◌, cond, true≢false, List, [], ◌∷◌, ◌++◌, length, filter, drop, ◌⊎◌, inl, inr, refl, sym, ap, subst, ◌∙◌, ⊎_elim, arith, length-append, list_any, bytes_eq, same_text, cases_Bool, cond_both, not-true, or_parts, nat_list_eq_equiv, Contains-append_left, All-filter, is_among, first_uses, distinct, ends_with, is_holder, holders, ended, text_heap}
+use Rattle.std.proofs.Common.{Contains}
+use Rattle.std.proofs.lemmas.List.Elements.{All-contains, All-contains_itself, filter_passes}
 use Rattle.heap_pools.proofs.EndingLemmas.{ends_parts, ends_from, ends_length}
 use Rattle.heap_pools.proofs.FoundLemmas.{held}
 use Rattle.heap_pools.proofs.HeapLemmas.{ended-append}
@@ -31,14 +33,11 @@ holder_is used holder text is there ends = ⊎_elim
 
 -- the elements that a filter leaves
 left_in : {X : Type 0} (test : X → Bool) (x : X) (xs : List X) → IsIn x (filter test xs) → IsIn x xs × (test x ≡ true)
-left_in test x [] h = absurd h
-left_in test x (z ∷ zs) h = ⊎_elim
-    (λ (e : test z ≡ true). ⊎_elim
-    (λ (same : z ≡ x). (inl same, ap test (sym same) ∙ e))
-    (λ (later : IsIn x (filter test zs)). let tail = left_in test x zs later in (inr tail.0, tail.1))
-    (subst (λ b. IsIn x (cond b (z ∷ filter test zs) (filter test zs))) e h))
-    (λ (e : test z ≡ false). let tail = left_in test x zs (subst (λ b. IsIn x (cond b (z ∷ filter test zs) (filter test zs))) e h) in (inr tail.0, tail.1))
-    (cases_Bool (test z))
+left_in test x xs h =
+    let left = contains_from_in (filter test xs) x h in (
+      in_from_contains xs x (All-contains (Contains xs) (filter test xs) x (All-filter test (Contains xs) xs (All-contains_itself xs)) left),
+      All-contains (λ y. test y ≡ true) (filter test xs) x (filter_passes test xs) left,
+    )
 
 -- a first use is among the values, and not in `before`
 first_is : (before values : List (List ℕ)) (x : List ℕ) → IsIn x (first_uses before values) → IsIn x values × (is_among before x ≡ false)

@@ -1,6 +1,7 @@
 -- Values in lists, and in the list of the distinct ones.
 use Rattle.std.proofs.Common.{◌≡◌, ℕ, zero, suc, ◌<◌, Bool, true, false, ◌||◌, cond, true≢false, List, [], ◌∷◌, ◌++◌, length, filter, Contains, refl, sym, ap, subst, ◌∙◌, ◌⊎◌, inl, inr, ⊎_elim, arith, append_assoc}
 use Rattle.heap_pools.proofs.Prelude.{list_any, bytes_eq, same_text, cases_Bool, cond_both, false≢true, or_from, or_left, or_right, nat_list_eq_equiv, append-nil, list_any-append, is_among, first_uses, distinct, pooled}
+use Rattle.std.proofs.Math.Bool.{or-false}
 
 -- a list contains a value
 abbrev pub IsIn : {X : Type 0} → X → List X → Type 0
@@ -16,10 +17,6 @@ pub contains_from_in : {X : Type 0} (xs : List X) (x : X) → IsIn x xs → Cont
 contains_from_in [] x h = absurd h
 contains_from_in (y ∷ ys) x (inl e) = (0, omega arith, e)
 contains_from_in (y ∷ ys) x (inr h) = let tail = contains_from_in ys x h in (suc tail.0, omega (arith, tail.1), tail.2)
-
-or_false : (b : Bool) → (b || false) ≡ b
-or_false true = refl
-or_false false = refl
 
 pub in_any : {X : Type 0} (test : X → Bool) (x : X) (xs : List X) → IsIn x xs → test x ≡ true → list_any test xs ≡ true
 in_any test x [] h t = absurd h
@@ -45,7 +42,7 @@ among_in values value h = in_any (bytes_eq value) value values h (nat_list_eq_eq
 
 -- a value that is in the list before it is not added again
 pub among_push : (before : List (List ℕ)) (value x : List ℕ) → is_among (before ++ value ∷ []) x ≡ (is_among before x || bytes_eq x value)
-among_push before value x = list_any-append (bytes_eq x) before (value ∷ []) ∙ ap (λ b. is_among before x || b) (or_false (bytes_eq x value))
+among_push before value x = list_any-append (bytes_eq x) before (value ∷ []) ∙ ap (λ b. is_among before x || b) (or-false (bytes_eq x value))
 
 -- the first use of each value is among the first uses
 first_use : (before used : List (List ℕ)) (x : List ℕ) → IsIn x used → is_among before x ≡ false → IsIn x (first_uses before used)
@@ -77,7 +74,7 @@ among_known before tail value x known =
     (λ (e : bytes_eq x value ≡ true).
     let there : is_among before x ≡ true = ap (is_among before) (same_text x value (sym e)) ∙ known in
     ap (λ b. b || bytes_eq x value) there ∙ sym there)
-    (λ (e : bytes_eq x value ≡ false). ap (λ b. is_among before x || b) e ∙ or_false (is_among before x))
+    (λ (e : bytes_eq x value ≡ false). ap (λ b. is_among before x || b) e ∙ or-false (is_among before x))
     (cases_Bool (bytes_eq x value)) in
     left ∙ ap (λ b. b || is_among tail x) (among_push before value x ∙ same) ∙ sym right
 

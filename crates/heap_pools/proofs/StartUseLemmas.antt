@@ -1,10 +1,11 @@
 -- StartUses in a strings heap: the texts at them, and the first use index of each start.
-use Rattle.heap_pools.proofs.Prelude.{◌≡◌, ◌≢◌, ℕ, ◌+◌, ◌<◌, List, [], ◌∷◌, ◌++◌, All, length, set, slice_index, sym, ap, subst, ◌∙◌, ⊎_elim, arith, Bor, IsPermutation, cases_eq, length-map, length-set, ext_get_or, get_or-map, get_or_push, get_or_append_left, get_or_default, get_or-set_same, get_or-set_other, All-from_get_or, Contains-get_or, All-permutation, Contains-permutation, HasNoNul, start_use_at, AreStartUses, used_at, bytes_of}
+use Rattle.heap_pools.proofs.Prelude.{◌≡◌, ◌≢◌, ℕ, ◌+◌, ◌<◌, List, [], ◌∷◌, ◌++◌, All, length, set, slice_index, sym, ap, subst, ◌∙◌, ⊎_elim, arith, Bor, IsPermutation, cases_eq, length-map, length-set, ext_get_or, get_or-map, get_or_push, get_or_append_left, get_or_default, get_or-set_same, get_or-set_other, All-from_get_or, Contains-get_or, All-permutation, Contains-permutation, HasNoNul, start_use_at, AreStartUses, IsEarlierUse, used_at, bytes_of}
 use Rattle.heap_pools.specs.declared.heap_texts.StartUse.{StartUse}
 use Rattle.heap_pools.specs.HeapTexts.{heap_text, texts_at}
+use Rattle.heap_pools.specs.Ranking.{AreSources}
 use Rattle.heap_pools.proofs.FirstLemmas.{last_cases}
 use Rattle.heap_pools.proofs.HeapTextLemmas.{heap_text_plain}
-use Rattle.heap_pools.proofs.UseLemmas.{used_read, no_text}
+use Rattle.heap_pools.proofs.UseLemmas.{length-bytes, used_read, no_text}
 
 abbrev pub no_start_use : StartUse
 no_start_use = record { start = 0; use_index = 0 }
@@ -72,3 +73,12 @@ module _ (heap starts : List ℕ) (start_uses : List StartUse) (p : AreStartUses
 pub texts_plain : (heap starts : List ℕ) → All HasNoNul (texts_at heap starts)
 texts_plain heap starts = All-from_get_or HasNoNul (texts_at heap starts) [] (λ i h.
     subst HasNoNul (sym (get_or-map (heap_text heap) starts i 0 [] (omega (arith, h, length-map starts (heap_text heap))))) (heap_text_plain heap (slice_index starts i)))
+
+-- the sources of the texts, when they are passed on
+pub sources_passed : (passed texts : List (Bor (List ℕ))) (sources : List ℕ) → passed ≡ texts → length sources ≡ length passed
+    → ((use_index : ℕ) → use_index < length passed → 0 < length (used_at (bytes_of passed) use_index) → IsEarlierUse (bytes_of passed) use_index (slice_index sources use_index))
+    → AreSources (bytes_of texts) sources
+sources_passed passed texts sources same long each = subst (λ t. AreSources (bytes_of t) sources) same (record {
+  len = omega (arith, long, length-bytes passed);
+  each = λ use_index h some. each use_index (omega (arith, h, length-bytes passed)) some;
+})

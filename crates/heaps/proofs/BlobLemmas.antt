@@ -1,6 +1,6 @@
 -- The offset of a blob in its heap.
 use Rattle.heaps.proofs.Prelude.{◌≡◌, ℕ, ◌+◌, ◌<◌, max, true, false, ◌||◌, cond, true≢false, ◌↔◌, nat_eq, List, [], ◌∷◌, ◌++◌, length, map, flat_map, Vec, Option, Some, None, IfSome, IfNone, refl, sym, ap, ◌∙◌, ⊎_elim, arith, length-append, cases_Bool, nat_list_eq_equiv, append-nil, flat_map-append, pointwise, keys_of, values_of, lookup, bytes_eq, short_unsigned, blob_from, blob_heap, blob_index, counted, starts_from, is_among, pooled, begun, pooled_new}
-use Rattle.heaps.proofs.FirstByteLemmas.{length-begun}
+use Rattle.heaps.proofs.BytesLemmas.{length-begun}
 
 -- the heap with one more blob
 pub blob_heap-push : (entries : List (List ℕ)) (blob : List ℕ) → blob_heap (entries ++ blob ∷ []) ≡ begun (blob_heap entries) ++ counted blob

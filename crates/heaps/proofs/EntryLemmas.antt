@@ -1,19 +1,17 @@
 -- Entries of a blob heap whose windows are equal (ECMA-335 II.24.2.4).
-use Rattle.std.proofs.Common.{◌≡◌, ℕ, ◌+◌, ◌-◌, ◌<◌, ◌≤◌, ◌⊎◌, List, [], ◌∷◌, ◌++◌, All, IsPermutation, length, take, drop, set, slice_index, sym, ap, subst, ◌∙◌, inr, ⊎_elim, arith, append_assoc, length-append, length-take-le, take-append-drop, take_at, drop_at, get_or-set_same, get_or-set_other}
+use Rattle.std.proofs.Common.{◌≡◌, ℕ, ◌+◌, ◌-◌, ◌<◌, ◌≤◌, ◌⊎◌, List, [], ◌∷◌, ◌++◌, All, IsPermutation, length, take, drop, set, slice_index, sym, ap, subst, ◌∙◌, inr, ⊎_elim, arith, append_assoc, length-append, length-take-le, take-append-drop, take_at, get_or-set_same, get_or-set_other}
+use Rattle.heap_entries.proofs.BlobLemmas.{counted_behind}
 use Rattle.heaps.proofs.Prelude.{cases_eq, All-push, IsCounted, AreEarlierBlobs, IsKey, IsKeyAt, IsSameBlob, window}
 use Rattle.std.proofs.lemmas.List.Sorted.{All-permutation}
 use Rattle.heaps.specs.declared.overlaps.Key.{Key}
 use Rattle.heaps.proofs.WindowLemmas.{cover}
-
-pub entry_behind : (heap : List ℕ) (index : ℕ) (blob : List ℕ) (counted : IsCounted heap index blob) → drop index heap ≡ counted.count ++ (blob ++ counted.after)
-entry_behind heap index blob counted = ap (drop index) counted.whole ∙ drop_at counted.before (counted.count ++ (blob ++ counted.after)) index counted.at
 
 -- the window of an entry
 entry_window : (heap : List ℕ) (index n : ℕ) (blob : List ℕ) (counted : IsCounted heap index blob) → n ≡ length counted.count + length blob
     → window heap n index ≡ counted.count ++ blob
 entry_window heap index n blob counted long =
     let entry = counted.count ++ blob in
-    ap (take n) (entry_behind heap index blob counted)
+    ap (take n) (counted_behind heap index blob counted)
     ∙ ap (take n) (sym (append_assoc counted.count blob counted.after))
     ∙ take_at entry counted.after n (length-append counted.count blob ∙ sym long)
 

@@ -1,5 +1,5 @@
 -- The offset of a GUID in its heap.
-use Rattle.heaps.proofs.Prelude.{◌≡◌, ℕ, ◌+◌, ◌*◌, ◌^◌, ◌<◌, ◌≤◌, Bool, true, false, not, true≢false, ◌↔◌, IsTrue, nat_eq, All, List, [], ◌∷◌, ◌++◌, length, refl, sym, arith, ⊎_elim, length-append, subst, All-head, All-tail, All-cons, All-nil, All-append, cases_Bool, cases_lt, pointwise, is_among, pooled, guid_heap, pooled_there, pooled_new}
+use Rattle.heaps.proofs.Prelude.{◌≡◌, ℕ, ◌+◌, ◌*◌, ◌^◌, ◌<◌, ◌≤◌, Bool, true, false, not, true≢false, ◌↔◌, IsTrue, nat_eq, All, List, [], ◌∷◌, ◌++◌, length, refl, sym, arith, ⊎_elim, length-append, subst, All-push, All-head, All-tail, cases_Bool, cases_lt, pointwise, is_among, pooled, guid_heap, pooled_there, pooled_new}
 use Rattle.indexmap.specs.IndexSet.{insert_key}
 
 -- the length of a heap of GUIDs
@@ -10,17 +10,13 @@ length-guid_heap (guid ∷ guids) h =
     let tail = length-guid_heap guids (All-tail (λ g. length g ≡ 16) guid guids h) in
     omega (arith, length-append guid (guid_heap guids))
 
--- a new GUID is appended
-pub sixteen_more : (guids : List (List ℕ)) (guid : List ℕ) → All (λ g. length g ≡ 16) guids → length guid ≡ 16 → All (λ g. length g ≡ 16) (guids ++ guid ∷ [])
-sixteen_more guids guid h sixteen = All-append (λ g. length g ≡ 16) guids (guid ∷ []) h (All-cons (λ g. length g ≡ 16) guid [] sixteen (All-nil (λ g. length g ≡ 16)))
-
 -- the heap with a GUID is longer than 2^30 bytes if and only if the GUID is new and there are 2^26 already
 pub fits_there : (guids : List (List ℕ)) (guid : List ℕ) → All (λ g. length g ≡ 16) guids → length guids ≤ 2 ^ 26 → is_among guids guid ≡ true → length (guid_heap (pooled guids guid)) ≤ 2 ^ 30
 fits_there guids guid h few there = rw (pooled_there guids guid there) (omega (arith, length-guid_heap guids h))
 
 pub long_new : (guids : List (List ℕ)) (guid : List ℕ) → All (λ g. length g ≡ 16) guids → length guid ≡ 16 → is_among guids guid ≡ false → length (guid_heap (pooled guids guid)) ≡ 16 * length guids + 16
 long_new guids guid h sixteen new =
-    rw (pooled_new guids guid (omega arith) new) (omega (arith, length-guid_heap (guids ++ guid ∷ []) (sixteen_more guids guid h sixteen), length-append guids (guid ∷ [])))
+    rw (pooled_new guids guid (omega arith) new) (omega (arith, length-guid_heap (guids ++ guid ∷ []) (All-push (λ g. length g ≡ 16) guids guid h sixteen), length-append guids (guid ∷ [])))
 
 module _ (guids : List (List ℕ)) (guid : List ℕ) (h : All (λ g. length g ≡ 16) guids) (few : length guids ≤ 2 ^ 26) (sixteen : length guid ≡ 16) where
   pub full_at_most : length guids ≡ 2 ^ 26 → (there : Bool) → there ≡ is_among guids guid → IsTrue (not there) ↔ (2 ^ 30 < length (guid_heap (pooled guids guid)))
@@ -38,7 +34,7 @@ module _ (guids : List (List ℕ)) (guid : List ℕ) (h : All (λ g. length g �
   pub pooled_sixteen : All (λ g. length g ≡ 16) (pooled guids guid)
   pooled_sixteen = ⊎_elim
       (λ (e : is_among guids guid ≡ true). subst (All (λ g. length g ≡ 16)) (sym (pooled_there guids guid e)) h)
-      (λ (e : is_among guids guid ≡ false). subst (All (λ g. length g ≡ 16)) (sym (pooled_new guids guid (omega arith) e)) (sixteen_more guids guid h sixteen))
+      (λ (e : is_among guids guid ≡ false). subst (All (λ g. length g ≡ 16)) (sym (pooled_new guids guid (omega arith) e)) (All-push (λ g. length g ≡ 16) guids guid h sixteen))
       (cases_Bool (is_among guids guid))
 
   pub pooled_fits : (2 ^ 30 < length (guid_heap (pooled guids guid)) → ⊥) → length (pooled guids guid) ≤ 2 ^ 26

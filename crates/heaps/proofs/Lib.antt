@@ -1,4 +1,3 @@
-pub mod FirstByteLemmas
 pub mod BlobLemmas
 pub mod GuidLemmas
 pub mod BlobPlanLemmas

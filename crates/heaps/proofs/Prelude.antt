@@ -5,7 +5,7 @@ pub use Rattle.std.proofs.lemmas.Bool.Decides.{nat_tests}
 pub use Rattle.std.proofs.lemmas.Cmp.{nat_list_eq_equiv}
 pub use Rattle.std.proofs.lemmas.List.{append-nil, drop_more, length-map, map_push, take_more, take_all, nil_from_length, with_items_is}
 pub use Rattle.std.proofs.lemmas.List.Concat.{flat_map-append}
-pub use Rattle.std.proofs.lemmas.List.Elements.{Contains-get_or, All-push, All-head, All-tail, All-cons, All-nil, All-append, All-take}
+pub use Rattle.std.proofs.lemmas.List.Elements.{Contains-get_or, All-push, All-head, All-tail, All-cons, All-nil, All-take}
 pub use Rattle.std.proofs.lemmas.Result.{err_from_is_err_and}
 pub use Rattle.std.specs.Borrow.{Bor}
 pub use Rattle.std.specs.Cmp.Lexicographic.{pointwise, same_text}

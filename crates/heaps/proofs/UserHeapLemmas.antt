@@ -1,15 +1,13 @@
 -- The heap of user strings, its lengths and its padding.
-use Rattle.heaps.proofs.Prelude.{◌≡◌, ℕ, zero, suc, ◌+◌, ◌-◌, ◌%◌, ◌*◌, ◌^◌, ◌<◌, ◌≤◌, max, true, false, List, [], ◌∷◌, ◌++◌, length, take, flat_map, replicate, Some, refl, sym, ap, subst, inl, inr, ⊎_elim, arith, length-append, append_assoc, nat_lt, cases_lt, nat_tests, IsPacked, short_unsigned, IsUserString, zero_padded, begun, unit_bytes, last_byte, user_length, user_entry}
+use Rattle.heaps.proofs.Prelude.{◌≡◌, ℕ, zero, suc, ◌+◌, ◌-◌, ◌%◌, ◌^◌, ◌<◌, ◌≤◌, max, List, [], ◌∷◌, ◌++◌, length, take, flat_map, replicate, Some, refl, sym, ap, subst, inr, arith, length-append, append_assoc, IsPacked, short_unsigned, IsUserString, zero_padded, begun, unit_bytes, last_byte, user_length, user_entry}
+use Rattle.heap_pools.proofs.FoundLemmas.{short_packed}
+use Rattle.heap_entries.proofs.UserLemmas.{length-user}
 use Rattle.heaps.proofs.BytesLemmas.{length-begun}
-
-pub length-units : (units : List ℕ) (last : ℕ) → length (flat_map unit_bytes units ++ last ∷ []) ≡ 2 * length units + 1
-length-units [] last = refl
-length-units (unit ∷ units) last = omega (arith, length-units units last)
 
 pub length-user_entry : (units : List ℕ) → length (user_entry units) ≡ length (short_unsigned (user_length units)) + user_length units
 unfolding user_entry
 length-user_entry units =
-    omega (arith, length-append (short_unsigned (user_length units)) (flat_map unit_bytes units ++ last_byte units ∷ []), length-units units (last_byte units))
+    omega (arith, length-append (short_unsigned (user_length units)) (flat_map unit_bytes units ++ last_byte units ∷ []), length-user units (last_byte units))
 
 -- the offset of a pushed user string, and the length of the heap with it
 pub pushed_lengths : (bytes heap units : List ℕ) (len start used : ℕ) → len ≡ length bytes → start ≡ max len 1 → begun bytes ≡ heap → used ≡ length (short_unsigned (user_length units))
@@ -36,21 +34,12 @@ padded_is (byte ∷ bytes) n low high multiple =
     let padding : n - length (byte ∷ bytes) ≡ (4 - length (byte ∷ bytes) % 4) % 4 = omega arith in
     ap (λ k. (byte ∷ bytes) ++ replicate {A = ℕ} k 0) padding
 
-pub short_packed : (n : ℕ) → n < 2 ^ 29 → IsPacked n (short_unsigned n)
-short_packed n limit = ⊎_elim
-    (λ (a : n < 2 ^ 7). let e : nat_lt n (2 ^ 7) ≡ true = grind (arith, nat_tests) in inl (a, rw e refl))
-    (λ (a : 2 ^ 7 ≤ n). let e : nat_lt n (2 ^ 7) ≡ false = grind (arith, nat_tests) in ⊎_elim
-    (λ (b : n < 2 ^ 14). let f : nat_lt n (2 ^ 14) ≡ true = grind (arith, nat_tests) in inr (inl (b, rw (e, f) refl)))
-    (λ (b : 2 ^ 14 ≤ n). let f : nat_lt n (2 ^ 14) ≡ false = grind (arith, nat_tests) in inr (inr (limit, rw (e, f) refl)))
-    (cases_lt n (2 ^ 14)))
-    (cases_lt n (2 ^ 7))
-
 -- a pushed user string is found at its offset
 pub user_string_found : (heap units tail : List ℕ) → 0 < length heap → user_length units < 2 ^ 29 → IsUserString (heap ++ (user_entry units ++ tail)) (length heap) (record { units = units; flag = Some (last_byte units) })
 unfolding user_entry
 user_string_found heap units tail some short =
     let blob = flat_map unit_bytes units ++ last_byte units ∷ [] in
-    let long : length blob ≡ user_length units = length-units units (last_byte units) in
+    let long : length blob ≡ user_length units = length-user units (last_byte units) in
     record {
       blob = blob;
       stands = inr (

@@ -153,24 +153,6 @@ fn set_firsts(keys: &[Key], firsts: &mut [usize])
     }
 }
 
-/// Writes for each entry that windows of this width can name the first use of an equal one.
-fn find_in_level(
-    alloc: Global,
-    heap: &[u8],
-    windows: &Windows,
-    indexes: &[u32],
-    firsts: &mut [usize],
-) -> Result<(), AllocError>
-    requires names { AreNames heap.now windows.now.width windows.now.names.items }
-    requires len { length firsts.old ≡ length indexes.now }
-    ensures len { length firsts.new ≡ length firsts.old }
-    ensures earlier { OnOk result (AreEarlierBlobs heap.now indexes.now firsts.old → AreEarlierBlobs heap.now indexes.now firsts.new) }
-{
-    let keys = keys_of(alloc, heap, windows, indexes)?;
-    set_firsts(&keys, firsts);
-    Ok(())
-}
-
 /// Writes for each entry an earlier use of an equal one. The longest entry has `longest` bytes.
 fn find_equal(
     alloc: Global,
@@ -187,7 +169,8 @@ fn find_equal(
     let mut windows = Windows::of_bytes(alloc, heap)?;
     while longest.saturating_sub(windows.width) >= windows.width && windows.repeated > 0 {
         windows.double();
-        find_in_level(alloc, heap, &windows, indexes, firsts)?;
+        let keys = keys_of(alloc, heap, &windows, indexes)?;
+        set_firsts(&keys, firsts);
     }
     Ok(())
 }

@@ -1,5 +1,7 @@
 -- Rows and tables that are filled one by one.
-use Rattle.owned_model.proofs.Prelude.{◌≡◌, ℕ, zero, suc, ◌+◌, ◌<◌, List, [], ◌∷◌, ◌++◌, length, get_or, set, take, drop, refl, sym, ap, ◌∙◌, add-one, arith, map-append, take_more, get_or-set_same, set-set, TableId, tables, table_index_of, Metadata, rows_of, said, all_said, with_row, with_rows}
+use Rattle.owned_model.proofs.Prelude.{◌≡◌, ℕ, zero, suc, ◌+◌, ◌<◌, List, [], ◌∷◌, ◌++◌, length, get_or, set, take, drop, refl, sym, ap, ◌∙◌, add-one, arith, map-append, take_more, get_or-set_same, set-set, take_all, TableId, tables, table_index_of, Metadata, rows_of, said, all_said, with_row, with_rows}
+use Rattle.std.proofs.Common.{length-append, length-drop}
+use Rattle.std.proofs.lemmas.List.{append-nil, drop_all, length-take, places}
 use Rattle.metadata.specs.Cell.{Cell}
 use Rattle.tables.specs.declared.cell.Cell.{Cell as Owned}
 
@@ -36,27 +38,15 @@ next_padded (x ∷ full) (y ∷ empty) d (suc j) below left = ap (λ l. x ∷ l)
 -- the next one is unchanged
 pub next_left : {X : Type 0} (full empty : List X) (d : X) (j : ℕ) → j < length full → j < length empty
     → get_or (take j full ++ drop j empty) j d ≡ get_or empty j d
-next_left [] empty d j below left = absurd (omega arith)
-next_left (x ∷ full) [] d j below left = absurd (omega arith)
-next_left (x ∷ full) (y ∷ empty) d zero below left = refl
-next_left (x ∷ full) (y ∷ empty) d (suc j) below left = next_left full empty d j (omega arith) (omega arith)
+next_left full empty d j below left = grind (arith, places)
 
 -- their number is the same
 pub padded_length : {X : Type 0} (full empty : List X) (j : ℕ) → length full ≡ length empty → length (take j full ++ drop j empty) ≡ length empty
-padded_length full empty zero same = refl
-padded_length [] [] (suc j) same = refl
-padded_length [] (y ∷ empty) (suc j) same = absurd (omega arith)
-padded_length (x ∷ full) [] (suc j) same = absurd (omega arith)
-padded_length (x ∷ full) (y ∷ empty) (suc j) same = ap suc (padded_length full empty j (omega arith))
+padded_length full empty j same = omega (arith, length-append (take j full) (drop j empty), length-take j full, length-drop j empty)
 
 -- all of them are filled
 pub all_padded : {X : Type 0} (full empty : List X) → length full ≡ length empty → (j : ℕ) → length full ≡ j → take j full ++ drop j empty ≡ full
-all_padded [] [] same zero all = refl
-all_padded [] [] same (suc j) all = refl
-all_padded [] (y ∷ empty) same j all = absurd (omega arith)
-all_padded (x ∷ full) [] same j all = absurd (omega arith)
-all_padded (x ∷ full) (y ∷ empty) same zero all = absurd (omega arith)
-all_padded (x ∷ full) (y ∷ empty) same (suc j) all = ap (λ l. x ∷ l) (all_padded full empty (omega arith) j (omega arith))
+all_padded full empty same j all = rw (take_all j full (omega arith), drop_all j empty (omega arith)) (append-nil full)
 
 -- one more table, of those that are filled in order
 pub next_table : (model before : Metadata) (table : TableId) (j : ℕ) → length model.tables ≡ 38 → length before.tables ≡ 38 → j < 38 → table_index_of table ≡ j

@@ -7,9 +7,9 @@ use std::alloc::{AllocError, Global};
 pub fn copy_padded(alloc: Global, bytes: &[u8]) -> Result<Vec<u8>, AllocError>
     ensures { IfOk result (λ copy. copy.items ≡ zero_padded bytes.now) }
 {
-    let len = bytes.len() + (4 - bytes.len() % 4) % 4;
-    let mut copy = Vec::with_capacity(alloc, len)?;
+    let padding = (4 - bytes.len() % 4) % 4;
+    let mut copy = Vec::with_capacity(alloc, bytes.len() + padding)?;
     copy.extend_from_slice(bytes)?;
-    copy.resize(len, 0)?;
+    copy.resize(bytes.len() + padding, 0)?;
     Ok(copy)
 }

@@ -12,13 +12,13 @@ use opening::{CellRef, TableId, View};
 use table_schema::cell_count;
 
 /// The values of a row's cells, by their indexes.
+#[tactic(auto, using(crate::proofs::RefRowLemmas::cells_few))]
 fn values_of<'a>(view: &View<'a>, table: TableId, row: u32) -> [CellRef<'a>; 9]
     requires first { 1 ≤ row }
     requires last { row ≤ row_count view.now table }
     ensures { (model : Metadata) → IsModel view.now model → (cell_index : ℕ) → cell_index < cell_count table
         → IsShown (slice_get result cell_index) table cell_index (cell_in model table row cell_index) }
 {
-    table_schema::laws::columns_stand();
     let mut values = [CellRef::Number(0); 9];
     for cell_index in 0..cell_count(table) {
         values[cell_index] = view.cell(table, row, cell_index);

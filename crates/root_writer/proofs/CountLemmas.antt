@@ -1,6 +1,7 @@
 -- The bits of the tables that have rows, table by table.
-use Rattle.root_writer.proofs.Prelude.{◌≡◌, ℕ, ◌+◌, ◌<◌, ◌≤◌, Bool, List, [], ◌∷◌, ◌++◌, length, get_or, drop, cond, ltb, refl, ap, sym, ◌∙◌, arith, fun_ext, drop_all, get_or-map, sum_by-drop_more, TableId, Module, tables, table_index_of, Sizes, count_of, number_bytes, bits_of, counts_bytes, Metadata, count_in, has_rows, sizes_of}
+use Rattle.root_writer.proofs.Prelude.{◌≡◌, ℕ, ◌+◌, ◌<◌, ◌≤◌, Bool, List, [], ◌∷◌, ◌++◌, length, get_or, drop, cond, ltb, refl, ap, sym, ◌∙◌, arith, fun_ext, drop_all, sum_by-drop_more, TableId, Module, tables, table_index_of, Sizes, count_of, number_bytes, bits_of, counts_bytes, Metadata, has_rows, sizes_of}
 use Rattle.root_writer.specs.TableHeader.{is_counted, bit_if}
+use Rattle.root_writer.proofs.Widths.{count_is}
 
 pub more_bits : (sizes : Sizes) (items : List TableId) (i valid next total : ℕ) → items ≡ tables → i < length items
     → next ≡ bit_if (is_counted sizes (get_or items i Module)) (get_or items i Module)
@@ -31,13 +32,6 @@ same_counts test sizes others same (table ∷ listed) =
     ap (λ count. cond (test table) (number_bytes 4 count) [] ++ counts_bytes test sizes listed) (same_count sizes others same table)
     ∙ ap (λ tail. cond (test table) (number_bytes 4 (count_of others table)) [] ++ tail) (same_counts test sizes others same listed)
 
-count_is : length tables ≡ 38 → ((table : TableId) → table_index_of table < 38) → ((table : TableId) → get_or tables (table_index_of table) Module ≡ table)
-    → (model : Metadata) (table : TableId) → count_of (sizes_of model) table ≡ count_in model table
-unfolding sizes_of
-count_is many table_index stand model table =
-    get_or-map (count_in model) tables (table_index_of table) Module 0 (omega (arith, table_index table, many)) ∙ ap (count_in model) (stand table)
-
-pub has_rows_is : length tables ≡ 38 → ((table : TableId) → table_index_of table < 38) → ((table : TableId) → get_or tables (table_index_of table) Module ≡ table)
-    → (model : Metadata) (sizes : Sizes) → sizes.counts ≡ (sizes_of model).counts → has_rows model ≡ is_counted sizes
-has_rows_is many table_index stand model sizes same =
-    fun_ext (λ table. ap (ltb 0) (sym (count_is many table_index stand model table) ∙ sym (same_count sizes (sizes_of model) same table)))
+pub has_rows_is : (model : Metadata) (sizes : Sizes) → sizes.counts ≡ (sizes_of model).counts → has_rows model ≡ is_counted sizes
+has_rows_is model sizes same =
+    fun_ext (λ table. ap (ltb 0) (sym (count_is model table) ∙ sym (same_count sizes (sizes_of model) same table)))

@@ -4,7 +4,6 @@ use Rattle.table_schema.specs.declared.column.ColumnKind.TheVariants as kind
 use Rattle.metadata.specs.Kinds.{IsTo}
 use Rattle.metadata.specs.Valid as valid
 use Rattle.root_writer.proofs.Lists.{are_from}
-use Rattle.root_writer.proofs.Facts.{Facts}
 use Rattle.table_schema.proofs.TableFacts.{table_index_at}
 
 -- ---- cells
@@ -80,7 +79,7 @@ held_cell model (kind.Coded coded) nullable (Ref reference) v = held_coded model
 held_cell model (kind.List member) nullable (Start start) v = (start, v.within, refl)
 held_cell model _ nullable _ v = absurd v.of_kind
 
-module _ (facts : Facts) (model : Metadata) (valid : IsValid model) where
+module _ (model : Metadata) (valid : IsValid model) where
   pub row_long : (table : TableId) (row : ℕ) → 1 ≤ row → row ≤ count_in model table → length (row_of model table row) ≡ cell_count table
   row_long table row first last = valid.long table row (first, last)
 

@@ -1,35 +1,19 @@
 -- Items of lists: membership, and properties of all items from an index on.
-use Rattle.root_writer.proofs.Prelude.{◌≡◌, ℕ, zero, suc, ◌+◌, ◌<◌, ◌≤◌, Bool, true, List, [], ◌∷◌, ◌++◌, length, get_or, filter, Contains, refl, sym, ap, subst, ◌∙◌, ◌⊎◌, inl, inr, ⊎_elim, arith, flat_map, AllByRecursion, cond_both, AreFrom}
+use Rattle.root_writer.proofs.Prelude.{◌≡◌, ℕ, zero, suc, ◌+◌, ◌<◌, ◌≤◌, Bool, List, [], ◌∷◌, ◌++◌, length, get_or, filter, refl, sym, subst, not, inl, inr, arith, Contains, All-from_recursion, flat_map, recursion_from_All, AllByRecursion, AreFrom}
+use Rattle.heap_pools.proofs.MemberLemmas.{IsIn, in_from_contains, contains_from_in}
+use Rattle.std.proofs.lemmas.List.Elements.{All-append, All-contains, All-contains_itself, All-filter, Contains-append_left, Contains-append_right, Contains-get_or}
+use Rattle.std.proofs.lemmas.List.Filters.{length-filter_both}
 
 -- ---- membership
 
-abbrev pub IsIn : {X : Type 0} → X → List X → Type 0
-IsIn x [] = ⊥
-IsIn x (y ∷ ys) = (y ≡ x) ⊎ IsIn x ys
-
-pub contains_from_in : {X : Type 0} (xs : List X) (x : X) → IsIn x xs → Contains xs x
-contains_from_in [] x h = absurd h
-contains_from_in (y ∷ ys) x (inl e) = (0, omega arith, e)
-contains_from_in (y ∷ ys) x (inr h) = let tail = contains_from_in ys x h in (suc tail.0, omega (arith, tail.1), tail.2)
-
-pub in_from_contains : {X : Type 0} (xs : List X) (x : X) → Contains xs x → IsIn x xs
-in_from_contains [] x (k, h, e) = absurd (omega arith)
-in_from_contains (y ∷ ys) x (zero, h, e) = inl e
-in_from_contains (y ∷ ys) x (suc k, h, e) = inr (in_from_contains ys x (k, omega arith, e))
-
 pub in_get_or : {X : Type 0} (xs : List X) (k : ℕ) (d : X) → k < length xs → IsIn (get_or xs k d) xs
-in_get_or [] k d below = absurd (omega arith)
-in_get_or (x ∷ xs) zero d below = inl refl
-in_get_or (x ∷ xs) (suc k) d below = inr (in_get_or xs k d (omega arith))
+in_get_or xs k d below = in_from_contains xs (get_or xs k d) (Contains-get_or xs k d below)
 
 in_left : {X : Type 0} (x : X) (xs ys : List X) → IsIn x xs → IsIn x (xs ++ ys)
-in_left x [] ys h = absurd h
-in_left x (z ∷ zs) ys (inl e) = inl e
-in_left x (z ∷ zs) ys (inr h) = inr (in_left x zs ys h)
+in_left x xs ys h = in_from_contains (xs ++ ys) x (Contains-append_left xs ys x (contains_from_in xs x h))
 
 in_right : {X : Type 0} (x : X) (xs ys : List X) → IsIn x ys → IsIn x (xs ++ ys)
-in_right x [] ys h = h
-in_right x (z ∷ zs) ys h = inr (in_right x zs ys h)
+in_right x xs ys h = in_from_contains (xs ++ ys) x (Contains-append_right xs ys x (contains_from_in ys x h))
 
 in_flat_map : {X Y : Type 0} (f : X → List Y) (x : X) (y : Y) (xs : List X) → IsIn x xs → IsIn y (f x) → IsIn y (flat_map f xs)
 in_flat_map f x y [] h k = absurd h
@@ -44,8 +28,7 @@ in_three f x y xs xss all a b c h =
 -- ---- what holds of each value of a flat map
 
 and_append : {Y : Type 0} (P : Y → Type 0) (xs ys : List Y) → AllByRecursion P xs → AllByRecursion P ys → AllByRecursion P (xs ++ ys)
-and_append P [] ys a b = b
-and_append P (x ∷ xs) ys a b = (a.0, and_append P xs ys a.1 b)
+and_append P xs ys a b = recursion_from_All P (xs ++ ys) (All-append P xs ys (All-from_recursion P xs a) (All-from_recursion P ys b))
 
 pub all_flat_map : {X Y : Type 0} (P : Y → Type 0) (Q : X → Type 0) (f : X → List Y) → ((x : X) → Q x → AllByRecursion P (f x)) → (xs : List X)
     → AllByRecursion Q xs → AllByRecursion P (flat_map f xs)
@@ -59,10 +42,6 @@ all_from P Q each i zero (x ∷ xs) are = absurd are
 all_from P Q each i (suc n) [] are = absurd are
 all_from P Q each i (suc n) (x ∷ xs) are = (each i x are.0, all_from P Q each (i + 1) n xs are.1)
 
-pub all_weaker : {X : Type 0} (P Q : X → Type 0) → ((x : X) → P x → Q x) → (xs : List X) → AllByRecursion P xs → AllByRecursion Q xs
-all_weaker P Q each [] all = tt
-all_weaker P Q each (x ∷ xs) all = (each x all.0, all_weaker P Q each xs all.1)
-
 -- ---- items from an index on
 
 pub are_from : {X : Type 0} (P : ℕ → X → Type 0) (i n : ℕ) (xs : List X) (d : X) → length xs ≡ n → ((k j : ℕ) → k < n → j ≡ i + k → P j (get_or xs k d))
@@ -75,19 +54,9 @@ are_from P i (suc n) (x ∷ xs) d long each =
 
 -- ---- filters
 
-pub in_filter : {X : Type 0} (test : X → Bool) (x : X) (xs : List X) → IsIn x xs → test x ≡ true → IsIn x (filter test xs)
-in_filter test x [] h t = absurd h
-in_filter test x (z ∷ zs) (inl e) t = rw (ap test e ∙ t) (inl e)
-in_filter test x (z ∷ zs) (inr h) t = cond_both (test z) (z ∷ filter test zs) (filter test zs) (IsIn x) (λ e. inr (in_filter test x zs h t)) (λ e. in_filter test x zs h t)
-
 pub from_filter : {X : Type 0} (test : X → Bool) (x : X) (xs : List X) → IsIn x (filter test xs) → IsIn x xs
-from_filter test x [] h = absurd h
-from_filter test x (z ∷ zs) h =
-    cond_both (test z) (z ∷ filter test zs) (filter test zs) (λ ys. IsIn x ys → IsIn x (z ∷ zs))
-    (λ t k. ⊎_elim (λ (e : z ≡ x). inl e) (λ (l : IsIn x (filter test zs)). inr (from_filter test x zs l)) k) (λ f k. inr (from_filter test x zs k)) h
+from_filter test x xs h =
+    in_from_contains xs x (All-contains (Contains xs) (filter test xs) x (All-filter test (Contains xs) xs (All-contains_itself xs)) (contains_from_in (filter test xs) x h))
 
 pub length-filter_le : {X : Type 0} (test : X → Bool) (xs : List X) → length (filter test xs) ≤ length xs
-length-filter_le test [] = omega arith
-length-filter_le test (x ∷ xs) =
-    let le = length-filter_le test xs in
-    cond_both (test x) (x ∷ filter test xs) (filter test xs) (λ ys. length ys ≤ suc (length xs)) (λ t. omega arith) (λ f. omega arith)
+length-filter_le test xs = omega (arith, length-filter_both test (λ x. not (test x)) (λ x. refl) xs)

@@ -1,9 +1,11 @@
 -- The tables whose Sorted bit is set are in order of their keys, and nested types follow their enclosing types.
 use Rattle.root_writer.proofs.Prelude.{◌≡◌, ℕ, ◌+◌, ◌-◌, ◌%◌, ◌^◌, ◌<◌, ◌≤◌, Bool, true, false, lit<, List, [], map, length, get_or, Contains, refl, sym, ap, subst, ◌∙◌, inl, inr, Option, Some, None, arith, slice_index, position_or_len, length-map, get_or-map, mod-eq_of_lt, one-le-pow, TableId, NestedClass, TypeDef, Coded, Column, ColumnKind, columns_of, column_at, key_of, col, IsReference, tables_of, tag_bits, count_of, kind_width, row_index_width, coded_width, width_of, is_table, Cell, Number, Metadata, rows_of, count_in, cell_in, number_of, is_padding, cell_columns, cell_count, column_of, table_at, IsKeyCell, is_said_sorted, IsByKey, AreByKey, AreNested, Pools, pools_of, cell_number, numbers_by, rises, is_by_key, table_keys, is_sorted, sizes_of, row_in, IsValid}
+use Rattle.schema.proofs.BitLemmas.{has_bit_of}
 use Rattle.table_schema.specs.declared.column.ColumnKind.TheVariants as kind
 use Rattle.metadata.specs.KeyOrder.{key_number, key_in, IsKeyOrdered}
 use Rattle.root_writer.proofs.HeldRoots.{MayRefer, IsValidCell, row_long, cell_valid}
-use Rattle.root_writer.proofs.Facts.{Facts}
+use Rattle.table_schema.proofs.CodedLemmas.{tables_few}
+use Rattle.table_schema.proofs.TableFacts.{key_reference, key_within}
 use Rattle.root_writer.proofs.Widths.{count_is, row_fits, coded_fits, tag_found}
 use Rattle.root_writer.proofs.Stands.{IsWithin}
 use Rattle.root_writer.proofs.Starts.{rises_at, rises_from}
@@ -12,9 +14,9 @@ use Rattle.root_writer.proofs.Tables.{source_of, number_at}
 
 -- ---- the number of a reference fits its column
 
-module _ (facts : Facts) (model : Metadata) (within : IsWithin model) where
+module _ (model : Metadata) (within : IsWithin model) where
   few : (table : TableId) → count_of (sizes_of model) table ≤ 0xFFFFFF
-  few table = rw (count_is model facts table) (within.counts table)
+  few table = rw (count_is model table) (within.counts table)
 
   row_reference_fits : (nullable : Bool) (table : TableId) (cell : Cell) → MayRefer model nullable (λ other. other ≡ table) cell
       → cell_number (pools_of model) (kind.Row table) cell < 256 ^ row_index_width (sizes_of model) table
@@ -22,17 +24,17 @@ module _ (facts : Facts) (model : Metadata) (within : IsWithin model) where
   row_reference_fits nullable table cell (inr is) =
       let token = is.0 in
       let same : token.table ≡ table = is.1 in
-      rw (is.3) (row_fits token.row (count_of (sizes_of model) table) (rw (count_is model facts table, ← same) (is.2.1)) (few table))
+      rw (is.3) (row_fits token.row (count_of (sizes_of model) table) (rw (count_is model table, ← same) (is.2.1)) (few table))
 
   coded_reference_fits : (nullable : Bool) (coded : Coded) (cell : Cell) → MayRefer model nullable (λ table. Contains (tables_of coded) (Some table)) cell
       → cell_number (pools_of model) (kind.Coded coded) cell < 256 ^ coded_width (sizes_of model) coded
   coded_reference_fits nullable coded cell (inl null) = rw (null.1) (one-le-pow (coded_width (sizes_of model) coded) 256 (omega arith))
   coded_reference_fits nullable coded cell (inr is) =
       let token = is.0 in
-      let tag = tag_found facts (tables_of coded) token.table is.1 in
-      let low : position_or_len (is_table token.table) (tables_of coded) < 2 ^ tag_bits coded = omega (arith, tag.1, facts.few coded) in
-      rw (is.3) (coded_fits facts (sizes_of model) coded token.table token.row (position_or_len (is_table token.table) (tables_of coded)) tag.0 low
-      (rw (count_is model facts token.table) (is.2.1)) (few token.table))
+      let tag = tag_found (tables_of coded) token.table is.1 in
+      let low : position_or_len (is_table token.table) (tables_of coded) < 2 ^ tag_bits coded = omega (arith, tag.1, tables_few coded) in
+      rw (is.3) (coded_fits (sizes_of model) coded token.table token.row (position_or_len (is_table token.table) (tables_of coded)) tag.0 low
+      (rw (count_is model token.table) (is.2.1)) (few token.table))
 
   reference_fits : (column : Column) (cell : Cell) → IsReference column → IsValidCell model column.kind column.nullable cell
       → cell_number (pools_of model) column.kind cell < 256 ^ width_of (sizes_of model) column
@@ -71,13 +73,13 @@ keys_long : (model : Metadata) (table : TableId) (key : ℕ) → length (keys_of
 keys_long model table key =
     length-map (table_keys model table) (λ (numbers : List ℕ). slice_index numbers key) ∙ length-map (rows_of model table) (numbers_by key_number (columns_of table))
 
-module _ (facts : Facts) (model : Metadata) (valid : IsValid model) where
+module _ (model : Metadata) (valid : IsValid model) where
   key_at : (table : TableId) (key cell_index row : ℕ) → key_of table ≡ Some key → IsKeyCell table cell_index → 1 ≤ row → row ≤ count_in model table
       → get_or (keys_of model table key) (row - 1) 0 ≡ key_in model table cell_index row
   unfolding cell_columns
   key_at table key cell_index row is at first last =
       let cells = cells_of model table row in
-      let here = located key_number (columns_of table) cells 0 cell_index (col kind.U8) (Number 0) at.within (row_long facts model valid table row first last) in
+      let here = located key_number (columns_of table) cells 0 cell_index (col kind.U8) (Number 0) at.within (row_long model valid table row first last) in
       let same : column_of table cell_index ≡ key = cc in
       let index : here.index ≡ column_of table cell_index = omega (arith, here.at) in
       let number : get_or (numbers_by key_number (columns_of table) cells) (column_of table cell_index) 0 ≡ key_in model table cell_index row =
@@ -93,8 +95,8 @@ module _ (facts : Facts) (model : Metadata) (valid : IsValid model) where
   key_cell : (table : TableId) (key : ℕ) → key_of table ≡ Some key → (cell_index : ℕ) × IsKeyCell table cell_index
   unfolding cell_columns
   key_cell table key is =
-      let reference = facts.reference table key is in
-      let cell_index = has_cell_index (columns_of table) 0 key key (col kind.U8) (facts.key table key is) (not_padding (column_at table key) reference) (omega arith) in
+      let reference = key_reference table key is in
+      let cell_index = has_cell_index (columns_of table) 0 key key (col kind.U8) (key_within table key is) (not_padding (column_at table key) reference) (omega arith) in
       (cell_index.cell_index, record { within = cell_index.below; key = is ∙ ap (λ (c : ℕ). Some c) (sym cell_index.at) })
 
   -- the Sorted bit of a table is set if and only if its keys are in order
@@ -123,31 +125,31 @@ module _ (facts : Facts) (model : Metadata) (valid : IsValid model) where
       (ordered cell_index.0 (i + 2) cell_index.1 (omega arith) (omega arith)) in
       rw (low, high) up)
 
-module _ (facts : Facts) (model : Metadata) (valid : IsValid model) (within : IsWithin model) where
+module _ (model : Metadata) (valid : IsValid model) (within : IsWithin model) where
   -- the number of a key is the one by which rows are compared
   key_value : (table : TableId) (key row : ℕ) → key_of table ≡ Some key → 1 ≤ row → row ≤ count_in model table
       → number_of (source_of model) table row key ≡ get_or (keys_of model table key) (row - 1) 0
   unfolding cell_columns number_of
   key_value table key row is first last =
-      let cell_index = key_cell facts model valid table key is in
+      let cell_index = key_cell model valid table key is in
       let same : column_of table cell_index.0 ≡ key = let e = cell_index.1.key in cc in
       let column = column_at table (column_of table cell_index.0) in
       let cell = cell_in model table row cell_index.0 in
-      let reference = facts.reference table (column_of table cell_index.0) cell_index.1.key in
-      let good = cell_valid facts model valid table row cell_index.0 first last cell_index.1.within in
-      let fits = reference_fits facts model within column cell reference good in
-      let value = number_at facts model valid table row cell_index.0 first last cell_index.1.within ∙ mod-eq_of_lt fits ∙ column_key (pools_of model) model column cell reference good in
+      let reference = key_reference table (column_of table cell_index.0) cell_index.1.key in
+      let good = cell_valid model valid table row cell_index.0 first last cell_index.1.within in
+      let fits = reference_fits model within column cell reference good in
+      let value = number_at model valid table row cell_index.0 first last cell_index.1.within ∙ mod-eq_of_lt fits ∙ column_key (pools_of model) model column cell reference good in
       subst (λ (c : ℕ). number_of (source_of model) table row c ≡ key_in model table cell_index.0 row) same value
-      ∙ sym (key_at facts model valid table key cell_index.0 row is cell_index.1 first last)
+      ∙ sym (key_at model valid table key cell_index.0 row is cell_index.1 first last)
 
   said_sorted : (table : TableId) → is_said_sorted (source_of model) table ≡ is_sorted model table
   unfolding sizes_of
-  said_sorted table = facts.set (is_sorted model) table
+  said_sorted table = has_bit_of (is_sorted model) table
 
   by_key : (table : TableId) (key : Option ℕ) → key_of table ≡ key → IsByKey (source_of model) table key
   by_key table None is = tt
   by_key table (Some key) is = λ said row second last.
-      let count = count_is model facts table in
+      let count = count_is model table in
       let keys = keys_of model table key in
       let many = keys_long model table key in
       let sorted : rises keys ≡ true = sym (ap (is_by_key (table_keys model table)) is) ∙ sym (said_sorted table) ∙ said in
@@ -173,9 +175,9 @@ module _ (facts : Facts) (model : Metadata) (valid : IsValid model) (within : Is
       let column = column_at NestedClass (column_of NestedClass cell_index) in
       let cell = cell_in model NestedClass row cell_index in
       let good : IsValidCell model (kind.Row TypeDef) column.nullable cell =
-      subst (λ k. IsValidCell model k column.nullable cell) is (cell_valid facts model valid NestedClass row cell_index first last below) in
-      let fits = row_reference_fits facts model within column.nullable TypeDef cell good in
-      number_at facts model valid NestedClass row cell_index first last below
+      subst (λ k. IsValidCell model k column.nullable cell) is (cell_valid model valid NestedClass row cell_index first last below) in
+      let fits = row_reference_fits model within column.nullable TypeDef cell good in
+      number_at model valid NestedClass row cell_index first last below
       ∙ ap (λ k. cell_number (pools_of model) k cell % 256 ^ kind_width (sizes_of model) k) is
       ∙ mod-eq_of_lt fits
       ∙ row_number_is column.nullable TypeDef cell good
@@ -183,6 +185,6 @@ module _ (facts : Facts) (model : Metadata) (valid : IsValid model) (within : Is
   pub are_nested : AreNested (source_of model)
   unfolding cell_columns
   are_nested = λ row first last.
-      let count = count_is model facts NestedClass in
+      let count = count_is model NestedClass in
       rw (nested_value row 1 first (omega (arith, count)) (lit< tt) refl, nested_value row 0 first (omega (arith, count)) (lit< tt) refl)
       (valid.nested row (first, omega (arith, count)))

@@ -13,11 +13,11 @@ pub use Rattle.std.specs.Prelude.{sum_by, slice_index, slice_get, bytes_eq, IsSo
 pub use Rattle.heap_entries.specs.Entries.{HasNoNul, IsBlob, IsGuid, IsText}
 pub use Rattle.heap_entries.specs.Padding.{zero_padded}
 unfoldable pub use Rattle.heap_pools.specs.BlobHeap.{counted}
-pub use Rattle.heap_pools.specs.BlobHeap.{blob_heap, blob_index}
+pub use Rattle.heap_pools.specs.BlobHeap.{blob_index}
 pub use Rattle.heap_pools.specs.Distinct.{distinct, is_among, first_uses}
-pub use Rattle.heap_pools.specs.GuidHeap.{guid_heap, guid_index}
+pub use Rattle.heap_pools.specs.GuidHeap.{guid_index}
 unfoldable pub use Rattle.heap_pools.specs.TextHeap.{is_holder}
-pub use Rattle.heap_pools.specs.TextHeap.{holders, text_heap, text_index}
+pub use Rattle.heap_pools.specs.TextHeap.{text_index}
 pub use Rattle.metadata.specs.Cell.{Cell, Number, Text, Bytes, Guid, Ref, Start, Sig}
 pub use Rattle.metadata.specs.Lookups.{IsKeyCell, HasRow}
 pub use Rattle.metadata.specs.Metadata.{Metadata, count_in, rows_of, row_of, cell_in}
@@ -47,7 +47,7 @@ unfoldable pub use Rattle.root_writer.specs.TableStream.{sizes_of, header_bytes,
 pub use Rattle.root_writer.specs.TableStream.{has_rows, rises, is_by_key, table_keys, is_sorted, wide_bit}
 pub use Rattle.root_writer.specs.Written.{Written, Puts}
 unfoldable pub use Rattle.schema.specs.LaidOut.{bits_of}
-pub use Rattle.schema.specs.LaidOut.{number_bytes, counts_bytes, row_bytes, fields_of, FitRow, rows_bytes, tables_bytes, FitRows, FitTables, number_in, IsLaidOut}
+pub use Rattle.schema.specs.LaidOut.{number_bytes, counts_bytes, row_bytes, fields_of, rows_bytes, tables_bytes, FitRows, FitTables, number_in, IsLaidOut}
 pub use Rattle.schema.specs.Sizes.{Sizes, count_of, kind_width, row_index_width, coded_width, width_of, narrow_or_wide, heap_width, header_size, is_below}
 pub use Rattle.sig_grammar.specs.Encodes.{Holds, Encodes, IsEncodable, short, tokens}
 pub use Rattle.sig_grammar.specs.Parts.{is_table}

@@ -1,5 +1,5 @@
 -- The bytes of a row, column by column.
-use Rattle.std.proofs.Common.{◌≡◌, ℕ, zero, suc, ◌+◌, ◌-◌, ◌*◌, ◌/◌, ◌<◌, ◌≤◌, List, [], ◌∷◌, ◌++◌, length, get_or, take, drop, add-one, refl, sym, ap, ◌∙◌, append-nil, append_assoc, length-append, length-drop, arith}
+use Rattle.std.proofs.Common.{◌≡◌, ℕ, ◌+◌, ◌-◌, ◌*◌, ◌<◌, ◌≤◌, List, [], ◌∷◌, ◌++◌, length, get_or, take, drop, add-one, sym, ap, ◌∙◌, append-nil, append_assoc, length-append, length-drop, arith}
 use Rattle.root_writer.proofs.Prelude.{drop_all, drop_more, Column, Sizes, width_of, number_bytes, row_bytes, rows_bytes, Written, Puts}
 use Rattle.root_writer.specs.Flat.{rows_in}
 
@@ -27,10 +27,6 @@ put_all start now left all none putting =
       bytes = whole;
       room = omega (arith, ap length whole, length-append start.bytes all, putting.all_room);
     }
-
-pub length-number_bytes : (width number : ℕ) → length (number_bytes width number) ≡ width
-length-number_bytes zero number = refl
-length-number_bytes (suc width) number = ap suc (length-number_bytes width (number / 256))
 
 pub row_more : (sizes : Sizes) (columns : List Column) (numbers : List ℕ) (i : ℕ) (d : Column) → i < length columns → i < length numbers
     → row_bytes sizes (drop i columns) (drop i numbers)

@@ -1,6 +1,7 @@
 -- The numbers of a row: one per column, one for each cell, each truncated to the width of its column.
 use Rattle.root_writer.proofs.Prelude.{◌≡◌, ℕ, zero, suc, ◌+◌, ◌-◌, ◌%◌, ◌^◌, ◌<◌, ◌≤◌, Bool, true, false, cond, List, [], ◌∷◌, ◌++◌, map, length, get_or, refl, sym, ap, subst, ◌∙◌, arith, length-map, get_or-map, TableId, Module, Column, ColumnKind, tables, table_index_of, columns_of, Sizes, width_of, row_bytes, rows_bytes, tables_bytes, FitRows, FitTables, fields_of, number_in, Cell, Metadata, rows_of, count_in, is_padding, indexes_from, Pools, pools_of, cell_number, with_next, numbers_by, numbers_of, table_numbers, numbers, sizes_of}
-use Rattle.root_writer.proofs.Facts.{Facts}
+use Rattle.schema.proofs.FieldLemmas.{field_at, fields_fit, low_row}
+use Rattle.table_schema.proofs.TableFacts.{length-tables, table_at_index, table_index_below}
 
 -- ---- one number per column
 
@@ -24,39 +25,39 @@ table_fields model table = map (fields_of (sizes_of model) (columns_of table)) (
 unfoldable pub fields : Metadata → List (List (List ℕ))
 fields model = map (table_fields model) tables
 
-rows_low : Facts → (sizes : Sizes) (columns : List Column) (rows : List (List ℕ)) → rows_bytes sizes columns (map (fields_of sizes columns) rows)
+rows_low : (sizes : Sizes) (columns : List Column) (rows : List (List ℕ)) → rows_bytes sizes columns (map (fields_of sizes columns) rows)
     ≡ rows_bytes sizes columns rows
-rows_low facts sizes columns [] = refl
-rows_low facts sizes columns (row ∷ rows) =
-    ap (λ l. l ++ rows_bytes sizes columns (map (fields_of sizes columns) rows)) (facts.cut sizes columns row)
-    ∙ ap (λ l. row_bytes sizes columns row ++ l) (rows_low facts sizes columns rows)
+rows_low sizes columns [] = refl
+rows_low sizes columns (row ∷ rows) =
+    ap (λ l. l ++ rows_bytes sizes columns (map (fields_of sizes columns) rows)) (low_row sizes columns row)
+    ∙ ap (λ l. row_bytes sizes columns row ++ l) (rows_low sizes columns rows)
 
-all_low : Facts → (model : Metadata) (listed : List TableId) → tables_bytes (sizes_of model) listed (map (table_fields model) listed)
+all_low : (model : Metadata) (listed : List TableId) → tables_bytes (sizes_of model) listed (map (table_fields model) listed)
     ≡ tables_bytes (sizes_of model) listed (map (table_numbers model) listed)
-all_low facts model [] = refl
-all_low facts model (table ∷ listed) =
+all_low model [] = refl
+all_low model (table ∷ listed) =
     ap (λ l. l ++ tables_bytes (sizes_of model) listed (map (table_fields model) listed))
-    (rows_low facts (sizes_of model) (columns_of table) (table_numbers model table))
-    ∙ ap (λ l. rows_bytes (sizes_of model) (columns_of table) (table_numbers model table) ++ l) (all_low facts model listed)
+    (rows_low (sizes_of model) (columns_of table) (table_numbers model table))
+    ∙ ap (λ l. rows_bytes (sizes_of model) (columns_of table) (table_numbers model table) ++ l) (all_low model listed)
 
 -- the bytes of the numbers are those of the fields
-pub tables_low : Facts → (model : Metadata) → tables_bytes (sizes_of model) tables (fields model) ≡ tables_bytes (sizes_of model) tables (numbers model)
+pub tables_low : (model : Metadata) → tables_bytes (sizes_of model) tables (fields model) ≡ tables_bytes (sizes_of model) tables (numbers model)
 unfolding fields numbers
-tables_low facts model = all_low facts model tables
+tables_low model = all_low model tables
 
-fit_rows : Facts → (sizes : Sizes) (pools : Pools) (columns : List Column) (rows : List (List Cell))
+fit_rows : (sizes : Sizes) (pools : Pools) (columns : List Column) (rows : List (List Cell))
     → FitRows sizes columns (map (fields_of sizes columns) (map (numbers_of pools columns) rows))
-fit_rows facts sizes pools columns [] = tt
-fit_rows facts sizes pools columns (cells ∷ rows) =
-    (facts.fit sizes columns (numbers_of pools columns cells) (length-numbers_by (cell_number pools) columns cells), fit_rows facts sizes pools columns rows)
+fit_rows sizes pools columns [] = tt
+fit_rows sizes pools columns (cells ∷ rows) =
+    (fields_fit sizes columns (numbers_of pools columns cells) (length-numbers_by (cell_number pools) columns cells), fit_rows sizes pools columns rows)
 
-fit_all : Facts → (model : Metadata) (listed : List TableId) → FitTables (sizes_of model) listed (map (table_fields model) listed)
-fit_all facts model [] = tt
-fit_all facts model (table ∷ listed) = (fit_rows facts (sizes_of model) (pools_of model) (columns_of table) (rows_of model table), fit_all facts model listed)
+fit_all : (model : Metadata) (listed : List TableId) → FitTables (sizes_of model) listed (map (table_fields model) listed)
+fit_all model [] = tt
+fit_all model (table ∷ listed) = (fit_rows (sizes_of model) (pools_of model) (columns_of table) (rows_of model table), fit_all model listed)
 
-pub fit_tables : Facts → (model : Metadata) → FitTables (sizes_of model) tables (fields model)
+pub fit_tables : (model : Metadata) → FitTables (sizes_of model) tables (fields model)
 unfolding fields
-fit_tables facts model = fit_all facts model tables
+fit_tables model = fit_all model tables
 
 count_all : (model : Metadata) (listed : List TableId) → map (count_in model) listed ≡ map length (map (table_fields model) listed)
 count_all model [] = refl
@@ -72,30 +73,23 @@ counts_are model = count_all model tables
 
 -- ---- the number of a row and a column
 
-field_at : (sizes : Sizes) (columns : List Column) (row : List ℕ) (i : ℕ) (none : Column) → length row ≡ length columns → i < length columns
-    → get_or (fields_of sizes columns row) i 0 ≡ get_or row i 0 % 256 ^ width_of sizes (get_or columns i none)
-field_at sizes [] row i none e below = absurd (omega arith)
-field_at sizes (column ∷ columns) [] i none e below = absurd (omega arith)
-field_at sizes (column ∷ columns) (number ∷ row) zero none e below = refl
-field_at sizes (column ∷ columns) (number ∷ row) (suc i) none e below = field_at sizes columns row i none (omega arith) (omega arith)
-
 -- the cells of a row, counted from 1
 abbrev pub cells_of : Metadata → TableId → ℕ → List Cell
 cells_of model table row = get_or (rows_of model table) (row - 1) []
 
-pub number_is : Facts → (model : Metadata) (table : TableId) (row column : ℕ) (none : Column) → 1 ≤ row → row ≤ count_in model table
+pub number_is : (model : Metadata) (table : TableId) (row column : ℕ) (none : Column) → 1 ≤ row → row ≤ count_in model table
     → column < length (columns_of table)
     → number_in (fields model) table row column
     ≡ get_or (numbers_of (pools_of model) (columns_of table) (cells_of model table row)) column 0 % 256 ^ width_of (sizes_of model)
     (get_or (columns_of table) column none)
 unfolding fields
-number_is facts model table row column none first last below =
-    let low : table_index_of table < length tables = omega (arith, facts.table_index table, facts.count) in
+number_is model table row column none first last below =
+    let low : table_index_of table < length tables = omega (arith, table_index_below table, length-tables) in
     let rows = rows_of model table in
     let here : row - 1 < length rows = omega arith in
     let many : row - 1 < length (table_numbers model table) = omega (arith, length-map rows (numbers_of (pools_of model) (columns_of table))) in
     let one : get_or (map (table_fields model) tables) (table_index_of table) [] ≡ table_fields model table =
-    get_or-map (table_fields model) tables (table_index_of table) Module [] low ∙ ap (table_fields model) (facts.stand table) in
+    get_or-map (table_fields model) tables (table_index_of table) Module [] low ∙ ap (table_fields model) (table_at_index table) in
     let two : get_or (table_fields model table) (row - 1) [] ≡ fields_of (sizes_of model) (columns_of table) (get_or (table_numbers model table) (row - 1) []) =
     get_or-map (fields_of (sizes_of model) (columns_of table)) (table_numbers model table) (row - 1) [] [] many in
     let three : get_or (table_numbers model table) (row - 1) [] ≡ numbers_of (pools_of model) (columns_of table) (cells_of model table row) =

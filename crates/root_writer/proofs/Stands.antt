@@ -1,8 +1,11 @@
 -- The number of a cell encodes the cell, kind by kind.
 use Rattle.root_writer.proofs.Prelude.{◌≡◌, ℕ, ◌+◌, ◌*◌, ◌%◌, ◌^◌, ◌<◌, ◌≤◌, Bool, true, ltb, List, [], ◌∷◌, length, Contains, All, IsUtf8, refl, sym, ap, ◌∙◌, ◌⊎◌, inl, inr, Option, Some, None, IfSome, arith, slice_get, position_or_len, cond_both, pow_pos, mod-eq_of_lt, TableId, Token, Coded, ColumnKind, tables_of, tag_bits, IsCoded, count_of, narrow_or_wide, heap_width, row_index_width, coded_width, kind_width, distinct, HasNoNul, IsText, IsBlob, IsGuid, text_index, blob_index, guid_index, is_table, short, tokens, Cell, Start, Metadata, count_in, Source, IsThere, StandsFor, Refers, used, texts_of, blobs_of, guids_of, pools_of, texts_stream, blobs_stream, guids_stream, cell_number, sizes_of}
 use Rattle.table_schema.specs.declared.column.ColumnKind.TheVariants as kind
+use Rattle.metadata.proofs.ItemLemmas.{all_weaker}
 use Rattle.root_writer.proofs.HeldRoots.{HasRow, MayRefer, IsValidCell}
-use Rattle.root_writer.proofs.Lists.{IsIn, contains_from_in, all_weaker}
+use Rattle.heap_pools.proofs.MemberLemmas.{IsIn, contains_from_in, in_distinct}
+use Rattle.heap_pools.proofs.FoundLemmas.{blob_found, guid_found, text_found}
+use Rattle.table_schema.proofs.CodedLemmas.{tables_few}
 use Rattle.root_writer.proofs.Facts.{Facts}
 use Rattle.root_writer.proofs.Widths.{text_within, blob_within, guid_within, index_fits, texts_width, guids_width, blobs_width, count_is, row_fits, coded_fits, tag_found}
 
@@ -29,41 +32,41 @@ pub record IsWithin (model : Metadata) : Type 0 where
 abbrev pub HasNull : ColumnKind → Type 0
 HasNull k = (coded : Coded) × (first : TableId) × (k ≡ kind.Coded coded) × (slice_get (tables_of coded) 0 ≡ Some (Some first))
 
-module _ (facts : Facts) (model : Metadata) (within : IsWithin model) where
+module _ (model : Metadata) (within : IsWithin model) where
   text_stands : (text : List ℕ) → IsIn text (used texts_of model) → HasNoNul text → IsUtf8 text
       → IsText (texts_stream model) (text_index (pools_of model).texts text % 256 ^ heap_width (sizes_of model) 1) text
   text_stands text here plain utf8 =
-      let found = facts.text (used texts_of model) text _ (contains_from_in _ text here) plain utf8 in
+      let found = text_found (used texts_of model) text _ (contains_from_in _ text here) plain utf8 in
       let fits = index_fits (text_index (pools_of model).texts text) (texts_stream model) (text_within (texts_stream model) _ text found) within.texts in
       rw (texts_width model, mod-eq_of_lt fits) found
 
   blob_stands : (blob : List ℕ) → IsIn blob (used blobs_of model) → length blob < 2 ^ 29
       → IsBlob (blobs_stream model) (blob_index (pools_of model).blobs blob % 256 ^ heap_width (sizes_of model) 4) blob
   blob_stands blob here small =
-      let found = facts.blob (distinct (used blobs_of model)) blob _ (pooled blob here) small in
+      let found = blob_found (distinct (used blobs_of model)) blob _ (pooled blob here) small in
       let fits = index_fits (blob_index (pools_of model).blobs blob) (blobs_stream model) (blob_within (blobs_stream model) _ blob found) within.blobs in
       rw (blobs_width model, mod-eq_of_lt fits) found
     where
       pooled : (blob : List ℕ) → IsIn blob (used blobs_of model) → (blob ≡ []) ⊎ Contains (distinct (used blobs_of model)) blob
       pooled [] here = inl refl
-      pooled (byte ∷ bytes) here = inr (facts.pooled (used blobs_of model) (byte ∷ bytes) (contains_from_in _ (byte ∷ bytes) here) (omega arith))
+      pooled (byte ∷ bytes) here = inr (contains_from_in _ (byte ∷ bytes) (in_distinct (used blobs_of model) (byte ∷ bytes) here (omega arith)))
 
   guid_stands : (guid : Option (List ℕ)) → IfSome guid (λ bytes. length bytes ≡ 16) → ((bytes : List ℕ) → guid ≡ Some bytes → IsIn bytes (used guids_of model))
       → IsGuid (guids_stream model) (guid_index (pools_of model).guids guid % 256 ^ heap_width (sizes_of model) 2) guid
   guid_stands None long here = rw (guids_width model) (mod-eq_of_lt (index_fits 0 (guids_stream model) (inl refl) within.guids))
   guid_stands (Some guid) long here =
       let sixteen : length guid ≡ 16 = long in
-      let there = facts.pooled (used guids_of model) guid (contains_from_in _ guid (here guid refl)) (omega (arith, sixteen)) in
-      let found = facts.guid (distinct (used guids_of model)) guid _ there within.sixteen in
+      let there = contains_from_in _ guid (in_distinct (used guids_of model) guid (here guid refl) (omega (arith, sixteen))) in
+      let found = guid_found (distinct (used guids_of model)) guid _ there within.sixteen in
       let fits = index_fits (guid_index (pools_of model).guids (Some guid)) (guids_stream model) (guid_within (guids_stream model) _ (Some guid) found)
       within.guids in
       rw (guids_width model, mod-eq_of_lt fits) found
 
   few : (table : TableId) → count_of (sizes_of model) table ≤ 0xFFFFFF
-  few table = rw (count_is model facts table) (within.counts table)
+  few table = rw (count_is model table) (within.counts table)
 
   there : (numbers : List (List (List ℕ))) (token : Token) → HasRow model token → IsThere (source_with model numbers) token
-  there numbers token has = (has.0, rw (count_is model facts token.table) has.1)
+  there numbers token has = (has.0, rw (count_is model token.table) has.1)
 
   row_stands : (numbers : List (List (List ℕ))) (nullable : Bool) (table : TableId) (cell : Cell) → MayRefer model nullable (λ other. other ≡ table) cell
       → Refers (source_with model numbers) nullable
@@ -87,7 +90,7 @@ module _ (facts : Facts) (model : Metadata) (within : IsWithin model) where
       let has = null_used null.0 in
       let same : has.0 ≡ coded = cc in
       let used : slice_get (tables_of coded) 0 ≡ Some (Some has.1) = ap (λ c. slice_get (tables_of c) 0) (sym same) ∙ has.3 in
-      let fits = coded_fits facts (sizes_of model) coded has.1 0 0 used (pow_pos (tag_bits coded)) (omega arith) (few has.1) in
+      let fits = coded_fits (sizes_of model) coded has.1 0 0 used (pow_pos (tag_bits coded)) (omega arith) (few has.1) in
       let none : 0 < 256 ^ coded_width (sizes_of model) coded = omega (arith, fits) in
       let zero_tag : 0 ≡ 0 * 2 ^ tag_bits coded + 0 = omega arith in (
         record { table = has.1; row = 0 },
@@ -102,9 +105,9 @@ module _ (facts : Facts) (model : Metadata) (within : IsWithin model) where
   coded_stands numbers nullable coded cell null_used (inr is) =
       let token = is.0 in
       let has = there numbers token is.2 in
-      let tag = tag_found facts (tables_of coded) token.table is.1 in
-      let low : position_or_len (is_table token.table) (tables_of coded) < 2 ^ tag_bits coded = omega (arith, tag.1, facts.few coded) in
-      let fits = coded_fits facts (sizes_of model) coded token.table token.row (position_or_len (is_table token.table) (tables_of coded)) tag.0 low has.1
+      let tag = tag_found (tables_of coded) token.table is.1 in
+      let low : position_or_len (is_table token.table) (tables_of coded) < 2 ^ tag_bits coded = omega (arith, tag.1, tables_few coded) in
+      let fits = coded_fits (sizes_of model) coded token.table token.row (position_or_len (is_table token.table) (tables_of coded)) tag.0 low has.1
       (few token.table) in (
         token,
         record {
@@ -132,28 +135,28 @@ stands facts model within numbers kind.U32 nullable start cell here null starts 
 stands facts model within numbers kind.Padding nullable start cell here null starts valid = valid
 stands facts model within numbers kind.Text nullable start cell here null starts valid =
     let e = valid.3 in
-    (valid.0, rw e (text_stands facts model within valid.0 (here.texts valid.0 (rw e (inl refl))) valid.1 valid.2), e)
+    (valid.0, rw e (text_stands model within valid.0 (here.texts valid.0 (rw e (inl refl))) valid.1 valid.2), e)
 stands facts model within numbers kind.Guid nullable start cell here null starts valid =
     let e = valid.2 in
-    (valid.0, rw e (guid_stands facts model within valid.0 valid.1 (λ bytes same. here.guids bytes (rw e (rw same (inl refl))))), e)
+    (valid.0, rw e (guid_stands model within valid.0 valid.1 (λ bytes same. here.guids bytes (rw e (rw same (inl refl))))), e)
 stands facts model within numbers kind.Blob nullable start cell here null starts valid =
     let e = valid.2 in
-    (valid.0, rw e (blob_stands facts model within valid.0 (here.blobs valid.0 (rw e (inl refl))) valid.1), e)
+    (valid.0, rw e (blob_stands model within valid.0 (here.blobs valid.0 (rw e (inl refl))) valid.1), e)
 stands facts model within numbers (kind.Signature column) nullable start cell here null starts valid =
     let signature = valid.0 in
     let e = valid.4 in
     let encodes = facts.encodes column signature valid.1 valid.2 in (
       short signature,
       signature,
-      rw e (blob_stands facts model within (short signature) (here.blobs (short signature) (rw e (inl refl))) encodes.limit),
+      rw e (blob_stands model within (short signature) (here.blobs (short signature) (rw e (inl refl))) encodes.limit),
       encodes,
-      all_weaker (HasRow model) (IsThere (source_with model numbers)) (there facts model within numbers) (tokens signature) valid.3,
+      all_weaker (HasRow model) (IsThere (source_with model numbers)) (there model within numbers) (tokens signature) valid.3,
       e,
     )
-stands facts model within numbers (kind.Row table) nullable start cell here null starts valid = row_stands facts model within numbers nullable table cell valid
+stands facts model within numbers (kind.Row table) nullable start cell here null starts valid = row_stands model within numbers nullable table cell valid
 stands facts model within numbers (kind.Coded coded) nullable start cell here null starts valid =
-    coded_stands facts model within numbers nullable coded cell null valid
+    coded_stands model within numbers nullable coded cell null valid
 stands facts model within numbers (kind.List member) nullable start cell here null starts valid =
     let e = valid.2 in
-    let low = low_start (count_of (sizes_of model) member) valid.0 (rw (count_is model facts member) valid.1) in
+    let low = low_start (count_of (sizes_of model) member) valid.0 (rw (count_is model member) valid.1) in
     (rw e low, e ∙ ap Start (sym (starts member refl ∙ ap (cell_number (pools_of model) (kind.List member)) e)))

@@ -5,7 +5,8 @@ use Rattle.std.specs.Option.{option_map, option_or}
 use Rattle.std.proofs.lemmas.List.{append_assoc, length-replicate, drop_at, take_at}
 use Rattle.std.proofs.lemmas.List.Folds.{find-append}
 use Rattle.packed.specs.Offsets.{part}
-use Rattle.root_writer.proofs.Lists.{IsIn, from_filter}
+use Rattle.root_writer.proofs.Lists.{from_filter}
+use Rattle.heap_pools.proofs.MemberLemmas.{IsIn}
 use Rattle.root_writer.proofs.Facts.{Facts}
 
 -- ---- padding
@@ -16,11 +17,8 @@ padding_few n = omega arith
 padding_is : (n : ℕ) → (n + (4 - n % 4) % 4) % 4 ≡ 0
 padding_is n = omega arith
 
-pub length_zeros : (n : ℕ) → length (replicate {A = ℕ} n 0) ≡ n
-length_zeros n = length-replicate {A = ℕ} n 0
-
 pub length-zero_padded : (bytes : List ℕ) → length (zero_padded bytes) % 4 ≡ 0
-length-zero_padded bytes = rw (length-append bytes (replicate ((4 - length bytes % 4) % 4) 0), length_zeros ((4 - length bytes % 4) % 4)) (padding_is (length bytes))
+length-zero_padded bytes = rw (length-append bytes (replicate ((4 - length bytes % 4) % 4) 0), length-replicate {A = ℕ} ((4 - length bytes % 4) % 4) 0) (padding_is (length bytes))
 
 -- the zeros after the NUL of a text
 abbrev pub padding_of : List ℕ → List ℕ
@@ -126,8 +124,8 @@ module _ (facts : Facts) (streams : Kind → List ℕ) where
         size = facts.encoded 4 (length (streams kind)) small;
         name = name_is kind;
         padded = record {
-          fewer = rw (length_zeros ((4 - length (name ++ 0 ∷ []) % 4) % 4)) (padding_few (length (name ++ 0 ∷ [])));
-          multiple = rw (length_zeros ((4 - length (name ++ 0 ∷ []) % 4) % 4), ← length-append name (0 ∷ [])) (padding_is (length (name ++ 0 ∷ [])));
+          fewer = rw (length-replicate {A = ℕ} ((4 - length (name ++ 0 ∷ []) % 4) % 4) 0) (padding_few (length (name ++ 0 ∷ [])));
+          multiple = rw (length-replicate {A = ℕ} ((4 - length (name ++ 0 ∷ []) % 4) % 4) 0, ← length-append name (0 ∷ [])) (padding_is (length (name ++ 0 ∷ [])));
         };
       }
 

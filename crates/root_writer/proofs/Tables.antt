@@ -4,7 +4,7 @@ use Rattle.table_schema.specs.declared.column.ColumnKind.TheVariants as kind
 use Rattle.root_writer.proofs.HeldRoots.{IsValidCell, row_long, cell_valid}
 use Rattle.root_writer.proofs.Lists.{in_get_or, in_three, are_from}
 use Rattle.root_writer.proofs.Facts.{Facts}
-use Rattle.table_schema.proofs.TableFacts.{table_index_at}
+use Rattle.table_schema.proofs.TableFacts.{table_index_at, may_be_null, table_index_below}
 use Rattle.root_writer.proofs.Widths.{count_is}
 use Rattle.root_writer.proofs.Stands.{source_with, IsUsed, IsWithin, HasNull, stands}
 use Rattle.root_writer.proofs.Rows.{fields, cells_of, number_is, located}
@@ -16,14 +16,14 @@ source_of model = source_with model (fields model)
 
 -- ---- the valid cells of a row
 
-module _ (facts : Facts) (model : Metadata) (valid : IsValid model) where
+module _ (model : Metadata) (valid : IsValid model) where
   pub cell_used : (table : TableId) (row cell_index : ℕ) → 1 ≤ row → row ≤ count_in model table → cell_index < cell_count table
       → IsUsed model (cell_in model table row cell_index)
   unfolding used
   cell_used table row cell_index first last below =
-      let rows = in_get_or model.tables (table_index_of table) [] (omega (arith, valid.tables, facts.table_index table)) in
+      let rows = in_get_or model.tables (table_index_of table) [] (omega (arith, valid.tables, table_index_below table)) in
       let cells = in_get_or (rows_of model table) (row - 1) [] (omega arith) in
-      let cell = in_get_or (cells_of model table row) cell_index (Number 0) (omega (arith, row_long facts model valid table row first last)) in
+      let cell = in_get_or (cells_of model table row) cell_index (Number 0) (omega (arith, row_long model valid table row first last)) in
       record {
         texts = λ value h. in_three texts_of (cell_in model table row cell_index) value (cells_of model table row) (rows_of model table) model.tables rows cells
             cell h;
@@ -44,8 +44,8 @@ module _ (facts : Facts) (model : Metadata) (valid : IsValid model) where
   is_at : (table : TableId) (row cell_index : ℕ) → 1 ≤ row → row ≤ count_in model table → cell_index < cell_count table → IsAt table row cell_index (column_of table cell_index)
   unfolding cell_columns number_of
   is_at table row cell_index first last below =
-      let here = located (cell_number (pools_of model)) (columns_of table) (cells_of model table row) 0 cell_index (col kind.U8) (Number 0) below (row_long facts model valid table row first last) in
-      let number = number_is facts model table row here.index (col kind.U8) first last here.below
+      let here = located (cell_number (pools_of model)) (columns_of table) (cells_of model table row) 0 cell_index (col kind.U8) (Number 0) below (row_long model valid table row first last) in
+      let number = number_is model table row here.index (col kind.U8) first last here.below
       ∙ ap (λ n. n % 256 ^ width_of (sizes_of model) (column_at table here.index)) here.number in
       let same : here.index ≡ column_of table cell_index = omega (arith, here.at) in
       subst (IsAt table row cell_index) same (here.below, number)
@@ -82,16 +82,16 @@ module _ (facts : Facts) (model : Metadata) (valid : IsValid model) (within : Is
   start_at row first last =
       start_cell model (column_at table (column_of table cell_index)).kind (column_at table (column_of table cell_index)).nullable member
       (cell_in model table row cell_index) lists
-      (cell_valid facts model valid table row cell_index first last below)
+      (cell_valid model valid table row cell_index first last below)
 
   value_at : (row : ℕ) → 1 ≤ row → row ≤ count_in model table
       → number_of (source_of model) table row (column_of table cell_index) ≡ start row % 256 ^ narrow_or_wide (ltb (count_in model member) (2 ^ 16))
   value_at row first last =
       let width : width_of (sizes_of model) (column_at table (column_of table cell_index)) ≡ narrow_or_wide (ltb (count_in model member) (2 ^ 16)) =
-      ap (kind_width (sizes_of model)) lists ∙ ap (λ n. narrow_or_wide (ltb n (2 ^ 16))) (count_is model facts member) in
+      ap (kind_width (sizes_of model)) lists ∙ ap (λ n. narrow_or_wide (ltb n (2 ^ 16))) (count_is model member) in
       let number : cell_number (pools_of model) (column_at table (column_of table cell_index)).kind (cell_in model table row cell_index) ≡ start row =
       ap (cell_number (pools_of model) (column_at table (column_of table cell_index)).kind) (start_at row first last).is in
-      number_at facts model valid table row cell_index first last below
+      number_at model valid table row cell_index first last below
       ∙ ap (λ n. n % 256 ^ width_of (sizes_of model) (column_at table (column_of table cell_index))) number ∙ ap (λ w. start row % 256 ^ w) width
 
   -- no start is 0, because the first is 1 and none is lower than the one before
@@ -127,9 +127,9 @@ module _ (facts : Facts) (model : Metadata) (valid : IsValid model) (within : Is
   pub start_stands : (row : ℕ) → 1 ≤ row → row ≤ count_in model table → start_of (source_of model) table row (column_of table cell_index) member ≡ start row
   unfolding start_of
   start_stands row first last =
-      let many : count_of (sizes_of model) table + 1 - row ≡ suc (count_in model table - row) = omega (arith, count_is model facts table) in
+      let many : count_of (sizes_of model) table + 1 - row ≡ suc (count_in model table - row) = omega (arith, count_is model table) in
       let value = λ (r : ℕ). number_of (source_of model) table r (column_of table cell_index) in
-      ap (λ n. start_from value (n + 1) row (count_of (sizes_of model) table + 1 - row)) (count_is model facts member)
+      ap (λ n. start_from value (n + 1) row (count_of (sizes_of model) table + 1 - row)) (count_is model member)
       ∙ ap (start_from value (count_in model member + 1) row) many
       ∙ start_found value start (count_in model member + 1) row (count_in model table - row) (numbered row first last)
 
@@ -195,27 +195,27 @@ module _ (facts : Facts) (model : Metadata) (valid : IsValid model) (within : Is
       let cell = cell_in model table row cell_index in
       let start = start_of (source_of model) table row (column_of table cell_index) in
       let started : (member : TableId) → column.kind ≡ kind.List member → start member ≡ cell_number (pools_of model) column.kind cell = λ member lists.
-      let is = start_cell model column.kind column.nullable member cell lists (cell_valid facts model valid table row cell_index first last below) in
+      let is = start_cell model column.kind column.nullable member cell lists (cell_valid model valid table row cell_index first last below) in
       start_stands facts model valid within table cell_index member below lists (owners_of model valid table cell_index member lists) row first last
       ∙ sym (ap (cell_number (pools_of model) column.kind) is.is) in
-      subst (λ n. StandsFor (source_of model) column.kind column.nullable start n cell) (sym (number_at facts model valid table row cell_index first last below))
+      subst (λ n. StandsFor (source_of model) column.kind column.nullable start n cell) (sym (number_at model valid table row cell_index first last below))
       (stands facts model within (fields model) column.kind column.nullable start cell
-      (cell_used facts model valid table row cell_index first last below)
-      (λ nullable. has_null column (facts.null table (column_of table cell_index) (column_below facts model valid table row cell_index first last below) nullable))
+      (cell_used model valid table row cell_index first last below)
+      (λ nullable. has_null column (may_be_null table (column_of table cell_index) (column_below model valid table row cell_index first last below) nullable))
       started
-      (cell_valid facts model valid table row cell_index first last below))
+      (cell_valid model valid table row cell_index first last below))
 
   row_stands : (table : TableId) (row : ℕ) → 1 ≤ row → row ≤ count_in model table → IsRow (source_of model) table row (cells_of model table row)
   unfolding IsRow
   row_stands table row first last =
-      are_from (IsCell (source_of model) table row) 0 (cell_count table) (cells_of model table row) (Number 0) (row_long facts model valid table row first last)
+      are_from (IsCell (source_of model) table row) 0 (cell_count table) (cells_of model table row) (Number 0) (row_long model valid table row first last)
       (λ k j below e. let same : k ≡ j = omega arith in
       subst (λ i. IsCell (source_of model) table row i (cell_in model table row k)) same (cell_stands table row k first last below))
 
   table_stands : (table : TableId) → IsTable (source_of model) table (rows_of model table)
   unfolding IsTable
   table_stands table =
-      let count = count_is model facts table in
+      let count = count_is model table in
       are_from (IsRow (source_of model) table) 1 (rows_in (source_of model) table) (rows_of model table) [] (sym count)
       (λ k j below e.
       let back : j - 1 ≡ k = omega arith in
@@ -234,10 +234,10 @@ module _ (facts : Facts) (model : Metadata) (valid : IsValid model) (within : Is
   is_owned : (table : TableId) (cell_index : ℕ) (member : TableId) → cell_index < cell_count table → (column_at table (column_of table cell_index)).kind ≡ kind.List member
       → HasOwners model table cell_index member → IsOwned (source_of model) table (column_of table cell_index) member
   is_owned table cell_index member below lists owners =
-      let count = count_is model facts table in
+      let count = count_is model table in
       let start = start_stands facts model valid within table cell_index member below lists owners in
       record {
-        ownerless = λ none. count_is model facts member ∙ owners.ownerless (sym count ∙ none);
+        ownerless = λ none. count_is model member ∙ owners.ownerless (sym count ∙ none);
         first = λ some. start 1 (omega arith) (omega (arith, count, some)) ∙ owners.first (λ e. some (count ∙ e));
         rising = λ row second last.
             rw (start (row - 1) (omega arith) (omega (arith, count)), start row (omega arith) (omega (arith, count)))

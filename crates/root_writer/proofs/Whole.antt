@@ -1,16 +1,20 @@
 -- The canonical root of a valid model is a root with that model.
 use Rattle.root_writer.proofs.Prelude.{◌≡◌, ℕ, ◌+◌, ◌-◌, ◌%◌, ◌^◌, ◌<◌, ◌≤◌, Bool, true, false, ltb, List, [], ◌∷◌, ◌++◌, length, refl, sym, ap, subst, ◌∙◌, ◌⊎◌, inl, inr, ⊎_elim, arith, length-append, All, Option, Some, None, IfSome, replicate, AllByRecursion, flat_map, count_by, cases_Bool, cond_both, nat_tests, append-nil, nil_from_length, All-from_recursion, Kind, Tables, Strings, UserStrings, Guids, Blobs, Header, signature, IsVersion, AreHeaders, IsRoot, IsNumber, zero_padded, is_among, first_uses, distinct, TableId, ColumnKind, tables, column_at, header_size, number_bytes, tables_bytes, IsLaidOut, Cell, Guid, Metadata, count_in, Source, cell_count, column_of, table_at, AreTables, AreByKey, AreOwned, AreNested, IsModel, used, guids_of, numbers, has_rows, is_sorted, sizes_of, header_bytes, table_stream, stream, streams_of, ended, directory, prefix, first_offset, root_of, canonical, IsValid}
+use Rattle.schema.proofs.BitLemmas.{bits_low}
 use Rattle.table_schema.specs.declared.column.ColumnKind.TheVariants as kind
 use Rattle.metadata.specs.Streams.{stream_in, source_in}
+use Rattle.std.proofs.lemmas.List.{length-replicate}
+use Rattle.metadata.proofs.ItemLemmas.{all_weaker}
 use Rattle.root_writer.proofs.HeldRoots.{MayRefer, IsValidCell, IsValidAt, IsValidRow, AreValidRows, tables_valid}
-use Rattle.root_writer.proofs.Lists.{IsIn, all_flat_map, all_from, all_weaker, in_filter, length-filter_le}
+use Rattle.root_writer.proofs.Lists.{all_flat_map, all_from, length-filter_le}
+use Rattle.heap_pools.proofs.MemberLemmas.{IsIn, in_filter}
 use Rattle.root_writer.proofs.Facts.{Facts}
 use Rattle.root_writer.proofs.Widths.{heap_sizes_low, count_is}
 use Rattle.root_writer.proofs.Stands.{IsWithin}
 use Rattle.root_writer.proofs.Rows.{fields, tables_low, fit_tables, counts_are}
 use Rattle.root_writer.proofs.Tables.{source_of, tables_stand, are_owned}
 use Rattle.root_writer.proofs.Orders.{are_by_key, are_nested}
-use Rattle.root_writer.proofs.Streams.{length_zeros, length-zero_padded, padding_of, ended_is, AreApart, all_kinds, filter_apart, in_all, headers_of, contents, are_headers, length-headers_of, stream_found, is_named, all_meet, directory_long, within}
+use Rattle.root_writer.proofs.Streams.{length-zero_padded, padding_of, ended_is, AreApart, all_kinds, filter_apart, in_all, headers_of, contents, are_headers, length-headers_of, stream_found, is_named, all_meet, directory_long, within}
 
 -- ---- each GUID of a valid model has 16 bytes
 
@@ -44,7 +48,7 @@ all_first_uses P before (value ∷ values) all =
     let uses = first_uses (before ++ value ∷ []) values in
     cond_both (is_among before value) uses (value ∷ uses) (AllByRecursion P) (λ t. tail) (λ f. (all.0, tail))
 
-module _ (facts : Facts) (model : Metadata) (valid : IsValid model) where
+module _ (model : Metadata) (valid : IsValid model) where
   long_row : (table : TableId) (cells : List Cell) → IsValidRow model table cells → AllByRecursion HasLong cells
   unfolding IsValidRow
   long_row table cells row =
@@ -60,7 +64,7 @@ module _ (facts : Facts) (model : Metadata) (valid : IsValid model) where
       (λ cells has. all_flat_map IsLong HasLong guids_of (λ cell h. h) cells has) rows all)
       model.tables
       (all_from (AreValidRows model) (AllByRecursion (AllByRecursion HasLong))
-      (λ i rows are. all_weaker (IsValidRow model (table_at i)) (AllByRecursion HasLong) (long_row (table_at i)) rows are) 0 38 model.tables (tables_valid facts model valid))
+      (λ i rows are. all_weaker (IsValidRow model (table_at i)) (AllByRecursion HasLong) (long_row (table_at i)) rows are) 0 38 model.tables (tables_valid model valid))
 
   sixteen : All (λ guid. length guid ≡ 16) (distinct (used guids_of model))
   sixteen = All-from_recursion IsLong (distinct (used guids_of model)) (all_first_uses IsLong ([] ∷ []) (used guids_of model) long_used)
@@ -70,17 +74,17 @@ module _ (facts : Facts) (model : Metadata) (valid : IsValid model) where
 no_rows : (n : ℕ) → ltb 0 n ≡ false → n ≡ 0
 no_rows n e = grind (arith, nat_tests)
 
-sorted_is : Facts → (model : Metadata) → (sizes_of model).sorted < 2 ^ 64
+sorted_is : (model : Metadata) → (sizes_of model).sorted < 2 ^ 64
 unfolding sizes_of
-sorted_is facts model = facts.low (is_sorted model)
+sorted_is model = bits_low (is_sorted model)
 
 body_is : (model : Metadata) → (sizes_of model).body ≡ header_size (count_by (has_rows model) tables)
 unfolding sizes_of
 body_is model = refl
 
-laid_out : Facts → (model : Metadata) → IsValid model → IsLaidOut (table_stream model) (sizes_of model) (fields model)
+laid_out : (model : Metadata) → IsValid model → IsLaidOut (table_stream model) (sizes_of model) (fields model)
 unfolding table_stream header_bytes
-laid_out facts model valid =
+laid_out model valid =
     let body = header_bytes model ++ tables_bytes (sizes_of model) tables (numbers model) in
     let tail = replicate ((4 - length body % 4) % 4) 0 in
     record {
@@ -88,15 +92,15 @@ laid_out facts model valid =
       reserved_byte = 1;
       counted = has_rows model;
       tail = tail;
-      whole = ap (λ l. header_bytes model ++ l ++ tail) (sym (tables_low facts model));
+      whole = ap (λ l. header_bytes model ++ l ++ tail) (sym (tables_low model));
       reserved_long = refl;
       heap_sizes_low = heap_sizes_low model;
-      sorted_low = sorted_is facts model;
-      uncounted = λ table none. count_is model facts table ∙ no_rows (count_in model table) none;
-      few = λ table. rw (count_is model facts table) (valid.few table);
+      sorted_low = sorted_is model;
+      uncounted = λ table none. count_is model table ∙ no_rows (count_in model table) none;
+      few = λ table. rw (count_is model table) (valid.few table);
       body = body_is model;
       counts = counts_are model;
-      fit = fit_tables facts model;
+      fit = fit_tables model;
     }
 
 -- ---- the root
@@ -105,7 +109,7 @@ ended_short : (version : List ℕ) → length version ≤ 254 → length (ended 
 ended_short version short = omega (
   arith,
   length-append (version ++ 0 ∷ []) (padding_of version),
-  length_zeros ((4 - length (version ++ 0 ∷ []) % 4) % 4),
+  length-replicate {A = ℕ} ((4 - length (version ++ 0 ∷ []) % 4) % 4) 0,
   length-append version (0 ∷ []),
 )
 
@@ -207,7 +211,7 @@ module _ (facts : Facts) (model : Metadata) (valid : IsValid model) (small : len
   short kind = omega (arith, stream_short facts model.version (stream model) kinds kind (holds kind), small)
 
   inside : IsWithin model
-  inside = record { texts = short Strings; blobs = short Blobs; guids = short Guids; counts = valid.few; sixteen = sixteen facts model valid }
+  inside = record { texts = short Strings; blobs = short Blobs; guids = short Guids; counts = valid.few; sixteen = sixteen model valid }
 
   root_headers : List Header
   root_headers = headers facts model.version (stream model) kinds
@@ -236,10 +240,10 @@ module _ (facts : Facts) (model : Metadata) (valid : IsValid model) (small : len
         is_root = is_root facts model.version (stream model) kinds valid.version few_kinds apart_kinds tables_held small;
         sizes = sizes_of model;
         numbers = fields model;
-        laid_out = subst (λ bytes. IsLaidOut bytes (sizes_of model) (fields model)) (sym (find Tables)) (laid_out facts model valid);
+        laid_out = subst (λ bytes. IsLaidOut bytes (sizes_of model) (fields model)) (sym (find Tables)) (laid_out model valid);
         cells = subst (λ (s : Source). AreTables s model.tables) (sym same_source) (tables_stand facts model valid inside);
-        ordered = subst (λ (s : Source). AreByKey s) (sym same_source) (are_by_key facts model valid inside);
+        ordered = subst (λ (s : Source). AreByKey s) (sym same_source) (are_by_key model valid inside);
         owned = subst (λ (s : Source). AreOwned s) (sym same_source) (are_owned facts model valid inside);
-        nested = subst (λ (s : Source). AreNested s) (sym same_source) (are_nested facts model valid inside);
+        nested = subst (λ (s : Source). AreNested s) (sym same_source) (are_nested model valid inside);
         user = user_is;
       }

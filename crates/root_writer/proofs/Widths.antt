@@ -1,8 +1,10 @@
 -- The numbers of cells fit the widths of the canonical table stream.
 use Rattle.root_writer.proofs.Prelude.{◌≡◌, ℕ, zero, suc, ◌+◌, ◌-◌, ◌*◌, ◌/◌, ◌%◌, ◌^◌, ◌<◌, ◌≤◌, Bool, true, false, not, cond, eqb, ltb, leb, List, [], ◌∷◌, ◌++◌, length, get_or, Contains, refl, sym, ap, subst, ◌∙◌, ◌⊎◌, inl, inr, ⊎_elim, true≢false, Option, Some, None, arith, length-append, slice_get, list_all, position_or_len, cases_Bool, cases_lt, cond_both, leb-false, not-true, and_parts, ltb-true, nat_tests, get_or-map, mul-add-lt, TableId, Module, Coded, tables, table_index_of, table_number, tables_of, tag_bits, Sizes, count_of, narrow_or_wide, heap_width, is_below, coded_width, IsText, IsBlob, IsGuid, is_table, Metadata, count_in, texts_stream, blobs_stream, guids_stream, sizes_of}
 use Rattle.packed.specs.Packed.{IsPacked}
-use Rattle.root_writer.proofs.Lists.{IsIn, in_from_contains}
-use Rattle.root_writer.proofs.Facts.{Facts}
+use Rattle.heap_pools.proofs.MemberLemmas.{IsIn, in_from_contains}
+use Rattle.table_schema.proofs.TableFacts.{length-tables, table_at_index, table_index_below}
+use Rattle.table_schema.proofs.TableOrder.{numbers_rise}
+use Rattle.table_schema.proofs.CodedLemmas.{tag_narrow, tag_wide}
 
 -- ---- indexes lie within their heaps
 
@@ -88,11 +90,11 @@ module _ (model : Metadata) where
   heap_sizes_low = heap_sizes_below (leb (2 ^ 16) (length (texts_stream model))) (leb (2 ^ 16) (length (guids_stream model)))
       (leb (2 ^ 16) (length (blobs_stream model)))
 
-  pub count_is : Facts → (table : TableId) → count_of (sizes_of model) table ≡ count_in model table
+  pub count_is : (table : TableId) → count_of (sizes_of model) table ≡ count_in model table
   unfolding sizes_of
-  count_is facts table =
-      let below : table_index_of table < length tables = omega (arith, facts.table_index table, facts.count) in
-      get_or-map (count_in model) tables (table_index_of table) Module 0 below ∙ ap (count_in model) (facts.stand table)
+  count_is table =
+      let below : table_index_of table < length tables = omega (arith, table_index_below table, length-tables) in
+      get_or-map (count_in model) tables (table_index_of table) Module 0 below ∙ ap (count_in model) (table_at_index table)
 
 -- ---- rows
 
@@ -103,14 +105,14 @@ row_fits number count low small =
 
 -- ---- tags
 
-pub same_table : Facts → (a b : TableId) → table_number a ≡ table_number b → a ≡ b
-same_table facts a b e = ⊎_elim
-    (λ (l : table_index_of a < table_index_of b). absurd (omega (arith, facts.rise a b l)))
+pub same_table : (a b : TableId) → table_number a ≡ table_number b → a ≡ b
+same_table a b e = ⊎_elim
+    (λ (l : table_index_of a < table_index_of b). absurd (omega (arith, numbers_rise a b l)))
     (λ (h : table_index_of b ≤ table_index_of a). ⊎_elim
-    (λ (l : table_index_of b < table_index_of a). absurd (omega (arith, facts.rise b a l)))
+    (λ (l : table_index_of b < table_index_of a). absurd (omega (arith, numbers_rise b a l)))
     (λ (k : table_index_of a ≤ table_index_of b).
     let same : table_index_of a ≡ table_index_of b = omega arith in
-    sym (facts.stand a) ∙ ap (λ n. get_or tables n Module) same ∙ facts.stand b)
+    sym (table_at_index a) ∙ ap (λ n. get_or tables n Module) same ∙ table_at_index b)
     (cases_lt (table_index_of b) (table_index_of a)))
     (cases_lt (table_index_of a) (table_index_of b))
 
@@ -128,20 +130,20 @@ below_listed sizes limit (Some other ∷ listed) (suc tag) table all e =
     below_listed sizes limit listed tag table (and_parts (ltb (count_of sizes other) limit) (list_all (is_below sizes limit) listed) all).1 e
 
 -- a row and a tag of a listed table fit the width of the coded index
-pub coded_fits : Facts → (sizes : Sizes) (coded : Coded) (table : TableId) (row tag : ℕ) → slice_get (tables_of coded) tag ≡ Some (Some table)
+pub coded_fits : (sizes : Sizes) (coded : Coded) (table : TableId) (row tag : ℕ) → slice_get (tables_of coded) tag ≡ Some (Some table)
     → tag < 2 ^ tag_bits coded
     → row ≤ count_of sizes table → count_of sizes table ≤ 0xFFFFFF → row * 2 ^ tag_bits coded + tag < 256 ^ coded_width sizes coded
-coded_fits facts sizes coded table row tag is low there small =
+coded_fits sizes coded table row tag is low there small =
     cond_both narrow 2 4 (λ width. row * 2 ^ tag_bits coded + tag < 256 ^ width)
     (λ e.
     let few = below_listed sizes (2 ^ (16 - tag_bits coded)) (tables_of coded) tag table e is in
     let fits : row * 2 ^ tag_bits coded + tag < 65536 =
-    subst (λ n. row * 2 ^ tag_bits coded + tag < n) (facts.narrow coded)
+    subst (λ n. row * 2 ^ tag_bits coded + tag < n) (tag_narrow coded)
     (mul-add-lt row (2 ^ tag_bits coded) tag (2 ^ (16 - tag_bits coded)) (omega arith) low) in
     fits)
     (λ e.
     let below = mul-add-lt row (2 ^ tag_bits coded) tag (2 ^ 24) (omega arith) low in
-    let fits : row * 2 ^ tag_bits coded + tag < 4294967296 = omega (arith, below, facts.wide coded) in
+    let fits : row * 2 ^ tag_bits coded + tag < 4294967296 = omega (arith, below, tag_wide coded) in
     fits)
   where
     narrow : Bool
@@ -154,19 +156,19 @@ IsTag listed table tag = (slice_get listed tag ≡ Some (Some table)) × (tag < 
 later : (first : Option TableId) (listed : List (Option TableId)) (table : TableId) (tag : ℕ) → IsTag listed table tag → IsTag (first ∷ listed) table (1 + tag)
 later first listed table tag is = let up : 1 + tag ≡ suc tag = omega arith in rw up (is.0, omega (arith, is.1))
 
-tag_in : Facts → (listed : List (Option TableId)) (table : TableId) → IsIn (Some table) listed → IsTag listed table (position_or_len (is_table table) listed)
-tag_in facts [] table h = absurd h
-tag_in facts (None ∷ listed) table (inl e) = cc
-tag_in facts (None ∷ listed) table (inr h) = later None listed table (position_or_len (is_table table) listed) (tag_in facts listed table h)
-tag_in facts (Some other ∷ listed) table h = ⊎_elim
+tag_in : (listed : List (Option TableId)) (table : TableId) → IsIn (Some table) listed → IsTag listed table (position_or_len (is_table table) listed)
+tag_in [] table h = absurd h
+tag_in (None ∷ listed) table (inl e) = cc
+tag_in (None ∷ listed) table (inr h) = later None listed table (position_or_len (is_table table) listed) (tag_in listed table h)
+tag_in (Some other ∷ listed) table h = ⊎_elim
     (λ (t : is_table table (Some other) ≡ true).
     let equal : table_number table ≡ table_number other = grind (arith, nat_tests) in
-    let same = same_table facts table other equal in
+    let same = same_table table other equal in
     subst (λ b. IsTag (Some other ∷ listed) table (cond (not b) (1 + position_or_len (is_table table) listed) 0)) (sym t)
     (ap (λ t. Some (Some t)) (sym same), omega arith))
     (λ (f : is_table table (Some other) ≡ false).
     subst (λ b. IsTag (Some other ∷ listed) table (cond (not b) (1 + position_or_len (is_table table) listed) 0)) (sym f)
-    (later (Some other) listed table (position_or_len (is_table table) listed) (tag_in facts listed table (there f h))))
+    (later (Some other) listed table (position_or_len (is_table table) listed) (tag_in listed table (there f h))))
     (cases_Bool (is_table table (Some other)))
   where
     there : is_table table (Some other) ≡ false → IsIn (Some table) (Some other ∷ listed) → IsIn (Some table) listed
@@ -177,6 +179,6 @@ tag_in facts (Some other ∷ listed) table h = ⊎_elim
         absurd (true≢false (sym same_number ∙ f))
     there f (inr l) = l
 
-pub tag_found : Facts → (listed : List (Option TableId)) (table : TableId) → Contains listed (Some table)
+pub tag_found : (listed : List (Option TableId)) (table : TableId) → Contains listed (Some table)
     → IsTag listed table (position_or_len (is_table table) listed)
-tag_found facts listed table there = tag_in facts listed table (in_from_contains listed (Some table) there)
+tag_found listed table there = tag_in listed table (in_from_contains listed (Some table) there)

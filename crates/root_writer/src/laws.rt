@@ -26,9 +26,7 @@ pub fn canonical_roots_are_put()
 pub fn table_headers_are_put()
     ensures { (model : Metadata) (sizes : Sizes) → sizes.counts ≡ (sizes_of model).counts
         → header_bytes model ≡ table_header (sizes_of model).heap_sizes (sizes_of model).sorted sizes }
-{
-    table_schema::laws::tables_stand();
-}
+{}
 
 /// [`Writer::put_root`](crate::Writer::put_root) writes the canonical root of a model if it is given the parts of that
 /// model.

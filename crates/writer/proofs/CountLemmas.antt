@@ -1,31 +1,9 @@
--- The row counts by table number, and the bits of the tables that are in order, table by table.
-use Rattle.writer.proofs.Prelude.{◌≡◌, ℕ, ◌+◌, ◌<◌, ◌≤◌, Bool, true, false, List, length, get_or, drop, refl, sym, ap, ◌∙◌, arith, below_more, get_or-set_other, get_or-set_same, ◌↔◌, Option, Some, None, drop_all, sum_by-drop_more, TableId, Module, tables, table_number, table_index_of, key_of, bits_of, Metadata, is_by_key, table_keys, is_sorted, bit_if}
-use Rattle.std.proofs.Math.ListN.{set}
+-- The bits of the tables that are in order, table by table.
+use Rattle.writer.proofs.Prelude.{◌≡◌, ℕ, ◌+◌, ◌<◌, ◌≤◌, Bool, true, false, List, length, get_or, drop, sym, ap, ◌∙◌, arith, ◌↔◌, Option, Some, None, drop_all, sum_by-drop_more, TableId, Module, tables, key_of, bits_of, Metadata, is_by_key, table_keys, is_sorted, bit_if}
+use Rattle.std.proofs.lemmas.Bool.Decides.{same_from_decides}
 use Rattle.std.specs.Option.{is_some}
-use Rattle.table_schema.proofs.TableFacts.{table_index_at}
 use Rattle.metadata.specs.Valid.{IsValid}
 use Rattle.metadata.specs.KeyOrder.{IsKeyOrdered}
-use Rattle.writer.proofs.StandLemmas.{TheyStand}
-
--- ---- counts
-
--- an array by table number that is filled in table by table
-pub table_kept : TheyStand → (f : TableId → ℕ) (kept : List ℕ) (i number value : ℕ) → i < 38 → length kept ≡ 45 → number ≡ table_number (get_or tables i Module)
-    → value ≡ f (get_or tables i Module)
-    → ((k : ℕ) → k < i → get_or kept (table_number (get_or tables k Module)) 0 ≡ f (get_or tables k Module))
-    → (k : ℕ) → k < i + 1 → get_or (set kept number value) (table_number (get_or tables k Module)) 0 ≡ f (get_or tables k Module)
-table_kept they f kept i number value below long is e before =
-    below_more _ _
-    (λ k less.
-    let rise = they.rise (get_or tables k Module) (get_or tables i Module) (omega (arith, table_index_at k (omega arith), table_index_at i below)) in
-    get_or-set_other kept number (table_number (get_or tables k Module)) value 0 (omega (arith, rise, is)) ∙ before k less)
-    (ap (λ (n : ℕ). get_or (set kept number value) n 0) (sym is) ∙ get_or-set_same kept number value 0 (omega (arith, long, is, they.number (get_or tables i Module))) ∙ e)
-
-pub tables_kept : TheyStand → (f : TableId → ℕ) (kept : List ℕ)
-    → ((k : ℕ) → k < 38 → get_or kept (table_number (get_or tables k Module)) 0 ≡ f (get_or tables k Module))
-    → (table : TableId) → get_or kept (table_number table) 0 ≡ f table
-tables_kept they f kept each table =
-    sym (ap (λ (t : TableId). get_or kept (table_number t) 0) (they.stand table)) ∙ each (table_index_of table) (they.table_index table) ∙ ap f (they.stand table)
 
 -- ---- bits
 
@@ -48,13 +26,6 @@ all_bits test items i bits total same past whole =
 
 -- ---- a test
 
--- two tests that are both equivalent to one fact are equal
-pub same_test : (P : Type 0) (one other : Bool) → (one ≡ true → P) → (P → one ≡ true) → (other ≡ true → P) → (P → other ≡ true) → one ≡ other
-same_test P true true a b c d = refl
-same_test P false false a b c d = refl
-same_test P true false a b c d = sym (d (a refl))
-same_test P false true a b c d = b (c refl)
-
 -- a table without a key is not in the bits of the tables that are in order
 pub unkeyed : (model : Metadata) (table : TableId) (key : Option ℕ) → key ≡ key_of table → is_some key ≡ false → false ≡ is_sorted model table
 unkeyed model table None is none = ap (is_by_key (table_keys model table)) is
@@ -68,5 +39,4 @@ pub keyed : ReportOrder → (model : Metadata) → IsValid model → (table : Ta
     → ((answer ≡ true) ↔ IsKeyOrdered model table) → answer ≡ is_sorted model table
 keyed report model valid table None is there answer reported = absurd cc
 keyed report model valid table (Some key) is there answer reported =
-    let bits = report model valid table key (sym is) in
-    same_test (IsKeyOrdered model table) answer (is_sorted model table) reported.0 reported.1 bits.0 bits.1
+    same_from_decides answer (is_sorted model table) reported (report model valid table key (sym is))

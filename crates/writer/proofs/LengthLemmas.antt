@@ -1,5 +1,6 @@
 -- The length of a canonical root is the sum of the lengths of its headers and its streams.
-use Rattle.writer.proofs.Prelude.{◌≡◌, ℕ, zero, suc, ◌+◌, ◌-◌, ◌%◌, ◌<◌, ◌≤◌, inl, inr, cond, ltb, List, [], ◌∷◌, ◌++◌, length, filter, replicate, refl, sym, ap, subst, ◌∙◌, length-append, arith, sum_by, flat_map, cases_Bool, ltb-false, sum_by-cons, Kind, Tables, Strings, UserStrings, Guids, Blobs, zero_padded, Metadata, canonical, stream, held, heading, kinds_in_order}
+use Rattle.writer.proofs.Prelude.{◌≡◌, ℕ, ◌+◌, ◌-◌, ◌%◌, ◌<◌, ◌≤◌, inl, inr, cond, ltb, List, [], ◌∷◌, ◌++◌, length, filter, replicate, refl, sym, ap, subst, ◌∙◌, length-append, arith, sum_by, flat_map, cases_Bool, ltb-false, sum_by-cons, Kind, Tables, Strings, UserStrings, Guids, Blobs, zero_padded, Metadata, canonical, stream, held, heading, kinds_in_order}
+use Rattle.std.proofs.lemmas.List.{length-replicate}
 
 -- streams without bytes add nothing
 pub held_sum : (size : Kind → ℕ) (kinds : List Kind) → sum_by size (filter (λ kind. ltb 0 (size kind)) kinds) ≡ sum_by size kinds
@@ -57,11 +58,7 @@ pub over : ArePut → (model : Metadata) (kind : Kind) (heap : List ℕ) (limit 
     → limit < length (canonical model)
 over put model kind heap limit is more = omega (arith, within put model kind, is, padding_adds heap, more)
 
-length-zeros : (n : ℕ) → length (replicate {A = ℕ} n 0) ≡ n
-length-zeros zero = refl
-length-zeros (suc n) = ap suc (length-zeros n)
-
 pub length-zero_padded : (bytes : List ℕ) (len : ℕ) → length bytes ≡ len → len + (4 - len % 4) % 4 ≡ length (zero_padded bytes)
 length-zero_padded bytes len is =
     ap (λ n. n + (4 - n % 4) % 4) (sym is)
-    ∙ omega (arith, length-append bytes (replicate ((4 - length bytes % 4) % 4) 0), length-zeros ((4 - length bytes % 4) % 4))
+    ∙ omega (arith, length-append bytes (replicate ((4 - length bytes % 4) % 4) 0), length-replicate {A = ℕ} ((4 - length bytes % 4) % 4) 0)

@@ -1,15 +1,12 @@
 -- The length of a table stream depends only on the row counts and HeapSizes.
-use Rattle.writer.proofs.Prelude.{◌≡◌, ℕ, zero, suc, ◌+◌, ◌-◌, ◌*◌, ◌/◌, ◌<◌, ◌≤◌, inl, inr, Bool, cond, lit<, List, [], ◌∷◌, ◌++◌, length, get_or, take, drop, refl, ap, ◌∙◌, length-append, length-drop, arith, fun_ext, sum_by, count_by, cases_Bool, take_all, get_or-map, length-take-le, sum_by-cons, sum_by_more, TableId, Module, GenericParamConstraint, tables, table_index_of, columns_of, Sizes, count_of, width_of, header_size, number_bytes, row_bytes, rows_bytes, tables_bytes, bits_of, counts_bytes, Metadata, count_in, numbers, has_rows, sizes_of, header_bytes}
+use Rattle.writer.proofs.Prelude.{◌≡◌, ℕ, zero, suc, ◌+◌, ◌-◌, ◌*◌, ◌≤◌, inl, inr, Bool, cond, List, [], ◌∷◌, ◌++◌, length, take, drop, refl, ap, ◌∙◌, length-append, length-drop, arith, fun_ext, sum_by, count_by, cases_Bool, get_or-map, length-take-le, sum_by-cons, TableId, Module, tables, table_index_of, columns_of, Sizes, count_of, width_of, header_size, number_bytes, row_bytes, rows_bytes, tables_bytes, bits_of, counts_bytes, Metadata, count_in, numbers, has_rows, sizes_of, header_bytes}
+use Rattle.schema.proofs.NumberLemmas.{length-number_bytes}
 use Rattle.table_schema.specs.declared.column.Column.{Column}
-use Rattle.schema.specs.Offsets.{columns_width, row_width, table_size, tables_size, row_start, tables_end}
+use Rattle.schema.specs.Offsets.{columns_width, table_size, tables_size, tables_end}
 use Rattle.root_writer.specs.Flat.{cells_of, rows_in, table_in, tables_in}
-use Rattle.writer.proofs.StandLemmas.{TheyStand}
+use Rattle.table_schema.proofs.TableFacts.{length-tables as all_tables, table_at_index, table_index_below}
 
 -- ---- rows
-
-length-number_bytes : (width number : ℕ) → length (number_bytes width number) ≡ width
-length-number_bytes zero number = refl
-length-number_bytes (suc width) number = ap suc (length-number_bytes width (number / 256))
 
 length-row : (sizes : Sizes) (columns : List Column) (numbers : List ℕ) → length numbers ≡ length columns → length (row_bytes sizes columns numbers) ≡ sum_by (width_of sizes) columns
 length-row sizes [] [] same = refl
@@ -90,10 +87,10 @@ length-header model =
 
 -- ---- the sizes of a model
 
-pub count_is : TheyStand → (model : Metadata) (table : TableId) → count_of (sizes_of model) table ≡ count_in model table
+pub count_is : (model : Metadata) (table : TableId) → count_of (sizes_of model) table ≡ count_in model table
 unfolding sizes_of
-count_is they model table =
-    get_or-map (count_in model) tables (table_index_of table) Module 0 (omega (arith, they.table_index table, they.count)) ∙ ap (count_in model) (they.stand table)
+count_is model table =
+    get_or-map (count_in model) tables (table_index_of table) Module 0 (omega (arith, table_index_below table, all_tables)) ∙ ap (count_in model) (table_at_index table)
 
 body_is : (model : Metadata) → (sizes_of model).body ≡ header_size (count_by (has_rows model) tables)
 unfolding sizes_of
@@ -105,12 +102,12 @@ pub record AreFound (flat : List (List (List ℕ)) → List ℕ) : Type 0 where
   pub many : (model : Metadata) (sizes : Sizes) → ((table : TableId) → count_of sizes table ≡ count_in model table) → length (flat (numbers model)) ≡ sum_by (cells_of sizes) tables
 
 -- the header and the rows end at the end of the tables
-pub stream_long : TheyStand → {flat : List (List (List ℕ)) → List ℕ} → AreFound flat → (model : Metadata)
+pub stream_long : {flat : List (List (List ℕ)) → List ℕ} → AreFound flat → (model : Metadata)
     → length (header_bytes model ++ tables_bytes (sizes_of model) tables (numbers model)) ≡ tables_end (sizes_of model)
 unfolding tables_size
-stream_long they {flat} found model =
+stream_long {flat} found model =
     let sizes = sizes_of model in
-    let count = count_is they model in
+    let count = count_is model in
     let rows = ap (λ rows. length (tables_bytes sizes tables rows)) (found.back model sizes count) in
     omega (
       arith,
@@ -120,24 +117,6 @@ stream_long they {flat} found model =
       rows,
       length-tables sizes tables (flat (numbers model)) (found.many model sizes count),
     )
-
--- ---- the end of the last table
-
-tables_size_more : TheyStand → (sizes : Sizes) (i : ℕ) → i < 38 → tables_size sizes (take (i + 1) tables) ≡ tables_size sizes (take i tables) + table_size sizes (get_or tables i Module)
-unfolding tables_size
-tables_size_more they sizes i h = sum_by_more (table_size sizes) tables i Module (omega (arith, they.count))
-
-pub last_end : TheyStand → (sizes : Sizes) (count : ℕ) → count ≡ count_of sizes GenericParamConstraint → row_start sizes GenericParamConstraint (count + 1) ≡ tables_end sizes
-last_end they sizes count e =
-    let last : TableId = GenericParamConstraint in
-    let more : tables_size sizes (take 38 tables) ≡ tables_size sizes (take 37 tables) + table_size sizes last =
-    tables_size_more they sizes 37 (lit< tt) ∙ ap (λ (t : TableId). tables_size sizes (take 37 tables) + table_size sizes t) (they.stand last) in
-    let all : tables_size sizes (take 38 tables) ≡ tables_size sizes tables = ap (tables_size sizes) (take_all 38 tables (omega (arith, they.count))) in
-    let size : (count + 1 - 1) * row_width sizes last ≡ table_size sizes last = ap (λ n. n * row_width sizes last) (less_one count ∙ e) in
-    omega (arith, more, all, size)
-  where
-    less_one : (n : ℕ) → n + 1 - 1 ≡ n
-    less_one n = omega arith
 
 -- ---- sizes with the same counts and the same widths
 

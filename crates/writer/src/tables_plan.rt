@@ -34,7 +34,6 @@ impl TablesPlan {
         ensures stream { (model : Metadata) → Describes outline.now model → heap_sizes ≡ (sizes_of model).heap_sizes
             → planned_tables result (flat (numbers model)) ≡ table_stream model }
     {
-        table_schema::laws::tables_stand();
         schema::laws::widths_follow_from_counts();
         root_writer::laws::numbers_are_put();
         root_writer::laws::table_headers_are_put();

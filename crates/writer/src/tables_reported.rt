@@ -13,7 +13,6 @@ use table_schema::{TableId, key};
 pub fn counts<S: ReadMetadata>(source: &S) -> [u32; 45]
     ensures { (table : Table) → slice_index result (table_number table) ≡ S.row_count source.now table }
 {
-    table_schema::laws::tables_stand();
     let mut counts = [0; 45];
     for table in TableId::all() {
         counts[table.number() as usize] = source.count(*table);

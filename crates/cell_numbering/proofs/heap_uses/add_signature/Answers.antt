@@ -1,6 +1,5 @@
 use Rattle.cell_numbering.proofs.Prelude.{refl, arith, HasRow, CellId}
 use Rattle.table_schema.specs.declared.column.ColumnKind.TheVariants.{Signature}
-use Rattle.cell_numbering.proofs.BlobLemmas.{AreLaws}
 use Rattle.cell_numbering.proofs.UseLemmas.{added_known, added_use, signature_use}
 use Rattle.cell_numbering.proofs.heap_uses.add_signature.Goals as goal
 
@@ -12,8 +11,7 @@ returns-in-Some g c = λ model is cells are.
     let index_of = g.S.ReadCells.heap_index c.args.source.now in
     let id : CellId = record { table = table; row = row; cell_index = cell_index } in
     let there : HasRow model table row = (c.requires.first, omega (arith, c.holds_one.ensures.rows model is table, c.requires.last)) in
-    let laws : AreLaws = record { more = c.pooled_are_distinct.ensures.more; again = c.pooled_are_distinct.ensures.again } in
-    added_known index_of model laws c.args.uses.now _ cells id are (c.shared_blobs_are_one.ensures model is) c.in-Some.known (Signature c.args.encoded) c.args.index
+    added_known index_of model c.args.uses.now _ cells id are (c.shared_blobs_are_one.ensures model is) c.in-Some.known (Signature c.args.encoded) c.args.index
     (there, c.requires.cell_index) c.requires.kind c.requires.index c.in-Some.ensures.0 c.in-Some.ensures.1
     refl refl c.in_ok-add_known.ensures.kept c.in_ok-add_known.ensures.of_use
 
@@ -25,9 +23,8 @@ returns g c = λ model is cells are.
     let index_of = g.S.ReadCells.heap_index c.args.source.now in
     let id : CellId = record { table = table; row = row; cell_index = cell_index } in
     let there : HasRow model table row = (c.requires.first, omega (arith, c.holds_one.ensures.rows model is table, c.requires.last)) in
-    let laws : AreLaws = record { more = c.pooled_are_distinct.ensures.more; again = c.pooled_are_distinct.ensures.again } in
     let valid = c.holds_one.ensures.valid model is in
     let can = c.cells_can_be_numbered.ensures.cell model valid table row cell_index there c.requires.cell_index in
-    added_use index_of model laws c.args.uses.now _ cells id are _
+    added_use index_of model c.args.uses.now _ cells id are _
     (signature_use index_of model id c.args.index (there, c.requires.cell_index) can c.requires.index c.args.encoded c.in_ok-bytes.bytes c.requires.kind (c.in_ok-bytes.ensures model is))
     refl refl c.in_ok-add.ensures.kept c.in_ok-add.ensures.of_use

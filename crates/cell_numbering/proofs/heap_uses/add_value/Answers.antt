@@ -1,7 +1,6 @@
 use Rattle.cell_numbering.proofs.Prelude.{◌≡◌, ℕ, List, refl, sym, subst, ◌∙◌, arith, Bor, ColumnKind, Cell, IsOfKind, cell_in, HasRow, kind_at, Shows, CellRef, CellId}
 use Rattle.reading.specs.declared.cell_ref.CellRef.TheVariants as seen
 use Rattle.cell_numbering.proofs.KindLemmas.{has_none, no_value, only_blob, only_text}
-use Rattle.cell_numbering.proofs.BlobLemmas.{AreLaws}
 use Rattle.cell_numbering.proofs.UseLemmas.{added_guid, added_known, added_use, blob_use, unchanged}
 use Rattle.cell_numbering.proofs.heap_uses.add_value.Goals as goal
 
@@ -20,8 +19,7 @@ returns-in-Some g c = λ model is cells are.
     let index_of = g.S.ReadCells.heap_index c.args.source.now in
     let id : CellId = record { table = table; row = row; cell_index = cell_index } in
     let there : HasRow model table row = (c.requires.first, omega (arith, c.holds_one.ensures.rows model is table, c.requires.last)) in
-    let laws : AreLaws = record { more = c.pooled_are_distinct.ensures.more; again = c.pooled_are_distinct.ensures.again } in
-    added_known index_of model laws c.args.uses.now _ cells id are (c.shared_blobs_are_one.ensures model is) c.in-Some.known c.args.kind c.args.index
+    added_known index_of model c.args.uses.now _ cells id are (c.shared_blobs_are_one.ensures model is) c.in-Some.known c.args.kind c.args.index
     (there, c.requires.cell_index) (sym c.requires.kind) c.requires.index c.in-Some.ensures.0 c.in-Some.ensures.1
     refl refl c.in_ok-add_known.ensures.kept c.in_ok-add_known.ensures.of_use
 
@@ -33,7 +31,6 @@ returns-in_ok-add-in-Bytes g c = λ model is cells are.
     let index_of = g.S.ReadCells.heap_index c.args.source.now in
     let id : CellId = record { table = table; row = row; cell_index = cell_index } in
     let there : HasRow model table row = (c.requires.first, omega (arith, c.holds_one.ensures.rows model is table, c.requires.last)) in
-    let laws : AreLaws = record { more = c.pooled_are_distinct.ensures.more; again = c.pooled_are_distinct.ensures.again } in
     let cell = cell_in model table row cell_index in
     let valid = c.holds_one.ensures.valid model is in
     let can = c.cells_can_be_numbered.ensures.cell model valid table row cell_index there c.requires.cell_index in
@@ -42,7 +39,7 @@ returns-in_ok-add-in-Bytes g c = λ model is cells are.
     let has = subst P c.in-Bytes.is (c.cell.ensures model is) in
     let Q : Cell → Type 0 = λ it. IsOfKind (kind_at table cell_index) it in
     let blob = only_blob (kind_at table cell_index) c.in-Bytes.blob.now (subst Q has good.of_kind) in
-    added_use index_of model laws c.args.uses.now _ cells id are _
+    added_use index_of model c.args.uses.now _ cells id are _
     (blob_use index_of model id c.args.index (there, c.requires.cell_index) can c.requires.index c.args.kind c.in-Bytes.blob (sym c.requires.kind) (c.requires.kind ∙ blob) has)
     refl refl c.in_ok-add-in-Bytes.ensures.kept c.in_ok-add-in-Bytes.ensures.of_use
 

@@ -1,10 +1,7 @@
-use Rattle.cell_numbering.proofs.Prelude.{ℕ, ◌≤◌, ◌*◌, ap, length, get_or, arith, mul-le-mul_left, mul-le-mul_right, Module}
+use Rattle.cell_numbering.proofs.Prelude.{◌≤◌, ◌*◌, ap, length, get_or, arith, Module}
+use Rattle.root_writer.proofs.TableLemmas.{cells_low}
 use Rattle.cell_numbering.proofs.numbers.count_numbers.Given.{Over}
 use Rattle.cell_numbering.proofs.numbers.count_numbers.Goals as goal
-
--- a table with at most 9 columns and 0xFFFFFF rows has at most 150994935 numbers
-cells_low : (columns count : ℕ) → columns ≤ 9 → count ≤ 0xFFFFFF → columns * count ≤ 150994935
-cells_low columns count few rows = omega (arith, mul-le-mul_right count few, mul-le-mul_left 9 rows)
 
 few_here : (g : Over) (c : goal.After-count g) → length c.columns.result.now * c.count.result ≤ 150994935
 few_here g c =

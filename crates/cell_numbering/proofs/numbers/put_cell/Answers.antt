@@ -1,43 +1,27 @@
 use Rattle.cell_numbering.proofs.Prelude.{◌≡◌, ◌<◌, Option, None, length, sym, ap, subst, ◌∙◌, arith, IfSome, get_or_read, not_there, on_ok_weaker, ColumnKind, cell_in, HasRow, kind_at, Shows, cell_number, no_pools, with_number}
 use Rattle.cell_numbering.specs.PlainColumns.{IsPlainIn, IsPlainNumber, Plain, number_in}
-use Rattle.cell_numbering.proofs.KindLemmas.{IsPlainKind, next_text, next_guid, next_blob, next_signature, next_plain, plain_cell}
+use Rattle.cell_numbering.proofs.KindLemmas.{IsPlainKind, cell_fits, next_text, next_guid, next_blob, next_signature, next_plain, plain_cell}
 use Rattle.cell_numbering.proofs.numbers.put_cell.Goals as goal
 
 pub returns-in-Text-clause-ok : goal.returns-in-Text-clause-ok
 returns-in-Text-clause-ok g c = λ model is.
-    let table = c.args.table in
-    let cell_index = c.args.cell_index in
-    let cell = cell_in model table c.args.row cell_index in
-    let there : HasRow model table c.args.row = (c.requires.first, omega (arith, c.holds_one.ensures.rows model is table, c.requires.last)) in
-    let good = (c.holds_one.ensures.valid model is).cells table c.args.row cell_index there c.requires.cell_index in
-    on_ok_weaker c.put_text.result (λ e. e ∙ sym (next_text c.args.indexes (kind_at table cell_index) cell c.args.so_far.now good.of_kind (sym c.kind_of-kind.ensures ∙ c.in-Text.is))) c.put_text.ensures
+    let of_kind = cell_fits model (c.holds_one.ensures.valid model is) c.args.table c.args.row c.args.cell_index _ (c.holds_one.ensures.rows model is c.args.table) c.requires.first c.requires.last c.requires.cell_index in
+    on_ok_weaker c.put_text.result (λ e. e ∙ sym (next_text c.args.indexes _ _ c.args.so_far.now of_kind (sym c.kind_of-kind.ensures ∙ c.in-Text.is))) c.put_text.ensures
 
 pub returns-in-Guid-clause-ok : goal.returns-in-Guid-clause-ok
 returns-in-Guid-clause-ok g c = λ model is.
-    let table = c.args.table in
-    let cell_index = c.args.cell_index in
-    let cell = cell_in model table c.args.row cell_index in
-    let there : HasRow model table c.args.row = (c.requires.first, omega (arith, c.holds_one.ensures.rows model is table, c.requires.last)) in
-    let good = (c.holds_one.ensures.valid model is).cells table c.args.row cell_index there c.requires.cell_index in
-    on_ok_weaker c.put_guid.result (λ e. e ∙ sym (next_guid c.args.indexes (kind_at table cell_index) cell c.args.so_far.now good.of_kind (sym c.kind_of-kind.ensures ∙ c.in-Guid.is))) c.put_guid.ensures
+    let of_kind = cell_fits model (c.holds_one.ensures.valid model is) c.args.table c.args.row c.args.cell_index _ (c.holds_one.ensures.rows model is c.args.table) c.requires.first c.requires.last c.requires.cell_index in
+    on_ok_weaker c.put_guid.result (λ e. e ∙ sym (next_guid c.args.indexes _ _ c.args.so_far.now of_kind (sym c.kind_of-kind.ensures ∙ c.in-Guid.is))) c.put_guid.ensures
 
 pub returns-in-Blob-clause-ok : goal.returns-in-Blob-clause-ok
 returns-in-Blob-clause-ok g c = λ model is.
-    let table = c.args.table in
-    let cell_index = c.args.cell_index in
-    let cell = cell_in model table c.args.row cell_index in
-    let there : HasRow model table c.args.row = (c.requires.first, omega (arith, c.holds_one.ensures.rows model is table, c.requires.last)) in
-    let good = (c.holds_one.ensures.valid model is).cells table c.args.row cell_index there c.requires.cell_index in
-    on_ok_weaker c.put_blob.result (λ e. e ∙ sym (next_blob c.args.indexes (kind_at table cell_index) cell c.args.so_far.now good.of_kind (sym c.kind_of-kind.ensures ∙ c.in-Blob.is))) c.put_blob.ensures
+    let of_kind = cell_fits model (c.holds_one.ensures.valid model is) c.args.table c.args.row c.args.cell_index _ (c.holds_one.ensures.rows model is c.args.table) c.requires.first c.requires.last c.requires.cell_index in
+    on_ok_weaker c.put_blob.result (λ e. e ∙ sym (next_blob c.args.indexes _ _ c.args.so_far.now of_kind (sym c.kind_of-kind.ensures ∙ c.in-Blob.is))) c.put_blob.ensures
 
 pub returns-in-Signature-clause-ok : goal.returns-in-Signature-clause-ok
 returns-in-Signature-clause-ok g c = λ model is.
-    let table = c.args.table in
-    let cell_index = c.args.cell_index in
-    let cell = cell_in model table c.args.row cell_index in
-    let there : HasRow model table c.args.row = (c.requires.first, omega (arith, c.holds_one.ensures.rows model is table, c.requires.last)) in
-    let good = (c.holds_one.ensures.valid model is).cells table c.args.row cell_index there c.requires.cell_index in
-    on_ok_weaker c.put_blob-in-Signature.result (λ e. e ∙ sym (next_signature c.args.indexes (kind_at table cell_index) cell c.args.so_far.now good.of_kind c.in-Signature.field-0 (sym c.kind_of-kind.ensures ∙ c.in-Signature.is))) c.put_blob-in-Signature.ensures
+    let of_kind = cell_fits model (c.holds_one.ensures.valid model is) c.args.table c.args.row c.args.cell_index _ (c.holds_one.ensures.rows model is c.args.table) c.requires.first c.requires.last c.requires.cell_index in
+    on_ok_weaker c.put_blob-in-Signature.result (λ e. e ∙ sym (next_signature c.args.indexes _ _ c.args.so_far.now of_kind c.in-Signature.field-0 (sym c.kind_of-kind.ensures ∙ c.in-Signature.is))) c.put_blob-in-Signature.ensures
 
 pub plain_number-requires : goal.plain_number-requires
 plain_number-requires g c = λ none. not_there c.holds_one.ensures.shown (λ some.

@@ -1,5 +1,5 @@
 use Rattle.cell_numbering.proofs.Prelude.{◌+◌, ◌<◌, ◌≤◌, List, length, get_or, drop, ap, ◌∙◌, arith, TableId, Module, tables, columns_of, rows_of, SoFar, with_rows, with_tables}
-use Rattle.cell_numbering.proofs.CellIndexLemmas.{tables_left, tables_done}
+use Rattle.cell_numbering.proofs.CellIndexLemmas.{next_left, none_left}
 use Rattle.cell_numbering.proofs.numbers.put_tables.Goals as goal
 
 pub loop-table-preserved : goal.loop-table-preserved
@@ -11,10 +11,10 @@ loop-table-preserved g c = λ model is.
     let at = ap (λ (listed : List TableId). get_or listed i Module) items.ensures.value in
     ap (λ (n : SoFar). with_tables indexes model (drop (i + 1) tables) n)
     (c.in_ok-put_rows.ensures model is ∙ ap (λ (t : TableId). with_rows indexes (columns_of t) (rows_of model t) c.loop-table.so_far) at)
-    ∙ tables_left indexes model i c.loop-table.so_far _ below (c.loop-table.invariant model is)
+    ∙ next_left (λ (listed : List TableId). with_tables indexes model listed c.loop-table.so_far) tables i Module _ below (c.loop-table.invariant model is)
 
 pub returns : goal.returns
 returns g c = λ model is.
     let i = c.loop-table.table-index in
     let past : length tables ≤ i = omega (arith, ap length c.all-table-items.ensures.value, c.loop-table-test.false) in
-    tables_done c.args.indexes model i c.loop-table.so_far _ past (c.loop-table.invariant model is)
+    none_left (λ (listed : List TableId). with_tables c.args.indexes model listed c.loop-table.so_far) tables i _ past (c.loop-table.invariant model is)

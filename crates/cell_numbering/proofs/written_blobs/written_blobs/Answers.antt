@@ -1,7 +1,8 @@
 use Rattle.std.proofs.Common.{◌≡◌, ◌+◌, ◌<◌, ◌≤◌, ◌^◌, [], ℕ, List, All, Err, length, get_or, take, drop, slice_index, sym, ap, subst, ◌∙◌, rules, arith}
 use Rattle.cell_numbering.proofs.Prelude.{lt_of_not-le, length-map, take-append-drop, take_all, Full, blob_heap, distinct, used_at, AllZip, BlobUse, all_bytes, bytes_at, bytes_in, IsUseOf}
 use Rattle.cell_numbering.proofs.EqualLemmas.{stable}
-use Rattle.cell_numbering.proofs.UseLemmas.{zip_at, zip_length}
+use Rattle.std.proofs.lemmas.Slice.Zip.{AllZip-long}
+use Rattle.cell_numbering.proofs.UseLemmas.{zip_at}
 use Rattle.cell_numbering.proofs.WrittenLemmas.{earlier_blob, next_blob, short_blobs}
 use Rattle.cell_numbering.proofs.written_blobs.written_blobs.Goals as goal
 
@@ -72,5 +73,5 @@ loop-use_index-preserved c =
 pub returns-clause-blobs : goal.returns-clause-blobs
 returns-clause-blobs c = λ blobs all.
     let i = c.loop-use_index.use_index in
-    let past : length blobs ≤ i = omega (arith, zip_length IsUseOf c.args.uses.now blobs all, c.loop-use_index-test.false) in
+    let past : length blobs ≤ i = omega (arith, AllZip-long IsUseOf c.args.uses.now blobs all, c.loop-use_index-test.false) in
     c.loop-use_index.invariant.blobs blobs all ∙ take_all i blobs past

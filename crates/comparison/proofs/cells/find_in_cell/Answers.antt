@@ -1,38 +1,43 @@
-use Rattle.std.proofs.Common.{◌≢◌, ◌∙◌, length, sym, arith}
-use Rattle.comparison.proofs.CellSteps.{cell_differs, cell_ignored, cell_same}
-use Rattle.comparison.proofs.GrowthLemmas.{grows_full}
+use Rattle.std.proofs.Common.{◌≢◌, ◌∙◌, [], ◌∷◌, length, refl, sym, ap, cond, arith}
+use Rattle.comparison.proofs.Prelude.{Progress, IsProgress}
+use Rattle.comparison.specs.declared.difference.Difference.TheVariants.{Cell}
+use Rattle.comparison.proofs.CellSteps.{cell_ignored, cell_is, no_room, nothing_found, one_found}
 use Rattle.comparison.proofs.cells.find_in_cell.Goals as goal
+use Rattle.comparison.proofs.cells.find_in_cell.Goals.{In_ok-same}
 
-pub returns-then-contains-clause-sound : goal.returns-then-contains-clause-sound
-returns-then-contains-clause-sound c = λ first second is also.
-    cell_ignored c.args.ignored.now first second c.args.table c.args.row c.args.cell_index c.args.limit c.args.found.now.items c.requires.few (sym c.contains.ensures ∙ c.if-contains.true)
+pub returns-then-contains-clause-found : goal.returns-then-contains-clause-found
+returns-then-contains-clause-found c =
+    nothing_found c.args.comparison.now c.args.progress.now _ c.requires.progress
+    (λ first second one other. cell_ignored c.args.comparison.now.ignored.now first second c.args.cell.table c.args.cell.row c.args.cell.index (sym c.contains.ensures ∙ c.if-contains.true))
 
-pub returns-then-same-clause-sound : goal.returns-then-same-clause-sound
-returns-then-same-clause-sound c = λ first second is also.
-    let tested = c.in_ok-same.ensures.same first second is also in
-    cell_same c.args.ignored.now first second c.args.table c.args.row c.args.cell_index c.in_ok-same.same (sym c.contains.ensures ∙ c.if-contains.false) tested c.args.limit c.args.found.now.items c.requires.few c.if-same.true
+-- what the comparison of the cell leaves
+compared : In_ok-same → Progress
+compared c = record { cells = c.is_same_in_row.new.cells; compared = c.is_same_in_row.new.compared; found = c.args.progress.now.found }
 
-pub returns-then-len-limit-clause-sound : goal.returns-then-len-limit-clause-sound
-returns-then-len-limit-clause-sound c = λ first second is also. grows_full c.args.limit c.args.found.now.items _ (omega (arith, c.len.ensures, c.if-len-limit.true))
+still : (c : In_ok-same) → IsProgress c.args.comparison.now (compared c)
+unfolding compared
+still c = record { cells = c.in_ok-same.ensures.cells; names = c.in_ok-same.ensures.compared.1; few = c.requires.progress.few; there = c.requires.progress.there }
 
-pub returns-clause-sound : goal.returns-clause-sound
-returns-clause-sound c = λ first second is also.
-    let tested = c.in_ok-same.ensures.same first second is also in
-    let room : length c.args.found.now.items ≢ c.args.limit = λ full. c.if-len-limit.false (omega (arith, c.len.ensures, full)) in
-    cell_differs c.args.ignored.now first second c.args.table c.args.row c.args.cell_index c.in_ok-same.same (sym c.contains.ensures ∙ c.if-contains.false) tested c.args.limit c.args.found.now.items c.push.new.self.items c.requires.few room c.if-same.false
-    c.in_ok-push.ensures.items
+pub returns-then-same-clause-found : goal.returns-then-same-clause-found
+unfolding compared
+returns-then-same-clause-found c =
+    let cell = c.args.cell in
+    nothing_found c.args.comparison.now (compared (goal.at.returns-then-same-clause-found c).In_ok-same) _ (still (goal.at.returns-then-same-clause-found c).In_ok-same)
+    (λ first second one other. cell_is c.args.comparison.now.ignored.now first second cell.table cell.row cell.index c.in_ok-same.same (sym c.contains.ensures ∙ c.if-contains.false) (c.in_ok-same.ensures.same first second one other)
+    ∙ ap (λ t. cond t [] (Cell cell.table cell.row cell.index ∷ [])) c.if-same.true)
 
-pub returns-then-contains-clause-compared : goal.returns-then-contains-clause-compared
-returns-then-contains-clause-compared c = c.requires.compared
+pub returns-then-len-comparison-clause-found : goal.returns-then-len-comparison-clause-found
+unfolding compared
+returns-then-len-comparison-clause-found c =
+    no_room c.args.comparison.now (compared (goal.at.returns-then-len-comparison-clause-found c).In_ok-same) _ (still (goal.at.returns-then-len-comparison-clause-found c).In_ok-same)
+    (omega (arith, c.len.ensures, c.if-len-comparison.true))
 
-pub is_same_in_row-requires-clause-compared : goal.is_same_in_row-requires-clause-compared
-is_same_in_row-requires-clause-compared c = c.requires.compared
-
-pub returns-then-same-clause-compared : goal.returns-then-same-clause-compared
-returns-then-same-clause-compared c = c.in_ok-same.ensures.compared
-
-pub returns-then-len-limit-clause-compared : goal.returns-then-len-limit-clause-compared
-returns-then-len-limit-clause-compared c = c.in_ok-same.ensures.compared
-
-pub returns-clause-compared : goal.returns-clause-compared
-returns-clause-compared c = c.in_ok-same.ensures.compared
+pub returns-clause-found : goal.returns-clause-found
+unfolding compared
+returns-clause-found c =
+    let cell = c.args.cell in
+    let room : length c.args.progress.now.found.items ≢ c.args.comparison.now.limit = λ full. c.if-len-comparison.false (omega (arith, c.len.ensures, full)) in
+    one_found c.args.comparison.now (compared (goal.at.returns-clause-found c).In_ok-same) _ (Cell cell.table cell.row cell.index) _ (still (goal.at.returns-clause-found c).In_ok-same) room refl refl c.in_ok-push.ensures.items
+    (c.requires.row.first, c.requires.row.left_last, c.requires.row.right_last, c.requires.index)
+    (λ first second one other. cell_is c.args.comparison.now.ignored.now first second cell.table cell.row cell.index c.in_ok-same.same (sym c.contains.ensures ∙ c.if-contains.false) (c.in_ok-same.ensures.same first second one other)
+    ∙ ap (λ t. cond t [] (Cell cell.table cell.row cell.index ∷ [])) c.if-same.false)

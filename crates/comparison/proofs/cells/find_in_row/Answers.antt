@@ -1,47 +1,31 @@
-use Rattle.std.proofs.Common.{◌≡◌, ◌∙◌, ℕ, List, subst, sym, arith}
-use Rattle.comparison.proofs.Prelude.{cell_count, IsModel, source_of, AreAlike, Difference, Grows, cell_difference}
-use Rattle.comparison.proofs.GrowthLemmas.{grows_nothing}
-use Rattle.comparison.proofs.CellSteps.{number_found, row_is, there_kept}
-use Rattle.comparison.proofs.ComparedLemmas.{outcomes_kept}
+use Rattle.std.proofs.Common.{◌≡◌, refl, arith}
+use Rattle.comparison.proofs.Prelude.{cell_count, cell_difference}
+use Rattle.comparison.proofs.GrowthLemmas.{number_more}
+use Rattle.comparison.proofs.CellSteps.{found_as, found_more, no_room, nothing_found, row_is}
 use Rattle.comparison.proofs.cells.find_in_row.Goals as goal
 
-pub is_same_row-requires-clause-alike : goal.is_same_row-requires-clause-alike
-is_same_row-requires-clause-alike c = λ true.
-    subst (λ (root : List ℕ). AreAlike (source_of c.view.result.now) (source_of root) c.args.table) (sym c.view-2.ensures.view)
-    (subst (λ (root : List ℕ). AreAlike (source_of root) (source_of c.args.right.now) c.args.table) (sym c.view.ensures.view) (c.requires.alike true))
+pub returns-then-len-comparison-clause-found : goal.returns-then-len-comparison-clause-found
+returns-then-len-comparison-clause-found c = no_room c.args.comparison.now c.args.progress.now _ c.requires.progress (omega (arith, c.len.ensures, c.if-len-comparison.true))
 
-pub returns-then-is_same_row-clause-sound : goal.returns-then-is_same_row-clause-sound
-returns-then-is_same_row-clause-sound c = λ first second is also.
-    let none = c.is_same_row.ensures c.if-is_same_row.true c.args.ignored.now first second
-    (subst (λ (root : List ℕ). IsModel root first) (sym c.view.ensures.view) is)
-    (subst (λ (root : List ℕ). IsModel root second) (sym c.view-2.ensures.view) also) in
-    subst (λ (more : List Difference). Grows c.args.limit c.args.found.now.items c.args.found.now.items more) (sym none)
-    (grows_nothing c.args.limit c.args.found.now.items c.requires.few)
+pub returns-then-is_same_row-clause-found : goal.returns-then-is_same_row-clause-found
+returns-then-is_same_row-clause-found c =
+    nothing_found c.args.comparison.now c.args.progress.now _ c.requires.progress (c.is_same_row.ensures c.if-is_same_row.true c.args.comparison.now.ignored.now)
 
-pub find_in_cell-requires-clause-compared : goal.find_in_cell-requires-clause-compared
-find_in_cell-requires-clause-compared c =
-    let loop = c.loop-cell_index.invariant in
-    outcomes_kept c.loop-cell_index.left c.args.left.now c.loop-cell_index.right c.args.right.now c.args.table c.loop-cell_index.compared (sym loop.left) (sym loop.right) loop.compared
+pub loop-index-init : goal.loop-index-init
+loop-index-init c = record {
+  found = nothing_found c.args.comparison.now c.args.progress.now _ c.requires.progress (λ first second one other. refl);
+  outcomes = c.requires.outcomes;
+}
 
-pub loop-cell_index-preserved : goal.loop-cell_index-preserved
-loop-cell_index-preserved c =
-    let loop = c.loop-cell_index.invariant in
-    record {
-      left = c.find_in_cell.ensures.left ∙ loop.left;
-      right = c.find_in_cell.ensures.right ∙ loop.right;
-      compared = outcomes_kept c.args.left.now c.loop-cell_index.left c.args.right.now c.loop-cell_index.right c.args.table c.find_in_cell.new.compared loop.left loop.right
-          c.in_ok-find_in_cell.ensures.compared;
-      few = c.in_ok-find_in_cell.ensures.few;
-      there = λ all. there_kept c.args.left.now c.loop-cell_index.left c.args.right.now c.loop-cell_index.right c.loop-cell_index.found.items c.find_in_cell.new.found.items loop.left loop.right
-          c.in_ok-find_in_cell.ensures.there (loop.there all);
-      found = λ first second is also.
-          number_found (cell_difference c.args.ignored.now first second c.args.table c.args.row) 0 c.loop-cell_index.cell_index c.loop-cell_index.cell_index c.args.limit
-          c.args.found.now.items c.loop-cell_index.found.items c.find_in_cell.new.found.items (omega arith) (loop.found first second is also)
-          (c.in_ok-find_in_cell.ensures.sound first second (subst (λ (root : List ℕ). IsModel root first) (sym loop.left) is) (subst (λ (root : List ℕ). IsModel root second) (sym loop.right) also));
-    }
+pub loop-index-preserved : goal.loop-index-preserved
+loop-index-preserved c = record {
+  found = found_more c.args.comparison.now c.args.progress.now.found.items c.loop-index.progress c.find_in_cell.new.progress _ _ _ c.loop-index.invariant.found c.in_ok-find_in_cell.ensures.found
+      (λ first second. number_more (cell_difference c.args.comparison.now.ignored.now first second c.args.table c.args.row) 0 c.loop-index.index c.loop-index.index (omega arith));
+  outcomes = c.in_ok-find_in_cell.ensures.outcomes;
+}
 
-pub returns-clause-sound : goal.returns-clause-sound
-returns-clause-sound c = λ first second is also.
-    let all : c.loop-cell_index.cell_index ≡ cell_count c.args.table = omega (arith, c.cell_count-cell_index-end.ensures, c.loop-cell_index-test.false, c.loop-cell_index.auto.cell_index-end) in
-    subst (λ (more : List Difference). Grows c.args.limit c.args.found.now.items c.loop-cell_index.found.items more) (row_is c.args.ignored.now first second c.args.table c.args.row c.loop-cell_index.cell_index all)
-    (c.loop-cell_index.invariant.found first second is also)
+pub returns-clause-found : goal.returns-clause-found
+returns-clause-found c =
+    let all : c.loop-index.index ≡ cell_count c.args.table = omega (arith, c.cell_count-index-end.ensures, c.loop-index-test.false, c.loop-index.auto.index-end) in
+    found_as c.args.comparison.now c.args.progress.now.found.items c.loop-index.progress _ _ c.loop-index.invariant.found
+    (λ first second one other. row_is c.args.comparison.now.ignored.now first second c.args.table c.args.row c.loop-index.index all)

@@ -1,14 +1,9 @@
-use Rattle.comparison.proofs.Prelude.{◌≡◌, ◌≤◌, All, length, flat_map, range_with_len, Metadata, IsModel, AreOutcomes}
-use Rattle.comparison.specs.Differences.{Grows, IsThere, row_differences}
+use Rattle.comparison.proofs.Prelude.{flat_map, range_with_len, AreOutcomes, Extends, row_differences}
 use Rattle.comparison.proofs.cells.find_in_table.Given as goal
 
 abbrev pub invariant-loop-earlier : goal.invariant-loop-earlier
 invariant-loop-earlier l = record {
-  left : l.left ≡ l.initial.left;
-  right : l.right ≡ l.initial.right;
-  compared : AreOutcomes l.initial.left l.initial.right l.table l.compared;
-  few : length l.found.items ≤ l.limit;
-  there : All (IsThere l.initial.left l.initial.right) l.initial.found.items → All (IsThere l.initial.left l.initial.right) l.found.items;
-  found : (first second : Metadata) → IsModel l.initial.left first → IsModel l.initial.right second
-      → Grows l.limit l.initial.found.items l.found.items (flat_map (row_differences l.ignored first second l.table) (range_with_len 1 l.earlier));
+  found : Extends l.comparison l.initial.progress.found.items l.progress
+      (λ first second. flat_map (row_differences l.comparison.ignored.now first second l.table) (range_with_len 1 l.earlier));
+  outcomes : AreOutcomes l.comparison.left.now l.comparison.right.now l.table l.progress.compared;
 }

@@ -2,17 +2,9 @@ use Rattle.owned_model.proofs.Prelude.{◌<◌, ℕ, length, Option, ◌∙◌, 
 use Rattle.owned_model.proofs.RefRowLemmas.{cells_few, one_more}
 use Rattle.owned_model.proofs.row_values.values_of.Goals as goal
 
-pub offset_bounds-values-cell_index : goal.offset_bounds-values-cell_index
-offset_bounds-values-cell_index c =
-    omega (arith, cells_few c.args.table (c.columns_stand.ensures.few c.args.table), c.cell_count-cell_index-end.ensures, c.loop-cell_index-test.true)
-
-pub bounds-values-cell_index : goal.bounds-values-cell_index
-bounds-values-cell_index c =
-    omega (arith, cells_few c.args.table (c.columns_stand.ensures.few c.args.table), c.cell_count-cell_index-end.ensures, c.loop-cell_index-test.true)
-
 pub loop-cell_index-preserved : goal.loop-cell_index-preserved
 loop-cell_index-preserved c =
-    let few = cells_few c.args.table (c.columns_stand.ensures.few c.args.table) in
+    let few = cells_few c.args.table in
     let within : c.loop-cell_index.cell_index < length c.loop-cell_index.values =
     omega (arith, few, c.cell_count-cell_index-end.ensures, c.loop-cell_index-test.true, c.loop-cell_index.invariant.long) in
     record {

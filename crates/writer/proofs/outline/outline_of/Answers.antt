@@ -1,5 +1,5 @@
 use Rattle.writer.proofs.Prelude.{ap, sym, ◌∙◌, arith, length, ∥∥₁_elim, le_prop}
-use Rattle.writer.proofs.PaddingLemmas.{padding_adds}
+use Rattle.writer.proofs.LengthLemmas.{padding_adds}
 use Rattle.writer.proofs.outline.outline_of.Goals as goal
 
 pub invariant_of-result : goal.invariant_of-result

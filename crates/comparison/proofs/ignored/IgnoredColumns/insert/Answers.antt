@@ -7,4 +7,4 @@ returns-clause-added c = marked c.args.self.now.marks c.mark_of.result c.args.ce
 
 pub returns-clause-others : goal.returns-clause-others
 returns-clause-others c =
-    others_kept c.tables_stand.ensures.stand c.tables_stand.ensures.rise c.columns_stand.ensures.few c.args.self.now c.mark_of.result c.args.cell_index c.args.table c.mark_of.ensures.value c.requires
+    others_kept c.tables_stand.ensures.stand c.tables_stand.ensures.rise c.args.self.now c.mark_of.result c.args.cell_index c.args.table c.mark_of.ensures.value c.requires

@@ -1,5 +1,5 @@
 use Rattle.owned_model.proofs.Prelude.{length, ap, arith, length-map, row_of, said}
-use Rattle.owned_model.proofs.CellLemmas.{item_said}
+use Rattle.tables.proofs.CellCheckLemmas.{item_said}
 use Rattle.owned_model.proofs.valid_model.Model.cell.Goals as goal
 
 pub bounds-cells-cell_index : goal.bounds-cells-cell_index

@@ -1,6 +1,7 @@
 use Rattle.root_writer.proofs.Prelude.{◌≡◌, ◌<◌, ◌≤◌, length, get_or, subst, arith, columns_of, col, Sizes, width_of, number_bytes, Puts}
 use Rattle.table_schema.specs.declared.column.ColumnKind.TheVariants as kind
-use Rattle.root_writer.proofs.RowLemmas.{length-number_bytes, here_fits, put_next, put_all, row_more, row_end}
+use Rattle.schema.proofs.NumberLemmas.{length-number_bytes}
+use Rattle.root_writer.proofs.RowLemmas.{here_fits, put_next, put_all, row_more, row_end}
 use Rattle.root_writer.proofs.writer.Writer.put_row.Goals as goal
 
 pub put_number-requires-clause-room : goal.put_number-requires-clause-room

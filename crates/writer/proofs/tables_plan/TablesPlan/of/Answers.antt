@@ -1,7 +1,7 @@
 use Rattle.writer.proofs.Prelude.{◌≡◌, ℕ, List, get_or, sym, ap, ◌∙◌, TableId, tables, table_index_of, Sizes, count_of, tables_bytes, Metadata, count_in, numbers, sizes_of, table_header, flat, IsTablesPlan}
 use Rattle.writer.specs.Outlined.{Describes}
-use Rattle.writer.proofs.StandLemmas.{TheyStand}
-use Rattle.writer.proofs.TableLemmas.{AreAlike, AreFound, count_is, stream_long, last_end, end_alike}
+use Rattle.schema.proofs.TableLayoutLemmas.{last_end}
+use Rattle.writer.proofs.TableLemmas.{AreAlike, AreFound, count_is, stream_long, end_alike}
 use Rattle.writer.proofs.PlanLemmas.{counts_are, body_is, sorted_is, stream_is}
 use Rattle.writer.proofs.tables_plan.TablesPlan.of.Goals as goal
 use Rattle.writer.proofs.tables_plan.TablesPlan.of.Goals.{After-row_start-len}
@@ -13,14 +13,12 @@ each c model described table = c.of-layout.ensures.each table ∙ described.coun
 plan_is : (c : After-row_start-len) (model : Metadata) → Describes c.args.outline.now model → c.args.heap_sizes ≡ (sizes_of model).heap_sizes
     → IsTablesPlan model (record { layout = c.of-layout.result; heap_sizes = c.args.heap_sizes; sorted = c.args.outline.now.sorted; len = c.row_start-len.result })
 plan_is c model described is =
-    let stand = c.tables_stand.ensures in
-    let they : TheyStand = record { count = stand.count; table_index = stand.table_index; number = stand.number; stand = stand.stand; rise = stand.rise } in
     let found : AreFound flat = record { back = c.numbers_are_put.ensures.back; many = c.numbers_are_put.ensures.many } in
     let sizes : Sizes = c.of-layout.result in
     let counts = described.counts in
     let value = c.of-layout.ensures.value in
     let widths : sizes.heap_sizes ≡ (sizes_of model).heap_sizes = ap (λ (s : Sizes). s.heap_sizes) value ∙ is in
-    let same = λ (table : TableId). each c model described table ∙ sym (count_is they model table) in
+    let same = λ (table : TableId). each c model described table ∙ sym (count_is model table) in
     let alike : AreAlike sizes (sizes_of model) = record {
       counts = same;
       widths = c.widths_follow_from_counts.ensures.width sizes (sizes_of model) (record { counts = same; heap_sizes = widths });
@@ -31,7 +29,7 @@ plan_is c model described is =
       widths = widths;
       heap_sizes = is;
       sorted = described.sorted ∙ sym (sorted_is model);
-      len = c.row_start-len.ensures ∙ last_end they sizes c.count.result c.count.ensures.value ∙ end_alike sizes (sizes_of model) alike ∙ sym (stream_long they found model);
+      len = c.row_start-len.ensures ∙ last_end sizes c.count.result c.count.ensures.value ∙ end_alike sizes (sizes_of model) alike ∙ sym (stream_long found model);
     }
 
 pub returns-clause-plan : goal.returns-clause-plan

@@ -2,7 +2,7 @@ use Rattle.std.proofs.Common.{◌≡◌, ◌∙◌, List, [], ◌∷◌, take, s
 use Rattle.comparison.proofs.Prelude.{IfSome, IfNone, Difference}
 use Rattle.comparison.proofs.OutlineLemmas.{outline_counts, outline_user, outline_version}
 use Rattle.comparison.proofs.PaddingLemmas.{parts_differ, parts_same, unzero}
-use Rattle.comparison.proofs.outlines.outline_difference.Goals as goal
+use Rattle.comparison.proofs.all.outline_difference.Goals as goal
 
 pub returns-then-ne-clause-first : goal.returns-then-ne-clause-first
 returns-then-ne-clause-first c = λ first second is also.

@@ -1,6 +1,7 @@
 use Rattle.comparison.proofs.Prelude.{◌∙◌, ap, length, sym, arith, Decides-eqb, outline_differences}
-use Rattle.comparison.proofs.EqualLemmas.{nothing_long, outline_none, outline_some}
-use Rattle.comparison.proofs.equal.is_equal.Goals as goal
+use Rattle.std.proofs.lemmas.List.{nil_from_length}
+use Rattle.comparison.proofs.EqualLemmas.{outline_none, outline_some}
+use Rattle.comparison.proofs.all.is_equal.Goals as goal
 
 pub returns-then-is_some : goal.returns-then-is_some
 returns-then-is_some c = λ first second is also.
@@ -20,6 +21,6 @@ returns c = λ first second is also.
     let found = c.in_ok-found.ensures.sound first second is also in (
       (λ empty.
           let zero = (Decides-eqb c.in_ok-found.found.len 0).0 (sym c.is_empty.ensures ∙ empty) in
-          law.0 (outline, sym found ∙ nothing_long c.in_ok-found.found.items (sym c.in_ok-found.found.ok.0 ∙ zero))),
+          law.0 (outline, sym found ∙ nil_from_length c.in_ok-found.found.items (sym c.in_ok-found.found.ok.0 ∙ zero))),
       (λ same. c.is_empty.ensures ∙ (Decides-eqb c.in_ok-found.found.len 0).1 (c.in_ok-found.found.ok.0 ∙ ap length (found ∙ (law.1 same).1))),
     )

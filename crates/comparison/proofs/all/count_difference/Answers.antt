@@ -1,7 +1,7 @@
 use Rattle.std.proofs.Common.{◌≡◌, ◌∙◌, ◌<◌, ◌≤◌, List, ap, length, get_or, sym, arith}
 use Rattle.comparison.proofs.Prelude.{flat_map, take_all, TableId, Module, tables, RowCount, count_difference}
 use Rattle.comparison.proofs.OutlineLemmas.{count_differs, count_same, first_found, none_more}
-use Rattle.comparison.proofs.outlines.count_difference.Goals as goal
+use Rattle.comparison.proofs.all.count_difference.Goals as goal
 
 pub returns-then-left_count-right_count-clause-first : goal.returns-then-left_count-right_count-clause-first
 returns-then-left_count-right_count-clause-first c = λ first second is also.
