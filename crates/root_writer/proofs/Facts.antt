@@ -1,5 +1,5 @@
 -- The laws of the crates below, as one record.
-use Rattle.root_writer.proofs.Prelude.{◌≡◌, ℕ, ◌+◌, ◌-◌, ◌*◌, ◌^◌, ◌<◌, ◌≤◌, Bool, true, List, [], ◌++◌, length, get_or, All, Contains, IsUtf8, ◌⊎◌, Some, IsNumber, TableId, Module, Coded, Column, tables, table_index_of, table_number, columns_of, column_at, key_of, IsReference, MayBeNull, tables_of, tag_bits, Sizes, number_bytes, row_bytes, bits_of, fields_of, FitRow, blob_heap, blob_index, distinct, HasNoNul, IsBlob, IsGuid, IsText, guid_heap, guid_index, holders, text_heap, text_index, Body, Holds, Encodes, IsEncodable, short}
+use Rattle.root_writer.proofs.Prelude.{◌≡◌, ℕ, ◌+◌, ◌^◌, ◌<◌, Bool, List, [], ◌++◌, length, All, Contains, IsUtf8, ◌⊎◌, Some, IsNumber, TableId, Column, tables, Sizes, number_bytes, row_bytes, bits_of, fields_of, FitRow, blob_heap, blob_index, distinct, HasNoNul, IsBlob, IsGuid, IsText, guid_heap, guid_index, holders, text_heap, text_index, Body, Holds, Encodes, IsEncodable, short}
 use Rattle.table_schema.specs.declared.column.SigKind.{SigKind}
 use Rattle.schema.specs.Header.{has_bit}
 
@@ -11,16 +11,6 @@ pub record Facts : Type 0 where
   pub guid : (entries : List (List ℕ)) (guid tail : List ℕ) → Contains entries guid → All (λ entry. length entry ≡ 16) entries
       → IsGuid (guid_heap entries ++ tail) (guid_index entries (Some guid)) (Some guid)
   pub pooled : (used : List (List ℕ)) (value : List ℕ) → Contains used value → 0 < length value → Contains (distinct used) value
-  pub count : length tables ≡ 38
-  pub table_index : (table : TableId) → table_index_of table < 38
-  pub stand : (table : TableId) → get_or tables (table_index_of table) Module ≡ table
-  pub rise : (lower higher : TableId) → table_index_of lower < table_index_of higher → table_number lower < table_number higher
-  pub key : (table : TableId) (column : ℕ) → key_of table ≡ Some column → column < length (columns_of table)
-  pub reference : (table : TableId) (column : ℕ) → key_of table ≡ Some column → IsReference (column_at table column)
-  pub null : (table : TableId) (column : ℕ) → column < length (columns_of table) → (column_at table column).nullable ≡ true → MayBeNull (column_at table column)
-  pub few : (coded : Coded) → length (tables_of coded) ≤ 2 ^ tag_bits coded
-  pub narrow : (coded : Coded) → 2 ^ tag_bits coded * 2 ^ (16 - tag_bits coded) ≡ 2 ^ 16
-  pub wide : (coded : Coded) → 2 ^ tag_bits coded * 2 ^ 24 ≤ 2 ^ 32
   pub encoded : (width number : ℕ) → number < 256 ^ width → IsNumber width (number_bytes width number) number
   pub cut : (sizes : Sizes) (columns : List Column) (row : List ℕ) → row_bytes sizes columns (fields_of sizes columns row) ≡ row_bytes sizes columns row
   pub fit : (sizes : Sizes) (columns : List Column) (row : List ℕ) → length row ≡ length columns → FitRow sizes columns (fields_of sizes columns row)

@@ -12,11 +12,6 @@ contains_from_in [] x h = absurd h
 contains_from_in (y ∷ ys) x (inl e) = (0, omega arith, e)
 contains_from_in (y ∷ ys) x (inr h) = let tail = contains_from_in ys x h in (suc tail.0, omega (arith, tail.1), tail.2)
 
-pub in_from_contains : {X : Type 0} (xs : List X) (x : X) → Contains xs x → IsIn x xs
-in_from_contains [] x (k, h, e) = absurd (omega arith)
-in_from_contains (y ∷ ys) x (zero, h, e) = inl e
-in_from_contains (y ∷ ys) x (suc k, h, e) = inr (in_from_contains ys x (k, omega arith, e))
-
 pub in_get_or : {X : Type 0} (xs : List X) (k : ℕ) (d : X) → k < length xs → IsIn (get_or xs k d) xs
 in_get_or [] k d below = absurd (omega arith)
 in_get_or (x ∷ xs) zero d below = inl refl

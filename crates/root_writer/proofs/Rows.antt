@@ -1,5 +1,6 @@
 -- The numbers of a row: one per column, one for each cell, each truncated to the width of its column.
 use Rattle.root_writer.proofs.Prelude.{◌≡◌, ℕ, zero, suc, ◌+◌, ◌-◌, ◌%◌, ◌^◌, ◌<◌, ◌≤◌, Bool, true, false, cond, List, [], ◌∷◌, ◌++◌, map, length, get_or, refl, sym, ap, subst, ◌∙◌, arith, length-map, get_or-map, TableId, Module, Column, ColumnKind, tables, table_index_of, columns_of, Sizes, width_of, row_bytes, rows_bytes, tables_bytes, FitRows, FitTables, fields_of, number_in, Cell, Metadata, rows_of, count_in, is_padding, indexes_from, Pools, pools_of, cell_number, with_next, numbers_by, numbers_of, table_numbers, numbers, sizes_of}
+use Rattle.table_schema.proofs.TableFacts.{table_at_index, table_index_below, length-tables}
 use Rattle.root_writer.proofs.Facts.{Facts}
 
 -- ---- one number per column
@@ -90,12 +91,12 @@ pub number_is : Facts → (model : Metadata) (table : TableId) (row column : ℕ
     (get_or (columns_of table) column none)
 unfolding fields
 number_is facts model table row column none first last below =
-    let low : table_index_of table < length tables = omega (arith, facts.table_index table, facts.count) in
+    let low : table_index_of table < length tables = omega (arith, table_index_below table, length-tables) in
     let rows = rows_of model table in
     let here : row - 1 < length rows = omega arith in
     let many : row - 1 < length (table_numbers model table) = omega (arith, length-map rows (numbers_of (pools_of model) (columns_of table))) in
     let one : get_or (map (table_fields model) tables) (table_index_of table) [] ≡ table_fields model table =
-    get_or-map (table_fields model) tables (table_index_of table) Module [] low ∙ ap (table_fields model) (facts.stand table) in
+    get_or-map (table_fields model) tables (table_index_of table) Module [] low ∙ ap (table_fields model) (table_at_index table) in
     let two : get_or (table_fields model table) (row - 1) [] ≡ fields_of (sizes_of model) (columns_of table) (get_or (table_numbers model table) (row - 1) []) =
     get_or-map (fields_of (sizes_of model) (columns_of table)) (table_numbers model table) (row - 1) [] [] many in
     let three : get_or (table_numbers model table) (row - 1) [] ≡ numbers_of (pools_of model) (columns_of table) (cells_of model table row) =

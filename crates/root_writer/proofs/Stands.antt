@@ -4,7 +4,9 @@ use Rattle.table_schema.specs.declared.column.ColumnKind.TheVariants as kind
 use Rattle.root_writer.proofs.HeldRoots.{HasRow, MayRefer, IsValidCell}
 use Rattle.root_writer.proofs.Lists.{IsIn, contains_from_in, all_weaker}
 use Rattle.root_writer.proofs.Facts.{Facts}
-use Rattle.root_writer.proofs.Widths.{text_within, blob_within, guid_within, index_fits, texts_width, guids_width, blobs_width, count_is, row_fits, coded_fits, tag_found}
+use Rattle.table_schema.proofs.CodedLemmas.{tag_below}
+use Rattle.metadata.proofs.KeyLemmas.{tag_listed}
+use Rattle.root_writer.proofs.Widths.{text_within, blob_within, guid_within, index_fits, texts_width, guids_width, blobs_width, count_is, row_fits, coded_fits}
 
 -- the source from which the cells of the canonical root are read
 abbrev pub source_with : Metadata → List (List (List ℕ)) → Source
@@ -102,14 +104,14 @@ module _ (facts : Facts) (model : Metadata) (within : IsWithin model) where
   coded_stands numbers nullable coded cell null_used (inr is) =
       let token = is.0 in
       let has = there numbers token is.2 in
-      let tag = tag_found facts (tables_of coded) token.table is.1 in
-      let low : position_or_len (is_table token.table) (tables_of coded) < 2 ^ tag_bits coded = omega (arith, tag.1, facts.few coded) in
-      let fits = coded_fits facts (sizes_of model) coded token.table token.row (position_or_len (is_table token.table) (tables_of coded)) tag.0 low has.1
+      let tag = tag_listed coded token.table is.1 in
+      let low = tag_below coded (position_or_len (is_table token.table) (tables_of coded)) token.table tag in
+      let fits = coded_fits facts (sizes_of model) coded token.table token.row (position_or_len (is_table token.table) (tables_of coded)) tag low has.1
       (few token.table) in (
         token,
         record {
           tag = position_or_len (is_table token.table) (tables_of coded);
-          listed = tag.0;
+          listed = tag;
           equal = ap (λ c. cell_number (pools_of model) (kind.Coded coded) c % 256 ^ coded_width (sizes_of model) coded) is.3 ∙ mod-eq_of_lt fits;
         },
         inr (has, is.3),

@@ -1,7 +1,8 @@
 -- The numbers of cells fit the widths of the canonical table stream.
-use Rattle.root_writer.proofs.Prelude.{◌≡◌, ℕ, zero, suc, ◌+◌, ◌-◌, ◌*◌, ◌/◌, ◌%◌, ◌^◌, ◌<◌, ◌≤◌, Bool, true, false, not, cond, eqb, ltb, leb, List, [], ◌∷◌, ◌++◌, length, get_or, Contains, refl, sym, ap, subst, ◌∙◌, ◌⊎◌, inl, inr, ⊎_elim, true≢false, Option, Some, None, arith, length-append, slice_get, list_all, position_or_len, cases_Bool, cases_lt, cond_both, leb-false, not-true, and_parts, ltb-true, nat_tests, get_or-map, mul-add-lt, TableId, Module, Coded, tables, table_index_of, table_number, tables_of, tag_bits, Sizes, count_of, narrow_or_wide, heap_width, is_below, coded_width, IsText, IsBlob, IsGuid, is_table, Metadata, count_in, texts_stream, blobs_stream, guids_stream, sizes_of}
+use Rattle.root_writer.proofs.Prelude.{◌≡◌, ℕ, zero, suc, ◌+◌, ◌-◌, ◌*◌, ◌/◌, ◌%◌, ◌^◌, ◌<◌, ◌≤◌, Bool, true, false, not, cond, eqb, ltb, leb, List, [], ◌∷◌, ◌++◌, length, get_or, refl, ap, subst, ◌∙◌, ◌⊎◌, inl, inr, Option, Some, None, arith, length-append, slice_get, list_all, cond_both, leb-false, not-true, and_parts, ltb-true, nat_tests, get_or-map, mul-add-lt, TableId, Module, Coded, tables, table_index_of, tables_of, tag_bits, Sizes, count_of, narrow_or_wide, heap_width, is_below, coded_width, IsText, IsBlob, IsGuid, Metadata, count_in, texts_stream, blobs_stream, guids_stream, sizes_of}
 use Rattle.packed.specs.Packed.{IsPacked}
-use Rattle.root_writer.proofs.Lists.{IsIn, in_from_contains}
+use Rattle.table_schema.proofs.CodedLemmas.{tag_narrow, tag_wide}
+use Rattle.table_schema.proofs.TableFacts.{table_at_index, table_index_below, length-tables}
 use Rattle.root_writer.proofs.Facts.{Facts}
 
 -- ---- indexes lie within their heaps
@@ -91,8 +92,8 @@ module _ (model : Metadata) where
   pub count_is : Facts → (table : TableId) → count_of (sizes_of model) table ≡ count_in model table
   unfolding sizes_of
   count_is facts table =
-      let below : table_index_of table < length tables = omega (arith, facts.table_index table, facts.count) in
-      get_or-map (count_in model) tables (table_index_of table) Module 0 below ∙ ap (count_in model) (facts.stand table)
+      let below : table_index_of table < length tables = omega (arith, table_index_below table, length-tables) in
+      get_or-map (count_in model) tables (table_index_of table) Module 0 below ∙ ap (count_in model) (table_at_index table)
 
 -- ---- rows
 
@@ -102,17 +103,6 @@ row_fits number count low small =
     (λ e. let fits : number < 4294967296 = omega arith in fits)
 
 -- ---- tags
-
-pub same_table : Facts → (a b : TableId) → table_number a ≡ table_number b → a ≡ b
-same_table facts a b e = ⊎_elim
-    (λ (l : table_index_of a < table_index_of b). absurd (omega (arith, facts.rise a b l)))
-    (λ (h : table_index_of b ≤ table_index_of a). ⊎_elim
-    (λ (l : table_index_of b < table_index_of a). absurd (omega (arith, facts.rise b a l)))
-    (λ (k : table_index_of a ≤ table_index_of b).
-    let same : table_index_of a ≡ table_index_of b = omega arith in
-    sym (facts.stand a) ∙ ap (λ n. get_or tables n Module) same ∙ facts.stand b)
-    (cases_lt (table_index_of b) (table_index_of a)))
-    (cases_lt (table_index_of a) (table_index_of b))
 
 below_listed : (sizes : Sizes) (limit : ℕ) (listed : List (Option TableId)) (tag : ℕ) (table : TableId)
     → list_all (is_below sizes limit) listed ≡ true → slice_get listed tag ≡ Some (Some table) → count_of sizes table < limit
@@ -136,47 +126,13 @@ coded_fits facts sizes coded table row tag is low there small =
     (λ e.
     let few = below_listed sizes (2 ^ (16 - tag_bits coded)) (tables_of coded) tag table e is in
     let fits : row * 2 ^ tag_bits coded + tag < 65536 =
-    subst (λ n. row * 2 ^ tag_bits coded + tag < n) (facts.narrow coded)
+    subst (λ n. row * 2 ^ tag_bits coded + tag < n) (tag_narrow coded)
     (mul-add-lt row (2 ^ tag_bits coded) tag (2 ^ (16 - tag_bits coded)) (omega arith) low) in
     fits)
     (λ e.
     let below = mul-add-lt row (2 ^ tag_bits coded) tag (2 ^ 24) (omega arith) low in
-    let fits : row * 2 ^ tag_bits coded + tag < 4294967296 = omega (arith, below, facts.wide coded) in
+    let fits : row * 2 ^ tag_bits coded + tag < 4294967296 = omega (arith, below, tag_wide coded) in
     fits)
   where
     narrow : Bool
     narrow = list_all (is_below sizes (2 ^ (16 - tag_bits coded))) (tables_of coded)
-
--- the first index of a table in a list
-abbrev IsTag : List (Option TableId) → TableId → ℕ → Type 0
-IsTag listed table tag = (slice_get listed tag ≡ Some (Some table)) × (tag < length listed)
-
-later : (first : Option TableId) (listed : List (Option TableId)) (table : TableId) (tag : ℕ) → IsTag listed table tag → IsTag (first ∷ listed) table (1 + tag)
-later first listed table tag is = let up : 1 + tag ≡ suc tag = omega arith in rw up (is.0, omega (arith, is.1))
-
-tag_in : Facts → (listed : List (Option TableId)) (table : TableId) → IsIn (Some table) listed → IsTag listed table (position_or_len (is_table table) listed)
-tag_in facts [] table h = absurd h
-tag_in facts (None ∷ listed) table (inl e) = cc
-tag_in facts (None ∷ listed) table (inr h) = later None listed table (position_or_len (is_table table) listed) (tag_in facts listed table h)
-tag_in facts (Some other ∷ listed) table h = ⊎_elim
-    (λ (t : is_table table (Some other) ≡ true).
-    let equal : table_number table ≡ table_number other = grind (arith, nat_tests) in
-    let same = same_table facts table other equal in
-    subst (λ b. IsTag (Some other ∷ listed) table (cond (not b) (1 + position_or_len (is_table table) listed) 0)) (sym t)
-    (ap (λ t. Some (Some t)) (sym same), omega arith))
-    (λ (f : is_table table (Some other) ≡ false).
-    subst (λ b. IsTag (Some other ∷ listed) table (cond (not b) (1 + position_or_len (is_table table) listed) 0)) (sym f)
-    (later (Some other) listed table (position_or_len (is_table table) listed) (tag_in facts listed table (there f h))))
-    (cases_Bool (is_table table (Some other)))
-  where
-    there : is_table table (Some other) ≡ false → IsIn (Some table) (Some other ∷ listed) → IsIn (Some table) listed
-    there f (inl e) =
-        let same : other ≡ table = cc in
-        let equal = ap table_number same in
-        let same_number : is_table table (Some other) ≡ true = grind (arith, nat_tests) in
-        absurd (true≢false (sym same_number ∙ f))
-    there f (inr l) = l
-
-pub tag_found : Facts → (listed : List (Option TableId)) (table : TableId) → Contains listed (Some table)
-    → IsTag listed table (position_or_len (is_table table) listed)
-tag_found facts listed table there = tag_in facts listed table (in_from_contains listed (Some table) there)

@@ -18,9 +18,6 @@ fn valid_models_are_encoded()
     heap_pools::laws::pooled_blob_is_found();
     heap_pools::laws::pooled_guid_is_found();
     heap_pools::laws::pooled_are_distinct();
-    table_schema::laws::tables_stand();
-    table_schema::laws::columns_stand();
-    table_schema::laws::tags_fit();
     schema::laws::bits_are_known();
     schema::laws::numbers_are_encoded();
     schema::laws::low_bytes_stand();
