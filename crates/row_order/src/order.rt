@@ -9,6 +9,7 @@ use reading::Source;
 use table_schema::{TableId, key};
 
 /// Checks that each table whose `Sorted` bit is set is in order of its key (II.22). `in_order` says which are.
+#[tactic(auto, using(packed::proofs::RuleLemmas::before_none, packed::proofs::RuleLemmas::before_more, packed::proofs::RuleLemmas::before_all, packed::proofs::RuleLemmas::before_fails), unfolding(metadata::specs::Rules::rules_of_order, metadata::specs::Rules::rules_of_order_at))]
 pub fn check_order(source: &Source, in_order: &[bool; 45]) -> Result<(), Fault>
     requires { ReportsOrder source.now.source in_order.now }
     ensures { Reports (rules_of_order source.now) result }
