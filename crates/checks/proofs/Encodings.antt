@@ -1,10 +1,10 @@
 -- What a check of a blob says about the rules for its signature.
-use Rattle.checks.proofs.Prelude.{◌≡◌, ℕ, Bool, true, false, List, [], ◌∷◌, Some, None, Result, refl, sym, ◌⊎◌, slice_index, inl, inr, arith, nat_tests, FaultCode, BadSignature, SignatureIndex, Reports, AllHold, FirstBroken, fault, IsBlob, TableId, Token, Column, SigKind, column_at, Source, rows_in, number_of, IsThere, SourceAt, cell_offset, rules_of_encoding, rules_of_signature, code_at}
-use Rattle.std.specs.List.{AllByRecursion}
+use Rattle.checks.proofs.Prelude.{◌≡◌, ℕ, List, Some, None, Result, refl, sym, slice_index, inl, inr, FaultCode, BadSignature, SignatureIndex, Reports, AllHold, FirstBroken, fault, IsBlob, TableId, Token, Column, SigKind, column_at, Source, rows_in, number_of, SourceAt, cell_offset, rules_of_encoding, rules_of_signature, code_at}
 use Rattle.table_schema.specs.declared.column.ColumnKind.TheVariants as kind
 use Rattle.table_schema.specs.Tables.{table_number}
-use Rattle.sig_grammar.specs.Encodes.{Encodes, tokens, has_row, first_bad}
+use Rattle.sig_grammar.specs.Encodes.{Encodes, tokens, first_bad}
 use Rattle.sig_grammar.specs.Syntax.{Body}
+use Rattle.metadata.proofs.TokenLemmas.{all_there, none_bad}
 
 -- the check of a number in a column reports the rules for its signature
 pub encoding_reports : (here : SourceAt) (table : TableId) (row column number : ℕ) (held : Column) {X : Type 0} (r : Result X FaultCode) → held ≡ column_at table column → number ≡ number_of here.source table row column → ((offset : ℕ) → Reports (rules_of_encoding here.source held.kind number offset) (code_at offset r)) → Reports (rules_of_signature here table row column) (code_at (cell_offset here table row column) r)
@@ -17,44 +17,21 @@ pub no_signature : (source : Source) (column : SigKind) (number offset : ℕ) �
     → FirstBroken (rules_of_encoding source (kind.Signature column) number offset) (fault BadSignature offset)
 no_signature source column number offset none = inl (λ has. none has.0 has.2 has.1 has.3, refl)
 
-module _ (source : Source) (counts : List ℕ) (counted : (table : TableId) → slice_index counts (table_number table) ≡ rows_in source table) where
-  cases : (b : Bool) → (b ≡ true) ⊎ (b ≡ false)
-  cases true = inl refl
-  cases false = inr refl
+module _ (source : Source) (counts : List ℕ) (counted : (table : TableId) → slice_index counts (table_number table) ≡ rows_in source table) (column : SigKind) (number offset : ℕ) where
+  -- a blob that encodes a signature whose tokens have rows
+  pub is_met : (blob : List ℕ) → IsBlob source.blobs number blob → (signature : Body) × Encodes column signature blob × (None ≡ first_bad counts (tokens signature)) → AllHold (rules_of_encoding source (kind.Signature column) number offset)
+  is_met blob is some = ((blob, some.0, is, some.1, tt), ((blob, some.0, is, some.1, all_there (rows_in source) counts counted (tokens some.0) (sym some.2)), tt))
 
-  there : (token : Token) → has_row counts token ≡ true → IsThere source token
-  there token e = grind (arith, nat_tests, counted token.table)
-
-  has : (token : Token) → IsThere source token → has_row counts token ≡ true
-  has token is = grind (arith, nat_tests, counted token.table)
-
-  -- each token has a row if none is the first without one
-  pub all_there : (tokens : List Token) → first_bad counts tokens ≡ None → AllByRecursion (IsThere source) tokens
-  all_there [] e = tt
-  all_there (token ∷ tokens) e = elim (cases (has_row counts token)) [
-    | inl has_one ↦ (there token has_one, all_there tokens (rw has_one at e))
-    | inr has_none ↦ absurd (let bad : first_bad counts (token ∷ tokens) ≡ Some token = rw has_none refl in cc)
-  ]
-
-  pub none_bad : (tokens : List Token) → AllByRecursion (IsThere source) tokens → first_bad counts tokens ≡ None
-  none_bad [] all = refl
-  none_bad (token ∷ tokens) all = rw (has token all.0) (none_bad tokens all.1)
-
-  module _ (column : SigKind) (number : ℕ) (offset : ℕ) where
-    -- a blob that encodes a signature whose tokens have rows
-    pub is_met : (blob : List ℕ) → IsBlob source.blobs number blob → (signature : Body) × Encodes column signature blob × (None ≡ first_bad counts (tokens signature)) → AllHold (rules_of_encoding source (kind.Signature column) number offset)
-    is_met blob is some = ((blob, some.0, is, some.1, tt), ((blob, some.0, is, some.1, all_there (tokens some.0) (sym some.2)), tt))
-
-    -- a blob that encodes a signature one of whose tokens has no row
-    pub no_row : (blob : List ℕ) (bad : Token) → IsBlob source.blobs number blob → ((other : List ℕ) → IsBlob source.blobs number other → blob ≡ other) → (signature : Body) × Encodes column signature blob × (Some bad ≡ first_bad counts (tokens signature)) → ((signature : Body) → Encodes column signature blob → Some bad ≡ first_bad counts (tokens signature)) → FirstBroken (rules_of_encoding source (kind.Signature column) number offset) (fault SignatureIndex offset)
-    no_row blob bad is one some only = inr (
-      (blob, some.0, is, some.1, tt),
-      inl (
-        λ has.
-            let same = one has.0 has.2 in
-            let e = only has.1 (rw (← same) at has.3) in
-            let f = none_bad (tokens has.1) has.4 in
-            absurd cc,
-        refl,
-      ),
-    )
+  -- a blob that encodes a signature one of whose tokens has no row
+  pub no_row : (blob : List ℕ) (bad : Token) → IsBlob source.blobs number blob → ((other : List ℕ) → IsBlob source.blobs number other → blob ≡ other) → (signature : Body) × Encodes column signature blob × (Some bad ≡ first_bad counts (tokens signature)) → ((signature : Body) → Encodes column signature blob → Some bad ≡ first_bad counts (tokens signature)) → FirstBroken (rules_of_encoding source (kind.Signature column) number offset) (fault SignatureIndex offset)
+  no_row blob bad is one some only = inr (
+    (blob, some.0, is, some.1, tt),
+    inl (
+      λ has.
+          let same = one has.0 has.2 in
+          let e = only has.1 (rw (← same) at has.3) in
+          let f = none_bad (rows_in source) counts counted (tokens has.1) has.4 in
+          absurd cc,
+      refl,
+    ),
+  )

@@ -10,11 +10,9 @@ pub mod Encodings
 pub mod Prelude
 pub mod Spending
 pub mod SpendingTexts
-pub mod Starts
 pub mod Sums
 pub mod TextBytes
 pub mod TextLemmas
-pub mod Verdicts
 pub mod Walks
 pub mod WholeTables
 pub mod Within

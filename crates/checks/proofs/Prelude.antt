@@ -1,5 +1,5 @@
 -- What several proofs of this crate name of std, of the crates below, and of its own definitions.
-pub use Rattle.std.proofs.Common.{◌≡◌, ◌≢◌, ℕ, zero, suc, ◌-◌, ◌<◌, ◌≤◌, List, [], ◌∷◌, ◌++◌, length, take, drop, slice_index, Option, Some, None, inl, inr, refl, sym, ap, subst, ◌∙◌, arith, length-drop, ◌+◌, get_or, false, true, Result, Ok, Err, is_err, ◌*◌, ◌/◌, ◌%◌, ◌^◌, Bool, replicate, slice_set, ◌⊎◌, cond, nat_eq, nat_lt, add-one, eq-eqb, append_assoc, rules}
+pub use Rattle.std.proofs.Common.{◌≡◌, ◌≢◌, ℕ, zero, suc, ◌-◌, ◌<◌, ◌≤◌, List, [], ◌∷◌, ◌++◌, length, take, drop, slice_index, Option, Some, None, inl, inr, refl, sym, ap, subst, ◌∙◌, arith, length-drop, ◌+◌, get_or, false, true, Result, Ok, Err, is_err, ◌*◌, ◌/◌, ◌%◌, ◌^◌, Bool, replicate, slice_set, ◌⊎◌, cond, nat_eq, nat_lt, add-one, eq-eqb, rules}
 pub use Rattle.std.proofs.lemmas.Bool.{cases_eq, eqb-true, false≢true, cases_lt}
 pub use Rattle.std.proofs.lemmas.Bool.Decides.{nat_tests}
 pub use Rattle.std.proofs.lemmas.List.{get_or-drop, take-append-drop, length-take-le, drop_more, get_or-take, drop_at, take_at, get_or_append_left, get_or_at, get_or-replicate, get_or-set_other, get_or_past, length-replicate, drop-drop, length-set, take_min}
@@ -12,12 +12,12 @@ pub use Rattle.std.specs.Prelude.{unwrap_or, nat_le, slice_get}
 pub use Rattle.std.specs.Str.{IsAscii}
 unfoldable pub use Rattle.std.specs.Str.{is_utf8}
 pub use Rattle.memchr.specs.Find.{IsLastByte, is_byte, IsFirstByte}
-pub use Rattle.packed.proofs.RuleLemmas.{none_fails, before_fails, all_of_each, each_holds, all_append, fails_prefix, fails_back, before_more, before_all, before_none, none_from}
+pub use Rattle.packed.proofs.RuleLemmas.{none_fails, before_fails, all_of_each, each_holds, all_append, fails_prefix, fails_back, before_more, before_all, before_none}
 pub use Rattle.packed.specs.Packed.{IsPacked}
-pub use Rattle.packed.specs.Rule.{AllHold, Rule, FirstBroken, Reports, HoldBefore, fault, rule}
+pub use Rattle.packed.specs.Rule.{AllHold, Rule, FirstBroken, Reports, HoldBefore, fault}
 unfoldable pub use Rattle.packed.specs.Rule.{rules_from}
 pub use Rattle.packed.specs.declared.code.FaultCode.{FaultCode}
-pub use Rattle.packed.specs.declared.code.FaultCode.TheVariants.{BadSignature, SignatureIndex, BadRun}
+pub use Rattle.packed.specs.declared.code.FaultCode.TheVariants.{BadSignature, SignatureIndex}
 pub use Rattle.heap_entries.specs.Entries.{IsEnded, IsText, HasNoNul, IsCounted, IsBlob}
 pub use Rattle.heap_entries.specs.Rules.{rules_of_text, code_of, at_offset}
 pub use Rattle.heap_entries.specs.declared.fault.HeapFault.{HeapFault}
@@ -30,20 +30,17 @@ pub use Rattle.table_schema.specs.declared.table.TableId.TheVariants.{Module}
 pub use Rattle.table_schema.specs.declared.token.Token.{Token}
 pub use Rattle.metadata.specs.Rows.{table_at}
 pub use Rattle.metadata.specs.Rules.{MayRefer, rules_of_number, rules_of_encoding}
-unfoldable pub use Rattle.metadata.specs.Rules.{rules_of_cells, rules_of_table, rules_of_table_at, rules_of_row, rules_of_cell, rules_of_signature, rules_of_signatures_in, rules_of_start, rules_of_order, rules_of_runs, rules_of_nesting, rules_of_signatures, rules_of_tables, rules_of_signatures_of, rules_of_signatures_at}
-pub use Rattle.metadata.specs.Source.{rows_in, Source, IsThere}
+unfoldable pub use Rattle.metadata.specs.Rules.{rules_of_cells, rules_of_table, rules_of_table_at, rules_of_row, rules_of_cell, rules_of_signature, rules_of_signatures_in, rules_of_rows, rules_of_signatures, rules_of_tables, rules_of_signatures_of, rules_of_signatures_at}
+pub use Rattle.metadata.specs.Source.{rows_in, Source}
 unfoldable pub use Rattle.metadata.specs.Source.{number_of}
 pub use Rattle.metadata.specs.SourceAt.{SourceAt}
 unfoldable pub use Rattle.metadata.specs.SourceAt.{cell_offset}
-pub use Rattle.metadata.specs.Starts.{start_from}
-unfoldable pub use Rattle.metadata.specs.Starts.{start_of}
 pub use Rattle.reading.specs.Codes.{code_at}
 pub use Rattle.checks.specs.Broken.{IsBroken, bytes_before_in}
 pub use Rattle.checks.specs.Budgets.{IsBelow, Takes, Spends}
 pub use Rattle.checks.specs.CodedLimits.{IsLimit, AreLimits}
 pub use Rattle.checks.specs.Columns.{AllPass, IsNotEncoded, ColumnMeets, ColumnStands, ColumnEncodes, IsEncoded}
 pub use Rattle.checks.specs.Passed.{Keeps, no_slots, Slots, is_kept, keep}
-pub use Rattle.checks.specs.Runs.{IsVerdict, fault_in_row}
 pub use Rattle.checks.specs.Signatures.{blob_length}
 unfoldable pub use Rattle.checks.specs.Signatures.{sum_below, counted_length, cell_bytes, column_bytes, table_bytes, table_bytes_at, signature_bytes}
 pub use Rattle.checks.specs.TextBytes.{text_length, counted_text, rows_text_bytes, bytes_before_nul}

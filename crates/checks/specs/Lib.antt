@@ -3,7 +3,6 @@ pub mod Broken
 pub mod Budgets
 pub mod CodedLimits
 pub mod Columns
-pub mod Runs
 pub mod Passed
 pub mod Signatures
 pub mod TextBytes

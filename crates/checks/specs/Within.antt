@@ -6,7 +6,7 @@ use Rattle.table_schema.specs.declared.table.TableId.{TableId}
 use Rattle.metadata.specs.Source.{Source, rows_in}
 use Rattle.metadata.specs.SourceAt.{SourceAt}
 use Rattle.metadata.specs.Rows.{table_at}
-use Rattle.metadata.specs.Rules.{rules_of_row, rules_of_table_at, rules_of_cells, rules_of_order, rules_of_runs, rules_of_nesting}
+use Rattle.metadata.specs.Rules.{rules_of_row, rules_of_table_at, rules_of_cells, rules_of_rows}
 use Rattle.checks.specs.Budgets.{IsBelow}
 use Rattle.checks.specs.TextBytes.{rows_text_bytes, text_bytes, text_bytes_to}
 use Rattle.checks.specs.Walks.{walked_signature_bytes}
@@ -34,9 +34,7 @@ pub record TextsSpend (budget : Budget) (here : SourceAt) : Type 0 where
 -- each rule for the tables that comes before the rules for signatures holds
 pub record HoldBeforeSignatures (here : SourceAt) : Type 0 where
   pub cells : AllHold (rules_of_cells here)
-  pub order : AllHold (rules_of_order here)
-  pub runs : AllHold (rules_of_runs here)
-  pub nesting : AllHold (rules_of_nesting here)
+  pub rows : AllHold (rules_of_rows here)
 
 -- the bytes that a budget counts
 abbrev pub counted_bytes : Source → ℕ

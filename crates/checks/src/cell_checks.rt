@@ -242,6 +242,7 @@ fn first_index(source: &Source, table: TableId, column: usize, limit: u32) -> u3
 }
 
 /// Checks that each number of a row stands for a cell.
+#[tactic(auto, using(packed::proofs::RuleLemmas::before_none, packed::proofs::RuleLemmas::before_more, packed::proofs::RuleLemmas::before_all, packed::proofs::RuleLemmas::before_fails), unfolding(metadata::specs::Rules::rules_of_row))]
 fn check_row(source: &Source, table: TableId, row: u32) -> Result<(), Fault>
     requires first { 1 ≤ row }
     requires last { row ≤ rows_in source.now.source table }

@@ -20,7 +20,6 @@ mod column;
 mod counted_rows;
 pub mod laws;
 mod passed;
-mod runs;
 mod signature_checks;
 mod tables;
 mod texts;

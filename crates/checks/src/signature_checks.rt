@@ -53,6 +53,7 @@ fn check_signatures_of(
 
 /// Checks the signatures of a table, row by row from `first` on.
 #[inline(never)]
+#[tactic(auto, using(packed::proofs::RuleLemmas::before_none, packed::proofs::RuleLemmas::before_more, packed::proofs::RuleLemmas::before_all, packed::proofs::RuleLemmas::before_fails), unfolding(metadata::specs::Rules::rules_of_signatures_of))]
 fn check_signature_rows(source: &Source, table: TableId, first: u32) -> Result<(), Fault>
     requires first { 1 ≤ first }
     requires last { first ≤ rows_in source.now.source table + 1 }
@@ -158,6 +159,7 @@ fn first_not_encoded(
 }
 
 /// Checks the signatures of a row.
+#[tactic(auto, using(packed::proofs::RuleLemmas::before_none, packed::proofs::RuleLemmas::before_more, packed::proofs::RuleLemmas::before_all, packed::proofs::RuleLemmas::before_fails), unfolding(metadata::specs::Rules::rules_of_signatures_in))]
 fn check_signatures_in(source: &Source, table: TableId, row: u32) -> Result<(), Fault>
     requires first { 1 ≤ row }
     requires last { row ≤ rows_in source.now.source table }

@@ -1,17 +1,14 @@
-ghost use Rattle.std.specs.Prelude.{◌++◌, IfOk, IfErr, IsErrOf, OnOk};
-ghost use Rattle.packed.specs.Rule.{AllHold, FirstBroken};
-ghost use Rattle.metadata.specs.Rules.{rules_of_order, rules_of_runs, rules_of_nesting, rules_of_tables};
+ghost use Rattle.std.specs.Prelude.{IfOk, IsErrOf, OnOk};
+ghost use Rattle.metadata.specs.Rules.{rules_of_tables};
 ghost use Rattle.checks.specs.Budgets.{IsBelow};
 ghost use Rattle.checks.specs.Within.{IsSpent, ReportsWithin, TextsSpend, counted_bytes};
 ghost use Rattle.row_order.specs.Orders.{ReportsOrder};
 
 use crate::budget::{BoundedError, Budget};
 use crate::cell_checks::check_cells;
-use crate::runs::check_runs;
 use crate::signature_checks::check_signatures;
-use packed::Fault;
 use reading::Source;
-use row_order::{check_nesting, check_order, find_order};
+use row_order::{check_rows, find_order};
 
 /// Checks the rules for the tables of a metadata root, in their order (II.22). The budget limits the number of bytes
 /// of texts and of signature blobs that are read.
@@ -46,19 +43,4 @@ pub fn check_tables_within(source: &Source, budget: Budget) -> Result<[bool; 45]
     check_rows(source, &in_order)?;
     check_signatures(source, left)?;
     Ok(in_order)
-}
-
-/// Checks the rules for rows between those for cells and those for signatures: the order of rows, the runs of members,
-/// and the order of nested types.
-#[tactic(auto, using(packed::proofs::RuleLemmas::fails_prefix, packed::proofs::RuleLemmas::fails_back, packed::proofs::RuleLemmas::all_append))]
-fn check_rows(source: &Source, in_order: &[bool; 45]) -> Result<(), Fault>
-    requires { ReportsOrder source.now.source in_order.now }
-    ensures first_error { IfErr result (FirstBroken (rules_of_order source.now ++ (rules_of_runs source.now ++ rules_of_nesting source.now))) }
-    ensures sorted { OnOk result (AllHold (rules_of_order source.now)) }
-    ensures runs { OnOk result (AllHold (rules_of_runs source.now)) }
-    ensures nesting { OnOk result (AllHold (rules_of_nesting source.now)) }
-{
-    check_order(source, in_order)?;
-    check_runs(source)?;
-    check_nesting(source)
 }

@@ -1,3 +1,4 @@
+pub mod ByNumber
 pub mod FileLemmas
 pub mod ItemLemmas
 pub mod ModelLemmas
@@ -6,6 +7,7 @@ pub mod RowRuleLemmas
 pub mod Sample
 pub mod StandsLemmas
 pub mod TableLemmas
+pub mod TokenLemmas
 pub mod ValidLemmas
 pub mod RefusalLemmas
 pub mod SameLemmas

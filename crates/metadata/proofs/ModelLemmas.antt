@@ -1,17 +1,18 @@
 -- A root has a model if and only if all rules for it hold. It has at most one.
 use Rattle.std.proofs.Common.{◌≡◌, ℕ, ◌+◌, ◌-◌, ◌^◌, ◌<◌, ◌≤◌, List, [], ◌++◌, length, drop, slice_index, slice_index_or, Option, Some, None, unwrap_or, refl, sym, ◌∙◌, ap, subst, arith, inl, inr}
-use Rattle.metadata.proofs.Prelude.{option_map, cases_lt, get_or-take, get_or-drop, get_or_past, length-take, AllHold, rebased, all_append, all_prefix, all_back, all_rebased, all_lowered, Tables, UserStrings, Header, RootRead, named, stream_name, zero_padded, TableId, Module, table_index_of, tables, Sizes, IsLaidOut, IsTableStream, numbers_at, Cell, Number, Metadata, rows_of, Source, rows_in, stream_in, source_in, cell_count, IsCell, IsRow, IsTable, IsTableAt, AreTables, table_at, AreByKey, AreOwned, AreNested, IsModel, SourceAt, tables_in, tables_offset, source_of, source_at, rules_of_cells, rules_of_order, rules_of_runs, rules_of_nesting, rules_of_signatures, rules_of_tables, rules_of_metadata}
+use Rattle.metadata.proofs.Prelude.{option_map, cases_lt, get_or-take, get_or-drop, get_or_past, length-take, AllHold, rebased, all_append, all_prefix, all_back, all_rebased, all_lowered, Tables, UserStrings, Header, RootRead, named, stream_name, zero_padded, TableId, table_index_of, tables, Sizes, IsLaidOut, IsTableStream, numbers_at, Cell, Number, Metadata, rows_of, Source, rows_in, stream_in, source_in, cell_count, IsCell, IsRow, IsTable, IsTableAt, AreTables, table_at, AreByKey, AreLinked, links_in, IsModel, SourceAt, tables_in, tables_offset, source_of, source_at, rules_of_cells, rules_of_rows, rules_of_signatures, rules_of_tables, rules_of_metadata}
 use Rattle.packed.specs.Offsets.{part}
 use Rattle.root.specs.declared.kind.Kind.{Kind}
 use Rattle.root.specs.Fields.{root_read}
 use Rattle.root.specs.Root.{IsRoot}
 use Rattle.root.specs.Rules.{rules_of_root}
+use Rattle.table_schema.proofs.TableFacts.{table_at_index, table_index_below}
 use Rattle.schema.specs.Header.{sizes_of}
 use Rattle.schema.specs.Rules.{rules_of_stream}
 use Rattle.metadata.proofs.ItemLemmas.{items_length, item_at}
 use Rattle.metadata.proofs.StandsLemmas.{AreOne}
-use Rattle.metadata.proofs.TableLemmas.{HaveCells, tables_found, cells_met, signatures_met, tables_one}
-use Rattle.metadata.proofs.RowRuleLemmas.{order_found, order_met, runs_found, runs_met, nesting_found, nesting_met}
+use Rattle.metadata.proofs.TableLemmas.{tables_found, cells_met, signatures_met, tables_one}
+use Rattle.metadata.proofs.RowRuleLemmas.{rows_found, rows_met}
 
 -- what is known of roots and table streams
 pub record AreRead : Type 0 where
@@ -24,50 +25,32 @@ pub record AreRead : Type 0 where
   pub stream_said : (stream : List ℕ) (sizes : Sizes) (numbers : List (List (List ℕ))) → IsLaidOut stream sizes numbers → sizes ≡ sizes_of stream
   pub stream_found : (stream : List ℕ) → ((k : ℕ) → slice_index stream k < 2 ^ 8) → AllHold (rules_of_stream stream) → IsTableStream stream (sizes_of stream)
   pub numbers_are : (stream : List ℕ) (sizes : Sizes) (numbers : List (List (List ℕ))) → IsLaidOut stream sizes numbers → numbers ≡ numbers_at stream sizes
-  pub columns : HaveCells
 
 -- ---- the tables of a root
 
-pub rules_met : HaveCells → (here : SourceAt) (all : List (List (List Cell))) → AreTables here.source all → AreByKey here.source → AreOwned here.source
-    → AreNested here.source
-    → AllHold (rules_of_tables here)
+pub rules_met : (here : SourceAt) (all : List (List (List Cell))) → AreTables here.source all → AreByKey here.source
+    → AreLinked (links_in here.source) → AllHold (rules_of_tables here)
 unfolding rules_of_tables
-rules_met have here all cells ordered owned nested =
-    let order = rules_of_order here in
-    let runs = rules_of_runs here in
-    let nesting = rules_of_nesting here in
-    let signatures = rules_of_signatures here in
-    all_append (rules_of_cells here) (order ++ (runs ++ (nesting ++ signatures))) (cells_met have here all cells)
-    (all_append order (runs ++ (nesting ++ signatures)) (order_met here ordered)
-    (all_append runs (nesting ++ signatures) (runs_met here owned)
-    (all_append nesting signatures (nesting_met here nested) (signatures_met have here all cells))))
+rules_met here all cells ordered linked =
+    all_append (rules_of_cells here) (rules_of_rows here ++ rules_of_signatures here) (cells_met here all cells)
+    (all_append (rules_of_rows here) (rules_of_signatures here) (rows_met here ordered linked) (signatures_met here all cells))
 
 -- all rules for a source
 pub record Fits (source : Source) : Type 0 where
   pub all : List (List (List Cell))
   pub cells : AreTables source all
   pub ordered : AreByKey source
-  pub owned : AreOwned source
-  pub nested : AreNested source
+  pub linked : AreLinked (links_in source)
 
-pub rules_found : HaveCells → (here : SourceAt) → AllHold (rules_of_tables here) → Fits here.source
+pub rules_found : (here : SourceAt) → AllHold (rules_of_tables here) → Fits here.source
 unfolding rules_of_tables
-rules_found have here holds =
-    let order = rules_of_order here in
-    let runs = rules_of_runs here in
-    let nesting = rules_of_nesting here in
+rules_found here holds =
+    let rows = rules_of_rows here in
     let signatures = rules_of_signatures here in
-    let behind = all_back (rules_of_cells here) (order ++ (runs ++ (nesting ++ signatures))) holds in
-    let more = all_back order (runs ++ (nesting ++ signatures)) behind in
-    let last = all_back runs (nesting ++ signatures) more in
-    let cells = tables_found have here (all_prefix (rules_of_cells here) (order ++ (runs ++ (nesting ++ signatures))) holds) (all_back nesting signatures last) in
-    record {
-      all = cells.0;
-      cells = cells.1;
-      ordered = order_found here (all_prefix order (runs ++ (nesting ++ signatures)) behind);
-      owned = runs_found here (all_prefix runs (nesting ++ signatures) more);
-      nested = nesting_found here (all_prefix nesting signatures last);
-    }
+    let behind = all_back (rules_of_cells here) (rows ++ signatures) holds in
+    let cells = tables_found here (all_prefix (rules_of_cells here) (rows ++ signatures) holds) (all_back rows signatures behind) in
+    let found = rows_found here (all_prefix rows signatures behind) in
+    record { all = cells.0; cells = cells.1; ordered = found.0; linked = found.1 }
 
 -- ---- what a model is read from
 
@@ -101,11 +84,8 @@ module _ (read : AreRead) (root : List ℕ) (model : Metadata) (is : IsModel roo
   pub ordered_read : AreByKey (source_of root)
   ordered_read = subst AreByKey source_read is.ordered
 
-  pub owned_read : AreOwned (source_of root)
-  owned_read = subst AreOwned source_read is.owned
-
-  pub nested_read : AreNested (source_of root)
-  nested_read = subst AreNested source_read is.nested
+  pub linked_read : AreLinked (links_in (source_of root))
+  linked_read = subst (λ (s : Source). AreLinked (links_in s)) source_read is.linked
 
   pub model_met : (offset : ℕ) → AllHold (rules_of_metadata offset root)
   unfolding rules_of_metadata
@@ -117,17 +97,15 @@ module _ (read : AreRead) (root : List ℕ) (model : Metadata) (is : IsModel roo
       all_append header (stream ++ inside) (all_rebased offset (rules_of_root root) (read.root_rules_hold root model.version is.headers is.small is.is_root))
       (all_append stream inside
       (all_rebased (offset + tables_offset root) (rules_of_stream (tables_in root)) (read.stream_rules_hold (tables_in root) (source_of root).sizes laid.0 laid.1))
-      (rules_met read.columns (source_at offset root) model.tables cells_read ordered_read owned_read nested_read))
+      (rules_met (source_at offset root) model.tables cells_read ordered_read linked_read))
 
   -- the rows of a table
-  pub table_read : ((table : TableId) → table_index_of table < 38) → ((table : TableId) → slice_index_or tables (table_index_of table) Module ≡ table)
-      → (table : TableId)
-      → IsTable (source_of root) table (rows_of model table)
+  pub table_read : (table : TableId) → IsTable (source_of root) table (rows_of model table)
   unfolding IsTableAt
-  table_read below stand table =
-      let rows = item_at (IsTableAt (source_of root)) 0 38 model.tables cells_read (table_index_of table) [] (below table) in
+  table_read table =
+      let rows = item_at (IsTableAt (source_of root)) 0 38 model.tables cells_read (table_index_of table) [] (table_index_below table) in
       let here : 0 + table_index_of table ≡ table_index_of table = omega arith in
-      subst (λ (t : TableId). IsTable (source_of root) t (rows_of model table)) (ap table_at here ∙ stand table) rows
+      subst (λ (t : TableId). IsTable (source_of root) t (rows_of model table)) (ap table_at here ∙ table_at_index table) rows
 
 pub tables_long : AreRead → (root : List ℕ) (model : Metadata) → IsModel root model → length model.tables ≡ 38
 tables_long read root model is = items_length (IsTableAt (source_of root)) 0 38 model.tables (cells_read read root model is)
@@ -191,7 +169,7 @@ model_found read offset root each holds =
     let stream_holds = all_lowered (offset + tables_offset root) (rules_of_stream (tables_in root)) (all_prefix stream inside tail) in
     let laid = read.stream_found (tables_in root) (stream_bytes root headers Tables each) stream_holds in
     let sizes = sizes_of (tables_in root) in
-    let fits = rules_found read.columns (source_at offset root) (all_back stream inside tail) in (
+    let fits = rules_found (source_at offset root) (all_back stream inside tail) in (
       record { version = (root_read root).version; user = zero_padded (stream_in root headers UserStrings); tables = fits.all },
       record {
         small = is.0;
@@ -202,8 +180,7 @@ model_found read offset root each holds =
         laid_out = subst (λ (n : List (List (List ℕ))). IsLaidOut (tables_in root) sizes n) (read.numbers_are (tables_in root) sizes laid.0 laid.1) laid.1;
         cells = fits.cells;
         ordered = fits.ordered;
-        owned = fits.owned;
-        nested = fits.nested;
+        linked = fits.linked;
         user = refl;
       },
     )

@@ -1,6 +1,6 @@
 -- Models with the same parts are equal.
-use Rattle.metadata.proofs.Prelude.{◌≡◌, ℕ, suc, ◌+◌, ◌-◌, ◌<◌, List, [], ◌∷◌, length, get_or, map, refl, sym, ap, subst, ◌∙◌, arith, range_with_len, get_or-map, TableId, Module, tables, table_index_of, Cell, Number, Metadata, rows_of, row_of, HasRow, table_at}
-use Rattle.std.proofs.lemmas.List.FromFn.{get_or-range_with_len}
+use Rattle.metadata.proofs.Prelude.{◌≡◌, ℕ, suc, ◌+◌, ◌-◌, ◌<◌, List, [], ◌∷◌, length, get_or, refl, sym, ap, subst, ◌∙◌, arith, TableId, tables, Cell, Number, Metadata, rows_of, row_of, HasRow, table_at}
+use Rattle.table_schema.proofs.TableFacts.{table_index_at}
 use Rattle.metadata.specs.Same.{SaysSame}
 
 -- lists with the same items are equal
@@ -13,17 +13,7 @@ lists_one d (x ∷ xs) (y ∷ ys) long each =
     let tail = lists_one d xs ys (omega arith) (λ k below. each (suc k) (omega arith)) in
     cc
 
-table_indexes : map table_index_of tables ≡ range_with_len 0 38
-unfolding tables
-table_indexes = refl
-
--- a table is found by its table index
-pub table_index_at : length tables ≡ 38 → (k : ℕ) → k < 38 → table_index_of (table_at k) ≡ k
-table_index_at count k below =
-    sym (get_or-map table_index_of tables k Module 0 (omega (arith, count))) ∙ ap (λ (l : List ℕ). get_or l k 0) table_indexes ∙ get_or-range_with_len 0 38 k 0 below
-    ∙ omega arith
-
-module _ (stand : (j : ℕ) → j < 38 → table_index_of (table_at j) ≡ j) (model other : Metadata) (same : SaysSame model other) where
+module _ (model other : Metadata) (same : SaysSame model other) where
   row_one : (table : TableId) (row : ℕ) → HasRow model table row → row_of model table row ≡ row_of other table row
   row_one table row there =
       lists_one (Number 0) (row_of model table row) (row_of other table row) (same.long table row there) (λ cell_index below. same.cells table row cell_index there below)
@@ -39,7 +29,7 @@ module _ (stand : (j : ℕ) → j < 38 → table_index_of (table_at j) ≡ j) (m
   tables_one =
       lists_one [] model.tables other.tables (same.tables ∙ sym same.other_tables)
       (λ j below.
-      subst (λ (i : ℕ). get_or model.tables i [] ≡ get_or other.tables i []) (stand j (omega (arith, same.tables))) (rows_one (table_at j)))
+      subst (λ (i : ℕ). get_or model.tables i [] ≡ get_or other.tables i []) (table_index_at j (omega (arith, same.tables))) (rows_one (table_at j)))
 
   pub models_one : model ≡ other
   models_one =

@@ -1,7 +1,7 @@
 -- A number represents a cell if and only if all rules for it hold. It represents at most one.
-use Rattle.metadata.proofs.Prelude.{◌≡◌, ℕ, ◌^◌, ◌≤◌, length, Bool, true, false, List, Option, Some, None, refl, sym, ◌∙◌, ap, subst, arith, inl, inr, same_from_place, slice_get_within, AllHold, TableId, Token, Coded, SigKind, ColumnKind, tables_of, tag_bits, IsCoded, IsText, IsBlob, IsGuid, Body, Encodes, Cell, Number, Text, Bytes, Guid, Ref, Start, Sig, Source, Refers, StandsFor, is_padding, MayRefer, rules_of_number, rules_of_encoding}
-use Rattle.std.specs.List.{slice_get}
+use Rattle.metadata.proofs.Prelude.{◌≡◌, ℕ, Bool, true, false, List, Option, Some, None, refl, sym, ◌∙◌, ap, subst, arith, inl, inr, AllHold, TableId, Token, Coded, SigKind, ColumnKind, IsCoded, IsText, IsBlob, IsGuid, Body, Encodes, Cell, Number, Text, Bytes, Guid, Ref, Start, Sig, Source, Refers, StandsFor, is_padding, MayRefer, rules_of_number, rules_of_encoding}
 use Rattle.table_schema.specs.declared.column.ColumnKind.TheVariants as kind
+use Rattle.table_schema.proofs.CodedLemmas.{one_name}
 use Rattle.heap_entries.specs.Rules.{rules_of_text}
 
 -- references
@@ -19,11 +19,6 @@ refers_one source nullable token x y (inl a) (inl b) = a.2 ∙ sym b.2
 refers_one source nullable token x y (inl a) (inr b) = absurd (omega (arith, a.0, b.0.0))
 refers_one source nullable token x y (inr a) (inl b) = absurd (omega (arith, a.0.0, b.0))
 refers_one source nullable token x y (inr a) (inr b) = a.1 ∙ sym b.1
-
-same_token : (a b : Token) → a.table ≡ b.table → a.row ≡ b.row → a ≡ b
-same_token a b tables rows =
-    ap (λ (t : TableId). let x : Token = record { table = t; row = a.row } in x) tables
-    ∙ ap (λ (n : ℕ). let x : Token = record { table = b.table; row = n } in x) rows
 
 -- texts
 
@@ -85,24 +80,18 @@ pub padding_met : (source : Source) (kind : ColumnKind) (nullable : Bool) (numbe
 padding_met source kind.Padding nullable number offset other padding = (tt, tt)
 padding_met source _ nullable number offset other padding = absurd cc
 
--- what is known of entries, tags and signatures
+-- what is known of entries and signatures
 pub record AreOne : Type 0 where
   pub text : (heap : List ℕ) (index : ℕ) (text other : List ℕ) → IsText heap index text → IsText heap index other → text ≡ other
   pub blob : (heap : List ℕ) (index : ℕ) (blob other : List ℕ) → IsBlob heap index blob → IsBlob heap index other → blob ≡ other
   pub guid : (heap : List ℕ) (index : ℕ) (guid other : Option (List ℕ)) → IsGuid heap index guid → IsGuid heap index other → guid ≡ other
-  pub few_tags : (coded : Coded) → length (tables_of coded) ≤ 2 ^ tag_bits coded
   pub signature : (kind : SigKind) (first second : Body) (bytes : List ℕ) → Encodes kind first bytes → Encodes kind second bytes → first ≡ second
 
 -- a coded index refers to one row
-token_one : (coded : Coded) (number : ℕ) (a b : Token) → length (tables_of coded) ≤ 2 ^ tag_bits coded
-    → IsCoded coded number a.table a.row → IsCoded coded number b.table b.row → a ≡ b
-token_one coded number a b few x y =
-    let first = slice_get_within (tables_of coded) x.tag (Some a.table) x.listed in
-    let second = slice_get_within (tables_of coded) y.tag (Some b.table) y.listed in
-    let same = same_from_place a.row x.tag b.row y.tag (2 ^ tag_bits coded) (omega arith) (omega arith) (sym x.equal ∙ y.equal) in
-    let tables : Some (Some a.table) ≡ Some (Some b.table) = sym x.listed ∙ ap (slice_get (tables_of coded)) same.1 ∙ y.listed in
-    let named : a.table ≡ b.table = cc in
-    same_token a b named same.0
+pub token_one : (coded : Coded) (number : ℕ) (a b : Token) → IsCoded coded number a.table a.row → IsCoded coded number b.table b.row → a ≡ b
+token_one coded number a b x y =
+    let same : (a.table ≡ b.table) × (a.row ≡ b.row) = one_name coded number a.table b.table a.row b.row x y in
+    λ i. record { table = same.0 i; row = same.1 i }
 
 pub stands_one : AreOne → (source : Source) (kind : ColumnKind) (nullable : Bool) (start : TableId → ℕ) (number : ℕ) (x y : Cell)
     → StandsFor source kind nullable start number x → StandsFor source kind nullable start number y → x ≡ y
@@ -118,6 +107,6 @@ stands_one one source (kind.Signature column) nullable start number x y a b =
     a.5 ∙ ap Sig (one.signature column a.1 b.1 b.0 (subst (Encodes column a.1) blob a.3) b.3) ∙ sym b.5
 stands_one one source (kind.Row table) nullable start number x y a b = refers_one source nullable (record { table = table; row = number }) x y a b
 stands_one one source (kind.Coded coded) nullable start number x y a b =
-    let named = token_one coded number a.0 b.0 (one.few_tags coded) a.1 b.1 in
+    let named = token_one coded number a.0 b.0 a.1 b.1 in
     refers_one source nullable b.0 x y (subst (λ (t : Token). Refers source nullable t x) named a.2) b.2
 stands_one one source (kind.List member) nullable start number x y a b = a.1 ∙ sym b.1

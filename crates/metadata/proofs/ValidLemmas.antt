@@ -1,21 +1,18 @@
 -- The model of a root is valid.
-use Rattle.metadata.proofs.Prelude.{◌≡◌, ℕ, zero, suc, ◌+◌, ◌-◌, ◌%◌, ◌^◌, ◌<◌, ◌≤◌, Bool, eqb, List, [], ◌∷◌, take, drop, length, get_or, Contains, IsUtf8, refl, sym, ap, subst, ◌∙◌, inl, inr, Option, Some, None, IfSome, lit<, arith, length-append, option_map, cond_both, length-take, length-drop, length-replicate, Tables, UserStrings, Header, named, stream_name, HasNoNul, IsText, IsBlob, IsGuid, zero_padded, TableId, Module, TypeDef, Field, MethodDef, Param, EventMap, Event, PropertyMap, Property, NestedClass, Token, SigKind, ColumnKind, tables, table_index_of, columns_of, column_at, tables_of, Sizes, count_of, kind_width, width_of, IsLaidOut, HoldsCell, Body, Encodes, IsEncodable, tokens, Cell, Number, Ref, Start, Metadata, rows_of, row_of, count_in, cell_in, Source, rows_in, number_of, IsThere, start_from, start_of, StandsFor, Refers, stream_in, source_in, cell_columns, cell_count, column_of, IsCell, IsRow, IsTable, IsTableAt, IsOwned, IsModel, IsTo, IsOfKind, IsHeld, Names, IsWithinMembers, IsValidCell, IsValidAt, start_in, row_in, HasOwners, IsValid}
+use Rattle.metadata.proofs.Prelude.{◌≡◌, ℕ, zero, suc, ◌+◌, ◌-◌, ◌%◌, ◌^◌, ◌<◌, ◌≤◌, Bool, eqb, List, [], ◌∷◌, take, drop, length, Contains, IsUtf8, refl, sym, ap, subst, ◌∙◌, inl, inr, Option, Some, None, IfSome, lit<, arith, length-append, option_map, cond_both, length-take, length-drop, length-replicate, Tables, UserStrings, Header, named, stream_name, HasNoNul, IsText, IsBlob, IsGuid, zero_padded, TableId, TypeDef, Field, MethodDef, Param, EventMap, Event, PropertyMap, Property, NestedClass, Token, SigKind, ColumnKind, tables, table_index_of, columns_of, column_at, tables_of, Sizes, count_of, kind_width, width_of, IsLaidOut, HoldsCell, Body, Encodes, IsEncodable, tokens, Cell, Number, Ref, Start, Metadata, rows_of, row_of, count_in, cell_in, Source, rows_in, number_of, IsThere, start_from, start_of, StandsFor, Refers, stream_in, source_in, cell_columns, cell_count, column_of, IsCell, IsRow, IsTable, IsTableAt, links_in, IsOwned, IsModel, IsTo, IsOfKind, IsHeld, Names, IsWithinMembers, IsValidCell, IsValidAt, start_in, row_in, HasOwners, IsValid}
 use Rattle.std.specs.Prelude.{slice_get, unwrap_or, replicate}
 use Rattle.std.proofs.lemmas.Str.{IsUtf8-nil}
 use Rattle.packed.specs.Packed.{IsPacked}
 use Rattle.table_schema.specs.declared.column.ColumnKind.TheVariants as kind
 use Rattle.metadata.proofs.ItemLemmas.{all_weaker, items_length, from_at}
-use Rattle.metadata.proofs.TableLemmas.{HaveCells}
+use Rattle.table_schema.proofs.CellColumnLemmas.{cell_column}
+use Rattle.table_schema.proofs.TableFacts.{table_at_index, table_index_below}
 
 -- the laws of the crates below about roots and signatures
 pub record Known : Type 0 where
-  pub count : length tables ≡ 38
-  pub table_index : (table : TableId) → table_index_of table < 38
-  pub stand : (table : TableId) → get_or tables (table_index_of table) Module ≡ table
   pub holds : (stream : List ℕ) (sizes : Sizes) (numbers : List (List (List ℕ))) → IsLaidOut stream sizes numbers
       → (table : TableId) (row column : ℕ) → 1 ≤ row → row ≤ count_of sizes table → column < length (columns_of table)
       → HoldsCell stream sizes numbers table row column
-  pub columns : HaveCells
   pub encodable : (kind : SigKind) (signature : Body) (bytes : List ℕ) → Encodes kind signature bytes → IsEncodable signature
 
 -- ---- the cell that a number represents is valid
@@ -148,8 +145,8 @@ module _ (known : Known) (root : List ℕ) (model : Metadata) (is : IsModel root
   table_is : (table : TableId) → IsTable source table (rows_of model table)
   unfolding source IsTableAt
   table_is table =
-      let here = from_at (IsTableAt source) 0 38 model.tables (table_index_of table) (table_index_of table) [] is.cells (known.table_index table) (omega arith) in
-      subst (λ t. IsTable source t (rows_of model table)) (known.stand table) here
+      let here = from_at (IsTableAt source) 0 38 model.tables (table_index_of table) (table_index_of table) [] is.cells (table_index_below table) (omega arith) in
+      subst (λ t. IsTable source t (rows_of model table)) (table_at_index table) here
 
   counts : (table : TableId) → count_in model table ≡ rows_in source table
   unfolding IsTable
@@ -202,12 +199,12 @@ module _ (known : Known) (root : List ℕ) (model : Metadata) (is : IsModel root
       valid_cell known model source counts column.kind column.nullable (start_of source table row (column_of table cell_index))
       (number_of source table row (column_of table cell_index))
       (cell_in model table row cell_index)
-      (number_fits table row (column_of table cell_index) first last (known.columns.column table cell_index below).0)
+      (number_fits table row (column_of table cell_index) first last (cell_column table cell_index below).0)
       (λ member lists. start_within table row cell_index member first last below lists)
       (cell_is table row cell_index first last below)
 
   has_owners : (table : TableId) (cell_index : ℕ) (member : TableId) → cell_index < cell_count table → (column_at table (column_of table cell_index)).kind ≡ kind.List member
-      → IsOwned source table (column_of table cell_index) member → HasOwners model table cell_index member
+      → IsOwned (links_in source) table (column_of table cell_index) member → HasOwners model table cell_index member
   has_owners table cell_index member below lists owned =
       let count = counts table in
       let start : (row : ℕ) → 1 ≤ row → row ≤ rows_in source table → start_in (cell_in model table row cell_index)
@@ -238,14 +235,14 @@ module _ (known : Known) (root : List ℕ) (model : Metadata) (is : IsModel root
     few = λ table. rw (counts table) (is.laid_out.few table);
     long = λ table row there. row_long table row there.0 (omega (arith, counts table, there.1));
     cells = λ table row cell_index there below. cell_valid table row cell_index there.0 (omega (arith, counts table, there.1)) below;
-    fields = has_owners TypeDef 4 Field (lit< tt) refl is.owned.fields;
-    methods = has_owners TypeDef 5 MethodDef (lit< tt) refl is.owned.methods;
-    params = has_owners MethodDef 5 Param (lit< tt) refl is.owned.params;
-    events = has_owners EventMap 1 Event (lit< tt) refl is.owned.events;
-    properties = has_owners PropertyMap 1 Property (lit< tt) refl is.owned.properties;
+    fields = has_owners TypeDef 4 Field (lit< tt) refl is.linked.fields;
+    methods = has_owners TypeDef 5 MethodDef (lit< tt) refl is.linked.methods;
+    params = has_owners MethodDef 5 Param (lit< tt) refl is.linked.params;
+    events = has_owners EventMap 1 Event (lit< tt) refl is.linked.events;
+    properties = has_owners PropertyMap 1 Property (lit< tt) refl is.linked.properties;
     nested = λ row there.
         let here : row ≤ rows_in source NestedClass = omega (arith, counts NestedClass, there.1) in
         let low = referred _ TypeDef _ _ (cell_is NestedClass row 1 there.0 here (lit< tt)) in
         let high = referred _ TypeDef _ _ (cell_is NestedClass row 0 there.0 here (lit< tt)) in
-        omega (arith, is.nested row there.0 here, low, high);
+        omega (arith, is.linked.nested row there.0 here, low, high);
   }

@@ -8,6 +8,7 @@ pub mod Starts
 pub mod Stands
 pub mod Rows
 pub mod RowRules
+pub mod LinkRules
 pub mod Model
 pub mod SourceAt
 pub mod Rules

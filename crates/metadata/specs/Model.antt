@@ -16,7 +16,7 @@ use Rattle.schema.specs.LaidOut.{IsLaidOut}
 use Rattle.table_schema.specs.Tokens.{IsToken}
 use Rattle.metadata.specs.Metadata.{Metadata, count_in}
 use Rattle.metadata.specs.Rows.{AreTables}
-use Rattle.metadata.specs.RowRules.{AreByKey, AreOwned, AreNested}
+use Rattle.metadata.specs.RowRules.{AreByKey, AreLinked, links_in}
 use Rattle.metadata.specs.Streams.{stream_in, source_in, root_in}
 
 -- The root has this model: it is a root with the model's version; its `#~` stream encodes numbers that represent the
@@ -31,8 +31,7 @@ pub record IsModel (root : List ℕ) (model : Metadata) : Type 0 where
   pub laid_out : IsLaidOut (stream_in root headers Tables) sizes numbers
   pub cells : AreTables (source_in root headers sizes numbers) model.tables
   pub ordered : AreByKey (source_in root headers sizes numbers)
-  pub owned : AreOwned (source_in root headers sizes numbers)
-  pub nested : AreNested (source_in root headers sizes numbers)
+  pub linked : AreLinked (links_in (source_in root headers sizes numbers))
   pub user : model.user ≡ zero_padded (stream_in root headers UserStrings)
 
 -- II.25.3.3.2: the entry point is 0, or the token of an existing row of MethodDef or File

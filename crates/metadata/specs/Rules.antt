@@ -1,11 +1,10 @@
 -- The rules for a root and for a file, from the first to the last (ECMA-335 II.22 to II.25). A rule applies only if all
 -- rules before it hold. Each has a code, and the offset in the input that is reported if it is broken.
-use Rattle.std.specs.Prelude.{◌≡◌, ◌≢◌, ℕ, ◌+◌, ◌-◌, ◌<◌, ◌≤◌, ◌⊎◌, ⊤, Bool, true, false, List, [], ◌∷◌, ◌++◌, length, Option, Some, None}
-use Rattle.packed.specs.declared.code.FaultCode.TheVariants.{BadTag, BadIndex, BadList, NotSorted, NoOwner, BadRun, NestedOrder, BadSignature, SignatureIndex, EntryPoint}
+use Rattle.std.specs.Prelude.{◌≡◌, ℕ, ◌+◌, ◌-◌, ◌≤◌, ◌⊎◌, ⊤, Bool, true, false, List, [], ◌∷◌, ◌++◌, length, Option, Some, None}
+use Rattle.packed.specs.declared.code.FaultCode.TheVariants.{BadTag, BadIndex, BadList, NotSorted, BadSignature, SignatureIndex, EntryPoint}
 use Rattle.packed.specs.declared.fault.Fault.{Fault}
-use Rattle.packed.specs.Rule.{Rule, rule, rules_from, rules_if, rebased}
+use Rattle.packed.specs.Rule.{Rule, rule, fault, rules_from, rules_if, rebased}
 use Rattle.table_schema.specs.declared.table.TableId.{TableId}
-use Rattle.table_schema.specs.declared.table.TableId.TheVariants.{TypeDef, Field, MethodDef, Param, EventMap, Event, PropertyMap, Property, NestedClass}
 use Rattle.table_schema.specs.declared.token.Token.{Token}
 use Rattle.table_schema.specs.declared.coded.Coded.{Coded}
 use Rattle.table_schema.specs.declared.column.SigKind.{SigKind}
@@ -26,10 +25,10 @@ use Rattle.sig_grammar.specs.Syntax.{Body}
 use Rattle.sig_grammar.specs.Encodes.{Encodes}
 use Rattle.metadata.specs.Source.{Source, rows_in, number_of, IsThere}
 use Rattle.metadata.specs.Streams.{root_in}
-use Rattle.metadata.specs.Starts.{start_of}
 use Rattle.metadata.specs.Stands.{HasRows}
 use Rattle.metadata.specs.Rows.{table_at}
-use Rattle.metadata.specs.RowRules.{is_said_sorted}
+use Rattle.metadata.specs.RowRules.{is_said_sorted, links_in}
+use Rattle.metadata.specs.LinkRules.{Checked, rules_of_links}
 use Rattle.metadata.specs.Model.{IsEntryPoint, has_native_entry_point}
 use Rattle.metadata.specs.SourceAt.{SourceAt, cell_offset, tables_in, tables_offset, source_of, source_at}
 
@@ -98,37 +97,15 @@ rules_of_order_at here table_index = rules_of_order_by here (table_at table_inde
 unfoldable pub rules_of_order : SourceAt → List (Rule Fault)
 rules_of_order here = rules_from (rules_of_order_at here) 0 38
 
--- ---- the runs of members
+-- ---- the links between rows
 
--- the rule for the start of a run: it is not lower than that of the owner before
-unfoldable pub rules_of_start : SourceAt → TableId → ℕ → TableId → ℕ → List (Rule Fault)
-rules_of_start here owner column member row =
-    rule (start_of here.source owner (row - 1) column member ≤ start_of here.source owner row column member) BadRun (cell_offset here owner row column) ∷ []
+-- the links of a root, and the fault at a cell
+abbrev pub in_place : SourceAt → Checked Fault
+in_place here = record { links = links_in here.source; error = λ code table row column. fault code (cell_offset here table row column) }
 
--- the rules for owners: without owners there are no members; the first run starts at 1; starts never decrease (II.22)
-unfoldable pub rules_of_run : SourceAt → TableId → ℕ → TableId → List (Rule Fault)
-rules_of_run here owner column member =
-    rule (rows_in here.source owner ≡ 0 → rows_in here.source member ≡ 0) NoOwner (cell_offset here member 1 0)
-    ∷ rule (rows_in here.source owner ≢ 0 → start_of here.source owner 1 column member ≡ 1) BadRun (cell_offset here owner 1 column)
-    ∷ rules_from (rules_of_start here owner column member) 2 (rows_in here.source owner - 1)
-
-unfoldable pub rules_of_runs : SourceAt → List (Rule Fault)
-rules_of_runs here =
-    rules_of_run here TypeDef 4 Field
-    ++ (rules_of_run here TypeDef 5 MethodDef
-    ++ (rules_of_run here MethodDef 5 Param
-    ++ (rules_of_run here EventMap 1 Event
-    ++ rules_of_run here PropertyMap 1 Property)))
-
--- ---- the order of nested types
-
--- the rule for a row of NestedClass: the enclosing type comes before the nested one (II.22.32)
-unfoldable pub rules_of_nesting_in : SourceAt → ℕ → List (Rule Fault)
-rules_of_nesting_in here row =
-    rule (number_of here.source NestedClass row 1 < number_of here.source NestedClass row 0) NestedOrder (cell_offset here NestedClass row 1) ∷ []
-
-unfoldable pub rules_of_nesting : SourceAt → List (Rule Fault)
-rules_of_nesting here = rules_from (rules_of_nesting_in here) 1 (rows_in here.source NestedClass)
+-- the rules for rows: their order, and their links
+unfoldable pub rules_of_rows : SourceAt → List (Rule Fault)
+rules_of_rows here = rules_of_order here ++ rules_of_links (in_place here)
 
 -- ---- signatures
 
@@ -168,10 +145,8 @@ rules_of_signatures here = rules_from (rules_of_signatures_at here) 0 38
 unfoldable pub rules_of_tables : SourceAt → List (Rule Fault)
 rules_of_tables here =
     rules_of_cells here
-    ++ (rules_of_order here
-    ++ (rules_of_runs here
-    ++ (rules_of_nesting here
-    ++ rules_of_signatures here)))
+    ++ (rules_of_rows here
+    ++ rules_of_signatures here)
 
 -- the rules for a root at offset `offset` of the input: its stream headers, its table stream, and its tables
 unfoldable pub rules_of_metadata : ℕ → List ℕ → List (Rule Fault)

@@ -1,5 +1,5 @@
 -- The rules for a valid model, independent of a root (ECMA-335 II.22 and II.24.2).
-use Rattle.std.specs.Prelude.{◌≡◌, ◌≢◌, ℕ, ◌-◌, ◌+◌, ◌^◌, ◌%◌, ◌<◌, ◌≤◌, ⊤, Bool, true, List, length, Some, None}
+use Rattle.std.specs.Prelude.{◌≡◌, ℕ, ◌+◌, ◌^◌, ◌%◌, ◌<◌, ◌≤◌, ⊤, Bool, true, List, length, Some, None}
 use Rattle.std.specs.List.{AllByRecursion}
 use Rattle.root.specs.Root.{IsVersion}
 use Rattle.table_schema.specs.declared.table.TableId.{TableId}
@@ -14,6 +14,7 @@ use Rattle.metadata.specs.Cell.{Cell, Ref, Start, Sig}
 use Rattle.metadata.specs.Kinds.{IsOfKind, IsStorable, IsHeld}
 use Rattle.metadata.specs.Metadata.{Metadata, row_of, count_in, cell_in}
 use Rattle.metadata.specs.Lookups.{HasRow}
+use Rattle.metadata.specs.RowRules.{Links, IsOwned, IsNested}
 
 -- ---- cells
 
@@ -57,7 +58,7 @@ nullable_at table cell_index = (column_at table (column_of table cell_index)).nu
 abbrev pub IsValidAt : Metadata → TableId → ℕ → Cell → Type 0
 IsValidAt model table cell_index cell = IsValidCell model (kind_at table cell_index) (nullable_at table cell_index) cell
 
--- ---- the runs of members, and nested types
+-- ---- the links between rows
 
 -- the number of a start
 abbrev pub start_in : Cell → ℕ
@@ -69,16 +70,17 @@ abbrev pub row_in : Cell → ℕ
 row_in (Ref (Some token)) = token.row
 row_in _ = 0
 
--- each member has one owner, by the starts in the owners' rows: without owners there are no members; the first start is
--- 1; and starts never decrease
-pub record HasOwners (model : Metadata) (owner : TableId) (cell_index : ℕ) (member : TableId) : Type 0 where
-  pub ownerless : count_in model owner ≡ 0 → count_in model member ≡ 0
-  pub first : count_in model owner ≢ 0 → start_in (cell_in model owner 1 cell_index) ≡ 1
-  pub rising : (row : ℕ) → 2 ≤ row → row ≤ count_in model owner → start_in (cell_in model owner (row - 1) cell_index) ≤ start_in (cell_in model owner row cell_index)
+-- the links of a model: in its cells (`RowRules.antt`)
+abbrev pub links_of : Metadata → Links
+links_of model = record {
+  count = count_in model;
+  start = λ owner row cell_index member. start_in (cell_in model owner row cell_index);
+  reference = λ table row cell_index. row_in (cell_in model table row cell_index);
+}
 
--- a type comes after the one that it is nested in (II.22.32)
-abbrev pub IsBehind : Metadata → ℕ → Type 0
-IsBehind model row = row_in (cell_in model NestedClass row 1) < row_in (cell_in model NestedClass row 0)
+-- each member has one owner, by the starts in the owners' rows
+abbrev pub HasOwners : Metadata → TableId → ℕ → TableId → Type 0
+HasOwners model owner cell_index member = IsOwned (links_of model) owner cell_index member
 
 -- ---- the whole
 
@@ -103,4 +105,4 @@ pub record IsValid (model : Metadata) : Type 0 where
   pub params : HasOwners model MethodDef 5 Param
   pub events : HasOwners model EventMap 1 Event
   pub properties : HasOwners model PropertyMap 1 Property
-  pub nested : (row : ℕ) → HasRow model NestedClass row → IsBehind model row
+  pub nested : (row : ℕ) → HasRow model NestedClass row → IsNested (links_of model) row

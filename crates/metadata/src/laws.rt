@@ -19,7 +19,7 @@ ghost use Rattle.metadata.specs.Source.{Source, rows_in, number_of};
 ghost use Rattle.metadata.specs.Streams.{stream_in};
 ghost use Rattle.table_schema.specs.CellColumns.{cell_count, column_of};
 ghost use Rattle.metadata.specs.Rows.{IsCell};
-ghost use Rattle.metadata.specs.RowRules.{IsInOrder, AreByKey, AreOwned, AreNested};
+ghost use Rattle.metadata.specs.RowRules.{IsInOrder, AreByKey, AreLinked, links_in};
 ghost use Rattle.metadata.specs.Model.{IsModel, IsModelOfFile};
 ghost use Rattle.metadata.specs.SourceAt.{tables_in, source_of};
 ghost use Rattle.metadata.specs.Valid.{IsValid, kind_at};
@@ -38,9 +38,7 @@ pub fn roots_have_models()
     root::laws::roots_are_read();
     schema::laws::streams_are_read();
     schema::laws::numbers_are_read();
-    table_schema::laws::cells_have_columns();
     heap_entries::laws::entries_are_one();
-    table_schema::laws::tags_fit();
     sig_values::laws::signatures_are_read();
 }
 
@@ -72,13 +70,11 @@ pub fn models_are_read()
     ensures long { (root : List ℕ) (model : Metadata) → IsModel root model → (table : Table) (row : ℕ)
         → 1 ≤ row → row ≤ rows_in (source_of root) table → length (row_of model table row) ≡ cell_count table }
     ensures rules { (root : List ℕ) (model : Metadata) → IsModel root model
-        → AreByKey (source_of root) × AreOwned (source_of root) × AreNested (source_of root) }
+        → AreByKey (source_of root) × AreLinked (links_in (source_of root)) }
 {
     root::laws::roots_are_read();
     schema::laws::streams_are_read();
     schema::laws::numbers_are_read();
-    table_schema::laws::cells_have_columns();
-    table_schema::laws::tables_stand();
 }
 
 /// A number represents at most one cell.
@@ -87,7 +83,6 @@ pub fn cells_are_one()
         → IsCell source table row cell_index other → cell ≡ other }
 {
     heap_entries::laws::entries_are_one();
-    table_schema::laws::tags_fit();
     sig_values::laws::signatures_are_read();
 }
 
@@ -95,9 +90,7 @@ pub fn cells_are_one()
 pub fn models_of_roots_are_valid()
     ensures { (root : List ℕ) (model : Metadata) → IsModel root model → IsValid model }
 {
-    table_schema::laws::tables_stand();
     schema::laws::cells_stand();
-    table_schema::laws::cells_have_columns();
     sig_values::laws::encoded_is_encodable();
 }
 
@@ -105,9 +98,7 @@ pub fn models_of_roots_are_valid()
 pub fn valid_models_are_not_refused()
     ensures met { (model : Metadata) → IsValid model → AllHold (refusals_of model) }
     ensures sound { (model : Metadata) → length model.tables ≡ 38 → AllHold (refusals_of model) → IsValid model }
-{
-    table_schema::laws::tables_stand();
-}
+{}
 
 /// The key numbers of a table in a root are those in its model, so they are in order in both or in neither.
 pub fn keys_are_in_order()
@@ -118,10 +109,6 @@ pub fn keys_are_in_order()
         → number_of (source_of root) table row (column_of table cell) ≡ key_in model table cell row }
 {
     models_are_read();
-    table_schema::laws::tables_stand();
-    table_schema::laws::columns_stand();
-    table_schema::laws::cells_have_columns();
-    table_schema::laws::tags_fit();
 }
 
 /// Two rows have different numbers in a key column that can refer to both.
@@ -129,27 +116,16 @@ pub fn key_numbers_are_one()
     ensures { (table : Table) (cell : ℕ) → IsKeyCell table cell → (token : Token) → 1 ≤ token.row → IsOfKind (kind_at table cell) (Ref (Some token))
         → (key : Cell) → IsOfKind (kind_at table cell) key
         → (key ≡ Ref (Some token)) ↔ (key_number (kind_at table cell) key ≡ row_number (kind_at table cell) token) }
-{
-    table_schema::laws::tables_stand();
-    table_schema::laws::columns_stand();
-    table_schema::laws::cells_have_columns();
-    table_schema::laws::tags_fit();
-}
+{}
 
 /// The number of a coded index is the one by which its column refers to the row that the index names (II.24.2.6).
 pub fn coded_indexes_are_row_numbers()
     ensures { (coded : TheCoded) (number : ℕ) (token : Token) → IsCoded coded number token.table token.row
         → number ≡ row_number (Coded coded) token }
-{
-    table_schema::laws::tables_stand();
-    table_schema::laws::columns_stand();
-    table_schema::laws::cells_have_columns();
-    table_schema::laws::tags_fit();
-}
+{}
 
 /// Two models with the same parts are equal.
+#[tactic(auto, using(crate::proofs::SameLemmas::models_one))]
 pub fn models_of_same_parts_are_one()
     ensures { (model other : Metadata) → SaysSame model other → model ≡ other }
-{
-    table_schema::laws::tables_stand();
-}
+{}

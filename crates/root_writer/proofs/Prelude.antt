@@ -22,7 +22,7 @@ pub use Rattle.metadata.specs.Cell.{Cell, Number, Text, Bytes, Guid, Ref, Start,
 pub use Rattle.metadata.specs.Lookups.{IsKeyCell, HasRow}
 pub use Rattle.metadata.specs.Metadata.{Metadata, count_in, rows_of, row_of, cell_in}
 pub use Rattle.metadata.specs.Model.{IsModel}
-pub use Rattle.metadata.specs.RowRules.{is_said_sorted, IsByKey, AreByKey, AreNested, IsOwned, AreOwned}
+pub use Rattle.metadata.specs.RowRules.{is_said_sorted, IsByKey, AreByKey, links_in, IsOwned, AreLinked}
 unfoldable pub use Rattle.metadata.specs.Rows.{IsRow, IsTable, IsTableAt}
 pub use Rattle.metadata.specs.Rows.{table_at, AreFrom, IsCell, AreTables}
 unfoldable pub use Rattle.metadata.specs.Source.{number_of}
@@ -57,7 +57,7 @@ pub use Rattle.table_schema.specs.CellColumns.{cell_count, column_of, is_padding
 pub use Rattle.table_schema.specs.CodedIndexes.{tables_of, tag_bits, IsCoded}
 pub use Rattle.table_schema.specs.Columns.{columns_of, column_at, key_of, IsReference, MayBeNull, col}
 unfoldable pub use Rattle.table_schema.specs.Tables.{tables}
-pub use Rattle.table_schema.specs.Tables.{table_index_of, table_number}
+pub use Rattle.table_schema.specs.Tables.{table_index_of}
 pub use Rattle.table_schema.specs.declared.coded.Coded.{Coded}
 pub use Rattle.table_schema.specs.declared.column.Column.{Column}
 pub use Rattle.table_schema.specs.declared.column.ColumnKind.{ColumnKind}

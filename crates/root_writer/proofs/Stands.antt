@@ -7,7 +7,9 @@ use Rattle.heap_pools.proofs.MemberLemmas.{IsIn, contains_from_in, in_distinct}
 use Rattle.heap_pools.proofs.FoundLemmas.{blob_found, guid_found, text_found}
 use Rattle.table_schema.proofs.CodedLemmas.{tables_few}
 use Rattle.root_writer.proofs.Facts.{Facts}
-use Rattle.root_writer.proofs.Widths.{text_within, blob_within, guid_within, index_fits, texts_width, guids_width, blobs_width, count_is, row_fits, coded_fits, tag_found}
+use Rattle.table_schema.proofs.CodedLemmas.{tag_below}
+use Rattle.metadata.proofs.KeyLemmas.{tag_listed}
+use Rattle.root_writer.proofs.Widths.{text_within, blob_within, guid_within, index_fits, texts_width, guids_width, blobs_width, count_is, row_fits, coded_fits}
 
 -- the source from which the cells of the canonical root are read
 abbrev pub source_with : Metadata → List (List (List ℕ)) → Source
@@ -105,14 +107,20 @@ module _ (model : Metadata) (within : IsWithin model) where
   coded_stands numbers nullable coded cell null_used (inr is) =
       let token = is.0 in
       let has = there numbers token is.2 in
+<<<<<<< HEAD
       let tag = tag_found (tables_of coded) token.table is.1 in
       let low : position_or_len (is_table token.table) (tables_of coded) < 2 ^ tag_bits coded = omega (arith, tag.1, tables_few coded) in
       let fits = coded_fits (sizes_of model) coded token.table token.row (position_or_len (is_table token.table) (tables_of coded)) tag.0 low has.1
+=======
+      let tag = tag_listed coded token.table is.1 in
+      let low = tag_below coded (position_or_len (is_table token.table) (tables_of coded)) token.table tag in
+      let fits = coded_fits facts (sizes_of model) coded token.table token.row (position_or_len (is_table token.table) (tables_of coded)) tag low has.1
+>>>>>>> h_E
       (few token.table) in (
         token,
         record {
           tag = position_or_len (is_table token.table) (tables_of coded);
-          listed = tag.0;
+          listed = tag;
           equal = ap (λ c. cell_number (pools_of model) (kind.Coded coded) c % 256 ^ coded_width (sizes_of model) coded) is.3 ∙ mod-eq_of_lt fits;
         },
         inr (has, is.3),

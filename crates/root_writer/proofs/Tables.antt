@@ -1,10 +1,14 @@
 -- The numbers of the canonical table stream encode the cells of the model.
-use Rattle.root_writer.proofs.Prelude.{◌≡◌, lit<, true≢false, ℕ, zero, suc, ◌+◌, ◌-◌, ◌%◌, ◌^◌, ◌<◌, ◌≤◌, Bool, true, false, ltb, List, [], ◌∷◌, length, get_or, refl, sym, ap, subst, ◌∙◌, ◌⊎◌, inl, inr, arith, or_parts, list_any, TableId, TypeDef, Field, MethodDef, Param, EventMap, Event, PropertyMap, Property, Column, ColumnKind, table_index_of, columns_of, column_at, col, MayBeNull, count_of, narrow_or_wide, kind_width, width_of, Cell, Number, Start, Metadata, rows_of, count_in, cell_in, Source, rows_in, number_of, start_from, start_of, StandsFor, cell_columns, cell_count, column_of, IsCell, IsRow, IsTable, table_at, IsTableAt, AreTables, IsOwned, AreOwned, used, texts_of, blobs_of, guids_of, pools_of, cell_number, sizes_of, start_in, HasOwners, IsValid}
+use Rattle.root_writer.proofs.Prelude.{◌≡◌, true≢false, ℕ, zero, suc, ◌+◌, ◌-◌, ◌%◌, ◌^◌, ◌<◌, ◌≤◌, Bool, true, false, ltb, List, [], ◌∷◌, length, get_or, refl, sym, ap, subst, ◌∙◌, ◌⊎◌, inl, inr, arith, or_parts, list_any, TableId, TypeDef, Field, MethodDef, Param, EventMap, Event, PropertyMap, Property, Column, ColumnKind, table_index_of, columns_of, column_at, col, MayBeNull, count_of, narrow_or_wide, kind_width, width_of, Cell, Number, Start, Metadata, rows_of, count_in, cell_in, Source, rows_in, number_of, start_from, start_of, StandsFor, cell_columns, cell_count, column_of, IsCell, IsRow, IsTable, table_at, IsTableAt, AreTables, links_in, IsOwned, used, texts_of, blobs_of, guids_of, pools_of, cell_number, sizes_of, start_in, HasOwners, IsValid}
 use Rattle.table_schema.specs.declared.column.ColumnKind.TheVariants as kind
 use Rattle.root_writer.proofs.HeldRoots.{IsValidCell, row_long, cell_valid}
 use Rattle.root_writer.proofs.Lists.{in_get_or, in_three, are_from}
 use Rattle.root_writer.proofs.Facts.{Facts}
+<<<<<<< HEAD
 use Rattle.table_schema.proofs.TableFacts.{table_index_at, may_be_null, table_index_below}
+=======
+use Rattle.table_schema.proofs.TableFacts.{table_index_at, table_index_below, may_be_null}
+>>>>>>> h_E
 use Rattle.root_writer.proofs.Widths.{count_is}
 use Rattle.root_writer.proofs.Stands.{source_with, IsUsed, IsWithin, HasNull, stands}
 use Rattle.root_writer.proofs.Rows.{fields, cells_of, number_is, located}
@@ -200,8 +204,13 @@ module _ (facts : Facts) (model : Metadata) (valid : IsValid model) (within : Is
       ∙ sym (ap (cell_number (pools_of model) column.kind) is.is) in
       subst (λ n. StandsFor (source_of model) column.kind column.nullable start n cell) (sym (number_at model valid table row cell_index first last below))
       (stands facts model within (fields model) column.kind column.nullable start cell
+<<<<<<< HEAD
       (cell_used model valid table row cell_index first last below)
       (λ nullable. has_null column (may_be_null table (column_of table cell_index) (column_below model valid table row cell_index first last below) nullable))
+=======
+      (cell_used facts model valid table row cell_index first last below)
+      (λ nullable. has_null column (may_be_null table (column_of table cell_index) (column_below facts model valid table row cell_index first last below) nullable))
+>>>>>>> h_E
       started
       (cell_valid model valid table row cell_index first last below))
 
@@ -231,8 +240,8 @@ module _ (facts : Facts) (model : Metadata) (valid : IsValid model) (within : Is
 
   -- ---- each member has one owner
 
-  is_owned : (table : TableId) (cell_index : ℕ) (member : TableId) → cell_index < cell_count table → (column_at table (column_of table cell_index)).kind ≡ kind.List member
-      → HasOwners model table cell_index member → IsOwned (source_of model) table (column_of table cell_index) member
+  pub is_owned : (table : TableId) (cell_index : ℕ) (member : TableId) → cell_index < cell_count table → (column_at table (column_of table cell_index)).kind ≡ kind.List member
+      → HasOwners model table cell_index member → IsOwned (links_in (source_of model)) table (column_of table cell_index) member
   is_owned table cell_index member below lists owners =
       let count = count_is model table in
       let start = start_stands facts model valid within table cell_index member below lists owners in
@@ -243,13 +252,3 @@ module _ (facts : Facts) (model : Metadata) (valid : IsValid model) (within : Is
             rw (start (row - 1) (omega arith) (omega (arith, count)), start row (omega arith) (omega (arith, count)))
             (owners.rising row second (omega (arith, count)));
       }
-
-  pub are_owned : AreOwned (source_of model)
-  unfolding cell_columns
-  are_owned = record {
-    fields = is_owned TypeDef 4 Field (lit< tt) refl valid.fields;
-    methods = is_owned TypeDef 5 MethodDef (lit< tt) refl valid.methods;
-    params = is_owned MethodDef 5 Param (lit< tt) refl valid.params;
-    events = is_owned EventMap 1 Event (lit< tt) refl valid.events;
-    properties = is_owned PropertyMap 1 Property (lit< tt) refl valid.properties;
-  }

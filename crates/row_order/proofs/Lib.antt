@@ -1,3 +1,3 @@
-pub mod OrderLemmas
-pub mod Orders
 pub mod Prelude
+pub mod Starts
+pub mod Verdicts

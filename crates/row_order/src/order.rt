@@ -1,19 +1,15 @@
-ghost use Rattle.std.specs.Prelude.{◌≡◌, ◌≤◌, ◌<◌, length};
+ghost use Rattle.std.specs.Prelude.{◌<◌, length};
 ghost use Rattle.packed.specs.Rule.{Reports};
 ghost use Rattle.table_schema.specs.Columns.{columns_of, key_of};
-ghost use Rattle.metadata.specs.Source.{rows_in};
 ghost use Rattle.row_order.specs.Orders.{ReportsOrder};
-ghost use Rattle.metadata.specs.Rules.{rules_of_key_in, rules_of_keys, rules_of_order_by, rules_of_order};
+ghost use Rattle.metadata.specs.Rules.{rules_of_keys, rules_of_order_by, rules_of_order};
 
 use packed::{Fault, FaultCode};
 use reading::Source;
 use table_schema::{TableId, key};
 
 /// Checks that each table whose `Sorted` bit is set is in order of its key (II.22). `in_order` says which are.
-///
-/// # Errors
-///
-/// The fault of the first key that is less than the one before, with its offset in the metadata root.
+#[tactic(auto, using(packed::proofs::RuleLemmas::before_none, packed::proofs::RuleLemmas::before_more, packed::proofs::RuleLemmas::before_all, packed::proofs::RuleLemmas::before_fails), unfolding(metadata::specs::Rules::rules_of_order, metadata::specs::Rules::rules_of_order_at))]
 pub fn check_order(source: &Source, in_order: &[bool; 45]) -> Result<(), Fault>
     requires { ReportsOrder source.now.source in_order.now }
     ensures { Reports (rules_of_order source.now) result }
@@ -47,28 +43,16 @@ fn check_order_of(source: &Source, table: TableId, in_order: &[bool; 45]) -> Res
 }
 
 /// Checks that the keys of a table never decrease.
+#[tactic(auto, using(packed::proofs::RuleLemmas::before_none, packed::proofs::RuleLemmas::before_more, packed::proofs::RuleLemmas::before_all, packed::proofs::RuleLemmas::before_fails), unfolding(metadata::specs::Rules::rules_of_keys, metadata::specs::Rules::rules_of_key_in))]
 fn check_keys(source: &Source, table: TableId, key: usize) -> Result<(), Fault>
     requires { key < length (columns_of table) }
     ensures { Reports (rules_of_keys source.now table key) result }
 {
     let count = source.count(table);
     for row in 2..count + 1 {
-        check_key(source, table, key, row)?;
+        if source.number(table, row, key) < source.number(table, row - 1, key) {
+            return Err(source.fault(FaultCode::NotSorted, table, row, key));
+        }
     }
     Ok(())
-}
-
-/// Checks that a key is not less than the key of the row before.
-#[tactic(auto, unfolding(metadata::specs::Rules::rules_of_key_in))]
-fn check_key(source: &Source, table: TableId, key: usize, row: u32) -> Result<(), Fault>
-    requires first { 2 ≤ row }
-    requires last { row ≤ rows_in source.now.source table }
-    requires column { key < length (columns_of table) }
-    ensures { Reports (rules_of_key_in source.now table key row) result }
-{
-    if source.number(table, row, key) < source.number(table, row - 1, key) {
-        Err(source.fault(FaultCode::NotSorted, table, row, key))
-    } else {
-        Ok(())
-    }
 }

@@ -1,5 +1,5 @@
 -- Key numbers that never decrease, one row after another.
-use Rattle.tables.proofs.Prelude.{◌≡◌, ℕ, ◌+◌, ◌-◌, ◌<◌, ◌≤◌, List, [], length, slice_index_or, refl, sym, ◌∙◌, ap, inl, inr, arith, cases_eq, get_or_read, TableId, ColumnKind, Metadata, rows_of, key_number, key_in, kind_at}
+use Rattle.tables.proofs.Prelude.{◌≡◌, ℕ, ◌+◌, ◌-◌, ◌<◌, ◌≤◌, List, [], length, slice_index_or, refl, sym, ◌∙◌, inl, inr, arith, cases_eq, get_or_read, TableId, ColumnKind, Metadata, rows_of, key_number, key_in, kind_at}
 use Rattle.metadata.specs.Cell.{Cell, Number}
 
 -- the key number of the current row

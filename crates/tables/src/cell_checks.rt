@@ -5,7 +5,7 @@ ghost use Rattle.tables.specs.Said.{said, all_said};
 ghost use Rattle.metadata.specs.Kinds.{IsOfKind, IsStorable};
 ghost use Rattle.metadata.specs.Metadata.{row_of, count_in, cell_in};
 ghost use Rattle.metadata.specs.Valid.{MayRefer, IsWithinMembers};
-ghost use Rattle.metadata.specs.Refusals.{refusals_of_cell, refusals_of_row, refusals_of_cells};
+ghost use Rattle.metadata.specs.Refusals.{refusals_of_cell, refusals_of_row, refusals_by_row};
 
 use crate::Cell;
 use crate::column::column_at;
@@ -16,9 +16,9 @@ use table_schema::{ColumnKind, TableId, cell_count};
 
 /// Checks that each row has the cells of its table, and that each cell fits its column (II.22). The content
 /// of signatures is checked later.
-#[tactic(auto, using(packed::proofs::RuleLemmas::before_none, packed::proofs::RuleLemmas::before_more, packed::proofs::RuleLemmas::before_all, packed::proofs::RuleLemmas::before_fails), unfolding(metadata::specs::Refusals::refusals_of_cells, metadata::specs::Refusals::refusals_of_table_at))]
+#[tactic(auto, using(packed::proofs::RuleLemmas::before_none, packed::proofs::RuleLemmas::before_more, packed::proofs::RuleLemmas::before_all, packed::proofs::RuleLemmas::before_fails), unfolding(metadata::specs::Refusals::refusals_by_row, metadata::specs::Refusals::refusals_by_row_at))]
 pub fn check_cells(counted: &Counted) -> Result<(), Refusal>
-    ensures { Reports (refusals_of_cells counted.now) result }
+    ensures { Reports (refusals_by_row counted.now (refusals_of_row counted.now)) result }
 {
     let tables = TableId::all();
     for table_index in 0..tables.len() {

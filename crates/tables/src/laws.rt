@@ -14,12 +14,11 @@ pub fn equality_is_tested()
 }
 
 /// A row that is added follows the other rows of its table, and no other table changes.
+#[tactic(auto, using(crate::proofs::PushLemmas::added, crate::proofs::PushLemmas::others_stay))]
 pub fn rows_are_added()
     ensures table { (model : Metadata) (table : Table) (row : List Cell) → length model.tables ≡ 38
         → rows_of (with_row model table row) table ≡ rows_of model table ++ row ∷ [] }
     ensures others { (model : Metadata) (table other : Table) (row : List Cell) → other ≢ table
         → rows_of (with_row model table row) other ≡ rows_of model other }
     ensures tables { (model : Metadata) (table : Table) (row : List Cell) → length (with_row model table row).tables ≡ length model.tables }
-{
-    table_schema::laws::tables_stand();
-}
+{}

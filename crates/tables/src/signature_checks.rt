@@ -4,7 +4,7 @@ ghost use Rattle.table_schema.specs.CellColumns.{cell_count};
 ghost use Rattle.tables.specs.Said.{said};
 ghost use Rattle.metadata.specs.Metadata.{count_in};
 ghost use Rattle.metadata.specs.Valid.{NamesTypes};
-ghost use Rattle.metadata.specs.Refusals.{refusals_of_signature, refusals_of_signatures_in, refusals_of_signatures};
+ghost use Rattle.metadata.specs.Refusals.{refusals_of_signature, refusals_of_signatures_in, refusals_by_row};
 
 use crate::Cell;
 use crate::column::column_at;
@@ -14,9 +14,9 @@ use packed::FaultCode;
 use table_schema::{TableId, cell_count};
 
 /// Checks that each signature is one that its column holds, and that the rows of its type indexes exist (II.23.2).
-#[tactic(auto, using(packed::proofs::RuleLemmas::before_none, packed::proofs::RuleLemmas::before_more, packed::proofs::RuleLemmas::before_all, packed::proofs::RuleLemmas::before_fails), unfolding(metadata::specs::Refusals::refusals_of_signatures, metadata::specs::Refusals::refusals_of_signatures_at))]
+#[tactic(auto, using(packed::proofs::RuleLemmas::before_none, packed::proofs::RuleLemmas::before_more, packed::proofs::RuleLemmas::before_all, packed::proofs::RuleLemmas::before_fails), unfolding(metadata::specs::Refusals::refusals_by_row, metadata::specs::Refusals::refusals_by_row_at))]
 pub fn check_signatures(counted: &Counted) -> Result<(), Refusal>
-    ensures { Reports (refusals_of_signatures counted.now) result }
+    ensures { Reports (refusals_by_row counted.now (refusals_of_signatures_in counted.now)) result }
 {
     let tables = TableId::all();
     for table_index in 0..tables.len() {

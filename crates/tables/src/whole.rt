@@ -7,8 +7,7 @@ use crate::Tables;
 use crate::cell_checks::check_cells;
 use crate::counted::Counted;
 use crate::heads::{is_user, is_version};
-use crate::members::check_members;
-use crate::nesting::check_nesting;
+use crate::links::check_links;
 use crate::signature_checks::check_signatures;
 use metadata::Refusal;
 use packed::FaultCode;
@@ -41,7 +40,6 @@ fn check_rules(tables: &Tables) -> Result<(), Refusal>
     }
     let counted = Counted::new(tables)?;
     check_cells(&counted)?;
-    check_members(&counted)?;
-    check_nesting(&counted)?;
+    check_links(&counted)?;
     check_signatures(&counted)
 }

@@ -6,6 +6,5 @@ returns c = cell_one (record {
   text = c.entries_are_one.ensures.text;
   blob = c.entries_are_one.ensures.blob;
   guid = c.entries_are_one.ensures.guid;
-  few_tags = c.tags_fit.ensures.few;
   signature = c.signatures_are_read.ensures.one;
 })

@@ -11,7 +11,6 @@ read c = record {
   stream_said = c.streams_are_read.ensures.said;
   stream_found = c.streams_are_read.ensures.sound;
   numbers_are = c.numbers_are_read.ensures.is;
-  columns = record { column = c.cells_have_columns.ensures.column; cell = c.cells_have_columns.ensures.cell };
 }
 
 one : goal.After-signatures_are_read → AreOne
@@ -19,7 +18,6 @@ one c = record {
   text = c.entries_are_one.ensures.text;
   blob = c.entries_are_one.ensures.blob;
   guid = c.entries_are_one.ensures.guid;
-  few_tags = c.tags_fit.ensures.few;
   signature = c.signatures_are_read.ensures.one;
 }
 

@@ -1,5 +1,5 @@
 use Rattle.tables.proofs.Prelude.{◌≡◌, ◌↔◌, ℕ, Bool, false, IsTrue, Some, List, slice_index_or, ap, arith, ◌∙◌, length-set, TableId, Module, key_of, IsKeyOrdered}
-use Rattle.tables.proofs.CountLemmas.{known_more}
+use Rattle.metadata.proofs.ByNumber.{known_more}
 use Rattle.tables.proofs.order.find_order.Goals as goal
 
 pub loop-table_index-preserved : goal.loop-table_index-preserved
@@ -8,7 +8,7 @@ loop-table_index-preserved c =
     let limit = c.number.ensures.limit in
     record {
       long = length-set _ _ _ ∙ long;
-      reported = known_more c.tables_stand.ensures.stand c.tables_stand.ensures.rise
+      reported = known_more
           (λ (bit : Bool) (table : TableId). (key : ℕ) → key_of table ≡ Some key → IsTrue bit ↔ IsKeyOrdered c.args.tables.now table) false
           c.loop-table_index.in_order c.loop-table_index.table_index c.number.result
           (slice_index_or c.all-all.result.now c.loop-table_index.table_index Module) c.is_in_order.result

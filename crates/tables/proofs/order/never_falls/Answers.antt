@@ -1,4 +1,4 @@
-use Rattle.tables.proofs.Prelude.{ℕ, arith, count_in, key_in}
+use Rattle.tables.proofs.Prelude.{arith, count_in, key_in}
 use Rattle.tables.proofs.KeyLemmas.{key_here, rising_more, falls_there}
 use Rattle.tables.proofs.order.never_falls.Goals as goal
 

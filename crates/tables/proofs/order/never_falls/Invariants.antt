@@ -1,4 +1,4 @@
-use Rattle.tables.proofs.Prelude.{◌≡◌, ℕ, ◌<◌, ◌≤◌, ◌-◌, key_in}
+use Rattle.tables.proofs.Prelude.{◌≡◌, ℕ, ◌≤◌, ◌-◌, key_in}
 use Rattle.tables.proofs.order.never_falls.Given as goal
 
 abbrev pub invariant-loop-row : goal.invariant-loop-row

@@ -1,5 +1,6 @@
 use Rattle.tables.proofs.Prelude.{◌≡◌, ℕ, List, slice_index_or, ap, arith, ◌∙◌, length-set, before_more, TableId, Module, count_in, refusals_of_count}
-use Rattle.tables.proofs.CountLemmas.{known_more, few_rows}
+use Rattle.metadata.proofs.ByNumber.{known_more}
+use Rattle.tables.proofs.CountLemmas.{few_rows}
 use Rattle.tables.proofs.counted.Counted.new.Goals as goal
 
 pub loop-table_index-preserved : goal.loop-table_index-preserved
@@ -9,7 +10,7 @@ loop-table_index-preserved c =
     record {
       long = length-set _ _ _ ∙ long;
       few = before_more (refusals_of_count c.args.tables.now) 0 c.loop-table_index.table_index c.loop-table_index.invariant.few c.in_ok-counts.ensures.reports;
-      counted = known_more c.tables_stand.ensures.stand c.tables_stand.ensures.rise (λ (count : ℕ) (table : TableId). count ≡ count_in c.args.tables.now table) 0
+      counted = known_more (λ (count : ℕ) (table : TableId). count ≡ count_in c.args.tables.now table) 0
           c.loop-table_index.counts c.loop-table_index.table_index c.number-number.result
           (slice_index_or c.all-all.result.now c.loop-table_index.table_index Module) c.in_ok-counts.field-0
           (ap (λ (ts : List TableId). slice_index_or ts c.loop-table_index.table_index Module) c.all-all.ensures.value)
@@ -21,5 +22,5 @@ invariant_of-result c =
     let done = c.loop-table_index-test.false in
     record {
       counts = λ table. let within = c.tables_stand.ensures.table_index table in c.loop-table_index.invariant.counted table (omega arith);
-      few = few_rows c.tables_stand.ensures.table_index c.tables_stand.ensures.stand c.args.tables.now c.loop-table_index.table_index (omega arith) c.loop-table_index.invariant.few;
+      few = few_rows c.args.tables.now c.loop-table_index.table_index (omega arith) c.loop-table_index.invariant.few;
     }

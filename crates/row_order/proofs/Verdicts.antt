@@ -1,5 +1,5 @@
 -- The first broken rule in order, if there is one.
-use Rattle.checks.proofs.Prelude.{◌≡◌, ℕ, suc, ◌+◌, Bool, true, false, List, [], ◌∷◌, ◌++◌, inl, Option, Some, None, refl, cond, FaultCode, Rule, rule, fault, rules_from, all_append, fails_prefix, fails_back, IsVerdict}
+use Rattle.row_order.proofs.Prelude.{◌≡◌, ℕ, suc, ◌+◌, Bool, true, false, List, [], ◌∷◌, ◌++◌, inl, Option, Some, None, refl, cond, FaultCode, Rule, rule, fault, rules_from, all_append, fails_prefix, fails_back, IsVerdict}
 use Rattle.packed.specs.declared.fault.Fault.{Fault}
 
 -- the first of two faults

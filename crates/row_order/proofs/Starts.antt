@@ -1,17 +1,8 @@
 -- The start of an owner, from that of the next owner.
 use Rattle.std.proofs.Common.{◌≡◌, ℕ, ◌+◌, ◌-◌, ◌<◌, ◌≤◌, ltb, ◌&&◌, cond, Bool, true, false, Option, Some, None, refl, sym, ◌∙◌, eqb, arith, inl, inr}
-use Rattle.checks.proofs.Prelude.{cases_lt, cases_eq, nat_tests, BadRun, rules_from, fault, TableId, Source, rows_in, number_of, start_from, start_of, SourceAt, cell_offset, rules_of_start, IsVerdict, fault_in_row}
+use Rattle.row_order.proofs.Prelude.{cases_lt, cases_eq, nat_tests, BadRun, rules_from, fault, TableId, Source, rows_in, number_of, start_of, SourceAt, cell_offset, in_place, rules_of_start, IsVerdict, fault_in_row}
 use Rattle.reading.proofs.StartLemmas.{start_here, start_next}
-use Rattle.checks.proofs.Verdicts.{first_of, verdict_unless, verdict_prefix, verdict_over}
-
-start_none : (value : ℕ → ℕ) (end row n : ℕ) → n ≡ 0 → start_from value end row n ≡ end
-start_none value end row n e = rw e refl
-
-pub start_of_end : (source : Source) (owner : TableId) (row column : ℕ) (member : TableId) → rows_in source owner < row
-    → start_of source owner row column member ≡ rows_in source member + 1
-unfolding start_of
-start_of_end source owner row column member past =
-    start_none (λ r. number_of source owner r column) _ row (rows_in source owner + 1 - row) (omega arith)
+use Rattle.row_order.proofs.Verdicts.{first_of, verdict_unless, verdict_prefix, verdict_over}
 
 -- the start of an owner, by its number and the start of the next owner
 pub start_by : (source : Source) (owner : TableId) (row column : ℕ) (member : TableId) (number next : ℕ) → row ≤ rows_in source owner
@@ -35,7 +26,7 @@ module _ (here : SourceAt) (owner : TableId) (column : ℕ) (member : TableId) w
   -- the rule for the start after the first
   fallen_verdict : (row next start : ℕ) → next ≡ start_of here.source owner (row + 1) column member
       → start ≡ start_of here.source owner row column member
-      → IsVerdict (rules_of_start here owner column member (row + 1))
+      → IsVerdict (rules_of_start (in_place here) owner column member (row + 1))
       (cond (ltb next start) (Some (fault BadRun (cell_offset here owner (row + 1) column))) None)
   unfolding rules_of_start
   fallen_verdict row next start after is =
@@ -47,9 +38,9 @@ module _ (here : SourceAt) (owner : TableId) (column : ℕ) (member : TableId) w
 
   pub falls_step : (row count next start : ℕ) (falls found : Option ℕ) → 1 ≤ row → row ≤ count
       → next ≡ start_of here.source owner (row + 1) column member → start ≡ start_of here.source owner row column member
-      → IsVerdict (rules_from (rules_of_start here owner column member) (row + 2) (count - (row + 1))) (fault_in_row here owner column falls)
+      → IsVerdict (rules_from (rules_of_start (in_place here) owner column member) (row + 2) (count - (row + 1))) (fault_in_row here owner column falls)
       → found ≡ cond (ltb row count && ltb next start) (Some (row + 1)) falls
-      → IsVerdict (rules_from (rules_of_start here owner column member) (row - 1 + 2) (count - (row - 1 + 1)))
+      → IsVerdict (rules_from (rules_of_start (in_place here) owner column member) (row - 1 + 2) (count - (row - 1 + 1)))
       (fault_in_row here owner column found)
   falls_step row count next start falls found first last after is tail e =
       elim (cases_lt row count) [
@@ -57,11 +48,11 @@ module _ (here : SourceAt) (owner : TableId) (column : ℕ) (member : TableId) w
             let test : ltb row count ≡ true = grind (arith, nat_tests) in
             let offset : row - 1 + 2 ≡ row + 1 = omega arith in
             rw (e, test, offset, pick row falls (ltb next start))
-            (verdict_prefix (rules_of_start here owner column member) (row + 1) (row + 2) (count - (row - 1 + 1)) (count - (row + 1)) _ _
+            (verdict_prefix (rules_of_start (in_place here) owner column member) (row + 1) (row + 2) (count - (row - 1 + 1)) (count - (row + 1)) _ _
             (omega arith) (omega arith) (fallen_verdict row next start after is) tail)
         | inr end ↦
             let test : ltb row count ≡ false = grind (arith, nat_tests) in
             rw (e, test)
-            (verdict_over (rules_of_start here owner column member) (row + 2) (count - (row + 1)) (row - 1 + 2) (count - (row - 1 + 1)) _
+            (verdict_over (rules_of_start (in_place here) owner column member) (row + 2) (count - (row + 1)) (row - 1 + 2) (count - (row - 1 + 1)) _
             (omega arith) (omega arith) tail)
       ]

@@ -3,8 +3,9 @@ ghost use Rattle.packed.specs.Rule.{Reports, rules_from};
 ghost use Rattle.table_schema.specs.Columns.{columns_of};
 ghost use Rattle.metadata.specs.Source.{rows_in};
 ghost use Rattle.metadata.specs.Starts.{start_of};
-ghost use Rattle.metadata.specs.Rules.{rules_of_start, rules_of_run, rules_of_runs};
-ghost use Rattle.checks.specs.Runs.{IsVerdict, fault_in_row};
+ghost use Rattle.metadata.specs.Rules.{in_place};
+ghost use Rattle.metadata.specs.LinkRules.{rules_of_start, rules_of_run, rules_of_runs};
+ghost use Rattle.row_order.specs.Runs.{IsVerdict, fault_in_row};
 
 use packed::{Fault, FaultCode};
 use reading::Source;
@@ -19,24 +20,23 @@ struct Walk {
 }
 
 /// Checks that each member of the five runs has one owner (II.22.37, II.22.26, II.22.12 and II.22.35).
-#[tactic(auto, using(packed::proofs::RuleLemmas::fails_prefix, packed::proofs::RuleLemmas::fails_back, packed::proofs::RuleLemmas::all_append), unfolding(metadata::specs::Rules::rules_of_runs))]
+#[tactic(auto, using(packed::proofs::RuleLemmas::fails_prefix, packed::proofs::RuleLemmas::fails_back, packed::proofs::RuleLemmas::all_append), unfolding(metadata::specs::LinkRules::rules_of_runs))]
 pub fn check_runs(source: &Source) -> Result<(), Fault>
-    ensures { Reports (rules_of_runs source.now) result }
+    ensures { Reports (rules_of_runs (in_place source.now)) result }
 {
     check_run(source, TableId::TypeDef, 4, TableId::Field)?;
     check_run(source, TableId::TypeDef, 5, TableId::MethodDef)?;
     check_run(source, TableId::MethodDef, 5, TableId::Param)?;
     check_run(source, TableId::EventMap, 1, TableId::Event)?;
-    check_run(source, TableId::PropertyMap, 1, TableId::Property)?;
-    Ok(())
+    check_run(source, TableId::PropertyMap, 1, TableId::Property)
 }
 
 /// Checks that each member has one owner, by a list column of the owners.
-#[tactic(auto, using(packed::proofs::RuleLemmas::none_from), unfolding(metadata::specs::Rules::rules_of_run))]
+#[tactic(auto, using(packed::proofs::RuleLemmas::none_from), unfolding(metadata::specs::LinkRules::rules_of_run))]
 fn check_run(source: &Source, owner: TableId, column: usize, member: TableId) -> Result<(), Fault>
     requires column { column < length (columns_of owner) }
     requires members { 0 < length (columns_of member) }
-    ensures { Reports (rules_of_run source.now owner column member) result }
+    ensures { Reports (rules_of_run (in_place source.now) owner column member) result }
 {
     if source.count(owner) == 0 {
         if source.count(member) == 0 {
@@ -59,7 +59,7 @@ fn walk_owners(source: &Source, owner: TableId, column: usize, member: TableId) 
     requires column { column < length (columns_of owner) }
     ensures first { result.first ≡ start_of source.now.source owner 1 column member }
     ensures within { IfSome result.falls (λ row. (1 ≤ row) × (row ≤ rows_in source.now.source owner)) }
-    ensures falls { IsVerdict (rules_from (rules_of_start source.now owner column member) 2 (rows_in source.now.source owner - 1))
+    ensures falls { IsVerdict (rules_from (rules_of_start (in_place source.now) owner column member) 2 (rows_in source.now.source owner - 1))
         (fault_in_row source.now owner column result.falls) }
 {
     let count = source.count(owner);

@@ -1,6 +1,7 @@
-use Rattle.checks.proofs.Prelude.{ℕ, ◌≡◌, ◌+◌, ◌-◌, ◌≤◌, sym, ◌∙◌, ap, arith, none_from, rows_in, number_of, start_of, rules_of_start}
-use Rattle.checks.proofs.Starts.{start_of_end, start_by, falls_step}
-use Rattle.checks.proofs.runs.walk_owners.Goals as goal
+use Rattle.row_order.proofs.Prelude.{ℕ, ◌≡◌, ◌+◌, ◌-◌, ◌≤◌, sym, ◌∙◌, ap, arith, none_from, rows_in, number_of, start_of, in_place, rules_of_start}
+use Rattle.reading.proofs.StartLemmas.{start_past}
+use Rattle.row_order.proofs.Starts.{start_by, falls_step}
+use Rattle.row_order.proofs.runs.walk_owners.Goals as goal
 
 pub loop-row-init : goal.loop-row-init
 loop-row-init c =
@@ -9,9 +10,9 @@ loop-row-init c =
     record {
       row = omega arith;
       first = ap (λ n. n + 1) c.count-first.ensures.value
-          ∙ sym (start_of_end here.source c.args.owner (count + 1) c.args.column c.args.member
+          ∙ sym (start_past here.source c.args.owner (count + 1) c.args.column c.args.member
           (omega (arith, c.count-count.ensures.value)));
-      falls = none_from (rules_of_start here c.args.owner c.args.column c.args.member) (count + 2) (count - (count + 1)) (omega arith);
+      falls = none_from (rules_of_start (in_place here) c.args.owner c.args.column c.args.member) (count + 2) (count - (count + 1)) (omega arith);
       within = tt;
     }
 
