@@ -43,56 +43,37 @@ fn code_of(of: ElementType) -> u8
     }
 }
 
-/// The type of a value.
-fn scalar_type(value: Scalar<'_>) -> ElementType
-    ensures { result ≡ scalar_type (scalar_view value.entry) }
+/// The type of a value; a truth value, a character or a number, otherwise 0; a string or the name of a type, otherwise no
+/// bytes; and whether it is a string or a type that is null.
+fn parts_of<'a>(value: Scalar<'a>) -> (ElementType, u64, &'a [u8], bool)
+    ensures of { result.0 ≡ scalar_type (scalar_view value.entry) }
+    ensures number { result.1 ≡ number_in (scalar_view value.entry) }
+    ensures text { result.2.now ≡ text_in (scalar_view value.entry) }
+    ensures null { result.3 ≡ is_null (scalar_view value.entry) }
 {
+    let string = ElementType::Simple(Element::String);
     match value {
-        Scalar::Number(of, _) => ElementType::Simple(of),
-        Scalar::String(_) => ElementType::Simple(Element::String),
-        Scalar::SystemType(_) => ElementType::SystemType,
+        Scalar::Number(of, number) => (ElementType::Simple(of), number, &[], false),
+        Scalar::String(Some(text)) => (string, 0, text.as_bytes(), false),
+        Scalar::String(None) => (string, 0, &[], true),
+        Scalar::SystemType(Some(text)) => (ElementType::SystemType, 0, text.as_bytes(), false),
+        Scalar::SystemType(None) => (ElementType::SystemType, 0, &[], true),
     }
-}
-
-/// A truth value, a character or a number; otherwise 0.
-fn number_in(value: Scalar<'_>) -> u64
-    ensures { result ≡ number_in (scalar_view value.entry) }
-{
-    match value {
-        Scalar::Number(_, number) => number,
-        _ => 0,
-    }
-}
-
-/// A string or the name of a type; otherwise no bytes.
-fn text_in<'a>(value: Scalar<'a>) -> &'a [u8]
-    ensures { result.now ≡ text_in (scalar_view value.entry) }
-{
-    match value {
-        Scalar::String(Some(text)) | Scalar::SystemType(Some(text)) => text.as_bytes(),
-        _ => &[],
-    }
-}
-
-/// Whether a value is a string or a type that is null.
-fn is_null(value: Scalar<'_>) -> bool
-    ensures { result ≡ is_null (scalar_view value.entry) }
-{
-    matches!(value, Scalar::String(None) | Scalar::SystemType(None))
 }
 
 /// An item with a value without its box.
 fn of_scalar<'a>(kind: u8, name: &'a [u8], form: u8, value: Scalar<'a>) -> ClimAttributeItem<'a>
     ensures { fields_of result ≡ scalar_fields kind name.now form (scalar_view value.entry) }
 {
+    let (of, number, text, is_null) = parts_of(value);
     ClimAttributeItem {
         name,
-        text: text_in(value),
-        number: number_in(value),
+        text,
+        number,
         kind,
         form,
-        of: code_of(scalar_type(value)),
-        is_null: is_null(value),
+        of: code_of(of),
+        is_null,
     }
 }
 

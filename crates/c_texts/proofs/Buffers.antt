@@ -1,5 +1,5 @@
 -- Texts that are written into a buffer.
-use Rattle.c_texts.proofs.Prelude.{◌≡◌, ℕ, ◌+◌, ◌<◌, ◌≤◌, List, [], ◌∷◌, ◌++◌, length, take, drop, get_or, zero, suc, ◌-◌, min, append_assoc, Bor, refl, sym, ◌∙◌, ap, ⊎_elim, arith, cases_lt, Extends, HasText, joined, overwritten, with_text}
+use Rattle.c_texts.proofs.Prelude.{◌≡◌, ℕ, ◌+◌, ◌<◌, ◌≤◌, List, [], ◌∷◌, ◌++◌, length, take, drop, get_or, zero, suc, ◌-◌, ◌^◌, min, append_assoc, Bor, refl, sym, ◌∙◌, ap, ⊎_elim, arith, cases_lt, Extends, HasText, IsLenWithin, joined, overwritten, text_limit, with_text}
 use Rattle.std.proofs.lemmas.List.{append-nil, length-append, length-drop, take-append-drop, take_all, take_min, take_more, drop-drop, drop_all, drop_min}
 use Rattle.std.proofs.lemmas.List.Concat.{flat_map-append}
 
@@ -43,14 +43,18 @@ over_first (suc n) [] (new ∷ text) = refl
 over_first (suc n) (old ∷ buffer) [] = ap (λ (l : List ℕ). old ∷ l) (take-append-drop n buffer)
 over_first (suc n) (old ∷ buffer) (new ∷ text) = ap (λ (l : List ℕ). new ∷ l) (over_first n buffer text)
 
-pub first_written : (most n k : ℕ) (buffer text first tail new : List ℕ) (len : ℕ) → k ≡ min (length buffer) n → first ≡ take k buffer → tail ≡ drop k buffer
-    → HasText most first text new len → new ++ tail ≡ with_text buffer (take n text)
-first_written most n k buffer text first tail new len count first_is tail_is has =
-    let turned : k ≡ min n (length buffer) = omega (arith, count) in
-    let start = first_is ∙ ap (λ (m : ℕ). take m buffer) turned ∙ take_min n buffer in
-    let end = tail_is ∙ ap (λ (m : ℕ). drop m buffer) turned ∙ drop_min n buffer in
-    let is = has.0 ∙ over_is first text in
-    (λ i. is i ++ end i) ∙ ap (λ (l : List ℕ). over l text ++ drop n buffer) start ∙ over_first n buffer text ∙ sym (over_is buffer (take n text))
+-- a text in the first bytes of a buffer, and what is returned for its length
+pub first_written : (buffer text first tail new : List ℕ) (k len result : ℕ) → k ≡ min (length buffer) text_limit → first ≡ take k buffer → tail ≡ drop k buffer
+    → HasText (text_limit + 1) first text new len → (len ≤ text_limit → result ≡ len) → (text_limit < len → result ≡ 2 ^ 64 - 1)
+    → (new ++ tail ≡ with_text buffer (take text_limit text)) × IsLenWithin result text
+first_written buffer text first tail new k len result count first_is tail_is has short long =
+    let turned : k ≡ min text_limit (length buffer) = omega (arith, count) in
+    let start = first_is ∙ ap (λ (m : ℕ). take m buffer) turned ∙ take_min text_limit buffer in
+    let end = tail_is ∙ ap (λ (m : ℕ). drop m buffer) turned ∙ drop_min text_limit buffer in
+    let is = has.0 ∙ over_is first text in (
+      (λ i. is i ++ end i) ∙ ap (λ (l : List ℕ). over l text ++ drop text_limit buffer) start ∙ over_first text_limit buffer text ∙ sym (over_is buffer (take text_limit text)),
+      ((λ fits. short (omega (arith, has.1, fits)) ∙ omega (arith, has.1, fits)), (λ past. long (omega (arith, has.1, past)))),
+    )
 
 -- bytes are written from an offset on
 over_at : (buffer : List ℕ) (at : ℕ) (text : List ℕ) → overwritten buffer at text ≡ take at buffer ++ over (drop at buffer) text

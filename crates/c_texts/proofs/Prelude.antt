@@ -1,10 +1,10 @@
 -- What several proofs of this crate name of std, of the crates below, and of its own definitions.
-pub use Rattle.std.proofs.Common.{◌≡◌, ℕ, ◌+◌, ◌<◌, ◌≤◌, List, [], ◌∷◌, ◌++◌, length, take, drop, get_or, zero, suc, ◌-◌, min, append_assoc, Bor, refl, sym, ◌∙◌, ap, ⊎_elim, arith, ◌^◌, true, subst, ◌*◌, ◌/◌, ◌%◌, set, replicate, unwrap_or, inl, inr, OnOk, rules, IfNone, true≢false}
+pub use Rattle.std.proofs.Common.{◌≡◌, ℕ, ◌+◌, ◌<◌, ◌≤◌, List, [], ◌∷◌, ◌++◌, length, take, drop, get_or, zero, suc, ◌-◌, min, append_assoc, Bor, refl, sym, ◌∙◌, ap, ⊎_elim, arith, ◌^◌, true, subst, ◌*◌, ◌/◌, ◌%◌, set, replicate, unwrap_or, inl, inr, rules, IfNone, true≢false, false, cond}
 pub use Rattle.std.proofs.lemmas.Bool.{cases_lt, eq-eqb, ne_eqb}
 pub use Rattle.std.specs.Fmt.{digit_glyph, digits_onto, WritesInCalls}
 unfoldable pub use Rattle.std.specs.Fmt.{char_count, digits, padded_integral}
 pub use Rattle.std.specs.Prelude.{codes}
-pub use Rattle.heap_entries.proofs.UserLemmas.{AreBytes, encodes_from, encodes_odd}
+pub use Rattle.heap_entries.proofs.UserLemmas.{AreBytes, blob_bytes, encodes_from, encodes_odd, last_at}
 pub use Rattle.heap_entries.specs.Entries.{IsBlob, IsUserString, UserText}
 pub use Rattle.heap_entries.specs.Padding.{zero_padded}
 pub use Rattle.heap_entries.specs.UserView.{units_in, last_of, user_text}
@@ -13,14 +13,13 @@ unfoldable pub use Rattle.table_schema.specs.CellColumns.{cell_columns}
 pub use Rattle.table_schema.specs.Tokens.{hexadecimal, token_text}
 pub use Rattle.table_schema.specs.declared.table.TableId.{TableId}
 pub use Rattle.table_schema.specs.declared.table.TableId.TheVariants.{TypeDef, Field, MethodDef, Property}
-pub use Rattle.sig_text.specs.SignatureText.{Piece, text_of}
+pub use Rattle.sig_text.specs.SignatureText.{Piece}
 pub use Rattle.metadata.specs.Lookups.{HasRow}
 pub use Rattle.metadata.specs.Metadata.{cell_in}
 unfoldable pub use Rattle.opening.specs.Views.{row_count}
 pub use Rattle.full_names.proofs.PieceLemmas.{method_in, on_wrote, property_in}
-pub use Rattle.full_names.specs.Names.{Wrote}
 pub use Rattle.full_names.specs.declared.limit.Scopes.{Scopes}
 pub use Rattle.declarations.specs.Declarations.{IsDeclarationBy, IsPropertyDeclarationBy}
-pub use Rattle.c_texts.specs.RowTexts.{IsTextWithin, has_declaration, IsDeclared, IsMethodDeclaration, IsDeclaredProperty, IsRowText}
+pub use Rattle.c_texts.specs.RowTexts.{has_declaration, IsMethodDeclaration, IsDeclaredProperty}
 pub use Rattle.c_texts.specs.SignatureTexts.{piece_bytes, signature_text}
-pub use Rattle.c_texts.specs.Texts.{Extends, HasText, joined, overwritten, with_text, text_limit, counted}
+pub use Rattle.c_texts.specs.Texts.{Extends, HasText, IsLenWithin, joined, overwritten, with_text, text_limit, counted}

@@ -1,5 +1,5 @@
--- Declarations of rows, and their texts in a buffer.
-use Rattle.c_texts.proofs.Prelude.{◌≡◌, ◌∙◌, ◌+◌, ◌-◌, ◌^◌, ◌<◌, ◌≤◌, Bor, ℕ, true, List, ◌++◌, length, take, drop, min, refl, subst, arith, TableId, TypeDef, Field, MethodDef, Property, IsTextWithin, has_declaration, HasText, text_limit}
+-- Which rows have declarations.
+use Rattle.c_texts.proofs.Prelude.{◌≡◌, Bor, ℕ, true, List, refl, subst, TableId, TypeDef, Field, MethodDef, Property, has_declaration}
 use Rattle.table_schema.specs.declared.column.SigKind.TheVariants as column
 use Rattle.table_schema.specs.declared.column.ColumnKind.{ColumnKind}
 use Rattle.table_schema.specs.declared.column.ColumnKind.TheVariants as kind
@@ -8,7 +8,6 @@ use Rattle.metadata.specs.Kinds.{IsOfKind}
 use Rattle.reading.specs.declared.cell_ref.CellRef.{CellRef}
 use Rattle.reading.specs.declared.cell_ref.CellRef.TheVariants as seen
 use Rattle.reading.specs.Shown.{Shows}
-use Rattle.c_texts.proofs.Buffers.{first_written}
 
 -- a value that stands for a signature is its blob
 pub no_other_value : (column_kind : ColumnKind) (value : CellRef) (cell : Cell) → IsOfKind (kind.Signature column.Field) cell → Shows column_kind value cell
@@ -24,14 +23,3 @@ no_declaration Field has type field_row method property_row = field_row refl
 no_declaration MethodDef has type field_row method property_row = method refl
 no_declaration Property has type field_row method property_row = property_row refl
 no_declaration _ has type field_row method property_row = absurd cc
-
--- a text in the first bytes of a buffer, and the number that is returned for its length
-pub text_within : (is_text : List ℕ → Type 0) (buffer first tail new : List ℕ) (k len result : ℕ) → k ≡ min (length buffer) text_limit → first ≡ take k buffer → tail ≡ drop k buffer
-    → ((text : List ℕ) × is_text text × HasText (text_limit + 1) first text new len) → (len ≤ text_limit → result ≡ len) → (text_limit < len → result ≡ 2 ^ 64 - 1)
-    → IsTextWithin is_text buffer (new ++ tail) result
-text_within is_text buffer first tail new k len result count first_is tail_is (text, is, has) short long = (
-  text,
-  is,
-  first_written (text_limit + 1) text_limit k buffer text first tail new len count first_is tail_is has,
-  ((λ fits. short (omega (arith, has.1, fits)) ∙ omega (arith, has.1, fits)), (λ past. long (omega (arith, has.1, past)))),
-)

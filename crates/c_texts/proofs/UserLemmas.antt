@@ -1,6 +1,7 @@
 -- A user string of a padded heap, by its bytes.
-use Rattle.c_texts.proofs.Prelude.{◌≡◌, ℕ, zero, suc, ◌+◌, ◌-◌, ◌*◌, ◌/◌, ◌%◌, ◌<◌, ◌≤◌, min, List, [], ◌∷◌, ◌++◌, length, take, drop, set, replicate, get_or, unwrap_or, inl, inr, refl, sym, ap, subst, ◌∙◌, ⊎_elim, arith, cases_lt, IsBlob, IsUserString, zero_padded, units_in, last_of, user_text, AreBytes, encodes_from, with_text}
-use Rattle.std.proofs.lemmas.List.{get_or_past, get_or-take, get_or-drop, take_more, take_more_set, drop-set-lt, drop-drop, drop_at, length-append, length-take, length-take-le, length-drop, take-take, take-append-drop, take_min, drop_min}
+use Rattle.c_texts.proofs.Prelude.{◌≡◌, ℕ, zero, suc, ◌+◌, ◌-◌, ◌*◌, ◌/◌, ◌%◌, ◌<◌, ◌≤◌, min, List, [], ◌∷◌, ◌++◌, length, take, drop, set, replicate, get_or, unwrap_or, inl, inr, refl, sym, ap, subst, ◌∙◌, arith, IsBlob, IsUserString, zero_padded, units_in, last_of, user_text, AreBytes, blob_bytes, encodes_from, last_at, with_text}
+use Rattle.std.proofs.lemmas.List.{get_or-take, get_or-drop, take_more, take_more_set, drop-set-lt, drop-drop, drop_at, length-append, length-take, length-take-le, length-drop, take-take, take-append-drop, take_min, drop_min}
+use Rattle.std.proofs.lemmas.Option.{slice_get-get_or}
 use Rattle.packed.specs.Packed.{IsPacked}
 
 zeros_are : (zeros i : ℕ) → get_or (replicate zeros 0) i 0 < 256
@@ -23,13 +24,6 @@ part_long heap start count within = length-take-le count (drop start heap) (omeg
 pub part_at : (heap : List ℕ) (start count index k : ℕ) → index ≡ start + k → k < count → get_or heap index 0 ≡ get_or (part heap start count) k 0
 part_at heap start count index k is below =
     ap (λ (i : ℕ). get_or heap i 0) is ∙ sym (get_or-take count (drop start heap) k 0 below ∙ get_or-drop start heap k 0)
-
-part_are : (bytes : List ℕ) (start count : ℕ) → AreBytes bytes → AreBytes (part (zero_padded bytes) start count)
-part_are bytes start count are i = ⊎_elim
-    (λ (low : i < count). subst (λ n. n < 256) (part_at (zero_padded bytes) start count (start + i) i refl low) (padded_are bytes _ are (start + i)))
-    (λ (past : count ≤ i). subst (λ n. n < 256) (sym (get_or_past (part (zero_padded bytes) start count) i 0
-    (omega (arith, past, length-take count (drop start (zero_padded bytes)))))) (omega arith))
-    (cases_lt i count)
 
 -- the first four bytes, read one by one
 first_four : (bytes : List ℕ) → take (min (length bytes) 4) (get_or bytes 0 0 ∷ get_or bytes 1 0 ∷ get_or bytes 2 0 ∷ get_or bytes 3 0 ∷ []) ≡ take 4 bytes
@@ -131,11 +125,8 @@ units_written all units initial k is first last =
 
 -- the last byte
 pub flag_is : (bytes : List ℕ) → 0 < length bytes → get_or bytes (length bytes - 1) 0 ≡ unwrap_or (last_of bytes) 256
-flag_is [] some = absurd (omega (arith, some))
-flag_is (byte ∷ []) some = refl
-flag_is (byte ∷ next ∷ bytes) some =
-    let further : length (byte ∷ next ∷ bytes) - 1 ≡ suc (length (next ∷ bytes) - 1) = omega arith in
-    ap (λ (k : ℕ). get_or (byte ∷ next ∷ bytes) k 0) further ∙ flag_is (next ∷ bytes) (omega arith)
+flag_is bytes some =
+    ap (λ o. unwrap_or o 256) (sym (slice_get-get_or bytes (length bytes - 1) 0 (omega (arith, some))) ∙ last_at bytes)
 
 -- the string of a blob with no bytes or an odd number of them
 pub string_at : (bytes : List ℕ) (offset start count : ℕ) → AreBytes bytes → start + count ≤ length (zero_padded bytes)
@@ -145,4 +136,4 @@ string_at bytes offset start count are within stands odd =
     let blob = part (zero_padded bytes) start count in
     let long = part_long (zero_padded bytes) start count within in
     let is_odd : 0 < length blob → length blob % 2 ≡ 1 = λ some. subst (λ (n : ℕ). n % 2 ≡ 1) (sym long) (odd (omega (arith, long, some))) in
-    record { blob = blob; stands = stands; encodes = encodes_from blob (part_are bytes start count are) is_odd }
+    record { blob = blob; stands = stands; encodes = encodes_from blob (blob_bytes (zero_padded bytes) offset blob stands (padded_are bytes _ are)) is_odd }

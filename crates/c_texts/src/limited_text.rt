@@ -1,8 +1,22 @@
 //! A text that is written into a caller's buffer as it is made, up to a limit.
-use crate::parts::append;
-use crate::signature_text::TEXT_LIMIT;
+ghost use Rattle.std.specs.Prelude.{◌≡◌, ◌<◌, ◌≤◌, ◌⊎◌, ◌-◌, ◌^◌};
+ghost use Rattle.c_texts.specs.Texts.{text_limit};
+
+use crate::parts::{TOO_LONG, append};
 use full_names::{Limit, Scopes};
 use std::fmt;
+
+/// The largest number of bytes of a text.
+pub(crate) const TEXT_LIMIT: usize = 1 << 16;
+
+/// What is returned for a text of a length: the length, or [`TOO_LONG`] if it is more than the limit.
+pub(crate) fn len_within(len: usize) -> usize
+    ensures short { len ≤ text_limit → result ≡ len }
+    ensures long { text_limit < len → result ≡ 2 ^ 64 - 1 }
+    ensures within { (result ≤ 2 ^ 16) ⊎ (result ≡ 2 ^ 64 - 1) }
+{
+    if len > TEXT_LIMIT { TOO_LONG } else { len }
+}
 
 /// A writer of a text into a buffer that is not longer than the limit. It passes over what follows the limit, and never
 /// fails.

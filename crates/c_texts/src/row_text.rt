@@ -14,9 +14,8 @@ ghost use Rattle.full_names.specs.Names.{Wrote};
 ghost use Rattle.c_texts.specs.RowTexts.{IsDeclared, IsDeclaredProperty, IsFieldDeclaration, IsMethodDeclaration, IsRowText, IsTextWithin, IsTokenIn, has_declaration, has_text};
 ghost use Rattle.c_texts.specs.Texts.{HasText, text_limit};
 
-use crate::limited_text::{LimitedText, TextLimit};
-use crate::parts::{NO_MEMORY, TOO_LONG};
-use crate::signature_text::TEXT_LIMIT;
+use crate::limited_text::{LimitedText, TEXT_LIMIT, TextLimit, len_within};
+use crate::parts::NO_MEMORY;
 use declarations::{write_method_within, write_property_within, write_signature_text};
 use full_names::{
     DEPTH, Limit, NameKind, TextError, write_name, write_row_name, write_text,
@@ -196,7 +195,7 @@ fn write_first(
 }
 
 /// Writes a text of the row with a token into a buffer, up to its length (II.5.3, II.15.3, III.1.9). Returns the length of
-/// the whole text; [`TOO_LONG`] if it is more than 65,536 bytes, and the buffer then has the first of these, or those that
+/// the whole text; `TOO_LONG` if it is more than 65,536 bytes, and the buffer then has the first of these, or those that
 /// fit; or [`NO_MEMORY`] if memory runs out, and what is in the buffer is then not specified.
 ///
 /// Returns 0 if there is no such row, or it has no such text; the buffer is then unchanged. Its time is linear in the texts
@@ -220,8 +219,8 @@ pub fn write_row_text(
         return 0;
     }
     let (first, _) = buffer.split_at_mut(buffer.len().min(TEXT_LIMIT));
-    let Ok(len) = write_first(alloc, view, of, token, first) else {
-        return NO_MEMORY;
-    };
-    if len > TEXT_LIMIT { TOO_LONG } else { len }
+    match write_first(alloc, view, of, token, first) {
+        Ok(len) => len_within(len),
+        Err(_) => NO_MEMORY,
+    }
 }

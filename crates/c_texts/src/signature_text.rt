@@ -1,21 +1,19 @@
 //! The text of a signature in a caller's buffer.
-ghost use Rattle.std.specs.Prelude.{◌≡◌, ◌≤◌, ◌⊎◌, ◌^◌, ◌+◌, ◌-◌, ◌%◌, drop, false, length, take};
-ghost use Rattle.std.specs.Fmt.{digit_glyph};
+ghost use Rattle.std.specs.Prelude.{◌≡◌, ◌≤◌, ◌⊎◌, ◌^◌, ◌+◌, ◌-◌, ◌%◌, ◌++◌, false, length, replicate, take};
+ghost use Rattle.std.specs.Fmt.{digit_glyph, digits};
 ghost use Rattle.table_schema.specs.Tokens.{hexadecimal};
 ghost use Rattle.sig_grammar.specs.Syntax.{Body};
 ghost use Rattle.sig_grammar.specs.Encodes.{Encodes};
 ghost use Rattle.c_texts.specs.SignatureTexts.{signature_text};
 ghost use Rattle.c_texts.specs.Texts.{HasText, IsLenWithin, text_limit, with_text};
 
-use crate::parts::{TOO_LONG, append};
+use crate::limited_text::{TEXT_LIMIT, len_within};
+use crate::parts::append;
 use itoa::Buffer;
 use sig_text::{SigKind, TextSink, Token, write_signature};
 
-/// The largest number of bytes of a text.
-pub(crate) const TEXT_LIMIT: usize = 1 << 16;
-
-/// The number of zeros of the eight digits of a table's number that a token leaves out.
-const TABLE_ZEROS: usize = 6;
+/// The largest number of zeros of the eight digits of a row that its token leaves out.
+const ROW_ZEROS: usize = 2;
 
 /// A text in a buffer that is not longer than the limit.
 #[derive(Drop)]
@@ -59,34 +57,29 @@ fn digit(number: u32) -> u8
     }
 }
 
-/// The eight hexadecimal digits of a number.
-#[tactic(auto, using(crate::proofs::HexLemmas::eight_digits))]
-fn digits(number: u32) -> [u8; 8]
-    ensures { result ≡ hexadecimal 8 number }
+/// The two hexadecimal digits of a byte.
+fn pair(byte: u8) -> [u8; 2]
+    ensures { result ≡ hexadecimal 2 byte }
 {
-    [
-        digit(number >> 28),
-        digit(number >> 24),
-        digit(number >> 20),
-        digit(number >> 16),
-        digit(number >> 12),
-        digit(number >> 8),
-        digit(number >> 4),
-        digit(number),
-    ]
+    [digit(u32::from(byte / 16)), digit(u32::from(byte))]
 }
 
-/// The number of zeros of the eight digits of a row that its token leaves out.
-#[tactic(auto, using(crate::proofs::HexLemmas::six_of_eight, crate::proofs::HexLemmas::seven_of_eight, crate::proofs::HexLemmas::eight_of_eight))]
-fn left_out(row: u32) -> usize
-    ensures zeros { drop result (hexadecimal 8 row) ≡ hexadecimal 6 row }
-    ensures few { result ≤ 2 }
+/// The hexadecimal digits of a number after zeros, and the index of the first digit.
+fn digits(number: u32) -> ([u8; 8], usize)
+    ensures text { result.0 ≡ replicate result.1 48 ++ digits 16 false number }
+    ensures long { length result.0 ≡ 8 }
+    ensures first { result.1 ≤ 7 }
 {
-    match row >> 24 {
-        0 => 2,
-        1..16 => 1,
-        _ => 0,
+    let mut text = [b'0'; 8];
+    let mut first = 7;
+    let mut left = number;
+    while left > 15 {
+        text[first] = digit(left);
+        left /= 16;
+        first -= 1;
     }
+    text[first] = digit(left);
+    (text, first)
 }
 
 impl TextSink for SignatureSink<'_> {
@@ -114,10 +107,9 @@ impl TextSink for SignatureSink<'_> {
     }
 
     fn name(&mut self, token: Token) -> Option<()> {
-        let (table, row) = (digits(u32::from(token.table.number())), digits(token.row));
-        let (_, table) = table.split_at(TABLE_ZEROS);
-        let (_, row) = row.split_at(left_out(token.row));
-        self.push(table)?;
+        let (row, first) = digits(token.row);
+        let (_, row) = row.split_at(first.min(ROW_ZEROS));
+        self.push(&pair(token.table.number()))?;
         self.push(row)
     }
 }
@@ -139,7 +131,7 @@ fn write_first(blob: &[u8], kind: SigKind, buffer: &mut [u8]) -> usize
 }
 
 /// Writes the signature in a blob in the notation of ILAsm into a buffer, up to its length, with tokens as the names of
-/// types (II.7.1, II.15.3). Returns the length of the whole text, or [`TOO_LONG`] if it is more than 65,536 bytes; the
+/// types (II.7.1, II.15.3). Returns the length of the whole text, or `TOO_LONG` if it is more than 65,536 bytes; the
 /// buffer then has the first 65,536 of them, or those that fit.
 pub fn write_signature_text(blob: &[u8], kind: SigKind, buffer: &mut [u8]) -> usize
     ensures text { (signature : Body) → Encodes kind signature blob.now
@@ -147,6 +139,5 @@ pub fn write_signature_text(blob: &[u8], kind: SigKind, buffer: &mut [u8]) -> us
     ensures within { (result ≤ 2 ^ 16) ⊎ (result ≡ 2 ^ 64 - 1) }
 {
     let (first, _) = buffer.split_at_mut(buffer.len().min(TEXT_LIMIT));
-    let len = write_first(blob, kind, first);
-    if len > TEXT_LIMIT { TOO_LONG } else { len }
+    len_within(write_first(blob, kind, first))
 }

@@ -1,5 +1,5 @@
 -- What is given is at most one metadata.
-use Rattle.c_values.proofs.Prelude.{◌≡◌, ℕ, ◌+◌, ◌-◌, ◌<◌, List, [], ◌∷◌, length, slice_index_or, Some, inl, inr, refl, sym, ap, ◌∙◌, subst, arith, TableId, SigKind, table_number, table_index_of, tables, Encodes, Cell, Metadata, rows_of, ClimCell, ClimRow, CellKind, Number, Text, Row, Signature, AreCells, EncodesAs, IsCell, AreRows, IsGiven, IsRow, TableRow, cells_of}
+use Rattle.c_values.proofs.Prelude.{◌≡◌, ℕ, ◌+◌, ◌-◌, ◌<◌, List, [], ◌∷◌, length, slice_index_or, Some, inl, inr, refl, sym, ap, ◌∙◌, arith, TableId, SigKind, table_number, table_index_of, tables, Encodes, Cell, Metadata, rows_of, ClimCell, ClimRow, CellKind, Number, Text, Row, Signature, AreCells, EncodesAs, IsCell, AreRows, IsGiven, IsRow, TableRow, cells_of}
 use Rattle.std.proofs.lemmas.Bool.{cases_lt}
 use Rattle.table_schema.specs.declared.table.TableId.TheVariants.{Module}
 use Rattle.table_schema.specs.declared.column.ColumnKind.TheVariants as kind
@@ -31,8 +31,7 @@ module _ (rise : (lower higher : TableId) → table_index_of lower < table_index
     cell_as table column Signature given a b x y =
         let e : kind.Signature x.0 ≡ kind.Signature y.0 = sym x.1.1 ∙ y.1.1 in
         let k : x.0 ≡ y.0 = cc in
-        let P : SigKind → Type 0 = λ signatures. Encodes signatures x.2.0 given.bytes.now in
-        x.2.2 ∙ ap says.Sig (one y.0 x.2.0 y.2.0 given.bytes.now (subst P k x.2.1) y.2.1) ∙ sym y.2.2
+        x.2.2 ∙ ap says.Sig (one y.0 x.2.0 y.2.0 given.bytes.now (rw k at x.2.1) y.2.1) ∙ sym y.2.2
     cell_as table column _ given a b x y = x ∙ sym y
 
     cell_one : (table : TableId) (column : ℕ) (given : ClimCell) (a b : Cell) → IsCell table column given a → IsCell table column given b → a ≡ b
@@ -50,8 +49,7 @@ module _ (rise : (lower higher : TableId) → table_index_of lower < table_index
     row_one : (given : ClimRow) (a b : TableRow) → IsRow given a → IsRow given b → a ≡ b
     row_one given a b x y =
         let t : a.table ≡ b.table = table_one a.table b.table (x.number ∙ sym y.number) in
-        let P : TableId → Type 0 = λ table. AreCells table 0 given.cells.now a.cells in
-        let c : a.cells ≡ b.cells = cells_one b.table 0 given.cells.now a.cells b.cells (subst P t x.cells) y.cells in
+        let c : a.cells ≡ b.cells = cells_one b.table 0 given.cells.now a.cells b.cells (rw t at x.cells) y.cells in
         ap (λ (table : TableId). let row : TableRow = record { table = table; cells = a.cells } in row) t
         ∙ ap (λ (cells : List Cell). let row : TableRow = record { table = b.table; cells = cells } in row) c
 

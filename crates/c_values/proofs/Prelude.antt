@@ -1,5 +1,5 @@
 -- What several proofs of this crate name of std, of the crates below, and of its own definitions.
-pub use Rattle.std.proofs.Common.{◌≡◌, ℕ, ◌+◌, List, [], ◌∷◌, ◌++◌, length, get_or, inl, inr, refl, sym, ap, ◌∙◌, subst, arith, ◌<◌, ◌≤◌, drop, ◌-◌, slice_index_or, Some, ◌^◌, take, add-one, ◌≢◌, Bool, true, false, cond, nat_eq, map, filter, IfNone, unwrap_or, Err}
+pub use Rattle.std.proofs.Common.{◌≡◌, ℕ, ◌+◌, List, [], ◌∷◌, ◌++◌, length, get_or, inl, inr, refl, sym, ap, ◌∙◌, subst, arith, ◌<◌, ◌≤◌, drop, ◌-◌, slice_index_or, Some, ◌^◌, take, add-one, ◌≢◌, Bool, true, false, cond, nat_eq, map, filter, Err}
 pub use Rattle.std.proofs.lemmas.Bool.Decides.{eqb_tells, nat_tests}
 pub use Rattle.std.proofs.lemmas.Grind.{not_there, common_steps}
 pub use Rattle.std.proofs.lemmas.List.{take_all, take-append-drop, map-append, append-nil, length-map, take_more, length-take-le}

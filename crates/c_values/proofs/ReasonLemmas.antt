@@ -1,5 +1,5 @@
 -- Why there is no root.
-use Rattle.c_values.proofs.Prelude.{◌≡◌, ℕ, ◌+◌, ◌^◌, ◌<◌, List, ◌∷◌, ◌++◌, length, take, drop, get_or, inl, inr, refl, sym, ap, ◌∙◌, subst, add-one, take-append-drop, FirstBroken, TableId, table_number, Cell, Metadata, IsValid, Refusal, canonical, ClimCell, ClimRow, NoRoot, IsCell, IsFormed, IsGiven, IsNoRoot, IsRefused, MatchNoRoot, refusal_at, rules_of_cell}
+use Rattle.c_values.proofs.Prelude.{◌≡◌, ℕ, ◌+◌, ◌^◌, ◌<◌, List, ◌∷◌, ◌++◌, length, take, drop, get_or, inl, inr, refl, sym, ap, ◌∙◌, add-one, take-append-drop, FirstBroken, TableId, table_number, Cell, Metadata, IsValid, Refusal, canonical, ClimCell, ClimRow, NoRoot, IsCell, IsFormed, IsGiven, IsNoRoot, IsRefused, MatchNoRoot, refusal_at, rules_of_cell}
 use Rattle.std.proofs.Math.Seq.{drop-cons}
 use Rattle.packed.specs.declared.code.FaultCode.TheVariants.{BadSignature}
 use Rattle.c_values.specs.declared.no_root.NoRoot.TheVariants.{Refused, TooLong, Memory}
@@ -18,9 +18,7 @@ pub valid_accepted : (version user : List ℕ) (given : List ClimRow) (model : M
     → (reason : NoRoot) → IsNoRoot version user given reason → IsGiven version user given model → IsValid model
     → MatchNoRoot (λ refusal. ⊥) (2 ^ 30 < length (canonical model)) reason
 valid_accepted version user given model never same (Refused refusal) is here valid = never refusal is here valid
-valid_accepted version user given model never same TooLong is here valid =
-    let P : Metadata → Type 0 = λ m. 2 ^ 30 < length (canonical m) in
-    subst P (same is.0 is.1) is.3
+valid_accepted version user given model never same TooLong is here valid = rw (same is.0 is.1) at is.3
 valid_accepted version user given model never same Memory is here valid = tt
 
 -- a list, split at one of its items
@@ -31,6 +29,4 @@ split_at xs i d below =
 -- a cell whose bytes encode no signature
 pub bad_signature : (table : TableId) (row column : ℕ) (given : ClimCell) (reason : NoRoot) → reason ≡ Refused (refusal_at BadSignature (table_number table) row column)
     → IsFormed table column given → ¬ ((cell : Cell) × IsCell table column given cell) → MatchNoRoot (FirstBroken (rules_of_cell table row column given)) ⊥ reason
-bad_signature table row column given reason is formed bad =
-    let P : NoRoot → Type 0 = λ r. MatchNoRoot (FirstBroken (rules_of_cell table row column given)) ⊥ r in
-    subst P (sym is) (inr (formed, inl (bad, refl)))
+bad_signature table row column given reason is formed bad = rw is (inr (formed, inl (bad, refl)))

@@ -13,8 +13,7 @@ none_broken (rule ∷ rules) refusal all (inr later) = none_broken rules refusal
 cells_not_bad : (table : TableId) (row : ℕ) (given : List ClimCell) (cells : List Cell) (refusal : Refusal) → AreCells table 0 given cells
     → IsFirstBadCell table row given refusal → ⊥
 cells_not_bad table row given cells refusal are bad =
-    let P : List ClimCell → Type 0 = λ g. AreCells table 0 g cells in
-    let found = cell_amid table 0 bad.before bad.bad bad.others cells (subst P bad.split are) in
+    let found = cell_amid table 0 bad.before bad.bad bad.others cells (rw bad.split at are) in
     let e : 0 + length bad.before ≡ length bad.before = omega arith in
     cell_not_broken table row (length bad.before) bad.bad found.0 refusal (subst (λ k. IsCell table k bad.bad found.0) e found.1) bad.broken
 
@@ -22,13 +21,11 @@ module _ (one : (a b : TableId) → table_number a ≡ table_number b → a ≡ 
   row_not_bad : (number : ℕ) (given : ClimRow) (row : TableRow) (refusal : Refusal) → IsRow given row → IsOfBadRow number given refusal → ⊥
   row_not_bad number given row refusal is (inl none) = none.0 row.table is.number
   row_not_bad number given row refusal is (inr bad) =
-      let P : TableId → Type 0 = λ t. AreCells t 0 given.cells.now row.cells in
-      cells_not_bad bad.0 number given.cells.now row.cells refusal (subst P (one row.table bad.0 (is.number ∙ sym bad.1)) is.cells) bad.2
+      cells_not_bad bad.0 number given.cells.now row.cells refusal (rw (one row.table bad.0 (is.number ∙ sym bad.1)) at is.cells) bad.2
 
   rows_not_bad : (given : List ClimRow) (rows : List TableRow) (refusal : Refusal) → AreRows given rows → IsFirstBadRow given refusal → ⊥
   rows_not_bad given rows refusal are bad =
-      let P : List ClimRow → Type 0 = λ g. AreRows g rows in
-      let found = row_amid bad.before bad.bad bad.others rows (subst P bad.split are) in
+      let found = row_amid bad.before bad.bad bad.others rows (rw bad.split at are) in
       row_not_bad (row_after (count_given bad.bad.table bad.before)) bad.bad found.0 refusal found.1 bad.broken
 
   pub not_valid : ((model : Metadata) → IsValid model → AllHold (refusals_of model)) → (version user : List ℕ) (given : List ClimRow) (refusal : Refusal) (model : Metadata)
@@ -37,5 +34,4 @@ module _ (one : (a b : TableId) → table_number a ≡ table_number b → a ≡ 
   not_valid met version user given refusal model same (inl utf8) is valid = utf8.0 is.utf8
   not_valid met version user given refusal model same (inr (inl bad)) is valid = rows_not_bad given is.rows refusal is.given_rows bad.1
   not_valid met version user given refusal model same (inr (inr broken)) is valid =
-      let P : Metadata → Type 0 = λ m. FirstBroken (refusals_of m) refusal in
-      none_broken (refusals_of model) refusal (met model valid) (subst P (same broken.0 broken.1) broken.2)
+      none_broken (refusals_of model) refusal (met model valid) (rw (same broken.0 broken.1) at broken.2)

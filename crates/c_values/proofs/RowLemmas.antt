@@ -43,8 +43,7 @@ module _ (one : (a b : TableId) → table_number a ≡ table_number b → a ≡ 
   rows_more model rows row tables table is = elim (eqb_tells (table_number row.table) (table_number table)) [
     | inl same_number ↦
         let e : row.table ≡ table = one row.table table same_number.1 in
-        let P : TableId → Type 0 = λ t. rows_of (with_row model row.table row.cells) t ≡ rows_of model t ++ row.cells ∷ [] in
-        subst P e (same model row.table row.cells tables) ∙ ap (λ (r : List (List Cell)). r ++ row.cells ∷ []) is ∙ sym (cells_with table rows row same_number.0)
+        subst (λ t. rows_of (with_row model row.table row.cells) t ≡ rows_of model t ++ row.cells ∷ []) e (same model row.table row.cells tables) ∙ ap (λ (r : List (List Cell)). r ++ row.cells ∷ []) is ∙ sym (cells_with table rows row same_number.0)
     | inr other_number ↦
         other model row.table table row.cells (λ e. other_number.1 (ap table_number (sym e))) ∙ is ∙ sym (cells_without table rows row other_number.0)
   ]

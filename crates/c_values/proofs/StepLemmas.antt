@@ -1,5 +1,5 @@
 -- The steps of the loops over cells and rows.
-use Rattle.c_values.proofs.Prelude.{◌≡◌, ℕ, ◌+◌, ◌<◌, ◌≤◌, List, [], ◌∷◌, ◌++◌, length, take, drop, get_or, sym, ap, ◌∙◌, subst, arith, map-append, take_more, length-take-le, take_all, FirstBroken, TableId, table_number, said, all_said, with_row, Cell, Metadata, count_in, Refusal, ClimCell, ClimRow, NoRoot, AreCells, IsCell, IsGiven, IsRow, TableRow, IsFirstBadCell, IsFirstBadRow, IsOfBadRow, MatchNoRoot, count_given, row_after, rules_of_cell}
+use Rattle.c_values.proofs.Prelude.{◌≡◌, ℕ, ◌+◌, ◌<◌, List, [], ◌∷◌, ◌++◌, length, take, drop, get_or, sym, ap, ◌∙◌, subst, arith, map-append, take_more, length-take-le, FirstBroken, TableId, table_number, said, all_said, with_row, Cell, Metadata, count_in, Refusal, ClimCell, ClimRow, NoRoot, AreCells, IsCell, IsGiven, IsRow, TableRow, IsFirstBadCell, IsFirstBadRow, IsOfBadRow, MatchNoRoot, count_given, row_after, rules_of_cell}
 use Rattle.tables.specs.declared.cell.Cell.{Cell as Owned}
 use Rattle.c_values.proofs.CellLemmas.{one_more_cell}
 use Rattle.c_values.proofs.RowLemmas.{count_is}
@@ -12,15 +12,8 @@ pub next_cell : (table : TableId) (given : List ClimCell) (k : ℕ) (d : ClimCel
 next_cell table given k d cells cell all below are is same =
     let short = length-take-le k given (omega (arith, below)) in
     let e : k ≡ 0 + length (take k given) = omega (arith, short) in
-    let P : ℕ → Type 0 = λ i. IsCell table i (get_or given k d) (said cell) in
-    let Q : List Cell → Type 0 = λ c. AreCells table 0 (take k given ++ get_or given k d ∷ []) c in
-    let R : List ClimCell → Type 0 = λ g. AreCells table 0 g (all_said all) in
-    let next = one_more_cell table 0 (take k given) (all_said cells) (get_or given k d) (said cell) are (subst P e is) in
-    subst R (sym (take_more given k d below)) (subst Q (sym (ap all_said same ∙ map-append said cells (cell ∷ []))) next)
-
--- all cells are read
-pub all_cells : (table : TableId) (given : List ClimCell) (k : ℕ) (cells : List Cell) → length given ≤ k → AreCells table 0 (take k given) cells → AreCells table 0 given cells
-all_cells table given k cells past are = let P : List ClimCell → Type 0 = λ g. AreCells table 0 g cells in subst P (take_all k given past) are
+    rw (take_more given k d below, same, map-append said cells (cell ∷ []))
+    (one_more_cell table 0 (take k given) (all_said cells) (get_or given k d) (said cell) are (subst (λ i. IsCell table i (get_or given k d) (said cell)) e is))
 
 -- the next cell cannot be read
 pub first_bad_cell : (table : TableId) (row : ℕ) (given : List ClimCell) (k : ℕ) (d : ClimCell) (cells : List Cell) (reason : NoRoot) → k < length given
@@ -45,12 +38,7 @@ pub next_row : (more : (version user : List ℕ) (given : List ClimRow) (model :
     → (version user : List ℕ) (given : List ClimRow) (k : ℕ) (d : ClimRow) (model new : Metadata) → k < length given → IsGiven version user (take k given) model
     → ((row : TableRow) × IsRow (get_or given k d) row × (new ≡ with_row model row.table row.cells)) → IsGiven version user (take (k + 1) given) new
 next_row more version user given k d model new below is row =
-    let P : List ClimRow → Type 0 = λ g. IsGiven version user g new in
-    let Q : Metadata → Type 0 = λ m. IsGiven version user (take k given ++ get_or given k d ∷ []) m in
-    subst P (sym (take_more given k d below)) (subst Q (sym row.2) (more version user (take k given) model (get_or given k d) row.0 is row.1))
-
-pub all_rows : (version user : List ℕ) (given : List ClimRow) (k : ℕ) (model : Metadata) → length given ≤ k → IsGiven version user (take k given) model → IsGiven version user given model
-all_rows version user given k model past is = let P : List ClimRow → Type 0 = λ g. IsGiven version user g model in subst P (take_all k given past) is
+    rw (take_more given k d below, row.2) (more version user (take k given) model (get_or given k d) row.0 is row.1)
 
 -- the next row cannot be read
 pub first_bad_row : (version user : List ℕ) (given : List ClimRow) (k : ℕ) (d : ClimRow) (model : Metadata) (reason : NoRoot) → k < length given

@@ -96,23 +96,6 @@ fn write_with(
     Ok(write_plan(&plan, buffer))
 }
 
-/// Writes a copy of a file with its canonical root into a buffer, if there is room for all of it, and returns its length.
-fn write_own(
-    alloc: Global,
-    file: &[u8],
-    strong_name: StrongName,
-    buffer: &mut [u8],
-) -> Result<usize, EmbedError>
-    ensures sound { IfOk result (λ len. IsCopied (IsCanonicalRootOf file.now) strong_name file.now len buffer.old buffer.new) }
-    ensures limit { IfOk result (λ len. len ≤ 2 ^ 30) }
-    ensures first_error { IfErr result (MatchFault (FirstBroken (rules_of_file file.now)) (IsFaultOfRoot (IsCanonicalRootOf file.now))) }
-    ensures refused { IfErr result (IsNoCopy file.now []) }
-    ensures same { OnErr result (buffer.new ≡ buffer.old) }
-{
-    let own = canonical_root_of(alloc, file)?;
-    write_with(file, own.bytes(), strong_name, buffer)
-}
-
 /// Writes a copy of a file with another root into a buffer, if there is room for all of it, and returns its length (II.25).
 /// The root is the file's own canonical root if no bytes are given for it (II.24.2).
 ///
@@ -134,7 +117,8 @@ pub fn write_copy(
     ensures same { OnErr result (buffer.new ≡ buffer.old) }
 {
     if root.is_empty() {
-        return write_own(alloc, file, strong_name, buffer);
+        let own = canonical_root_of(alloc, file)?;
+        return write_with(file, own.bytes(), strong_name, buffer);
     }
     write_with(file, root, strong_name, buffer)
 }

@@ -1,4 +1,3 @@
-ghost use Rattle.std.specs.Prelude.{◌≡◌};
 ghost use Rattle.c_values.specs.Differences.{HasParts, ReportsDifference};
 
 use comparison::Difference;

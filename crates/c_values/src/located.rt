@@ -1,9 +1,5 @@
 //! The cell that has a byte of a root.
-ghost use Rattle.std.specs.Prelude.{◌≡◌, ◌<◌, ◌≤◌, ℕ, [], IfNone, IfSome, length, unwrap_or};
-ghost use Rattle.std.specs.Option.{option_map};
-ghost use Rattle.root.specs.Fields.{root_read};
-ghost use Rattle.root.specs.Streams.{range_of, stream_of};
-ghost use Rattle.root.specs.declared.kind.Kind.TheVariants.{Tables};
+ghost use Rattle.std.specs.Prelude.{◌≡◌, ◌<◌, ◌≤◌, ℕ, IfNone, IfSome, length};
 ghost use Rattle.table_schema.specs.declared.table.TableId.{TableId as Table};
 ghost use Rattle.table_schema.specs.CellColumns.{cell_count, column_of};
 ghost use Rattle.schema.specs.Offsets.{tables_end};
@@ -11,7 +7,7 @@ ghost use Rattle.metadata.specs.SourceAt.{tables_in, tables_offset};
 ghost use Rattle.opening.specs.Views.{HasModel};
 ghost use Rattle.c_values.specs.Locations.{HasByte, IsLocation, sizes_in};
 
-use root::{Kind, Root, read_root};
+use root::{Kind, read_root};
 use schema::{Layout, cell_at};
 use table_schema::{TableId, cell_count, column_of_cell};
 
@@ -31,25 +27,17 @@ pub struct ClimLocation {
     pub table: u8,
 }
 
-/// The directory of a root that has a model.
-fn directory_of(root: &[u8]) -> Root<'_>
+/// The table stream of a root that has a model, and its offset in the root; no bytes at offset 0 if no header names it.
+fn tables_of(root: &[u8]) -> (&[u8], usize)
     requires { HasModel root.now }
-    ensures value { result ≡ root_read root.now }
-    ensures small { length result.bytes ≤ 0x40000000 }
+    ensures stream { result.0.now ≡ tables_in root.now }
+    ensures offset { result.1 ≡ tables_offset root.now }
+    ensures stream_within { length result.0.now ≤ 0x40000000 }
+    ensures offset_within { result.1 ≤ 0x40000000 }
 {
-    match read_root(root) {
-        Ok(directory) => directory,
-        Err(_) => unreachable!(),
-    }
-}
-
-/// The table stream of a root, and its offset in the root; no bytes at offset 0 if no header names it.
-fn tables_of<'a>(directory: &Root<'a>) -> (&'a [u8], usize)
-    ensures stream { result.0.now ≡ unwrap_or (stream_of directory.now Tables) [] }
-    ensures offset { result.1 ≡ unwrap_or (option_map (λ offset. offset.0) (range_of directory.now Tables)) 0 }
-    ensures stream_within { length result.0.now ≤ length directory.now.bytes }
-    ensures offset_within { result.1 ≤ length directory.now.bytes }
-{
+    let Ok(directory) = read_root(root) else {
+        unreachable!();
+    };
     match (
         directory.stream(Kind::Tables),
         directory.stream_place(Kind::Tables),
@@ -95,8 +83,7 @@ pub fn location_at(root: &[u8], offset: usize) -> Option<ClimLocation>
     ensures none { IfNone result ((table : Table) (row column : ℕ) → HasByte root.now table row column offset → ⊥) }
 {
     schema::laws::cells_are_apart();
-    let directory = directory_of(root);
-    let (stream, start) = tables_of(&directory);
+    let (stream, start) = tables_of(root);
     let layout = layout_of(root, stream);
     if offset < start {
         return None;

@@ -1,7 +1,6 @@
 ghost use Rattle.std.specs.Prelude.{◌≡◌, IfOk, IfErr};
 ghost use Rattle.tables.specs.Said.{said};
 ghost use Rattle.packed.specs.Rule.{FirstBroken};
-ghost use Rattle.metadata.specs.Cell.{Cell as Says};
 ghost use Rattle.c_values.specs.declared.cell_kind.CellKind.TheVariants.{Row, Signature, Text as TextKind};
 ghost use Rattle.c_values.specs.Cells.{IsCell, kind_number};
 ghost use Rattle.c_values.specs.Refused.{MatchNoRoot, rules_of_cell};

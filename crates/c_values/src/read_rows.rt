@@ -3,7 +3,7 @@ ghost use Rattle.table_schema.specs.declared.table.TableId.{TableId as Table};
 ghost use Rattle.table_schema.specs.Tables.{table_number};
 ghost use Rattle.tables.specs.Said.{all_said};
 ghost use Rattle.tables.specs.Push.{with_row};
-ghost use Rattle.metadata.specs.Metadata.{Metadata, count_in};
+ghost use Rattle.metadata.specs.Metadata.{count_in};
 ghost use Rattle.c_values.specs.Cells.{AreCells};
 ghost use Rattle.c_values.specs.Given.{IsGiven, IsRow, TableRow};
 ghost use Rattle.c_values.specs.Refused.{IsFirstBadCell, IsFirstBadRow, IsOfBadRow, MatchNoRoot, row_after};

@@ -1,5 +1,5 @@
 -- What a C caller receives if two models are compared (ECMA-335 II.22 and II.24.2).
-use Rattle.std.specs.Prelude.{◌≡◌, ℕ, List, [], ◌∷◌, ◌++◌, take, Option, None, Some}
+use Rattle.std.specs.Prelude.{◌≡◌, List, [], ◌∷◌, ◌++◌, take, Option, None, Some}
 use Rattle.metadata.specs.Metadata.{Metadata}
 use Rattle.comparison.specs.Differences.{cell_differences, outline_differences}
 use Rattle.comparison.specs.declared.difference.Difference.{Difference}

@@ -1,7 +1,6 @@
 -- The words of other crates that the contracts of this crate use.
 pub use Rattle.std.specs.Bool.{OnFalse, OnTrue}
 pub use Rattle.std.specs.List.{SameFrom}
-pub use Rattle.std.specs.Option.{option_map}
 pub use Rattle.packed.specs.Codes.{name_of, number_of_code}
 pub use Rattle.packed.specs.declared.code.FaultCode.{FaultCode as RuleCode}
 pub use Rattle.packed.specs.Rule.{AllHold, FirstBroken}
@@ -9,7 +8,7 @@ pub use Rattle.root.specs.Root.{IsRoot}
 pub use Rattle.root.specs.Streams.{Header}
 pub use Rattle.pe.specs.Headers.{image_of}
 pub use Rattle.cli_header.specs.declared.header.CliHeader.{CliHeader}
-pub use Rattle.heap_entries.specs.Entries.{IsBlob, IsUserString, UserText}
+pub use Rattle.heap_entries.specs.Entries.{IsUserString, UserText}
 pub use Rattle.heap_entries.specs.GuidText.{as_read}
 pub use Rattle.heap_entries.specs.Padding.{zero_padded}
 pub use Rattle.table_schema.specs.CellColumns.{cell_count, column_of}

@@ -1,4 +1,4 @@
-ghost use Rattle.std.specs.Prelude.{◌≡◌, ◌≤◌, ◌<◌, ◌-◌, ◌^◌, ◌⊎◌, length};
+ghost use Rattle.std.specs.Prelude.{◌≡◌, ◌<◌, ◌-◌, ◌^◌, ◌⊎◌, length};
 ghost use Rattle.clim_c.specs.Words.{AreItems, AttributeValue, IsModel, IsValueAt, Metadata, items_of};
 ghost use Rattle.clim_c.specs.Attributes.{IsOpenAttribute};
 

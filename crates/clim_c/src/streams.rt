@@ -1,10 +1,9 @@
 ghost use Rattle.std.specs.Prelude.{◌≡◌, ◌<◌, ◌≤◌, ◌^◌, ℕ, List, Some, None, IfSome, IfNone, true, false, length, slice_get};
-ghost use Rattle.root.specs.Views.{view as header_of};
 ghost use Rattle.clim_c.specs.Streams.{stream_of};
-ghost use Rattle.clim_c.specs.Words.{Header, IsRoot, OnFalse, OnTrue, option_map};
+ghost use Rattle.clim_c.specs.Words.{Header, IsRoot, OnFalse, OnTrue};
 
 use crate::view::ClimView;
-use root::{Headers, StreamHeader, read_root};
+use root::{Headers, read_root};
 
 /// A stream header of a root, for C (II.24.2.2).
 #[repr(C)]
@@ -36,18 +35,6 @@ fn headers_of<'a>(view: &ClimView<'a>) -> Option<Headers<'a>>
     }
 }
 
-/// The number of headers.
-fn count_of(headers: Headers<'_>) -> usize
-    requires { length headers ≤ 2 ^ 30 }
-    ensures { result ≡ length headers.entry }
-{
-    let mut count = 0;
-    for _header in headers {
-        count += 1;
-    }
-    count
-}
-
 /// The number of stream headers in the root, with those of names that the standard does not define (II.24.2.2); 0 if the
 /// view is not open.
 #[unsafe(no_mangle)]
@@ -57,23 +44,9 @@ pub extern "C" fn clim_stream_count(view: &ClimView) -> usize
     ensures closed { view.now.is_open ≡ false → result ≡ 0 }
 {
     match headers_of(view) {
-        Some(headers) => count_of(headers),
+        Some(headers) => headers.count(),
         None => 0,
     }
-}
-
-/// The header at an index, from 0; `None` if there are fewer.
-fn header_at<'a>(headers: Headers<'a>, index: usize) -> Option<StreamHeader<'a>>
-    ensures { option_map header_of result ≡ slice_get headers.entry index }
-{
-    let mut before = index;
-    for header in headers {
-        if before == 0 {
-            return Some(header);
-        }
-        before -= 1;
-    }
-    None
 }
 
 /// A stream header of the root, by its index in file order, from 0 (II.24.2.2). `true` if the view is open and has the
@@ -91,10 +64,10 @@ pub extern "C" fn clim_stream<'a>(
         → index < length headers → result ≡ true }
     ensures same { OnFalse result (stream.new ≡ stream.old) }
 {
-    let Some(headers) = headers_of(view) else {
+    let Some(mut headers) = headers_of(view) else {
         return false;
     };
-    let Some(header) = header_at(headers, index) else {
+    let Some(header) = headers.nth(index) else {
         return false;
     };
     *stream = ClimStreamHeader {

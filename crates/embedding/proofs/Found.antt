@@ -1,5 +1,5 @@
 -- A result opens, and its model is that of the root.
-use Rattle.embedding.proofs.Prelude.{◌≡◌, ℕ, suc, ◌+◌, ◌*◌, ◌^◌, ◌<◌, ◌≤◌, ◌==◌, inl, inr, false, List, [], ◌∷◌, length, take, drop, refl, sym, ap, subst, ◌∙◌, arith, ∥∥₁_map, little_endian, part, AllHold, SectionHeader, lfanew, section_count, sections_offset, sections_from, image_of, Image, IsImage, rules_of_image, CliHeader, fields_of, IsCliHeader, rules_of_cli_header, header_of, TableId, MethodDef, File, Metadata, count_in, IsModel, IsModelOfFile, IsEntryPoint, has_native_entry_point, Source, rows_in, source_of, root_in, row_count, IsBytes, part_fits, Slot, Reused, Appended, Extended, StrongName, Keep, Clear, IsHeaderOf, AreHeadersApart, IsEmbedded, HasItsModel, embedded, new_header, unsigned_flags, LeadsAlike, target_of, FitsAt}
+use Rattle.embedding.proofs.Prelude.{◌≡◌, ℕ, ◌+◌, ◌^◌, ◌<◌, ◌≤◌, ◌==◌, inl, inr, false, List, [], ◌∷◌, length, take, drop, refl, sym, ap, subst, ◌∙◌, arith, ∥∥₁_map, little_endian, part, AllHold, image_of, Image, IsImage, rules_of_image, CliHeader, fields_of, IsCliHeader, rules_of_cli_header, header_of, TableId, MethodDef, File, Metadata, count_in, IsModel, IsModelOfFile, IsEntryPoint, has_native_entry_point, Source, rows_in, source_of, root_in, row_count, IsBytes, part_fits, Slot, StrongName, Keep, Clear, IsHeaderOf, AreHeadersApart, IsEmbedded, HasItsModel, embedded, new_header, unsigned_flags, LeadsAlike, target_of, FitsAt}
 use Rattle.packed.specs.Fields.{Field, literal, number, ignored, StandAt, AllSay, widths}
 use Rattle.embedding.proofs.EntryPoint.{known_entry_point, entry_point_kept}
 use Rattle.embedding.proofs.NewImage.{NewImage, new_image}
@@ -98,8 +98,7 @@ new_cli_header laws name file root header source slot bytes of apart fits image 
     let r = room file header root source slot of apart fits in
     let long = length-embedded name file root header source slot of apart fits in
     let begins = (begins_with root header slot).0 in
-    let Is : CliHeader → Type 0 = λ (h : CliHeader). IsCliHeader (image_of file) h in
-    let old = subst Is (sym of.header_is) (laws.headers (image_of file) of.cli_header) in
+    let old : IsCliHeader (image_of file) header = rw of.header_is (laws.headers (image_of file) of.cli_header) in
     let says = (laws.said file header.place (fields_of header) old.fields).0 in
     let flags : header.flags < 2 ^ 32 =
     omega (arith, says.1.1.1.1.1.0, part_fits file (header.place + 4 + 2 + 2 + 4 + 4) 4 bytes (omega (arith, of.header_within))) in
@@ -138,7 +137,7 @@ found laws name file root result model bytes it is =
         image = image_of made;
         is_image = laws.images made image.rules;
         is_header = header_there;
-        root = subst (λ (l : List ℕ). IsModel l model) (sym there) is;
+        root = rw there is;
         entry = entry_found laws name file root header model target.address target.start of it.leads is;
       },
     ) in

@@ -1,5 +1,5 @@
 -- Why a root fits at no slot.
-use Rattle.embedding.proofs.Prelude.{◌≡◌, ◌<◌, ◌≤◌, ◌^◌, ◌⊎◌, inl, inr, ℕ, List, length, subst, arith, image_of, CliHeader, header_of, Source, source_of, root_in, EmbedError, Slot, Reused, Appended, Extended, HasImage, HasModel, IsHeaderOf, AreOpen, IsMisfit, IsReason, FitsAt, HasRoom, IsLongerSection, IsNewSection}
+use Rattle.embedding.proofs.Prelude.{◌≡◌, ◌<◌, ◌≤◌, ◌^◌, ◌⊎◌, inl, inr, ℕ, List, length, sym, ◌∙◌, arith, image_of, CliHeader, header_of, Source, source_of, root_in, EmbedError, Slot, Reused, Appended, Extended, HasImage, HasModel, IsHeaderOf, AreOpen, IsMisfit, IsReason, FitsAt, HasRoom, IsLongerSection, IsNewSection, IsSlot, IsInRange, target_of}
 use Rattle.embedding.specs.declared.error.EmbedError.TheVariants as error
 
 -- a new section would be too far
@@ -22,9 +22,25 @@ no_longer_section file len header source longer none far Reused fits = omega (ar
 no_longer_section file len header source longer none far (Appended address offset) fits = none fits.is_slot.1
 no_longer_section file len header source longer none far (Extended within) fits = omega (arith, fits.address, far within fits.is_slot.2)
 
+-- there is one slot, and its numbers are out of range
+pub out_of_range : (file : List ℕ) (len : ℕ) (header : CliHeader) (source : Source) (slot : Slot) → header.metadata.size < len → IsSlot file len header source slot
+    → ¬ IsInRange file len (target_of file header len slot) → (other : Slot) → ¬ FitsAt file len header source other
+out_of_range file len header source Reused longer is out other fits = omega (arith, longer, is.short)
+out_of_range file len header source (Appended address offset) longer is out Reused fits = omega (arith, longer, fits.is_slot.short)
+out_of_range file len header source (Appended address offset) longer is out (Appended at start) fits =
+    let same_address : at ≡ address = fits.is_slot.2.address_is ∙ sym is.2.address_is in
+    let same_offset : start ≡ offset = fits.is_slot.2.offset_is ∙ sym is.2.offset_is in
+    out (rw (same_address, same_offset) at fits.in_range)
+out_of_range file len header source (Appended address offset) longer is out (Extended within) fits = fits.is_slot.1 is.1
+out_of_range file len header source (Extended within) longer is out Reused fits = omega (arith, longer, fits.is_slot.short)
+out_of_range file len header source (Extended within) longer is out (Appended address offset) fits = is.1 fits.is_slot.1
+out_of_range file len header source (Extended within) longer is out (Extended at) fits =
+    let same : at ≡ within = fits.is_slot.2.within_is ∙ sym is.2.within_is in
+    out (rw same at fits.in_range)
+
 -- a file whose header was read opens with the header of its bytes
 pub opens_by : (file : List ℕ) (header : CliHeader) → IsHeaderOf file header → HasImage file (header_of (image_of file))
-opens_by file header of = subst (λ (h : CliHeader). HasImage file h) of.header_is of.model
+opens_by file header of = rw of.header_is at of.model
 
 reasons : (file root : List ℕ) (reason : EmbedError) → AreOpen file root
     → IsMisfit file (length root) (header_of (image_of file)) (source_of (root_in file (header_of (image_of file)))) reason → IsReason file root reason
@@ -38,7 +54,4 @@ reasons file root _ both none = absurd none
 pub misfit_is_reason : (file root view : List ℕ) (header : CliHeader) → IsHeaderOf file header → view ≡ root_in file header → HasModel root
     → (reason : EmbedError) → IsMisfit file (length root) header (source_of view) reason → IsReason file root reason
 misfit_is_reason file root view header of view_is has reason misfit =
-    let at : IsMisfit file (length root) header (source_of (root_in file header)) reason =
-    subst (λ (v : List ℕ). IsMisfit file (length root) header (source_of v) reason) view_is misfit in
-    reasons file root reason (opens_by file header of, has)
-    (subst (λ (h : CliHeader). IsMisfit file (length root) h (source_of (root_in file h)) reason) of.header_is at)
+    reasons file root reason (opens_by file header of, has) (rw (view_is, of.header_is) at misfit)

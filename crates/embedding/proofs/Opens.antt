@@ -1,5 +1,5 @@
 -- The faults of a file, and its CLI header.
-use Rattle.embedding.proofs.Prelude.{◌≡◌, List, ℕ, Result, Ok, Err, IfErr, ◌++◌, sym, subst, ap, ◌∙◌, ∥∥₁_elim, ∥∥₁_map, Coded-set, coded_list, coded_ℕ, Rule, AllHold, FirstBroken, image_of, Image, IsImage, rules_of_image, CliHeader, IsCliHeader, rules_of_cli_header, header_of, rules_of_file, rules_of_metadata, rules_of_entry_point, IsModelOfFile, root_in, source_of, HasImage, EmbedError, MatchFault, IsNoFault}
+use Rattle.embedding.proofs.Prelude.{◌≡◌, List, ℕ, Result, Ok, Err, IfErr, ◌++◌, sym, ap, ◌∙◌, ∥∥₁_elim, ∥∥₁_map, Coded-set, coded_list, coded_ℕ, Rule, AllHold, FirstBroken, image_of, Image, IsImage, rules_of_image, CliHeader, IsCliHeader, rules_of_cli_header, header_of, rules_of_file, rules_of_metadata, rules_of_entry_point, root_in, source_of, HasImage, EmbedError, MatchFault, IsNoFault}
 use Rattle.packed.specs.declared.fault.Fault.{Fault}
 use Rattle.packed.proofs.RuleLemmas.{fails_prefix, fails_back}
 use Rattle.embedding.specs.declared.error.EmbedError.TheVariants as error
@@ -35,7 +35,7 @@ pub opens_with : (file : List ℕ) (header other : CliHeader) → ((image : Imag
     → HasImage file header → HasImage file other
 opens_with file header other images headers is has = ∥∥₁_map has (λ some.
     let same : header ≡ other = headers some.1.image header some.1.is_header ∙ ap header_of (images some.1.image some.1.is_image) ∙ sym is in
-    (some.0, subst (λ (h : CliHeader). IsModelOfFile file h some.0) same some.1))
+    (some.0, rw same at some.1))
 
 -- a reason that is no fault
 pub no_fault : {T : Type 0} (result : Result T EmbedError) (P Q : Fault → Type 0) → IfErr result IsNoFault → IfErr result (MatchFault P Q)

@@ -41,7 +41,7 @@ pub use Rattle.embedding.specs.Embedded.{IsHeaderOf, AreHeadersApart, IsEmbedded
 pub use Rattle.embedding.specs.Errors.{AreOpen, IsMisfit, IsReason, MatchFault, IsNoFault}
 pub use Rattle.embedding.specs.Matching.{HaveSameAddresses, LeadsAlike}
 pub use Rattle.embedding.specs.Planned.{Planned, IsPlanned, target_in, result_of, shown_plan}
-pub use Rattle.embedding.specs.Slots.{target_of, FitsAt, HasRoom, IsLongerSection, IsNewSection, address_before, machine, root_bytes, slot_changes, metadata_changes, EndsFile}
+pub use Rattle.embedding.specs.Slots.{target_of, FitsAt, IsInRange, IsSlot, HasRoom, IsLongerSection, IsNewSection, address_before, machine, root_bytes, slot_changes, metadata_changes}
 pub use Rattle.embedding.specs.declared.error.EmbedError.{EmbedError}
 pub use Rattle.embedding.specs.declared.slot.Slot.{Slot}
 pub use Rattle.embedding.specs.declared.slot.Slot.TheVariants.{Reused, Appended, Extended}

@@ -1,5 +1,5 @@
 -- What is in a result: the root, what was there before, or what a change wrote.
-use Rattle.embedding.proofs.Prelude.{◌≡◌, ℕ, ◌+◌, ◌-◌, ◌*◌, ◌^◌, ◌<◌, ◌≤◌, inl, inr, List, ◌++◌, length, take, drop, replicate, refl, sym, ap, subst, ◌∙◌, arith, little_endian, part, AllHold, lfanew, wider, section_count, rules_of_image, CliHeader, Source, source_of, root_in, number_bytes, number_bytes-encode, section_offset, last, headers_end, Slot, Reused, Appended, Extended, StrongName, Keep, Clear, changed, IsHeaderOf, AreHeadersApart, header_changes, strong_name_changes, certificate_changes, unsigned_flags, embedded, Planned, IsPlanned, target_in, result_of, target_of, root_bytes, slot_changes, metadata_changes, machine, FitsAt}
+use Rattle.embedding.proofs.Prelude.{◌≡◌, ℕ, ◌+◌, ◌-◌, ◌*◌, ◌^◌, ◌<◌, ◌≤◌, inl, inr, List, ◌++◌, length, take, drop, replicate, refl, sym, ap, subst, ◌∙◌, arith, little_endian, part, lfanew, wider, section_count, CliHeader, Source, source_of, root_in, number_bytes, number_bytes-encode, section_offset, last, headers_end, Slot, Reused, Appended, Extended, StrongName, Keep, Clear, changed, IsHeaderOf, AreHeadersApart, header_changes, strong_name_changes, certificate_changes, unsigned_flags, embedded, Planned, IsPlanned, target_in, result_of, target_of, root_bytes, slot_changes, metadata_changes, machine, FitsAt}
 use Rattle.std.proofs.lemmas.List.{length-append, take-take, take_at, take_all}
 use Rattle.embedding.proofs.Headers.{SameHeaders}
 use Rattle.embedding.proofs.Parts.{Sets, sets_after, changed_append}
@@ -81,13 +81,11 @@ module _ (name : StrongName) (file root : List ℕ) (header : CliHeader) (source
 -- the same of a plan
 pub result_long : (plan shown : Planned) → plan ≡ shown → IsPlanned plan → length (result_of shown) ≡ (target_in shown).len
 result_long plan shown same is =
-    subst (λ (p : Planned). length (result_of p) ≡ (target_in p).len) same
-    (length-embedded plan.strong_name plan.file plan.root plan.header (source_of (root_in plan.file plan.header)) plan.slot is.header is.apart is.fits)
+    rw same at (length-embedded plan.strong_name plan.file plan.root plan.header (source_of (root_in plan.file plan.header)) plan.slot is.header is.apart is.fits)
 
 pub root_in_result : (plan shown : Planned) → plan ≡ shown → IsPlanned plan → part (result_of shown) (target_in shown).start (length shown.root) ≡ shown.root
 root_in_result plan shown same is =
-    subst (λ (p : Planned). part (result_of p) (target_in p).start (length p.root) ≡ p.root) same
-    (root_there plan.strong_name plan.file plan.root plan.header (source_of (root_in plan.file plan.header)) plan.slot is.header is.apart is.fits)
+    rw same at (root_there plan.strong_name plan.file plan.root plan.header (source_of (root_in plan.file plan.header)) plan.slot is.header is.apart is.fits)
 
 -- the changes of the headers, part by part
 pub changed_in_parts : (plan : Planned) (whole : List ℕ) → let target = target_in plan in
@@ -136,24 +134,12 @@ pub section_set : (name : StrongName) (file root : List ℕ) (header : CliHeader
     × Sets (headers_end file + 12) target.address changes
     × Sets (headers_end file + 16) target.raw_size changes
     × Sets (headers_end file + 20) target.start changes
-section_set Keep file root header source address offset of apart fits =
-    let wide = directories_end file of.image in (
-      inl (refl, refl, search arith),
-      inr (inr (inr (inr (inr (inr (inl (refl, refl, search arith))))))),
-      inr (inr (inr (inr (inr (inr (inr (inl (refl, refl, search arith)))))))),
-      inr (inr (inr (inr (inr (inr (inr (inr (inl (refl, refl, search arith))))))))),
-    )
-section_set Clear file root header source address offset of apart fits =
-    let wide = directories_end file of.image in (
-      inl (refl, refl, search arith),
-      inr (inr (inr (inr (inr (inr (inl (refl, refl, search arith))))))),
-      inr (inr (inr (inr (inr (inr (inr (inl (refl, refl, search arith)))))))),
-      inr (inr (inr (inr (inr (inr (inr (inr (inl (refl, refl, search arith))))))))),
-    )
+section_set Keep file root header source address offset of apart fits = let wide = directories_end file of.image in search arith
+section_set Clear file root header source address offset of apart fits = let wide = directories_end file of.image in search arith
 
 -- the size of the last section is written
 pub longer_set : (name : StrongName) (file root : List ℕ) (header : CliHeader) (source : Source) (within : ℕ) → IsHeaderOf file header → AreHeadersApart file header
     → FitsAt file (length root) header source (Extended within)
     → Sets (section_offset file (last file) + 16) (target_of file header (length root) (Extended within)).raw_size (header_changes name file root header (Extended within))
-longer_set Keep file root header source within of apart fits = let wide = directories_end file of.image in inr (inl (refl, refl, search arith))
-longer_set Clear file root header source within of apart fits = let wide = directories_end file of.image in inr (inl (refl, refl, search arith))
+longer_set Keep file root header source within of apart fits = let wide = directories_end file of.image in search arith
+longer_set Clear file root header source within of apart fits = let wide = directories_end file of.image in search arith

@@ -29,15 +29,6 @@ const NAME_END: u32 = 0x6D;
 const READ_DATA: u32 = 0x4000_0040;
 
 impl<'a> EmbedPlan<'a> {
-    /// Writes the result, part by part.
-    pub(crate) fn put_parts(&self, out: &mut [u8])
-        requires { length out.old ≡ (target_in self.now).len }
-        ensures { out.new ≡ result_of self.now }
-    {
-        self.copy_file(out);
-        self.put_changes(out);
-    }
-
     /// Writes what changes over the bytes of the file that stay.
     pub(crate) fn put_changes(&self, out: &mut [u8])
         requires long { length out.old ≡ (target_in self.now).len }
@@ -53,7 +44,7 @@ impl<'a> EmbedPlan<'a> {
     }
 
     /// Copies the bytes of the file that stay, and fills up with zeros.
-    fn copy_file(&self, out: &mut [u8])
+    pub(crate) fn copy_file(&self, out: &mut [u8])
         requires { length out.old ≡ (target_in self.now).len }
         ensures { out.new ≡ copied self.now.file (target_in self.now) }
     {

@@ -90,7 +90,8 @@ impl<'a> EmbedPlan<'a> {
         ensures { out.new ≡ result_of self.now }
     {
         let _header = &self.header;
-        self.put_parts(out);
+        self.copy_file(out);
+        self.put_changes(out);
     }
 
     /// The result in memory, which is allocated once.

@@ -4,7 +4,7 @@ ghost use Rattle.metadata.specs.Cell.{Number, Text, Bytes};
 ghost use Rattle.tables.specs.Said.{all_said};
 
 use std::alloc::{AllocError, Global};
-use type_records::{Cell, FieldValue, FromRow, Record, Row, TableId, owned_cells};
+use type_records::{Cell, FromRow, Record, Row, TableId, owned_row};
 
 /// This assembly, in at most one row (II.22.2).
 #[derive(Clone, Copy, Debug, PartialEq, Eq)]
@@ -36,9 +36,7 @@ impl<'m, W: Row<'m>> FromRow<'m, W> for Assembly<'m> {
         ∷ Number r.build_number ∷ Number r.revision_number ∷ Number r.flags ∷ Bytes r.public_key.now ∷ Text r.name.now
         ∷ Text r.culture.now ∷ [] };
 
-    fn table_id() -> TableId
-        ensures { result ≡ table.Assembly }
-    {
+    fn table_id() -> TableId {
         TableId::Assembly
     }
 
@@ -59,20 +57,12 @@ impl<'m, W: Row<'m>> FromRow<'m, W> for Assembly<'m> {
 
 impl<'m> Record<'m> for Assembly<'m> {
     fn cells(&self, alloc: Global) -> Result<Vec<Cell>, AllocError> {
-        owned_cells(
-            alloc,
-            &[
-                FieldValue::Number(self.hash_alg_id),
-                FieldValue::Number(self.major_version),
-                FieldValue::Number(self.minor_version),
-                FieldValue::Number(self.build_number),
-                FieldValue::Number(self.revision_number),
-                FieldValue::Number(self.flags),
-                FieldValue::Bytes(self.public_key),
-                FieldValue::Text(self.name),
-                FieldValue::Text(self.culture),
-            ],
-        )
+        owned_row! {
+            alloc;
+            Number self.hash_alg_id, Number self.major_version, Number self.minor_version,
+            Number self.build_number, Number self.revision_number, Number self.flags,
+            Bytes self.public_key, Text self.name, Text self.culture,
+        }
     }
 }
 
@@ -88,9 +78,7 @@ impl<'m, W: Row<'m>> FromRow<'m, W> for AssemblyProcessor {
 
     ghost fields = { λ r. Number r.processor ∷ [] };
 
-    fn table_id() -> TableId
-        ensures { result ≡ table.AssemblyProcessor }
-    {
+    fn table_id() -> TableId {
         TableId::AssemblyProcessor
     }
 
@@ -105,7 +93,7 @@ impl<'m> Record<'m> for AssemblyProcessor {
     fn cells(&self, alloc: Global) -> Result<Vec<Cell>, AllocError>
         ensures { IfOk result (λ cells. all_said cells.items ≡ Number self.now.processor ∷ []) }
     {
-        owned_cells(alloc, &[FieldValue::Number(self.processor)])
+        owned_row!(alloc; Number self.processor)
     }
 }
 
@@ -125,9 +113,7 @@ impl<'m, W: Row<'m>> FromRow<'m, W> for AssemblyOS {
 
     ghost fields = { λ r. Number r.os_platform_id ∷ Number r.os_major_version ∷ Number r.os_minor_version ∷ [] };
 
-    fn table_id() -> TableId
-        ensures { result ≡ table.AssemblyOS }
-    {
+    fn table_id() -> TableId {
         TableId::AssemblyOS
     }
 
@@ -144,13 +130,9 @@ impl<'m> Record<'m> for AssemblyOS {
     fn cells(&self, alloc: Global) -> Result<Vec<Cell>, AllocError>
         ensures { IfOk result (λ cells. all_said cells.items ≡ Number self.now.os_platform_id ∷ Number self.now.os_major_version ∷ Number self.now.os_minor_version ∷ []) }
     {
-        owned_cells(
-            alloc,
-            &[
-                FieldValue::Number(self.os_platform_id),
-                FieldValue::Number(self.os_major_version),
-                FieldValue::Number(self.os_minor_version),
-            ],
-        )
+        owned_row! {
+            alloc;
+            Number self.os_platform_id, Number self.os_major_version, Number self.os_minor_version,
+        }
     }
 }

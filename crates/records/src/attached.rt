@@ -1,9 +1,9 @@
-ghost use Rattle.std.specs.Prelude.{◌≡◌, [], ◌∷◌};
+ghost use Rattle.std.specs.Prelude.{[], ◌∷◌};
 ghost use Rattle.table_schema.specs.declared.table.TableId.TheVariants as table;
 ghost use Rattle.metadata.specs.Cell.{Number, Bytes, Ref};
 
 use std::alloc::{AllocError, Global};
-use type_records::{Cell, FieldValue, FromRow, Record, Row, TableId, Token, owned_cells};
+use type_records::{Cell, FromRow, Record, Row, TableId, Token, owned_row};
 
 /// The constant value of a field, parameter or property (II.22.9).
 #[derive(Clone, Copy, Debug, PartialEq, Eq)]
@@ -21,9 +21,7 @@ impl<'m, W: Row<'m>> FromRow<'m, W> for Constant<'m> {
 
     ghost fields = { λ r. Number r.kind ∷ Ref r.parent ∷ Bytes r.value.now ∷ [] };
 
-    fn table_id() -> TableId
-        ensures { result ≡ table.Constant }
-    {
+    fn table_id() -> TableId {
         TableId::Constant
     }
 
@@ -38,14 +36,7 @@ impl<'m, W: Row<'m>> FromRow<'m, W> for Constant<'m> {
 
 impl<'m> Record<'m> for Constant<'m> {
     fn cells(&self, alloc: Global) -> Result<Vec<Cell>, AllocError> {
-        owned_cells(
-            alloc,
-            &[
-                FieldValue::Number(self.kind),
-                FieldValue::Ref(self.parent),
-                FieldValue::Bytes(self.value),
-            ],
-        )
+        owned_row!(alloc; Number self.kind, Ref self.parent, Bytes self.value)
     }
 }
 
@@ -66,9 +57,7 @@ impl<'m, W: Row<'m>> FromRow<'m, W> for CustomAttribute<'m> {
 
     ghost fields = { λ r. Ref r.parent ∷ Ref r.kind ∷ Bytes r.value.now ∷ [] };
 
-    fn table_id() -> TableId
-        ensures { result ≡ table.CustomAttribute }
-    {
+    fn table_id() -> TableId {
         TableId::CustomAttribute
     }
 
@@ -83,14 +72,7 @@ impl<'m, W: Row<'m>> FromRow<'m, W> for CustomAttribute<'m> {
 
 impl<'m> Record<'m> for CustomAttribute<'m> {
     fn cells(&self, alloc: Global) -> Result<Vec<Cell>, AllocError> {
-        owned_cells(
-            alloc,
-            &[
-                FieldValue::Ref(self.parent),
-                FieldValue::Ref(self.kind),
-                FieldValue::Bytes(self.value),
-            ],
-        )
+        owned_row!(alloc; Ref self.parent, Ref self.kind, Bytes self.value)
     }
 }
 
@@ -110,9 +92,7 @@ impl<'m, W: Row<'m>> FromRow<'m, W> for DeclSecurity<'m> {
 
     ghost fields = { λ r. Number r.action ∷ Ref r.parent ∷ Bytes r.permission_set.now ∷ [] };
 
-    fn table_id() -> TableId
-        ensures { result ≡ table.DeclSecurity }
-    {
+    fn table_id() -> TableId {
         TableId::DeclSecurity
     }
 
@@ -127,13 +107,6 @@ impl<'m, W: Row<'m>> FromRow<'m, W> for DeclSecurity<'m> {
 
 impl<'m> Record<'m> for DeclSecurity<'m> {
     fn cells(&self, alloc: Global) -> Result<Vec<Cell>, AllocError> {
-        owned_cells(
-            alloc,
-            &[
-                FieldValue::Number(self.action),
-                FieldValue::Ref(self.parent),
-                FieldValue::Bytes(self.permission_set),
-            ],
-        )
+        owned_row!(alloc; Number self.action, Ref self.parent, Bytes self.permission_set)
     }
 }

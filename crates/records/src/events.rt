@@ -4,7 +4,7 @@ ghost use Rattle.metadata.specs.Cell.{Number, Text, Ref, Start};
 ghost use Rattle.tables.specs.Said.{all_said};
 
 use std::alloc::{AllocError, Global};
-use type_records::{Cell, FieldValue, FromRow, Record, Row, TableId, Token, owned_cells};
+use type_records::{Cell, FromRow, Record, Row, TableId, Token, owned_row};
 
 /// A type that has events (II.22.12).
 #[derive(Clone, Copy, Debug, PartialEq, Eq)]
@@ -20,9 +20,7 @@ impl<'m, W: Row<'m>> FromRow<'m, W> for EventMap {
 
     ghost fields = { λ r. Ref r.parent ∷ Start r.event_list ∷ [] };
 
-    fn table_id() -> TableId
-        ensures { result ≡ table.EventMap }
-    {
+    fn table_id() -> TableId {
         TableId::EventMap
     }
 
@@ -38,13 +36,7 @@ impl<'m> Record<'m> for EventMap {
     fn cells(&self, alloc: Global) -> Result<Vec<Cell>, AllocError>
         ensures { IfOk result (λ cells. all_said cells.items ≡ Ref self.now.parent ∷ Start self.now.event_list ∷ []) }
     {
-        owned_cells(
-            alloc,
-            &[
-                FieldValue::Ref(self.parent),
-                FieldValue::Start(self.event_list),
-            ],
-        )
+        owned_row!(alloc; Ref self.parent, Start self.event_list)
     }
 }
 
@@ -64,9 +56,7 @@ impl<'m, W: Row<'m>> FromRow<'m, W> for Event<'m> {
 
     ghost fields = { λ r. Number r.event_flags ∷ Text r.name.now ∷ Ref r.event_type ∷ [] };
 
-    fn table_id() -> TableId
-        ensures { result ≡ table.Event }
-    {
+    fn table_id() -> TableId {
         TableId::Event
     }
 
@@ -81,13 +71,6 @@ impl<'m, W: Row<'m>> FromRow<'m, W> for Event<'m> {
 
 impl<'m> Record<'m> for Event<'m> {
     fn cells(&self, alloc: Global) -> Result<Vec<Cell>, AllocError> {
-        owned_cells(
-            alloc,
-            &[
-                FieldValue::Number(self.event_flags),
-                FieldValue::Text(self.name),
-                FieldValue::Ref(self.event_type),
-            ],
-        )
+        owned_row!(alloc; Number self.event_flags, Text self.name, Ref self.event_type)
     }
 }

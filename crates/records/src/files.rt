@@ -1,11 +1,11 @@
-ghost use Rattle.std.specs.Prelude.{◌≡◌, [], ◌∷◌, Some};
+ghost use Rattle.std.specs.Prelude.{[], ◌∷◌, Some};
 ghost use Rattle.table_schema.specs.declared.table.TableId.TheVariants as table;
 ghost use Rattle.metadata.specs.Cell.{Number, Text, Bytes, Ref};
 ghost use Rattle.metadata.specs.Names.{full_name};
 
 use std::alloc::{AllocError, Global};
 use std::fmt;
-use type_records::{Cell, FieldValue, FromRow, Record, Row, TableId, Token, owned_cells};
+use type_records::{Cell, FromRow, Record, Row, TableId, Token, owned_row};
 
 /// Another file of this assembly (II.22.19).
 #[derive(Clone, Copy, Debug, PartialEq, Eq)]
@@ -23,9 +23,7 @@ impl<'m, W: Row<'m>> FromRow<'m, W> for File<'m> {
 
     ghost fields = { λ r. Number r.flags ∷ Text r.name.now ∷ Bytes r.hash_value.now ∷ [] };
 
-    fn table_id() -> TableId
-        ensures { result ≡ table.File }
-    {
+    fn table_id() -> TableId {
         TableId::File
     }
 
@@ -40,14 +38,7 @@ impl<'m, W: Row<'m>> FromRow<'m, W> for File<'m> {
 
 impl<'m> Record<'m> for File<'m> {
     fn cells(&self, alloc: Global) -> Result<Vec<Cell>, AllocError> {
-        owned_cells(
-            alloc,
-            &[
-                FieldValue::Number(self.flags),
-                FieldValue::Text(self.name),
-                FieldValue::Bytes(self.hash_value),
-            ],
-        )
+        owned_row!(alloc; Number self.flags, Text self.name, Bytes self.hash_value)
     }
 }
 
@@ -73,9 +64,7 @@ impl<'m, W: Row<'m>> FromRow<'m, W> for ExportedType<'m> {
     ghost fields = { λ r. Number r.flags ∷ Number r.type_def_id ∷ Text r.type_name.now ∷ Text r.type_namespace.now
         ∷ Ref r.implementation ∷ [] };
 
-    fn table_id() -> TableId
-        ensures { result ≡ table.ExportedType }
-    {
+    fn table_id() -> TableId {
         TableId::ExportedType
     }
 
@@ -92,16 +81,11 @@ impl<'m, W: Row<'m>> FromRow<'m, W> for ExportedType<'m> {
 
 impl<'m> Record<'m> for ExportedType<'m> {
     fn cells(&self, alloc: Global) -> Result<Vec<Cell>, AllocError> {
-        owned_cells(
-            alloc,
-            &[
-                FieldValue::Number(self.flags),
-                FieldValue::Number(self.type_def_id),
-                FieldValue::Text(self.type_name),
-                FieldValue::Text(self.type_namespace),
-                FieldValue::Ref(self.implementation),
-            ],
-        )
+        owned_row! {
+            alloc;
+            Number self.flags, Number self.type_def_id, Text self.type_name,
+            Text self.type_namespace, Ref self.implementation,
+        }
     }
 }
 
@@ -136,9 +120,7 @@ impl<'m, W: Row<'m>> FromRow<'m, W> for ManifestResource<'m> {
 
     ghost fields = { λ r. Number r.offset ∷ Number r.flags ∷ Text r.name.now ∷ Ref r.implementation ∷ [] };
 
-    fn table_id() -> TableId
-        ensures { result ≡ table.ManifestResource }
-    {
+    fn table_id() -> TableId {
         TableId::ManifestResource
     }
 
@@ -154,14 +136,9 @@ impl<'m, W: Row<'m>> FromRow<'m, W> for ManifestResource<'m> {
 
 impl<'m> Record<'m> for ManifestResource<'m> {
     fn cells(&self, alloc: Global) -> Result<Vec<Cell>, AllocError> {
-        owned_cells(
-            alloc,
-            &[
-                FieldValue::Number(self.offset),
-                FieldValue::Number(self.flags),
-                FieldValue::Text(self.name),
-                FieldValue::Ref(self.implementation),
-            ],
-        )
+        owned_row! {
+            alloc;
+            Number self.offset, Number self.flags, Text self.name, Ref self.implementation,
+        }
     }
 }

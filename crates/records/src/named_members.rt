@@ -1,4 +1,3 @@
-ghost use Rattle.std.specs.Prelude.{◌≡◌};
 ghost use Rattle.table_schema.specs.declared.coded.Coded.TheVariants as coded;
 ghost use Rattle.table_schema.specs.declared.table.TableId.TheVariants as table;
 
@@ -51,9 +50,7 @@ impl<'m, S: IsSignature, W: Row<'m, Signature = S>> CodedRow<'m, W> for MemberRe
       | a_parent.TypeSpec r ↦ ⟦<TypeSpec<S> as FromRow<'m, W>>⟧.fields r
     ] };
 
-    fn coded_id() -> Coded
-        ensures { result ≡ coded.MemberRefParent }
-    {
+    fn coded_id() -> Coded {
         Coded::MemberRefParent
     }
 
@@ -90,9 +87,7 @@ impl<'m, S: IsSignature, W: Row<'m, Signature = S>> CodedRow<'m, W> for MethodDe
       | a_method.MemberRef r ↦ ⟦<MemberRef<'m, S> as FromRow<'m, W>>⟧.fields r
     ] };
 
-    fn coded_id() -> Coded
-        ensures { result ≡ coded.MethodDefOrRef }
-    {
+    fn coded_id() -> Coded {
         Coded::MethodDefOrRef
     }
 
@@ -126,9 +121,7 @@ impl<'m, S: IsSignature, W: Row<'m, Signature = S>> CodedRow<'m, W> for CustomAt
       | a_constructor.MemberRef r ↦ ⟦<MemberRef<'m, S> as FromRow<'m, W>>⟧.fields r
     ] };
 
-    fn coded_id() -> Coded
-        ensures { result ≡ coded.CustomAttributeType }
-    {
+    fn coded_id() -> Coded {
         Coded::CustomAttributeType
     }
 
@@ -171,9 +164,7 @@ impl<'m, S: IsSignature, W: Row<'m, Signature = S>> CodedRow<'m, W> for TypeOrMe
       | an_owner.MethodDef r ↦ ⟦<MethodDef<'m, S> as FromRow<'m, W>>⟧.fields r
     ] };
 
-    fn coded_id() -> Coded
-        ensures { result ≡ coded.TypeOrMethodDef }
-    {
+    fn coded_id() -> Coded {
         Coded::TypeOrMethodDef
     }
 

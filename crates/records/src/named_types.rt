@@ -1,4 +1,3 @@
-ghost use Rattle.std.specs.Prelude.{◌≡◌};
 ghost use Rattle.table_schema.specs.declared.coded.Coded.TheVariants as coded;
 ghost use Rattle.table_schema.specs.declared.table.TableId.TheVariants as table;
 
@@ -44,9 +43,7 @@ impl<'m, S: IsSignature, W: Row<'m, Signature = S>> CodedRow<'m, W> for TypeDefO
       | a_type.TypeSpec r ↦ ⟦<TypeSpec<S> as FromRow<'m, W>>⟧.fields r
     ] };
 
-    fn coded_id() -> Coded
-        ensures { result ≡ coded.TypeDefOrRef }
-    {
+    fn coded_id() -> Coded {
         Coded::TypeDefOrRef
     }
 
@@ -87,9 +84,7 @@ impl<'m, W: Row<'m>> CodedRow<'m, W> for ResolutionScope<'m> {
       | a_scope.TypeRef r ↦ ⟦<TypeRef<'m> as FromRow<'m, W>>⟧.fields r
     ] };
 
-    fn coded_id() -> Coded
-        ensures { result ≡ coded.ResolutionScope }
-    {
+    fn coded_id() -> Coded {
         Coded::ResolutionScope
     }
 
@@ -128,9 +123,7 @@ impl<'m, W: Row<'m>> CodedRow<'m, W> for Implementation<'m> {
       | a_cell_index.ExportedType r ↦ ⟦<ExportedType<'m> as FromRow<'m, W>>⟧.fields r
     ] };
 
-    fn coded_id() -> Coded
-        ensures { result ≡ coded.Implementation }
-    {
+    fn coded_id() -> Coded {
         Coded::Implementation
     }
 

@@ -6,8 +6,7 @@ ghost use Rattle.tables.specs.Said.{all_said};
 
 use std::alloc::{AllocError, Global};
 use type_records::{
-    Cell, FieldValue, FromRow, IsSignature, Record, Row, SigKind, Signature, TableId, Token,
-    owned_cells,
+    Cell, FromRow, IsSignature, Record, Row, SigKind, Signature, TableId, Token, owned_row,
 };
 
 /// A type that has properties (II.22.35).
@@ -24,9 +23,7 @@ impl<'m, W: Row<'m>> FromRow<'m, W> for PropertyMap {
 
     ghost fields = { λ r. Ref r.parent ∷ Start r.property_list ∷ [] };
 
-    fn table_id() -> TableId
-        ensures { result ≡ table.PropertyMap }
-    {
+    fn table_id() -> TableId {
         TableId::PropertyMap
     }
 
@@ -42,13 +39,7 @@ impl<'m> Record<'m> for PropertyMap {
     fn cells(&self, alloc: Global) -> Result<Vec<Cell>, AllocError>
         ensures { IfOk result (λ cells. all_said cells.items ≡ Ref self.now.parent ∷ Start self.now.property_list ∷ []) }
     {
-        owned_cells(
-            alloc,
-            &[
-                FieldValue::Ref(self.parent),
-                FieldValue::Start(self.property_list),
-            ],
-        )
+        owned_row!(alloc; Ref self.parent, Start self.property_list)
     }
 }
 
@@ -75,9 +66,7 @@ impl<'m, S: IsSignature, W: Row<'m, Signature = S>> FromRow<'m, W> for Property<
 
     ghost fields = { λ r. Number r.flags ∷ Text r.name.now ∷ Sig (S.body column.Property r.kind) ∷ [] };
 
-    fn table_id() -> TableId
-        ensures { result ≡ table.Property }
-    {
+    fn table_id() -> TableId {
         TableId::Property
     }
 
@@ -92,13 +81,6 @@ impl<'m, S: IsSignature, W: Row<'m, Signature = S>> FromRow<'m, W> for Property<
 
 impl<'m> Record<'m> for Property<'m> {
     fn cells(&self, alloc: Global) -> Result<Vec<Cell>, AllocError> {
-        owned_cells(
-            alloc,
-            &[
-                FieldValue::Number(self.flags),
-                FieldValue::Text(self.name),
-                FieldValue::Sig(self.kind),
-            ],
-        )
+        owned_row!(alloc; Number self.flags, Text self.name, Sig self.kind)
     }
 }

@@ -4,7 +4,7 @@ ghost use Rattle.metadata.specs.Cell.{Number, Text, Bytes, Ref};
 ghost use Rattle.tables.specs.Said.{all_said};
 
 use std::alloc::{AllocError, Global};
-use type_records::{Cell, FieldValue, FromRow, Record, Row, TableId, Token, owned_cells};
+use type_records::{Cell, FromRow, Record, Row, TableId, Token, owned_row};
 
 /// Another assembly (II.22.5).
 #[derive(Clone, Copy, Debug, PartialEq, Eq)]
@@ -36,9 +36,7 @@ impl<'m, W: Row<'m>> FromRow<'m, W> for AssemblyRef<'m> {
         ∷ Number r.revision_number ∷ Number r.flags ∷ Bytes r.public_key_or_token.now ∷ Text r.name.now
         ∷ Text r.culture.now ∷ Bytes r.hash_value.now ∷ [] };
 
-    fn table_id() -> TableId
-        ensures { result ≡ table.AssemblyRef }
-    {
+    fn table_id() -> TableId {
         TableId::AssemblyRef
     }
 
@@ -59,20 +57,12 @@ impl<'m, W: Row<'m>> FromRow<'m, W> for AssemblyRef<'m> {
 
 impl<'m> Record<'m> for AssemblyRef<'m> {
     fn cells(&self, alloc: Global) -> Result<Vec<Cell>, AllocError> {
-        owned_cells(
-            alloc,
-            &[
-                FieldValue::Number(self.major_version),
-                FieldValue::Number(self.minor_version),
-                FieldValue::Number(self.build_number),
-                FieldValue::Number(self.revision_number),
-                FieldValue::Number(self.flags),
-                FieldValue::Bytes(self.public_key_or_token),
-                FieldValue::Text(self.name),
-                FieldValue::Text(self.culture),
-                FieldValue::Bytes(self.hash_value),
-            ],
-        )
+        owned_row! {
+            alloc;
+            Number self.major_version, Number self.minor_version, Number self.build_number,
+            Number self.revision_number, Number self.flags, Bytes self.public_key_or_token,
+            Text self.name, Text self.culture, Bytes self.hash_value,
+        }
     }
 }
 
@@ -90,9 +80,7 @@ impl<'m, W: Row<'m>> FromRow<'m, W> for AssemblyRefProcessor {
 
     ghost fields = { λ r. Number r.processor ∷ Ref r.assembly_ref ∷ [] };
 
-    fn table_id() -> TableId
-        ensures { result ≡ table.AssemblyRefProcessor }
-    {
+    fn table_id() -> TableId {
         TableId::AssemblyRefProcessor
     }
 
@@ -108,13 +96,7 @@ impl<'m> Record<'m> for AssemblyRefProcessor {
     fn cells(&self, alloc: Global) -> Result<Vec<Cell>, AllocError>
         ensures { IfOk result (λ cells. all_said cells.items ≡ Number self.now.processor ∷ Ref self.now.assembly_ref ∷ []) }
     {
-        owned_cells(
-            alloc,
-            &[
-                FieldValue::Number(self.processor),
-                FieldValue::Ref(self.assembly_ref),
-            ],
-        )
+        owned_row!(alloc; Number self.processor, Ref self.assembly_ref)
     }
 }
 
@@ -137,9 +119,7 @@ impl<'m, W: Row<'m>> FromRow<'m, W> for AssemblyRefOS {
     ghost fields = { λ r. Number r.os_platform_id ∷ Number r.os_major_version ∷ Number r.os_minor_version
         ∷ Ref r.assembly_ref ∷ [] };
 
-    fn table_id() -> TableId
-        ensures { result ≡ table.AssemblyRefOS }
-    {
+    fn table_id() -> TableId {
         TableId::AssemblyRefOS
     }
 
@@ -157,15 +137,11 @@ impl<'m> Record<'m> for AssemblyRefOS {
     fn cells(&self, alloc: Global) -> Result<Vec<Cell>, AllocError>
         ensures { IfOk result (λ cells. all_said cells.items ≡ Number self.now.os_platform_id ∷ Number self.now.os_major_version ∷ Number self.now.os_minor_version ∷ Ref self.now.assembly_ref ∷ []) }
     {
-        owned_cells(
-            alloc,
-            &[
-                FieldValue::Number(self.os_platform_id),
-                FieldValue::Number(self.os_major_version),
-                FieldValue::Number(self.os_minor_version),
-                FieldValue::Ref(self.assembly_ref),
-            ],
-        )
+        owned_row! {
+            alloc;
+            Number self.os_platform_id, Number self.os_major_version, Number self.os_minor_version,
+            Ref self.assembly_ref,
+        }
     }
 }
 
@@ -181,9 +157,7 @@ impl<'m, W: Row<'m>> FromRow<'m, W> for ModuleRef<'m> {
 
     ghost fields = { λ r. Text r.name.now ∷ [] };
 
-    fn table_id() -> TableId
-        ensures { result ≡ table.ModuleRef }
-    {
+    fn table_id() -> TableId {
         TableId::ModuleRef
     }
 
@@ -194,7 +168,7 @@ impl<'m, W: Row<'m>> FromRow<'m, W> for ModuleRef<'m> {
 
 impl<'m> Record<'m> for ModuleRef<'m> {
     fn cells(&self, alloc: Global) -> Result<Vec<Cell>, AllocError> {
-        owned_cells(alloc, &[FieldValue::Text(self.name)])
+        owned_row!(alloc; Text self.name)
     }
 }
 
@@ -217,9 +191,7 @@ impl<'m, W: Row<'m>> FromRow<'m, W> for ImplMap<'m> {
     ghost fields = { λ r. Number r.mapping_flags ∷ Ref r.member_forwarded ∷ Text r.import_name.now
         ∷ Ref r.import_scope ∷ [] };
 
-    fn table_id() -> TableId
-        ensures { result ≡ table.ImplMap }
-    {
+    fn table_id() -> TableId {
         TableId::ImplMap
     }
 
@@ -235,14 +207,10 @@ impl<'m, W: Row<'m>> FromRow<'m, W> for ImplMap<'m> {
 
 impl<'m> Record<'m> for ImplMap<'m> {
     fn cells(&self, alloc: Global) -> Result<Vec<Cell>, AllocError> {
-        owned_cells(
-            alloc,
-            &[
-                FieldValue::Number(self.mapping_flags),
-                FieldValue::Ref(self.member_forwarded),
-                FieldValue::Text(self.import_name),
-                FieldValue::Ref(self.import_scope),
-            ],
-        )
+        owned_row! {
+            alloc;
+            Number self.mapping_flags, Ref self.member_forwarded, Text self.import_name,
+            Ref self.import_scope,
+        }
     }
 }

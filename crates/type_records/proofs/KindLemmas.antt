@@ -1,5 +1,5 @@
 -- The kinds of a table's cells are those of its columns with a cell, and the rows of a valid model have these kinds.
-use Rattle.std.proofs.Common.{◌≡◌, ℕ, suc, ◌<◌, List, [], ◌∷◌, length, map, Some, option_map, get_or, slice_get, refl, sym, ◌∙◌, ap, subst, arith}
+use Rattle.std.proofs.Common.{◌≡◌, ℕ, suc, ◌<◌, List, [], ◌∷◌, length, map, Some, option_map, get_or, slice_get, refl, sym, ◌∙◌, ap, arith}
 use Rattle.std.proofs.lemmas.List.{length-map}
 use Rattle.std.proofs.lemmas.Option.{slice_get-map, slice_get-get_or, slice_get_within}
 use Rattle.table_schema.specs.declared.table.TableId.{TableId}
@@ -9,7 +9,7 @@ use Rattle.table_schema.specs.Columns.{column_at}
 use Rattle.table_schema.specs.CellColumns.{cell_columns, cell_count, column_of}
 use Rattle.metadata.specs.Cell.{Cell, Number}
 use Rattle.metadata.specs.Kinds.{IsOfKind}
-use Rattle.metadata.specs.Metadata.{Metadata, row_of, cell_in}
+use Rattle.metadata.specs.Metadata.{Metadata, row_of}
 use Rattle.metadata.specs.Lookups.{HasRow}
 use Rattle.metadata.specs.Valid.{IsValid}
 use Rattle.type_records.specs.Kinds.{kinds_of, AreOfKinds}
@@ -46,5 +46,4 @@ valid_row model valid table row there =
     let below : cell_index < cell_count table = omega (arith, within, kind_count table) in
     let both = sym (kind_stands table cell_index below) ∙ at in
     let is : (column_at table (column_of table cell_index)).kind ≡ kind = cc in
-    let P : ColumnKind → Type 0 = λ held. IsOfKind held (cell_in model table row cell_index) in
-    subst P is (valid.cells table row cell_index there below).of_kind)
+    rw is at (valid.cells table row cell_index there below).of_kind)

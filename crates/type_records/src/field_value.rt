@@ -53,3 +53,11 @@ pub fn owned_cells(alloc: Global, values: &[FieldValue<'_>]) -> Result<Vec<Cell>
     }
     Ok(cells)
 }
+
+/// The cells with these contents, each given by its kind and its value. The row is one allocation.
+#[macro_export]
+macro_rules! owned_row {
+    ($alloc:expr; $($kind:ident $value:expr),+ $(,)?) => {
+        $crate::owned_cells($alloc, &[$($crate::FieldValue::$kind($value)),+])
+    };
+}

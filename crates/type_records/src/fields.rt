@@ -4,7 +4,7 @@ ghost use Rattle.table_schema.specs.declared.column.SigKind.TheVariants as colum
 ghost use Rattle.metadata.specs.Cell.{Number, Text, Bytes, Ref, Sig};
 ghost use Rattle.tables.specs.Said.{all_said};
 
-use crate::field_value::{FieldValue, owned_cells};
+use crate::owned_row;
 use crate::record::{FromRow, Record};
 use crate::row::Row;
 use crate::signature::IsSignature;
@@ -35,9 +35,7 @@ impl<'m, S: IsSignature, W: Row<'m, Signature = S>> FromRow<'m, W> for Field<'m,
 
     ghost fields = { λ r. Number r.flags ∷ Text r.name.now ∷ Sig (S.body column.Field r.signature) ∷ [] };
 
-    fn table_id() -> TableId
-        ensures { result ≡ table.Field }
-    {
+    fn table_id() -> TableId {
         TableId::Field
     }
 
@@ -52,14 +50,7 @@ impl<'m, S: IsSignature, W: Row<'m, Signature = S>> FromRow<'m, W> for Field<'m,
 
 impl<'m> Record<'m> for Field<'m> {
     fn cells(&self, alloc: Global) -> Result<Vec<Cell>, AllocError> {
-        owned_cells(
-            alloc,
-            &[
-                FieldValue::Number(self.flags),
-                FieldValue::Text(self.name),
-                FieldValue::Sig(self.signature),
-            ],
-        )
+        owned_row!(alloc; Number self.flags, Text self.name, Sig self.signature)
     }
 }
 
@@ -77,9 +68,7 @@ impl<'m, W: Row<'m>> FromRow<'m, W> for FieldLayout {
 
     ghost fields = { λ r. Number r.offset ∷ Ref r.field ∷ [] };
 
-    fn table_id() -> TableId
-        ensures { result ≡ table.FieldLayout }
-    {
+    fn table_id() -> TableId {
         TableId::FieldLayout
     }
 
@@ -95,10 +84,7 @@ impl<'m> Record<'m> for FieldLayout {
     fn cells(&self, alloc: Global) -> Result<Vec<Cell>, AllocError>
         ensures { IfOk result (λ cells. all_said cells.items ≡ Number self.now.offset ∷ Ref self.now.field ∷ []) }
     {
-        owned_cells(
-            alloc,
-            &[FieldValue::Number(self.offset), FieldValue::Ref(self.field)],
-        )
+        owned_row!(alloc; Number self.offset, Ref self.field)
     }
 }
 
@@ -116,9 +102,7 @@ impl<'m, W: Row<'m>> FromRow<'m, W> for FieldMarshal<'m> {
 
     ghost fields = { λ r. Ref r.parent ∷ Bytes r.native_type.now ∷ [] };
 
-    fn table_id() -> TableId
-        ensures { result ≡ table.FieldMarshal }
-    {
+    fn table_id() -> TableId {
         TableId::FieldMarshal
     }
 
@@ -132,13 +116,7 @@ impl<'m, W: Row<'m>> FromRow<'m, W> for FieldMarshal<'m> {
 
 impl<'m> Record<'m> for FieldMarshal<'m> {
     fn cells(&self, alloc: Global) -> Result<Vec<Cell>, AllocError> {
-        owned_cells(
-            alloc,
-            &[
-                FieldValue::Ref(self.parent),
-                FieldValue::Bytes(self.native_type),
-            ],
-        )
+        owned_row!(alloc; Ref self.parent, Bytes self.native_type)
     }
 }
 
@@ -156,9 +134,7 @@ impl<'m, W: Row<'m>> FromRow<'m, W> for FieldRVA {
 
     ghost fields = { λ r. Number r.rva ∷ Ref r.field ∷ [] };
 
-    fn table_id() -> TableId
-        ensures { result ≡ table.FieldRVA }
-    {
+    fn table_id() -> TableId {
         TableId::FieldRVA
     }
 
@@ -174,10 +150,7 @@ impl<'m> Record<'m> for FieldRVA {
     fn cells(&self, alloc: Global) -> Result<Vec<Cell>, AllocError>
         ensures { IfOk result (λ cells. all_said cells.items ≡ Number self.now.rva ∷ Ref self.now.field ∷ []) }
     {
-        owned_cells(
-            alloc,
-            &[FieldValue::Number(self.rva), FieldValue::Ref(self.field)],
-        )
+        owned_row!(alloc; Number self.rva, Ref self.field)
     }
 }
 
@@ -204,9 +177,7 @@ impl<'m, S: IsSignature, W: Row<'m, Signature = S>> FromRow<'m, W> for MemberRef
 
     ghost fields = { λ r. Ref r.class ∷ Text r.name.now ∷ Sig (S.body column.MemberRef r.signature) ∷ [] };
 
-    fn table_id() -> TableId
-        ensures { result ≡ table.MemberRef }
-    {
+    fn table_id() -> TableId {
         TableId::MemberRef
     }
 
@@ -221,13 +192,6 @@ impl<'m, S: IsSignature, W: Row<'m, Signature = S>> FromRow<'m, W> for MemberRef
 
 impl<'m> Record<'m> for MemberRef<'m> {
     fn cells(&self, alloc: Global) -> Result<Vec<Cell>, AllocError> {
-        owned_cells(
-            alloc,
-            &[
-                FieldValue::Ref(self.class),
-                FieldValue::Text(self.name),
-                FieldValue::Sig(self.signature),
-            ],
-        )
+        owned_row!(alloc; Ref self.class, Text self.name, Sig self.signature)
     }
 }

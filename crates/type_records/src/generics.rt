@@ -4,7 +4,7 @@ ghost use Rattle.table_schema.specs.declared.column.SigKind.TheVariants as colum
 ghost use Rattle.metadata.specs.Cell.{Number, Text, Ref, Sig};
 ghost use Rattle.tables.specs.Said.{all_said};
 
-use crate::field_value::{FieldValue, owned_cells};
+use crate::owned_row;
 use crate::record::{FromRow, Record};
 use crate::row::Row;
 use crate::signature::IsSignature;
@@ -30,9 +30,7 @@ impl<'m, W: Row<'m>> FromRow<'m, W> for GenericParam<'m> {
 
     ghost fields = { λ r. Number r.number ∷ Number r.flags ∷ Ref r.owner ∷ Text r.name.now ∷ [] };
 
-    fn table_id() -> TableId
-        ensures { result ≡ table.GenericParam }
-    {
+    fn table_id() -> TableId {
         TableId::GenericParam
     }
 
@@ -48,15 +46,7 @@ impl<'m, W: Row<'m>> FromRow<'m, W> for GenericParam<'m> {
 
 impl<'m> Record<'m> for GenericParam<'m> {
     fn cells(&self, alloc: Global) -> Result<Vec<Cell>, AllocError> {
-        owned_cells(
-            alloc,
-            &[
-                FieldValue::Number(self.number),
-                FieldValue::Number(self.flags),
-                FieldValue::Ref(self.owner),
-                FieldValue::Text(self.name),
-            ],
-        )
+        owned_row!(alloc; Number self.number, Number self.flags, Ref self.owner, Text self.name)
     }
 }
 
@@ -74,9 +64,7 @@ impl<'m, W: Row<'m>> FromRow<'m, W> for GenericParamConstraint {
 
     ghost fields = { λ r. Ref r.owner ∷ Ref r.constraint ∷ [] };
 
-    fn table_id() -> TableId
-        ensures { result ≡ table.GenericParamConstraint }
-    {
+    fn table_id() -> TableId {
         TableId::GenericParamConstraint
     }
 
@@ -92,13 +80,7 @@ impl<'m> Record<'m> for GenericParamConstraint {
     fn cells(&self, alloc: Global) -> Result<Vec<Cell>, AllocError>
         ensures { IfOk result (λ cells. all_said cells.items ≡ Ref self.now.owner ∷ Ref self.now.constraint ∷ []) }
     {
-        owned_cells(
-            alloc,
-            &[
-                FieldValue::Ref(self.owner),
-                FieldValue::Ref(self.constraint),
-            ],
-        )
+        owned_row!(alloc; Ref self.owner, Ref self.constraint)
     }
 }
 
@@ -116,9 +98,7 @@ impl<'m, S: IsSignature, W: Row<'m, Signature = S>> FromRow<'m, W> for MethodSpe
 
     ghost fields = { λ r. Ref r.method ∷ Sig (S.body column.Instance r.instantiation) ∷ [] };
 
-    fn table_id() -> TableId
-        ensures { result ≡ table.MethodSpec }
-    {
+    fn table_id() -> TableId {
         TableId::MethodSpec
     }
 
@@ -132,12 +112,6 @@ impl<'m, S: IsSignature, W: Row<'m, Signature = S>> FromRow<'m, W> for MethodSpe
 
 impl<'m> Record<'m> for MethodSpec<&'m Signature> {
     fn cells(&self, alloc: Global) -> Result<Vec<Cell>, AllocError> {
-        owned_cells(
-            alloc,
-            &[
-                FieldValue::Ref(self.method),
-                FieldValue::Sig(self.instantiation),
-            ],
-        )
+        owned_row!(alloc; Ref self.method, Sig self.instantiation)
     }
 }

@@ -4,7 +4,7 @@ ghost use Rattle.table_schema.specs.declared.column.SigKind.TheVariants as colum
 ghost use Rattle.metadata.specs.Cell.{Number, Text, Ref, Start, Sig};
 ghost use Rattle.tables.specs.Said.{all_said};
 
-use crate::field_value::{FieldValue, owned_cells};
+use crate::owned_row;
 use crate::record::{FromRow, Record};
 use crate::row::Row;
 use crate::signature::IsSignature;
@@ -42,9 +42,7 @@ impl<'m, S: IsSignature, W: Row<'m, Signature = S>> FromRow<'m, W> for MethodDef
     ghost fields = { λ r. Number r.rva ∷ Number r.impl_flags ∷ Number r.flags ∷ Text r.name.now
         ∷ Sig (S.body column.MethodDef r.signature) ∷ Start r.param_list ∷ [] };
 
-    fn table_id() -> TableId
-        ensures { result ≡ table.MethodDef }
-    {
+    fn table_id() -> TableId {
         TableId::MethodDef
     }
 
@@ -62,17 +60,11 @@ impl<'m, S: IsSignature, W: Row<'m, Signature = S>> FromRow<'m, W> for MethodDef
 
 impl<'m> Record<'m> for MethodDef<'m> {
     fn cells(&self, alloc: Global) -> Result<Vec<Cell>, AllocError> {
-        owned_cells(
-            alloc,
-            &[
-                FieldValue::Number(self.rva),
-                FieldValue::Number(self.impl_flags),
-                FieldValue::Number(self.flags),
-                FieldValue::Text(self.name),
-                FieldValue::Sig(self.signature),
-                FieldValue::Start(self.param_list),
-            ],
-        )
+        owned_row! {
+            alloc;
+            Number self.rva, Number self.impl_flags, Number self.flags, Text self.name,
+            Sig self.signature, Start self.param_list,
+        }
     }
 }
 
@@ -92,9 +84,7 @@ impl<'m, W: Row<'m>> FromRow<'m, W> for Param<'m> {
 
     ghost fields = { λ r. Number r.flags ∷ Number r.sequence ∷ Text r.name.now ∷ [] };
 
-    fn table_id() -> TableId
-        ensures { result ≡ table.Param }
-    {
+    fn table_id() -> TableId {
         TableId::Param
     }
 
@@ -109,14 +99,7 @@ impl<'m, W: Row<'m>> FromRow<'m, W> for Param<'m> {
 
 impl<'m> Record<'m> for Param<'m> {
     fn cells(&self, alloc: Global) -> Result<Vec<Cell>, AllocError> {
-        owned_cells(
-            alloc,
-            &[
-                FieldValue::Number(self.flags),
-                FieldValue::Number(self.sequence),
-                FieldValue::Text(self.name),
-            ],
-        )
+        owned_row!(alloc; Number self.flags, Number self.sequence, Text self.name)
     }
 }
 
@@ -136,9 +119,7 @@ impl<'m, W: Row<'m>> FromRow<'m, W> for MethodImpl {
 
     ghost fields = { λ r. Ref r.class ∷ Ref r.method_body ∷ Ref r.method_declaration ∷ [] };
 
-    fn table_id() -> TableId
-        ensures { result ≡ table.MethodImpl }
-    {
+    fn table_id() -> TableId {
         TableId::MethodImpl
     }
 
@@ -155,14 +136,7 @@ impl<'m> Record<'m> for MethodImpl {
     fn cells(&self, alloc: Global) -> Result<Vec<Cell>, AllocError>
         ensures { IfOk result (λ cells. all_said cells.items ≡ Ref self.now.class ∷ Ref self.now.method_body ∷ Ref self.now.method_declaration ∷ []) }
     {
-        owned_cells(
-            alloc,
-            &[
-                FieldValue::Ref(self.class),
-                FieldValue::Ref(self.method_body),
-                FieldValue::Ref(self.method_declaration),
-            ],
-        )
+        owned_row!(alloc; Ref self.class, Ref self.method_body, Ref self.method_declaration)
     }
 }
 
@@ -182,9 +156,7 @@ impl<'m, W: Row<'m>> FromRow<'m, W> for MethodSemantics {
 
     ghost fields = { λ r. Number r.semantics ∷ Ref r.method ∷ Ref r.association ∷ [] };
 
-    fn table_id() -> TableId
-        ensures { result ≡ table.MethodSemantics }
-    {
+    fn table_id() -> TableId {
         TableId::MethodSemantics
     }
 
@@ -201,14 +173,7 @@ impl<'m> Record<'m> for MethodSemantics {
     fn cells(&self, alloc: Global) -> Result<Vec<Cell>, AllocError>
         ensures { IfOk result (λ cells. all_said cells.items ≡ Number self.now.semantics ∷ Ref self.now.method ∷ Ref self.now.association ∷ []) }
     {
-        owned_cells(
-            alloc,
-            &[
-                FieldValue::Number(self.semantics),
-                FieldValue::Ref(self.method),
-                FieldValue::Ref(self.association),
-            ],
-        )
+        owned_row!(alloc; Number self.semantics, Ref self.method, Ref self.association)
     }
 }
 
@@ -225,9 +190,7 @@ impl<'m, S: IsSignature, W: Row<'m, Signature = S>> FromRow<'m, W> for StandAlon
 
     ghost fields = { λ r. Sig (S.body column.StandAlone r.signature) ∷ [] };
 
-    fn table_id() -> TableId
-        ensures { result ≡ table.StandAloneSig }
-    {
+    fn table_id() -> TableId {
         TableId::StandAloneSig
     }
 
@@ -240,6 +203,6 @@ impl<'m, S: IsSignature, W: Row<'m, Signature = S>> FromRow<'m, W> for StandAlon
 
 impl<'m> Record<'m> for StandAloneSig<&'m Signature> {
     fn cells(&self, alloc: Global) -> Result<Vec<Cell>, AllocError> {
-        owned_cells(alloc, &[FieldValue::Sig(self.signature)])
+        owned_row!(alloc; Sig self.signature)
     }
 }

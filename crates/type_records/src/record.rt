@@ -47,16 +47,8 @@ pub trait Record<'m>: FromRow<'m, CellRow<'m>> {
         ensures { IfOk result (λ cells. all_said cells.items ≡ Self.fields self.now) };
 }
 
-/// The record that stands for cells which are known to be of its table's number and kinds.
-#[tactic(auto, using(crate::proofs::RowLemmas::cells_are_held))]
-fn known_record_of<'m, R: FromRow<'m, CellRow<'m>>>(cells: &'m [Cell]) -> R
-    requires { AreOfKinds (kinds_of R.table) (all_said cells.now) }
-    ensures { R.fields result ≡ all_said cells.now }
-{
-    R::from_row(&CellRow { cells })
-}
-
 /// The record of these cells; `None` if they do not have the number and kinds of its table's rows.
+#[tactic(auto, using(crate::proofs::RowLemmas::cells_are_held))]
 pub fn record_of<'m, R: FromRow<'m, CellRow<'m>>>(cells: &'m [Cell]) -> Option<R>
     ensures kinds { IsSome result ↔ AreOfKinds (kinds_of R.table) (all_said cells.now) }
     ensures fields { IfSome result (λ it. R.fields it ≡ all_said cells.now) }
@@ -64,5 +56,5 @@ pub fn record_of<'m, R: FromRow<'m, CellRow<'m>>>(cells: &'m [Cell]) -> Option<R
     if !is_row_of(R::table_id(), cells) {
         return None;
     }
-    Some(known_record_of(cells))
+    Some(R::from_row(&CellRow { cells }))
 }

@@ -5,7 +5,7 @@ ghost use Rattle.metadata.specs.Cell.{Number, Text, Guid, Ref, Start, Sig};
 ghost use Rattle.tables.specs.Said.{all_said};
 ghost use Rattle.metadata.specs.Names.{full_name};
 
-use crate::field_value::{FieldValue, owned_cells};
+use crate::owned_row;
 use crate::record::{FromRow, Record};
 use crate::row::Row;
 use crate::signature::IsSignature;
@@ -51,9 +51,7 @@ impl<'m, W: Row<'m>> FromRow<'m, W> for Module<'m> {
     ghost fields = { λ r. Number r.generation ∷ Text r.name.now ∷ Guid r.mvid ∷ Guid r.enc_id ∷ Guid r.enc_base_id
         ∷ [] };
 
-    fn table_id() -> TableId
-        ensures { result ≡ table.Module }
-    {
+    fn table_id() -> TableId {
         TableId::Module
     }
 
@@ -70,16 +68,11 @@ impl<'m, W: Row<'m>> FromRow<'m, W> for Module<'m> {
 
 impl<'m> Record<'m> for Module<'m> {
     fn cells(&self, alloc: Global) -> Result<Vec<Cell>, AllocError> {
-        owned_cells(
-            alloc,
-            &[
-                FieldValue::Number(self.generation),
-                FieldValue::Text(self.name),
-                FieldValue::Guid(self.mvid),
-                FieldValue::Guid(self.enc_id),
-                FieldValue::Guid(self.enc_base_id),
-            ],
-        )
+        owned_row! {
+            alloc;
+            Number self.generation, Text self.name, Guid self.mvid, Guid self.enc_id,
+            Guid self.enc_base_id,
+        }
     }
 }
 
@@ -100,9 +93,7 @@ impl<'m, W: Row<'m>> FromRow<'m, W> for TypeRef<'m> {
 
     ghost fields = { λ r. Ref r.resolution_scope ∷ Text r.type_name.now ∷ Text r.type_namespace.now ∷ [] };
 
-    fn table_id() -> TableId
-        ensures { result ≡ table.TypeRef }
-    {
+    fn table_id() -> TableId {
         TableId::TypeRef
     }
 
@@ -117,14 +108,7 @@ impl<'m, W: Row<'m>> FromRow<'m, W> for TypeRef<'m> {
 
 impl<'m> Record<'m> for TypeRef<'m> {
     fn cells(&self, alloc: Global) -> Result<Vec<Cell>, AllocError> {
-        owned_cells(
-            alloc,
-            &[
-                FieldValue::Ref(self.resolution_scope),
-                FieldValue::Text(self.type_name),
-                FieldValue::Text(self.type_namespace),
-            ],
-        )
+        owned_row!(alloc; Ref self.resolution_scope, Text self.type_name, Text self.type_namespace)
     }
 }
 
@@ -160,9 +144,7 @@ impl<'m, W: Row<'m>> FromRow<'m, W> for TypeDef<'m> {
     ghost fields = { λ r. Number r.flags ∷ Text r.type_name.now ∷ Text r.type_namespace.now ∷ Ref r.extends
         ∷ Start r.field_list ∷ Start r.method_list ∷ [] };
 
-    fn table_id() -> TableId
-        ensures { result ≡ table.TypeDef }
-    {
+    fn table_id() -> TableId {
         TableId::TypeDef
     }
 
@@ -180,17 +162,11 @@ impl<'m, W: Row<'m>> FromRow<'m, W> for TypeDef<'m> {
 
 impl<'m> Record<'m> for TypeDef<'m> {
     fn cells(&self, alloc: Global) -> Result<Vec<Cell>, AllocError> {
-        owned_cells(
-            alloc,
-            &[
-                FieldValue::Number(self.flags),
-                FieldValue::Text(self.type_name),
-                FieldValue::Text(self.type_namespace),
-                FieldValue::Ref(self.extends),
-                FieldValue::Start(self.field_list),
-                FieldValue::Start(self.method_list),
-            ],
-        )
+        owned_row! {
+            alloc;
+            Number self.flags, Text self.type_name, Text self.type_namespace, Ref self.extends,
+            Start self.field_list, Start self.method_list,
+        }
     }
 }
 
@@ -217,9 +193,7 @@ impl<'m, W: Row<'m>> FromRow<'m, W> for InterfaceImpl {
 
     ghost fields = { λ r. Ref r.class ∷ Ref r.interface ∷ [] };
 
-    fn table_id() -> TableId
-        ensures { result ≡ table.InterfaceImpl }
-    {
+    fn table_id() -> TableId {
         TableId::InterfaceImpl
     }
 
@@ -235,10 +209,7 @@ impl<'m> Record<'m> for InterfaceImpl {
     fn cells(&self, alloc: Global) -> Result<Vec<Cell>, AllocError>
         ensures { IfOk result (λ cells. all_said cells.items ≡ Ref self.now.class ∷ Ref self.now.interface ∷ []) }
     {
-        owned_cells(
-            alloc,
-            &[FieldValue::Ref(self.class), FieldValue::Ref(self.interface)],
-        )
+        owned_row!(alloc; Ref self.class, Ref self.interface)
     }
 }
 
@@ -256,9 +227,7 @@ impl<'m, W: Row<'m>> FromRow<'m, W> for NestedClass {
 
     ghost fields = { λ r. Ref r.nested_class ∷ Ref r.enclosing_class ∷ [] };
 
-    fn table_id() -> TableId
-        ensures { result ≡ table.NestedClass }
-    {
+    fn table_id() -> TableId {
         TableId::NestedClass
     }
 
@@ -274,13 +243,7 @@ impl<'m> Record<'m> for NestedClass {
     fn cells(&self, alloc: Global) -> Result<Vec<Cell>, AllocError>
         ensures { IfOk result (λ cells. all_said cells.items ≡ Ref self.now.nested_class ∷ Ref self.now.enclosing_class ∷ []) }
     {
-        owned_cells(
-            alloc,
-            &[
-                FieldValue::Ref(self.nested_class),
-                FieldValue::Ref(self.enclosing_class),
-            ],
-        )
+        owned_row!(alloc; Ref self.nested_class, Ref self.enclosing_class)
     }
 }
 
@@ -300,9 +263,7 @@ impl<'m, W: Row<'m>> FromRow<'m, W> for ClassLayout {
 
     ghost fields = { λ r. Number r.packing_size ∷ Number r.class_size ∷ Ref r.parent ∷ [] };
 
-    fn table_id() -> TableId
-        ensures { result ≡ table.ClassLayout }
-    {
+    fn table_id() -> TableId {
         TableId::ClassLayout
     }
 
@@ -319,14 +280,7 @@ impl<'m> Record<'m> for ClassLayout {
     fn cells(&self, alloc: Global) -> Result<Vec<Cell>, AllocError>
         ensures { IfOk result (λ cells. all_said cells.items ≡ Number self.now.packing_size ∷ Number self.now.class_size ∷ Ref self.now.parent ∷ []) }
     {
-        owned_cells(
-            alloc,
-            &[
-                FieldValue::Number(self.packing_size),
-                FieldValue::Number(self.class_size),
-                FieldValue::Ref(self.parent),
-            ],
-        )
+        owned_row!(alloc; Number self.packing_size, Number self.class_size, Ref self.parent)
     }
 }
 
@@ -342,9 +296,7 @@ impl<'m, S: IsSignature, W: Row<'m, Signature = S>> FromRow<'m, W> for TypeSpec<
 
     ghost fields = { λ r. Sig (S.body column.TypeSpec r.signature) ∷ [] };
 
-    fn table_id() -> TableId
-        ensures { result ≡ table.TypeSpec }
-    {
+    fn table_id() -> TableId {
         TableId::TypeSpec
     }
 
@@ -357,6 +309,6 @@ impl<'m, S: IsSignature, W: Row<'m, Signature = S>> FromRow<'m, W> for TypeSpec<
 
 impl<'m> Record<'m> for TypeSpec<&'m Signature> {
     fn cells(&self, alloc: Global) -> Result<Vec<Cell>, AllocError> {
-        owned_cells(alloc, &[FieldValue::Sig(self.signature)])
+        owned_row!(alloc; Sig self.signature)
     }
 }

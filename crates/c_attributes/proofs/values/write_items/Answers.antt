@@ -1,9 +1,6 @@
-use Rattle.std.proofs.Common.{◌+◌, List, subst, sym}
-use Rattle.attribute_values.specs.Items.{Item}
 use Rattle.attribute_values.specs.Views.{view}
 use Rattle.c_attributes.specs.Items.{fields_of, item_fields}
-use Rattle.c_attributes.specs.declared.item.ClimAttributeItem.{ClimAttributeItem}
-use Rattle.c_attributes.proofs.ItemLemmas.{AreWritten, all_written, one_more, past_room}
+use Rattle.c_attributes.proofs.ItemLemmas.{all_written, one_more, past_room}
 use Rattle.c_attributes.proofs.values.write_items.Goals.{else-count-items, then-count-items}
 use Rattle.c_attributes.proofs.values.write_items.Goals as goal
 
@@ -16,18 +13,16 @@ loop-item-preserved c =
     let items = c.loop-item.items in
     let count = c.loop-item.count in
     let item = view c.in-Some.item in
-    let Becomes : List ClimAttributeItem → Type 0 = λ xs. AreWritten item_fields fields_of found before tail xs (count + 1) in
     elim c.if-count-items.branch [
       | then-count-items w ↦
-          subst Becomes (sym w.items-is)
+          rw w.items-is
           (one_more item_fields fields_of found before left tail items count item w.reported.result c.in-Some.ensures.steps w.reported.ensures w.if-count-items.true c.loop-item.invariant)
       | else-count-items w ↦
-          subst Becomes (sym w.items-is)
+          rw w.items-is
           (past_room item_fields fields_of found before left tail items count item c.in-Some.ensures.steps w.if-count-items.false c.loop-item.invariant)
     ]
 
 pub returns : goal.returns
 returns c =
-    let P : List Item → Type 0 = λ left. AreWritten item_fields fields_of c.args.found c.args.items.now left c.loop-item.items c.loop-item.count in
-    let all = all_written item_fields fields_of c.args.found c.args.items.now c.loop-item.items c.loop-item.count (subst P c.in-None.ensures.steps.0 c.loop-item.invariant) in
+    let all = all_written item_fields fields_of c.args.found c.args.items.now c.loop-item.items c.loop-item.count (rw c.in-None.ensures.steps.0 at c.loop-item.invariant) in
     record { count = all.0; written = record { written = all.1; same = all.2 } }

@@ -1,7 +1,6 @@
-use Rattle.c_texts.proofs.Prelude.{◌++◌, refl, subst, codes, text_of, Scopes}
+use Rattle.c_texts.proofs.Prelude.{◌++◌, refl, codes}
 use Rattle.full_names.specs.declared.quoted.NameKind.TheVariants.{Dotted}
 use Rattle.full_names.specs.Quoted.{name_text}
-use Rattle.full_names.specs.Texts.{ArePiecesText, IsFullNameBy, IsPieceText}
 use Rattle.full_names.proofs.TextLemmas.{writes_append}
 use Rattle.c_texts.proofs.row_text.write_field.Goals as goal
 
@@ -17,7 +16,7 @@ returns g c = λ model is.
         signature = of.0;
         is_signature = of.2;
         before = before.0;
-        is_before = subst (λ (s : Scopes). ArePiecesText (IsPieceText (IsFullNameBy s model)) (text_of of.0) before.0) c.requires.omitted before.1;
+        is_before = rw c.requires.omitted at before.1;
         own = c.text-name.result.now;
         is_own = c.text-name.ensures model is;
         whole = refl;

@@ -1,8 +1,5 @@
-use Rattle.c_values.proofs.Prelude.{◌<◌, ◌^◌, inl, inr, List, ℕ, length, refl, subst, canonical, IsOwnReason}
-use Rattle.std.specs.Bool.{⊤}
+use Rattle.c_values.proofs.Prelude.{inl, inr, List, ℕ, refl, IsOwnReason}
 use Rattle.embedding.specs.declared.error.EmbedError.TheVariants.{TooLong, Memory}
-use Rattle.writer.specs.declared.error.WriteError.{WriteError}
-use Rattle.writer.specs.Errors.{MatchError}
 use Rattle.c_values.proofs.CopyLemmas.{canonical_of, own_refused}
 use Rattle.c_values.proofs.copies.canonical_root_of.Goals as goal
 
@@ -13,12 +10,7 @@ returns-in-Ok-prepare-clause-sound c =
 pub returns-in-Err-TooLarge-clause-refused : goal.returns-in-Err-TooLarge-clause-refused
 returns-in-Err-TooLarge-clause-refused c =
     own_refused c.args.file.now c.in-Ok.view c.in-Ok.field-0-0 c.in-Ok.ensures.sound c.in-Ok.ensures.view (λ (root : List ℕ). IsOwnReason c.args.file.now root TooLong)
-    (λ model is.
-    inl (
-      refl,
-      subst (λ (e : WriteError). MatchError (2 ^ 30 < length (canonical model)) ⊤ (λ given. ⊥) e) c.in-Err-TooLarge.field-0-is
-          (c.in-Err-TooLarge.ensures.refused model is),
-    ))
+    (λ model is. inl (refl, rw c.in-Err-TooLarge.field-0-is at (c.in-Err-TooLarge.ensures.refused model is)))
 
 pub returns-in-Err-prepare : goal.returns-in-Err-prepare
 returns-in-Err-prepare c = record {

@@ -1,13 +1,11 @@
-use Rattle.c_values.proofs.Prelude.{◌∙◌, List, ℕ, ap, subst, sym, not_there, source_of}
+use Rattle.c_values.proofs.Prelude.{◌∙◌, ap, not_there, source_of}
 use Rattle.schema.specs.Header.{sizes_of}
-use Rattle.schema.specs.LaidOut.{IsLaidOut}
 use Rattle.c_values.proofs.located.layout_of.Goals as goal
 
 pub unreachable-requires : goal.unreachable-requires
 unreachable-requires c = not_there c.requires.model (λ some.
     let is = c.models_are_read.ensures.stream c.args.root.now some.0 some.1 in
-    c.in-Err.ensures.complete (source_of c.args.root.now).sizes is.0
-    (subst (λ (stream : List ℕ). IsLaidOut stream (source_of c.args.root.now).sizes is.0) (sym c.requires.stream) is.1))
+    c.in-Err.ensures.complete (source_of c.args.root.now).sizes is.0 (rw c.requires.stream is.1))
 
 pub returns-clause-sizes : goal.returns-clause-sizes
 returns-clause-sizes c =

@@ -1,5 +1,5 @@
-use Rattle.c_values.proofs.Prelude.{arith, common_steps, all_said, IsFirstBadCell, MatchNoRoot}
-use Rattle.c_values.proofs.StepLemmas.{next_cell, all_cells, first_bad_cell}
+use Rattle.c_values.proofs.Prelude.{arith, take_all, common_steps, all_said, IsFirstBadCell, MatchNoRoot}
+use Rattle.c_values.proofs.StepLemmas.{next_cell, first_bad_cell}
 use Rattle.c_values.proofs.read_rows.read_row.Goals as goal
 
 pub loop-column-preserved : goal.loop-column-preserved
@@ -8,8 +8,7 @@ loop-column-preserved c =
     c.in_ok-cell.ensures.read c.in_ok-push.ensures.items
 
 pub returns-clause-read : goal.returns-clause-read
-returns-clause-read c =
-    all_cells c.args.table c.args.given.now c.loop-column.column (all_said c.loop-column.cells.items) c.loop-column-test.false c.loop-column.invariant
+returns-clause-read c = rw (take_all c.loop-column.column c.args.given.now c.loop-column-test.false) at c.loop-column.invariant
 
 pub returns-in_err-cell-clause-refused : goal.returns-in_err-cell-clause-refused
 returns-in_err-cell-clause-refused c =

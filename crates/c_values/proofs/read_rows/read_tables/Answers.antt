@@ -1,7 +1,7 @@
-use Rattle.c_values.proofs.Prelude.{[], length, ap, ◌∙◌, arith, Metadata, rows_of, IsFirstBadRow, MatchNoRoot, common_steps}
+use Rattle.c_values.proofs.Prelude.{[], length, ap, ◌∙◌, arith, take_all, Metadata, rows_of, IsFirstBadRow, MatchNoRoot, common_steps}
 use Rattle.c_values.proofs.OneLemmas.{table_one}
 use Rattle.c_values.proofs.RowLemmas.{given_more}
-use Rattle.c_values.proofs.StepLemmas.{next_row, all_rows, first_bad_row}
+use Rattle.c_values.proofs.StepLemmas.{next_row, first_bad_row}
 use Rattle.c_values.proofs.read_rows.read_tables.Goals as goal
 
 pub loop-row-init : goal.loop-row-init
@@ -25,7 +25,7 @@ loop-row-preserved c =
     (omega arith) c.loop-row.invariant c.in_ok-add_row.ensures.added
 
 pub returns-clause-given : goal.returns-clause-given
-returns-clause-given c = all_rows c.args.version.now c.args.user.now c.args.rows.now c.loop-row.row-index c.loop-row.tables (omega arith) c.loop-row.invariant
+returns-clause-given c = rw (take_all c.loop-row.row-index c.args.rows.now (omega arith)) at c.loop-row.invariant
 
 pub returns-in_err-add_row-clause-refused : goal.returns-in_err-add_row-clause-refused
 returns-in_err-add_row-clause-refused c =

@@ -1,8 +1,5 @@
-use Rattle.clim_c.proofs.Prelude.{subst, StrongName, IsAsked, IsCopied}
 use Rattle.clim_c.proofs.EmbedLemmas.{one_choice}
 use Rattle.clim_c.proofs.embedded.clim_embed.Goals as goal
 
 pub returns-in-Ok-clause-copy : goal.returns-in-Ok-clause-copy
-returns-in-Ok-clause-copy c = λ name is few.
-    let P : StrongName → Type 0 = λ choice. IsCopied (IsAsked c.args.file.now c.args.root.now) choice c.args.file.now c.in-Ok.len c.args.buffer.now c.write_copy.new.buffer in
-    subst P (one_choice c.args.strong_name c.in-Some.strong_name name c.in-Some.ensures.sound is) c.in-Ok.ensures.sound
+returns-in-Ok-clause-copy c = λ name is few. rw (← one_choice c.args.strong_name c.in-Some.strong_name name c.in-Some.ensures.sound is) c.in-Ok.ensures.sound

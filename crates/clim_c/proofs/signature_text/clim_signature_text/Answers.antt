@@ -1,4 +1,4 @@
-use Rattle.clim_c.proofs.Prelude.{rules, ◌≡◌, List, ℕ, sym, ap, subst, ◌∙◌, column_at, column_of, cell_in, IsModel}
+use Rattle.clim_c.proofs.Prelude.{rules, ◌≡◌}
 use Rattle.table_schema.specs.Tables.{table_number}
 use Rattle.clim_c.specs.SignatureCells.{HasSignature}
 use Rattle.clim_c.proofs.signature_text.clim_signature_text.Goals as goal
@@ -6,10 +6,7 @@ use Rattle.clim_c.proofs.signature_text.clim_signature_text.Goals as goal
 pub returns-in_default-signature_at-clause-text : goal.returns-in_default-signature_at-clause-text
 returns-in_default-signature_at-clause-text c = λ is_open model is known kind number has.
     let same : known ≡ c.in-Some-Some.table = search rules in
-    let P : List ℕ → Type 0 = λ root. IsModel root model in
-    let opened = subst P (sym c.in-Some-Some.ensures'.sound.0) is in
-    let column = ap (λ table. (column_at table (column_of table c.args.column)).kind) (sym same) in
-    absurd (c.in_default-signature_at.ensures.none model opened kind (column ∙ has.3))
+    absurd ((rw c.in-Some-Some.ensures'.sound.0 at c.in_default-signature_at.ensures.none) model is kind (rw same at has.3))
 
 pub returns-clause-none : goal.returns-clause-none
 returns-clause-none c = λ none.
@@ -20,9 +17,6 @@ returns-clause-none c = λ none.
 pub returns-clause-text : goal.returns-clause-text
 returns-clause-text c = λ is_open model is known kind number has.
     let same : known ≡ c.in-Some-Some.table = search rules in
-    let P : List ℕ → Type 0 = λ root. IsModel root model in
-    let opened = subst P (sym c.in-Some-Some.ensures'.sound.0) is in
-    let shown = c.in-Some.ensures.shown model opened in
-    let cell = ap (λ table. cell_in model table c.args.row c.args.column) same ∙ shown.2 in
+    let shown = (rw c.in-Some-Some.ensures'.sound.0 at c.in-Some.ensures.shown) model is in
     let written = c.write_signature_text.ensures.text shown.0 shown.1 in
-    (shown.0, cell, written.0, written.1)
+    (shown.0, rw same shown.2, written.0, written.1)

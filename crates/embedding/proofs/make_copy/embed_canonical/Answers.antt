@@ -1,7 +1,4 @@
-use Rattle.embedding.proofs.Prelude.{◌≡◌, ◌<◌, inl, inr, List, ℕ, length, refl, subst, sym, ap, ◌∙◌, arith, err_from_is_err_and, ∥∥₁_map, byte_limit, Metadata, IsModel, user_of, IsEmbedded, IsReason, result_of}
-use Rattle.std.specs.Bool.{⊤}
-use Rattle.writer.specs.declared.error.WriteError.{WriteError}
-use Rattle.writer.specs.Errors.{MatchError}
+use Rattle.embedding.proofs.Prelude.{◌≡◌, inl, inr, length, refl, ap, ◌∙◌, arith, err_from_is_err_and, ∥∥₁_map, Metadata, IsModel, user_of, IsEmbedded}
 use Rattle.root_writer.specs.Canonical.{canonical}
 use Rattle.embedding.proofs.Canonical.{AreRead, leads}
 use Rattle.embedding.proofs.make_copy.embed_canonical.Goals as goal
@@ -14,7 +11,7 @@ shown c = ∥∥₁_map c.in_ok-opened.ensures.opened.header.model (λ some.
     let short = c.in-Ok.ensures.within in
     let of_root : IsModel (canonical some.0) some.0 =
     c.canonical_root_has_its_model.ensures some.0 (c.models_of_roots_are_valid.ensures c.in_ok-opened.opened.view some.0 of_view) (omega (arith, ap length is)) in
-    (some.0, subst (λ (root : List ℕ). IsModel root some.0) (sym (c.bytes.ensures ∙ is)) of_root, of_view))
+    (some.0, rw (c.bytes.ensures, is) of_root, of_view))
 
 pub plan_opened-requires-clause-leads : goal.plan_opened-requires-clause-leads
 unfolding user_of
@@ -29,10 +26,7 @@ is_embedded : (c : goal.After-drop-root-inside-2) (model : Metadata) → IsModel
     → IsEmbedded c.args.strong_name c.args.file.now (canonical model) c.in_ok-make.field-0.items
 is_embedded c model of_view =
     let root : c.bytes.result.now ≡ canonical model = c.bytes.ensures ∙ c.in-Ok.ensures.root model of_view in
-    let made = result_of c.in_ok-plan.plan in
-    subst (λ (bytes : List ℕ). IsEmbedded c.args.strong_name c.args.file.now (canonical model) bytes) (sym c.in_ok-make.ensures)
-    (subst (λ (whole : List ℕ). IsEmbedded c.args.strong_name whole (canonical model) made) c.in_ok-opened.ensures.opened.headers
-    (subst (λ (bytes : List ℕ). IsEmbedded c.args.strong_name c.in_ok-opened.opened.headers bytes made) root c.in_ok-plan.ensures.sound))
+    rw c.in_ok-make.ensures (rw (c.in_ok-opened.ensures.opened.headers, root) at c.in_ok-plan.ensures.sound)
 
 pub returns-clause-sound : goal.returns-clause-sound
 returns-clause-sound c = λ header model is. is_embedded c model (c.in_ok-opened.ensures.model header model is)
@@ -49,17 +43,11 @@ returns-clause-model c = λ header model is.
 
 pub returns-in-Err-TooLarge-clause-refused : goal.returns-in-Err-TooLarge-clause-refused
 returns-in-Err-TooLarge-clause-refused c = λ header model is.
-    let refused = c.in-Err-TooLarge.ensures.refused model (c.in_ok-opened.ensures.model header model is) in
-    let long : byte_limit < length (canonical model) =
-    subst (λ (e : WriteError). MatchError (byte_limit < length (canonical model)) ⊤ (λ given. ⊥) e) c.in-Err-TooLarge.field-0-is refused in
-    inr (inl (refl, long))
+    inr (inl (refl, rw c.in-Err-TooLarge.field-0-is at (c.in-Err-TooLarge.ensures.refused model (c.in_ok-opened.ensures.model header model is))))
 
 pub returns-in_err-plan-clause-refused : goal.returns-in_err-plan-clause-refused
 returns-in_err-plan-clause-refused c = λ header model is.
-    let error = c.in_err-plan.field-0.0 in
     let root : c.bytes.result.now ≡ canonical model = c.bytes.ensures ∙ c.in-Ok.ensures.root model (c.in_ok-opened.ensures.model header model is) in
-    let reason : IsReason c.args.file.now (canonical model) error =
-    subst (λ (bytes : List ℕ). IsReason c.args.file.now bytes error) root
-    (subst (λ (file : List ℕ). IsReason file c.bytes.result.now error) c.in_ok-opened.ensures.opened.headers c.in_err-plan.ensures.refused) in
+    let reason = rw (c.in_ok-opened.ensures.opened.headers, root) at c.in_err-plan.ensures.refused in
     let p = err_from_is_err_and c.from_residual-in_err-plan.result c.from_residual-in_err-plan.ensures.1 in
     rw (p.1, p.2) (inr (inr reason))

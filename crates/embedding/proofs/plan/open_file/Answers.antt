@@ -1,4 +1,4 @@
-use Rattle.embedding.proofs.Prelude.{◌≡◌, List, ℕ, length, ap, sym, subst, ◌∙◌, arith, AllHold, FirstBroken, image_of, Image, rules_of_cli_header, header_of, IsModel, root_in}
+use Rattle.embedding.proofs.Prelude.{◌≡◌, length, ap, sym, ◌∙◌, arith, image_of, Image, header_of, root_in}
 use Rattle.embedding.proofs.Opens.{image_fails, header_fails, same_root, opens_with}
 use Rattle.embedding.proofs.plan.open_file.Goals as goal
 
@@ -8,8 +8,7 @@ returns-in-Err-read_pe-clause-fault c = image_fails c.args.file.now c.in-Err-rea
 pub returns-in-Err-read_cli-clause-fault : goal.returns-in-Err-read_cli-clause-fault
 returns-in-Err-read_cli-clause-fault c =
     let all = c.in-Ok-read_pe.ensures.all in
-    header_fails c.args.file.now c.in-Err-read_cli.fault all.0
-    (subst (λ (image : Image). FirstBroken (rules_of_cli_header image) c.in-Err-read_cli.fault) all.1 c.in-Err-read_cli.ensures.first_error)
+    header_fails c.args.file.now c.in-Err-read_cli.fault all.0 (rw all.1 at c.in-Err-read_cli.ensures.first_error)
 
 pub returns-clause-opened : goal.returns-clause-opened
 returns-clause-opened c =
@@ -24,7 +23,7 @@ returns-clause-opened c =
       headers = c.read.ensures;
       header = record {
         image = all.0;
-        cli_header = subst (λ (image : Image). AllHold (rules_of_cli_header image)) all.1 c.in-Ok-read_cli.ensures.all.0;
+        cli_header = rw all.1 at c.in-Ok-read_cli.ensures.all.0;
         header_is = header_is;
         model = opens_with file c.in-Ok.field-0-0 header (c.images_are_read.ensures.said file) c.headers_are_read.ensures.said header_is c.in-Ok.ensures.sound;
         header_within = omega (arith, sound.place.within, ap length bytes);
@@ -37,6 +36,4 @@ returns-clause-opened c =
     }
 
 pub returns-clause-model : goal.returns-clause-model
-returns-clause-model c = λ header model is.
-    let same : c.in-Ok.view ≡ root_in c.args.file.now header = c.in-Ok.ensures.view ∙ ap (root_in c.args.file.now) (c.in-Ok.ensures.complete header model is) in
-    subst (λ (root : List ℕ). IsModel root model) (sym same) is.root
+returns-clause-model c = λ header model is. rw (c.in-Ok.ensures.view, c.in-Ok.ensures.complete header model is) is.root

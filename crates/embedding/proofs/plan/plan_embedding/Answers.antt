@@ -1,4 +1,4 @@
-use Rattle.embedding.proofs.Prelude.{◌≡◌, List, ℕ, subst, sym, ap, ◌∙◌, false≢true, ∥∥₁_elim, le_prop, image_of, header_of, root_in, LeadsAlike, FirstBroken, rules_of_file, rules_of_metadata}
+use Rattle.embedding.proofs.Prelude.{◌≡◌, sym, ap, ◌∙◌, false≢true, ∥∥₁_elim, le_prop, image_of, header_of, root_in, FirstBroken, rules_of_file, rules_of_metadata}
 use Rattle.embedding.proofs.Misfits.{opens_by}
 use Rattle.embedding.proofs.Opens.{no_fault}
 use Rattle.embedding.proofs.plan.plan_embedding.Goals as goal
@@ -22,11 +22,7 @@ returns-else-leads_alike-clause-refused c =
     let is = c.in_ok-opened.ensures.opened in
     let view : opened.view ≡ root_in c.args.file.now (header_of (image_of c.args.file.now)) = is.view ∙ ap (root_in c.args.file.now) is.header.header_is in (
       (opens_by c.args.file.now opened.header is.header, c.in-Ok.ensures.sound.1),
-      λ leads.
-          let of_views : LeadsAlike c.in-Ok.view opened.view =
-          subst (λ (root : List ℕ). LeadsAlike root opened.view) (sym c.in-Ok.ensures.sound.0)
-          (subst (λ (old : List ℕ). LeadsAlike c.args.root.now old) (sym view) leads) in
-          false≢true (sym c.if-leads_alike.false ∙ c.leads_alike.ensures.1 of_views),
+      λ leads. false≢true (sym c.if-leads_alike.false ∙ c.leads_alike.ensures.1 (rw (c.in-Ok.ensures.sound.0, view) leads)),
     )
 
 pub returns-in-Err-clause-refused : goal.returns-in-Err-clause-refused

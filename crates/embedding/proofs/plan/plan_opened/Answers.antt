@@ -1,4 +1,4 @@
-use Rattle.embedding.proofs.Prelude.{List, ℕ, length, refl, subst, sym, ◌∙◌, false≢true, err_from_is_err_and, CliHeader, source_of, AreHeadersApart, LeadsAlike, FitsAt, Planned, IsPlanned}
+use Rattle.embedding.proofs.Prelude.{refl, sym, ◌∙◌, false≢true, err_from_is_err_and, Planned, IsPlanned}
 use Rattle.embedding.proofs.Misfits.{misfit_is_reason, opens_by}
 use Rattle.embedding.proofs.plan.plan_opened.Goals as goal
 
@@ -14,15 +14,12 @@ planned c = record {
 is_planned : (c : goal.After-result-1) → IsPlanned (planned c)
 unfolding planned
 is_planned c =
-    let file = c.args.file.headers in
-    let header = c.args.file.header in
-    let root = c.args.root.now in
     let opened = c.requires.opened in
     record {
       header = opened.header;
       apart = c.are_headers_apart.ensures.0 c.if-not-are_headers_apart.false;
-      fits = subst (λ (old : List ℕ). FitsAt file (length root) header (source_of old) c.in_ok-slot.slot) opened.view c.in_ok-slot.ensures.fits;
-      leads = subst (λ (old : List ℕ). LeadsAlike root old) opened.view c.requires.leads;
+      fits = rw opened.view at c.in_ok-slot.ensures.fits;
+      leads = rw opened.view at c.requires.leads;
       model = c.requires.model;
     }
 
@@ -41,8 +38,7 @@ returns-then-not-are_headers_apart-clause-refused c =
     let file = c.args.file.headers in
     let of = c.requires.opened.header in (
       (opens_by file c.args.file.header of, c.requires.model),
-      λ apart. false≢true (sym c.if-not-are_headers_apart.true
-          ∙ c.are_headers_apart.ensures.1 (subst (λ (header : CliHeader). AreHeadersApart file header) (sym of.header_is) apart)),
+      λ apart. false≢true (sym c.if-not-are_headers_apart.true ∙ c.are_headers_apart.ensures.1 (rw of.header_is apart)),
     )
 
 pub returns-in_err-slot-clause-refused : goal.returns-in_err-slot-clause-refused

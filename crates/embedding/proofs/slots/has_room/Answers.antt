@@ -1,4 +1,4 @@
-use Rattle.embedding.proofs.Prelude.{◌≡◌, ◌+◌, ℕ, List, length, replicate, subst, ap, arith, part, headers_end}
+use Rattle.embedding.proofs.Prelude.{◌≡◌, ◌+◌, length, replicate, ap, arith, part, headers_end}
 use Rattle.embedding.proofs.Padded.{zeros_at}
 use Rattle.embedding.proofs.slots.has_room.Goals as goal
 
@@ -9,13 +9,12 @@ returns c =
     let start : first ≡ headers_end file = c.headers_end-start.ensures.offset in
     let long : length c.file-file.result.now ≡ length file = ap length c.file-file.ensures.bytes in
     let zeros : part file first 40 ≡ replicate 40 0 =
-    subst (λ (l : List ℕ). part l first 40 ≡ replicate 40 0) c.file-file.ensures.bytes
-    (zeros_at c.file-file.result.now first (first + 40) 40 (omega arith) (omega arith) (c.are_zeros.ensures.0 c.if-not-are_zeros.false)) in (
+    rw c.file-file.ensures.bytes at (zeros_at c.file-file.result.now first (first + 40) 40 (omega arith) (omega arith) (c.are_zeros.ensures.0 c.if-not-are_zeros.false)) in (
       λ yes. record {
         count = omega (arith, c.section_count.ensures.value);
         room = omega (arith, start, c.field.ensures);
         within = omega (arith, start, long);
-        zeros = subst (λ (n : ℕ). part file n 40 ≡ replicate 40 0) start zeros;
+        zeros = rw start at zeros;
         cli_header = omega (arith, start);
         sections = (rw start at c.are_after.ensures).0 yes;
       },

@@ -1,5 +1,4 @@
-use Rattle.embedding.proofs.Prelude.{eq-eqb, sym, subst, ◌∙◌, false≢true, Image, IsFileOffset, Source}
-use Rattle.file_ranges.specs.Occupied.{IsFree}
+use Rattle.embedding.proofs.Prelude.{eq-eqb, sym, ◌∙◌, false≢true, IsFileOffset}
 use Rattle.embedding.proofs.slots.reused.Goals as goal
 use Rattle.embedding.proofs.slots.reused.Goals.{in-Some, in-None, else-is_found-via-then-is_found+else-is_free, else-is_found-via-else-is_found}
 
@@ -9,13 +8,10 @@ returns-else-is_found-clause-misfit c = (
   λ fits.
       let file = c.args.file.now in
       let start = file.header.root.start in
-      let found : IsFileOffset file.image file.header.metadata.rva c.args.len start =
-      subst (λ (image : Image). IsFileOffset image file.header.metadata.rva c.args.len start) (sym c.requires.opened.image) fits.found in
+      let found : IsFileOffset file.image file.header.metadata.rva c.args.len start = rw c.requires.opened.image fits.found in
       elim c.else-is_found.branch as (λ _. ⊥) [
         | else-is_found-via-then-is_found+else-is_free w ↦
-            let free : IsFree file.header file.headers w.source.result.now.source =
-            subst (λ (source : Source). IsFree file.header file.headers source) (sym w.source.ensures.source) fits.free in
-            false≢true (sym w.if-is_free.false ∙ w.is_free.ensures.1 free)
+            false≢true (sym w.if-is_free.false ∙ w.is_free.ensures.1 (rw w.source.ensures.source fits.free))
         | else-is_found-via-else-is_found w ↦
             elim c.match-range.branch as (λ _. ⊥) [
               | in-Some v ↦
