@@ -3,8 +3,9 @@ use Rattle.cli_arguments.proofs.Prelude.{◌≡◌, ◌&&◌, ◌||◌, ◌∙�
 use Rattle.std.specs.Prelude.{IsSome, find, option_map, unwrap_or}
 use Rattle.std.specs.List.{list_all}
 use Rattle.clap.specs.Walk.{Row, Text, answers_to, nothing_held, stop_after}
-use Rattle.clap.specs.Simple.{Shape, argument_words, built, entered, label_of, names_of, rows_at, subcommand_of}
-use Rattle.clap.specs.Faults.{fault_of}
+use Rattle.clap.specs.Simple.{Shape, argument_words, built, entered, is_simple, label_of, names_of, rows_at, subcommand_of}
+use Rattle.clap.specs.Faults.{fault_of, is_simple_and_free}
+use Rattle.clap.proofs.WalkLemmas.{both}
 use Rattle.cli_arguments.proofs.NoHelp.{StopsElsewhere, first_none, is_help, stops_elsewhere}
 
 -- a subcommand has one name: that of a subcommand of the program, or `help`
@@ -16,8 +17,19 @@ abbrev is_known_shape : Shape → Bool
 is_known_shape s = is_known_label s.name s.aliases
 
 all_known : list_all is_known_shape (built clim).subs ≡ true
-unfolding clap_on_literals
+unfolding clap_on_literals clim
 all_known = refl
+
+pub clim_is_free : is_simple_and_free clim ≡ true
+unfolding clap_on_literals clim
+clim_is_free = refl
+
+pub clim_is_simple : is_simple clim ≡ true
+clim_is_simple = (both (is_simple clim) _ clim_is_free).0
+
+has_help : (built clim).top.disable_help_subcommand ≡ false
+unfolding clap_on_literals clim
+has_help = refl
 
 -- what is found passes the test, and what all elements pass
 pub found_passes : {X : Type 0} (p q : X → Bool) (among : List X) (s : X) → find p among ≡ Some s → list_all q among ≡ true → (p s ≡ true) × (q s ≡ true)
@@ -64,4 +76,4 @@ pub is_known : (words : List Text) (name : Text) (rows : List Row) → fault_of 
     → IsSome (subcommand_named name)
 is_known words name rows none is =
     entered_known (stop_in words) name rows
-    (stops_elsewhere (built clim).top (names_of (built clim)) refl nothing_held (argument_words clim words) (first_none _ _ none)) is
+    (stops_elsewhere (built clim).top (names_of (built clim)) has_help nothing_held (argument_words clim words) (first_none _ _ none)) is

@@ -119,37 +119,32 @@ name_of Digest = codes "digest"
 name_of Compare = codes "compare"
 name_of Explain = codes "explain"
 
--- the arguments of a subcommand
+-- the arguments of a report on files, and others: `[--bare] [--budget N] [--files-from LIST] [-0] [-r] [--json] [FILE]..`
+abbrev pub report : List Rule → List Rule
+report others = files ∷ bare ∷ budget ∷ files_from ∷ null ∷ recursive ∷ json ∷ others
+
+-- the arguments of a subcommand; of `show`, `outline`, `refs` and `where` the TABLE, the NAME or the OFFSET is among the values of FILE
 abbrev pub rules_of : Subcommand → List Rule
 -- `root [--bare] [--files-from LIST] [-0] [-r] [--json] [--until-fault] [FILE]..`
 rules_of Root = files ∷ bare ∷ files_from ∷ null ∷ recursive ∷ json ∷ flag (codes "until-fault") ∷ []
--- `info [--bare] [--budget N] [--files-from LIST] [-0] [-r] [--json] [FILE]..`
-rules_of Info = files ∷ bare ∷ budget ∷ files_from ∷ null ∷ recursive ∷ json ∷ []
+rules_of Info = report []
 -- `check [--bare] [--budget N] [--files-from LIST] [-0] [-r] [-q] [--json] [--where] [FILE]..`
 rules_of Check = files ∷ bare ∷ budget ∷ files_from ∷ null ∷ recursive ∷ quiet ∷ json ∷ flag (codes "where") ∷ []
--- `show [--bare] [--budget N] [--files-from LIST] [-0] [-r] [--json] [--names] [--until-fault] [FILE].. [TABLE]`; here, of
--- `outline`, `refs` and `where` the last argument is among the values of FILE
-rules_of Show = files ∷ bare ∷ budget ∷ files_from ∷ null ∷ recursive ∷ json ∷ flag (codes "names") ∷ flag (codes "until-fault") ∷ []
--- `types [--bare] [--budget N] [--files-from LIST] [-0] [-r] [--json] [FILE]..`
-rules_of Types = files ∷ bare ∷ budget ∷ files_from ∷ null ∷ recursive ∷ json ∷ []
--- `outline [--bare] [--budget N] [--files-from LIST] [-0] [-r] [--json] [--no-tokens] [--public] [--sorted] [FILE].. [NAME]`
-rules_of Outline = files ∷ bare ∷ budget ∷ files_from ∷ null ∷ recursive ∷ json ∷ flag (codes "no-tokens") ∷ flag (codes "public") ∷ flag (codes "sorted") ∷ []
--- `refs [--bare] [--budget N] [--files-from LIST] [-0] [-r] [--json] [FILE].. [NAME]`
-rules_of Refs = files ∷ bare ∷ budget ∷ files_from ∷ null ∷ recursive ∷ json ∷ []
+rules_of Show = report (flag (codes "names") ∷ flag (codes "until-fault") ∷ [])
+rules_of Types = report []
+rules_of Outline = report (flag (codes "no-tokens") ∷ flag (codes "public") ∷ flag (codes "sorted") ∷ [])
+rules_of Refs = report []
 -- `resources [--budget N] [--files-from LIST] [-0] [-r] [--json] [--extract NAME] [FILE]..`
 rules_of Resources = files ∷ budget ∷ files_from ∷ null ∷ recursive ∷ json ∷ option (codes "extract") ∷ []
--- `strings [--bare] [--budget N] [--files-from LIST] [-0] [-r] [--json] [FILE]..`
-rules_of Strings = files ∷ bare ∷ budget ∷ files_from ∷ null ∷ recursive ∷ json ∷ []
+rules_of Strings = report []
 -- `token [--bare] [--budget N] [--json] FILE HEX..`
 rules_of Token = file ∷ bare ∷ budget ∷ json ∷ required (values (codes "HEX")) ∷ []
--- `where [--bare] [--budget N] [--files-from LIST] [-0] [-r] [--json] [FILE].. OFFSET`
-rules_of Where = files ∷ bare ∷ budget ∷ files_from ∷ null ∷ recursive ∷ json ∷ []
+rules_of Where = report []
 -- `rewrite [--bare] [--budget N] FILE OUT`
 rules_of Rewrite = file ∷ bare ∷ budget ∷ second ∷ []
 -- `embed [--json] [--root ROOT] [--unsigned] FILE OUT`
 rules_of Embed = file ∷ json ∷ second ∷ option (codes "root") ∷ flag (codes "unsigned") ∷ []
--- `digest [--bare] [--budget N] [--files-from LIST] [-0] [-r] [--json] [FILE]..`
-rules_of Digest = files ∷ bare ∷ budget ∷ files_from ∷ null ∷ recursive ∷ json ∷ []
+rules_of Digest = report []
 -- `compare [--bare] [--budget N] [-q] [--json] [--ignore TABLE.COLUMN].. FILE OTHER`
 rules_of Compare = file ∷ bare ∷ budget ∷ quiet ∷ json ∷ second ∷ record (option (codes "ignore")) { action = Some Append } ∷ []
 -- `explain [--json] [CODE]..`
@@ -164,5 +159,5 @@ abbrev pub subcommands : List Subcommand
 subcommands = Root ∷ Info ∷ Check ∷ Show ∷ Types ∷ Outline ∷ Refs ∷ Resources ∷ Strings ∷ Token ∷ Where ∷ Rewrite ∷ Embed ∷ Digest ∷ Compare ∷ Explain ∷ []
 
 -- the command line with its subcommands; `clap` adds `help`
-abbrev pub clim : App
+unfoldable pub clim : App
 clim = fold (λ above of. with_subcommand above (shape_of of)) without_subcommands subcommands

@@ -20,7 +20,9 @@ pub(crate) fn take_part<'a>(
         return None;
     };
     if is_part(subcommand, has_files(given, before), last) {
-        words.pop()
+        let (part, count) = (*last, before.len());
+        words.truncate(count);
+        Some(part)
     } else {
         None
     }

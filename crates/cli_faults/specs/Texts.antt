@@ -39,21 +39,22 @@ abbrev pub hint_of_column : Option (TableId × Bor (List ℕ)) → List ℕ
 hint_of_column None = []
 hint_of_column (Some column) = hint_with (table_name column.0 ++ codes "." ++ column.1.now)
 
--- the line that reports an argument that is wrong, without its line feed; arguments in it are escaped, and a line with a
--- hint follows if a name is near
+-- the line for an argument, escaped, that is not what is wanted, and that of a hint
+abbrev pub wrong_text : List ℕ → List ℕ → List ℕ → List ℕ
+wrong_text wanted word hint = codes "error: " ++ wanted ++ codes ", not '" ++ escaped_text word ++ codes "'" ++ hint
+
+-- the line that reports an argument that is wrong, without its line feed; a line with a hint follows if a name is near
 abbrev pub usage_text : UsageError → List ℕ
-usage_text (NoToken word) = codes "error: HEX is one to eight hexadecimal digits, as '06001d06', not '" ++ escaped_text word.now ++ codes "'"
-usage_text (NoCode word code) =
-    codes "error: CODE is the number or the name of a fault, which 'clim explain' lists, not '" ++ escaped_text word.now ++ codes "'" ++ hint_of_code code
+usage_text (NoToken word) = wrong_text (codes "HEX is one to eight hexadecimal digits, as '06001d06'") word.now []
+usage_text (NoCode word code) = wrong_text (codes "CODE is the number or the name of a fault, which 'clim explain' lists") word.now (hint_of_code code)
 usage_text NoFile = codes "error: no FILE given" ++ 10 ∷ codes "  hint: '-' reads standard input; 'clim <COMMAND> -h' shows the options"
 usage_text FilesAndList = codes "error: '--files-from' and FILE exclude each other"
 usage_text OutputIsDash = codes "error: OUT is a file, and '-' is none" ++ 10 ∷ codes "  hint: './-' is the file with that name"
 usage_text ExtractAlone = codes "error: '--extract' takes one FILE, and no '--json', '-r' or list of files"
-usage_text (NoTable word table) =
-    codes "error: TABLE is a table, which 'clim show --help' lists, not '" ++ escaped_text word.now ++ codes "'" ++ hint_of_table table
-usage_text (NoOffset word) = codes "error: OFFSET is a number, decimal or hexadecimal after '0x', not '" ++ escaped_text word.now ++ codes "'"
+usage_text (NoTable word table) = wrong_text (codes "TABLE is a table, which 'clim show --help' lists") word.now (hint_of_table table)
+usage_text (NoOffset word) = wrong_text (codes "OFFSET is a number, decimal or hexadecimal after '0x'") word.now []
 usage_text (NoColumn word column) =
-    codes "error: no such column: '--ignore' takes a table and one of its columns, as 'Module.Mvid', not '" ++ escaped_text word.now ++ codes "'" ++ hint_of_column column
+    wrong_text (codes "no such column: '--ignore' takes a table and one of its columns, as 'Module.Mvid'") word.now (hint_of_column column)
 
 -- the words for why a root does not fit
 abbrev pub misfit_text : Misfit → List ℕ

@@ -1,13 +1,13 @@
-//! Texts and UTF-16 units of strangers, escaped as printable ASCII.
+//! Texts of strangers, escaped as printable ASCII.
 ghost use Rattle.std.specs.Prelude.{◌≡◌, ◌<◌, IsTrue, Some, [], ◌∷◌};
 ghost use Rattle.std.specs.Fmt.{WritesOnOk};
-ghost use Rattle.cli_faults.specs.Escaped.{is_printable, escaped_byte, escaped_text, escaped_unit};
+ghost use Rattle.cli_faults.specs.Escaped.{escaped_byte, escaped_text, is_plain};
 
 use std::fmt;
 
 /// A text as the program prints it: printable ASCII except `"` and `\` as it is, and any other byte as `\x` and two
 /// hexadecimal digits. So no text from a file or from the command line can move the cursor or begin a line of its own.
-#[derive(Clone, Copy, PartialEq, Eq)]
+#[derive(Clone, Copy)]
 pub struct Escaped<'a>(pub &'a str);
 
 impl fmt::Display for Escaped<'_> {
@@ -19,7 +19,7 @@ impl fmt::Display for Escaped<'_> {
 }
 
 /// Bytes that may be no text, such as the name of a file, as the program prints them: like an [`Escaped`] text.
-#[derive(Clone, Copy, PartialEq, Eq)]
+#[derive(Clone, Copy)]
 pub struct EscapedBytes<'a>(pub &'a [u8]);
 
 impl fmt::Display for EscapedBytes<'_> {
@@ -30,30 +30,12 @@ impl fmt::Display for EscapedBytes<'_> {
     }
 }
 
-/// A UTF-16 unit as the program prints it: printable ASCII except `\` as it is, and any other unit as `\u` and four
-/// hexadecimal digits.
-#[derive(Clone, Copy, PartialEq, Eq)]
-pub struct EscapedUnit(pub u16);
-
-impl fmt::Display for EscapedUnit {
-    ghost output = { λ unit. Some (escaped_unit unit.0) };
-
-    fn fmt<W: fmt::Write>(&self, f: &mut fmt::Formatter<W>) -> fmt::Result {
-        let unit = self.0;
-        if is_printable_unit(unit) {
-            write_ascii(unit as u8, f)
-        } else {
-            write!(f, "\\u{unit:04x}")
-        }
-    }
-}
-
-/// Whether a unit is printable ASCII except `\`.
-fn is_printable_unit(unit: u16) -> bool
-    ensures value { result ≡ is_printable unit }
-    ensures ascii { IsTrue result → unit < 128 }
+/// Whether a byte is printable ASCII except `"` and `\`.
+fn is_plain(byte: u8) -> bool
+    ensures value { result ≡ is_plain byte }
+    ensures ascii { IsTrue result → byte < 128 }
 {
-    32 <= unit && unit <= 126 && unit != 92
+    32 <= byte && byte <= 126 && byte != b'\\' && byte != b'"'
 }
 
 /// Writes the bytes of a text, each escaped if needed.
@@ -70,7 +52,7 @@ fn write_bytes<W: fmt::Write>(bytes: &[u8], f: &mut fmt::Formatter<W>) -> fmt::R
 fn write_byte<W: fmt::Write>(byte: u8, f: &mut fmt::Formatter<W>) -> fmt::Result
     ensures { WritesOnOk W.write_str_gives f.old result (escaped_byte byte) f.new }
 {
-    if is_printable_unit(u16::from(byte)) && byte != b'"' {
+    if is_plain(byte) {
         write_ascii(byte, f)
     } else {
         write!(f, "\\x{byte:02x}")

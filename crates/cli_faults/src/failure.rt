@@ -3,7 +3,7 @@ ghost use Rattle.std.specs.Prelude.{◌≡◌, ◌↔◌, IfErr, IsOk, Some};
 ghost use Rattle.std.specs.IoError.{error_kind};
 ghost use Rattle.cli_faults.specs.Status.{HasReason, IsOutput, ReportsKind};
 ghost use Rattle.cli_faults.specs.Texts.{failure_text};
-ghost use Rattle.cli_faults.specs.declared.failure.Failure.TheVariants.{Fault, Usage};
+ghost use Rattle.cli_faults.specs.declared.failure.Failure.TheVariants.{Fault};
 
 use crate::escaped::{Escaped, EscapedBytes};
 use crate::file_error::{FileError, Reason};
@@ -121,14 +121,6 @@ impl From<Fault> for Failure<'_> {
 
     fn from(fault: Fault) -> Self {
         Failure::Fault(fault)
-    }
-}
-
-impl<'a> From<UsageError<'a>> for Failure<'a> {
-    ghost from_gives = { λ usage_error failure. failure ≡ Usage usage_error };
-
-    fn from(usage_error: UsageError<'a>) -> Self {
-        Failure::Usage(usage_error)
     }
 }
 

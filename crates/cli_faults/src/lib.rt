@@ -14,23 +14,18 @@
 //! ```
 #![tactic(auto)]
 
-mod cell_faults;
 mod escaped;
 mod explained;
 mod failure;
 mod file_error;
-mod file_faults;
 mod misfit;
 mod numbered;
-mod order_faults;
-mod other_faults;
+mod rules;
 mod stop;
-mod stream_faults;
-mod table_faults;
 mod usage_error;
 mod verdict;
 
-pub use escaped::{Escaped, EscapedBytes, EscapedUnit};
+pub use escaped::{Escaped, EscapedBytes};
 pub use explained::{Explanation, explain};
 pub use failure::{Failure, printed};
 pub use file_error::{FileError, Reason};

@@ -1,6 +1,7 @@
 //! An argument that is wrong, and the line that reports it.
 ghost use Rattle.std.specs.Prelude.{Some};
-ghost use Rattle.cli_faults.specs.Texts.{nearest_text, usage_text};
+ghost use Rattle.std.specs.Fmt.{WritesOnOk};
+ghost use Rattle.cli_faults.specs.Texts.{nearest_text, usage_text, wrong_text};
 
 use crate::escaped::Escaped;
 use packed::{Fault, FaultCode};
@@ -96,22 +97,18 @@ impl fmt::Display for UsageError<'_> {
 
     fn fmt<W: fmt::Write>(&self, f: &mut fmt::Formatter<W>) -> fmt::Result {
         match self {
-            UsageError::NoToken(word) => write!(
-                f,
-                "error: HEX is one to eight hexadecimal digits, as '06001d06', not '{}'",
-                Escaped(word)
-            ),
-            UsageError::NoCode(word, nearest) => write!(
-                f,
-                "error: CODE is the number or the name of a fault, which 'clim explain' lists, not '{}'{}",
-                Escaped(word),
-                Nearest::of_code(*nearest)
-            ),
-            UsageError::NoFile => {
-                f.write_str(
-                    "error: no FILE given\n  hint: '-' reads standard input; 'clim <COMMAND> -h' shows the options",
-                )
+            UsageError::NoToken(word) => {
+                let wanted = "HEX is one to eight hexadecimal digits, as '06001d06'";
+                write_wrong(wanted, word, Nearest::None, f)
             }
+            UsageError::NoCode(word, code) => {
+                let wanted =
+                    "CODE is the number or the name of a fault, which 'clim explain' lists";
+                write_wrong(wanted, word, Nearest::of_code(*code), f)
+            }
+            UsageError::NoFile => f.write_str(
+                "error: no FILE given\n  hint: '-' reads standard input; 'clim <COMMAND> -h' shows the options",
+            ),
             UsageError::FilesAndList => {
                 f.write_str("error: '--files-from' and FILE exclude each other")
             }
@@ -121,23 +118,31 @@ impl fmt::Display for UsageError<'_> {
             UsageError::ExtractAlone => f.write_str(
                 "error: '--extract' takes one FILE, and no '--json', '-r' or list of files",
             ),
-            UsageError::NoTable(word, nearest) => write!(
-                f,
-                "error: TABLE is a table, which 'clim show --help' lists, not '{}'{}",
-                Escaped(word),
-                Nearest::of_table(*nearest)
-            ),
-            UsageError::NoOffset(word) => write!(
-                f,
-                "error: OFFSET is a number, decimal or hexadecimal after '0x', not '{}'",
-                Escaped(word)
-            ),
-            UsageError::NoColumn(word, nearest) => write!(
-                f,
-                "error: no such column: '--ignore' takes a table and one of its columns, as 'Module.Mvid', not '{}'{}",
-                Escaped(word),
-                Nearest::of_column(*nearest)
-            ),
+            UsageError::NoTable(word, table) => {
+                let wanted = "TABLE is a table, which 'clim show --help' lists";
+                write_wrong(wanted, word, Nearest::of_table(*table), f)
+            }
+            UsageError::NoOffset(word) => {
+                let wanted = "OFFSET is a number, decimal or hexadecimal after '0x'";
+                write_wrong(wanted, word, Nearest::None, f)
+            }
+            UsageError::NoColumn(word, column) => {
+                let wanted =
+                    "no such column: '--ignore' takes a table and one of its columns, as 'Module.Mvid'";
+                write_wrong(wanted, word, Nearest::of_column(*column), f)
+            }
         }
     }
+}
+
+/// Writes the line for an argument that is not what is wanted, and that of a hint.
+fn write_wrong<W: fmt::Write>(
+    wanted: &'static str,
+    word: &str,
+    nearest: Nearest,
+    f: &mut fmt::Formatter<W>,
+) -> fmt::Result
+    ensures { WritesOnOk W.write_str_gives f.old result (wrong_text wanted.now word.now (nearest_text nearest)) f.new }
+{
+    write!(f, "error: {wanted}, not '{}'{nearest}", Escaped(word))
 }

@@ -1,13 +1,8 @@
-use Rattle.std.proofs.Common.{◌≡◌, ◌∙◌, true, Some, ap, map, refl, sym}
-use Rattle.cli_arguments.proofs.Prelude.{clap_on_literals, clim}
-use Rattle.clap.specs.Words.{Text, found_of, is_simple, rows_of}
-use Rattle.cli_arguments.proofs.KnownNames.{is_known}
+use Rattle.std.proofs.Common.{◌∙◌, Some, ap, map, sym}
+use Rattle.clap.specs.Words.{Text, found_of, rows_of}
+use Rattle.cli_arguments.proofs.KnownNames.{clim_is_simple, is_known}
 use Rattle.cli_arguments.proofs.Readings.{named_back, rows_met}
 use Rattle.cli_arguments.proofs.arguments.ask.Goals as goal
-
-clim_is_simple : is_simple clim ≡ true
-unfolding clap_on_literals
-clim_is_simple = refl
 
 pub unwrap-subcommand-requires : goal.unwrap-subcommand-requires
 unwrap-subcommand-requires c =

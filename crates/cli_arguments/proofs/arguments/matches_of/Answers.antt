@@ -1,12 +1,9 @@
-use Rattle.cli_arguments.proofs.Prelude.{◌≡◌, ◌∙◌, ◌&&◌, Bool, ap, false, not, refl, subst, true, IfOk-weaker, clap_on_literals, clim}
+use Rattle.cli_arguments.proofs.Prelude.{◌≡◌, ◌∙◌, ◌&&◌, Bool, ap, false, not, refl, subst, true, IfOk-weaker, clim}
 use Rattle.std.specs.Prelude.{IfOk, map}
 use Rattle.clap.proofs.CallerLemmas.{subcommand_required}
+use Rattle.cli_arguments.proofs.KnownNames.{clim_is_free}
 use Rattle.clap.specs.Words.{App, FailsBy, HasMatchesOf, fault_of, is_simple_and_free}
 use Rattle.cli_arguments.proofs.arguments.matches_of.Goals as goal
-
-clim_is_free : is_simple_and_free clim ≡ true
-unfolding clap_on_literals
-clim_is_free = refl
 
 third_false : (a b c d : Bool) → (a && (not b && (not c && d))) ≡ true → c ≡ false
 third_false a b false d e = refl
@@ -20,6 +17,7 @@ returns-clause-matches c =
     c.try_get_matches_from.ensures.matches
 
 pub returns-clause-subcommand : goal.returns-clause-subcommand
+unfolding clim
 returns-clause-subcommand c =
     IfOk-weaker c.try_get_matches_from.result _ _
     (λ m parsed. subcommand_required c.in_ok-command.field-0 m parsed

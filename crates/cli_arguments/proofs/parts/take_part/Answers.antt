@@ -1,7 +1,8 @@
-use Rattle.std.proofs.Common.{◌<◌, ◌∙◌, ap, arith, length, refl, subst, sym, ℕ}
+use Rattle.std.proofs.Common.{◌∷◌, ◌≡◌, ◌∙◌, [], ap, arith, length, refl, sym, take}
 use Rattle.std.proofs.lemmas.List.{length-map}
-use Rattle.clap.specs.Words.{Text}
+use Rattle.std.proofs.Math.Seq.{take-append_seam}
 use Rattle.cli_arguments.proofs.Prelude.{Bor, length_push, found_of, rows_of, TakesList}
+use Rattle.clap.specs.Words.{Text}
 use Rattle.cli_arguments.proofs.PartLemmas.{part_taken, part_there}
 use Rattle.cli_arguments.proofs.parts.take_part.Goals as goal
 
@@ -21,9 +22,13 @@ returns-in_default c = (
 
 pub returns-then-is_part : goal.returns-then-is_part
 returns-then-is_part c =
-    part_taken c.args.subcommand (TakesList (rows_of (found_of c.args.given.now))) c.args.words.now.items c.in-Some.before.now c.in-Some.last.now
-    (sym c.as_slice.ensures.value ∙ c.in-Some.ensures.cases.0) c.has_files.result c.has_files.ensures c.pop.new.self.items c.pop.result c.pop.ensures.items
-    (λ some. c.pop.ensures.variant.1 (subst (λ (n : ℕ). 0 < n) (sym c.args.words.now.ok.0) some)) (c.is_part.ensures.0 c.if-is_part.true)
+    let before = c.in-Some.before.now in
+    let last = c.in-Some.last.now in
+    let whole = sym c.as_slice.ensures.value ∙ c.in-Some.ensures.cases.0 in
+    let left : c.truncate.new.self.items ≡ before =
+    c.truncate.ensures.items ∙ ap (take (length before)) whole ∙ take-append_seam before (last ∷ []) in
+    part_taken c.args.subcommand (TakesList (rows_of (found_of c.args.given.now))) c.args.words.now.items before last whole c.has_files.result c.has_files.ensures
+    c.truncate.new.self.items left (c.is_part.ensures.0 c.if-is_part.true)
 
 pub returns-else-is_part : goal.returns-else-is_part
 returns-else-is_part c = (
