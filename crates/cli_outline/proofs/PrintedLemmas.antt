@@ -1,21 +1,10 @@
 -- The lines of rows, one after another.
-use Rattle.cli_outline.proofs.Prelude.{◌≡◌, ◌∙◌, Bool, true, false, cond, ℕ, suc, ◌+◌, ◌-◌, ◌<◌, ◌≤◌, List, [], ◌∷◌, ◌++◌, Option, None, Some, refl, ap, sym, subst, append_assoc, append-nil, drop, drop_more, get_or, length, map, arith, IsSome, drop_all, filter-append, flat_map, range_with_len, Token, Metadata, Part, OutlineOptions, each_from, AreLines, IsLine, PrintsRows, is_shown, shown_rows}
-use Rattle.navigation.specs.declared.keyed.KeyedRow.{KeyedRow}
-use Rattle.navigation.specs.Keyed.{row_of}
+use Rattle.cli_outline.proofs.Prelude.{◌≡◌, ◌∙◌, Bool, true, false, cond, ℕ, suc, ◌+◌, ◌-◌, ◌<◌, ◌≤◌, List, [], ◌∷◌, ◌++◌, Option, None, Some, refl, ap, sym, subst, append_assoc, append-nil, arith, IsSome, filter-append, flat_map, range_with_len, Token, Metadata, Part, OutlineOptions, each_from, AreLines, IsLine, PrintsRows, is_shown, shown_rows}
 use Rattle.cli_lines.specs.Printed.{Printed, Prints}
 
 lines_append : (options : OutlineOptions) (model : Metadata) (xs ys : List Token) (a b : List (List Part)) → AreLines options model xs a → AreLines options model ys b → AreLines options model (xs ++ ys) (a ++ b)
 lines_append options model [] ys a b are more = subst (λ (lines : List (List Part)). AreLines options model ys (lines ++ b)) (sym are) more
 lines_append options model (x ∷ xs) ys a b are more = (are.0, are.1, are.2 ++ b, lines_append options model xs ys are.2 b are.3 more, ap (λ lines. lines ++ b) are.4)
-
--- the same rows
-pub rows_are : {W : Type 0} {options : OutlineOptions} {model : Metadata} {a b : Printed W} {xs ys : List Token} → xs ≡ ys → PrintsRows options model a b xs → PrintsRows options model a b ys
-rows_are {W} {options} {model} {a} {b} same printed = subst (λ (rows : List Token). PrintsRows options model a b rows) same printed
-
--- the same options
-pub options_are : {W : Type 0} {from to : OutlineOptions} {model : Metadata} {a b : Printed W} {rows : List Token} → from ≡ to → PrintsRows from model a b rows
-    → PrintsRows to model a b rows
-options_are {W} {from} {to} {model} {a} {b} {rows} same printed = subst (λ (options : OutlineOptions). PrintsRows options model a b rows) same printed
 
 module _ {W : Type 0} (options : OutlineOptions) (model : Metadata) where
   -- no line
@@ -104,11 +93,3 @@ unfolding each_from
 each_none rows number past le =
     let none : past - number ≡ 0 = omega (arith, le) in
     ap (λ n. flat_map rows (range_with_len number n)) none
-
--- what there is for the rows from one on, and at the end
-module _ (rows : ℕ → List Token) (found : List KeyedRow) (i : ℕ) where
-  pub found_left : (d : KeyedRow) → i < length found → rows (get_or found i d).row ++ flat_map rows (map row_of (drop (i + 1) found)) ≡ flat_map rows (map row_of (drop i found))
-  found_left d lt = ap (λ left. flat_map rows (map row_of left)) (sym (drop_more found i d lt))
-
-  pub none_left : length found ≤ i → [] ≡ flat_map rows (map row_of (drop i found))
-  none_left le = ap (λ left. flat_map rows (map row_of left)) (sym (drop_all i found le))
