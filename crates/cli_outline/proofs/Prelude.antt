@@ -32,7 +32,7 @@ pub use Rattle.cli_paths.specs.declared.refs.Wanted.{Wanted}
 pub use Rattle.cli_outline.specs.Chosen.{AreChosenBy, IsChosen, IsDescribing, PrintsChosen, AreTypeRows}
 pub use Rattle.cli_outline.specs.Declarations.{ends_word, json_line, text_line, unindented, has_directive}
 unfoldable pub use Rattle.cli_outline.specs.Declarations.{declaration_line}
-pub use Rattle.cli_outline.specs.Orders.{AreInOrder, IsOrdered, keyed_cmp, row_at, rows_of, row_in, IsKeyIf, IsKeyed, key_limit, row_of_keyed, IsRowIn, AreGrouped, grouping_of}
+pub use Rattle.cli_outline.specs.Orders.{AreInOrder, IsOrdered, keyed_cmp, row_at, rows_of, row_in, IsKeyed, key_limit, row_of_keyed, IsRowIn, AreGrouped, grouping_of}
 pub use Rattle.cli_outline.specs.Outline.{run_start, all_rows, row_by, accessed_by, map_link, mapped_rows, class_by, refs_rows}
 unfoldable pub use Rattle.cli_outline.specs.Outline.{each_from, type_rows, outline_rows, class_rows}
 pub use Rattle.cli_outline.specs.Printed.{PrintsRows, AreLines, IsLine}

@@ -1,5 +1,5 @@
 -- The lines of rows, one after another.
-use Rattle.cli_outline.proofs.Prelude.{◌≡◌, ◌∙◌, Bool, true, false, cond, ℕ, suc, ◌+◌, ◌-◌, ◌<◌, ◌≤◌, List, [], ◌∷◌, ◌++◌, Option, None, Some, refl, ap, sym, subst, append_assoc, append-nil, arith, IsSome, filter-append, flat_map, range_with_len, Token, Metadata, Part, OutlineOptions, each_from, AreLines, IsLine, PrintsRows, is_shown, shown_rows}
+use Rattle.cli_outline.proofs.Prelude.{◌≡◌, Bool, true, false, cond, ℕ, suc, ◌+◌, ◌-◌, ◌<◌, ◌≤◌, List, [], ◌∷◌, ◌++◌, Option, None, Some, refl, ap, sym, subst, append_assoc, append-nil, arith, IsSome, filter-append, flat_map, range_with_len, Token, Metadata, Part, OutlineOptions, each_from, AreLines, IsLine, PrintsRows, is_shown, shown_rows}
 use Rattle.cli_lines.specs.Printed.{Printed, Prints}
 
 lines_append : (options : OutlineOptions) (model : Metadata) (xs ys : List Token) (a b : List (List Part)) → AreLines options model xs a → AreLines options model ys b → AreLines options model (xs ++ ys) (a ++ b)
@@ -44,30 +44,26 @@ module _ {W : Type 0} (options : OutlineOptions) (model : Metadata) where
 
   module _ (joined : (a b c : Printed W) (xs ys : List (List Part)) → Prints a b xs → Prints b c ys → Prints a c (xs ++ ys)) (a b c : Printed W) (xs ys : List Token)
       (prefix : PrintsRows options model a b xs) (back : PrintsRows options model b c ys) where
-    both : shown_rows options model (xs ++ ys) ≡ shown_rows options model xs ++ shown_rows options model ys
-    both = filter-append (is_shown options model) xs ys
-
     after_failure : b.waiting ≡ None → PrintsRows options model a c (xs ++ ys)
     after_failure failed =
         let same = back.printed.same.stays failed in
         record {
           first = prefix.first;
           later = prefix.later ++ shown_rows options model ys;
-          whole = both ∙ ap (λ zs. zs ++ shown_rows options model ys) prefix.whole ∙ append_assoc prefix.first prefix.later (shown_rows options model ys);
+          whole = rw (filter-append (is_shown options model) xs ys, prefix.whole, append_assoc);
           lines = prefix.lines;
           are = prefix.are;
-          printed = subst (λ (p : Printed W). Prints a p prefix.lines) (sym same) prefix.printed;
-          all = λ some. let no = rw (ap (λ (p : Printed W). p.waiting) same ∙ failed) at some in cc;
+          printed = rw same prefix.printed;
+          all = λ some. let no = rw (same, failed) at some in cc;
         }
 
     after_all : (bytes : List ℕ) → b.waiting ≡ Some bytes → PrintsRows options model a c (xs ++ ys)
     after_all bytes live =
         let none_left = prefix.all (rw live refl) in
-        let all_first : shown_rows options model xs ≡ prefix.first = prefix.whole ∙ ap (λ zs. prefix.first ++ zs) none_left ∙ append-nil prefix.first in
         record {
           first = prefix.first ++ back.first;
           later = back.later;
-          whole = both ∙ ap (λ zs. zs ++ shown_rows options model ys) all_first ∙ ap (λ zs. prefix.first ++ zs) back.whole ∙ sym (append_assoc prefix.first back.first back.later);
+          whole = rw (filter-append (is_shown options model) xs ys, prefix.whole, none_left, append-nil prefix.first, back.whole, append_assoc);
           lines = prefix.lines ++ back.lines;
           are = lines_append options model prefix.first back.first prefix.lines back.lines prefix.are back.are;
           printed = joined a b c prefix.lines back.lines prefix.printed back.printed;
