@@ -1,10 +1,9 @@
 -- The bodies of methods in a file (ECMA-335 II.22.26, II.25.4).
-use Rattle.std.specs.Prelude.{ℕ, ◌+◌, ◌-◌, ◌%◌, ◌==◌, ◌&&◌, Bool, nat_le, nat_lt, max, if◌then◌else◌, List, [], ◌∷◌, Option, None, Some, option_and_then, option_map, drop}
-use Rattle.std.specs.List.{flat_map, range_with_len}
+use Rattle.std.specs.Prelude.{ℕ, ◌%◌, ◌==◌, if◌then◌else◌, List, Option, None, option_and_then, option_map, drop}
 use Rattle.table_schema.specs.declared.table.TableId.TheVariants.{MethodDef}
 use Rattle.pe.specs.Image.{Image}
 use Rattle.pe.specs.Offset.{offset_at}
-use Rattle.metadata.specs.Metadata.{Metadata, cell_in, count_in}
+use Rattle.metadata.specs.Metadata.{Metadata, cell_in}
 use Rattle.file_ranges.specs.Bodies.{body_end}
 use Rattle.cli_declarations.specs.Parts.{number_of}
 use Rattle.cli_contents.specs.declared.bodies.Body.{Body}
@@ -21,19 +20,3 @@ body_at image row rva flags =
 
 abbrev pub body_of : Image → Metadata → ℕ → Option Body
 body_of image model row = body_at image row (number_of (cell_in model MethodDef row 0)) (number_of (cell_in model MethodDef row 1))
-
--- the byte at an offset is in a body, which has at least this number of bytes
-abbrev pub contains : ℕ → ℕ → Body → Bool
-contains least offset of = nat_le of.start offset && nat_lt (offset - of.start) (max of.size least)
-
-abbrev pub kept : ℕ → ℕ → Option Body → List Body
-kept least offset None = []
-kept least offset (Some of) = if contains least offset of then of ∷ [] else []
-
--- those of the rows from one on and before another
-unfoldable pub bodies_from : Image → Metadata → ℕ → ℕ → ℕ → List Body
-bodies_from image model offset first past = flat_map (λ row. kept 0 offset (body_of image model row)) (range_with_len first (past - first))
-
--- the bodies that contain the byte at an offset of the file, in the order of their methods
-abbrev pub bodies_at : Image → Metadata → ℕ → List Body
-bodies_at image model offset = bodies_from image model offset 1 (count_in model MethodDef + 1)

@@ -1,22 +1,57 @@
--- The data of fields in a file (ECMA-335 II.22.18).
-use Rattle.std.specs.Prelude.{ℕ, ◌+◌, nat_le, if◌then◌else◌, List, Option, None, Some, length, option_and_then}
-use Rattle.std.specs.List.{flat_map}
+-- The data of fields in a file, and its size (ECMA-335 II.22.8, II.22.18 and II.23.1.16).
+use Rattle.std.specs.Prelude.{ℕ, ◌+◌, nat_le, if◌then◌else◌, List, [], ◌∷◌, Option, None, Some, length, option_and_then}
+use Rattle.table_schema.specs.declared.table.TableId.{TableId}
+use Rattle.table_schema.specs.declared.table.TableId.TheVariants.{ClassLayout, Field, FieldRVA, TypeDef}
+use Rattle.sig_items.specs.declared.item.Item.{Item}
+use Rattle.sig_items.specs.declared.item.Item.TheVariants as item
 use Rattle.pe.specs.Image.{Image}
 use Rattle.pe.specs.Offset.{offset_at}
-use Rattle.cli_contents.specs.Bodies.{kept}
+use Rattle.metadata.specs.Metadata.{Metadata, cell_in, count_in}
+use Rattle.navigation.specs.Linked.{first_linked}
+use Rattle.navigation.specs.declared.links.Link.TheVariants as link_of
+use Rattle.attribute_constructors.specs.Signatures.{items_in}
+use Rattle.cli_values.specs.Constants.{size_of}
+use Rattle.cli_declarations.specs.Parts.{number_of, token_at}
 use Rattle.cli_contents.specs.declared.bodies.Body.{Body}
-use Rattle.cli_contents.specs.declared.field_data.FieldData.{FieldData}
+
+-- ClassSize in a row of ClassLayout (II.22.8); 0 if there is no row
+abbrev pub layout_size : Metadata → Option ℕ → ℕ
+layout_size model None = 0
+layout_size model (Some row) = number_of (cell_in model ClassLayout row 1)
+
+-- that of a type of this file
+abbrev pub class_size : Metadata → TableId → ℕ → ℕ
+class_size model TypeDef row =
+    if nat_le row (count_in model TypeDef) then layout_size model (first_linked model link_of.TypeLayouts (token_at TypeDef row)) else 0
+class_size model _ row = 0
+
+-- the type of a field (II.23.2.4), if it has no modifiers and is one item: no array, no pointer and no generic instance
+abbrev pub field_type : List Item → Option Item
+field_type (item.Field ∷ of ∷ []) = Some of
+field_type _ = None
+
+-- the size of a value (II.23.1.16), 0 if it depends on the machine, or if the value is elsewhere
+abbrev pub type_size : Metadata → Option Item → ℕ
+type_size model (Some (item.Simple of)) = size_of of
+type_size model (Some (item.Value of)) = class_size model of.table of.row
+type_size model _ = 0
+
+-- the number of bytes of a field by its type; 0 if it is not known
+abbrev pub data_size : Metadata → ℕ → ℕ
+data_size model field = type_size model (field_type (items_in (cell_in model Field field 2)))
 
 -- the data of a field that begins at an offset of a file, if the file has its first byte
-abbrev pub data_from : Image → FieldData → ℕ → Option Body
-data_from image stored start =
-    if nat_le (start + 1) (length image.bytes) then Some (record { row = stored.row; start = start; size = stored.size }) else None
+abbrev pub data_from : Image → ℕ → ℕ → ℕ → Option Body
+data_from image field size start = if nat_le (start + 1) (length image.bytes) then Some (record { row = field; start = start; size = size }) else None
 
 -- the data at the address of a field, if its first byte is in the file
-abbrev pub data_in : Image → FieldData → Option Body
-data_in image stored = option_and_then (data_from image stored) (offset_at image stored.rva 1)
+abbrev pub data_in : Image → ℕ → ℕ → ℕ → Option Body
+data_in image field rva size = option_and_then (data_from image field size) (offset_at image rva 1)
 
--- the data of these fields that contains the byte at an offset of the file, in their order; of data of a size that is not known,
--- only the first byte is known
-abbrev pub data_at : Image → List FieldData → ℕ → List Body
-data_at image fields offset = flat_map (λ stored. kept 1 offset (data_in image stored)) fields
+-- the data of a field by its first row of FieldRVA, if there is one
+abbrev pub data_by : Image → Metadata → ℕ → Option ℕ → Option Body
+data_by image model field None = None
+data_by image model field (Some row) = data_in image field (number_of (cell_in model FieldRVA row 0)) (data_size model field)
+
+abbrev pub data_of : Image → Metadata → ℕ → Option Body
+data_of image model field = data_by image model field (first_linked model link_of.FieldData (token_at Field field))

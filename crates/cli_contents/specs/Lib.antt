@@ -1,4 +1,4 @@
 pub mod Bodies
 pub mod FieldData
-pub mod Kept
+pub mod Contents
 pub mod Lines

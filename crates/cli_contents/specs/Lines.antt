@@ -1,8 +1,7 @@
 -- The lines of what the metadata of a file names in the file: bodies of methods, and resources.
-use Rattle.std.specs.Prelude.{◌≡◌, ℕ, nat_le, if◌then◌else◌, List, [], ◌∷◌, codes, length, map, take}
+use Rattle.std.specs.Prelude.{◌≡◌, ℕ, nat_le, if◌then◌else◌, List, [], ◌∷◌, ◌++◌, codes, length, map, take}
 use Rattle.cli_header.specs.declared.header.CliHeader.{CliHeader}
-use Rattle.table_schema.specs.declared.table.TableId.{TableId}
-use Rattle.table_schema.specs.declared.table.TableId.TheVariants.{Field, ManifestResource, MethodDef}
+use Rattle.table_schema.specs.declared.table.TableId.TheVariants.{ManifestResource}
 use Rattle.table_schema.specs.declared.token.Token.{Token}
 use Rattle.pe.specs.Headers.{section_count}
 use Rattle.pe.specs.Image.{Image}
@@ -12,10 +11,10 @@ use Rattle.resources.specs.Resources.{HasByte, IsFirstWithByte}
 use Rattle.cli_lines.specs.Lines.{Part, field, number, plain, text, token, word}
 use Rattle.cli_lines.specs.declared.names.Name.TheVariants as name
 use Rattle.cli_declarations.specs.Parts.{text_of, token_at}
-use Rattle.cli_contents.specs.Bodies.{bodies_at}
-use Rattle.cli_contents.specs.FieldData.{data_at}
+use Rattle.cli_contents.specs.Contents.{contents_at, name_in, table_of, word_for}
 use Rattle.cli_contents.specs.declared.bodies.Body.{Body}
-use Rattle.cli_contents.specs.declared.field_data.FieldData.{FieldData}
+use Rattle.cli_contents.specs.declared.lines.Kind.{Kind}
+use Rattle.cli_contents.specs.declared.lines.Kind.TheVariants.{Field, Method}
 
 -- something with this name: where it is in the file, its size, what it is, and its token
 unfoldable pub content_line : ℕ → ℕ → List ℕ → Token → List ℕ → List Part
@@ -24,33 +23,26 @@ content_line start size structure of named =
     ∷ field name.Structure (plain structure) ∷ word (codes " ") ∷ field name.Token (token of)
     ∷ word (codes " ") ∷ field name.Name (text named) ∷ []
 
--- something in a row of a table, whose name is in this cell
-abbrev pub row_line : TableId → ℕ → List ℕ → Metadata → Body → List Part
-row_line table name structure model of = content_line of.start of.size structure (token_at table of.row) (text_of (cell_in model table of.row name))
+-- what a row refers to, with the name of the row
+abbrev pub row_line : Kind → Metadata → Body → List Part
+row_line kind model of = content_line of.start of.size (word_for kind) (token_at (table_of kind) of.row) (text_of (cell_in model (table_of kind) of.row (name_in kind)))
 
 -- the number of methods that are printed, and that of fields
-abbrev pub method_limit : ℕ
-method_limit = 10
+abbrev pub content_limit : ℕ
+content_limit = 10
 
 -- the largest number of sections that Windows' loader takes, by Microsoft's PE format
 abbrev pub section_limit : ℕ
 section_limit = 96
 
--- the lines of the first of these bodies, and none of a file with more sections
-abbrev pub first_lines : Image → (Body → List Part) → List Body → List (List Part)
-first_lines image line found = if nat_le (section_count image.bytes) section_limit then map line (take method_limit found) else []
+-- the lines of the first rows whose bodies or data contain the byte at an offset of a file
+abbrev pub first_lines : Kind → Image → Metadata → ℕ → List (List Part)
+first_lines kind image model offset = map (row_line kind model) (take content_limit (contents_at kind image model offset))
 
--- ---- methods (II.22.26, II.25.4)
-
--- the lines of the first methods whose bodies contain the byte at an offset of a file
-abbrev pub method_lines : Image → Metadata → ℕ → List (List Part)
-method_lines image model offset = first_lines image (row_line MethodDef 3 (codes "method") model) (bodies_at image model offset)
-
--- ---- fields with data (II.22.18)
-
--- the lines of the first of these fields whose data contains the byte at an offset of a file
-abbrev pub field_lines : Image → Metadata → List FieldData → ℕ → List (List Part)
-field_lines image model fields offset = first_lines image (row_line Field 1 (codes "field") model) (data_at image fields offset)
+-- those of methods (II.22.26, II.25.4) and of fields with data (II.22.18), and none of a file with more sections
+abbrev pub content_lines : Image → Metadata → ℕ → List (List Part)
+content_lines image model offset =
+    if nat_le (section_count image.bytes) section_limit then first_lines Method image model offset ++ first_lines Field image model offset else []
 
 -- ---- resources (II.22.24)
 

@@ -1,17 +1,15 @@
 //! The bodies of methods in a file.
-ghost use Rattle.std.specs.Prelude.{◌≡◌, ◌≤◌, ◌++◌, ◌^◌, ℕ, All, IfOk, IfSome, OnOk, length};
+ghost use Rattle.std.specs.Prelude.{◌≡◌, ◌≤◌, ◌^◌, IfSome, length};
 ghost use Rattle.metadata.specs.Metadata.{Metadata};
 ghost use Rattle.metadata.specs.Model.{IsModel};
 ghost use Rattle.opening.specs.Views.{row_count};
 ghost use Rattle.table_schema.specs.declared.table.TableId.TheVariants.{MethodDef};
-ghost use Rattle.cli_contents.specs.Bodies.{bodies_at, body_at, body_from, body_of, contains, kept};
-ghost use Rattle.cli_contents.specs.Kept.{AreRows};
+ghost use Rattle.cli_contents.specs.Bodies.{body_at, body_from, body_of};
 
 use cli_declarations::number;
 use file_ranges::body_end;
 use opening::{TableId, View};
 use pe::Pe;
-use std::alloc::{AllocError, Global};
 
 /// The cells of a method: its address, an RVA, and its ImplFlags (II.22.26).
 const RVA: usize = 0;
@@ -22,22 +20,14 @@ const IMPL_FLAGS: usize = 1;
 const CODE_TYPES: u32 = 4;
 
 /// The body of a method in a file (II.25.4), or the data of a field (II.22.18).
-#[derive(Clone, Copy, PartialEq, Eq)]
-pub struct Body {
+#[derive(Clone, Copy)]
+pub(crate) struct Body {
     /// The row of the method or of the field, from 1.
     pub row: u32,
     /// The file offset of its first byte.
     pub start: usize,
     /// Its number of bytes: that of a body with its header and its data sections, and of data 0 if it is not known.
     pub size: usize,
-}
-
-/// Whether a body contains the byte at an offset. It has at least `least` bytes.
-fn contains(of: Body, least: usize, offset: u64) -> bool
-    ensures { result ≡ contains least offset of }
-{
-    let start = of.start as u64;
-    start <= offset && offset - start < of.size.max(least) as u64
 }
 
 /// The body of a method that begins at an offset of a file.
@@ -68,7 +58,7 @@ fn body_at(pe: &Pe<'_>, row: u32, rva: u32, flags: u32) -> Option<Body>
 
 /// The body of a method, if it has code of CIL in the file.
 #[tactic(auto, unfolding(table_schema::specs::CellColumns::cell_columns))]
-pub fn body_of(pe: &Pe<'_>, view: &View<'_>, row: u32) -> Option<Body>
+pub(crate) fn body_of(pe: &Pe<'_>, view: &View<'_>, row: u32) -> Option<Body>
     requires small { length pe.now.bytes ≤ 2 ^ 30 }
     requires first { 1 ≤ row }
     requires last { row ≤ row_count view.now MethodDef }
@@ -78,47 +68,4 @@ pub fn body_of(pe: &Pe<'_>, view: &View<'_>, row: u32) -> Option<Body>
     let rva = number(view, TableId::MethodDef, row, RVA);
     let flags = number(view, TableId::MethodDef, row, IMPL_FLAGS);
     body_at(pe, row, rva, flags)
-}
-
-/// Appends a body, if there is one and it contains the byte at an offset. It has at least `least` bytes.
-pub(crate) fn keep(
-    of: Option<Body>,
-    least: usize,
-    offset: u64,
-    found: &mut Vec<Body>,
-) -> Result<(), AllocError>
-    ensures found { OnOk result (found.new.items ≡ found.old.items ++ kept least offset of) }
-    ensures rows { (row count : ℕ) → 1 ≤ row → row ≤ count → IfSome of (λ of. of.row ≡ row) → AreRows count found.old.items → OnOk result (AreRows count found.new.items) }
-{
-    let Some(body) = of else {
-        return Ok(());
-    };
-    if !contains(body, least, offset) {
-        return Ok(());
-    }
-    Ok(found.push(body)?)
-}
-
-/// The bodies that contain the byte at an offset of a file, in the order of their methods. The time is linear in the number
-/// of methods for each section, and the memory in that of the bodies.
-///
-/// # Errors
-///
-/// Only if out of memory.
-pub fn bodies_at(
-    alloc: Global,
-    pe: &Pe<'_>,
-    view: &View<'_>,
-    offset: u64,
-) -> Result<Vec<Body>, AllocError>
-    requires { length pe.now.bytes ≤ 2 ^ 30 }
-    ensures bodies { IfOk result (λ found. (model : Metadata) → IsModel view.now model → found.items ≡ bodies_at pe.now model offset) }
-    ensures rows { IfOk result (λ found. All (λ body. (1 ≤ body.row) × (body.row ≤ row_count view.now MethodDef)) found.items) }
-{
-    let mut found = Vec::new(alloc);
-    let count = view.count(TableId::MethodDef);
-    for row in 1..count + 1 {
-        keep(body_of(pe, view, row), 0, offset, &mut found)?;
-    }
-    Ok(found)
 }

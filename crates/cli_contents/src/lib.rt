@@ -2,13 +2,12 @@
 //! it, and the resource whose content contains it. These are lines of `clim where` (ECMA-335 II.22.18, II.22.24, II.22.26,
 //! II.25.4).
 //!
-//! [`body_of`] finds the body of a method, [`print_methods`] prints a line for each method whose body contains a byte,
-//! [`print_fields`] one for each field whose data does, and [`print_resource`] the line of a resource. The time is linear in the
-//! number of resources, and in that of methods and fields for each section; of a file with more than 96 sections no methods
-//! and no fields are printed.
+//! [`print_contents`] prints a line for each method whose body contains a byte, and for each field whose data does, and
+//! [`print_resource`] the line of a resource. The time is linear in the number of resources, and in that of methods and fields
+//! for each section; of a file with more than 96 sections no methods and no fields are printed.
 //!
 //! ```text
-//! print_methods(rt.alloc(), &file, &view, 0x2d4, &mut out);
+//! print_contents(rt.alloc(), &file, &view, 0x2d4, &mut out);
 //! // 596 18 method 06000001 Main
 //! print_resource(&file, &view, 0x940, &mut out);
 //! // 2364 7 resource 28000001 notes.txt
@@ -20,7 +19,5 @@ mod field_data;
 mod lines;
 mod resource_line;
 
-pub use bodies::{Body, bodies_at, body_of};
-pub use field_data::FieldData;
-pub use lines::{print_fields, print_methods};
+pub use lines::print_contents;
 pub use resource_line::print_resource;

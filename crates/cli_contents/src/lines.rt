@@ -1,23 +1,24 @@
 //! Prints the lines of methods, and of fields with data.
-ghost use Rattle.std.specs.Prelude.{◌≡◌, ◌<◌, ◌≤◌, ◌∷◌, ◌^◌, [], All, IfSome, MatchOption, false, length, map, nat_le, take, true};
+ghost use Rattle.std.specs.Prelude.{◌≡◌, ◌-◌, ◌<◌, ◌≤◌, ◌∷◌, ◌^◌, [], IfSome, MatchOption, false, length, map, nat_le, take, true};
+ghost use Rattle.std.specs.Option.{option_to_list};
 ghost use Rattle.metadata.specs.Metadata.{Metadata};
 ghost use Rattle.metadata.specs.Model.{IsModel};
 ghost use Rattle.opening.specs.Views.{row_count};
 ghost use Rattle.pe.specs.Headers.{section_count};
 ghost use Rattle.pe.specs.Image.{Image, IsImage};
 ghost use Rattle.table_schema.specs.CellColumns.{cell_count};
-ghost use Rattle.table_schema.specs.declared.table.TableId.TheVariants as table;
 ghost use Rattle.cli_lines.specs.Printed.{Prints};
-ghost use Rattle.cli_contents.specs.Kept.{AreRows};
-ghost use Rattle.cli_contents.specs.Lines.{content_line, field_lines, method_limit, method_lines, row_line, section_limit};
+ghost use Rattle.cli_contents.specs.Contents.{contains, content_of, content_with, contents_at, name_in, table_of, word_for};
+ghost use Rattle.cli_contents.specs.Lines.{content_line, content_lines, content_limit, row_line, section_limit};
 
-use crate::bodies::{Body, bodies_at};
-use crate::field_data::{FieldData, data_at};
+use crate::bodies::{Body, body_of};
+use crate::field_data::data_of;
 use cli_declarations::text;
 use cli_lines::Part::{Field, Word};
 use cli_lines::Value::{self, Number, Plain, Text};
 use cli_lines::{Name, Printer};
 use file_ranges::Headers;
+use navigation::Neighbours;
 use opening::{TableId, Token, View};
 use pe::{Pe, read_pe};
 use std::alloc::Global;
@@ -29,11 +30,71 @@ const LIMIT: usize = 10;
 /// The largest number of sections of a file whose methods are printed: that of Windows' loader, by Microsoft's PE format.
 const SECTION_LIMIT: usize = 96;
 
-/// The cell of a method's name (II.22.26).
-const METHOD_NAME: usize = 3;
+/// How many bytes are known of data of a size that is not known.
+const KNOWN: usize = 1;
 
-/// The cell of a field's name (II.22.15).
-const FIELD_NAME: usize = 1;
+/// What the metadata of a file refers to in the file.
+#[derive(Clone, Copy)]
+pub(crate) enum Kind {
+    /// The body of a method (II.25.4).
+    Method,
+    /// The data of a field (II.22.18).
+    Field,
+}
+
+/// The table, the cell with the name of a row (II.22.15, II.22.26), and the word for what is in the file.
+#[tactic(auto, unfolding(table_schema::specs::CellColumns::cell_columns))]
+fn shape(kind: Kind) -> (TableId, usize, &'static str)
+    ensures table { result.0 ≡ table_of kind }
+    ensures name { result.1 ≡ name_in kind }
+    ensures within { result.1 < cell_count result.0 }
+    ensures word { result.2.now ≡ word_for kind }
+{
+    match kind {
+        Kind::Method => (TableId::MethodDef, 3, "method"),
+        Kind::Field => (TableId::Field, 1, "field"),
+    }
+}
+
+/// Whether the byte at an offset is in a body or data.
+fn contains(of: Body, offset: u64) -> bool
+    ensures { result ≡ contains offset of }
+{
+    let start = of.start as u64;
+    start <= offset && offset - start < of.size.max(KNOWN) as u64
+}
+
+/// What a row refers to in the file.
+fn content_of(kind: Kind, pe: &Pe<'_>, source: &Neighbours<'_, '_>, row: u32) -> Option<Body>
+    requires small { length pe.now.bytes ≤ 2 ^ 30 }
+    requires first { 1 ≤ row }
+    requires last { row ≤ row_count source.now.view.now (table_of kind) }
+    ensures content { (model : Metadata) → IsModel source.now.view.now model → result ≡ content_of kind pe.now model row }
+    ensures row { IfSome result (λ of. of.row ≡ row) }
+{
+    match kind {
+        Kind::Method => body_of(pe, source.view, row),
+        Kind::Field => data_of(pe, source, row),
+    }
+}
+
+/// What a row refers to in the file, if it contains the byte at an offset.
+fn content_with(
+    kind: Kind,
+    pe: &Pe<'_>,
+    source: &Neighbours<'_, '_>,
+    row: u32,
+    offset: u64,
+) -> Option<Body>
+    requires small { length pe.now.bytes ≤ 2 ^ 30 }
+    requires first { 1 ≤ row }
+    requires last { row ≤ row_count source.now.view.now (table_of kind) }
+    ensures content { (model : Metadata) → IsModel source.now.view.now model → result ≡ content_with kind pe.now model offset row }
+    ensures row { IfSome result (λ of. of.row ≡ row) }
+{
+    let of = content_of(kind, pe, source, row)?;
+    if contains(of, offset) { Some(of) } else { None }
+}
 
 /// Prints the line of something in the file: its file offset and its size in bytes, what it is, its token and its name.
 #[tactic(auto, unfolding(crate::specs::Lines::content_line))]
@@ -60,36 +121,52 @@ pub(crate) fn print_content<'a, W: Write>(
     ]);
 }
 
-/// Prints the lines of the first of these bodies or data. Each is in a row of a table, with its name in this cell.
-fn print_first<'a, W: Write>(
+/// Prints the line of what a row refers to, if there is something and lines are left. Returns how many are left after it.
+fn print_row<W: Write>(
     view: &View<'_>,
-    table: TableId,
-    cell: usize,
-    structure: &'a str,
-    found: &[Body],
+    kind: Kind,
+    of: Option<Body>,
+    left: usize,
+    out: &mut Printer<'_, W>,
+) -> usize
+    requires { IfSome of (λ body. (1 ≤ body.row) × (body.row ≤ row_count view.now (table_of kind))) }
+    ensures lines { (model : Metadata) → IsModel view.now model → Prints out.old out.new (map (row_line kind model) (take left (option_to_list of))) }
+    ensures left { result ≡ left - length (option_to_list of) }
+{
+    cli_lines::laws::lines_follow::<W>();
+    let Some(body) = of else {
+        return left;
+    };
+    if left == 0 {
+        return 0;
+    }
+    let (table, cell, word) = shape(kind);
+    let row = body.row;
+    let name = text(view, table, row, cell);
+    let (start, size) = (body.start as u64, body.size as u64);
+    print_content(start, size, word, Token { table, row }, name, out);
+    left - 1
+}
+
+/// Prints the lines of the first rows whose bodies or data contain the byte at an offset of a file.
+fn print_first<W: Write>(
+    pe: &Pe<'_>,
+    source: &Neighbours<'_, '_>,
+    kind: Kind,
+    offset: u64,
     out: &mut Printer<'_, W>,
 )
-    requires cell { cell < cell_count table }
-    requires rows { AreRows (row_count view.now table) found.now }
-    ensures { (model : Metadata) → IsModel view.now model
-        → Prints out.old out.new (map (row_line table cell structure.now model) (take method_limit found.now)) }
+    requires { length pe.now.bytes ≤ 2 ^ 30 }
+    ensures { (model : Metadata) → IsModel source.now.view.now model
+        → Prints out.old out.new (map (row_line kind model) (take content_limit (contents_at kind pe.now model offset))) }
 {
-    cli_lines::laws::reports_are_completed::<W>();
-    let (first, _) = found.split_at(LIMIT.min(found.len()));
-    for body in first {
-        let token = Token {
-            table,
-            row: body.row,
-        };
-        let name = text(view, table, body.row, cell);
-        print_content(
-            body.start as u64,
-            body.size as u64,
-            structure,
-            token,
-            name,
-            out,
-        );
+    cli_lines::laws::lines_follow::<W>();
+    let (table, _, _) = shape(kind);
+    let mut left = LIMIT;
+    let count = source.view.count(table);
+    for row in 1..count + 1 {
+        let of = content_with(kind, pe, source, row, offset);
+        left = print_row(source.view, kind, of, left, out);
     }
 }
 
@@ -110,58 +187,32 @@ fn image_in(file: &[u8]) -> Option<Pe<'_>>
 }
 
 /// Prints a line for each of the first ten methods whose bodies contain the byte at an offset of a file: the file offset and
-/// the size of the body, with its header and its data sections (II.25.4), and the token and the name of the method. They are
-/// in the order of their rows.
+/// the size of the body, with its header and its data sections (II.25.4), and the token and the name of the method. Then it
+/// prints one for each of the first ten fields whose data contains the byte (II.22.18). If the size of data is not known, it
+/// is 0, and the line is printed at the first byte of the data alone. Both are in the order of their rows.
 ///
-/// Of a file with more than 96 sections it prints nothing: the section of each method is looked for among all of them.
+/// Of a file with more than 96 sections it prints nothing: the section of each row is looked for among all of them.
 ///
-/// In JSON it is `{"offset":596,"size":18,"structure":"method","token":"06000001","name":"Main"}`.
-#[tactic(auto, unfolding(table_schema::specs::CellColumns::cell_columns))]
-pub fn print_methods<W: Write>(
+/// In JSON a line is `{"offset":596,"size":18,"structure":"method","token":"06000001","name":"Main"}`, or has the structure
+/// `field`.
+pub fn print_contents<W: Write>(
     alloc: Global,
     file: &[u8],
     view: &View<'_>,
     offset: u64,
     out: &mut Printer<'_, W>,
 )
-    ensures { (image : Image) → IsImage file.now image → (model : Metadata) → IsModel view.now model → Prints out.old out.new (method_lines image model offset) }
+    ensures { (image : Image) → IsImage file.now image → (model : Metadata) → IsModel view.now model → Prints out.old out.new (content_lines image model offset) }
 {
     cli_lines::laws::lines_follow::<W>();
     let Some(pe) = image_in(file) else {
         return;
     };
-    match bodies_at(alloc, &pe, view, offset) {
-        Ok(found) => print_first(view, TableId::MethodDef, METHOD_NAME, "method", &found, out),
-        Err(_) => out.fail(),
-    }
-}
-
-/// Prints a line for each of the first ten of these fields whose data contains the byte at an offset of a file (II.22.18): the
-/// file offset and the size of the data, and the token and the name of the field. If the size is not known, it is 0, and the
-/// line is printed at the first byte of the data alone.
-///
-/// Of a file with more than 96 sections it prints nothing, as [`print_methods`].
-///
-/// In JSON it is `{"offset":4096,"size":16,"structure":"field","token":"04000003","name":"data"}`.
-#[tactic(auto, unfolding(table_schema::specs::CellColumns::cell_columns))]
-pub fn print_fields<W: Write>(
-    alloc: Global,
-    file: &[u8],
-    view: &View<'_>,
-    fields: &[FieldData],
-    offset: u64,
-    out: &mut Printer<'_, W>,
-)
-    requires { All (λ stored. (1 ≤ stored.row) × (stored.row ≤ row_count view.now table.Field)) fields.now }
-    ensures { (image : Image) → IsImage file.now image → (model : Metadata) → IsModel view.now model
-        → Prints out.old out.new (field_lines image model fields.now offset) }
-{
-    cli_lines::laws::lines_follow::<W>();
-    let Some(pe) = image_in(file) else {
-        return;
-    };
-    match data_at(alloc, &pe, fields, offset) {
-        Ok(found) => print_first(view, TableId::Field, FIELD_NAME, "field", &found, out),
+    match Neighbours::new(alloc, view) {
+        Ok(source) => {
+            print_first(&pe, &source, Kind::Method, offset, out);
+            print_first(&pe, &source, Kind::Field, offset, out);
+        }
         Err(_) => out.fail(),
     }
 }

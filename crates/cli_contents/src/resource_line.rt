@@ -1,5 +1,5 @@
 //! Prints the line of a resource.
-ghost use Rattle.std.specs.Prelude.{◌≡◌, ◌≤◌, ◌∷◌, ℕ, List, []};
+ghost use Rattle.std.specs.Prelude.{◌≤◌, ◌∷◌, ℕ, List, []};
 ghost use Rattle.cli_header.specs.declared.header.CliHeader.{CliHeader as Header};
 ghost use Rattle.cli_lines.specs.Lines.{Part as ThePart};
 ghost use Rattle.cli_lines.specs.Printed.{Prints};

@@ -10,7 +10,7 @@ use Rattle.declaring_types.specs.Declaring.{IsDeclaring}
 use Rattle.cli_lines.specs.Printed.{Printed}
 use Rattle.cli_outline.specs.declared.chosen.Choice.{Choice}
 use Rattle.cli_outline.specs.declared.chosen.Choice.TheVariants as choice
-use Rattle.cli_outline.proofs.PrintedLemmas.{rows_are, rows_more, rows_nothing}
+use Rattle.cli_outline.proofs.PrintedLemmas.{rows_more, rows_nothing}
 
 chosen_append : (Yes No : Token → Type 0) (xs ys a b : List Token) → AreChosenBy Yes No xs a → AreChosenBy Yes No ys b → AreChosenBy Yes No (xs ++ ys) (a ++ b)
 chosen_append Yes No [] ys a b are more = subst (λ (found : List Token). AreChosenBy Yes No ys (found ++ b)) (sym are) more
@@ -41,11 +41,11 @@ all_chosen model [] found are = are
 all_chosen model (row ∷ rows) found are = ⊎_elim (λ it. it.1 ∙ ap (λ later. row ∷ later) (all_chosen model rows are.0 are.1)) (λ it. absurd it.0) are.2
 
 pub all_printed : {W : Type 0} {options : OutlineOptions} {model : Metadata} {a b : Printed W} {rows : List Token} → PrintsChosen options model choice.All a b rows → PrintsRows options model a b rows
-all_printed {W} {options} {model} {a} {b} {rows} printed = rows_are (all_chosen model rows printed.0 printed.1) printed.2
+all_printed {W} {options} {model} {a} {b} {rows} printed = rw (all_chosen model rows printed.0 printed.1) at printed.2
 
 -- ---- the test of a declaring type
 
-pub table_decides : (a b : TableId) → Decides (tables.eq-value.it a b) (a ≡ b)
+table_decides : (a b : TableId) → Decides (tables.eq-value.it a b) (a ≡ b)
 table_decides a b = (λ h. same_true table.the_type tt a b h, λ e. true_same table.the_type a b e)
 
 token_decides : (a b : Token) → Decides (tokens.eq-value.it a b) (a ≡ b)

@@ -1,5 +1,5 @@
 -- Rows in the order of their keys.
-use Rattle.cli_outline.proofs.Prelude.{◌≡◌, ◌∙◌, ℕ, zero, suc, ◌+◌, ◌-◌, ◌<◌, ◌≤◌, List, [], ◌∷◌, ◌++◌, All, ⊎_elim, None, Some, ap, arith, get_or, length, length-append, map, refl, subst, sym, slice_get, unwrap_or, range_with_len, IsPermutation, cases_lt, ext_get_or, get_or-append-add, get_or_append_left, get_or_default, All-permutation, length_permutation, TableId, Metadata, IsModel, Keyed, TableOrder, OutlineOptions, AreGrouped, AreInOrder, IsOrdered, IsRowIn, grouping_of, keyed_cmp, row_at, rows_of}
+use Rattle.cli_outline.proofs.Prelude.{◌≡◌, ◌∙◌, ℕ, zero, suc, ◌+◌, ◌-◌, ◌<◌, ◌≤◌, List, [], ◌∷◌, ◌++◌, All, ⊎_elim, Some, ap, arith, get_or, length, length-append, map, refl, subst, sym, slice_get, unwrap_or, range_with_len, IsPermutation, cases_lt, ext_get_or, get_or-append-add, get_or_append_left, get_or_default, All-permutation, length_permutation, TableId, Metadata, IsModel, Keyed, TableOrder, OutlineOptions, AreGrouped, AreInOrder, IsOrdered, IsRowIn, grouping_of, keyed_cmp, row_at, rows_of}
 use Rattle.std.specs.Cmp.{IsTotalOrder}
 use Rattle.std.proofs.lemmas.Cmp.{nat_cmp_total, nat_list_cmp_total, on_total, then_total}
 use Rattle.std.proofs.lemmas.List.{map-id}

@@ -1,5 +1,5 @@
 -- What several proofs of this crate name of std, of the crates below, and of its own definitions.
-pub use Rattle.std.proofs.Common.{◌≡◌, ◌∙◌, ℕ, Bool, true, false, List, [], ◌∷◌, ◌++◌, Option, None, Some, ⊎_elim, ap, inl, inr, refl, subst, sym, ◌<◌, ◌≤◌, get_or, length, ltb, lt-ltb, arith, zero, suc, ◌+◌, ◌-◌, All, length-append, map, cond, append_assoc, append-nil, drop, ◌≢◌, ◌&&◌, codes, take, not, subst₂, rules}
+pub use Rattle.std.proofs.Common.{◌≡◌, ◌∙◌, ℕ, Bool, true, false, List, [], ◌∷◌, ◌++◌, Option, None, Some, ⊎_elim, ap, inl, inr, refl, subst, sym, ◌<◌, ◌≤◌, get_or, length, ltb, lt-ltb, arith, zero, suc, ◌+◌, ◌-◌, All, length-append, map, cond, append_assoc, append-nil, drop, ◌≢◌, ◌&&◌, codes, take, not, rules}
 pub use Rattle.std.proofs.lemmas.Bool.{cases_lt, le-leb, le-ltb, lt-leb}
 pub use Rattle.std.proofs.lemmas.Bool.Decides.{Decides-like, Decides-and, Decides-eqb, nat_tests, Decides-at}
 pub use Rattle.std.proofs.lemmas.Result.{IfOk-weaker}
@@ -21,7 +21,6 @@ pub use Rattle.metadata.specs.Model.{IsModel}
 pub use Rattle.metadata_source.specs.MemberLists.{cell_of, member_of, owner_of}
 pub use Rattle.metadata_source.specs.declared.member_lists.MemberList.{MemberList}
 unfoldable pub use Rattle.opening.specs.Views.{row_count}
-pub use Rattle.navigation.specs.Nesting.{type_token}
 pub use Rattle.cli_escapes.specs.AsIs.{as_is}
 pub use Rattle.cli_lines.specs.Lines.{Part, style}
 unfoldable pub use Rattle.cli_lines.specs.Lines.{line_from, styled_text}
@@ -30,12 +29,12 @@ pub use Rattle.cli_lines.specs.declared.parts.Form.TheVariants.{Text, Letters, J
 pub use Rattle.cli_declarations.specs.Parts.{token_at}
 pub use Rattle.cli_paths.specs.Refs.{BelongsTo, HasSome, IsMeantRef, IsWantedRef, Wants}
 pub use Rattle.cli_paths.specs.declared.refs.Wanted.{Wanted}
-pub use Rattle.cli_outline.specs.Chosen.{AreChosenBy, IsChosen, IsDescribing, PrintsChosen, AreDescribing, AreTypeRows}
+pub use Rattle.cli_outline.specs.Chosen.{AreChosenBy, IsChosen, IsDescribing, PrintsChosen, AreTypeRows}
 pub use Rattle.cli_outline.specs.Declarations.{ends_word, json_line, text_line, unindented, has_directive}
 unfoldable pub use Rattle.cli_outline.specs.Declarations.{declaration_line}
-pub use Rattle.cli_outline.specs.Orders.{AreInOrder, IsOrder, IsOrdered, keyed_cmp, row_at, rows_of, row_in, IsKeyIf, IsKey, IsKeyed, key_limit, row_of_keyed, IsRowIn, AreGrouped, grouping_of}
+pub use Rattle.cli_outline.specs.Orders.{AreInOrder, IsOrdered, keyed_cmp, row_at, rows_of, row_in, IsKeyed, key_limit, row_of_keyed, IsRowIn, AreGrouped, grouping_of}
 pub use Rattle.cli_outline.specs.Outline.{run_start, all_rows, row_by, accessed_by, map_link, mapped_rows, class_by, refs_rows}
-unfoldable pub use Rattle.cli_outline.specs.Outline.{each_from, accessed_rows, type_rows, outline_rows, class_rows}
+unfoldable pub use Rattle.cli_outline.specs.Outline.{each_from, type_rows, outline_rows, class_rows}
 pub use Rattle.cli_outline.specs.Printed.{PrintsRows, AreLines, IsLine}
 pub use Rattle.cli_outline.specs.Shown.{is_shown, shown_rows, has_line}
 pub use Rattle.cli_outline.specs.declared.orders.Keyed.{Keyed}

@@ -1,5 +1,5 @@
 //! Prints the rows of some tables: all, or those that are chosen.
-ghost use Rattle.std.specs.Prelude.{◌≡◌, ◌≤◌, ◌+◌, ◌∷◌, []};
+ghost use Rattle.std.specs.Prelude.{◌≤◌, ◌+◌};
 ghost use Rattle.std.specs.List.{flat_map};
 ghost use Rattle.metadata.specs.Metadata.{Metadata};
 ghost use Rattle.metadata.specs.Model.{IsModel};
@@ -42,24 +42,6 @@ fn is_chosen(source: &Source<'_, '_>, choice: Choice<'_, '_>, token: Token) -> b
     }
 }
 
-/// Prints the line of a row if it is chosen.
-fn print_if_chosen<W: Write>(
-    source: &Source<'_, '_>,
-    choice: Choice<'_, '_>,
-    token: Token,
-    declared: &mut Declared,
-    out: &mut Printer<'_, W>,
-)
-    requires first { 1 ≤ token.row }
-    requires last { token.row ≤ row_count source.now.neighbours.view.now token.table }
-    ensures { (model : Metadata) → IsModel source.now.neighbours.view.now model → PrintsChosen source.now.options model choice.entry out.old out.new (token ∷ []) }
-{
-    cli_lines::laws::lines_follow::<W>();
-    if is_chosen(source, choice, token) {
-        print_row(source, token, declared, out);
-    }
-}
-
 /// Prints the lines of the rows at some positions of a table that are chosen.
 pub(crate) fn print_positions<W: Write>(
     source: &Source<'_, '_>,
@@ -78,7 +60,11 @@ pub(crate) fn print_positions<W: Write>(
     let (first, past) = (positions.start, positions.end);
     for position in first..past {
         let row = source.row_at(table, position);
-        print_if_chosen(source, choice, Token { table, row }, declared, out);
+        let token = Token { table, row };
+        if !is_chosen(source, choice, token) {
+            continue;
+        }
+        print_row(source, token, declared, out);
     }
 }
 

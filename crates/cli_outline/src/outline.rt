@@ -291,7 +291,7 @@ pub fn print_outline_of<W: Write>(
         Ok(None) => return Outcome::NoSuchType,
         Err(_) => return Outcome::OutOfMemory,
     };
-    if token.table == TableId::TypeDef {
+    if let TableId::TypeDef = token.table {
         print_type(alloc, view, token.row, options, out);
         return Outcome::Printed;
     }

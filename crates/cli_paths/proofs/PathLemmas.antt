@@ -37,19 +37,10 @@ last_dot (x ∷ a) (y ∷ b) n m p q e =
     (λ i. head i ∷ same.0 i, same.1)
 
 pub one_name : (part a b n m : List ℕ) → IsFullName part a n → IsFullName part b m → (a ≡ b) × (n ≡ m)
-one_name part a b n m p q =
-    elim p.1 [
-      | inl x ↦
-          elim q.1 [
-            | inl y ↦ last_dot a b n m p.0 q.0 (sym x ∙ y)
-            | inr y ↦ absurd (no_dot_in a n (subst (λ (t : List ℕ). All (λ byte. byte ≢ 46) t) (sym y.1 ∙ x) q.0))
-          ]
-      | inr x ↦
-          elim q.1 [
-            | inl y ↦ absurd (no_dot_in b m (subst (λ (t : List ℕ). All (λ byte. byte ≢ 46) t) (sym x.1 ∙ y) p.0))
-            | inr y ↦ (x.0 ∙ sym y.0, sym x.1 ∙ y.1)
-          ]
-    ]
+one_name part a b n m (p, inl x) (q, inl y) = last_dot a b n m p q (sym x ∙ y)
+one_name part a b n m (p, inl x) (q, inr y) = absurd (no_dot_in a n (rw (← y.1, x) at q))
+one_name part a b n m (p, inr x) (q, inl y) = absurd (no_dot_in b m (rw (← x.1, y) at p))
+one_name part a b n m (p, inr x) (q, inr y) = (x.0 ∙ sym y.0, sym x.1 ∙ y.1)
 
 module _ (model : Metadata) (table : TableId) (part a n : List ℕ) (row : ℕ) (full : IsFullName part a n) where
   pub of_namespace : cell_in model table row 1 ≡ Text n → (test : Bool) → IsTrue test ↔ (cell_in model table row 2 ≡ Text a) → IsTrue test ↔ HasOwnName model table part row

@@ -1,5 +1,5 @@
 -- What several proofs of this crate name of std, of the crates below, and of its own definitions.
-pub use Rattle.std.proofs.Common.{◌≡◌, ◌≢◌, ◌∙◌, ◌↔◌, ◌==◌, All, Bool, true, false, cond, IsTrue, eqb, ℕ, zero, suc, ◌<◌, List, [], ◌∷◌, ◌++◌, Option, None, Some, IfSome, IfNone, get_or, length, map, refl, ap, sym, subst, arith, ◌+◌, ◌≤◌, inl, inr, ◌-◌, add-one}
+pub use Rattle.std.proofs.Common.{◌≡◌, ◌≢◌, ◌∙◌, ◌↔◌, ◌==◌, All, Bool, true, false, cond, IsTrue, eqb, ℕ, zero, suc, ◌<◌, List, [], ◌∷◌, ◌++◌, Option, None, Some, IfSome, get_or, length, map, refl, ap, sym, subst, arith, ◌+◌, ◌≤◌, inl, inr, ◌-◌, add-one}
 pub use Rattle.std.proofs.lemmas.Bool.Decides.{Decides-at, Decides-eqb, Decides-like}
 pub use Rattle.std.proofs.lemmas.List.{get_or-map, length-map}
 pub use Rattle.std.specs.Borrow.{Bor}

@@ -1,31 +1,21 @@
 -- What several proofs of this crate name of std, of the crates below, and of its own definitions and lemmas.
 pub use Rattle.std.proofs.Common.{Option, None, Some, ◌⊎◌, ◌≡◌, ◌≢◌, ◌∙◌, ℕ, ◌+◌, ◌-◌, ◌*◌, ◌<◌, ◌≤◌, true, List, ◌∷◌, ◌++◌, length, take, drop, slice_index, inl, inr, refl, sym, ap, subst, arith, length-append, length-drop, zero, suc, [], append_assoc, append-nil, ◌%◌, replicate, rules, get_or, map, eqb-true, vec_len}
 pub use Rattle.std.proofs.lemmas.List.{take-append-drop, get_or-take, get_or-drop, drop_more, drop_at, get_or_append_left, get_or_at, length-take-le, flat_map_more, take_all, take_more, drop_all, map-id, nil_from_length}
-pub use Rattle.std.proofs.lemmas.List.Elements.{All-from_get_or, All-append, All-from_recursion}
+pub use Rattle.std.proofs.lemmas.List.Elements.{All-from_get_or}
 pub use Rattle.std.specs.List.{flat_map, range_with_len}
-pub use Rattle.std.specs.Option.{option_to_list}
-pub use Rattle.std.specs.Prelude.{All, IfSome}
-pub use Rattle.cli_header.specs.declared.header.CliHeader.{CliHeader}
 pub use Rattle.heap_entries.specs.Entries.{IsCounted, IsEnded, IsGuidEntry, IsBlob, IsUserString, UserText}
 pub use Rattle.heap_entries.specs.Padding.{zero_padded}
-pub use Rattle.table_schema.specs.declared.table.TableId.TheVariants.{Field, Module}
-pub use Rattle.metadata.specs.Metadata.{Metadata, cell_in}
-pub use Rattle.metadata.specs.Model.{IsModel}
-unfoldable pub use Rattle.opening.specs.Views.{row_count}
+pub use Rattle.table_schema.specs.declared.table.TableId.TheVariants.{Module}
 pub use Rattle.cli_lines.specs.Printed.{Prints, Printed, Completes}
-pub use Rattle.cli_contents.specs.Lines.{field_lines}
-pub use Rattle.cli_contents.specs.declared.field_data.FieldData.{FieldData}
-pub use Rattle.cli_regions.proofs.SearchLemmas.{joins_none, joins_more, adds_none, and_then, said_as}
+pub use Rattle.cli_regions.proofs.SearchLemmas.{joins_none, joins_more, adds_none, and_then}
 pub use Rattle.cli_regions.specs.Kept.{Adds, Finds, Joins, Searched, seen, words_text}
 pub use Rattle.cli_regions.specs.Regions.{has_byte, Region, entry}
 pub use Rattle.cli_regions.specs.declared.searches.Structure.{Structure}
 pub use Rattle.cli_where.specs.Entries.{Heap, AreEntriesAt, AreFirst, IsEntryOf, table_cells, heap_named, cell_of, row_cells}
 unfoldable pub use Rattle.cli_where.specs.Entries.{all_cells}
-pub use Rattle.cli_where.specs.FieldData.{data_of, field_type}
-unfoldable pub use Rattle.cli_where.specs.FieldData.{all_fields}
 pub use Rattle.cli_where.specs.Kept.{IsRun, IsRunAt, IsRunOf, FindsFirst, NameFirst, heaps_of, heap_of}
 pub use Rattle.cli_where.specs.Lines.{structure_line, entry_lines}
 unfoldable pub use Rattle.cli_where.specs.Lines.{line_with}
 pub use Rattle.cli_where.specs.UserStrings.{AreEntries, IsEntry, Entry, user_region, AreUsersAt}
-pub use Rattle.cli_where.specs.Where.{AreInImage, AreInRoot, AreInStream}
+pub use Rattle.cli_where.specs.Where.{AreInStream}
 pub use Rattle.cli_where.proofs.FindLemmas.{adds_find, broken_layer, finds_joined, finds_none, finds_then, first_of, whole_layer}

@@ -4,5 +4,4 @@ pub mod Cells
 pub mod Kept
 pub mod Where
 pub mod Lines
-pub mod FieldData
 pub mod Located

@@ -11,11 +11,10 @@ use Rattle.cli_input.specs.Checked.{IsModelOf, IsWhole, rules_of}
 use Rattle.cli_input.specs.declared.opened.Input.{Input}
 use Rattle.cli_input.specs.declared.opened.Input.TheVariants.{BareRoot, File}
 use Rattle.cli_header.specs.declared.header.CliHeader.{CliHeader}
-use Rattle.cli_contents.specs.Lines.{AreOfResources, field_lines, method_lines}
+use Rattle.cli_contents.specs.Lines.{AreOfResources, content_lines}
 use Rattle.cli_lines.specs.Lines.{Part, word}
 use Rattle.cli_lines.specs.Printed.{Printed, Prints}
 use Rattle.cli_regions.specs.Regions.{Region}
-use Rattle.cli_where.specs.FieldData.{all_fields}
 use Rattle.cli_where.specs.Lines.{entry_lines, structure_line}
 use Rattle.cli_where.specs.UserStrings.{AreEntries, Entry}
 use Rattle.cli_found.specs.Values.{value_lines}
@@ -42,7 +41,7 @@ HasContents [] input bytes offset P = P []
 HasContents (of ∷ later) File bytes offset P =
     (header : CliHeader) (model : Metadata) → (file : IsModelOfFile bytes header model)
     → (resources : List (List Part)) × AreOfResources bytes header model offset resources
-    × P (value_lines model bytes (of ∷ later) ++ (method_lines file.image model offset ++ (field_lines file.image model (all_fields model) offset ++ resources)))
+    × P (value_lines model bytes (of ∷ later) ++ (content_lines file.image model offset ++ resources))
 HasContents (of ∷ later) BareRoot bytes offset P = (model : Metadata) → IsModelOf BareRoot bytes model → P (value_lines model bytes (of ∷ later))
 
 -- The bytes have a model, and the lines of the structures that contain the byte at an offset were printed, and those of contents;

@@ -18,7 +18,6 @@
 
 mod cells;
 mod entries;
-mod field_data;
 mod named_entries;
 mod report;
 mod strings;

@@ -7,10 +7,9 @@ ghost use Rattle.metadata.specs.Metadata.{Metadata};
 ghost use Rattle.metadata.specs.Model.{IsModel};
 ghost use Rattle.cli_where.specs.Located.{HasContents, IsLocated, where_lines};
 
-use crate::field_data::print_data;
 use crate::structure_lines::print_structures;
 use crate::walk::{Reach, structures_at};
-use cli_contents::{print_methods, print_resource};
+use cli_contents::{print_contents, print_resource};
 use cli_faults::Failure;
 use cli_found::print_value;
 use cli_input::{Input, open};
@@ -114,8 +113,7 @@ fn print_found<W: Write>(
     match input {
         Input::BareRoot => {}
         Input::File => {
-            print_methods(alloc, bytes, view, offset, out);
-            print_data(alloc, bytes, view, offset, out);
+            print_contents(alloc, bytes, view, offset, out);
             print_resource(bytes, view, offset, out);
         }
     }

@@ -5,7 +5,8 @@ ghost use Rattle.cli_where.specs.Lines.{entry_lines, string_lines};
 ghost use Rattle.cli_where.specs.Located.{AreListed};
 ghost use Rattle.cli_where.specs.UserStrings.{AreEntries, Entry};
 
-use crate::user_strings::{USER_STRINGS, padded_copy, user_entry};
+use crate::user_strings::{USER_STRINGS, user_entry};
+use cli_cells::padded_copy;
 use cli_faults::Failure;
 use cli_input::{Input, open};
 use cli_lines::Part::{Field, Units, Word};

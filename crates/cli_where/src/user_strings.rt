@@ -1,14 +1,14 @@
 //! The user strings of a heap, one after another (II.24.2.4).
-ghost use Rattle.std.specs.Prelude.{◌≡◌, ◌≤◌, ◌<◌, ◌^◌, [], IfNone, IfOk, IfSome, List, map};
-ghost use Rattle.heap_entries.specs.Padding.{zero_padded};
+ghost use Rattle.std.specs.Prelude.{◌≤◌, ◌<◌, ◌^◌, [], IfNone, IfSome, List, map};
 ghost use Rattle.cli_regions.specs.Kept.{Adds, Finds};
 ghost use Rattle.cli_where.specs.Kept.{IsLow, heap_of};
 ghost use Rattle.cli_where.specs.UserStrings.{AreEntries, AreUsersAt, Entry, IsEntry, user_region};
 
 use crate::entries::{Heap, blob_size};
+use cli_cells::padded_copy;
 use cli_regions::{Search, Structure, What};
 use heap_entries::{UserString, user_string};
-use std::alloc::{AllocError, Global};
+use std::alloc::Global;
 
 /// The token of offset 0 of the user strings (III.1.9).
 pub(crate) const USER_STRINGS: u32 = 0x7000_0000;
@@ -44,17 +44,6 @@ pub(crate) fn user_entry(heap: &[u8], index: usize) -> Option<UserEntry<'_>>
         }),
         Err(_) => None,
     }
-}
-
-/// A copy of a heap, with zeros up to a multiple of four bytes. A model has such a heap.
-pub(crate) fn padded_copy(alloc: Global, bytes: &[u8]) -> Result<Vec<u8>, AllocError>
-    ensures { IfOk result (λ copy. copy.items ≡ zero_padded bytes.now) }
-{
-    let padding = (4 - bytes.len() % 4) % 4;
-    let mut copy = Vec::with_capacity(alloc, bytes.len() + padding)?;
-    copy.extend_from_slice(bytes)?;
-    copy.resize(bytes.len() + padding, 0)?;
-    Ok(copy)
 }
 
 /// Keeps the user string that contains the byte, of those that follow one another from offset 1 of the heap on, as

@@ -1,6 +1,5 @@
-use Rattle.cli_outline.proofs.Prelude.{Bool, true, false, refl, subst, sym, ◌↔◌, IsTrue, Decides-at, Token, Metadata, Wanted, BelongsTo, IsWantedRef, IsChosen}
+use Rattle.cli_outline.proofs.Prelude.{Bool, true, false, refl, ◌↔◌, IsTrue, Decides-at, Token, Metadata, Wanted, BelongsTo, IsWantedRef, IsChosen}
 use Rattle.std.specs.Borrow.{Bor}
-use Rattle.cli_outline.specs.declared.chosen.Choice.{Choice}
 use Rattle.cli_outline.specs.declared.chosen.Choice.TheVariants as choice
 use Rattle.cli_outline.proofs.ChosenLemmas.{describes, some_decides}
 use Rattle.cli_outline.proofs.chosen.is_chosen.Goals as goal
@@ -12,10 +11,7 @@ belonging model wanted of false belongs = λ is. let yes = belongs.1 is in absur
 pub returns-in-Describing : goal.returns-in-Describing
 returns-in-Describing c = λ model is.
     let found = c.declaring_type.result in
-    subst (λ (ch : Choice). IsChosen model ch c.eq.result c.args.token) (sym c.in-Describing.is)
-    (describes model c.in-Describing.class c.args.token found c.eq.result (Decides-at _ _ c.eq.ensures (some_decides found c.in-Describing.class)) (c.declaring_type.ensures model is))
+    rw c.in-Describing.is (describes model c.in-Describing.class c.args.token found c.eq.result (Decides-at _ _ c.eq.ensures (some_decides found c.in-Describing.class)) (c.declaring_type.ensures model is))
 
 pub returns-in-Belonging : goal.returns-in-Belonging
-returns-in-Belonging c = λ model is.
-    subst (λ (ch : Choice). IsChosen model ch c.belongs.result c.args.token) (sym c.in-Belonging.is)
-    (belonging model c.in-Belonging.wanted c.args.token c.belongs.result (c.belongs.ensures model is))
+returns-in-Belonging c = λ model is. rw c.in-Belonging.is (belonging model c.in-Belonging.wanted c.args.token c.belongs.result (c.belongs.ensures model is))

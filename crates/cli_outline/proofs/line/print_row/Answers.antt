@@ -1,4 +1,4 @@
-use Rattle.cli_outline.proofs.Prelude.{◌≡◌, ◌∙◌, ◌∷◌, [], Bool, List, ℕ, inl, inr, refl, subst, sym, string_bytes, Text, Letters, JsonLines, Prints, declaration_line, has_directive, text_line}
+use Rattle.cli_outline.proofs.Prelude.{◌≡◌, ◌∙◌, ◌∷◌, [], inl, inr, refl, sym, string_bytes, Text, Letters, JsonLines, has_directive}
 use Rattle.cli_outline.proofs.DeclarationLemmas.{text_printed}
 use Rattle.cli_outline.proofs.PrintedLemmas.{row_hidden, row_printed, rows_failed}
 use Rattle.cli_outline.proofs.line.print_row.Goals as goal
@@ -19,7 +19,7 @@ returns-in-Text g c = λ model is.
       | inl form ↦ let f : Text ≡ JsonLines = sym form ∙ c.form.ensures ∙ json in absurd cc
       | inr form ↦ let f : Letters ≡ JsonLines = sym form ∙ c.form.ensures ∙ json in absurd cc
     ])
-    (subst (λ (t : List ℕ). Prints c.args.out.now c.print_text.new.out (text_line options.tokens of t ∷ [])) c.deref.ensures c.print_text.ensures))
+    (rw c.deref.ensures at c.print_text.ensures))
 
 pub returns-in-JsonLines : goal.returns-in-JsonLines
 returns-in-JsonLines g c = λ model is.
@@ -28,8 +28,7 @@ returns-in-JsonLines g c = λ model is.
     let class = c.type_of_member-class.result in
     let text = string_bytes c.declare_row.new.declared.text in
     row_printed options model c.args.out.now c.print_named.new.out of _ (sym (c.shows.ensures model is) ∙ c.if-not-shows.false) (text, c.in-Ok.ensures model is, class, c.type_of_member-class.ensures.member model is, refl)
-    (subst (λ (directive : Bool). Prints c.args.out.now c.print_named.new.out (declaration_line options.tokens of class directive text ∷ []))
-    (c.has_directive-has_directive.ensures model is) (c.print_named.ensures (sym c.form.ensures ∙ c.in-JsonLines.is) options.tokens))
+    (rw (c.has_directive-has_directive.ensures model is) at (c.print_named.ensures (sym c.form.ensures ∙ c.in-JsonLines.is) options.tokens))
 
 pub returns-in-Err : goal.returns-in-Err
 returns-in-Err g c = λ model is. rows_failed c.args.source.now.options model c.args.out.now c.fail.new.self (c.args.token ∷ []) (c.fail.ensures.lines []) c.fail.ensures.stopped

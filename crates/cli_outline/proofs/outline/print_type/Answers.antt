@@ -1,22 +1,15 @@
-use Rattle.cli_outline.proofs.Prelude.{List, [], ℕ, inl, inr, refl, sym, subst, flat_map, TableId, IsModel, type_token, AreDescribing, row_in, all_rows}
-use Rattle.cli_outline.proofs.PrintedLemmas.{options_are, rows_more}
+use Rattle.cli_outline.proofs.Prelude.{[], inl, inr, refl, IsModel, row_in}
+use Rattle.cli_outline.proofs.PrintedLemmas.{rows_more}
 use Rattle.cli_outline.proofs.outline.print_type.Goals as goal
 
 pub returns-in-Ok : goal.returns-in-Ok
 returns-in-Ok g c = λ model is.
-    let of = subst (λ (root : List ℕ). IsModel root model) (sym c.in-Ok.ensures.view) is in
-    let found = c.print_chosen.ensures model of in
-    let order = row_in c.in-Ok.source.orders.items in
+    let of : IsModel c.in-Ok.source.neighbours.view.now model = rw c.in-Ok.ensures.view is in
+    let found = rw c.last_tables.ensures at (c.print_chosen.ensures model of) in
     inl (
       _,
-      (
-        order,
-        c.in-Ok.ensures.order model is,
-        found.0,
-        subst (λ (tables : List TableId). AreDescribing model (type_token c.args.row) (flat_map (all_rows order model) tables) found.0) c.last_tables.ensures found.1,
-        refl,
-      ),
-      options_are c.in-Ok.ensures.options (rows_more _ model c.lines_follow.ensures.more _ _ _ _ _ (c.print_class.ensures.lines model of) found.2),
+      (row_in c.in-Ok.source.orders.items, c.in-Ok.ensures.order model is, found.0, found.1, refl),
+      rw c.in-Ok.ensures.options at (rows_more c.in-Ok.source.options model c.lines_follow.ensures.more _ _ _ _ _ (c.print_class.ensures.lines model of) found.2),
     )
 
 pub returns-in-Err : goal.returns-in-Err

@@ -17,5 +17,5 @@ returns-in-File g c =
       resource.0,
       resource.1,
       more _ _ _ _ _ (rw some.2 at c.print_structures.ensures) (more _ _ _ _ _ (rw some.2 at (c.print_value.ensures model is))
-          (more _ _ _ _ _ (c.print_methods.ensures file.image file.is_image model is) (more _ _ _ _ _ (c.print_data.ensures file.image file.is_image model is) resource.2))),
+          (more _ _ _ _ _ (c.print_contents.ensures file.image file.is_image model is) resource.2)),
     ))

@@ -1,8 +1,7 @@
-use Rattle.cli_where.proofs.Prelude.{◌∙◌, ap, subst, sym, Finds, said_as, AreInImage, adds_find, broken_layer, finds_then, whole_layer}
+use Rattle.cli_where.proofs.Prelude.{◌∙◌, ap, sym, adds_find, broken_layer, finds_then, whole_layer}
 use Rattle.pe.specs.Headers.{image_of}
 use Rattle.pe.specs.Image.{Image}
 use Rattle.pe.specs.Rules.{rules_of_image}
-use Rattle.cli_regions.specs.PeHeaders.{image_regions}
 use Rattle.cli_where.proofs.walk.find_in_file.Goals as goal
 
 pub returns-in_default : goal.returns-in_default
@@ -17,5 +16,4 @@ find_pe-requires-clause-image c = c.in-Ok.ensures.all.1 ∙ ap (λ (image : Imag
 pub returns : goal.returns
 returns c =
     let said = c.in-Ok.ensures.all.1 in
-    whole_layer (rules_of_image c.args.file.now) c.in-Ok.ensures.all.0 (finds_then (adds_find (said_as c.find_pe.ensures (ap (λ (image : Image). image_regions image.bytes) said)))
-    (subst (λ (image : Image). Finds (AreInImage c.args.reach image) c.find_pe.new.found c.find_in_image.new.found) said c.find_in_image.ensures))
+    whole_layer (rules_of_image c.args.file.now) c.in-Ok.ensures.all.0 (finds_then (adds_find (rw said at c.find_pe.ensures)) (rw said at c.find_in_image.ensures))

@@ -1,4 +1,4 @@
-use Rattle.cli_where.proofs.Prelude.{◌≡◌, ◌<◌, List, [], ◌∷◌, None, arith, length, refl, Field, cell_in, field_type}
+use Rattle.cli_contents.proofs.Prelude.{◌≡◌, ◌<◌, List, [], ◌∷◌, None, arith, length, refl, Field, cell_in, field_type}
 use Rattle.table_schema.specs.CellColumns.{cell_columns}
 use Rattle.table_schema.specs.declared.column.SigKind.TheVariants as column
 use Rattle.sig_items.specs.ItemsOf.{items_of}
@@ -7,7 +7,7 @@ use Rattle.sig_items.specs.declared.item.Item.TheVariants as item
 use Rattle.metadata.specs.Valid.{kind_at}
 use Rattle.attribute_constructors.proofs.LengthLemmas.{short_encoding}
 use Rattle.attribute_constructors.proofs.TypeLemmas.{no_signature}
-use Rattle.cli_where.proofs.field_data.type_of_field.Goals as goal
+use Rattle.cli_contents.proofs.field_data.type_of_field.Goals as goal
 
 -- more items than the two of a field
 many_items : (items : List Item) → 2 < length items → None ≡ field_type items
