@@ -11,9 +11,6 @@ returns-in-Ok g c =
     let are = rw (sym c.deref.ensures.value) at c.in-Ok.ensures in
     rw c.in-Explained.is (refl, refl, (c.args.fault, c.requires, (map seen c.deref.result.now, are, (said.0, said.1, (said.2, (λ live. tt))))))
 
-pub returns-in-Err : goal.returns-in-Err
-returns-in-Err g c = rw c.in-Explained.is (tt, refl)
-
 pub returns-in_default : goal.returns-in_default
 returns-in_default g c =
     let lines = fault_out (Hands c.args.out.now c.print_line.new.out) c.args.verdict c.args.job.now.request.now.input c.args.job.now.bytes.now (label c.args.job.now.request.now.naming c.args.job.now.name.now) c.args.fault

@@ -5,9 +5,6 @@ use Rattle.cli_runs.proofs.print_report.print_report.Goals as goal
 pub returns-in-Ok : goal.returns-in-Ok
 returns-in-Ok g c = rw c.in-Root.is (c.in-Ok.ensures.sound, (λ header root are. (c.in-Ok.ensures.printed header root are, (λ live. tt))))
 
-pub returns-in-Err : goal.returns-in-Err
-returns-in-Err g c = rw c.in-Root.is (c.in-Err.ensures.first_error, c.in-Err.ensures.untouched)
-
 pub returns-in-Ok-print_root_until_fault : goal.returns-in-Ok-print_root_until_fault
 returns-in-Ok-print_root_until_fault g c =
     let done = c.in-Ok-print_root_until_fault.ensures in
@@ -22,9 +19,6 @@ returns-in-Err-print_root_until_fault g c =
 pub returns-in-Ok-print_info : goal.returns-in-Ok-print_info
 returns-in-Ok-print_info g c =
     rw c.in-Info.is (c.in-Ok-print_info.ensures.whole, (λ header model are. (c.in-Ok-print_info.ensures.printed header model are, (λ live. tt))))
-
-pub returns-in-Err-print_info : goal.returns-in-Err-print_info
-returns-in-Err-print_info g c = rw c.in-Info.is (c.in-Err-print_info.ensures.first_error, c.in-Err-print_info.ensures.untouched)
 
 pub returns-in-Ok-print_resources : goal.returns-in-Ok-print_resources
 returns-in-Ok-print_resources g c =
