@@ -1,6 +1,5 @@
 pub mod ColumnsNamed
 pub mod Prelude
-pub mod TokensRead
-pub mod RulesNamed
+pub mod NamedEach
 pub mod EmbedRuns
 pub mod OneCheck

@@ -14,4 +14,4 @@ pub use Rattle.comparison.specs.Ignored.{AreOthersSame}
 unfoldable pub use Rattle.comparison.specs.Ignored.{is_ignored, no_columns}
 pub use Rattle.cli_lines.specs.Names.{column_name}
 pub use Rattle.cli.specs.Columns.{NamesColumn, NamesIgnored, NamesSome}
-pub use Rattle.cli.specs.Tasks.{AreRules, NamesFault, AreTokens}
+pub use Rattle.cli.specs.Tasks.{NameEach}

@@ -14,7 +14,8 @@ use Rattle.cli_lines.specs.Names.{column_name}
 -- cells, in any case
 abbrev pub NamesColumn : List ℕ → TableId → ℕ → Type 0
 NamesColumn word table cell_index =
-    (cell_index < cell_count table) × (str_to_ascii_lowercase word ≡ str_to_ascii_lowercase (table_name table ++ 46 ∷ column_name table cell_index))
+    (cell_index < cell_count table) × (first name : List ℕ) × (word ≡ first ++ 46 ∷ name)
+    × (str_to_ascii_lowercase first ≡ str_to_ascii_lowercase (table_name table)) × (str_to_ascii_lowercase name ≡ str_to_ascii_lowercase (column_name table cell_index))
 
 -- the argument names a column
 abbrev pub NamesSome : Bor (List ℕ) → Type 0

@@ -14,13 +14,14 @@ use cli_files::{STANDARD_INPUT, Stopped, out_of_memory, status};
 use cli_lines::Form;
 use cli_roots::{compare_files, embed_file, rewrite_file};
 use cli_runs::{Request, explain_rules, extract_file, run_files, run_listed};
+use cli_sending::finish;
 use packed::FaultCode;
 use std::alloc::Global;
-use std::io::{self, Write};
+use std::io::Write;
 use std::rt::Files;
 
 /// What a terminal reads.
-#[derive(Clone, Copy, PartialEq, Eq)]
+#[derive(Clone, Copy)]
 pub enum Terminal {
     /// Printable ASCII.
     Ascii,
@@ -122,7 +123,7 @@ fn report_usage_error<W: Write, E: Write>(
         let _ = err.write_all(text.as_bytes());
         return 2;
     }
-    match printed(print_text(text.as_str(), out)) {
+    match printed(finish(text.as_bytes(), out)) {
         Ok(()) => 0,
         Err(failure) => status(alloc, Err(Stopped::from(failure)), err),
     }
@@ -214,10 +215,4 @@ fn explain<W: Write, E: Write>(
         Ok(()) => 0,
         Err(failure) => status(alloc, Err(Stopped::from(failure)), err),
     }
-}
-
-/// Prints the help or the version.
-fn print_text<W: Write>(text: &str, out: &mut W) -> io::Result<()> {
-    out.write_all(text.as_bytes())?;
-    out.flush()
 }

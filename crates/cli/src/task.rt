@@ -1,6 +1,7 @@
 //! What the arguments ask the program to do.
-ghost use Rattle.std.specs.Prelude.{◌≡◌, IfErr, IfOk};
-ghost use Rattle.cli.specs.Tasks.{AreTokens, IsCompareTask, IsExplainTask, IsFirstNoToken, IsOutline, IsRefs, IsShow, IsTableNamed, IsTask, IsTokens, IsWhere, NamesNoTable, NamesSubject, directories_of, embed_task, extract_task, form_of, input_of, is_plural, list_task, named_task, names_of, naming_of, options_of, output_of, paths_of, report_task, request_of, resources_task, rewrite_task, root_of, separator_of, strong_name_of, verdict_of};
+ghost use Rattle.std.specs.Prelude.{◌≡◌, if◌then◌else◌};
+ghost use Rattle.cli.specs.Tasks.{IsCompareTask, IsExplainTask, IsOutline, IsRefs, IsShow, IsTask, IsTokens, IsWhere, NamesSubject, embed_task, form_of, input_of, names_of, naming_of, options_of, paths_of, report_task, request_of, resources_task, show_of, task_on};
+ghost use Rattle.cli.specs.declared.task.Task.TheVariants as tasks;
 
 use crate::columns::columns_of;
 use cli_arguments::{Ask, Subcommand};
@@ -45,9 +46,16 @@ pub(crate) fn task_of<'a>(alloc: Global, ask: &'a Ask<'a>) -> Result<Task<'a>, F
     ensures { IsTask ask.now.subcommand ask.now result }
 {
     match ask.subcommand {
-        Subcommand::Root => on_files(ask, Ok(root_of(ask.until_fault))),
+        Subcommand::Root => {
+            let report = choose(ask.until_fault, Report::RootUntilFault, Report::Root);
+            on_files(ask, Ok(report))
+        }
         Subcommand::Info => on_files(ask, Ok(Report::Info)),
-        Subcommand::Check => on_files(ask, Ok(Report::Check(verdict_of(ask.quiet, ask.locates)))),
+        Subcommand::Check => {
+            let loud = choose(ask.locates, Verdict::Explained, Verdict::Line);
+            let verdict = choose(ask.quiet, Verdict::Quiet, loud);
+            on_files(ask, Ok(Report::Check(verdict)))
+        }
         Subcommand::Show => on_files(ask, show_of(alloc, ask)),
         Subcommand::Types => on_files(ask, Ok(Report::Listing(Listing::Types))),
         Subcommand::Outline => on_files(ask, Ok(outline_of(ask.part, options_of(ask)))),
@@ -62,6 +70,13 @@ pub(crate) fn task_of<'a>(alloc: Global, ask: &'a Ask<'a>) -> Result<Task<'a>, F
         Subcommand::Compare => compare_of(alloc, ask),
         Subcommand::Explain => explain_of(alloc, ask.codes.as_slice()),
     }
+}
+
+/// The first of two values if the test holds, and else the second.
+fn choose<T: Drop>(test: bool, first: T, second: T) -> T
+    ensures { result ≡ (if test then first else second) }
+{
+    if test { first } else { second }
 }
 
 /// The form that the arguments ask for.
@@ -88,17 +103,6 @@ fn naming_of(is_quiet: bool, is_recursive: bool, files: &[&str]) -> Naming
     }
 }
 
-/// What becomes of directories, by whether the arguments have `-r`.
-fn directories_of(is_recursive: bool) -> Directories
-    ensures { result ≡ directories_of is_recursive }
-{
-    if is_recursive {
-        Directories::Walked
-    } else {
-        Directories::Refused
-    }
-}
-
 /// What is asked of each file.
 fn request_of<'a>(ask: &Ask<'_>, naming: Naming, report: Report<'a>) -> Request<'a>
     ensures { result ≡ request_of ask.now naming report.entry }
@@ -107,106 +111,51 @@ fn request_of<'a>(ask: &Ask<'_>, naming: Naming, report: Report<'a>) -> Request<
         report,
         form: form_of(ask.json),
         naming,
-        directories: directories_of(ask.recursive),
+        directories: choose(ask.recursive, Directories::Walked, Directories::Refused),
         input: input_of(ask.bare),
         budget: ask.budget,
     }
 }
 
-/// The task of a report on the files that the arguments name, or on those of a list.
+/// The task of a report on the files that the arguments name, or on those of a list, besides which no file may be named.
 fn on_files<'a>(
     ask: &'a Ask<'a>,
     report: Result<Report<'a>, Failure<'a>>,
 ) -> Result<Task<'a>, Failure<'a>>
     ensures { result ≡ report_task ask.now report.entry }
 {
-    match report {
-        Ok(report) => match ask.files_from {
-            Some(path) => on_list(ask, Some(path), report),
-            None if ask.null => on_list(ask, None, report),
-            None => on_named(ask, report),
-        },
-        Err(failure) => Err(failure),
+    let report = match report {
+        Ok(report) => report,
+        Err(failure) => return Err(failure),
+    };
+    let is_listed = ask.null | ask.files_from.is_some();
+    match (is_listed, ask.files.is_empty()) {
+        (false, true) => Err(Failure::Usage(UsageError::NoFile)),
+        (false, false) => {
+            let naming = naming_of(ask.quiet, ask.recursive, ask.files.as_slice());
+            Ok(Task::OnFiles(request_of(ask, naming, report)))
+        }
+        (true, true) => {
+            let separator = choose(ask.null, Separator::Nul, Separator::LineFeed);
+            let request = request_of(ask, Naming::Named, report);
+            Ok(Task::OnList(request, ask.files_from, separator))
+        }
+        (true, false) => Err(Failure::Usage(UsageError::FilesAndList)),
     }
 }
 
-/// The task of a report on the files that the arguments name.
-fn on_named<'a>(ask: &'a Ask<'a>, report: Report<'a>) -> Result<Task<'a>, Failure<'a>>
-    ensures { result ≡ named_task ask.now report.entry }
-{
-    let files = ask.files.as_slice();
-    if files.is_empty() {
-        Err(Failure::Usage(UsageError::NoFile))
-    } else {
-        let naming = naming_of(ask.quiet, ask.recursive, files);
-        Ok(Task::OnFiles(request_of(ask, naming, report)))
-    }
-}
-
-/// The task of a report on the files of a list. No file may be named besides.
-fn on_list<'a>(
-    ask: &'a Ask<'a>,
-    list: Option<&'a str>,
-    report: Report<'a>,
-) -> Result<Task<'a>, Failure<'a>>
-    ensures { result ≡ list_task list.entry ask.now report.entry }
-{
-    if ask.files.is_empty() {
-        let request = request_of(ask, Naming::Named, report);
-        Ok(Task::OnList(request, list, separator_of(ask.null)))
-    } else {
-        Err(Failure::Usage(UsageError::FilesAndList))
-    }
-}
-
-/// What follows each name in a list, by whether the arguments have `-0`.
-fn separator_of(is_null: bool) -> Separator
-    ensures { result ≡ separator_of is_null }
-{
-    if is_null {
-        Separator::Nul
-    } else {
-        Separator::LineFeed
-    }
-}
-
-/// The task of `resources`: to print where those of files are, or to write the content of one of a file.
+/// The task of `resources`: to print where those of files are, or to write the content of one of a file, which takes one file,
+/// and no other form.
 fn resources_of<'a>(ask: &'a Ask<'a>) -> Result<Task<'a>, Failure<'a>>
-    ensures { result ≡ resources_task ask.now }
+    ensures { result ≡ resources_task ask.now.extract ask.now.files.items ask.now }
 {
-    match ask.extract {
-        Some(name) => extract_of(ask, name),
-        None => on_files(ask, Ok(Report::Resources)),
-    }
-}
-
-/// The task that writes the content of the resource with this name, which takes one file, and no other form.
-fn extract_of<'a>(ask: &'a Ask<'a>, name: &'a str) -> Result<Task<'a>, Failure<'a>>
-    ensures { result ≡ extract_task ask.now name.entry }
-{
+    let Some(name) = ask.extract else {
+        return on_files(ask, Ok(Report::Resources));
+    };
+    let is_plural = ask.json | ask.null | ask.recursive | ask.files_from.is_some();
     match ask.files.as_slice() {
-        [file] if !is_plural(ask) => Ok(Task::Extract(file, name)),
+        [file] if !is_plural => Ok(Task::Extract(file, name)),
         _ => Err(Failure::Usage(UsageError::ExtractAlone)),
-    }
-}
-
-/// Whether the arguments ask for JSON, for a list of files or for directories.
-fn is_plural(ask: &Ask<'_>) -> bool
-    ensures { result ≡ is_plural ask.now }
-{
-    ask.json || ask.null || ask.recursive || ask.files_from.is_some()
-}
-
-/// What `check` prints.
-fn verdict_of(quiet: bool, locates: bool) -> Verdict
-    ensures { result ≡ verdict_of quiet locates }
-{
-    if quiet {
-        Verdict::Quiet
-    } else if locates {
-        Verdict::Explained
-    } else {
-        Verdict::Line
     }
 }
 
@@ -217,40 +166,28 @@ fn names_of(shown: bool) -> Names
     if shown { Names::Shown } else { Names::Hidden }
 }
 
-/// The report of `root`, by whether the arguments have `--until-fault`.
-fn root_of<'a>(until_fault: bool) -> Report<'a>
-    ensures { result ≡ root_of until_fault }
-{
-    if until_fault {
-        Report::RootUntilFault
-    } else {
-        Report::Root
-    }
-}
-
 /// The report of `show`: the table that the argument names, or all if there is no argument.
 fn show_of<'a>(alloc: Global, ask: &'a Ask<'a>) -> Result<Report<'a>, Failure<'a>>
-    ensures { IsShow ask.now result }
+    ensures { IsShow ask.now.part ask.now result }
 {
-    let names = names_of(ask.names);
-    match table_named(alloc, ask.part) {
-        Ok(table) if ask.until_fault => Ok(Report::ShowUntilFault(table, names)),
-        Ok(table) => Ok(Report::Listing(Listing::Show(table, names))),
-        Err(failure) => Err(failure),
+    let Some(word) = ask.part else {
+        return Ok(shown(ask, None));
+    };
+    match table_of(word) {
+        Some(table) => Ok(shown(ask, Some(table))),
+        None => Err(Failure::Usage(UsageError::NoTable(word, nearest_table(alloc, word)))),
     }
 }
 
-/// The table that the argument names; `None` if there is no argument.
-fn table_named<'a>(alloc: Global, part: Option<&'a str>) -> Result<Option<TableId>, Failure<'a>>
-    ensures named { IfOk result (IsTableNamed part.entry) }
-    ensures unknown { IfErr result (NamesNoTable part.entry) }
+/// The report of `show` on a table, or on all.
+fn shown<'a>(ask: &Ask<'_>, table: Option<TableId>) -> Report<'a>
+    ensures { result ≡ show_of ask.now table }
 {
-    let Some(word) = part else {
-        return Ok(None);
-    };
-    match table_of(word) {
-        Some(table) => Ok(Some(table)),
-        None => Err(Failure::Usage(UsageError::NoTable(word, nearest_table(alloc, word)))),
+    let names = names_of(ask.names);
+    if ask.until_fault {
+        Report::ShowUntilFault(table, names)
+    } else {
+        Report::Listing(Listing::Show(table, names))
     }
 }
 
@@ -258,21 +195,10 @@ fn table_named<'a>(alloc: Global, part: Option<&'a str>) -> Result<Option<TableI
 fn options_of(ask: &Ask<'_>) -> OutlineOptions
     ensures { result ≡ options_of ask.now.no_tokens ask.now.public ask.now.sorted }
 {
-    let tokens = if ask.no_tokens {
-        Tokens::Hidden
-    } else {
-        Tokens::Shown
-    };
-    let rows = if ask.public { Rows::Visible } else { Rows::All };
-    let sorting = if ask.sorted {
-        Sorting::ByName
-    } else {
-        Sorting::ByRow
-    };
     OutlineOptions {
-        tokens,
-        rows,
-        sorting,
+        tokens: choose(ask.no_tokens, Tokens::Hidden, Tokens::Shown),
+        rows: choose(ask.public, Rows::Visible, Rows::All),
+        sorting: choose(ask.sorted, Sorting::ByName, Sorting::ByRow),
         entry: None,
     }
 }
@@ -308,23 +234,12 @@ fn subject_named<'a>(word: &'a str) -> Subject<'a>
 }
 
 /// The report of `token`: what each of the tokens names.
-fn tokens_of<'a>(alloc: Global, words: &[&'a str]) -> Result<Report<'a>, Failure<'a>>
-    ensures { IsTokens words.now result }
-{
-    match numbers_of(alloc, words) {
-        Ok(numbers) => Ok(Report::Tokens(numbers)),
-        Err(failure) => Err(failure),
-    }
-}
-
-/// The numbers of tokens.
 ///
 /// # Errors
 ///
 /// The first argument that is no token; or out of memory.
-fn numbers_of<'a>(alloc: Global, words: &[&'a str]) -> Result<Vec<u32>, Failure<'a>>
-    ensures sound { IfOk result (λ numbers. AreTokens words.now numbers.items) }
-    ensures first_error { IfErr result (IsFirstNoToken words.now) }
+fn tokens_of<'a>(alloc: Global, words: &[&'a str]) -> Result<Report<'a>, Failure<'a>>
+    ensures { IsTokens words.now result }
 {
     let mut numbers = Vec::new(alloc);
     for word in words {
@@ -335,7 +250,7 @@ fn numbers_of<'a>(alloc: Global, words: &[&'a str]) -> Result<Vec<u32>, Failure<
             return Err(Failure::OutOfMemory);
         };
     }
-    Ok(numbers)
+    Ok(Report::Tokens(numbers))
 }
 
 /// The report of `where` for this argument.
@@ -367,7 +282,7 @@ fn paths_of<'a>(
 
 /// The task of `rewrite`.
 fn rewrite_of<'a>(file: Option<&'a str>, out: Option<&'a str>) -> Result<Task<'a>, Failure<'a>>
-    ensures { result ≡ rewrite_task file.entry out.entry }
+    ensures { result ≡ task_on tasks.Rewrite (paths_of file.entry out.entry) }
 {
     match paths_of(file, out) {
         Ok((file, out)) => Ok(Task::Rewrite(file, out)),
@@ -384,34 +299,12 @@ fn embed_of<'a>(ask: &'a Ask<'a>) -> Result<Task<'a>, Failure<'a>>
             let options = EmbedOptions {
                 path,
                 root: ask.root,
-                strong_name: strong_name_of(ask.unsigned),
+                strong_name: choose(ask.unsigned, StrongName::Clear, StrongName::Keep),
                 form: form_of(ask.json),
             };
             Ok(Task::Embed(file, options))
         }
         Err(failure) => Err(failure),
-    }
-}
-
-/// What becomes of the strong name, by whether the arguments have `--unsigned`.
-fn strong_name_of(unsigned: bool) -> StrongName
-    ensures { result ≡ strong_name_of unsigned }
-{
-    if unsigned {
-        StrongName::Clear
-    } else {
-        StrongName::Keep
-    }
-}
-
-/// What `compare` prints.
-fn output_of(quiet: bool, json: bool) -> Output
-    ensures { result ≡ output_of quiet json }
-{
-    if quiet {
-        Output::Quiet
-    } else {
-        Output::Lines(form_of(json))
     }
 }
 
@@ -426,7 +319,7 @@ fn compare_of<'a>(alloc: Global, ask: &'a Ask<'a>) -> Result<Task<'a>, Failure<'
         Ok(ignored) => {
             let options = CompareOptions {
                 input: input_of(ask.bare),
-                output: output_of(ask.quiet, ask.json),
+                output: choose(ask.quiet, Output::Quiet, Output::Lines(form_of(ask.json))),
                 ignored,
                 budget: ask.budget,
             };

@@ -22,29 +22,26 @@ pub(crate) fn usage_text(alloc: Global, words: &[&str]) -> Result<String, AllocE
     let escaped: Vec<&str> = escaped.iter().map(|word| word.as_str()).collect(alloc)?;
     match ask(alloc, &escaped) {
         Ok(_) => String::from_str(alloc, ACCEPTED),
-        Err(error) => {
-            if error.kind() == ErrorKind::OutOfMemory {
-                return Err(AllocError);
-            }
-            let nearest = match error.kind() {
-                ErrorKind::InvalidSubcommand => command_near(alloc, words),
-                _ => None,
-            };
-            if error.kind() == ErrorKind::MissingSubcommand || matches!(words, [_, "-h"]) {
-                return String::from_str(alloc, SHORT_HELP);
-            }
-            match nearest {
-                Some(name) => format!(in alloc; "{error}  hint: the nearest command is '{name}'\n"),
-                None => format!(in alloc; "{error}"),
-            }
-        }
+        Err(error) => text_of(alloc, &error, words),
     }
 }
 
-/// The subcommand that the arguments may have meant, the program name first.
-fn command_near(alloc: Global, words: &[&str]) -> Option<&'static str> {
-    let (_, words) = words.split_first()?;
-    nearest_command(alloc, words)
+/// The text for what `clap` returned instead of matches for these arguments.
+fn text_of(alloc: Global, error: &clap::Error, words: &[&str]) -> Result<String, AllocError> {
+    if error.kind() == ErrorKind::OutOfMemory {
+        return Err(AllocError);
+    }
+    if error.kind() == ErrorKind::MissingSubcommand || matches!(words, [_, "-h"]) {
+        return String::from_str(alloc, SHORT_HELP);
+    }
+    let nearest = match (error.kind(), words.split_first()) {
+        (ErrorKind::InvalidSubcommand, Some((_, words))) => nearest_command(alloc, words),
+        _ => None,
+    };
+    match nearest {
+        Some(name) => format!(in alloc; "{error}  hint: the nearest command is '{name}'\n"),
+        None => format!(in alloc; "{error}"),
+    }
 }
 
 /// The arguments, each escaped.

@@ -14,7 +14,7 @@ const ROOT_SIGNATURE: &[u8] = b"BSJB";
 const DOS_SIGNATURE: &[u8] = b"MZ";
 
 /// What the user may have meant. `Display` gives a line for standard error, without the line feed.
-#[derive(Clone, Copy, PartialEq, Eq)]
+#[derive(Clone, Copy)]
 pub enum Hint {
     /// The file looks like a metadata root, so `--bare` is missing.
     AddBare,

@@ -16,7 +16,7 @@ use std::{fmt, io};
 
 /// Why a run stopped early, and what the user may have meant. `Display` gives the lines for standard error: that of the
 /// stop, unless standard output says why it stopped or nobody reads it, then that of the file, then that of the hint.
-#[derive(Clone, Copy, PartialEq, Eq)]
+#[derive(Clone, Copy)]
 pub struct Stopped<'a> {
     /// Why it stopped.
     pub stop: Stop<'a>,

@@ -7,42 +7,31 @@ use std::alloc::Global;
 use std::fmt;
 use std::io::Write;
 
-/// The number of a table (II.22) and its row count.
-#[derive(Clone, Copy, PartialEq, Eq)]
-struct RowCount {
-    table: TableId,
-    rows: u32,
-}
-
 /// Why a row was not printed. `Display` gives the lines for standard error.
-#[derive(Clone, Copy, PartialEq, Eq)]
+#[derive(Clone, Copy)]
 struct MissingRow {
-    /// The table that does not have the row, if the token names a table.
-    table: Option<RowCount>,
+    /// The table that does not have the row, and its row count, if the token names a table.
+    table: Option<(TableId, u32)>,
 }
 
 impl fmt::Display for MissingRow {
     fn fmt<W: fmt::Write>(&self, f: &mut fmt::Formatter<W>) -> fmt::Result {
         write!(f, "{}\n", Stop::Failed(Failure::NoSuchRow))?;
         match &self.table {
-            Some(RowCount { table, rows: 1 }) => write!(f, "  hint: {} has 1 row\n", table.name()),
-            Some(RowCount { table, rows }) => write!(
-                f,
-                "  hint: {} has {rows} rows\n",
-                table.name()
-            ),
+            Some((table, 1)) => write!(f, "  hint: {} has 1 row\n", table.name()),
+            Some((table, rows)) => write!(f, "  hint: {} has {rows} rows\n", table.name()),
             None => Ok(()),
         }
     }
 }
 
-/// The table of the first token without a row. `None` if no table has its number, as of a user string (III.1.9).
-fn table_without_row(view: &View<'_>, numbers: &[u32]) -> Option<RowCount> {
+/// The table of the first token without a row, and its row count. `None` if no table has its number, as of a user string (III.1.9).
+fn table_without_row(view: &View<'_>, numbers: &[u32]) -> Option<(TableId, u32)> {
     for number in numbers {
         let Token { table, row } = Token::from_u32(*number)?;
         let rows = view.count(table);
         if row == 0 || row > rows {
-            return Some(RowCount { table, rows });
+            return Some((table, rows));
         }
     }
     None

@@ -21,7 +21,7 @@ pub(crate) const NAME: usize = 1;
 const NAMESPACE: usize = 2;
 
 /// The names of a type (II.22.37). `Display` gives its full name, escaped.
-#[derive(Clone, Copy, PartialEq, Eq)]
+#[derive(Clone, Copy)]
 struct TypeName<'a> {
     /// Its namespace, or the empty text.
     namespace: &'a str,
@@ -39,7 +39,7 @@ impl fmt::Display for TypeName<'_> {
 }
 
 /// Why nothing of a type was printed. `Display` gives the lines for standard error.
-#[derive(Clone, Copy, PartialEq, Eq)]
+#[derive(Clone, Copy)]
 struct MissingType<'a> {
     /// The type whose name is nearest, if one is near.
     nearest: Option<TypeName<'a>>,

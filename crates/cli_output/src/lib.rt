@@ -8,7 +8,6 @@
 //! ```
 #![tactic(auto)]
 
-mod kind_keeper;
 mod output_file;
 
 pub use output_file::{check_path, write_file};

@@ -5,7 +5,6 @@ ghost use Rattle.std.specs.Str.{IsCharBoundary};
 ghost use Rattle.cli_faults.specs.Status.{IsUnwritten};
 ghost use Rattle.cli_output.specs.Written.{WasGiven};
 
-use crate::kind_keeper::KindKeeper;
 use cli_faults::{Failure, FileError, Reason};
 use cli_files::STANDARD_INPUT;
 use std::alloc::{AllocError, Global};
@@ -14,7 +13,6 @@ use std::io::{ErrorKind, Write};
 use std::os::unix::fs::{MetadataExt, OpenOptionsExt, PermissionsExt};
 use std::rt::Files;
 use std::{fs, io};
-use writer::{Counted, send_all};
 
 /// The standard input of this process, by its path.
 const INPUT_PATH: &str = "/dev/stdin";
@@ -41,7 +39,7 @@ const PRIVATE: u32 = 0o600;
 const ACCESS: u32 = 0o777;
 
 /// Whether two files are one, as far as the system reports it.
-#[derive(Clone, Copy, PartialEq, Eq)]
+#[derive(Clone, Copy)]
 enum Relation {
     /// They are one file.
     Same,
@@ -107,7 +105,7 @@ fn is_standard_output<R: Files>(rt: &R, path: &str) -> bool {
         return false;
     }
     match fs::metadata(rt, path) {
-        Ok(found) => Relation::at(rt, OUTPUT_PATH, &found) == Relation::Same,
+        Ok(found) => matches!(Relation::at(rt, OUTPUT_PATH, &found), Relation::Same),
         Err(_) => false,
     }
 }
@@ -183,7 +181,7 @@ fn replace<'a, R: Files + AllocGlobal>(
         Err(error) => return Err(Failure::of_opening(&error, path)),
     };
     // An open file that was removed leads to a path of which another file may have been made.
-    if Relation::at(rt, target.as_str(), replaced) == Relation::Different {
+    if let Relation::Different = Relation::at(rt, target.as_str(), replaced) {
         return Err(not_written(path, Reason::Input));
     }
     let (file, beside) = match create_beside(rt, target.as_str()) {
@@ -224,13 +222,9 @@ fn path_beside(alloc: Global, target: &str, number: u32) -> Result<String, Alloc
     let room = NAME_LIMIT.saturating_sub(suffix.len());
     match target.rsplit_once('/') {
         Some((directory, name)) => {
-            let prefix = prefix_of(name, room);
-            format!(in alloc; "{directory}/{prefix}{suffix}")
+            format!(in alloc; "{directory}/{}{suffix}", prefix_of(name, room))
         }
-        None => {
-            let prefix = prefix_of(target, room);
-            format!(in alloc; "{prefix}{suffix}")
-        }
+        None => format!(in alloc; "{}{suffix}", prefix_of(target, room)),
     }
 }
 
@@ -281,11 +275,9 @@ fn send<'a, F: Write + Drop>(bytes: &[u8], file: F, path: &'a str) -> Result<F, 
     ensures all { IfOk result (λ written. Appends (F.contents file) (F.contents written) bytes.now) }
     ensures unwritten { IfErr result (IsUnwritten path.now) }
 {
-    let mut sink = Counted::new(KindKeeper::new(file));
-    let outcome = send_all(bytes, &mut sink);
-    let (file, kind) = sink.into_inner().into_parts();
-    match outcome {
+    let mut file = file;
+    match file.write_all(bytes) {
         Ok(()) => Ok(file),
-        Err(_) => Err(Failure::CannotWriteFile(FileError::new(path, kind))),
+        Err(error) => Err(Failure::CannotWriteFile(FileError::new(path, error.kind()))),
     }
 }

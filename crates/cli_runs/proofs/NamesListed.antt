@@ -12,15 +12,11 @@ last_is xs ys x y is =
     let n : length xs ≡ length ys = omega (arith, ap length is, length_push xs x, length_push ys y) in
     ap (λ zs. get_or zs 0 x) (sym (drop-append_seam xs (x ∷ [])) ∙ (λ i. drop (n i) (is i)) ∙ drop-append_seam ys (y ∷ []))
 
-never_nil : (xs : List (List ℕ)) (x : List ℕ) → [] ≡ xs ++ x ∷ [] → ⊥
-never_nil [] x is = cc
-never_nil (y ∷ ys) x is = cc
-
 module _ (separator : ℕ) (given : List ℕ) (pieces : List (Bor (List ℕ))) (split : names_in pieces ≡ slice_split (λ byte. byte == separator) given) where
   pub none_listed : (names : List (Bor (List ℕ))) → length pieces ≡ 0 → names ≡ [] → AreListed separator given (names_in names)
   none_listed names none is =
       subst (λ (xs : List (Bor (List ℕ))). AreListed separator given (names_in xs)) (sym is)
-      (inr (sym split ∙ ap names_in (nil_from_length pieces none), (λ more same. never_nil more [] same)))
+      (inr (sym split ∙ ap names_in (nil_from_length pieces none), (λ more same. absurd (omega (arith, ap length same, length_push more [])))))
 
   -- nothing follows the last separator
   pub ended_listed : (names : List (Bor (List ℕ))) (last : Bor (List ℕ)) → pieces ≡ names ++ last ∷ [] → length last.now ≡ 0 → AreListed separator given (names_in names)

@@ -17,8 +17,8 @@ unfoldable pub use Rattle.cli_lines.specs.Lines.{styled_text}
 pub use Rattle.cli_lines.specs.Printed.{Printed, Prints, Asked}
 pub use Rattle.cli_outline.specs.declared.source.OutlineOptions.{OutlineOptions}
 pub use Rattle.cli_regions.specs.Kept.{seen}
-pub use Rattle.cli_runs.specs.Printing.{Hands, HasPrinted, AreNone}
-pub use Rattle.cli_runs.specs.Reports.{AreDeclared, AreSomeDeclared, IsListed, OfModel, ended_at, ended_by, AreNamed, AreOut, HasEnded, IsFaultOut, IsPrinted, IsStopped, everything, lead_of, style_of, verdict_lines, label}
+pub use Rattle.cli_runs.specs.Printing.{Hands, HasPrinted}
+pub use Rattle.cli_runs.specs.Reports.{AreDeclared, AreSomeDeclared, IsListed, OfModel, AreNamed, AreOut, HasEnded, IsFaultOut, IsPrinted, IsStopped, everything, lead_of, style_of, verdict_lines, label}
 pub use Rattle.cli_runs.specs.Runs.{AreListed, AreCut, AreSent, IsReported, AreRun, AreRunAll, AreVisited, EndsAs, IsCutIn, IsNext, IsRun, IsVisited, is_input, IsCutAt}
 pub use Rattle.cli_runs.specs.declared.report.Listing.{Listing}
 pub use Rattle.cli_runs.specs.declared.report.Request.{Request}

@@ -1,5 +1,6 @@
 -- What a printer was asked to print of a report, and what went out of it.
-use Rattle.cli_runs.proofs.Prelude.{◌≡◌, ◌≢◌, ℕ, List, [], ◌∷◌, ◌++◌, Option, None, Some, Result, Ok, Err, append-nil, refl, sym, subst, inl, inr, IfErr, IsSome, OnOk, Fault, Token, Metadata, IsOutput, Failure, Input, BareRoot, File, Part, Style, styled_text, Asked, Printed, Prints, Sent, OutlineOptions, AreNone, Hands, HasPrinted, AreDeclared, AreNamed, AreOut, AreSomeDeclared, HasEnded, IsFaultOut, IsListed, IsPrinted, IsStopped, OfModel, everything, lead_of, style_of, verdict_lines, AreCut, AreSent, IsReported, Listing, Request}
+use Rattle.cli_runs.proofs.Prelude.{◌≡◌, ◌≢◌, ℕ, List, [], ◌∷◌, ◌++◌, Option, None, Some, Result, Ok, Err, append-nil, refl, sym, subst, inl, inr, IfErr, IsSome, OnOk, Fault, Token, Metadata, IsOutput, Failure, Input, BareRoot, File, Part, Style, styled_text, Asked, Printed, Sent, OutlineOptions, Hands, HasPrinted, AreDeclared, AreNamed, AreOut, AreSomeDeclared, HasEnded, IsFaultOut, IsListed, IsPrinted, IsStopped, OfModel, everything, lead_of, style_of, verdict_lines, AreCut, AreSent, IsReported, Listing, Request}
+use Rattle.cli_runs.specs.declared.report.Job.{Job}
 use Rattle.std.specs.Result.{result_and}
 use Rattle.std.specs.Io.KnownBytes.{Appends}
 use Rattle.cli_faults.specs.declared.stop.Stop.{Stop}
@@ -14,23 +15,14 @@ use Rattle.cli_runs.specs.declared.report.Report.TheVariants as report
 use Rattle.cli_runs.specs.declared.report.Verdict.{Verdict}
 use Rattle.cli_runs.specs.declared.report.Verdict.TheVariants as verdict
 
--- what follows from what is true of the lines of contents
-pub contents_weaker : (structures : List Region) (input : Input) (bytes : List ℕ) (offset : ℕ) (P Q : List (List Part) → Type 0) → ((lines : List (List Part)) → P lines → Q lines)
-    → HasContents structures input bytes offset P → HasContents structures input bytes offset Q
-contents_weaker [] File bytes offset P Q follows has = follows _ has
-contents_weaker [] BareRoot bytes offset P Q follows has = follows _ has
-contents_weaker (of ∷ later) File bytes offset P Q follows has = λ header model file.
-    let is = has header model file in
-    (is.0, is.1, follows _ is.2)
-contents_weaker (of ∷ later) BareRoot bytes offset P Q follows has = λ model is. follows _ (has model is)
-
--- the lines of structures and of contents were handed to a printer
-pub located : {W : Type 0} (structures : List Region) (request : Request) (bytes : List ℕ) (offset : ℕ) (old new : Printed W)
-    → HasContents structures request.input bytes offset (λ contents. Prints old new (where_lines structures ++ contents))
-    → HasContents structures request.input bytes offset (λ contents. AreOut (Hands old new) (where_lines structures ++ contents))
-located structures request bytes offset old new has =
-    contents_weaker structures request.input bytes offset (λ contents. Prints old new (where_lines structures ++ contents))
-    (λ contents. AreOut (Hands old new) (where_lines structures ++ contents)) (λ lines are. (are, (λ live. tt))) has
+-- what follows from what is true of the lines of structures and of contents
+pub where_weaker : (P Q : List (List Part) → Type 0) → ((lines : List (List Part)) → P lines → Q lines) → (structures : List Region) (input : Input) (bytes : List ℕ) (offset : ℕ)
+    → HasContents structures input bytes offset (λ contents. P (where_lines structures ++ contents))
+    → HasContents structures input bytes offset (λ contents. Q (where_lines structures ++ contents))
+where_weaker P Q weaker [] File bytes offset has = weaker _ has
+where_weaker P Q weaker [] BareRoot bytes offset has = weaker _ has
+where_weaker P Q weaker (of ∷ later) File bytes offset has = λ header model file. let is = has header model file in (is.0, is.1, weaker _ is.2)
+where_weaker P Q weaker (of ∷ later) BareRoot bytes offset has = λ model is. weaker _ (has model is)
 
 -- ---- what went out of a report, if each of its lines does
 
@@ -41,13 +33,6 @@ module _ (P Q : Type 0 → List (List Part) → Type 0) (weaker : (all : Type 0)
   some_weaker : (options : OutlineOptions) (model : Metadata) (Are : List Token → Type 0) → AreSomeDeclared P options model Are → AreSomeDeclared Q options model Are
   some_weaker options model Are (inl out) = inl (out.0, out.1, declared_weaker options model _ out.2)
   some_weaker options model Are (inr out) = inr (weaker _ _ out)
-
-  where_weaker : (input : Input) (bytes : List ℕ) (offset : ℕ) (structures : List Region)
-      → HasContents structures input bytes offset (λ contents. AreOut P (where_lines structures ++ contents))
-      → HasContents structures input bytes offset (λ contents. AreOut Q (where_lines structures ++ contents))
-  where_weaker input bytes offset structures has =
-      contents_weaker structures input bytes offset (λ contents. AreOut P (where_lines structures ++ contents)) (λ contents. AreOut Q (where_lines structures ++ contents))
-      (λ lines are. weaker (Unit {0}) (where_lines structures ++ lines) are) has
 
   listed_weaker : (of : Listing) (model : Metadata) → IsListed P of model → IsListed Q of model
   listed_weaker (listing.Show table names) model out = weaker _ _ out
@@ -80,7 +65,7 @@ module _ (P Q : Type 0 → List (List Part) → Type 0) (weaker : (all : Type 0)
     printed_weaker (report.RefsOf subject) out =
         (out.0, (λ model is. let at = out.1 model is in (at.0, (at.1.0, at.1.1, declared_weaker everything model _ at.1.2))))
     printed_weaker (report.Tokens numbers) out = (out.0, out.1, out.2, named_weaker numbers.items out.3)
-    printed_weaker (report.Where offset) out = (out.0, (out.1.0, out.1.1, out.1.2, where_weaker request.input bytes offset out.1.0 out.1.3))
+    printed_weaker (report.Where offset) out = (out.0, (out.1.0, out.1.1, out.1.2, where_weaker (AreOut P) (AreOut Q) (weaker _) out.1.0 request.input bytes offset out.1.3))
     printed_weaker report.Digest out = (out.0, out.1, weaker _ _ out.2)
 
     stopped_weaker : (of : Report) (why : Stop) → IsStopped P request name bytes of why → IsStopped Q request name bytes of why
@@ -89,7 +74,7 @@ module _ (P Q : Type 0 → List (List Part) → Type 0) (weaker : (all : Type 0)
     stopped_weaker (report.ShowUntilFault table names) why out = (out.0, out.1, out.2, (out.3.0, out.3.1, weaker _ _ out.3.2))
     stopped_weaker (report.Tokens numbers) why out =
         (out.0, out.1, out.2, out.3, out.4, out.5, out.6, out.7, out.8, named_weaker out.3 out.9)
-    stopped_weaker (report.Where offset) why (inl out) = inl (out.0, out.1, (out.2.0, out.2.1, out.2.2, where_weaker request.input bytes offset out.2.0 out.2.3))
+    stopped_weaker (report.Where offset) why (inl out) = inl (out.0, out.1, (out.2.0, out.2.1, out.2.2, where_weaker (AreOut P) (AreOut Q) (weaker _) out.2.0 request.input bytes offset out.2.3))
     stopped_weaker (report.Where offset) why (inr out) = inr (out.0, out.1, out.2, (out.3.0, out.3.1, weaker _ _ out.3.2))
     stopped_weaker _ why out = absurd out
 
@@ -101,16 +86,10 @@ module _ (P Q : Type 0 → List (List Part) → Type 0) (weaker : (all : Type 0)
 
 -- ---- the lines went out
 
-as_reported : (request : Request) {W : Type 0} (contents : W → Option (List ℕ)) (before after : W) (name bytes : List ℕ) (ends : Ended)
-    → ((why : Stop) → ends ≡ ended.Refused why → after ≡ before) → HasEnded (AreSent request contents before after name) request name bytes request.report ends
-    → IsReported request contents before after name bytes (Ok ends)
-as_reported request contents before after name bytes (ended.Refused why) same out = (out, same why refl)
-as_reported request contents before after name bytes _ same out = out
-
-handed : {W : Type 0} (request : Request) (name bytes : List ℕ) (old new : Printed W) (of : Report) (ends : Ended) → HasPrinted request name bytes old new of ends
-    → HasEnded (Hands old new) request name bytes of ends
-handed request name bytes old new of (ended.Refused why) out = out.0
-handed request name bytes old new of _ out = out
+pub handed : {W : Type 0} (job : Job) (old new : Printed W) (of : Report) (ends : Ended) → HasPrinted job old new of ends
+    → HasEnded (Hands old new) job.request.now job.name.now job.bytes.now of ends
+handed job old new of (ended.Refused why) out = out.0
+handed job old new of _ out = out
 
 -- the printer kept the writer that it had before it was asked to print
 module _ (request : Request) {W : Type 0} (contents : W → Option (List ℕ)) (before written after : W) (name bytes : List ℕ) (old new : Printed W)
@@ -123,40 +102,19 @@ module _ (request : Request) {W : Type 0} (contents : W → Option (List ℕ)) (
 
   -- what was handed to the printer went out, or a prefix of it
   pub all_reported : (done : Result (Unit {0}) Failure) → ((start : Option (List ℕ)) (text : List ℕ) → Asked start new text → Sent start (contents written) done text)
-      → OnOk done (IsSome new.waiting) → IfErr done IsOutput → (ends : Ended) → ((why : Stop) → ends ≢ ended.Refused why) → HasPrinted request name bytes old new request.report ends
+      → OnOk done (IsSome new.waiting) → IfErr done IsOutput → (ends : Ended) → ((why : Stop) → ends ≢ ended.Refused why) → HasEnded (Hands old new) request name bytes request.report ends
       → IsReported request contents before after name bytes (result_and done (Ok ends))
+  all_reported (Ok done) sends live failed (ended.Refused why) other out = absurd (other why refl)
   all_reported (Ok done) sends live failed ends other out =
-      as_reported request contents before after name bytes ends (λ why is. absurd (other why is))
-      (ended_weaker (Hands old new) (AreSent request contents before after name) (λ all lines hands. (hands.1 live, sent_lines (Ok done) sends all lines hands)) request name bytes request.report ends
-      (handed request name bytes old new request.report ends out))
-  all_reported (Err failure) sends live failed ends other out = (
-    failed,
-    (
-      ends,
-      ended_weaker (Hands old new) (AreCut request contents before after name) (sent_lines (Err failure) sends) request name bytes request.report ends
-          (handed request name bytes old new request.report ends out),
-    ),
-  )
+      ended_weaker (Hands old new) (AreSent request contents before after name) (λ all lines hands. (hands.1 live, sent_lines (Ok done) sends all lines hands)) request name bytes request.report ends out
+  all_reported (Err failure) sends live failed ends other out =
+      (failed, (ends, ended_weaker (Hands old new) (AreCut request contents before after name) (sent_lines (Err failure) sends) request name bytes request.report ends out))
 
-module _ (request : Request) {W : Type 0} (contents : W → Option (List ℕ)) (before : W) (name bytes : List ℕ) where
-  appends_none : (known : Option (List ℕ)) → Appends known known (styled_text (style_of request name) [])
-  unfolding styled_text
-  appends_none None = tt
-  appends_none (Some known) = sym (append-nil known)
-
-  -- of no line all went out before
-  none_sent : (all : Type 0) (lines : List (List Part)) → AreNone all lines → AreSent request contents before before name all lines
-  none_sent all lines none = (
-    none.0,
-    subst (λ (of : List (List Part)). Appends (contents before) (contents before) (styled_text (style_of request name) of)) (sym none.1) (appends_none (contents before)),
-  )
-
-  -- a report that prints no line does not need the output
-  pub quiet_reported : (of : Report) (ends : Ended) → request.report ≡ of → HasEnded AreNone request name bytes of ends → IsReported request contents before before name bytes (Ok ends)
-  quiet_reported of ends is out =
-      as_reported request contents before before name bytes ends (λ why refused. refl)
-      (ended_weaker AreNone (AreSent request contents before before name) none_sent request name bytes request.report ends
-      (subst (λ (it : Report). HasEnded AreNone request name bytes it ends) (sym is) out))
+-- of no lines all went out before
+pub appends_none : (known : Option (List ℕ)) (of : Style) → Appends known known (styled_text of [])
+unfolding styled_text
+appends_none None of = tt
+appends_none (Some known) of = sym (append-nil known)
 
 -- the lines of a fault that is not explained
 pub fault_out : (Out : Type 0 → List (List Part) → Type 0) (of : Verdict) (input : Input) (bytes : List ℕ) (file : Option (List ℕ)) (found : Fault) → of ≢ verdict.Explained

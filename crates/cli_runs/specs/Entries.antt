@@ -15,14 +15,10 @@ abbrev pub IsEntry : Bool → ℕ → Option Token → Type 0
 IsEntry true number entry = entry ≡ None
 IsEntry false number entry = MatchOption entry ((token : Token) → ¬ IsToken number token) (IsToken number)
 
--- the entry point that a CLI header names (II.25.3.3.2)
-abbrev pub IsEntryIn : CliHeader → Option Token → Type 0
-IsEntryIn header entry = IsEntry (has_native_entry_point header) header.entry_point_token entry
-
--- the same; a bare root has no CLI header
+-- the entry point that a CLI header names (II.25.3.3.2); a bare root has no CLI header
 abbrev pub IsEntryOf : Option CliHeader → Option Token → Type 0
 IsEntryOf None entry = entry ≡ None
-IsEntryOf (Some header) entry = IsEntryIn header entry
+IsEntryOf (Some header) entry = IsEntry (has_native_entry_point header) header.entry_point_token entry
 
 -- options of an outline in which the entry point is marked
 abbrev pub entered : OutlineOptions → Option Token → OutlineOptions

@@ -1,5 +1,5 @@
 -- The content of a resource, as `clim resources --extract` writes it (ECMA-335 II.22.24).
-use Rattle.std.specs.Prelude.{◌≡◌, ◌⊎◌, ℕ, List, Option, Result, Ok, Err, IfErr, OnOk}
+use Rattle.std.specs.Prelude.{◌≡◌, ◌⊎◌, ℕ, List, Option, IfErr, OnOk}
 use Rattle.std.specs.Io.KnownBytes.{Appends}
 use Rattle.cli_faults.specs.Status.{IsOutput}
 use Rattle.cli_faults.specs.declared.failure.Failure.{Failure}
@@ -21,12 +21,7 @@ module _ {W : Type 0} (contents : W → Option (List ℕ)) (before after : W) (b
       ⊎ ((failure : Failure) × (content : List ℕ) × (stop ≡ Failed failure) × IsOutput failure × IsContentOf bytes name content
       × SendsPrefix (contents before) (contents after) content)
 
-  -- the content of the first resource with this name was written; or it stopped
-  abbrev pub IsExtracted : Result (Unit {0}) Stop → Type 0
-  IsExtracted (Ok done) = (content : List ℕ) × IsContentOf bytes name content × Appends (contents before) (contents after) content
-  IsExtracted (Err stop) = IsUnextracted stop
-
-  -- the same, with a hint if there is one
+  -- the content of the first resource with this name was written; or it stopped, with a hint if there is one
   pub record IsExtracting (outcome : Outcome) : Type 0 where
     pub done : OnOk outcome ((content : List ℕ) × IsContentOf bytes name content × Appends (contents before) (contents after) content)
     pub stopped : IfErr outcome (λ stopped. IsUnextracted stopped.stop)

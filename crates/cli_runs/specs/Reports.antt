@@ -1,5 +1,5 @@
 -- What each report prints of the bytes of a file, and when it prints nothing.
-use Rattle.std.specs.Prelude.{◌≡◌, ◌≢◌, ◌⊎◌, ℕ, Bool, true, false, List, [], ◌∷◌, ◌++◌, flat_map, map, Option, None, Some, Result, Ok, Err}
+use Rattle.std.specs.Prelude.{◌≡◌, ◌≢◌, ◌⊎◌, ℕ, Bool, true, false, List, [], ◌∷◌, ◌++◌, flat_map, map, Option, None, Some}
 use Rattle.std.specs.List.{All}
 use Rattle.hex.specs.Hex.{encode_lower}
 use Rattle.sha2.specs.Sha256.{sha256}
@@ -22,8 +22,7 @@ use Rattle.cli_resources.specs.declared.opened.Unfound.{Unfound}
 use Rattle.cli_resources.specs.declared.opened.Unfound.TheVariants as unfound
 use Rattle.cli_faults.specs.declared.failure.Failure.TheVariants.{Fault, NoSuchRow, OutOfMemory}
 use Rattle.cli_faults.specs.declared.stop.Stop.{Stop}
-use Rattle.cli_faults.specs.declared.stop.Stop.TheVariants as stopped
-use Rattle.cli_faults.specs.declared.stop.Stop.TheVariants.{Broken, BudgetSpent, Failed, NoSuchType, NothingAt}
+use Rattle.cli_faults.specs.declared.stop.Stop.TheVariants.{Broken, BudgetSpent, Failed, NoSuchResource, NoSuchType, NothingAt, ResourceElsewhere, ResourceOutside}
 use Rattle.cli_lines.specs.declared.parts.Form.{Form}
 use Rattle.cli_lines.specs.declared.parts.Form.TheVariants.{Text}
 use Rattle.cli_lines.specs.Lines.{Part, Style, style}
@@ -77,22 +76,12 @@ use Rattle.cli_runs.specs.declared.report.Request.{Request}
 use Rattle.cli_runs.specs.declared.report.Verdict.{Verdict}
 use Rattle.cli_runs.specs.declared.report.Verdict.TheVariants.{Explained, Line, Quiet}
 
--- a report ended when its lines were printed, or with the fault for which it was refused; for private clauses
-abbrev pub ended_by : Result (Unit {0}) Found → Ended
-ended_by (Ok done) = Printed
-ended_by (Err found) = Refused (Failed (Fault found))
-
 -- why a run stopped that found no resource
 abbrev pub stop_of : Unfound → Stop
 stop_of (unfound.Fault found) = Failed (Fault found)
-stop_of unfound.NoSuchResource = stopped.NoSuchResource
-stop_of (unfound.Elsewhere row) = stopped.ResourceElsewhere row
-stop_of (unfound.Outside row) = stopped.ResourceOutside row
-
--- a report on resources ended when its lines were printed, or with the reason for which it was refused; for private clauses
-abbrev pub ended_at : Result (Unit {0}) Unfound → Ended
-ended_at (Ok done) = Printed
-ended_at (Err why) = Refused (stop_of why)
+stop_of unfound.NoSuchResource = NoSuchResource
+stop_of (unfound.Elsewhere row) = ResourceElsewhere row
+stop_of (unfound.Outside row) = ResourceOutside row
 
 -- the tables of `show`: one, or all
 abbrev pub tables_of : Option TableId → List TableId
@@ -150,7 +139,7 @@ IsRefused request bytes (report.RefsOf subject) (Failed OutOfMemory) = IsWhole r
 IsRefused request bytes (report.Check Explained) (Failed OutOfMemory) = Unit {0}
 IsRefused request bytes report.Strings (Failed OutOfMemory) = Unit {0}
 IsRefused request bytes report.Resources (Failed (Fault found)) = FirstBroken (rules_of_file bytes) found
-IsRefused request bytes report.Resources (stopped.ResourceOutside of) = IsUnlisted bytes (unfound.Outside of)
+IsRefused request bytes report.Resources (ResourceOutside of) = IsUnlisted bytes (unfound.Outside of)
 IsRefused request bytes (report.Where offset) (Failed failure) = failure ≡ OutOfMemory
 IsRefused request bytes (report.Tokens numbers) (Failed OutOfMemory) = IsWhole request.input bytes
 IsRefused request bytes report.Digest (Failed failure) = ReportsUnwritten request.input bytes failure

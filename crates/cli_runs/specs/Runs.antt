@@ -1,5 +1,5 @@
 -- What a run prints of the bytes of one file, and of several files.
-use Rattle.std.specs.Prelude.{◌≡◌, ◌≢◌, ◌≤◌, ℕ, ◌==◌, ◌⊎◌, ◌&&◌, ◌||◌, Bool, true, false, List, [], ◌∷◌, ◌++◌, codes, max, Option, Result, Ok, Err, MatchResult}
+use Rattle.std.specs.Prelude.{◌≡◌, ◌≢◌, ◌≤◌, ℕ, ◌==◌, ◌⊎◌, ◌&&◌, ◌||◌, Bool, true, false, List, [], ◌∷◌, ◌++◌, codes, max, Option, Result, Ok, Err, IfErr, MatchResult}
 use Rattle.std.specs.Io.KnownBytes.{Appends}
 use Rattle.std.specs.List.{slice_split}
 use Rattle.std.specs.Str.{bytes_eq}
@@ -50,7 +50,7 @@ is_input name = bytes_eq name (codes "-")
 abbrev pub IsExplained : Form → List FaultCode → Option (List ℕ) → Option (List ℕ) → Result (Unit {0}) Failure → Type 0
 IsExplained form rules before after result =
     ((lines : List (List Part)) × AreExplanations rules lines × Sent before after result (report_text form lines))
-    × MatchResult result (λ done. Unit {0}) IsOutput
+    × IfErr result IsOutput
 
 module _ (request : Request) {W : Type 0} (contents : W → Option (List ℕ)) where
   -- these lines of a report on the file with this name went out

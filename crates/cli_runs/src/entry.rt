@@ -1,16 +1,15 @@
 //! The entry point of a file.
-ghost use Rattle.std.specs.Prelude.{◌≡◌, IfErr, IfOk, Option};
+ghost use Rattle.std.specs.Prelude.{◌≡◌, IfErr, IfOk, Option, Some};
 ghost use Rattle.cli_header.specs.declared.header.CliHeader.{CliHeader as Header};
 ghost use Rattle.cli_info.specs.InfoLines.{AreFacts};
 ghost use Rattle.cli_input.specs.Checked.{IsModelOf, IsWhole, rules_of};
-ghost use Rattle.cli_runs.specs.Entries.{IsEntryIn, IsEntryOf, entered};
+ghost use Rattle.cli_runs.specs.Entries.{IsEntryOf};
 ghost use Rattle.metadata.specs.Metadata.{Metadata};
 ghost use Rattle.metadata.specs.Model.{IsModel};
 ghost use Rattle.packed.specs.Rule.{FirstBroken};
 
 use cli_header::CliHeader;
 use cli_input::Input;
-use cli_outline::OutlineOptions;
 use opening::{Token, View, open_image, open_root};
 use packed::Fault;
 
@@ -19,7 +18,7 @@ const NATIVE_ENTRY_POINT: u32 = 0x10;
 
 /// The entry point that a CLI header names, unless it is native.
 fn entry_in(header: &CliHeader) -> Option<Token>
-    ensures { IsEntryIn header.now result }
+    ensures { IsEntryOf (Some header.now) result }
 {
     if header.flags / NATIVE_ENTRY_POINT % 2 == 1 {
         return None;
@@ -48,11 +47,4 @@ pub(crate) fn open_entered(bytes: &[u8], input: Input) -> Result<(Option<Token>,
             Ok((entry_in(&header), view))
         }
     }
-}
-
-/// The options of an outline in which the entry point is marked.
-pub(crate) fn entered(options: OutlineOptions, entry: Option<Token>) -> OutlineOptions
-    ensures { result ≡ entered options entry }
-{
-    OutlineOptions { entry, ..options }
 }

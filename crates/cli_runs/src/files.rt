@@ -1,8 +1,8 @@
 //! Reads files and reports on each.
-ghost use Rattle.std.specs.Prelude.{◌≡◌, ◌≤◌, ◌⊎◌, ◌&&◌, ◌||◌, IfOk, IsTrue, false, map, max};
+ghost use Rattle.std.specs.Prelude.{◌≡◌, ◌≤◌, ◌⊎◌, ◌&&◌, IfOk, IsTrue, false, map};
 ghost use Rattle.cli_faults.specs.Status.{status_of};
 ghost use Rattle.cli_faults.specs.Stops.{status_of_stop};
-ghost use Rattle.cli_runs.specs.Runs.{AreRun, EndsAs, IsCutAt, IsCutIn, IsNext, IsRun, IsRunOn, is_input, status_of_ended};
+ghost use Rattle.cli_runs.specs.Runs.{AreRun, EndsAs, IsCutAt, IsCutIn, IsNext, IsRun, IsRunOn, is_input};
 ghost use Rattle.cli_runs.specs.declared.report.Directories.TheVariants.{Walked};
 
 use crate::printed::report_on;
@@ -81,13 +81,13 @@ pub(crate) fn run_each<R: Files + Input + AllocGlobal, W: Write, E: Write>(
         others: 0,
     };
     let mut is_read = is_read;
-    let mut greatest = 0;
+    let mut greatest: u8 = 0;
     for name in names {
         match run_next(rt, request, name, is_read, &mut room, out, err) {
-            Ok(next) => greatest = greater(greatest, next),
+            Ok(next) => greatest = greatest.max(next),
             Err(OutputFailed) => return 3,
         }
-        is_read = is_read_after(is_read, name);
+        is_read |= is_input(name);
     }
     report_others(rt.alloc(), request, room.others, err);
     greatest
@@ -98,27 +98,6 @@ pub(crate) fn is_input(name: &[u8]) -> bool
     ensures { result ≡ is_input name.now }
 {
     name == STANDARD_INPUT.as_bytes()
-}
-
-/// Whether the standard input was read, after what has this name.
-fn is_read_after(is_read: bool, name: &[u8]) -> bool
-    ensures { result ≡ (is_read || is_input name.now) }
-{
-    is_read || is_input(name)
-}
-
-/// Whether a name is that of the standard input, which was read before.
-fn is_again(is_read: bool, name: &[u8]) -> bool
-    ensures { result ≡ (is_read && is_input name.now) }
-{
-    is_read && is_input(name)
-}
-
-/// The greater of two exit codes.
-pub(crate) fn greater(left: u8, right: u8) -> u8
-    ensures { result ≡ max left right }
-{
-    if left < right { right } else { left }
 }
 
 /// Reports on what has this name: a file, or the files in a directory if it is walked. Returns the exit code. The standard input
@@ -140,16 +119,19 @@ fn run_next<R: Files + Input + AllocGlobal, W: Write, E: Write>(
         (IsCutIn request.now W.contents out.old out.new name.now) result }
 {
     let alloc = rt.alloc();
-    if is_again(is_read, name) {
+    let is_again = is_read & is_input(name);
+    if is_again {
         return Ok(refuse(alloc, Unread::InputAgain, err));
     }
     let Ok(path) = str::from_utf8(name) else {
         return Ok(report_unread(alloc, request, Failure::NotUtf8(name), name, err));
     };
     if is_walked(rt, request, path) {
-        run_tree(rt, request, path, room, out, err)
-    } else {
-        run_file(rt, request, path, room, out, err)
+        return run_tree(rt, request, path, room, out, err);
+    }
+    match read_into(rt, path, &mut room.bytes) {
+        Ok(()) => run_on_bytes(alloc, request, path, room.bytes.as_slice(), out, err),
+        Err(failure) => Ok(report_unread(alloc, request, failure, name, err)),
     }
 }
 
@@ -159,36 +141,8 @@ fn is_walked<R: Files>(rt: &R, request: &Request<'_>, path: &str) -> bool
 {
     match request.directories {
         Directories::Refused => false,
-        Directories::Walked => path != STANDARD_INPUT && is_directory(rt, path),
-    }
-}
-
-/// Whether a path is that of a directory.
-fn is_directory<R: Files>(rt: &R, path: &str) -> bool {
-    match fs::metadata(rt, path) {
-        Ok(found) => found.is_dir(),
-        Err(_) => false,
-    }
-}
-
-/// Reads the file with this path and reports on it. Returns its exit code.
-///
-/// # Errors
-///
-/// The output failed. It has nothing or a prefix of the report.
-fn run_file<R: Files + Input + AllocGlobal, W: Write, E: Write>(
-    rt: &R,
-    request: &Request<'_>,
-    path: &str,
-    room: &mut Room,
-    out: &mut W,
-    err: &mut E,
-) -> Result<u8, OutputFailed>
-    ensures { EndsAs err.old err.new (IsRun request.now W.contents out.old out.new path.now) (IsCutAt request.now W.contents out.old out.new path.now) result }
-{
-    match read_into(rt, path, &mut room.bytes) {
-        Ok(()) => run_on_bytes(rt.alloc(), request, path, room.bytes.as_slice(), out, err),
-        Err(failure) => Ok(report_unread(rt.alloc(), request, failure, path.as_bytes(), err)),
+        Directories::Walked if path == STANDARD_INPUT => false,
+        Directories::Walked => matches!(fs::metadata(rt, path), Ok(found) if found.is_dir()),
     }
 }
 
@@ -208,48 +162,14 @@ pub(crate) fn run_on_bytes<W: Write, E: Write>(
     ensures { EndsAs err.old err.new (IsRun request.now W.contents out.old out.new path.now) (IsCutAt request.now W.contents out.old out.new path.now) result }
 {
     match report_on(alloc, request, path, bytes, out) {
-        Ok(ended) => Ok(report_end(alloc, request, ended, path, bytes, err)),
+        Ok(Ended::Printed) => Ok(0),
+        Ok(Ended::Stopped(stop)) => Ok(report_stop(alloc, request, stop, path, bytes, err)),
+        Ok(Ended::Refused(stop)) => Ok(report_stop(alloc, request, stop, path, bytes, err)),
         Err(failure) => {
             status(alloc, Err(Stopped::from(failure)), err);
             Err(OutputFailed)
         }
     }
-}
-
-/// Reports to `err` how a report on a file ended, unless it printed its lines, and returns the exit code.
-fn report_end<E: Write>(
-    alloc: Global,
-    request: &Request<'_>,
-    ended: Ended<'_>,
-    file: &str,
-    bytes: &[u8],
-    err: &mut E,
-) -> u8
-    ensures status { result ≡ status_of_ended ended.entry }
-    ensures limit { result ≤ 3 }
-    ensures quiet { result ≡ 0 → err.new ≡ err.old }
-{
-    match ended {
-        Ended::Printed => 0,
-        Ended::Stopped(stop) => report_stop(alloc, request, stop, file, bytes, err),
-        Ended::Refused(stop) => report_stop(alloc, request, stop, file, bytes, err),
-    }
-}
-
-/// Reports that no type of these is the subject.
-fn report_missing<E: Write>(
-    alloc: Global,
-    request: &Request<'_>,
-    types: Types,
-    subject: Subject<'_>,
-    bytes: &[u8],
-    err: &mut E,
-) {
-    let path = match subject {
-        Subject::Path(path) => Some(path),
-        Subject::Row(_) => None,
-    };
-    report_missing_type(alloc, bytes, request.input, types, path, err);
 }
 
 /// Reports to `err` why a report on a file stopped, and returns the exit code. If no type of the only file has the name that was
@@ -258,7 +178,7 @@ fn report_stop<E: Write>(
     alloc: Global,
     request: &Request<'_>,
     stop: Stop<'_>,
-    file: &str,
+    path: &str,
     bytes: &[u8],
     err: &mut E,
 ) -> u8
@@ -266,30 +186,28 @@ fn report_stop<E: Write>(
     ensures limit { result ≤ 3 }
     ensures quiet { result ≡ 0 → err.new ≡ err.old }
 {
+    let input = request.input;
     match (&stop, &request.report, request.naming) {
-        (Stop::NoSuchType, Report::OutlineOf(subject, _), Naming::Alone) => {
-            report_missing(alloc, request, Types::Declared, *subject, bytes, err);
-            stop.status()
+        (Stop::NoSuchType, Report::OutlineOf(Subject::Path(name), _), Naming::Alone) => {
+            report_missing_type(alloc, bytes, input, Types::Declared, Some(*name), err);
         }
-        (Stop::NoSuchType, Report::RefsOf(subject), Naming::Alone) => {
-            report_missing(alloc, request, Types::Referred, *subject, bytes, err);
-            stop.status()
+        (Stop::NoSuchType, Report::RefsOf(Subject::Path(name)), Naming::Alone) => {
+            report_missing_type(alloc, bytes, input, Types::Referred, Some(*name), err);
         }
         (Stop::Failed(Failure::NoSuchRow), Report::Tokens(numbers), _) => {
-            report_missing_row(alloc, bytes, request.input, numbers.as_slice(), err);
-            stop.status()
+            report_missing_row(alloc, bytes, input, numbers.as_slice(), err);
         }
         // Its line says so.
-        (Stop::NothingAt(_), _, Naming::Named) => stop.status(),
+        (Stop::NothingAt(_), _, Naming::Named) => {}
         _ => {
             let file = match (&stop, request.naming) {
                 (Stop::Broken, _) | (_, Naming::Alone) => None,
-                (_, Naming::Named) => Some(file),
+                (_, Naming::Named) => Some(path),
             };
-            let stopped = Stopped::at(stop, file, request.input, bytes);
-            status(alloc, Err(stopped), err)
+            return status(alloc, Err(Stopped::at(stop, file, input, bytes)), err);
         }
     }
+    stop.status()
 }
 
 /// Reports to `err` why a file was not read, and returns the exit code. If memory ran out, the line of that does not name the

@@ -4,11 +4,13 @@ ghost use Rattle.std.specs.Option.{option_map};
 ghost use Rattle.cli_runs.specs.Reports.{label, lead_of};
 ghost use Rattle.cli_runs.specs.Runs.{IsReported};
 
-use crate::print_check::{check_quietly, label_of};
+use crate::print_check::label_of;
 use crate::print_report::print_report;
-use crate::report::{Ended, Report, Request, Verdict};
-use cli_faults::Failure;
+use crate::report::{Ended, Job, Report, Request, Verdict};
+use cli_faults::{Failure, Stop};
 use cli_lines::Printer;
+use cli_roots::check_within;
+use opening::BoundedError;
 use std::alloc::Global;
 use std::io::Write;
 
@@ -27,8 +29,22 @@ pub fn report_on<'a, W: Write>(
     ensures { IsReported request.now W.contents out.old out.new name.now bytes.now result }
 {
     match &request.report {
-        Report::Check(Verdict::Quiet) => Ok(check_quietly(request, bytes)),
-        _ => send_report(alloc, request, name, bytes, out),
+        Report::Check(Verdict::Quiet) => {
+            match check_within(bytes, request.input, request.budget) {
+                Ok(()) => Ok(Ended::Printed),
+                Err(BoundedError::BudgetSpent) => Ok(Ended::Refused(Stop::BudgetSpent)),
+                Err(BoundedError::Fault(_)) => Ok(Ended::Stopped(Stop::Broken)),
+            }
+        }
+        _ => send_report(
+            &Job {
+                alloc,
+                request,
+                name,
+                bytes,
+            },
+            out,
+        ),
     }
 }
 
@@ -43,17 +59,12 @@ fn lead_of<'a>(request: &Request<'_>, name: &'a str) -> Option<&'a str>
 }
 
 /// Prints a report, and sends what was printed unless the report was refused.
-fn send_report<'a, W: Write>(
-    alloc: Global,
-    request: &Request<'_>,
-    name: &str,
-    bytes: &[u8],
-    out: &mut W,
-) -> Result<Ended<'a>, Failure<'a>>
-    ensures { IsReported request.now W.contents out.old out.new name.now bytes.now result }
+fn send_report<'a, W: Write>(job: &Job<'_>, out: &mut W) -> Result<Ended<'a>, Failure<'a>>
+    ensures { IsReported job.now.request.now W.contents out.old out.new job.now.name.now job.now.bytes.now result }
 {
-    let mut printer = Printer::named(alloc, request.form, lead_of(request, name), out);
-    let ended = print_report(alloc, request, name, bytes, &mut printer);
+    let lead = lead_of(job.request, job.name);
+    let mut printer = Printer::named(job.alloc, job.request.form, lead, out);
+    let ended = print_report(job, &mut printer);
     match ended {
         Ended::Refused(_) => {
             let writer = printer.cancel();

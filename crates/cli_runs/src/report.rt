@@ -1,6 +1,6 @@
 //! What to print of a file, and how printing it ends.
 ghost use Rattle.std.specs.Prelude.{◌≡◌};
-ghost use Rattle.cli_runs.specs.Reports.{ended_at, ended_by, stop_of};
+ghost use Rattle.cli_runs.specs.Reports.{stop_of};
 
 use cli_cells::Names;
 use cli_faults::{Failure, Stop};
@@ -8,7 +8,7 @@ use cli_input::Input;
 use cli_lines::Form;
 use cli_outline::{OutlineOptions, Subject};
 use cli_resources::Unfound;
-use packed::Fault;
+use std::alloc::Global;
 use table_schema::TableId;
 
 /// What to print of the tables of a file. Nothing is printed of a file that breaks a rule.
@@ -101,6 +101,15 @@ pub struct Request<'a> {
     pub budget: Option<u64>,
 }
 
+/// A report on the bytes of the file with this name.
+#[derive(Clone, Copy)]
+pub(crate) struct Job<'a> {
+    pub(crate) alloc: Global,
+    pub(crate) request: &'a Request<'a>,
+    pub(crate) name: &'a str,
+    pub(crate) bytes: &'a [u8],
+}
+
 /// How a report on the bytes of a file ended.
 #[derive(Clone, Copy)]
 pub enum Ended<'a> {
@@ -112,16 +121,6 @@ pub enum Ended<'a> {
     Refused(Stop<'a>),
 }
 
-/// The end of a report on resources.
-pub(crate) fn ended_at<'a>(printed: Result<(), Unfound>) -> Ended<'a>
-    ensures { result ≡ ended_at printed }
-{
-    match printed {
-        Ok(()) => Ended::Printed,
-        Err(unfound) => Ended::Refused(stop_of(unfound)),
-    }
-}
-
 /// Why a run stopped that found no resource.
 pub(crate) fn stop_of<'a>(unfound: Unfound) -> Stop<'a>
     ensures { result ≡ stop_of unfound }
@@ -131,15 +130,5 @@ pub(crate) fn stop_of<'a>(unfound: Unfound) -> Stop<'a>
         Unfound::NoSuchResource => Stop::NoSuchResource,
         Unfound::Elsewhere(row) => Stop::ResourceElsewhere(row),
         Unfound::Outside(row) => Stop::ResourceOutside(row),
-    }
-}
-
-/// The end of a report that prints its lines, or is refused by a fault.
-pub(crate) fn ended_by<'a>(printed: Result<(), Fault>) -> Ended<'a>
-    ensures { result ≡ ended_by printed }
-{
-    match printed {
-        Ok(()) => Ended::Printed,
-        Err(fault) => Ended::Refused(Stop::Failed(Failure::Fault(fault))),
     }
 }

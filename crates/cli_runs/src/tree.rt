@@ -4,7 +4,7 @@ ghost use Rattle.cli_runs.specs.Runs.{AreVisited, EndsAs, IsCutAmong, IsCutAtOne
 ghost use Rattle.cli_runs.specs.declared.report.Directories.TheVariants.{Walked};
 ghost use Rattle.cli_walk.specs.Walks.{IsVisit};
 
-use crate::files::{OutputFailed, Room, greater, report_unread, run_on_bytes};
+use crate::files::{OutputFailed, Room, report_unread, run_on_bytes};
 use crate::report::{Directories, Report, Request, Verdict};
 use cli_faults::Failure;
 use cli_sending::send_message;
@@ -40,14 +40,15 @@ pub(crate) fn run_tree<R: Files + Input + AllocGlobal, W: Write, E: Write>(
             return Ok(greatest);
         };
         match run_visit(rt, request, visit, room, out, err) {
-            Ok(next) => greatest = greater(greatest, next),
+            Ok(next) => greatest = greatest.max(next),
             Err(OutputFailed) => return Err(OutputFailed),
         }
     }
     Ok(greatest)
 }
 
-/// Reports on what a walk comes to, and returns its exit code.
+/// Reports on what a walk comes to, and returns its exit code. A file that does not begin like one of the kind that is asked for
+/// is passed over, and counted.
 ///
 /// # Errors
 ///
@@ -63,61 +64,37 @@ fn run_visit<R: Files + Input + AllocGlobal, W: Write, E: Write>(
     requires { IsVisit visit }
     ensures { EndsAs err.old err.new (IsVisited request.now W.contents out.old out.new) (IsCutAtOne request.now W.contents out.old out.new) result }
 {
+    let alloc = rt.alloc();
     match visit {
         Visit::Passed => Ok(0),
-        Visit::Special(path) => Ok(refuse(rt.alloc(), Unread::Special(path), err)),
-        Visit::Unread(path, failure) => Ok(report_unread(rt.alloc(), request, failure, path, err)),
-        Visit::File(path, reported) => run_found(rt, request, path, reported, room, out, err),
-    }
-}
-
-/// Reports on a file that was found in a directory, and had `reported` bytes. Returns its exit code. If it does not begin like a
-/// file of the kind that is asked for, it is passed over, and counted.
-///
-/// # Errors
-///
-/// The output failed.
-fn run_found<R: Files + Input + AllocGlobal, W: Write, E: Write>(
-    rt: &R,
-    request: &Request<'_>,
-    path: &str,
-    reported: u64,
-    room: &mut Room,
-    out: &mut W,
-    err: &mut E,
-) -> Result<u8, OutputFailed>
-    ensures { EndsAs err.old err.new (IsVisited request.now W.contents out.old out.new) (IsCutAtOne request.now W.contents out.old out.new) result }
-{
-    match read_if_like(rt, path, reported, request.input, &mut room.bytes) {
-        Ok(true) => run_on_bytes(rt.alloc(), request, path, room.bytes.as_slice(), out, err),
-        Ok(false) => {
-            room.others = room.others.saturating_add(1);
-            Ok(0)
-        }
-        Err(error) => {
-            let failure = Failure::of_reading(&error, path);
-            Ok(report_unread(rt.alloc(), request, failure, path.as_bytes(), err))
+        Visit::Special(path) => Ok(refuse(alloc, Unread::Special(path), err)),
+        Visit::Unread(path, failure) => Ok(report_unread(alloc, request, failure, path, err)),
+        Visit::File(path, reported) => {
+            match read_if_like(rt, path, reported, request.input, &mut room.bytes) {
+                Ok(true) => run_on_bytes(alloc, request, path, room.bytes.as_slice(), out, err),
+                Ok(false) => {
+                    room.others = room.others.saturating_add(1);
+                    Ok(0)
+                }
+                Err(error) => {
+                    let failure = Failure::of_reading(&error, path);
+                    Ok(report_unread(alloc, request, failure, path.as_bytes(), err))
+                }
+            }
         }
     }
 }
 
-/// Reports the number of files that were passed over, if directories are walked.
+/// Reports the number of files that were passed over, if directories are walked, unless there are none or the check is quiet.
 pub(crate) fn report_others<E: Write>(alloc: Global, request: &Request<'_>, count: u64, err: &mut E)
     ensures { (err.new ≡ err.old) ⊎ (request.now.directories ≡ Walked) }
 {
     match request.directories {
         Directories::Refused => {}
-        Directories::Walked => report_count(alloc, request, count, err),
-    }
-}
-
-/// Reports this number of files, unless there are none or the check is quiet.
-fn report_count<E: Write>(alloc: Global, request: &Request<'_>, count: u64, err: &mut E) {
-    match request.report {
-        Report::Check(Verdict::Quiet) => {}
-        _ if count == 0 => {}
-        _ => {
-            let _ = send_message(alloc, &Unread::Others(count, request.input), err);
+        Directories::Walked => {
+            if count > 0 && !matches!(&request.report, Report::Check(Verdict::Quiet)) {
+                let _ = send_message(alloc, &Unread::Others(count, request.input), err);
+            }
         }
     }
 }

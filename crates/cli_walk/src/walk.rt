@@ -147,13 +147,18 @@ fn names_in<R: Files + AllocGlobal>(rt: &R, directory: &str) -> io::Result<Vec<V
     let mut names = Vec::new(rt.alloc());
     let listing = BufReader::new(rt.alloc(), rt.open_dir(directory)?)?;
     for name in listing.split(rt.alloc(), 0) {
-        let name = name?;
-        if name.as_slice() != b".".as_slice() && name.as_slice() != b"..".as_slice() {
-            names.push(name)?;
-        }
+        add_name(name?, &mut names)?;
     }
     names.sort_unstable_by(|left: &Vec<u8>, right: &Vec<u8>| right.cmp(left));
     Ok(names)
+}
+
+/// Adds a name in a directory, unless it leads to the directory itself or to the one above it.
+fn add_name(name: Vec<u8>, names: &mut Vec<Vec<u8>>) -> Result<(), AllocError> {
+    if !matches!(name.as_slice(), b"." | b"..") {
+        names.push(name)?;
+    }
+    Ok(())
 }
 
 /// The first bytes of a file of this kind (II.25.2.1, II.24.2.1).

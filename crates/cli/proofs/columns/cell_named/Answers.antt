@@ -1,5 +1,5 @@
-use Rattle.cli.proofs.Prelude.{◌∙◌, ◌<◌, ℕ, ap, map, subst, sym, to_ascii_lowercase}
-use Rattle.cli.proofs.ColumnsNamed.{next_differs}
+use Rattle.cli.proofs.Prelude.{◌≢◌, ◌∙◌, ◌<◌, ℕ, ap, map, subst, sym, to_ascii_lowercase, column_name}
+use borrow.Author.Count.{below_more}
 use Rattle.cli.proofs.columns.cell_named.Goals as goal
 
 pub returns-then-eq_ignore_ascii_case-clause-sound : goal.returns-then-eq_ignore_ascii_case-clause-sound
@@ -12,5 +12,5 @@ returns-then-eq_ignore_ascii_case-clause-sound c =
 pub loop-cell_index-preserved : goal.loop-cell_index-preserved
 loop-cell_index-preserved c =
     let is = c.as_bytes.ensures.value ∙ c.column_name.ensures in
-    next_differs c.args.name.now c.args.table c.loop-cell_index.cell_index c.loop-cell_index.invariant
+    below_more (λ (index : ℕ). map to_ascii_lowercase c.args.name.now ≢ map to_ascii_lowercase (column_name c.args.table index)) c.loop-cell_index.cell_index c.loop-cell_index.invariant
     (λ same. let yes = c.eq_ignore_ascii_case.ensures.test.1 (same ∙ ap (map to_ascii_lowercase) (sym is)) in let no = sym c.if-eq_ignore_ascii_case.false ∙ yes in cc)

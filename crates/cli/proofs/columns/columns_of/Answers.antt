@@ -1,5 +1,5 @@
-use Rattle.cli.proofs.Prelude.{ℕ, List, [], All, drop, subst, sym, take, suc, Any, Bor, take_all, All-nil, All-weaker, NamesColumn, NamesIgnored, NamesSome, split_at}
-use Rattle.cli.proofs.ColumnsNamed.{all_more, none_ignored, only_more, some_of_ignored}
+use Rattle.cli.proofs.Prelude.{ℕ, List, [], drop, subst, sym, take, suc, take_all, All-nil, All-weaker, NamesColumn, NamesIgnored, NamesSome, split_at}
+use Rattle.cli.proofs.ColumnsNamed.{all_more, none_ignored, only_more}
 use Rattle.cli.proofs.columns.columns_of.Goals as goal
 
 pub loop-word-init : goal.loop-word-init
@@ -12,7 +12,7 @@ returns-in_default-clause-unknown c =
       take index words,
       drop (suc index) words,
       split_at words index _ c.loop-word-test.true,
-      All-weaker (NamesIgnored c.loop-word.ignored) NamesSome (some_of_ignored c.loop-word.ignored) (take index words) c.loop-word.invariant.all,
+      All-weaker (NamesIgnored c.loop-word.ignored) NamesSome (λ word is. (is.0, is.1, is.2)) (take index words) c.loop-word.invariant.all,
       (λ named. c.in_default.ensures.complete named.0 named.1 (subst (λ (bytes : List ℕ). NamesColumn bytes named.0 named.1) (sym c.as_bytes.ensures.value) named.2)),
     )
 
@@ -29,9 +29,5 @@ loop-word-preserved c =
 
 pub returns-clause-named : goal.returns-clause-named
 returns-clause-named c =
-    let words = c.args.words.now in
-    let all = take_all c.loop-word.word-index words c.loop-word-test.false in record {
-      all = subst (λ (xs : List (Bor (List ℕ))). All (NamesIgnored c.loop-word.ignored) xs) all c.loop-word.invariant.all;
-      only = λ table cell_index within marked.
-          subst (λ (xs : List (Bor (List ℕ))). Any (λ word. NamesColumn word.now table cell_index) xs) all (c.loop-word.invariant.only table cell_index within marked);
-    }
+    let named = rw (take_all c.loop-word.word-index c.args.words.now c.loop-word-test.false) at c.loop-word.invariant in
+    record { all = named.all; only = named.only }

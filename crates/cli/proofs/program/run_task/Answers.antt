@@ -27,9 +27,10 @@ returns-in-Embed-clause-run g c =
     let before = c.args.out.now in
     let after = c.embed_file-outcome.new.out in
     let options = c.in-Embed.options in
-    let run = embed_run before after c.embed_file-outcome.result c.in-Embed.file.now options.path.now (option_map (λ path. path.now) options.root)
+    let run = embed_run before after c.embed_file-outcome.result
     (λ bytes. IsEmbedding g.W.Write.contents g.R.File.Write.contents before after options.form options.strong_name bytes options.path.now)
-    (λ bytes given outcome. WarnsOf options.strong_name bytes c.args.err.now c.embed_file-outcome.new.err) c.embed_file-outcome.ensures in
+    (λ bytes given outcome. WarnsOf options.strong_name bytes c.args.err.now c.embed_file-outcome.new.err)
+    c.in-Embed.file.now options.path.now (option_map (λ path. path.now) options.root) c.embed_file-outcome.ensures in
     rw c.in-Embed.is (c.embed_file-outcome.result, run, c.status-in-Embed.ensures.status)
 
 pub returns-in-Embed-clause-quiet : goal.returns-in-Embed-clause-quiet

@@ -1,4 +1,4 @@
-use Rattle.std.proofs.Common.{◌∙◌, arith, inl, inr, refl}
+use Rattle.std.proofs.Common.{◌∙◌, ◌||◌, ap, arith, inl, inr, refl}
 use Rattle.cli_runs.proofs.Running.{all_ended, names_of, next_cut, next_ended, started}
 use Rattle.cli_runs.proofs.files.run_each.Goals as goal
 
@@ -17,9 +17,9 @@ returns-in-Err-clause-run g c =
 pub loop-name-preserved : goal.loop-name-preserved
 loop-name-preserved g c = record {
   completes = next_ended c.args.request.now g.W.Write.contents c.args.is_read c.args.out.now c.loop-name.is_read c.loop-name.out c.run_next.new.out c.args.names.now c.loop-name.name-index _ c.loop-name.greatest c.in-Ok.next
-      c.greater-greatest.result _ c.is_read_after-is_read.result c.loop-name-test.true c.greater-greatest.ensures c.is_read_after-is_read.ensures c.loop-name.invariant.completes c.in-Ok.ensures.2;
-  within = omega (arith, c.greater-greatest.ensures, c.loop-name.invariant.within, c.in-Ok.ensures.0);
-  quiet = λ is. c.in-Ok.ensures.1 (omega (arith, c.greater-greatest.ensures, is)) ∙ c.loop-name.invariant.quiet (omega (arith, c.greater-greatest.ensures, is));
+      c.max-greatest.result _ (c.loop-name.is_read || c.is_input-is_read.result) c.loop-name-test.true c.max-greatest.ensures (ap (◌||◌ c.loop-name.is_read) c.is_input-is_read.ensures) c.loop-name.invariant.completes c.in-Ok.ensures.2;
+  within = omega (arith, c.max-greatest.ensures, c.loop-name.invariant.within, c.in-Ok.ensures.0);
+  quiet = λ is. c.in-Ok.ensures.1 (omega (arith, c.max-greatest.ensures, is)) ∙ c.loop-name.invariant.quiet (omega (arith, c.max-greatest.ensures, is));
 }
 
 pub returns-clause-run : goal.returns-clause-run

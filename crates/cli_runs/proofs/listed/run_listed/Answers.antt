@@ -1,4 +1,4 @@
-use Rattle.cli_runs.proofs.Prelude.{◌∙◌, Ok, Err, ap, arith, inl, map, refl, OutOfMemory}
+use Rattle.cli_runs.proofs.Prelude.{◌∙◌, Ok, Err, ap, inl, map, refl, OutOfMemory}
 use Rattle.cli_faults.specs.Stops.{status_of_stop}
 use Rattle.cli_runs.proofs.listed.run_listed.Goals as goal
 
@@ -17,21 +17,3 @@ returns-in-Ok-names_in-clause-run g c = (
 
 pub returns-clause-run : goal.returns-clause-run
 returns-clause-run g c = (Err OutOfMemory, (tt, c.out_of_memory.ensures, refl))
-
-pub returns-in-Err-clause-limit : goal.returns-in-Err-clause-limit
-returns-in-Err-clause-limit g c = c.status.ensures.limit
-
-pub returns-in-Err-clause-quiet : goal.returns-in-Err-clause-quiet
-returns-in-Err-clause-quiet g c success = inl (c.status.ensures.quiet success)
-
-pub returns-in-Ok-names_in-clause-limit : goal.returns-in-Ok-names_in-clause-limit
-returns-in-Ok-names_in-clause-limit g c = c.run_each.ensures.limit
-
-pub returns-in-Ok-names_in-clause-quiet : goal.returns-in-Ok-names_in-clause-quiet
-returns-in-Ok-names_in-clause-quiet g c = c.run_each.ensures.quiet
-
-pub returns-clause-limit : goal.returns-clause-limit
-returns-clause-limit g c = omega (arith, c.out_of_memory.ensures)
-
-pub returns-clause-quiet : goal.returns-clause-quiet
-returns-clause-quiet g c success = absurd (omega (arith, c.out_of_memory.ensures, success))

@@ -1,7 +1,3 @@
-use Rattle.std.proofs.Common.{subst}
-use Rattle.cli_outline.specs.Orders.{AreOutlineRows}
-use Rattle.cli_outline.specs.Printed.{PrintsSome}
-use Rattle.cli_outline.specs.declared.source.OutlineOptions.{OutlineOptions}
 use Rattle.cli_runs.specs.Entries.{entered}
 use Rattle.cli_runs.proofs.Printings.{model_of_facts, some_declared}
 use Rattle.cli_runs.proofs.print_report.print_all.Goals as goal
@@ -11,9 +7,6 @@ returns-in-Ok g c = (
   c.in-Ok.ensures.sound,
   (λ header model are.
       let options = entered c.args.options c.in-Ok.entry in
-      let is = c.in-Ok.ensures.models model (model_of_facts c.args.request.now.input c.args.bytes.now header model are) in
-      let out =
-      subst (λ (by : OutlineOptions). PrintsSome by model (AreOutlineRows by model) c.args.out.now c.print_outline.new.out)
-      c.entered.ensures (c.print_outline.ensures model is) in
-      (c.in-Ok.entry, c.in-Ok.ensures.entry header model are, some_declared options c.args.out.now c.print_outline.new.out model _ out)),
+      let is = c.in-Ok.ensures.models model (model_of_facts c.args.job.now.request.now.input c.args.job.now.bytes.now header model are) in
+      (c.in-Ok.entry, c.in-Ok.ensures.entry header model are, some_declared options c.args.out.now c.print_outline.new.out model _ (c.print_outline.ensures model is))),
 )

@@ -1,27 +1,31 @@
-use Rattle.cli_runs.proofs.Printings.{info_ended, listing_ended, resources_ended, root_ended}
+use Rattle.std.proofs.Common.{refl}
+use Rattle.cli_runs.proofs.Printings.{resources_refused}
 use Rattle.cli_runs.proofs.print_report.print_report.Goals as goal
 
-pub returns-in-Root : goal.returns-in-Root
-returns-in-Root g c =
-    rw (c.in-Root.is, c.ended_by.ensures)
-    (root_ended c.args.request.now c.args.name.now c.args.bytes.now c.args.out.now c.print_root.new.out c.print_root.result
-    c.print_root.ensures.sound c.print_root.ensures.first_error c.print_root.ensures.untouched c.print_root.ensures.printed)
+pub returns-in-Ok : goal.returns-in-Ok
+returns-in-Ok g c = rw c.in-Root.is (c.in-Ok.ensures.sound, (λ header root are. (c.in-Ok.ensures.printed header root are, (λ live. tt))))
 
-pub returns-in-Info : goal.returns-in-Info
-returns-in-Info g c =
-    rw (c.in-Info.is, c.ended_by-in-Info.ensures)
-    (info_ended c.args.request.now c.args.name.now c.args.bytes.now c.args.out.now c.print_info.new.out c.print_info.result
-    c.print_info.ensures.whole c.print_info.ensures.first_error c.print_info.ensures.untouched c.print_info.ensures.printed)
+pub returns-in-Ok-print_root_until_fault : goal.returns-in-Ok-print_root_until_fault
+returns-in-Ok-print_root_until_fault g c =
+    let done = c.in-Ok-print_root_until_fault.ensures in
+    rw c.in-RootUntilFault.is (done.sound, (λ header root are. (done.printed header root are, (λ live. tt))))
 
-pub returns-in-Listing : goal.returns-in-Listing
-returns-in-Listing g c =
-    rw (c.in-Listing.is, c.ended_by-in-Listing.ensures)
-    (listing_ended c.args.request.now c.args.name.now c.args.bytes.now c.args.out.now c.print_listing.new.out _ c.print_listing.result
-    c.print_listing.ensures.first_error c.print_listing.ensures.untouched c.print_listing.ensures.printed)
+pub returns-in-Err-print_root_until_fault : goal.returns-in-Err-print_root_until_fault
+returns-in-Err-print_root_until_fault g c =
+    let stopped = c.in-Err-print_root_until_fault.ensures in
+    let before = stopped.readable in
+    rw c.in-RootUntilFault.is (c.in-Err-print_root_until_fault.fault, refl, stopped.first_error, (before.0, before.1, (before.2, (λ live. tt))))
 
-pub returns-in-Resources : goal.returns-in-Resources
-returns-in-Resources g c =
-    rw (c.in-Resources.is, c.ended_at.ensures)
-    (resources_ended c.args.request.now c.args.name.now c.args.bytes.now c.args.out.now c.print_resources.new.out c.print_resources.result
-    c.print_resources.ensures.first_error c.print_resources.ensures.untouched c.print_resources.ensures.whole c.print_resources.ensures.located
-    c.print_resources.ensures.printed)
+pub returns-in-Ok-print_info : goal.returns-in-Ok-print_info
+returns-in-Ok-print_info g c =
+    rw c.in-Info.is (c.in-Ok-print_info.ensures.whole, (λ header model are. (c.in-Ok-print_info.ensures.printed header model are, (λ live. tt))))
+
+pub returns-in-Ok-print_resources : goal.returns-in-Ok-print_resources
+returns-in-Ok-print_resources g c =
+    let done = c.in-Ok-print_resources.ensures in
+    rw c.in-Resources.is (done.whole, (λ header model is. (done.located header model is, (λ locations are. (done.printed header model is locations are, (λ live. tt))))))
+
+pub returns-in-Err-print_resources : goal.returns-in-Err-print_resources
+returns-in-Err-print_resources g c =
+    let refused = c.in-Err-print_resources.ensures in
+    rw (c.in-Resources.is, c.stop_of.ensures) (resources_refused c.args.job.now.request.now c.args.job.now.bytes.now c.in-Err-print_resources.unfound refused.first_error, refused.untouched)

@@ -1,7 +1,3 @@
-use Rattle.std.proofs.Common.{subst}
-use Rattle.cli_outline.specs.Subjects.{PrintsSubject}
-use Rattle.cli_outline.specs.declared.outcome.Outcome.TheVariants.{Printed}
-use Rattle.cli_outline.specs.declared.source.OutlineOptions.{OutlineOptions}
 use Rattle.cli_runs.specs.Entries.{entered}
 use Rattle.cli_runs.proofs.Printings.{model_of_facts, some_declared}
 use Rattle.cli_runs.proofs.print_report.print_row.Goals as goal
@@ -11,9 +7,7 @@ returns-in-Printed g c = (
   c.in-Ok.ensures.sound,
   (λ header model are.
       let options = entered c.args.options c.in-Ok.entry in
-      let is = c.in-Ok.ensures.models model (model_of_facts c.args.request.now.input c.args.bytes.now header model are) in
-      let out =
-      subst (λ (by : OutlineOptions). PrintsSubject by model c.args.subject c.args.out.now c.print_outline_of.new.out Printed)
-      c.entered.ensures (c.in-Printed.ensures.printed model is) in
+      let is = c.in-Ok.ensures.models model (model_of_facts c.args.job.now.request.now.input c.args.job.now.bytes.now header model are) in
+      let out = c.in-Printed.ensures.printed model is in
       (c.in-Ok.entry, c.in-Ok.ensures.entry header model are, (out.0, out.1, out.2, some_declared options c.args.out.now c.print_outline_of.new.out model _ out.3))),
 )

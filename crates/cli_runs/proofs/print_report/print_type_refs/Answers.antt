@@ -6,6 +6,6 @@ pub returns-in-Printed : goal.returns-in-Printed
 returns-in-Printed g c = (
   c.in-Ok.ensures.sound,
   (λ model is.
-      let out = rw c.everything.ensures at (c.in-Printed.ensures.printed model (c.in-Ok.ensures.models model is)) in
+      let out = c.in-Printed.ensures.printed model (c.in-Ok.ensures.models model is) in
       (out.0, (out.1.0, out.1.1, declared everything c.args.out.now c.print_refs_of.new.out model _ out.1.2))),
 )

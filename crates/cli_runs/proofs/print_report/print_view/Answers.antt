@@ -9,4 +9,4 @@ pub returns-in-Types : goal.returns-in-Types
 returns-in-Types g c model is = rw c.in-Types.is (c.print_types.ensures model is, (λ live. tt))
 
 pub returns-in-Refs : goal.returns-in-Refs
-returns-in-Refs g c model is = rw c.in-Refs.is (declared everything c.args.out.now c.print_refs.new.out model _ (rw c.everything.ensures at (c.print_refs.ensures model is)))
+returns-in-Refs g c model is = rw c.in-Refs.is (declared everything c.args.out.now c.print_refs.new.out model _ (c.print_refs.ensures model is))
