@@ -6,18 +6,6 @@ use Rattle.std.proofs.lemmas.List.Filters.{length-filter_both}
 
 -- ---- membership
 
-<<<<<<< HEAD
-=======
-abbrev pub IsIn : {X : Type 0} → X → List X → Type 0
-IsIn x [] = ⊥
-IsIn x (y ∷ ys) = (y ≡ x) ⊎ IsIn x ys
-
-pub contains_from_in : {X : Type 0} (xs : List X) (x : X) → IsIn x xs → Contains xs x
-contains_from_in [] x h = absurd h
-contains_from_in (y ∷ ys) x (inl e) = (0, omega arith, e)
-contains_from_in (y ∷ ys) x (inr h) = let tail = contains_from_in ys x h in (suc tail.0, omega (arith, tail.1), tail.2)
-
->>>>>>> h_E
 pub in_get_or : {X : Type 0} (xs : List X) (k : ℕ) (d : X) → k < length xs → IsIn (get_or xs k d) xs
 in_get_or xs k d below = in_from_contains xs (get_or xs k d) (Contains-get_or xs k d below)
 

@@ -1,16 +1,6 @@
-<<<<<<< HEAD
--- The tables whose Sorted bit is set are in order of their keys, and nested types follow their enclosing types.
-use Rattle.root_writer.proofs.Prelude.{◌≡◌, ℕ, ◌+◌, ◌-◌, ◌%◌, ◌^◌, ◌<◌, ◌≤◌, Bool, true, false, lit<, List, [], map, length, get_or, Contains, refl, sym, ap, subst, ◌∙◌, inl, inr, Option, Some, None, arith, slice_index, position_or_len, length-map, get_or-map, mod-eq_of_lt, one-le-pow, TableId, NestedClass, TypeDef, Coded, Column, ColumnKind, columns_of, column_at, key_of, col, IsReference, tables_of, tag_bits, count_of, kind_width, row_index_width, coded_width, width_of, is_table, Cell, Number, Metadata, rows_of, count_in, cell_in, number_of, is_padding, cell_columns, cell_count, column_of, table_at, IsKeyCell, is_said_sorted, IsByKey, AreByKey, AreNested, Pools, pools_of, cell_number, numbers_by, rises, is_by_key, table_keys, is_sorted, sizes_of, row_in, IsValid}
-use Rattle.schema.proofs.BitLemmas.{has_bit_of}
-use Rattle.table_schema.specs.declared.column.ColumnKind.TheVariants as kind
-use Rattle.metadata.specs.KeyOrder.{key_number, key_in, IsKeyOrdered}
-use Rattle.root_writer.proofs.HeldRoots.{MayRefer, IsValidCell, row_long, cell_valid}
-use Rattle.table_schema.proofs.CodedLemmas.{tables_few}
-use Rattle.table_schema.proofs.TableFacts.{key_reference, key_within}
-use Rattle.root_writer.proofs.Widths.{count_is, row_fits, coded_fits, tag_found}
-=======
 -- The tables whose Sorted bit is set are in order of their keys, and the links between rows are valid.
 use Rattle.root_writer.proofs.Prelude.{◌≡◌, ℕ, ◌+◌, ◌-◌, ◌%◌, ◌^◌, ◌<◌, ◌≤◌, Bool, true, false, lit<, List, [], map, length, get_or, Contains, refl, sym, ap, subst, ◌∙◌, inl, inr, Option, Some, None, arith, slice_index, position_or_len, length-map, get_or-map, mod-eq_of_lt, one-le-pow, TableId, TypeDef, Field, MethodDef, Param, EventMap, Event, PropertyMap, Property, NestedClass, Coded, Column, ColumnKind, columns_of, column_at, key_of, col, IsReference, tables_of, count_of, kind_width, row_index_width, coded_width, width_of, is_table, Cell, Number, Metadata, rows_of, count_in, cell_in, number_of, is_padding, cell_columns, cell_count, column_of, table_at, IsKeyCell, is_said_sorted, IsByKey, AreByKey, AreLinked, links_in, Pools, pools_of, cell_number, numbers_by, rises, is_by_key, table_keys, is_sorted, sizes_of, row_in, IsValid}
+use Rattle.schema.proofs.BitLemmas.{has_bit_of}
 use Rattle.table_schema.specs.declared.column.ColumnKind.TheVariants as kind
 use Rattle.metadata.specs.KeyOrder.{key_number, key_in, IsKeyOrdered}
 use Rattle.root_writer.proofs.HeldRoots.{MayRefer, IsValidCell, row_long, cell_valid}
@@ -19,7 +9,6 @@ use Rattle.root_writer.proofs.Widths.{count_is, row_fits, coded_fits}
 use Rattle.table_schema.proofs.CodedLemmas.{tag_below}
 use Rattle.table_schema.proofs.TableFacts.{key_within, key_reference}
 use Rattle.metadata.proofs.KeyLemmas.{tag_listed}
->>>>>>> h_E
 use Rattle.root_writer.proofs.Stands.{IsWithin}
 use Rattle.root_writer.proofs.Starts.{rises_at, rises_from}
 use Rattle.root_writer.proofs.Rows.{cells_of, located, has_cell_index}
@@ -44,17 +33,10 @@ module _ (model : Metadata) (within : IsWithin model) where
   coded_reference_fits nullable coded cell (inl null) = rw (null.1) (one-le-pow (coded_width (sizes_of model) coded) 256 (omega arith))
   coded_reference_fits nullable coded cell (inr is) =
       let token = is.0 in
-<<<<<<< HEAD
-      let tag = tag_found (tables_of coded) token.table is.1 in
-      let low : position_or_len (is_table token.table) (tables_of coded) < 2 ^ tag_bits coded = omega (arith, tag.1, tables_few coded) in
-      rw (is.3) (coded_fits (sizes_of model) coded token.table token.row (position_or_len (is_table token.table) (tables_of coded)) tag.0 low
-      (rw (count_is model token.table) (is.2.1)) (few token.table))
-=======
       let tag = tag_listed coded token.table is.1 in
       let low = tag_below coded (position_or_len (is_table token.table) (tables_of coded)) token.table tag in
-      rw (is.3) (coded_fits facts (sizes_of model) coded token.table token.row (position_or_len (is_table token.table) (tables_of coded)) tag low
-      (rw (count_is model facts token.table) (is.2.1)) (few token.table))
->>>>>>> h_E
+      rw (is.3) (coded_fits (sizes_of model) coded token.table token.row (position_or_len (is_table token.table) (tables_of coded)) tag low
+      (rw (count_is model token.table) (is.2.1)) (few token.table))
 
   reference_fits : (column : Column) (cell : Cell) → IsReference column → IsValidCell model column.kind column.nullable cell
       → cell_number (pools_of model) column.kind cell < 256 ^ width_of (sizes_of model) column
@@ -156,15 +138,9 @@ module _ (model : Metadata) (valid : IsValid model) (within : IsWithin model) wh
       let column = column_at table (column_of table cell_index.0) in
       let cell = cell_in model table row cell_index.0 in
       let reference = key_reference table (column_of table cell_index.0) cell_index.1.key in
-<<<<<<< HEAD
       let good = cell_valid model valid table row cell_index.0 first last cell_index.1.within in
       let fits = reference_fits model within column cell reference good in
       let value = number_at model valid table row cell_index.0 first last cell_index.1.within ∙ mod-eq_of_lt fits ∙ column_key (pools_of model) model column cell reference good in
-=======
-      let good = cell_valid facts model valid table row cell_index.0 first last cell_index.1.within in
-      let fits = reference_fits facts model within column cell reference good in
-      let value = number_at facts model valid table row cell_index.0 first last cell_index.1.within ∙ mod-eq_of_lt fits ∙ column_key (pools_of model) model column cell reference good in
->>>>>>> h_E
       subst (λ (c : ℕ). number_of (source_of model) table row c ≡ key_in model table cell_index.0 row) same value
       ∙ sym (key_at model valid table key cell_index.0 row is cell_index.1 first last)
 
@@ -208,15 +184,9 @@ module _ (model : Metadata) (valid : IsValid model) (within : IsWithin model) wh
       ∙ mod-eq_of_lt fits
       ∙ row_number_is column.nullable TypeDef cell good
 
-  pub are_linked : AreLinked (links_in (source_of model))
+  pub are_linked : Facts → AreLinked (links_in (source_of model))
   unfolding cell_columns
-<<<<<<< HEAD
-  are_nested = λ row first last.
-      let count = count_is model NestedClass in
-      rw (nested_value row 1 first (omega (arith, count)) (lit< tt) refl, nested_value row 0 first (omega (arith, count)) (lit< tt) refl)
-      (valid.nested row (first, omega (arith, count)))
-=======
-  are_linked =
+  are_linked facts =
       let owned = is_owned facts model valid within in
       record {
         fields = owned TypeDef 4 Field (lit< tt) refl valid.fields;
@@ -225,8 +195,7 @@ module _ (model : Metadata) (valid : IsValid model) (within : IsWithin model) wh
         events = owned EventMap 1 Event (lit< tt) refl valid.events;
         properties = owned PropertyMap 1 Property (lit< tt) refl valid.properties;
         nested = λ row first last.
-            let count = count_is model facts NestedClass in
+            let count = count_is model NestedClass in
             rw (nested_value row 1 first (omega (arith, count)) (lit< tt) refl, nested_value row 0 first (omega (arith, count)) (lit< tt) refl)
             (valid.nested row (first, omega (arith, count)));
       }
->>>>>>> h_E

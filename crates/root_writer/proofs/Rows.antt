@@ -1,12 +1,7 @@
 -- The numbers of a row: one per column, one for each cell, each truncated to the width of its column.
 use Rattle.root_writer.proofs.Prelude.{◌≡◌, ℕ, zero, suc, ◌+◌, ◌-◌, ◌%◌, ◌^◌, ◌<◌, ◌≤◌, Bool, true, false, cond, List, [], ◌∷◌, ◌++◌, map, length, get_or, refl, sym, ap, subst, ◌∙◌, arith, length-map, get_or-map, TableId, Module, Column, ColumnKind, tables, table_index_of, columns_of, Sizes, width_of, row_bytes, rows_bytes, tables_bytes, FitRows, FitTables, fields_of, number_in, Cell, Metadata, rows_of, count_in, is_padding, indexes_from, Pools, pools_of, cell_number, with_next, numbers_by, numbers_of, table_numbers, numbers, sizes_of}
-<<<<<<< HEAD
 use Rattle.schema.proofs.FieldLemmas.{field_at, fields_fit, low_row}
 use Rattle.table_schema.proofs.TableFacts.{length-tables, table_at_index, table_index_below}
-=======
-use Rattle.table_schema.proofs.TableFacts.{table_at_index, table_index_below, length-tables}
-use Rattle.root_writer.proofs.Facts.{Facts}
->>>>>>> h_E
 
 -- ---- one number per column
 
@@ -88,11 +83,7 @@ pub number_is : (model : Metadata) (table : TableId) (row column : ℕ) (none : 
     ≡ get_or (numbers_of (pools_of model) (columns_of table) (cells_of model table row)) column 0 % 256 ^ width_of (sizes_of model)
     (get_or (columns_of table) column none)
 unfolding fields
-<<<<<<< HEAD
 number_is model table row column none first last below =
-=======
-number_is facts model table row column none first last below =
->>>>>>> h_E
     let low : table_index_of table < length tables = omega (arith, table_index_below table, length-tables) in
     let rows = rows_of model table in
     let here : row - 1 < length rows = omega arith in

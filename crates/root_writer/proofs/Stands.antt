@@ -107,15 +107,9 @@ module _ (model : Metadata) (within : IsWithin model) where
   coded_stands numbers nullable coded cell null_used (inr is) =
       let token = is.0 in
       let has = there numbers token is.2 in
-<<<<<<< HEAD
-      let tag = tag_found (tables_of coded) token.table is.1 in
-      let low : position_or_len (is_table token.table) (tables_of coded) < 2 ^ tag_bits coded = omega (arith, tag.1, tables_few coded) in
-      let fits = coded_fits (sizes_of model) coded token.table token.row (position_or_len (is_table token.table) (tables_of coded)) tag.0 low has.1
-=======
       let tag = tag_listed coded token.table is.1 in
       let low = tag_below coded (position_or_len (is_table token.table) (tables_of coded)) token.table tag in
-      let fits = coded_fits facts (sizes_of model) coded token.table token.row (position_or_len (is_table token.table) (tables_of coded)) tag low has.1
->>>>>>> h_E
+      let fits = coded_fits (sizes_of model) coded token.table token.row (position_or_len (is_table token.table) (tables_of coded)) tag low has.1
       (few token.table) in (
         token,
         record {

@@ -4,11 +4,7 @@ use Rattle.table_schema.specs.declared.column.ColumnKind.TheVariants as kind
 use Rattle.root_writer.proofs.HeldRoots.{IsValidCell, row_long, cell_valid}
 use Rattle.root_writer.proofs.Lists.{in_get_or, in_three, are_from}
 use Rattle.root_writer.proofs.Facts.{Facts}
-<<<<<<< HEAD
 use Rattle.table_schema.proofs.TableFacts.{table_index_at, may_be_null, table_index_below}
-=======
-use Rattle.table_schema.proofs.TableFacts.{table_index_at, table_index_below, may_be_null}
->>>>>>> h_E
 use Rattle.root_writer.proofs.Widths.{count_is}
 use Rattle.root_writer.proofs.Stands.{source_with, IsUsed, IsWithin, HasNull, stands}
 use Rattle.root_writer.proofs.Rows.{fields, cells_of, number_is, located}
@@ -204,13 +200,8 @@ module _ (facts : Facts) (model : Metadata) (valid : IsValid model) (within : Is
       ∙ sym (ap (cell_number (pools_of model) column.kind) is.is) in
       subst (λ n. StandsFor (source_of model) column.kind column.nullable start n cell) (sym (number_at model valid table row cell_index first last below))
       (stands facts model within (fields model) column.kind column.nullable start cell
-<<<<<<< HEAD
       (cell_used model valid table row cell_index first last below)
       (λ nullable. has_null column (may_be_null table (column_of table cell_index) (column_below model valid table row cell_index first last below) nullable))
-=======
-      (cell_used facts model valid table row cell_index first last below)
-      (λ nullable. has_null column (may_be_null table (column_of table cell_index) (column_below facts model valid table row cell_index first last below) nullable))
->>>>>>> h_E
       started
       (cell_valid model valid table row cell_index first last below))
 

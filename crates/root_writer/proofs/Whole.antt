@@ -1,10 +1,6 @@
 -- The canonical root of a valid model is a root with that model.
-<<<<<<< HEAD
-use Rattle.root_writer.proofs.Prelude.{◌≡◌, ℕ, ◌+◌, ◌-◌, ◌%◌, ◌^◌, ◌<◌, ◌≤◌, Bool, true, false, ltb, List, [], ◌∷◌, ◌++◌, length, refl, sym, ap, subst, ◌∙◌, ◌⊎◌, inl, inr, ⊎_elim, arith, length-append, All, Option, Some, None, IfSome, replicate, AllByRecursion, flat_map, count_by, cases_Bool, cond_both, nat_tests, append-nil, nil_from_length, All-from_recursion, Kind, Tables, Strings, UserStrings, Guids, Blobs, Header, signature, IsVersion, AreHeaders, IsRoot, IsNumber, zero_padded, is_among, first_uses, distinct, TableId, ColumnKind, tables, column_at, header_size, number_bytes, tables_bytes, IsLaidOut, Cell, Guid, Metadata, count_in, Source, cell_count, column_of, table_at, AreTables, AreByKey, AreOwned, AreNested, IsModel, used, guids_of, numbers, has_rows, is_sorted, sizes_of, header_bytes, table_stream, stream, streams_of, ended, directory, prefix, first_offset, root_of, canonical, IsValid}
-use Rattle.schema.proofs.BitLemmas.{bits_low}
-=======
 use Rattle.root_writer.proofs.Prelude.{◌≡◌, ℕ, ◌+◌, ◌-◌, ◌%◌, ◌^◌, ◌<◌, ◌≤◌, Bool, true, false, ltb, List, [], ◌∷◌, ◌++◌, length, refl, sym, ap, subst, ◌∙◌, ◌⊎◌, inl, inr, ⊎_elim, arith, length-append, All, Option, Some, None, IfSome, replicate, AllByRecursion, flat_map, count_by, cases_Bool, cond_both, nat_tests, append-nil, nil_from_length, All-from_recursion, Kind, Tables, Strings, UserStrings, Guids, Blobs, Header, signature, IsVersion, AreHeaders, IsRoot, IsNumber, zero_padded, is_among, first_uses, distinct, TableId, ColumnKind, tables, column_at, header_size, number_bytes, tables_bytes, IsLaidOut, Cell, Guid, Metadata, count_in, Source, cell_count, column_of, table_at, AreTables, AreByKey, AreLinked, links_in, IsModel, used, guids_of, numbers, has_rows, is_sorted, sizes_of, header_bytes, table_stream, stream, streams_of, ended, directory, prefix, first_offset, root_of, canonical, IsValid}
->>>>>>> h_E
+use Rattle.schema.proofs.BitLemmas.{bits_low}
 use Rattle.table_schema.specs.declared.column.ColumnKind.TheVariants as kind
 use Rattle.metadata.specs.Streams.{stream_in, source_in}
 use Rattle.std.proofs.lemmas.List.{length-replicate}
@@ -16,15 +12,9 @@ use Rattle.root_writer.proofs.Facts.{Facts}
 use Rattle.root_writer.proofs.Widths.{heap_sizes_low, count_is}
 use Rattle.root_writer.proofs.Stands.{IsWithin}
 use Rattle.root_writer.proofs.Rows.{fields, tables_low, fit_tables, counts_are}
-<<<<<<< HEAD
-use Rattle.root_writer.proofs.Tables.{source_of, tables_stand, are_owned}
-use Rattle.root_writer.proofs.Orders.{are_by_key, are_nested}
-use Rattle.root_writer.proofs.Streams.{length-zero_padded, padding_of, ended_is, AreApart, all_kinds, filter_apart, in_all, headers_of, contents, are_headers, length-headers_of, stream_found, is_named, all_meet, directory_long, within}
-=======
 use Rattle.root_writer.proofs.Tables.{source_of, tables_stand}
 use Rattle.root_writer.proofs.Orders.{are_by_key, are_linked}
-use Rattle.root_writer.proofs.Streams.{length_zeros, length-zero_padded, padding_of, ended_is, AreApart, all_kinds, filter_apart, in_all, headers_of, contents, are_headers, length-headers_of, stream_found, is_named, all_meet, directory_long, within}
->>>>>>> h_E
+use Rattle.root_writer.proofs.Streams.{length-zero_padded, padding_of, ended_is, AreApart, all_kinds, filter_apart, in_all, headers_of, contents, are_headers, length-headers_of, stream_found, is_named, all_meet, directory_long, within}
 
 -- ---- each GUID of a valid model has 16 bytes
 
@@ -252,13 +242,7 @@ module _ (facts : Facts) (model : Metadata) (valid : IsValid model) (small : len
         numbers = fields model;
         laid_out = subst (λ bytes. IsLaidOut bytes (sizes_of model) (fields model)) (sym (find Tables)) (laid_out model valid);
         cells = subst (λ (s : Source). AreTables s model.tables) (sym same_source) (tables_stand facts model valid inside);
-<<<<<<< HEAD
         ordered = subst (λ (s : Source). AreByKey s) (sym same_source) (are_by_key model valid inside);
-        owned = subst (λ (s : Source). AreOwned s) (sym same_source) (are_owned facts model valid inside);
-        nested = subst (λ (s : Source). AreNested s) (sym same_source) (are_nested model valid inside);
-=======
-        ordered = subst (λ (s : Source). AreByKey s) (sym same_source) (are_by_key facts model valid inside);
-        linked = subst (λ (s : Source). AreLinked (links_in s)) (sym same_source) (are_linked facts model valid inside);
->>>>>>> h_E
+        linked = subst (λ (s : Source). AreLinked (links_in s)) (sym same_source) (are_linked model valid inside facts);
         user = user_is;
       }

@@ -1,16 +1,8 @@
 -- The numbers of cells fit the widths of the canonical table stream.
 use Rattle.root_writer.proofs.Prelude.{◌≡◌, ℕ, zero, suc, ◌+◌, ◌-◌, ◌*◌, ◌/◌, ◌%◌, ◌^◌, ◌<◌, ◌≤◌, Bool, true, false, not, cond, eqb, ltb, leb, List, [], ◌∷◌, ◌++◌, length, get_or, refl, ap, subst, ◌∙◌, ◌⊎◌, inl, inr, Option, Some, None, arith, length-append, slice_get, list_all, cond_both, leb-false, not-true, and_parts, ltb-true, nat_tests, get_or-map, mul-add-lt, TableId, Module, Coded, tables, table_index_of, tables_of, tag_bits, Sizes, count_of, narrow_or_wide, heap_width, is_below, coded_width, IsText, IsBlob, IsGuid, Metadata, count_in, texts_stream, blobs_stream, guids_stream, sizes_of}
 use Rattle.packed.specs.Packed.{IsPacked}
-<<<<<<< HEAD
-use Rattle.heap_pools.proofs.MemberLemmas.{IsIn, in_from_contains}
-use Rattle.table_schema.proofs.TableFacts.{length-tables, table_at_index, table_index_below}
-use Rattle.table_schema.proofs.TableOrder.{numbers_rise}
-use Rattle.table_schema.proofs.CodedLemmas.{tag_narrow, tag_wide}
-=======
 use Rattle.table_schema.proofs.CodedLemmas.{tag_narrow, tag_wide}
 use Rattle.table_schema.proofs.TableFacts.{table_at_index, table_index_below, length-tables}
-use Rattle.root_writer.proofs.Facts.{Facts}
->>>>>>> h_E
 
 -- ---- indexes lie within their heaps
 
@@ -98,11 +90,7 @@ module _ (model : Metadata) where
 
   pub count_is : (table : TableId) → count_of (sizes_of model) table ≡ count_in model table
   unfolding sizes_of
-<<<<<<< HEAD
   count_is table =
-=======
-  count_is facts table =
->>>>>>> h_E
       let below : table_index_of table < length tables = omega (arith, table_index_below table, length-tables) in
       get_or-map (count_in model) tables (table_index_of table) Module 0 below ∙ ap (count_in model) (table_at_index table)
 
@@ -115,20 +103,6 @@ row_fits number count low small =
 
 -- ---- tags
 
-<<<<<<< HEAD
-pub same_table : (a b : TableId) → table_number a ≡ table_number b → a ≡ b
-same_table a b e = ⊎_elim
-    (λ (l : table_index_of a < table_index_of b). absurd (omega (arith, numbers_rise a b l)))
-    (λ (h : table_index_of b ≤ table_index_of a). ⊎_elim
-    (λ (l : table_index_of b < table_index_of a). absurd (omega (arith, numbers_rise b a l)))
-    (λ (k : table_index_of a ≤ table_index_of b).
-    let same : table_index_of a ≡ table_index_of b = omega arith in
-    sym (table_at_index a) ∙ ap (λ n. get_or tables n Module) same ∙ table_at_index b)
-    (cases_lt (table_index_of b) (table_index_of a)))
-    (cases_lt (table_index_of a) (table_index_of b))
-
-=======
->>>>>>> h_E
 below_listed : (sizes : Sizes) (limit : ℕ) (listed : List (Option TableId)) (tag : ℕ) (table : TableId)
     → list_all (is_below sizes limit) listed ≡ true → slice_get listed tag ≡ Some (Some table) → count_of sizes table < limit
 below_listed sizes limit [] tag table all e = cc
@@ -161,40 +135,3 @@ coded_fits sizes coded table row tag is low there small =
   where
     narrow : Bool
     narrow = list_all (is_below sizes (2 ^ (16 - tag_bits coded))) (tables_of coded)
-<<<<<<< HEAD
-
--- the first index of a table in a list
-abbrev IsTag : List (Option TableId) → TableId → ℕ → Type 0
-IsTag listed table tag = (slice_get listed tag ≡ Some (Some table)) × (tag < length listed)
-
-later : (first : Option TableId) (listed : List (Option TableId)) (table : TableId) (tag : ℕ) → IsTag listed table tag → IsTag (first ∷ listed) table (1 + tag)
-later first listed table tag is = let up : 1 + tag ≡ suc tag = omega arith in rw up (is.0, omega (arith, is.1))
-
-tag_in : (listed : List (Option TableId)) (table : TableId) → IsIn (Some table) listed → IsTag listed table (position_or_len (is_table table) listed)
-tag_in [] table h = absurd h
-tag_in (None ∷ listed) table (inl e) = cc
-tag_in (None ∷ listed) table (inr h) = later None listed table (position_or_len (is_table table) listed) (tag_in listed table h)
-tag_in (Some other ∷ listed) table h = ⊎_elim
-    (λ (t : is_table table (Some other) ≡ true).
-    let equal : table_number table ≡ table_number other = grind (arith, nat_tests) in
-    let same = same_table table other equal in
-    subst (λ b. IsTag (Some other ∷ listed) table (cond (not b) (1 + position_or_len (is_table table) listed) 0)) (sym t)
-    (ap (λ t. Some (Some t)) (sym same), omega arith))
-    (λ (f : is_table table (Some other) ≡ false).
-    subst (λ b. IsTag (Some other ∷ listed) table (cond (not b) (1 + position_or_len (is_table table) listed) 0)) (sym f)
-    (later (Some other) listed table (position_or_len (is_table table) listed) (tag_in listed table (there f h))))
-    (cases_Bool (is_table table (Some other)))
-  where
-    there : is_table table (Some other) ≡ false → IsIn (Some table) (Some other ∷ listed) → IsIn (Some table) listed
-    there f (inl e) =
-        let same : other ≡ table = cc in
-        let equal = ap table_number same in
-        let same_number : is_table table (Some other) ≡ true = grind (arith, nat_tests) in
-        absurd (true≢false (sym same_number ∙ f))
-    there f (inr l) = l
-
-pub tag_found : (listed : List (Option TableId)) (table : TableId) → Contains listed (Some table)
-    → IsTag listed table (position_or_len (is_table table) listed)
-tag_found listed table there = tag_in listed table (in_from_contains listed (Some table) there)
-=======
->>>>>>> h_E

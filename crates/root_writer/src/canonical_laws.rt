@@ -14,14 +14,6 @@ fn valid_models_are_encoded()
     ensures order { (model : Metadata) → IsValid model → (table : Table) (key : ℕ) → key_of table ≡ Some key
         → (is_sorted model table ≡ true) ↔ IsKeyOrdered model table }
 {
-<<<<<<< HEAD
-=======
-    heap_pools::laws::used_text_is_found();
-    heap_pools::laws::pooled_blob_is_found();
-    heap_pools::laws::pooled_guid_is_found();
-    heap_pools::laws::pooled_are_distinct();
-    schema::laws::bits_are_known();
->>>>>>> h_E
     schema::laws::numbers_are_encoded();
     sig_values::laws::shortest_encodes();
 }
