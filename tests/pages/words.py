@@ -49,7 +49,7 @@ FIXED = {
     "fill", "fill_with", "fill_buf", "resize_with", "push_front", "pop_front", "front_mut", "is_char_boundary",
 }
 # Names of lemmas and of a clause of the toolchain's library.
-FIXED |= {"end_rest", "eqb_tells", "leb_tells", "from_rest", "take_rest", "same_from_place", "front_len", "rests"}
+FIXED |= {"end_rest", "eqb_tells", "leb_tells", "from_rest", "take_rest", "same_from_place", "front_len", "rests", "places"}
 # Files that the toolchain names.
 FIXED_FILES = {"Answers.antt", "Answers.txt"}
 # Names, and single words, that are fixed in a folder.

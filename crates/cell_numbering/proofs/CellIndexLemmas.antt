@@ -47,8 +47,8 @@ few_cells _ = lit≤ tt
 
 -- ---- what is left of a list
 
-pub next_left : {X Y : Type 0} (rest : List X → Y) (xs : List X) (i : ℕ) (d : X) (whole : Y) → i < length xs → rest (drop i xs) ≡ whole → rest (get_or xs i d ∷ drop (i + 1) xs) ≡ whole
-next_left rest xs i d whole below e = sym (ap rest (drop_more xs i d below)) ∙ e
+pub next_left : {X Y : Type 0} (over : List X → Y) (xs : List X) (i : ℕ) (d : X) (whole : Y) → i < length xs → over (drop i xs) ≡ whole → over (get_or xs i d ∷ drop (i + 1) xs) ≡ whole
+next_left over xs i d whole below e = sym (ap over (drop_more xs i d below)) ∙ e
 
-pub none_left : {X Y : Type 0} (rest : List X → Y) (xs : List X) (i : ℕ) (whole : Y) → length xs ≤ i → rest (drop i xs) ≡ whole → rest [] ≡ whole
-none_left rest xs i whole past e = sym (ap rest (drop_all i xs past)) ∙ e
+pub none_left : {X Y : Type 0} (over : List X → Y) (xs : List X) (i : ℕ) (whole : Y) → length xs ≤ i → over (drop i xs) ≡ whole → over [] ≡ whole
+none_left over xs i whole past e = sym (ap over (drop_all i xs past)) ∙ e

@@ -11,7 +11,7 @@ plus_free : (led : Bool) (word : List ℕ) → led ≡ false → drop (cond led 
 plus_free true word none = cc
 plus_free false word none = refl
 
--- an argument without a leading plus is read as a number of so many bits if and only if it is digits of one
+-- an argument without a leading plus is read as a number of that width if and only if it is digits of one
 pub number_read : {E : Type 0} (bits radix : ℕ) (word : List ℕ) (read : Result ℕ E) (answer : Option ℕ) → (slice_index word 0 == 43) ≡ false
     → ParsesUnsigned bits radix word read → answer ≡ result_ok read → SomeIff answer (IsNumeral radix word × (digits_value radix word < 2 ^ bits)) (digits_value radix word)
 number_read bits radix word (Ok number) answer none parses is =
