@@ -2,9 +2,6 @@ use Rattle.checks.proofs.Prelude.{arith, sym, ◌∙◌, before_more, before_all
 use Rattle.checks.proofs.Broken.{passes, breaks}
 use Rattle.checks.proofs.cell_checks.broken_from.Goals as goal
 
-pub loop-row-init : goal.loop-row-init
-loop-row-init c = c.requires.before
-
 pub loop-row-preserved : goal.loop-row-preserved
 loop-row-preserved c =
     before_more _ _ _ c.loop-row.invariant
