@@ -133,6 +133,7 @@ fn declaration<S: MethodSink>(sink: &mut S, taken: &mut bool, bytes: &[u8])
 }
 
 /// Writes the bytes of a method or a property as it is declared, or of a field as its type and its name.
+#[tactic(auto, unfolding(crate::specs::Shown::member_shown))]
 fn member<S: MethodSink>(sink: &mut S, taken: &mut bool, bytes: &[u8])
     ensures { Wrote S.refused S.gives sink.old taken.old (member_shown (core_shown 128) bytes.now) sink.new taken.new }
 {

@@ -22,6 +22,7 @@ fn behind_numbers(bytes: &[u8], count: u32) -> &[u8]
 }
 
 /// The next of `left` sizes at the start, the number of sizes after it, and the remaining bytes.
+#[tactic(auto, using(crate::proofs::ShapeShown::next_none))]
 fn next_size(left: u32, bytes: &[u8]) -> (Option<u32>, u32, &[u8])
     ensures { (result.0, (result.1, result.2.now)) ≡ next_of number_or (left, bytes.now) }
 {
@@ -33,6 +34,7 @@ fn next_size(left: u32, bytes: &[u8]) -> (Option<u32>, u32, &[u8])
 }
 
 /// The next of `left` lower bounds at the start, the number of lower bounds after it, and the remaining bytes.
+#[tactic(auto, using(crate::proofs::ShapeShown::next_none))]
 fn next_low(left: u32, bytes: &[u8]) -> (Option<i32>, u32, &[u8])
     ensures { (result.0, (result.1, result.2.now)) ≡ next_of signed_or (left, bytes.now) }
 {

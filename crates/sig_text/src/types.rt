@@ -122,6 +122,7 @@ fn by_ref<'a, S: TextSink>(sink: &mut S, taken: &mut bool, bytes: &'a [u8], dept
 
 /// Writes a type after its first byte, and returns the remaining bytes. The types in it have a smaller depth left.
 #[cycle(text)]
+#[tactic(auto, using(crate::proofs::Arms::core_none, crate::proofs::Arms::core_element, crate::proofs::Arms::core_code, crate::proofs::Chains::pieces_only, crate::proofs::Chains::silent))]
 fn core<'a, S: TextSink>(
     sink: &mut S,
     taken: &mut bool,

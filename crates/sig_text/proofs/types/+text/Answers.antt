@@ -1,6 +1,5 @@
-use Rattle.sig_text.proofs.Prelude.{rules, arith, ◌≡◌, ◌<◌, ◌+◌, ◌-◌, true, refl, ℕ, List, ◌∷◌, ◌++◌, codes, slot_shown, by_ref_shown, core_shown, code_shown, around_shown, enclosed_shown, instance_shown, listed_shown, method_shown, after_element_shown, number_or, before, word, arity_text}
-use Rattle.sig_text.proofs.Chains.{silent, and_then, pieces_only, pieces_first, pieces_last, in_turn, start_left, end_left, shut_left}
-use Rattle.sig_text.proofs.Arms.{core_none, core_element, core_code}
+use Rattle.sig_text.proofs.Prelude.{rules, arith, ◌≡◌, ◌<◌, ◌+◌, ◌-◌, refl, ℕ, List, ◌∷◌, ◌++◌, codes, slot_shown, by_ref_shown, core_shown, code_shown, around_shown, enclosed_shown, instance_shown, listed_shown, method_shown, after_element_shown, number_or, before, word, arity_text}
+use Rattle.sig_text.proofs.Chains.{and_then, pieces_first, pieces_last, in_turn, start_left, end_left, shut_left}
 use Rattle.sig_text.proofs.ShapeShown.{listed_next, listed_end}
 use Rattle.sig_text.proofs.types.+text.Goals as goal
 
@@ -11,15 +10,6 @@ slot-returns g t c = rw (← c.behind_all-count.ensures.tail, ← c.behind_all-c
 pub by_ref-returns : goal.by_ref-returns
 unfolding by_ref_shown
 by_ref-returns g t c = rw (← c.behind_all-marked.ensures.tail, ← c.behind_all-marked.ensures.count, ← c.byte-code.ensures) (pieces_last c.core-tail.ensures (and_then c.marks.ensures c.put_text.ensures))
-
-pub core-returns-then-depth-eq0 : goal.core-returns-then-depth-eq0
-core-returns-then-depth-eq0 g t c = rw (core_none c.args.depth c.args.code c.args.bytes.now c.if-depth-eq0.true) (pieces_only silent)
-
-pub core-returns-in-Some : goal.core-returns-in-Some
-core-returns-in-Some g t c = let lt : 0 < c.args.depth = omega arith in rw (core_element c.args.depth c.args.code c.args.bytes.now c.in-Some.element lt c.in-Some.ensures, ← c.element_name.ensures) c.word.ensures
-
-pub core-returns-in-None : goal.core-returns-in-None
-core-returns-in-None g t c = let lt : 0 < c.args.depth = omega arith in rw (core_code c.args.depth c.args.code c.args.bytes.now lt c.in-None.ensures) c.coded.ensures
 
 pub coded-returns-in-22 : goal.coded-returns-in-22
 unfolding code_shown
