@@ -87,6 +87,7 @@ fn argument_type(vector: bool, of: ElementType) -> ArgumentType
 /// Reads the next item of parameters: the mark of an array, or the type of an element after one or without one. It appends
 /// the parameter that ends there, and returns whether the next item is that of the elements of an array. `None` if the
 /// parameter has no type, or there are too many.
+#[tactic(auto, using(crate::proofs::ParamLemmas::vector_begun, crate::proofs::ParamLemmas::no_type, crate::proofs::ParamLemmas::no_room))]
 fn put_item<S: ReadView>(source: &S, item: Item, vector: bool, params: &mut Params) -> Option<bool>
     requires { length params.old ≤ 64 }
     ensures few { length params.new ≤ 64 }

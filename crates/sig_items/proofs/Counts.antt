@@ -83,25 +83,13 @@ next_joined (Some f) p t b same = joined_same (position_at p) (frame_at f) t b s
 one_less : (n : ℕ) → 0 < n → suc (n - 1) ≡ n
 one_less n h = omega arith
 
-pub types_zero : (n d : ℕ) (b : List ℕ) → n ≡ 0 → Some ([], b) ≡ types_reported n d b
-unfolding types_reported many_at
-types_zero n d b h = rw h refl
-
 pub types_more : (n d : ℕ) (b : List ℕ) → 0 < n → frame_at (frame.Types (n - 1) d) b ≡ types_reported n d b
 unfolding frame_at
 types_more n d b h = ap (λ (m : ℕ). types_reported m d b) (one_less n h)
 
-pub locals_zero : (n d : ℕ) (b : List ℕ) → n ≡ 0 → Some ([], b) ≡ locals_reported n d b
-unfolding locals_reported many_at
-locals_zero n d b h = rw h refl
-
 pub locals_more : (n d : ℕ) (b : List ℕ) → 0 < n → frame_at (frame.Locals (n - 1) d) b ≡ locals_reported n d b
 unfolding frame_at
 locals_more n d b h = ap (λ (m : ℕ). locals_reported m d b) (one_less n h)
-
-pub params_zero : (n d : ℕ) (allowed : Bool) (b : List ℕ) → n ≡ 0 → Some ([], b) ≡ params_reported n allowed d b
-unfolding params_reported params_at
-params_zero n d allowed b h = rw h refl
 
 pub params_more : (n d : ℕ) (allowed : Bool) (b : List ℕ) → 0 < n → frame_at (frame.Params (n - 1) allowed d) b ≡ params_reported n allowed d b
 unfolding frame_at

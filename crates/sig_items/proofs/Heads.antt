@@ -30,10 +30,6 @@ pub method_is : (own allowed : Bool) (d c n : ℕ) (b b1 b2 b3 : List ℕ) (g : 
 unfolding method_reported method_at method_from position_at params_reported joined
 method_is own allowed d c n b b1 b2 b3 g h k e f may = rw (h, k, e, f, ← may) (of_ret c n d allowed g (ret_at (core_at d) b3))
 
-pub position_method : (d : ℕ) (b : List ℕ) → position_at (position.Method d) b ≡ method_reported true d b
-unfolding position_at
-position_method d b = refl
-
 -- ---- a field, a property, local variables, type arguments
 
 pub field_is : (b : List ℕ) → item_then item.Field (position_at (position.Slot 128) b) ≡ field_reported b
@@ -160,10 +156,6 @@ size_is n rank x b tail e = rw e (of_first (many_at number_at n tail))
 pub low_is : (n rank : ℕ) (b tail : List ℕ) → number_at b ≡ Some (n, tail) → n ≤ rank → position_at (position.LowCount rank) b ≡ item_then (item.LowBounds n) (bounds_at n tail)
 unfolding position_at counted_within bounds_at
 low_is n rank b tail e le = rw (e, within_test n rank le) (sym (counted_item (λ k. item.LowBounds k) (map item.LowBound) low_items signed_at (λ xs. refl) n tail))
-
-pub bounds_zero : (n : ℕ) (b : List ℕ) → n ≡ 0 → Some ([], b) ≡ bounds_at n b
-unfolding bounds_at many_at
-bounds_zero n b h = rw h refl
 
 pub bounds_more : (n : ℕ) (b : List ℕ) → 0 < n → position_at (position.LowBounds (n - 1)) b ≡ bounds_at n b
 unfolding position_at

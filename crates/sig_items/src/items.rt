@@ -19,7 +19,7 @@ use std::marker::Model;
 use table_schema::SigKind;
 
 /// The first item at a position.
-#[tactic(auto, using(crate::proofs::Heads::position_method))]
+#[tactic(auto, unfolding(crate::specs::Positions::position_at))]
 fn first_item(position: Position, bytes: &[u8]) -> Option<Step<'_>>
     ensures reported { reported result ≡ position_at position bytes.now }
     ensures within { IfSome result (IsWithin (position_depth position)) }

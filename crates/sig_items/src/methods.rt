@@ -13,7 +13,7 @@ use sig_grammar::method_byte::{
 use sig_recogniser::{byte, number};
 
 /// The frame of `count` parameters, with SENTINEL before one of them if it is allowed.
-#[tactic(auto, using(crate::proofs::Counts::params_zero, crate::proofs::Counts::params_more))]
+#[tactic(auto, using(crate::proofs::Counts::params_more), unfolding(crate::specs::Positions::params_reported, sig_grammar::specs::Reading::params_at))]
 pub fn params(count: u32, allowed: bool, depth: u8) -> Option<Frame>
     ensures reported { (b : List ℕ) → next_at result None b ≡ params_reported count allowed depth b }
     ensures within { IfSome result (λ f. frame_depth f ≡ depth) }

@@ -24,7 +24,7 @@ fn sizes_position(count: u32, rank: u32) -> Position
 }
 
 /// The position of `count` lower bounds of an array; `None` if there are none.
-#[tactic(auto, using(crate::proofs::Heads::bounds_zero, crate::proofs::Heads::bounds_more))]
+#[tactic(auto, using(crate::proofs::Heads::bounds_more), unfolding(crate::specs::Positions::bounds_at, sig_grammar::specs::Reading::many_at))]
 fn bounds_position(count: u32) -> Option<Position>
     ensures reported { (b : List ℕ) → next_at None result b ≡ bounds_at count b }
     ensures flat { IfSome result (λ p. position_depth p ≡ 0) }

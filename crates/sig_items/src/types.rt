@@ -16,7 +16,7 @@ use sig_grammar::{Element, Prefix};
 use sig_recogniser::{byte, has_modifier, has_prefix, index, modifier, number, prefix};
 
 /// The frame of `count` types; `None` if there are none.
-#[tactic(auto, using(crate::proofs::Counts::types_zero, crate::proofs::Counts::types_more))]
+#[tactic(auto, using(crate::proofs::Counts::types_more), unfolding(crate::specs::Positions::types_reported, sig_grammar::specs::Reading::many_at))]
 pub fn types(count: u32, depth: u8) -> Option<Frame>
     ensures reported { (b : List ℕ) → next_at result None b ≡ types_reported count depth b }
     ensures within { IfSome result (λ f. frame_depth f ≡ depth) }
@@ -31,7 +31,7 @@ pub fn types(count: u32, depth: u8) -> Option<Frame>
 }
 
 /// The frame of `count` local variables; `None` if there are none.
-#[tactic(auto, using(crate::proofs::Counts::locals_zero, crate::proofs::Counts::locals_more))]
+#[tactic(auto, using(crate::proofs::Counts::locals_more), unfolding(crate::specs::Positions::locals_reported, sig_grammar::specs::Reading::many_at))]
 pub fn variables(count: u32, depth: u8) -> Option<Frame>
     ensures reported { (b : List ℕ) → next_at result None b ≡ locals_reported count depth b }
     ensures within { IfSome result (λ f. frame_depth f ≡ depth) }

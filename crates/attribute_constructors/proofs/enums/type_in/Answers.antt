@@ -1,4 +1,4 @@
-use Rattle.attribute_constructors.proofs.Prelude.{◌∙◌, ap, arith, items_of, field_type}
+use Rattle.attribute_constructors.proofs.Prelude.{arith, items_of}
 use Rattle.table_schema.specs.declared.column.SigKind.TheVariants as column
 use Rattle.attribute_constructors.proofs.LengthLemmas.{short_encoding}
 use Rattle.attribute_constructors.proofs.TypeLemmas.{many_items}
@@ -10,9 +10,3 @@ returns-then-blob-gt-LONGEST c = λ signature encodes.
     let short = short_encoding column.Field signature c.args.blob.now encodes same in
     let long = c.if-blob-gt-LONGEST.true in
     many_items (items_of signature) (omega (arith, long, short))
-
-pub returns-in-Some : goal.returns-in-Some
-returns-in-Some c = λ signature encodes. c.field_type.ensures ∙ ap field_type (c.in-Some.ensures.complete signature encodes)
-
-pub returns-in-None : goal.returns-in-None
-returns-in-None c = λ signature encodes. absurd (c.in-None.ensures.complete signature encodes)
