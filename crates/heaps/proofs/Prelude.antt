@@ -1,5 +1,5 @@
 -- What several proofs of this crate name of std, of the crates below, and of its own definitions.
-pub use Rattle.std.proofs.Common.{◌≡◌, ℕ, ◌+◌, ◌<◌, max, true, false, ◌||◌, cond, true≢false, ◌↔◌, nat_eq, List, [], ◌∷◌, ◌++◌, length, map, flat_map, Vec, Option, Some, None, IfSome, IfNone, refl, sym, ap, ◌∙◌, ⊎_elim, arith, length-append, ◌≢◌, ◌≤◌, Bool, take, drop, get_or, Contains, subst, ◌⊎◌, inl, inr, Result, Ok, Err, OnErr, slice_index, slice_set, ◌*◌, ◌^◌, not, IsTrue, All, zero, suc, ◌-◌, ◌%◌, replicate, append_assoc, nat_lt, ◌==◌, Global, IsOk, OnOk, set, rules, vec_len, ◌/◌}
+pub use Rattle.std.proofs.Common.{◌≡◌, ℕ, ◌+◌, ◌<◌, max, true, false, ◌||◌, cond, true≢false, ◌↔◌, nat_eq, List, [], ◌∷◌, ◌++◌, length, map, flat_map, Vec, Option, Some, None, IfSome, IfNone, refl, sym, ap, ◌∙◌, ⊎_elim, arith, length-append, ◌≢◌, ◌≤◌, Bool, take, drop, get_or, Contains, subst, ◌⊎◌, inl, inr, Result, Ok, Err, OnErr, slice_index, slice_set, ◌*◌, ◌^◌, not, IsTrue, All, zero, suc, ◌-◌, ◌%◌, replicate, append_assoc, ◌==◌, Global, IsOk, OnOk, set, rules, vec_len, ◌/◌}
 pub use Rattle.std.proofs.lemmas.Bool.{cases_Bool, cases_lt, cases_eq, eqb-true}
 pub use Rattle.std.proofs.lemmas.Bool.Decides.{nat_tests}
 pub use Rattle.std.proofs.lemmas.Cmp.{nat_list_eq_equiv}

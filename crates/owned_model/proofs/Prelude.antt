@@ -1,11 +1,11 @@
 -- What several proofs of this crate name of std, of the crates below, and of its own definitions.
-pub use Rattle.std.proofs.Common.{◌≡◌, ℕ, ◌-◌, ◌%◌, ◌<◌, List, ◌++◌, length, replicate, slice_index_or, ap, refl, sym, ◌∙◌, zero, suc, ◌+◌, [], ◌∷◌, get_or, set, take, drop, add-one, arith, ◌≤◌, Bool, true, false, cond, Option, Some, None, option_map, slice_get, slice_set, subst, Result, Ok, Err, IfErr, ◌⊎◌, ◌*◌, ◌^◌, ℤ, neg_ℤ, IfSome, Contains, IsUtf8, inl, inr, ◌↔◌, IsSome}
+pub use Rattle.std.proofs.Common.{◌≡◌, ℕ, ◌-◌, ◌%◌, ◌<◌, List, ◌++◌, length, replicate, slice_index_or, ap, refl, sym, ◌∙◌, zero, suc, ◌+◌, [], ◌∷◌, get_or, set, take, drop, add-one, arith, ◌≤◌, Bool, true, false, Option, Some, None, option_map, slice_get, slice_set, subst, Result, Ok, Err, IfErr, ◌⊎◌, ◌*◌, ◌^◌, ℤ, neg_ℤ, IfSome, Contains, IsUtf8, inl, inr, ◌↔◌, IsSome}
 pub use Rattle.std.proofs.Math.Logic.{∥∥₁_map}
 pub use Rattle.std.proofs.lemmas.Bool.{cases_eq, cases_lt, cases_Bool, both_ways}
 pub use Rattle.std.proofs.lemmas.Grind.{common_steps, not_there}
 pub use Rattle.std.proofs.lemmas.List.{append-nil, map-append, take_more, get_or-set_same, set-set, drop_more, take_all, length-set, length-map}
 pub use Rattle.heap_entries.specs.Padding.{zero_padded}
-pub use Rattle.table_schema.specs.Columns.{columns_of, column_at, key_of}
+pub use Rattle.table_schema.specs.Columns.{column_at, key_of}
 pub use Rattle.table_schema.specs.Tables.{table_index_of, table_number}
 unfoldable pub use Rattle.table_schema.specs.Tables.{tables}
 pub use Rattle.table_schema.specs.declared.column.ColumnKind.{ColumnKind}

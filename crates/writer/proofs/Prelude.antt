@@ -1,10 +1,10 @@
 -- What several proofs of this crate name of std, of the crates below, and of the definitions that many proofs cite.
-pub use Rattle.std.proofs.Common.{◌≡◌, ℕ, ◌+◌, ◌<◌, ◌≤◌, Bool, true, false, List, length, get_or, drop, refl, sym, ap, ◌∙◌, arith, below_more, get_or-set_other, get_or-set_same, zero, suc, ◌-◌, ◌%◌, inl, inr, cond, ltb, [], ◌∷◌, ◌++◌, filter, replicate, subst, length-append, map, ◌^◌, ◌*◌, ◌/◌, lit<, take, length-drop, Result, Ok, Err, IfErr, IfOk, ⊎_elim, length-set}
+pub use Rattle.std.proofs.Common.{◌≡◌, ℕ, ◌+◌, ◌<◌, ◌≤◌, Bool, true, false, List, length, get_or, drop, refl, sym, ap, ◌∙◌, arith, zero, suc, ◌-◌, ◌%◌, inl, inr, cond, ltb, [], ◌∷◌, ◌++◌, filter, replicate, subst, length-append, map, ◌^◌, ◌*◌, take, length-drop, Result, Ok, Err, IfErr, IfOk, ⊎_elim, length-set}
 pub use Rattle.std.proofs.Math.Logic.{∥∥₁_map, ∥∥₁_elim}
 pub use Rattle.std.proofs.Math.Path.{fun_ext}
 pub use Rattle.std.proofs.lemmas.Bool.{cases_Bool, ltb-false}
-pub use Rattle.std.proofs.lemmas.List.{drop_all, take_all, get_or-map, length-take-le}
-pub use Rattle.std.proofs.lemmas.List.Sums.{sum_by-drop_more, sum_by-cons, sum_by_more}
+pub use Rattle.std.proofs.lemmas.List.{drop_all, get_or-map, length-take-le}
+pub use Rattle.std.proofs.lemmas.List.Sums.{sum_by-drop_more, sum_by-cons}
 pub use Rattle.std.specs.Coded.{le_prop}
 pub use Rattle.std.specs.Prelude.{◌↔◌, Option, Some, None, sum_by, flat_map, count_by, ⊤, IsErrAnd, IsSome}
 pub use Rattle.heap_entries.specs.Padding.{zero_padded}
@@ -26,5 +26,5 @@ pub use Rattle.schema.specs.Sizes.{sizes_by_number, header_size, Sizes, count_of
 pub use Rattle.table_schema.specs.Columns.{key_of, columns_of}
 pub use Rattle.table_schema.specs.Tables.{tables, table_number, table_index_of}
 pub use Rattle.table_schema.specs.declared.table.TableId.{TableId}
-pub use Rattle.table_schema.specs.declared.table.TableId.TheVariants.{Module, GenericParamConstraint}
+pub use Rattle.table_schema.specs.declared.table.TableId.TheVariants.{Module}
 pub use Rattle.writer.specs.Planned.{ArePooled, AreHeapLens, IsTablesPlan, IsRootPlan, plan_error, planned_tables}
