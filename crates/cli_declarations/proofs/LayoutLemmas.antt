@@ -1,5 +1,5 @@
 -- The cells that the parts of a line name are in its row.
-use Rattle.cli_declarations.proofs.Prelude.{ℕ, zero, suc, ◌<◌, List, [], ◌∷◌, length, get_or, arith, rules, ⊤, TableId, Assembly, AssemblyRef, Module, ModuleRef, File, ManifestResource, TypeDef, Field, MethodDef, InterfaceImpl, GenericParam, GenericParamConstraint, ExportedType, MethodImpl, MethodSemantics, Event, Property, ImplMap, DeclSecurity, CustomAttribute, TypeRef, MemberRef, Param, cell_columns, parts_of, Part, IsWithin}
+use Rattle.cli_declarations.proofs.Prelude.{ℕ, zero, suc, ◌<◌, List, [], ◌∷◌, length, get_or, map, arith, rules, ⊤, TableId, Assembly, AssemblyRef, Module, ModuleRef, File, ManifestResource, TypeDef, Field, MethodDef, InterfaceImpl, GenericParam, GenericParamConstraint, ExportedType, MethodImpl, MethodSemantics, Event, Property, ImplMap, DeclSecurity, CustomAttribute, TypeRef, MemberRef, Param, cell_columns, parts_of, Part, IsWithin, Piece, shown}
 
 -- all parts of a list
 abbrev pub AllWithin : TableId → List Part → Type 0
@@ -33,7 +33,7 @@ parts_within MemberRef = search rules
 parts_within Param = search rules
 parts_within _ = tt
 
-pub at_index : (table : TableId) (parts : List Part) (i : ℕ) (d : Part) → AllWithin table parts → i < length parts → IsWithin table (get_or parts i d)
+pub at_index : (table : TableId) (pieces : List Piece) (i : ℕ) (d : Piece) → AllWithin table (map shown pieces) → i < length pieces → IsWithin table (shown (get_or pieces i d))
 at_index table [] i d all lt = absurd (omega arith)
 at_index table (p ∷ ps) zero d all lt = all.0
 at_index table (p ∷ ps) (suc i) d all lt = at_index table ps i d all.1 (omega arith)

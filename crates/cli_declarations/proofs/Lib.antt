@@ -1,4 +1,3 @@
-pub mod AttributeLemmas
 pub mod Prelude
 pub mod TextLemmas
 pub mod LayoutLemmas

@@ -1,17 +1,18 @@
 -- Texts one after another, and what a writer that escapes took.
-use Rattle.cli_declarations.proofs.Prelude.{◌≡◌, ◌∙◌, ℕ, zero, suc, ◌+◌, ◌-◌, ◌<◌, ◌≤◌, Bool, cond, eqb, ltb, List, [], ◌∷◌, ◌++◌, length, get_or, drop, take, refl, ap, sym, subst, append_assoc, append-nil, length-append, arith, ⊎_elim, cases_lt, eq-eqb, le-ltb, lt-ltb, ne_eqb, flat_map_more, take_more, WritesInCalls, cut_mark, cut_text, text_limit, AreTexts, Gains}
+use Rattle.cli_declarations.proofs.Prelude.{◌≡◌, ◌∙◌, ℕ, zero, suc, ◌+◌, ◌-◌, ◌<◌, ◌≤◌, Bool, cond, eqb, ltb, List, [], ◌∷◌, ◌++◌, length, get_or, drop, map, take, refl, ap, sym, subst, append_assoc, append-nil, length-append, arith, ⊎_elim, cases_lt, eq-eqb, le-ltb, lt-ltb, ne_eqb, take_more, WritesInCalls, cut_mark, cut_text, text_limit, AreTexts, Gains}
 use Rattle.std.proofs.Math.Seq.{drop-append_seam}
-use Rattle.std.specs.List.{flat_map, FoldsTo, concat}
+use Rattle.std.specs.List.{FoldsTo, concat}
 
 module _ {X : Type 0} (is_text : X → List ℕ → Type 0) where
   -- one more text
-  pub texts_append : (xs ys : List X) (a b : List ℕ) → AreTexts is_text xs a → AreTexts is_text ys b → AreTexts is_text (xs ++ ys) (a ++ b)
-  texts_append [] ys a b are more = subst (λ (t : List ℕ). AreTexts is_text ys (t ++ b)) (sym are) more
-  texts_append (x ∷ xs) ys a b are more =
-      (are.0, are.1, are.2 ++ b, texts_append xs ys are.2 b are.3 more, ap (λ t. t ++ b) are.4 ∙ append_assoc are.0 are.2 b)
+  texts_more : (xs : List X) (x : X) (a b : List ℕ) → AreTexts is_text xs a → is_text x b → AreTexts is_text (xs ++ x ∷ []) (a ++ b)
+  texts_more [] x a b are one = (b, one, [], refl, ap (λ t. t ++ b) are ∙ sym (append-nil b))
+  texts_more (y ∷ ys) x a b are one = (are.0, are.1, are.2 ++ b, texts_more ys x are.2 b are.3 one, ap (λ t. t ++ b) are.4 ∙ append_assoc are.0 are.2 b)
 
-  pub texts_one : (x : X) (a : List ℕ) → is_text x a → AreTexts is_text (x ∷ []) a
-  texts_one x a is = (a, is, [], refl, sym (append-nil a))
+  -- the texts of the items of a list that is a map
+  pub texts_map : {Y : Type 0} (f : Y → X) (ys : List Y) (a : List ℕ) → AreTexts (λ y. is_text (f y)) ys a → AreTexts is_text (map f ys) a
+  texts_map f [] a are = are
+  texts_map f (y ∷ ys) a are = (are.0, are.1, are.2, texts_map f ys are.2 are.3, are.4)
 
 -- the first items of two lists
 take_nothing : {X : Type 0} (n : ℕ) → take {A = X} n [] ≡ []
@@ -74,12 +75,6 @@ module _ {X : Type 0} (is_text : X → List ℕ → Type 0) where
       → Gains (is_text (get_or xs i d)) between after → Gains (AreTexts is_text (take (i + 1) xs)) first after
   gains_more xs i d first between after lt before one = (
     before.0 ++ one.0,
-    subst (λ (ys : List X). AreTexts is_text ys (before.0 ++ one.0)) (sym (take_more xs i d lt))
-        (texts_append is_text (take i xs) (get_or xs i d ∷ []) before.0 one.0 before.1 (texts_one is_text (get_or xs i d) one.0 one.1)),
+    rw (take_more xs i d lt) (texts_more is_text (take i xs) (get_or xs i d) before.0 one.0 before.1 one.1),
     one.2 ∙ ap (λ (t : List ℕ). t ++ one.0) before.2 ∙ append_assoc first before.0 one.0,
   )
-
--- one more item of a list that is appended item by item
-pub items_more : {X : Type 0} (f : X → List ℕ) (line : List ℕ) (xs : List X) (i : ℕ) (d : X) → i < length xs
-    → (line ++ flat_map f (take i xs)) ++ f (get_or xs i d) ≡ line ++ flat_map f (take (i + 1) xs)
-items_more f line xs i d lt = flat_map_more f line (take i xs) (get_or xs i d) ∙ ap (λ ys. line ++ flat_map f ys) (sym (take_more xs i d lt))

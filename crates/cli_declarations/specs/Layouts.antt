@@ -6,8 +6,9 @@ use Rattle.table_schema.specs.declared.token.Token.{Token}
 use Rattle.metadata.specs.Metadata.{Metadata}
 use Rattle.type_heads.specs.declared.flag_words.FlagTable.TheVariants as table
 use Rattle.navigation.specs.declared.links.Link.TheVariants as link
+use Rattle.cli_declarations.specs.declared.layouts.Naming.TheVariants.{Token as OfToken, Name, Reference}
 use Rattle.cli_declarations.specs.Texts.{AreTexts}
-use Rattle.cli_declarations.specs.Parts.{IsPartText, Part, word, flags, text, number, quoted_after, bytes_after, key, first_bytes, token_after, signature, declaration, own_name, name_after, eight_digits, guid_comment, action, linked_by, listed, own_reference, reference_after, attribute_value}
+use Rattle.cli_declarations.specs.Parts.{IsPartText, Part, word, flags, text, number, quoted_after, bytes_after, key, first_bytes, signature, declaration, own, row_after, eight_digits, guid_comment, action, linked_by, listed}
 
 abbrev pub parts_of : TableId → List Part
 -- II.6.2, II.22.2
@@ -30,47 +31,47 @@ parts_of File = word (codes ".file") ∷ flags table.File 0 ∷ word (codes " ")
 parts_of ManifestResource = word (codes ".mresource") ∷ flags table.Resource 1 ∷ word (codes " ") ∷ text 2 ∷ []
 -- II.10.1, II.10.2, II.10.7, II.12.2, II.22.37
 parts_of TypeDef =
-    word (codes ".class") ∷ flags table.Type 0 ∷ word (codes " ") ∷ own_name ∷ listed link.GenericParams (codes "<") (codes ">") ∷ name_after (codes " extends ") 3 ∷
+    word (codes ".class") ∷ flags table.Type 0 ∷ word (codes " ") ∷ own Name ∷ listed link.GenericParams (codes "<") (codes ">") ∷ row_after (codes " extends ") Name 3 ∷
     listed link.Interfaces (codes " implements ") [] ∷ linked_by link.TypeLayouts ∷ []
 -- II.16.1, II.22.15
 parts_of Field =
     word (codes "  .field") ∷ linked_by link.FieldOffsets ∷ flags table.Field 0 ∷ linked_by link.Marshalling ∷ word (codes " ") ∷ signature 2 ∷
-    word (codes " ") ∷ own_name ∷ linked_by link.Constants ∷ linked_by link.FieldData ∷ []
+    word (codes " ") ∷ own Name ∷ linked_by link.Constants ∷ linked_by link.FieldData ∷ []
 -- II.15.4, II.22.26
 parts_of MethodDef = word (codes "  .method") ∷ flags table.Method 2 ∷ word (codes " ") ∷ declaration ∷ flags table.Implementation 1 ∷ []
 -- II.15.4.1.4, II.22.33
-parts_of Param = word (codes ".") ∷ own_reference ∷ linked_by link.Constants ∷ []
+parts_of Param = word (codes ".") ∷ own Reference ∷ linked_by link.Constants ∷ []
 -- II.12.2, II.22.23
-parts_of InterfaceImpl = word (codes ".interfaceimpl type") ∷ name_after (codes " ") 0 ∷ name_after (codes " implements ") 1 ∷ []
+parts_of InterfaceImpl = word (codes ".interfaceimpl type") ∷ row_after (codes " ") Name 0 ∷ row_after (codes " implements ") Name 1 ∷ []
 -- II.10.1.7, II.22.20
 parts_of GenericParam =
-    word (codes ".param type") ∷ flags table.Generic 1 ∷ word (codes " ") ∷ text 3 ∷ word (codes " [") ∷ number 0 ∷ word (codes "]") ∷ name_after (codes " of ") 2 ∷ []
+    word (codes ".param type") ∷ flags table.Generic 1 ∷ word (codes " ") ∷ text 3 ∷ word (codes " [") ∷ number 0 ∷ word (codes "]") ∷ row_after (codes " of ") Name 2 ∷ []
 -- II.10.1.7, II.22.21
-parts_of GenericParamConstraint = word (codes ".param constraint") ∷ name_after (codes " ") 0 ∷ token_after (codes " ") 0 ∷ name_after (codes ", ") 1 ∷ []
+parts_of GenericParamConstraint = word (codes ".param constraint") ∷ row_after (codes " ") Name 0 ∷ row_after (codes " ") OfToken 0 ∷ row_after (codes ", ") Name 1 ∷ []
 -- II.6.7, II.22.14
 parts_of ExportedType =
-    word (codes ".class extern") ∷ flags table.Type 0 ∷ word (codes " ") ∷ own_name ∷ token_after (codes " in ") 4 ∷ name_after (codes " ") 4 ∷ []
+    word (codes ".class extern") ∷ flags table.Type 0 ∷ word (codes " ") ∷ own Name ∷ row_after (codes " in ") OfToken 4 ∷ row_after (codes " ") Name 4 ∷ []
 -- II.10.3.2, II.22.27
-parts_of MethodImpl = word (codes ".override") ∷ reference_after (codes " ") 2 ∷ reference_after (codes " with ") 1 ∷ name_after (codes " in ") 0 ∷ []
+parts_of MethodImpl = word (codes ".override") ∷ row_after (codes " ") Reference 2 ∷ row_after (codes " with ") Reference 1 ∷ row_after (codes " in ") Name 0 ∷ []
 -- II.18, II.22.13
-parts_of Event = word (codes "  .event") ∷ flags table.Mapped 0 ∷ name_after (codes " ") 2 ∷ word (codes " ") ∷ own_name ∷ []
+parts_of Event = word (codes "  .event") ∷ flags table.Mapped 0 ∷ row_after (codes " ") Name 2 ∷ word (codes " ") ∷ own Name ∷ []
 -- II.17, II.22.34
 parts_of Property = word (codes "  .property") ∷ flags table.Mapped 0 ∷ word (codes " ") ∷ declaration ∷ linked_by link.Constants ∷ []
 -- II.17, II.18, II.22.28
-parts_of MethodSemantics = word (codes "   ") ∷ flags table.Semantics 0 ∷ reference_after (codes " ") 1 ∷ name_after (codes " of ") 2 ∷ []
+parts_of MethodSemantics = word (codes "   ") ∷ flags table.Semantics 0 ∷ row_after (codes " ") Reference 1 ∷ row_after (codes " of ") Name 2 ∷ []
 -- II.15.5.2, II.22.22
 parts_of ImplMap =
-    word (codes ".pinvokeimpl(") ∷ name_after (codes "\"") 3 ∷ word (codes "\"") ∷ quoted_after (codes " as ") 2 ∷ flags table.Import 0 ∷ word (codes ")") ∷
-    name_after (codes " of ") 1 ∷ []
+    word (codes ".pinvokeimpl(") ∷ row_after (codes "\"") Name 3 ∷ word (codes "\"") ∷ quoted_after (codes " as ") 2 ∷ flags table.Import 0 ∷ word (codes ")") ∷
+    row_after (codes " of ") Name 1 ∷ []
 -- II.20, II.22.11
-parts_of DeclSecurity = word (codes ".permissionset ") ∷ action 0 ∷ word (codes " = (") ∷ first_bytes 2 ∷ word (codes ")") ∷ name_after (codes " of ") 1 ∷ []
+parts_of DeclSecurity = word (codes ".permissionset ") ∷ action 0 ∷ word (codes " = (") ∷ first_bytes 2 ∷ word (codes ")") ∷ row_after (codes " of ") Name 1 ∷ []
 -- II.21, II.22.10
 parts_of CustomAttribute =
-    word (codes ".custom") ∷ reference_after (codes " ") 1 ∷ attribute_value ∷ reference_after (codes " of ") 0 ∷ []
+    word (codes ".custom") ∷ row_after (codes " ") Reference 1 ∷ declaration ∷ row_after (codes " of ") Reference 0 ∷ []
 -- II.7.3, II.22.38
-parts_of TypeRef = word (codes ".typeref ") ∷ own_name ∷ []
+parts_of TypeRef = word (codes ".typeref ") ∷ own Name ∷ []
 -- II.15.3, II.22.25
-parts_of MemberRef = word (codes ".memberref ") ∷ own_reference ∷ []
+parts_of MemberRef = word (codes ".memberref ") ∷ own Reference ∷ []
 parts_of _ = []
 
 -- the declaration of a row: the texts of its parts

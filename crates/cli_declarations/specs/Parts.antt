@@ -37,6 +37,8 @@ use Rattle.cli_values.specs.Constants.{constant_text, value_limit, bytes_text as
 use Rattle.type_heads.specs.FlagWords.{words_of, words_text}
 use Rattle.type_heads.specs.declared.flag_words.FlagTable.{FlagTable}
 use Rattle.type_heads.specs.declared.flag_words.FlagTable.TheVariants as table_of
+use Rattle.cli_declarations.specs.declared.layouts.Naming.{Naming}
+use Rattle.cli_declarations.specs.declared.layouts.Naming.TheVariants as naming
 
 -- a part of the line of a row; numbers are indexes of cells in the row
 pub data Part : Type 0 where
@@ -56,16 +58,14 @@ pub data Part : Type 0 where
   key : ℕ → ℕ → Part
   -- the first bytes in a cell, in hexadecimal, up to the limit of values
   first_bytes : ℕ → Part
-  -- unless the reference in a cell is null: a word, and the token
-  token_after : List ℕ → ℕ → Part
   -- the signature in a cell, with the full names of types (II.23.2)
   signature : ℕ → Part
-  -- the declaration of the method (II.15.3) or the property (II.17) that the row is
+  -- the declaration of the method (II.15.3) or the property (II.17) that the row is, or the value of the attribute (II.21)
   declaration : Part
-  -- the name of the row
-  own_name : Part
-  -- unless the reference in a cell is null: a word, and the name of the row
-  name_after : List ℕ → ℕ → Part
+  -- what the row is referred to by
+  own : Naming → Part
+  -- unless the reference in a cell is null: a word, and what the row is referred to by
+  row_after : List ℕ → Naming → ℕ → Part
   -- the number in a cell, in eight hexadecimal digits
   eight_digits : ℕ → Part
   -- unless the GUID in a cell is null: the GUID in braces, in a comment
@@ -76,12 +76,6 @@ pub data Part : Type 0 where
   linked_by : Link → Part
   -- unless no row refers to the row: a word, what the rows that refer to it are in its head, with commas between them, and a word
   listed : Link → List ℕ → List ℕ → Part
-  -- the reference to the row: a method or a field with its signature (II.15.3, II.22.25)
-  own_reference : Part
-  -- unless the reference in a cell is null: a word, and the reference to a type, a member or a parameter, or the token of any other row
-  reference_after : List ℕ → ℕ → Part
-  -- the value of the attribute that the row is
-  attribute_value : Part
 
 -- the token of a row
 abbrev pub token_at : TableId → ℕ → Token
@@ -135,11 +129,6 @@ abbrev pub key_text : ℕ → List ℕ → List ℕ
 key_text bits [] = []
 key_text bits (first ∷ tail) = words_text bits (words_of table_of.Key) ++ bytes_text (codes " = ") (first ∷ tail)
 
--- a word and a token, unless the reference is null
-abbrev pub token_text_after : List ℕ → Option Token → List ℕ
-token_text_after before None = []
-token_text_after before (Some token) = before ++ token_text token
-
 -- the name of a row (II.5.3), up to the limit
 abbrev pub IsNameText : Metadata → Token → List ℕ → Type 0
 IsNameText model token out = (name : List ℕ) × IsRowNameBy Written model token name × (out ≡ cut_text name)
@@ -163,17 +152,6 @@ abbrev pub IsPropertyText : Metadata → ℕ → List ℕ → Type 0
 IsPropertyText model row out =
     (this : Bool) × (of : Slot) × (params : List Slot) × (cell_in model Property row 2 ≡ Sig (property this of params))
     × (plain : List ℕ) × IsPropertyDeclarationBy Written model row (as_method this of params) plain × (out ≡ cut_text plain)
-
--- the same of a row, which has no text if it is neither
-abbrev pub IsDeclarationAt : Metadata → TableId → ℕ → List ℕ → Type 0
-IsDeclarationAt model MethodDef row out = IsMethodText model row out
-IsDeclarationAt model Property row out = IsPropertyText model row out
-IsDeclarationAt model _ row out = out ≡ []
-
--- a word and the name of a row, unless the reference is null
-abbrev pub IsNameAfter : Metadata → List ℕ → Option Token → List ℕ → Type 0
-IsNameAfter model before None out = out ≡ []
-IsNameAfter model before (Some token) out = (name : List ℕ) × IsNameText model token name × (out ≡ before ++ name)
 
 -- whether the reference to a row of a table says which row it is: a type or a member of this module, or a MemberRef
 abbrev pub has_reference : TableId → Bool
@@ -204,10 +182,16 @@ IsReferenceIn model table token out = IsReferred model (has_reference table) tok
 abbrev pub IsReferenceText : Metadata → Token → List ℕ → Type 0
 IsReferenceText model token out = IsReferenceIn model token.table token out
 
--- a word and the reference to a row, unless the reference is null
-abbrev pub IsReferenceAfter : Metadata → List ℕ → Option Token → List ℕ → Type 0
-IsReferenceAfter model before None out = out ≡ []
-IsReferenceAfter model before (Some token) out = (reference : List ℕ) × IsReferenceText model token reference × (out ≡ before ++ reference)
+-- what a row is referred to by: its token, its name, or the reference to it
+abbrev pub IsNaming : Naming → Metadata → Token → List ℕ → Type 0
+IsNaming naming.Token model of out = out ≡ token_text of
+IsNaming naming.Name model of out = IsNameText model of out
+IsNaming naming.Reference model of out = IsReferenceText model of out
+
+-- a word and what a row is referred to by, unless the reference is null
+abbrev pub IsAfter : Metadata → List ℕ → Naming → Option Token → List ℕ → Type 0
+IsAfter model before how None out = out ≡ []
+IsAfter model before how (Some of) out = (named : List ℕ) × IsNaming how model of named × (out ≡ before ++ named)
 
 -- ---- the values of custom attributes (II.21, II.22.10)
 
@@ -242,10 +226,12 @@ IsAttributeText model row out =
     let blob = bytes_of (cell_in model CustomAttribute row 2) in
     IsValueText (params_for model row blob) blob out
 
--- the same of a row, which has no text if it is no attribute
-abbrev pub IsAttributeAt : Metadata → TableId → ℕ → List ℕ → Type 0
-IsAttributeAt model CustomAttribute row out = IsAttributeText model row out
-IsAttributeAt model _ row out = out ≡ []
+-- what a row is: a method, a property or an attribute; any other has no text
+abbrev pub IsDeclarationAt : Metadata → TableId → ℕ → List ℕ → Type 0
+IsDeclarationAt model MethodDef row out = IsMethodText model row out
+IsDeclarationAt model Property row out = IsPropertyText model row out
+IsDeclarationAt model CustomAttribute row out = IsAttributeText model row out
+IsDeclarationAt model _ row out = out ≡ []
 
 -- ---- the parts of a line
 
@@ -310,16 +296,12 @@ IsPartText model table row (quoted_after before cell) out = out ≡ quoted_text 
 IsPartText model table row (bytes_after before cell) out = out ≡ bytes_text before (bytes_of (cell_in model table row cell))
 IsPartText model table row (key of cell) out = out ≡ key_text (number_of (cell_in model table row of)) (bytes_of (cell_in model table row cell))
 IsPartText model table row (first_bytes cell) out = out ≡ value_bytes_text (bytes_of (cell_in model table row cell))
-IsPartText model table row (token_after before cell) out = out ≡ token_text_after before (reference_in (cell_in model table row cell))
 IsPartText model table row (signature cell) out = IsSignatureOf model (cell_in model table row cell) out
 IsPartText model table row declaration out = IsDeclarationAt model table row out
-IsPartText model table row own_name out = IsNameText model (token_at table row) out
-IsPartText model table row (name_after before cell) out = IsNameAfter model before (reference_in (cell_in model table row cell)) out
+IsPartText model table row (own how) out = IsNaming how model (token_at table row) out
+IsPartText model table row (row_after before how cell) out = IsAfter model before how (reference_in (cell_in model table row cell)) out
 IsPartText model table row (eight_digits cell) out = out ≡ hexadecimal 8 (number_of (cell_in model table row cell))
 IsPartText model table row (guid_comment cell) out = out ≡ guid_text_in_comment (guid_of (cell_in model table row cell))
 IsPartText model table row (action cell) out = out ≡ action_text (number_of (cell_in model table row cell))
 IsPartText model table row (linked_by of) out = out ≡ linked_text model of (first_linked model of (token_at table row))
 IsPartText model table row (listed of before after) out = IsHeadList model of before after (linked model of (token_at table row)) out
-IsPartText model table row own_reference out = IsReferenceText model (token_at table row) out
-IsPartText model table row (reference_after before cell) out = IsReferenceAfter model before (reference_in (cell_in model table row cell)) out
-IsPartText model table row attribute_value out = IsAttributeAt model table row out

@@ -5,7 +5,7 @@ use Rattle.table_schema.specs.CellColumns.{cell_count}
 use Rattle.cli_declarations.specs.Parts as part
 use Rattle.cli_declarations.specs.Parts.{Part}
 use Rattle.cli_declarations.specs.declared.layouts.Piece.{Piece}
-use Rattle.cli_declarations.specs.declared.layouts.Piece.TheVariants.{Word as PlainWord, Flags, Text, Number, QuotedAfter, BytesAfter, Key, FirstBytes, TokenAfter, Signature, Declaration, OwnName, NameAfter, EightDigits, GuidComment, Action, Linked, Listed, OwnReference, ReferenceAfter, AttributeValue}
+use Rattle.cli_declarations.specs.declared.layouts.Piece.TheVariants.{Word as PlainWord, Flags, Text, Number, QuotedAfter, BytesAfter, Key, FirstBytes, Signature, Declaration, Own, After, EightDigits, GuidComment, Action, Linked, Listed}
 
 abbrev pub shown : Piece → Part
 shown (PlainWord of) = part.word of.now
@@ -16,19 +16,15 @@ shown (QuotedAfter of cell) = part.quoted_after of.now cell
 shown (BytesAfter of cell) = part.bytes_after of.now cell
 shown (Key of cell) = part.key of cell
 shown (FirstBytes cell) = part.first_bytes cell
-shown (TokenAfter of cell) = part.token_after of.now cell
 shown (Signature cell) = part.signature cell
 shown Declaration = part.declaration
-shown OwnName = part.own_name
-shown (NameAfter of cell) = part.name_after of.now cell
+shown (Own how) = part.own how
+shown (After of how cell) = part.row_after of.now how cell
 shown (EightDigits cell) = part.eight_digits cell
 shown (GuidComment cell) = part.guid_comment cell
 shown (Action cell) = part.action cell
 shown (Linked of) = part.linked_by of
 shown (Listed of before after) = part.listed of before.now after.now
-shown OwnReference = part.own_reference
-shown (ReferenceAfter of cell) = part.reference_after of.now cell
-shown AttributeValue = part.attribute_value
 
 -- the cells of a part are in the rows of a table
 abbrev pub IsWithin : TableId → Part → Type 0
@@ -40,16 +36,12 @@ IsWithin table (part.quoted_after of cell) = cell < cell_count table
 IsWithin table (part.bytes_after of cell) = cell < cell_count table
 IsWithin table (part.key of cell) = (of < cell_count table) × (cell < cell_count table)
 IsWithin table (part.first_bytes cell) = cell < cell_count table
-IsWithin table (part.token_after of cell) = cell < cell_count table
 IsWithin table (part.signature cell) = cell < cell_count table
 IsWithin table part.declaration = ⊤
-IsWithin table part.own_name = ⊤
-IsWithin table (part.name_after of cell) = cell < cell_count table
+IsWithin table (part.own how) = ⊤
+IsWithin table (part.row_after of how cell) = cell < cell_count table
 IsWithin table (part.eight_digits cell) = cell < cell_count table
 IsWithin table (part.guid_comment cell) = cell < cell_count table
 IsWithin table (part.action cell) = cell < cell_count table
 IsWithin table (part.linked_by of) = ⊤
 IsWithin table (part.listed of before after) = ⊤
-IsWithin table part.own_reference = ⊤
-IsWithin table (part.reference_after of cell) = cell < cell_count table
-IsWithin table part.attribute_value = ⊤

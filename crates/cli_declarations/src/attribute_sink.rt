@@ -6,7 +6,7 @@ ghost use Rattle.attribute_values.specs.Values.{AttributeValue as TheValue};
 ghost use Rattle.metadata.specs.Metadata.{Metadata};
 ghost use Rattle.metadata.specs.Model.{IsModel};
 ghost use Rattle.opening.specs.Views.{row_count};
-ghost use Rattle.cli_declarations.specs.Parts.{IsAttributeAt, IsAttributeText, IsValueText, bytes_value, decoded_value, params_for};
+ghost use Rattle.cli_declarations.specs.Parts.{IsAttributeText, IsValueText, bytes_value, decoded_value, params_for};
 ghost use Rattle.cli_declarations.specs.Texts.{Gains};
 
 use crate::cell_values::bytes;
@@ -75,7 +75,7 @@ fn params_for(source: &Neighbours<'_, '_>, row: u32, blob: &[u8]) -> Option<Para
 
 /// Appends the value of the attribute in a row.
 #[tactic(auto, unfolding(table_schema::specs::CellColumns::cell_columns))]
-fn push_attribute(
+pub(crate) fn push_attribute(
     source: &Neighbours<'_, '_>,
     row: u32,
     declared: &mut Declared,
@@ -89,23 +89,5 @@ fn push_attribute(
     match params_for(source, row, blob) {
         Some(params) => push_value(params.as_slice(), blob, declared),
         None => push_bytes_value(blob, declared),
-    }
-}
-
-/// Appends the value of the attribute that a row is, or nothing if it is of another table.
-pub(crate) fn push_attribute_at(
-    source: &Neighbours<'_, '_>,
-    table: TableId,
-    row: u32,
-    declared: &mut Declared,
-) -> Result<(), AllocError>
-    requires first { 1 ≤ row }
-    requires last { row ≤ row_count source.now.view.now table }
-    ensures { (model : Metadata) → IsModel source.now.view.now model
-        → OnOk result (Gains (IsAttributeAt model table row) (string_bytes declared.old.text) (string_bytes declared.new.text)) }
-{
-    match table {
-        TableId::CustomAttribute => push_attribute(source, row, declared),
-        _ => Ok(()),
     }
 }

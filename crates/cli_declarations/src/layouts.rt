@@ -7,6 +7,18 @@ use navigation::Link;
 use opening::TableId;
 use type_heads::FlagTable;
 
+/// What a row is referred to by.
+#[derive(Clone, Copy)]
+pub enum Naming {
+    /// Its token.
+    Token,
+    /// Its name (II.5.3).
+    Name,
+    /// The reference to a type, to a parameter of a method, or to a member with its signature (II.15.3, II.22.25); or the token
+    /// of any other row.
+    Reference,
+}
+
 /// A piece of the line of a row. Numbers are indexes of cells in the row, from 0.
 #[derive(Clone, Copy)]
 pub enum Piece {
@@ -26,16 +38,14 @@ pub enum Piece {
     Key(usize, usize),
     /// The first bytes in a cell, in hexadecimal, up to the limit of values.
     FirstBytes(usize),
-    /// Unless the reference in a cell is null: this word, and the token.
-    TokenAfter(&'static str, usize),
     /// The signature in a cell, with the full names of types (II.23.2).
     Signature(usize),
-    /// The declaration of the method (II.15.3) or the property (II.17) that the row is.
+    /// The declaration of the method (II.15.3) or the property (II.17) that the row is, or the value of the attribute (II.21).
     Declaration,
-    /// The name of the row (II.5.3).
-    OwnName,
-    /// Unless the reference in a cell is null: this word, and the name of the row.
-    NameAfter(&'static str, usize),
+    /// What the row is referred to by.
+    Own(Naming),
+    /// Unless the reference in a cell is null: this word, and what the row is referred to by.
+    After(&'static str, Naming, usize),
     /// The number in a cell, in eight hexadecimal digits.
     EightDigits(usize),
     /// Unless the GUID in a cell is null: the GUID in braces, in a comment.
@@ -47,19 +57,12 @@ pub enum Piece {
     /// Unless no row refers to the row: the first word, what the rows that refer to it are in its head, with commas between
     /// them, and the last word (II.10.1.7, II.12.2).
     Listed(Link, &'static str, &'static str),
-    /// The reference to the row, a parameter of a method, or a method or a field with its signature (II.15.3, II.22.25).
-    OwnReference,
-    /// Unless the reference in a cell is null: this word, and the reference to a type, a member or a parameter, or the token
-    /// of any other row.
-    ReferenceAfter(&'static str, usize),
-    /// The value of the attribute that the row is (II.21).
-    AttributeValue,
 }
 
+use Naming::{Name, Reference};
 use Piece::{
-    Action, AttributeValue, BytesAfter, Declaration, EightDigits, FirstBytes, Flags, GuidComment,
-    Key, Linked, Listed, NameAfter, Number, OwnName, OwnReference, QuotedAfter, ReferenceAfter,
-    Signature, Text, TokenAfter, Word,
+    Action, After, BytesAfter, Declaration, EightDigits, FirstBytes, Flags, GuidComment, Key,
+    Linked, Listed, Number, Own, QuotedAfter, Signature, Text, Word,
 };
 
 macro_rules! pieces {
@@ -94,16 +97,16 @@ const TYPE_DEF: &[Piece] = &[
     Word(".class"),
     Flags(FlagTable::Type, 0),
     Word(" "),
-    OwnName,
+    Own(Name),
     Listed(Link::GenericParams, "<", ">"),
-    NameAfter(" extends ", 3),
+    After(" extends ", Name, 3),
     Listed(Link::Interfaces, " implements ", ""),
     Linked(Link::TypeLayouts),
 ];
 
 const FIELD: &[Piece] = pieces![
     Word("  .field"); Linked(Link::FieldOffsets); Flags(FlagTable::Field, 0);
-    Linked(Link::Marshalling); Word(" "); Signature(2); Word(" "); OwnName;
+    Linked(Link::Marshalling); Word(" "); Signature(2); Word(" "); Own(Name);
     Linked(Link::Constants); Linked(Link::FieldData);
 ];
 
@@ -112,32 +115,32 @@ const METHOD_DEF: &[Piece] = pieces![
     Flags(FlagTable::Implementation, 1);
 ];
 
-const PARAM: &[Piece] = pieces![Word("."); OwnReference; Linked(Link::Constants);];
+const PARAM: &[Piece] = pieces![Word("."); Own(Reference); Linked(Link::Constants);];
 
 const INTERFACE_IMPL: &[Piece] = pieces![
-    Word(".interfaceimpl type"); NameAfter(" ", 0); NameAfter(" implements ", 1);
+    Word(".interfaceimpl type"); After(" ", Name, 0); After(" implements ", Name, 1);
 ];
 
 const GENERIC_PARAM: &[Piece] = pieces![
     Word(".param type"); Flags(FlagTable::Generic, 1); Word(" "); Text(3); Word(" ["); Number(0);
-    Word("]"); NameAfter(" of ", 2);
+    Word("]"); After(" of ", Name, 2);
 ];
 
 const CONSTRAINT: &[Piece] = pieces![
-    Word(".param constraint"); NameAfter(" ", 0); TokenAfter(" ", 0); NameAfter(", ", 1);
+    Word(".param constraint"); After(" ", Name, 0); After(" ", Naming::Token, 0); After(", ", Name, 1);
 ];
 
 const EXPORTED_TYPE: &[Piece] = pieces![
-    Word(".class extern"); Flags(FlagTable::Type, 0); Word(" "); OwnName;
-    TokenAfter(" in ", 4); NameAfter(" ", 4);
+    Word(".class extern"); Flags(FlagTable::Type, 0); Word(" "); Own(Name);
+    After(" in ", Naming::Token, 4); After(" ", Name, 4);
 ];
 
 const METHOD_IMPL: &[Piece] = pieces![
-    Word(".override"); ReferenceAfter(" ", 2); ReferenceAfter(" with ", 1); NameAfter(" in ", 0);
+    Word(".override"); After(" ", Reference, 2); After(" with ", Reference, 1); After(" in ", Name, 0);
 ];
 
 const EVENT: &[Piece] = pieces![
-    Word("  .event"); Flags(FlagTable::Mapped, 0); NameAfter(" ", 2); Word(" "); OwnName;
+    Word("  .event"); Flags(FlagTable::Mapped, 0); After(" ", Name, 2); Word(" "); Own(Name);
 ];
 
 const PROPERTY: &[Piece] = pieces![
@@ -146,25 +149,25 @@ const PROPERTY: &[Piece] = pieces![
 ];
 
 const SEMANTICS: &[Piece] = pieces![
-    Word("   "); Flags(FlagTable::Semantics, 0); ReferenceAfter(" ", 1); NameAfter(" of ", 2);
+    Word("   "); Flags(FlagTable::Semantics, 0); After(" ", Reference, 1); After(" of ", Name, 2);
 ];
 
 const IMPL_MAP: &[Piece] = pieces![
-    Word(".pinvokeimpl("); NameAfter("\"", 3); Word("\""); QuotedAfter(" as ", 2);
-    Flags(FlagTable::Import, 0); Word(")"); NameAfter(" of ", 1);
+    Word(".pinvokeimpl("); After("\"", Name, 3); Word("\""); QuotedAfter(" as ", 2);
+    Flags(FlagTable::Import, 0); Word(")"); After(" of ", Name, 1);
 ];
 
 const SECURITY: &[Piece] = pieces![
-    Word(".permissionset "); Action(0); Word(" = ("); FirstBytes(2); Word(")"); NameAfter(" of ", 1);
+    Word(".permissionset "); Action(0); Word(" = ("); FirstBytes(2); Word(")"); After(" of ", Name, 1);
 ];
 
 const CUSTOM: &[Piece] = pieces![
-    Word(".custom"); ReferenceAfter(" ", 1); AttributeValue; ReferenceAfter(" of ", 0);
+    Word(".custom"); After(" ", Reference, 1); Declaration; After(" of ", Reference, 0);
 ];
 
-const TYPE_REF: &[Piece] = pieces![Word(".typeref "); OwnName;];
+const TYPE_REF: &[Piece] = pieces![Word(".typeref "); Own(Name);];
 
-const MEMBER_REF: &[Piece] = pieces![Word(".memberref "); OwnReference;];
+const MEMBER_REF: &[Piece] = pieces![Word(".memberref "); Own(Reference);];
 
 /// The pieces of the line of a row. A row of a table that is not named here has none.
 pub(crate) fn pieces_of(table: TableId) -> &'static [Piece]

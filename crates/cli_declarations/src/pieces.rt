@@ -1,24 +1,21 @@
 //! Appends the pieces of a line.
 ghost use Rattle.std.specs.Prelude.{◌≡◌, ◌≤◌, ◌<◌, ◌++◌, true, string_bytes, OnOk};
-ghost use Rattle.table_schema.specs.CellColumns.{cell_count};
 ghost use Rattle.table_schema.specs.declared.table.TableId.TheVariants.{Param};
-ghost use Rattle.metadata.specs.Metadata.{Metadata, cell_in};
+ghost use Rattle.metadata.specs.Metadata.{Metadata};
 ghost use Rattle.metadata.specs.Model.{IsModel};
 ghost use Rattle.type_heads.specs.FlagWords.{shown_word, word_text, words_of, words_text};
 ghost use Rattle.opening.specs.Views.{row_count};
-ghost use Rattle.cli_lines.specs.Texts.{escaped_bytes};
 ghost use Rattle.table_schema.specs.Tokens.{token_text};
-ghost use Rattle.cli_declarations.specs.Parts.{IsNameAfter, IsNameText, IsParamText, IsPartText, IsReferenceIn, IsReferred, bytes_text, guid_text_in_comment, key_text, quoted_text, token_text_after, IsReferenceAfter, IsReferenceText, has_reference};
+ghost use Rattle.cli_declarations.specs.Parts.{IsAfter, IsNameText, IsNaming, IsParamText, IsPartText, IsReferenceIn, IsReferenceText, IsReferred, bytes_text, guid_text_in_comment, has_reference, key_text, quoted_text};
 ghost use Rattle.cli_declarations.specs.Shown.{IsWithin, shown};
 ghost use Rattle.cli_declarations.specs.Texts.{Gains};
 
-use crate::attribute_sink::push_attribute_at;
 use crate::cell_values::{bytes, guid, number, reference, text};
 use crate::declared::{
     Declared, TextLimit, begin_text, end_text, push_plain, push_string, push_text,
 };
 use crate::heads::push_listed;
-use crate::layouts::Piece;
+use crate::layouts::{Naming, Piece};
 use crate::linked::push_linked;
 use crate::signature_sink::{push_declaration, push_signature};
 use cli_values::{
@@ -118,25 +115,6 @@ pub(crate) fn push_name(
     end_text(written, declared)
 }
 
-/// Appends a word and the name of a row, unless the reference is null.
-fn push_name_after(
-    source: &Neighbours<'_, '_>,
-    word: &str,
-    reference: Option<Token>,
-    declared: &mut Declared,
-) -> Result<(), AllocError>
-    ensures { (model : Metadata) → IsModel source.now.view.now model
-        → OnOk result (Gains (IsNameAfter model word.now reference) (string_bytes declared.old.text) (string_bytes declared.new.text)) }
-{
-    match reference {
-        Some(token) => {
-            push_plain(word, declared)?;
-            push_name(source, token, declared)
-        }
-        None => Ok(()),
-    }
-}
-
 /// Whether the reference to a row of a table says which row it is: a type or a member of this module, or a MemberRef.
 fn has_reference(table: TableId) -> bool
     ensures { result ≡ has_reference table }
@@ -220,37 +198,38 @@ fn push_reference(
     }
 }
 
-/// Appends a word and the reference to a row, unless the reference is null.
-fn push_reference_after(
+/// Appends what a row is referred to by.
+fn push_row(
+    source: &Neighbours<'_, '_>,
+    how: Naming,
+    token: Token,
+    declared: &mut Declared,
+) -> Result<(), AllocError>
+    ensures { (model : Metadata) → IsModel source.now.view.now model
+        → OnOk result (Gains (IsNaming how model token) (string_bytes declared.old.text) (string_bytes declared.new.text)) }
+{
+    match how {
+        Naming::Token => push_token(token, declared),
+        Naming::Name => push_name(source, token, declared),
+        Naming::Reference => push_reference(source, token, declared),
+    }
+}
+
+/// Appends a word and what a row is referred to by, unless the reference is null.
+fn push_after(
     source: &Neighbours<'_, '_>,
     word: &str,
+    how: Naming,
     reference: Option<Token>,
     declared: &mut Declared,
 ) -> Result<(), AllocError>
     ensures { (model : Metadata) → IsModel source.now.view.now model
-        → OnOk result (Gains (IsReferenceAfter model word.now reference) (string_bytes declared.old.text) (string_bytes declared.new.text)) }
+        → OnOk result (Gains (IsAfter model word.now how reference) (string_bytes declared.old.text) (string_bytes declared.new.text)) }
 {
     match reference {
         Some(token) => {
             push_plain(word, declared)?;
-            push_reference(source, token, declared)
-        }
-        None => Ok(()),
-    }
-}
-
-/// Appends a word and a token, unless the reference is null.
-fn push_token_after(
-    word: &str,
-    reference: Option<Token>,
-    declared: &mut Declared,
-) -> Result<(), AllocError>
-    ensures { OnOk result (string_bytes declared.new.text ≡ string_bytes declared.old.text ++ token_text_after word.now reference) }
-{
-    match reference {
-        Some(token) => {
-            push_plain(word, declared)?;
-            push_token(token, declared)
+            push_row(source, how, token, declared)
         }
         None => Ok(()),
     }
@@ -302,15 +281,12 @@ pub(crate) fn push_piece(
         Piece::FirstBytes(cell) => {
             push_value_bytes(bytes(view, table, row, cell), &mut declared.text)
         }
-        Piece::TokenAfter(word, cell) => {
-            push_token_after(word, reference(view, table, row, cell), declared)
-        }
         Piece::Signature(cell) => push_signature(view, table, row, cell, declared),
         Piece::Declaration => push_declaration(source, table, row, declared),
-        Piece::OwnName => push_name(source, token, declared),
-        Piece::AttributeValue => push_attribute_at(source, table, row, declared),
-        Piece::NameAfter(word, cell) => {
-            push_name_after(source, word, reference(view, table, row, cell), declared)
+        Piece::Own(how) => push_row(source, how, token, declared),
+        Piece::After(word, how, cell) => {
+            let of = reference(view, table, row, cell);
+            push_after(source, word, how, of, declared)
         }
         Piece::EightDigits(cell) => {
             let number = number(view, table, row, cell);
@@ -324,10 +300,6 @@ pub(crate) fn push_piece(
         Piece::Linked(link) => push_linked(source, link, table, row, declared),
         Piece::Listed(link, before, after) => {
             push_listed(source, link, before, after, token, declared)
-        }
-        Piece::OwnReference => push_reference(source, token, declared),
-        Piece::ReferenceAfter(word, cell) => {
-            push_reference_after(source, word, reference(view, table, row, cell), declared)
         }
     }
 }

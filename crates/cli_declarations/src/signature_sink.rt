@@ -11,6 +11,7 @@ ghost use Rattle.opening.specs.Views.{row_count};
 ghost use Rattle.cli_declarations.specs.Parts.{IsDeclarationAt, IsMethodText, IsPropertyText, IsSignatureOf};
 ghost use Rattle.cli_declarations.specs.Texts.{Gains};
 
+use crate::attribute_sink::push_attribute;
 use crate::declared::{Declared, TextLimit, begin_text, end_text};
 use declarations::{write_method_of, write_property_within, write_signature_text};
 use metadata_source::kind_of;
@@ -96,7 +97,8 @@ fn push_property(
     end_text(written, declared)
 }
 
-/// Appends the declaration of the method or the property that a row is, or nothing if it is of another table.
+/// Appends the declaration of the method or the property that a row is, or the value of the attribute; nothing if it is of
+/// another table.
 pub(crate) fn push_declaration(
     source: &Neighbours<'_, '_>,
     table: TableId,
@@ -111,6 +113,7 @@ pub(crate) fn push_declaration(
     match table {
         TableId::MethodDef => push_method(source, row, declared),
         TableId::Property => push_property(source, row, declared),
+        TableId::CustomAttribute => push_attribute(source, row, declared),
         _ => Ok(()),
     }
 }

@@ -1,4 +1,2 @@
 pub mod AttributeLemmas
 pub mod Prelude
-pub mod TokenLemmas
-pub mod TextLemmas

@@ -1,5 +1,5 @@
 -- The custom attributes of the assembly whose arguments are all strings (ECMA-335 II.22.10 and II.23.3).
-use Rattle.std.specs.Prelude.{ℕ, zero, suc, ◌+◌, ◌-◌, ◌==◌, ◌&&◌, Bool, false, List, [], ◌∷◌, ◌++◌, codes, filter, flat_map, length, take, Option, None, Some, option_and_then}
+use Rattle.std.specs.Prelude.{ℕ, ◌+◌, ◌-◌, ◌==◌, ◌&&◌, Bool, false, if◌then◌else◌, List, [], ◌∷◌, ◌++◌, codes, filter, flat_map, length, take, Option, None, Some, option_and_then}
 use Rattle.std.specs.List.{range_with_len}
 use Rattle.table_schema.specs.declared.table.TableId.{TableId}
 use Rattle.table_schema.specs.declared.table.TableId.TheVariants.{CustomAttribute, TypeDef, TypeRef}
@@ -90,9 +90,9 @@ attribute_limit = 256
 
 -- the number of attributes that are not read, if there are any
 abbrev pub more_lines : ℕ → List (List Part)
-more_lines zero = []
-more_lines (suc others) =
-    (member name.Directive (plain (codes "attributes")) ∷ word (codes "more attributes ") ∷ field name.Left (line.number (suc others)) ∷ []) ∷ []
+more_lines others =
+    if others == 0 then []
+    else (member name.Directive (plain (codes "attributes")) ∷ word (codes "more attributes ") ∷ field name.Left (line.number others) ∷ []) ∷ []
 
 -- the lines of the first of these attributes, and the number of the others
 abbrev pub lines_of_rows : Metadata → List ℕ → List (List Part)

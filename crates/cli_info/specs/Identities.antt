@@ -48,8 +48,8 @@ token_of kind flags key = if has_token kind flags then key else take 8 (reverse 
 
 -- the same in hexadecimal: `null` if there is no key, and `?` if it is too long
 unfoldable pub token_text : Kind → ℕ → List ℕ → List ℕ
-token_text kind flags [] = codes "null"
-token_text kind flags key = if nat_lt key_limit (length key) then codes "?" else encode_lower (token_of kind flags key)
+token_text kind flags key =
+    if length key == 0 then codes "null" else (if nat_lt key_limit (length key) then codes "?" else encode_lower (token_of kind flags key))
 
 abbrev pub culture_text : List ℕ → List ℕ
 culture_text [] = codes "neutral"

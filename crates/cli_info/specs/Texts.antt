@@ -1,5 +1,5 @@
 -- The values of attributes whose arguments are all strings (ECMA-335 II.23.3).
-use Rattle.std.specs.Prelude.{ℕ, nat_le, Bool, true, false, if◌then◌else◌, List, [], length, Option, None, Some, is_some, option_and_then}
+use Rattle.std.specs.Prelude.{ℕ, ◌==◌, ◌&&◌, nat_le, Bool, true, false, if◌then◌else◌, List, length, Option, None, Some, is_some}
 use Rattle.std.specs.List.{list_all}
 use Rattle.attribute_values.specs.declared.types.ArgumentType.{ArgumentType}
 use Rattle.attribute_values.specs.Items.{Head, element, Item, fixed, entry, named_count, named}
@@ -21,15 +21,13 @@ is_text (named of own head) = is_some (string_in head)
 abbrev pub value_limit : ℕ
 value_limit = 1024
 
--- for private clauses
+-- a value, if it is one, has no argument but strings
 abbrev pub are_texts : Option (List Item) → Bool
 are_texts None = false
 are_texts (Some items) = list_all is_text items
 
-abbrev pub if_texts : List Item → Option (List Item)
-if_texts items = if list_all is_text items then Some items else None
-
 -- the items of a value for a constructor with these parameters, at least one, if all arguments are strings and it is not too long
 abbrev pub texts_in : List ArgumentType → List ℕ → Option (List Item)
-texts_in [] value = None
-texts_in params value = if nat_le (length value) value_limit then option_and_then if_texts (value_items params value) else None
+texts_in params value =
+    let read = value_items params value in
+    if length params == 0 then None else (if nat_le (length value) value_limit && are_texts read then read else None)

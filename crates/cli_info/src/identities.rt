@@ -114,7 +114,7 @@ impl LastKey {
 
 /// The token of a key in hexadecimal: the last eight bytes of its SHA-1 in reverse order (II.6.3), unless it is a token
 /// already. It is `null` if there is no key, and `?` if it is too long.
-#[tactic(auto, using(crate::proofs::TokenLemmas::token_of_long, crate::proofs::TokenLemmas::token_of_token, crate::proofs::TokenLemmas::token_of_key), unfolding(crate::specs::Identities::token_text))]
+#[tactic(auto, unfolding(crate::specs::Identities::token_text))]
 fn token_text(
     alloc: Global,
     kind: Kind,

@@ -47,7 +47,6 @@ fn are_texts(blob: &[u8], params: &[ArgumentType]) -> bool
 
 /// The items of a value for a constructor with these parameters, at least one, if all arguments are strings. `None` of a
 /// longer value too.
-#[tactic(auto, using(crate::proofs::TextLemmas::none_of_none, crate::proofs::TextLemmas::none_of_long, crate::proofs::TextLemmas::other_arguments, crate::proofs::TextLemmas::all_arguments))]
 pub(crate) fn texts_in<'a, 'p>(value: &'a [u8], params: &'p [ArgumentType]) -> Option<Items<'a, 'p>>
     ensures { result ≡ texts_in params.now value.now }
 {

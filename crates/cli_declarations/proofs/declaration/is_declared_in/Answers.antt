@@ -1,4 +1,9 @@
-use Rattle.cli_declarations.proofs.Prelude.{◌≡◌, ◌==◌, ◌∷◌, [], List, length, map, ap, arith, refl, ◌∙◌, not, ne_eqb, has_parts, shown, Piece}
+use Rattle.std.proofs.Common.{◌≡◌, ◌==◌, ◌∷◌, [], List, length, map, ap, arith, refl, ◌∙◌}
+use Rattle.std.proofs.lemmas.Bool.{ne_eqb}
+use Rattle.std.specs.Prelude.{not}
+use Rattle.cli_declarations.specs.Layouts.{has_parts}
+use Rattle.cli_declarations.specs.Shown.{shown}
+use Rattle.cli_declarations.specs.declared.layouts.Piece.{Piece}
 use Rattle.cli_declarations.proofs.declaration.is_declared_in.Goals as goal
 
 has_pieces : (pieces : List Piece) → not (length pieces == 0) ≡ has_parts (map shown pieces)

@@ -1,4 +1,4 @@
-use Rattle.cli_declarations.proofs.Prelude.{OnOk, Option, refl, ap, string_bytes, subst, decimal, Token, IsNameAfter, IsReferenceAfter, bytes_text, cut_text, guid_text_in_comment, key_text, quoted_text, token_text_after, shown, Gains, words_of, words_text}
+use Rattle.cli_declarations.proofs.Prelude.{refl, ap, decimal, bytes_text, cut_text, guid_text_in_comment, key_text, quoted_text, shown, words_of, words_text}
 use Rattle.table_schema.specs.Tokens.{hexadecimal}
 use Rattle.full_names.specs.declared.quoted.NameKind.TheVariants.{Dotted}
 use Rattle.full_names.specs.Quoted.{name_text}
@@ -34,9 +34,6 @@ returns-in-Key c = λ model is. words_gained model c.args.table c.args.row c.arg
 pub returns-in-FirstBytes : goal.returns-in-FirstBytes
 returns-in-FirstBytes c = λ model is. words_gained model c.args.table c.args.row c.args.piece _ _ c.push_value_bytes.result (ap shown c.in-FirstBytes.is) (ap value_bytes_text (c.bytes-in-FirstBytes.ensures model is)) refl c.push_value_bytes.ensures
 
-pub returns-in-TokenAfter : goal.returns-in-TokenAfter
-returns-in-TokenAfter c = λ model is. words_gained model c.args.table c.args.row c.args.piece _ _ c.push_token_after.result (ap shown c.in-TokenAfter.is) (ap (token_text_after c.in-TokenAfter.word.now) (c.reference.ensures model is)) refl c.push_token_after.ensures
-
 pub returns-in-EightDigits : goal.returns-in-EightDigits
 returns-in-EightDigits c = λ model is. words_gained model c.args.table c.args.row c.args.piece _ _ c.push_eight_digits.result (ap shown c.in-EightDigits.is) (ap (hexadecimal 8) (c.number-number-in-EightDigits.ensures model is)) refl c.push_eight_digits.ensures
 
@@ -46,8 +43,8 @@ returns-in-GuidComment c = λ model is. words_gained model c.args.table c.args.r
 pub returns-in-Action : goal.returns-in-Action
 returns-in-Action c = λ model is. words_gained model c.args.table c.args.row c.args.piece _ _ c.push_action.result (ap shown c.in-Action.is) (ap action_text (c.number-action.ensures model is)) refl c.push_action.ensures
 
-pub returns-in-OwnName : goal.returns-in-OwnName
-returns-in-OwnName c = λ model is. part_gained model c.args.table c.args.row c.args.piece _ _ c.push_name.result (ap shown c.in-OwnName.is) (c.push_name.ensures model is)
+pub returns-in-Own : goal.returns-in-Own
+returns-in-Own c = λ model is. part_gained model c.args.table c.args.row c.args.piece _ _ c.push_row.result (ap shown c.in-Own.is) (c.push_row.ensures model is)
 
 pub returns-in-Signature : goal.returns-in-Signature
 returns-in-Signature c = λ model is. part_gained model c.args.table c.args.row c.args.piece _ _ c.push_signature.result (ap shown c.in-Signature.is) (c.push_signature.ensures model is)
@@ -58,18 +55,6 @@ returns-in-Declaration c = λ model is. part_gained model c.args.table c.args.ro
 pub returns-in-Listed : goal.returns-in-Listed
 returns-in-Listed c = λ model is. part_gained model c.args.table c.args.row c.args.piece _ _ c.push_listed.result (ap shown c.in-Listed.is) (c.push_listed.ensures model is)
 
-pub returns-in-OwnReference : goal.returns-in-OwnReference
-returns-in-OwnReference c = λ model is. part_gained model c.args.table c.args.row c.args.piece _ _ c.push_reference.result (ap shown c.in-OwnReference.is) (c.push_reference.ensures model is)
-
-pub returns-in-AttributeValue : goal.returns-in-AttributeValue
-returns-in-AttributeValue c = λ model is. part_gained model c.args.table c.args.row c.args.piece _ _ c.push_attribute_at.result (ap shown c.in-AttributeValue.is) (c.push_attribute_at.ensures model is)
-
-pub returns-in-NameAfter : goal.returns-in-NameAfter
-returns-in-NameAfter c = λ model is.
-    part_gained model c.args.table c.args.row c.args.piece _ _ c.push_name_after.result (ap shown c.in-NameAfter.is)
-    (subst (λ (r : Option Token). OnOk c.push_name_after.result (Gains (IsNameAfter model c.in-NameAfter.word.now r) (string_bytes c.args.declared.now.text) (string_bytes c.push_name_after.new.declared.text))) (c.reference-in-NameAfter.ensures model is) (c.push_name_after.ensures model is))
-
-pub returns-in-ReferenceAfter : goal.returns-in-ReferenceAfter
-returns-in-ReferenceAfter c = λ model is.
-    part_gained model c.args.table c.args.row c.args.piece _ _ c.push_reference_after.result (ap shown c.in-ReferenceAfter.is)
-    (subst (λ (r : Option Token). OnOk c.push_reference_after.result (Gains (IsReferenceAfter model c.in-ReferenceAfter.word.now r) (string_bytes c.args.declared.now.text) (string_bytes c.push_reference_after.new.declared.text))) (c.reference-in-ReferenceAfter.ensures model is) (c.push_reference_after.ensures model is))
+pub returns-in-After : goal.returns-in-After
+returns-in-After c = λ model is.
+    part_gained model c.args.table c.args.row c.args.piece _ _ c.push_after.result (ap shown c.in-After.is) (rw (← c.reference-of.ensures model is) (c.push_after.ensures model is))

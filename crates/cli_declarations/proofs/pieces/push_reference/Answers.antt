@@ -1,4 +1,4 @@
-use Rattle.cli_declarations.proofs.Prelude.{string_bytes, ◌≡◌, true, Bool, List, ℕ, refl, subst, sym, rules, TableId, Param, Token, Metadata, IsReferenceIn, IsReferred, has_reference, Gains}
+use Rattle.cli_declarations.proofs.Prelude.{◌≡◌, true, List, ℕ, refl, rules, TableId, Param, Token, Metadata, IsReferenceIn, IsReferred, has_reference, string_bytes, subst, sym, Gains}
 use Rattle.cli_declarations.proofs.PieceLemmas.{on_ok}
 use Rattle.cli_declarations.proofs.pieces.push_reference.Goals as goal
 
@@ -15,8 +15,4 @@ pub returns-in_default : goal.returns-in_default
 returns-in_default c = λ model is.
     let some : has_reference c.args.token.table ≡ true = search rules in
     on_ok c.push_member.result (c.push_member.ensures model is)
-    (λ gains. (
-      gains.0,
-      other_table model c.args.token.table c.args.token gains.0 c.in_default.not-Param (subst (λ (b : Bool). IsReferred model b c.args.token gains.0) (sym some) gains.1),
-      gains.2,
-    ))
+    (λ gains. (gains.0, other_table model c.args.token.table c.args.token gains.0 c.in_default.not-Param (rw some gains.1), gains.2))

@@ -1,4 +1,4 @@
-use Rattle.cli_declarations.proofs.Prelude.{string_bytes, ◌≡◌, List, ℕ, OnOk, refl, sym, subst, ColumnKind, Cell, ShowsSignature, IsSignatureOf, Gains}
+use Rattle.cli_declarations.proofs.Prelude.{◌≡◌, List, ℕ, refl, ColumnKind, Cell, ShowsSignature}
 use Rattle.table_schema.specs.declared.column.ColumnKind.TheVariants as column
 use Rattle.table_schema.specs.declared.column.SigKind.{SigKind}
 use Rattle.cli_declarations.proofs.PieceLemmas.{some_gained}
@@ -10,9 +10,8 @@ no_kind _ blob cell not shows = shows
 
 pub returns-in-Signature : goal.returns-in-Signature
 returns-in-Signature c = λ model is cell shows.
-    let here = subst (λ (k : ColumnKind). ShowsSignature k c.args.blob.now cell) c.in-Signature.is shows in
-    subst (λ (v : Cell). OnOk c.end_text.result (Gains (IsSignatureOf model v) (string_bytes c.args.declared.now.text) (string_bytes c.end_text.new.declared.text))) (sym here.2)
-    (some_gained c.args.declared.now c.begin_text.new.declared c.write_signature_text-written.new.out c.end_text.new.declared c.write_signature_text-written.result c.end_text.result c.begin_text.ensures c.end_text.ensures _ (c.write_signature_text-written.ensures model is here.0 here.1))
+    let here = rw c.in-Signature.is at shows in
+    rw here.2 (some_gained c.args.declared.now c.begin_text.new.declared c.write_signature_text-written.new.out c.end_text.new.declared c.write_signature_text-written.result c.end_text.result c.begin_text.ensures c.end_text.ensures _ (c.write_signature_text-written.ensures model is here.0 here.1))
 
 pub returns-in_default : goal.returns-in_default
 returns-in_default c = λ model is cell shows. absurd (no_kind c.args.kind c.args.blob.now cell c.in_default.not-Signature shows)

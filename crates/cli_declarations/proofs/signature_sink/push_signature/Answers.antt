@@ -1,4 +1,4 @@
-use Rattle.cli_declarations.proofs.Prelude.{string_bytes, ◌≡◌, Bor, List, [], ℕ, refl, sym, subst, append-nil, ColumnKind, Cell, Metadata, cell_in, Shows, ShowsSignature, IsSignatureOf}
+use Rattle.cli_declarations.proofs.Prelude.{string_bytes, ◌≡◌, Bor, List, [], ℕ, refl, sym, append-nil, ColumnKind, Cell, Metadata, cell_in, Shows, IsSignatureOf}
 use Rattle.reading.specs.declared.cell_ref.CellRef.{CellRef}
 use Rattle.reading.specs.declared.cell_ref.CellRef.TheVariants as seen
 use Rattle.cli_declarations.proofs.signature_sink.push_signature.Goals as goal
@@ -14,9 +14,7 @@ no_signature model kind (seen.Ref reference) cell shows not = rw shows refl
 no_signature model kind (seen.Start start) cell shows not = rw shows refl
 
 pub returns-in-Sig : goal.returns-in-Sig
-returns-in-Sig c = λ model is.
-    let cell = cell_in model c.args.table c.args.row c.args.cell in
-    c.push_in_column.ensures model is cell (subst (λ (k : ColumnKind). ShowsSignature k c.in-Sig.blob.now cell) (sym c.kind_of.ensures) (c.in-Sig.ensures.cell model is))
+returns-in-Sig c = λ model is. c.push_in_column.ensures model is (cell_in model c.args.table c.args.row c.args.cell) (rw c.kind_of.ensures (c.in-Sig.ensures.cell model is))
 
 pub returns-in_default : goal.returns-in_default
 returns-in_default c = λ model is.
