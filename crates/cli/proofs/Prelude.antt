@@ -1,7 +1,7 @@
 -- What several proofs of this crate name of std, of the crates below, and of its own definitions.
-pub use Rattle.std.proofs.Common.{◌≡◌, ◌≢◌, ◌∙◌, ◌+◌, ◌<◌, ◌≤◌, ℕ, Bool, true, false, cond, List, [], ◌∷◌, ◌++◌, All, map, drop, take, get_or, length, refl, ap, sym, subst, arith, inl, inr, ◌⊎◌, suc}
+pub use Rattle.std.proofs.Common.{◌≡◌, ◌≢◌, ◌∙◌, ◌+◌, ◌<◌, ℕ, true, false, List, [], ◌∷◌, ◌++◌, All, map, drop, take, get_or, length, refl, ap, sym, subst, arith, inl, inr, ◌⊎◌, suc}
 pub use Rattle.std.proofs.Math.Seq.{drop-append_seam, take-append_seam, split_at}
-pub use Rattle.std.proofs.lemmas.List.{append_cancel_left, get_or_append_left, length-append, length-map, map-append, take-append-drop, take_more, map_more, take_all}
+pub use Rattle.std.proofs.lemmas.List.{append_cancel_left, get_or_append_left, length-append, length-map, take-append-drop, take_more, take_all}
 pub use Rattle.std.proofs.lemmas.List.Elements.{All-get_or, All-more, All-weaker, All-cons, All-nil}
 pub use Rattle.std.specs.Borrow.{Bor}
 pub use Rattle.std.specs.Char.{to_ascii_lowercase}

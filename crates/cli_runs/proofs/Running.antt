@@ -1,5 +1,5 @@
 -- Runs on several files, one after another.
-use Rattle.cli_runs.proofs.Prelude.{◌≡◌, ◌≤◌, ◌<◌, ◌+◌, ◌&&◌, ◌||◌, ◌⊎◌, ℕ, Bool, true, false, Result, Ok, Err, List, [], ◌∷◌, map, drop, get_or, length, max, Option, refl, sym, subst, arith, inl, inr, Bor, drop_all, drop_more, Failure, NotUtf8, IsUnread, AreRun, AreRunAll, AreVisited, EndsAs, IsCutIn, IsNext, IsRun, IsVisited, is_input, Request}
+use Rattle.cli_runs.proofs.Prelude.{◌≡◌, ◌≤◌, ◌<◌, ◌+◌, ◌&&◌, ◌||◌, ◌⊎◌, ℕ, Bool, true, false, Result, Ok, Err, List, [], ◌∷◌, map, drop, get_or, length, max, Option, refl, arith, inl, inr, Bor, drop_all, drop_more, Failure, NotUtf8, IsUnread, AreRun, AreRunAll, AreVisited, EndsAs, IsCutIn, IsNext, IsRun, IsVisited, is_input, Request}
 use Rattle.cli_files.specs.Read.{IsRefused}
 use Rattle.cli_runs.specs.declared.report.Directories.TheVariants.{Walked}
 

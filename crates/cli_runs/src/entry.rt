@@ -1,5 +1,5 @@
 //! The entry point of a file.
-ghost use Rattle.std.specs.Prelude.{◌≡◌, IfErr, IfOk, Option, Some};
+ghost use Rattle.std.specs.Prelude.{IfErr, IfOk, Option, Some};
 ghost use Rattle.cli_header.specs.declared.header.CliHeader.{CliHeader as Header};
 ghost use Rattle.cli_info.specs.InfoLines.{AreFacts};
 ghost use Rattle.cli_input.specs.Checked.{IsModelOf, IsWhole, rules_of};

@@ -1,9 +1,6 @@
-use Rattle.cli.proofs.Prelude.{ℕ, sym, take_all, All-nil, All-more, TableId, NamesColumn}
+use Rattle.cli.proofs.Prelude.{ℕ, sym, take_all, All-more, TableId, NamesColumn}
 use Rattle.cli.proofs.ColumnsNamed.{of_each_table}
 use Rattle.cli.proofs.columns.column_named.Goals as goal
-
-pub loop-table-init : goal.loop-table-init
-loop-table-init c = All-nil _
 
 pub loop-table-preserved : goal.loop-table-preserved
 loop-table-preserved c =

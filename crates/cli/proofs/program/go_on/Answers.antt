@@ -11,6 +11,3 @@ returns-in-Ok-clause-quiet g c =
 
 pub returns-in-Err-clause-run : goal.returns-in-Err-clause-run
 returns-in-Err-clause-run g c = inr (kind_of c.in-Err.usage_error, c.in-Err.ensures.refused, c.report_usage_error.ensures.usage)
-
-pub returns-in-Err-clause-quiet : goal.returns-in-Err-clause-quiet
-returns-in-Err-clause-quiet g c = λ success. inl (c.report_usage_error.ensures.quiet success)

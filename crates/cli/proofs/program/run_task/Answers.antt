@@ -32,9 +32,3 @@ returns-in-Embed-clause-run g c =
     (λ bytes given outcome. WarnsOf options.strong_name bytes c.args.err.now c.embed_file-outcome.new.err)
     c.in-Embed.file.now options.path.now (option_map (λ path. path.now) options.root) c.embed_file-outcome.ensures in
     rw c.in-Embed.is (c.embed_file-outcome.result, run, c.status-in-Embed.ensures.status)
-
-pub returns-in-Embed-clause-quiet : goal.returns-in-Embed-clause-quiet
-returns-in-Embed-clause-quiet g c = λ success. inr (rw c.in-Embed.is tt)
-
-pub returns-in-Extract-clause-run : goal.returns-in-Extract-clause-run
-returns-in-Extract-clause-run g c = rw c.in-Extract.is (c.extract_file.result, c.extract_file.ensures, c.status-in-Extract.ensures.status)
