@@ -9,10 +9,10 @@
 //! ```
 #![tactic(auto)]
 
+mod all_rows;
 mod key_order;
 mod order;
-mod rows;
 mod runs;
 
+pub use all_rows::check_rows;
 pub use key_order::find_order;
-pub use rows::check_rows;
