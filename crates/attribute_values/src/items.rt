@@ -52,6 +52,7 @@ impl<'a, 'p> Model for Items<'a, 'p> {
 impl<'a, 'p> Items<'a, 'p> {
     /// The items of the value that the whole blob is, for a constructor with parameters of these types; `None` if it
     /// is none. It takes time in proportion to the blob.
+    #[tactic(auto, using(crate::proofs::StepLemmas::whole_some, crate::proofs::StepLemmas::whole_read, crate::proofs::StepLemmas::none_read))]
     pub fn of(blob: &'a [u8], params: &'p [ArgumentType]) -> Option<Items<'a, 'p>>
         // The items are those of a value that the blob is.
         ensures sound { IfSome result (λ items. (v : AttributeValue) × IsAttributeValue params.now v blob.now × (items ≡ items_of v)) }
@@ -79,6 +80,7 @@ impl<'a> Iterator for Items<'a, '_> {
     ghost remaining = { item_count (λ s. s) };
 
     /// The next item; `None` after the last. It reads only the bytes of that item.
+    #[tactic(auto, using(crate::proofs::StepLemmas::done_items))]
     fn next(&mut self) -> Option<Item<'a>> {
         if self.left.is_done() {
             return None;

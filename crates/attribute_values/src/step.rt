@@ -142,7 +142,7 @@ fn named<'a, 'p>(bytes: &'a [u8], further: u16) -> Option<Step<'a, 'p>>
 }
 
 /// The next item, and what remains after it; `None` if the bytes do not begin with one.
-#[tactic(auto, unfolding(crate::specs::Reading::entries_at, crate::specs::Reading::named_left))]
+#[tactic(auto, using(crate::proofs::StepLemmas::named_next), unfolding(crate::specs::Reading::entries_at, crate::specs::Reading::named_left))]
 pub(crate) fn next_step<'a, 'p>(bytes: &'a [u8], left: Left<'p>) -> Option<Step<'a, 'p>>
     requires { is_done left ≡ false }
     ensures reported { reported result ≡ left_at left.entry bytes.now }

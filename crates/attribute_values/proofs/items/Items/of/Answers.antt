@@ -1,8 +1,8 @@
-use Rattle.std.proofs.Common.{◌∙◌, ℕ, ◌<◌, ◌^◌, List, Some, length, get_or, ap, is_some, arith, rules}
-use Rattle.attribute_values.proofs.Prelude.{Item, all_at, items_in}
+use Rattle.std.proofs.Common.{◌∙◌, ℕ, ◌<◌, ◌^◌, List, length, get_or, ap, arith, rules}
+use Rattle.attribute_values.proofs.Prelude.{Item, items_in}
 use Rattle.attribute_values.proofs.PartLemmas.{NumbersAreRead}
 use Rattle.attribute_values.proofs.LengthLemmas.{few_items}
-use Rattle.attribute_values.proofs.StepLemmas.{none_read, whole_read, whole_some, whole_value, value_items, value_ends}
+use Rattle.attribute_values.proofs.StepLemmas.{whole_value, value_items, value_ends}
 use Rattle.attribute_values.proofs.items.Items.of.Goals as goal
 
 pub returns-clause-sound : goal.returns-clause-sound
@@ -21,16 +21,6 @@ pub returns-in_err-bytes-clause-complete : goal.returns-in_err-bytes-clause-comp
 returns-in_err-bytes-clause-complete c = λ v is.
     let known : NumbersAreRead = record { found = c.numbers_are_read.ensures.unsigned; again = c.numbers_are_read.ensures.unsigned_only } in
     absurd (value_ends known c.args.params.now c.args.blob.now v is c.in_err-bytes.ensures.none)
-
-pub invariant_of-result : goal.invariant_of-result
-invariant_of-result c = ap is_some c.in_ok-bytes.ensures.same ∙ whole_some (all_at c.args.params.now c.args.blob.now) c.in_ok-bytes.ensures.whole
-
-pub returns-clause-read : goal.returns-clause-read
-returns-clause-read c =
-    ap (λ o. Some (items_in o)) c.in_ok-bytes.ensures.same ∙ whole_read (all_at c.args.params.now c.args.blob.now) c.in_ok-bytes.ensures.whole
-
-pub returns-in_err-bytes-clause-read : goal.returns-in_err-bytes-clause-read
-returns-in_err-bytes-clause-read c = c.from_residual.ensures ∙ none_read (all_at c.args.params.now c.args.blob.now) c.in_err-bytes.ensures.none
 
 pub returns-clause-few : goal.returns-clause-few
 returns-clause-few c =
