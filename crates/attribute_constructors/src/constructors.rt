@@ -28,7 +28,7 @@ pub fn constructor(view: &View<'_>, row: u32) -> Option<Token>
 }
 
 /// The type that has a constructor (II.22.25, II.22.37). A row of MethodDef is found by binary search.
-#[tactic(auto, unfolding(table_schema::specs::CellColumns::cell_columns))]
+#[tactic(auto, using(crate::proofs::OwnerLemmas::no_type), unfolding(table_schema::specs::CellColumns::cell_columns))]
 pub fn type_of(source: &Neighbours<'_, '_>, of: Token) -> Option<Token>
     requires first { 1 ≤ of.row }
     requires last { of.row ≤ row_count source.now.view.now of.table }

@@ -138,7 +138,7 @@ fn is_enum<S: ReadView>(source: &S, base: Option<Token>) -> bool
 }
 
 /// The underlying type of a type, if it is an enum and its instance field is among its first fields.
-#[tactic(auto, unfolding(table_schema::specs::CellColumns::cell_columns))]
+#[tactic(auto, using(crate::proofs::TypeLemmas::no_enum), unfolding(table_schema::specs::CellColumns::cell_columns))]
 fn underlying_type<S: ReadView>(source: &S, row: u32) -> Option<Element>
     requires first { 1 ≤ row }
     requires last { row ≤ S.row_count source.now TypeDef }

@@ -1,10 +1,6 @@
 use Rattle.attribute_constructors.proofs.Prelude.{◌∙◌, sym, arith, TypeDef}
-use Rattle.attribute_constructors.proofs.TypeLemmas.{no_enum, enum_run}
+use Rattle.attribute_constructors.proofs.TypeLemmas.{enum_run}
 use Rattle.attribute_constructors.proofs.enums.underlying_type.Goals as goal
-
-pub returns-then-not-is_enum : goal.returns-then-not-is_enum
-returns-then-not-is_enum g c = λ model is.
-    no_enum model c.args.row c.reference-base.result (c.reference-base.ensures.value model is) (sym (c.is_enum.ensures model is) ∙ c.if-not-is_enum.true)
 
 pub returns : goal.returns
 returns g c = λ model is.
