@@ -28,7 +28,7 @@ byte_read before (byte ∷ tail) skipped first none is at =
 -- at the end nothing is left
 pub all_read : (before first text : List ℕ) (skipped i : ℕ) → length text ≤ i → before ++ unescaped_after skipped (drop i text) ≡ first ++ unescaped text → before ≡ first ++ unescaped text
 unfolding unescaped_after
-all_read before first text skipped i end is = sym (append-nil before) ∙ ap (λ t. before ++ unescaped_after skipped t) (sym (drop_all i text end)) ∙ is
+all_read before first text skipped i end is = sym (append-nil before) ∙ rw (drop_all i text end) at is
 
 -- a text, or another one if it is no UTF-8
 pub text_is : {E : Type 0} (result : Result (Bor (List ℕ)) E) (other out : Bor (List ℕ)) (bytes : List ℕ) (IsFault : E → Type 0) → out ≡ result_unwrap_or result other

@@ -44,7 +44,7 @@ byte_shown before (byte ∷ tail) skipped first none some is at = rw (none, ← 
 -- at the end nothing is left
 pub all_shown : (before first text : List ℕ) (skipped i : ℕ) → length text ≤ i → before ++ readable_after skipped (drop i text) ≡ first ++ readable text → before ≡ first ++ readable text
 unfolding readable_after
-all_shown before first text skipped i end is = sym (append-nil before) ∙ ap (λ t. before ++ readable_after skipped t) (sym (drop_all i text end)) ∙ is
+all_shown before first text skipped i end is = sym (append-nil before) ∙ rw (drop_all i text end) at is
 
 -- a byte that is no backslash begins no letter
 no_letter : (byte : ℕ) (tail : List ℕ) → (byte == 92) ≡ false → None ≡ letter_at (byte ∷ tail)

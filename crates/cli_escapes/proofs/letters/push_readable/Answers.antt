@@ -1,18 +1,10 @@
-use Rattle.cli_escapes.proofs.Prelude.{◌≡◌, ◌∙◌, ◌++◌, ◌+◌, drop, ap, sym, refl, drop-drop, readable_after}
+use Rattle.cli_escapes.proofs.Prelude.{◌∙◌, drop-drop}
 use Rattle.cli_escapes.proofs.LetterLemmas.{all_shown}
 use Rattle.cli_escapes.proofs.letters.push_readable.Goals as goal
 
-pub loop-index-init : goal.loop-index-init
-loop-index-init c = refl
-
 pub loop-index-preserved : goal.loop-index-preserved
 loop-index-preserved c =
-    let text = c.args.text.now in
-    let left = c.in_ok-skipped.skipped in
-    let later = c.show_first.new.out.items in
-    let next : drop (c.loop-index.index + 1) text ≡ drop 1 c.split_at.result.1.now = sym (drop-drop 1 c.loop-index.index text) ∙ ap (drop 1) (sym c.split_at.ensures.back) in
-    ap (λ t. later ++ readable_after left t) next ∙ c.in_ok-skipped.ensures
-    ∙ ap (λ t. c.loop-index.out.items ++ readable_after c.loop-index.skipped t) c.split_at.ensures.back ∙ c.loop-index.invariant
+    rw (← drop-drop 1 c.loop-index.index c.args.text.now) (rw c.split_at.ensures.back at c.in_ok-skipped.ensures ∙ c.loop-index.invariant)
 
 pub returns : goal.returns
 returns c = all_shown c.loop-index.out.items c.args.out.now.items c.args.text.now c.loop-index.skipped c.loop-index.index c.loop-index-test.false c.loop-index.invariant
