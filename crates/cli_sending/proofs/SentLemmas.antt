@@ -54,11 +54,6 @@ pub tail_sent : (before between after : Option (List ℕ)) (bytes left : List �
 tail_sent before between after bytes left first last =
     subst (λ (xs : List ℕ). Appends before after xs) (sym first.1) (appends_more before between after first.0 left first.2 last)
 
--- a prefix of what is left is sent last
-pub tail_cut : (before between after : Option (List ℕ)) (bytes left : List ℕ) → Sends before between bytes left → SendsPrefix between after left → SendsPrefix before after bytes
-tail_cut before between after bytes left first cut =
-    (cut.0, (first.0 ++ cut.1.0, first.1 ∙ ap (λ xs. first.0 ++ xs) cut.1.1 ∙ sym (append_assoc first.0 cut.1.0 cut.0), appends_more before between after first.0 cut.1.0 first.2 cut.1.2))
-
 pub nothing_left : (left : List ℕ) → true ≡ (length left == 0) → left ≡ []
 nothing_left [] is = refl
 nothing_left (byte ∷ bytes) is = let none = eqb-true (length (byte ∷ bytes)) 0 (sym is) in absurd (omega arith)
@@ -68,6 +63,10 @@ pub some_sent : (before between after : Option (List ℕ)) (bytes left some tail
     → Sends before after bytes tail
 some_sent before between after bytes left some tail first more whole =
     (first.0 ++ some, first.1 ∙ ap (λ xs. first.0 ++ xs) whole ∙ sym (append_assoc first.0 some tail), appends_more before between after first.0 some first.2 more)
+
+-- a prefix of what is left is sent last
+pub tail_cut : (before between after : Option (List ℕ)) (bytes left : List ℕ) → Sends before between bytes left → SendsPrefix between after left → SendsPrefix before after bytes
+tail_cut before between after bytes left first cut = (cut.0, some_sent before between after bytes left cut.1.0 cut.0 first cut.1.2 cut.1.1)
 
 -- nothing more is sent
 pub cut_here : (before between after : Option (List ℕ)) (bytes left : List ℕ) → Sends before between bytes left → Keeps between after → SendsPrefix before after bytes
@@ -89,16 +88,12 @@ module _ {T E : Type 0} where
   flushed (Ok done) before between after bytes first kept = appends_kept before between after bytes first kept
   flushed (Err error) before between after bytes first kept = ([], (bytes, sym (append-nil bytes), appends_kept before between after bytes first kept))
 
-not_ok : {T E : Type 0} (result : Result T E) (error : E) → result ≡ Err error → IsOk result → ⊥
-not_ok (Ok done) error same is = cc
-not_ok (Err other) error same is = cc
-
 -- another result that is `Ok` if and only if the first one is
 pub same_printed : {T E F : Type 0} (first : Result T E) (second : Result T F) (before after : Option (List ℕ)) (text : List ℕ) → IsOk second ↔ IsOk first
     → Sent before after first text → Sent before after second text
 same_printed (Ok done) (Ok more) before after text same printed = printed
-same_printed {T = T} {F = F} (Ok done) (Err error) before after text same printed = absurd (not_ok {T = T} {E = F} (Err error) error refl (same.1 refl))
-same_printed {T = T} {E = E} (Err error) (Ok more) before after text same printed = absurd (not_ok {T = T} {E = E} (Err error) error refl (same.0 refl))
+same_printed (Ok done) (Err error) before after text same printed = let no = same.1 refl in cc
+same_printed (Err error) (Ok more) before after text same printed = let no = same.0 refl in cc
 same_printed (Err error) (Err other) before after text same printed = printed
 
 -- nothing was to be sent
