@@ -1,5 +1,5 @@
 -- The cell that is read for a number is the one that the number represents.
-use Rattle.cli_cells.proofs.Prelude.{◌≡◌, ◌≢◌, ◌∙◌, ℕ, zero, suc, ◌+◌, ◌*◌, ◌/◌, ◌%◌, ◌^◌, ◌<◌, ◌≤◌, Bool, false, List, [], ◌∷◌, ◌++◌, length, take, drop, Option, Some, None, cond, refl, ap, sym, subst, inl, inr, arith, slice_get, ne_eqb, All-head, All-tail, AllHold, each_holds, TableId, ColumnKind, columns_of, column_at, is_padding, Source, number_of, SourceAt, cell_offset, start_of, StandsIn, MayRefer, rules_of_cell, rules_of_number, rules_of_row, blob_at, cell_at, coded_at, counted, guid_at, read_cell, row_at, signature_at, signature_of, signature_or, tagged, text_at, text_of}
+use Rattle.cli_cells.proofs.Prelude.{◌≡◌, ◌≢◌, ◌∙◌, ℕ, zero, suc, ◌+◌, ◌*◌, ◌/◌, ◌%◌, ◌^◌, ◌<◌, ◌≤◌, Bool, false, List, [], ◌∷◌, ◌++◌, length, drop, Option, Some, None, refl, ap, sym, subst, inl, inr, arith, ne_eqb, All-head, All-tail, AllHold, each_holds, TableId, ColumnKind, columns_of, column_at, is_padding, Source, number_of, SourceAt, cell_offset, start_of, StandsIn, MayRefer, rules_of_cell, rules_of_number, rules_of_row, blob_at, cell_at, coded_at, guid_at, read_cell, row_at, signature_at, signature_of, signature_or, text_at, text_of}
 use Rattle.std.proofs.Math.Seq.{drop-append_seam, take-append_seam}
 use Rattle.std.proofs.lemmas.Nat.{div-add-mod', mod_below, same_from_place}
 use Rattle.std.proofs.lemmas.Option.{slice_get_within}
@@ -27,8 +27,7 @@ tail_of heap before tail index whole at =
 text_read : (bytes after : List ℕ) → HasNoNul bytes → text_of (bytes ++ 0 ∷ after) ≡ bytes
 text_read [] after none = refl
 text_read (b ∷ bs) after none =
-    ap (λ t. cond t [] (b ∷ text_of (bs ++ 0 ∷ after))) (ne_eqb b 0 (All-head (λ byte. byte ≢ 0) b bs none))
-    ∙ ap (λ xs. b ∷ xs) (text_read bs after (All-tail (λ byte. byte ≢ 0) b bs none))
+    rw (ne_eqb b 0 (All-head (λ byte. byte ≢ 0) b bs none), text_read bs after (All-tail (λ byte. byte ≢ 0) b bs none))
 
 text_is : (heap : List ℕ) (index : ℕ) (text : List ℕ) → IsText heap index text → text ≡ text_at heap index
 text_is heap zero text (inl none) = none.1
@@ -45,9 +44,7 @@ guid_is heap (suc before) None is = absurd (omega (arith, is))
 guid_is heap (suc before) (Some guid) is =
     let entry = is.1 in
     let at : length entry.before ≡ 16 * before = omega (arith, entry.at) in
-    let tail = tail_of heap entry.before (guid ++ entry.after) (16 * before) entry.whole at in
-    let first : take 16 (guid ++ entry.after) ≡ guid = subst (λ (n : ℕ). take n (guid ++ entry.after) ≡ guid) entry.long (take-append_seam guid entry.after) in
-    ap Some (sym (ap (λ xs. take 16 xs) tail ∙ first))
+    rw (tail_of heap entry.before (guid ++ entry.after) (16 * before) entry.whole at, ← entry.long, take-append_seam guid entry.after)
 
 -- what is known of packed numbers
 abbrev pub ArePacked : Type 0
@@ -59,11 +56,12 @@ blob_is known heap zero blob (inr some) = absurd (omega (arith, some.0))
 blob_is known heap (suc before) blob (inl none) = absurd (omega (arith, none.0))
 blob_is known heap (suc before) blob (inr some) =
     let is = some.1 in
-    let tail = tail_of heap is.before (is.count ++ (blob ++ is.after)) (suc before) is.whole is.at in
-    sym (ap (λ bytes. counted bytes (unsigned_at bytes)) tail
-    ∙ ap (λ read. counted (is.count ++ (blob ++ is.after)) read) (known (length blob) is.count (blob ++ is.after) is.counts)
-    ∙ ap (λ bytes. take (length blob) bytes) (drop-append_seam is.count (blob ++ is.after))
-    ∙ take-append_seam blob is.after)
+    rw (
+      tail_of heap is.before (is.count ++ (blob ++ is.after)) (suc before) is.whole is.at,
+      known (length blob) is.count (blob ++ is.after) is.counts,
+      drop-append_seam is.count (blob ++ is.after),
+      take-append_seam blob is.after,
+    )
 
 -- a blob has fewer bytes than a packed number can count
 pub blob_short : ((n : ℕ) (bytes : List ℕ) → IsPacked n bytes → n < 2 ^ 29) → (heap : List ℕ) (index : ℕ) (blob : List ℕ) → IsBlob heap index blob → length blob < 2 ^ 29
@@ -87,9 +85,7 @@ coded_is coded number token few is =
     let some : 0 < 2 ^ tag_bits coded = omega (arith, low) in
     let same = same_from_place (number / 2 ^ tag_bits coded) (number % 2 ^ tag_bits coded) token.row is.tag (2 ^ tag_bits coded)
     (mod_below number (2 ^ tag_bits coded) some) low (div-add-mod' number (2 ^ tag_bits coded) ∙ is.equal) in
-    ap (λ i. tagged (slice_get (tables_of coded) i) (number / 2 ^ tag_bits coded)) same.1
-    ∙ ap (λ t. tagged t (number / 2 ^ tag_bits coded)) is.listed
-    ∙ ap (row_at token.table) same.0
+    rw (same.1, is.listed, same.0)
 
 some_row : (source : Source) (nullable : Bool) (token : Token) → MayRefer source nullable token → (cell : Cell) × Refers source nullable token cell
 some_row source nullable token (inl null) = (Ref None, inl (null.0, null.1, refl))

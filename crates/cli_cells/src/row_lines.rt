@@ -1,9 +1,7 @@
 //! The line of a row of a table.
-ghost use Rattle.std.specs.Prelude.{◌≡◌, ◌≤◌, ◌<◌, ◌∷◌, [], flat_map};
-ghost use Rattle.std.specs.List.{range_with_len};
-ghost use Rattle.table_schema.specs.CellColumns.{cell_count};
+ghost use Rattle.std.specs.Prelude.{◌≡◌, ◌≤◌, ◌∷◌, []};
 ghost use Rattle.cli_lines.specs.Printed.{Adds, Begins, Prints};
-ghost use Rattle.cli_cells.specs.RowLines.{cell_label, cell_parts, row_head, row_line};
+ghost use Rattle.cli_cells.specs.RowLines.{cell_label, row_head, row_line};
 ghost use Rattle.cli_cells.specs.Shown.{Content};
 
 use crate::cells::print_cell;
@@ -40,37 +38,6 @@ pub(crate) fn print_row<'a, R: ShownRows<'a>, W: Write>(
 {
     cli_lines::laws::parts_follow::<W>();
     begin_row(names, Token { table, row }, out);
-    print_cells(alloc, names, rows, table, row, out);
-    out.end();
-}
-
-/// Begins the line of a row.
-#[inline(always)]
-fn begin_row<W: Write>(names: Names, row: Token, out: &mut Printer<'_, W>)
-    ensures { Begins out.old out.new (row_head names row ∷ []) }
-{
-    match names {
-        Names::Hidden => out.begin(&[RowNumber(row)]),
-        Names::Shown => out.begin(&[RowToken(row)]),
-    }
-}
-
-/// Adds the cells of a row.
-fn print_cells<'a, R: ShownRows<'a>, W: Write>(
-    alloc: Global,
-    names: Names,
-    rows: &mut R,
-    table: TableId,
-    row: u32,
-    out: &mut Printer<'_, W>,
-)
-    requires first { 1 ≤ row }
-    requires last { row ≤ R.ready_rows rows.old table }
-    ensures same { rows.new ≡ rows.old }
-    ensures parts { (content : Content) → R.shows rows.old content
-        → Adds out.old out.new (flat_map (cell_parts names content table row) (range_with_len 0 (cell_count table))) }
-{
-    cli_lines::laws::parts_follow::<W>();
     for cell_index in 0..cell_count(table) {
         print_label(names, table, cell_index, out);
         print_cell(
@@ -83,6 +50,18 @@ fn print_cells<'a, R: ShownRows<'a>, W: Write>(
             cell_index,
             out,
         );
+    }
+    out.end();
+}
+
+/// Begins the line of a row.
+#[inline(always)]
+fn begin_row<W: Write>(names: Names, row: Token, out: &mut Printer<'_, W>)
+    ensures { Begins out.old out.new (row_head names row ∷ []) }
+{
+    match names {
+        Names::Hidden => out.begin(&[RowNumber(row)]),
+        Names::Shown => out.begin(&[RowToken(row)]),
     }
 }
 

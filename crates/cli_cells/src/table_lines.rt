@@ -1,10 +1,9 @@
 //! Prints tables.
-ghost use Rattle.std.specs.Prelude.{◌≡◌, ◌≤◌, ◌∷◌, [], flat_map, map};
-ghost use Rattle.std.specs.List.{range_with_len};
+ghost use Rattle.std.specs.Prelude.{◌≡◌, ◌∷◌, [], flat_map};
 ghost use Rattle.metadata.specs.Metadata.{Metadata};
 ghost use Rattle.metadata.specs.Model.{IsModel};
 ghost use Rattle.cli_lines.specs.Printed.{Prints};
-ghost use Rattle.cli_cells.specs.RowLines.{first_lines, heading_line, row_line, show_lines};
+ghost use Rattle.cli_cells.specs.RowLines.{first_lines, heading_line, show_lines};
 ghost use Rattle.cli_cells.specs.Shown.{Content};
 
 use crate::row_lines::{Names, print_row};
@@ -74,7 +73,9 @@ fn print_table<'a, R: ShownRows<'a>, W: Write>(
         return;
     }
     print_heading(table, rows.count(table), out);
-    print_rows(alloc, names, rows, table, ready, out);
+    for earlier in 0..ready {
+        print_row(alloc, names, rows, table, earlier + 1, out);
+    }
 }
 
 /// Prints the line before the rows of a table.
@@ -90,24 +91,4 @@ fn print_heading<W: Write>(table: TableId, count: u32, out: &mut Printer<'_, W>)
         Word(" "),
         Note(Number(count as u64)),
     ]);
-}
-
-/// Prints the first rows of a table.
-fn print_rows<'a, R: ShownRows<'a>, W: Write>(
-    alloc: Global,
-    names: Names,
-    rows: &mut R,
-    table: TableId,
-    count: u32,
-    out: &mut Printer<'_, W>,
-)
-    requires { count ≤ R.ready_rows rows.old table }
-    ensures same { rows.new ≡ rows.old }
-    ensures lines { (content : Content) → R.shows rows.old content
-        → Prints out.old out.new (map (row_line names content table) (range_with_len 1 count)) }
-{
-    cli_lines::laws::lines_follow::<W>();
-    for earlier in 0..count {
-        print_row(alloc, names, rows, table, earlier + 1, out);
-    }
 }

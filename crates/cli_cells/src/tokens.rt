@@ -1,7 +1,6 @@
 //! `clim token`: the rows and user strings that tokens name (ECMA-335 III.1.9 and II.24.2.4).
 ghost use Rattle.std.specs.Prelude.{◌≡◌, ◌≤◌, ◌∷◌, ◌%◌, ◌^◌, [], List, IfErr, IfNone, IfOk, IfSome, None, OnOk, OnSome, Some, All};
 ghost use Rattle.heap_entries.specs.Padding.{zero_padded};
-ghost use Rattle.table_schema.specs.declared.token.Token.{Token as TheToken};
 ghost use Rattle.table_schema.specs.Tokens.{IsToken};
 ghost use Rattle.metadata.specs.Metadata.{Metadata};
 ghost use Rattle.metadata.specs.Model.{IsModel};
@@ -28,9 +27,8 @@ const ROWS: u32 = 1 << 24;
 
 /// The token with a number (III.1.9), if it names a row of the view. `None` if no table has the number in the high
 /// byte, or the low three bytes are 0 or not a row of that table.
-pub fn existing_row(view: &View<'_>, number: u32) -> Option<Token>
+fn existing_row(view: &View<'_>, number: u32) -> Option<Token>
     ensures sound { IfSome result (λ token. IsToken number token × (1 ≤ token.row) × (token.row ≤ row_count view.now token.table)) }
-    ensures one { IfSome result (λ token. (other : TheToken) → IsToken number other → other ≡ token) }
     ensures none { IfNone result (¬ HasTokenRow view.now number) }
 {
     let token = Token::from_u32(number)?;
@@ -42,11 +40,7 @@ pub fn existing_row(view: &View<'_>, number: u32) -> Option<Token>
 }
 
 /// A copy of bytes, padded with zeros to a multiple of four.
-///
-/// # Errors
-///
-/// Out of memory.
-pub fn padded_copy(alloc: Global, bytes: &[u8]) -> Result<Vec<u8>, AllocError>
+fn padded_copy(alloc: Global, bytes: &[u8]) -> Result<Vec<u8>, AllocError>
     ensures { IfOk result (λ copy. copy.items ≡ zero_padded bytes.now) }
 {
     let padding = (4 - bytes.len() % 4) % 4;
@@ -157,7 +151,7 @@ fn print_string_at<W: Write>(
 /// Prints the line of the user string that a number names (II.24.2.4): `user TEXT FLAG`. TEXT has each unit from 0x20 to
 /// 0x7E except the backslash as it is, and any other as `\u` and four hexadecimal digits. FLAG is the last byte in
 /// decimal. The line of a string of no bytes is `user`.
-pub fn print_user_string<W: Write>(number: u32, string: &UserString<'_>, out: &mut Printer<'_, W>)
+fn print_user_string<W: Write>(number: u32, string: &UserString<'_>, out: &mut Printer<'_, W>)
     ensures { Prints out.old out.new (user_line number string.now ∷ []) }
 {
     cli_lines::laws::parts_follow::<W>();

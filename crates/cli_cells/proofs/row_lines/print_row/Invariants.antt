@@ -1,6 +1,6 @@
 use Rattle.cli_cells.proofs.Prelude.{◌≡◌, Adds, cell_parts, Content}
 use Rattle.std.specs.List.{flat_map, range_with_len}
-use Rattle.cli_cells.proofs.row_lines.print_cells.Given as goal
+use Rattle.cli_cells.proofs.row_lines.print_row.Given as goal
 
 abbrev pub invariant-loop-cell_index : goal.invariant-loop-cell_index
 invariant-loop-cell_index g l = record {

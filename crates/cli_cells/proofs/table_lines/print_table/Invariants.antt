@@ -1,5 +1,5 @@
 use Rattle.cli_cells.proofs.Prelude.{◌≡◌, map, range_with_len, Prints, row_line, Content}
-use Rattle.cli_cells.proofs.table_lines.print_rows.Given as goal
+use Rattle.cli_cells.proofs.table_lines.print_table.Given as goal
 
 abbrev pub invariant-loop-earlier : goal.invariant-loop-earlier
 invariant-loop-earlier g l = record {
