@@ -14,10 +14,7 @@ use std::fmt::Write;
 pub fn push_decimal(number: u64, text: &mut String) -> Result<(), AllocError>
     ensures { OnOk result (string_bytes text.new ≡ string_bytes text.old ++ decimal number) }
 {
-    match write!(text, "{number}") {
-        Ok(()) => Ok(()),
-        Err(_) => Err(AllocError),
-    }
+    write!(text, "{number}").map_err(|_| AllocError)
 }
 
 /// Appends a number in decimal. From `half` on it stands for a negative number, in two's complement.
@@ -39,18 +36,12 @@ pub(crate) fn push_signed(number: u64, half: u64, text: &mut String) -> Result<(
 pub fn push_eight_digits(number: u64, text: &mut String) -> Result<(), AllocError>
     ensures { OnOk result (string_bytes text.new ≡ string_bytes text.old ++ hexadecimal 8 number) }
 {
-    match write!(text, "{number:08x}") {
-        Ok(()) => Ok(()),
-        Err(_) => Err(AllocError),
-    }
+    write!(text, "{number:08x}").map_err(|_| AllocError)
 }
 
 /// Appends the sixteen hexadecimal digits of a number.
 pub(crate) fn push_sixteen_digits(number: u64, text: &mut String) -> Result<(), AllocError>
     ensures { OnOk result (string_bytes text.new ≡ string_bytes text.old ++ hexadecimal 16 number) }
 {
-    match write!(text, "{number:016x}") {
-        Ok(()) => Ok(()),
-        Err(_) => Err(AllocError),
-    }
+    write!(text, "{number:016x}").map_err(|_| AllocError)
 }

@@ -26,10 +26,7 @@ fn push_escaped(unit: u16, text: &mut String) -> Result<(), AllocError>
         text.push(char::from(unit as u8))?;
         return Ok(());
     }
-    match write!(text, "\\u{unit:04x}") {
-        Ok(()) => Ok(()),
-        Err(_) => Err(AllocError),
-    }
+    write!(text, "\\u{unit:04x}").map_err(|_| AllocError)
 }
 
 /// Appends a unit of a text between quotes.
