@@ -5,63 +5,30 @@ use Rattle.std.specs.Result.{result_ok}
 use Rattle.std.specs.Str.Parse.{IsNumeral, ParsesUnsigned, digits_value}
 use Rattle.std.proofs.Math.Nat.{pow-le-pow_right}
 use Rattle.std.proofs.lemmas.Int.Digits.{digits_value-lt}
-use Rattle.cli_names.specs.Numbers.{IsCodeNumber, IsHexNumber, IsOffset, IsTableNumber, digits_of}
+use Rattle.cli_names.specs.Numbers.{IsOffset, digits_of}
 
 plus_free : (led : Bool) (word : List ℕ) → led ≡ false → drop (cond led 1 0) word ≡ word
 plus_free true word none = cc
 plus_free false word none = refl
 
--- an argument of at most eight bytes without a leading plus is read as a number if and only if it is hexadecimal digits
-pub token_read : {E : Type 0} (word : List ℕ) (read : Result ℕ E) (answer : Option ℕ) → length word ≤ 8 → (slice_index word 0 == 43) ≡ false
-    → ParsesUnsigned 32 16 word read → answer ≡ result_ok read → SomeIff answer (IsHexNumber word) (digits_value 16 word)
-token_read word (Ok number) answer short none parses is =
-    let P : List ℕ → Type 0 = λ ds. (IsNumeral 16 ds × (digits_value 16 ds < 2 ^ 32)) × (number ≡ digits_value 16 ds) in
-    let read = subst P (plus_free (slice_index word 0 == 43) word none) parses in
+-- an argument without a leading plus is read as a number of so many bits if and only if it is digits of one
+pub number_read : {E : Type 0} (bits radix : ℕ) (word : List ℕ) (read : Result ℕ E) (answer : Option ℕ) → (slice_index word 0 == 43) ≡ false
+    → ParsesUnsigned bits radix word read → answer ≡ result_ok read → SomeIff answer (IsNumeral radix word × (digits_value radix word < 2 ^ bits)) (digits_value radix word)
+number_read bits radix word (Ok number) answer none parses is =
+    rw is (subst (λ (ds : List ℕ). (IsNumeral radix ds × (digits_value radix ds < 2 ^ bits)) × (number ≡ digits_value radix ds)) (plus_free (slice_index word 0 == 43) word none) parses)
+number_read bits radix word (Err error) answer none parses is =
+    rw is (subst (λ (ds : List ℕ). ¬ (IsNumeral radix ds × (digits_value radix ds < 2 ^ bits))) (plus_free (slice_index word 0 == 43) word none) parses)
+
+-- an argument of few bytes without a leading plus is read as a number if and only if it is digits
+pub short_read : {E : Type 0} (bits radix most : ℕ) (Short : Type 0) (word : List ℕ) (read : Result ℕ E) (answer : Option ℕ) → Short → length word ≤ most → 1 ≤ radix
+    → radix ^ most ≤ 2 ^ bits → (slice_index word 0 == 43) ≡ false → ParsesUnsigned bits radix word read → answer ≡ result_ok read
+    → SomeIff answer (IsNumeral radix word × Short) (digits_value radix word)
+short_read {E = E} bits radix most Short word (Ok number) answer short few some fits none parses is =
+    let read = number_read {E = E} bits radix word (Ok number) (Some number) none parses refl in
     rw is ((read.0.0, short), read.1)
-token_read word (Err error) answer short none parses is =
-    let P : List ℕ → Type 0 = λ ds. ¬ (IsNumeral 16 ds × (digits_value 16 ds < 2 ^ 32)) in
-    let refused = subst P (plus_free (slice_index word 0 == 43) word none) parses in
-    rw is (λ hex. refused (hex.0, omega (arith, digits_value-lt 16 word hex.0.1, pow-le-pow_right {n = 16} (omega arith) short)))
-
--- an argument of three bytes without a leading plus is read as a number if and only if it is decimal digits
-pub code_read : {E : Type 0} (word : List ℕ) (read : Result ℕ E) (answer : Option ℕ) → length word ≡ 3 → (slice_index word 0 == 43) ≡ false
-    → ParsesUnsigned 16 10 word read → answer ≡ result_ok read → SomeIff answer (IsCodeNumber word) (digits_value 10 word)
-code_read word (Ok number) answer three none parses is =
-    let P : List ℕ → Type 0 = λ ds. (IsNumeral 10 ds × (digits_value 10 ds < 2 ^ 16)) × (number ≡ digits_value 10 ds) in
-    let read = subst P (plus_free (slice_index word 0 == 43) word none) parses in
-    rw is ((read.0.0, three), read.1)
-code_read word (Err error) answer three none parses is =
-    let P : List ℕ → Type 0 = λ ds. ¬ (IsNumeral 10 ds × (digits_value 10 ds < 2 ^ 16)) in
-    let refused = subst P (plus_free (slice_index word 0 == 43) word none) parses in
-    rw is (λ digits.
-    let below : digits_value 10 word < 10 ^ 3 = subst (λ (n : ℕ). digits_value 10 word < 10 ^ n) three (digits_value-lt 10 word digits.0.1) in
-    refused (digits.0, omega (arith, below)))
-
--- an argument of two bytes without a leading plus is read as a number if and only if it is hexadecimal digits
-pub table_read : {E : Type 0} (word : List ℕ) (read : Result ℕ E) (answer : Option ℕ) → length word ≡ 2 → (slice_index word 0 == 43) ≡ false
-    → ParsesUnsigned 8 16 word read → answer ≡ result_ok read → SomeIff answer (IsTableNumber word) (digits_value 16 word)
-table_read word (Ok number) answer two none parses is =
-    let P : List ℕ → Type 0 = λ ds. (IsNumeral 16 ds × (digits_value 16 ds < 2 ^ 8)) × (number ≡ digits_value 16 ds) in
-    let read = subst P (plus_free (slice_index word 0 == 43) word none) parses in
-    rw is ((read.0.0, two), read.1)
-table_read word (Err error) answer two none parses is =
-    let P : List ℕ → Type 0 = λ ds. ¬ (IsNumeral 16 ds × (digits_value 16 ds < 2 ^ 8)) in
-    let refused = subst P (plus_free (slice_index word 0 == 43) word none) parses in
-    rw is (λ digits.
-    let below : digits_value 16 word < 16 ^ 2 = subst (λ (n : ℕ). digits_value 16 word < 16 ^ n) two (digits_value-lt 16 word digits.0.1) in
-    refused (digits.0, omega (arith, below)))
-
--- an argument without a leading plus is read as a number of 64 bits if and only if it is digits of one
-pub number_read : {E : Type 0} (radix : ℕ) (word : List ℕ) (read : Result ℕ E) (answer : Option ℕ) → (slice_index word 0 == 43) ≡ false
-    → ParsesUnsigned 64 radix word read → answer ≡ result_ok read → SomeIff answer (IsNumeral radix word × (digits_value radix word < 2 ^ 64)) (digits_value radix word)
-number_read radix word (Ok number) answer none parses is =
-    let P : List ℕ → Type 0 = λ ds. (IsNumeral radix ds × (digits_value radix ds < 2 ^ 64)) × (number ≡ digits_value radix ds) in
-    let read = subst P (plus_free (slice_index word 0 == 43) word none) parses in
-    rw is (read.0, read.1)
-number_read radix word (Err error) answer none parses is =
-    let P : List ℕ → Type 0 = λ ds. ¬ (IsNumeral radix ds × (digits_value radix ds < 2 ^ 64)) in
-    let refused = subst P (plus_free (slice_index word 0 == 43) word none) parses in
-    rw is (λ digits. refused digits)
+short_read {E = E} bits radix most Short word (Err error) answer short few some fits none parses is =
+    let refused = number_read {E = E} bits radix word (Err error) None none parses refl in
+    rw is (λ digits. refused (digits.0, omega (arith, fits, digits_value-lt radix word digits.0.1, pow-le-pow_right {n = radix} some few)))
 
 -- digits do not begin with a plus
 plus_no_numeral : (radix : ℕ) (word : List ℕ) → radix ≤ 36 → (slice_index word 0 == 43) ≡ true → ¬ IsNumeral radix word

@@ -1,7 +1,10 @@
 //! Finds the fault and the table that an argument names.
-ghost use Rattle.std.specs.Prelude.{◌≡◌, IfSome, Some};
+ghost use Rattle.std.specs.Prelude.{◌≡◌, IfSome, Some, find};
+ghost use Rattle.std.specs.Str.{str_eq_ignore_ascii_case};
+ghost use Rattle.packed.specs.Codes.{name_of, number_of_code};
 ghost use Rattle.packed.specs.declared.code.FaultCode.{FaultCode as RuleCode};
 ghost use Rattle.table_schema.specs.declared.table.TableId.{TableId as Table};
+ghost use Rattle.cli_faults.specs.Codes.{codes_in_order};
 ghost use Rattle.cli_names.specs.Names.{IsFullName, NamesCode, NamesTable, code_named, table_named};
 
 use crate::numbers::{code_number_of, table_number_of};
@@ -29,12 +32,17 @@ fn code_named(name: &str) -> Option<FaultCode>
     if name.is_empty() {
         return None;
     }
-    for code in all_codes() {
-        if Fault::new(*code, 0).name().eq_ignore_ascii_case(name) {
-            return Some(*code);
-        }
-    }
-    None
+    first_named(name)
+}
+
+/// The first rule with a name, in any case.
+fn first_named(name: &str) -> Option<FaultCode>
+    ensures { result ≡ find (λ code. str_eq_ignore_ascii_case (name_of (number_of_code code)) name.now) codes_in_order }
+{
+    all_codes()
+        .iter()
+        .copied()
+        .find(|code| same_in_any_case(Fault::new(*code, 0).name(), name))
 }
 
 /// The table that an argument names: by its number in two hexadecimal digits, or by its name in any case (II.22). `None` for
@@ -53,12 +61,17 @@ pub fn table_of(word: &str) -> Option<TableId>
 fn table_named(name: &str) -> Option<TableId>
     ensures { result ≡ table_named name.now }
 {
-    for table in TableId::all() {
-        if table.name().eq_ignore_ascii_case(name) {
-            return Some(*table);
-        }
-    }
-    None
+    TableId::all()
+        .iter()
+        .copied()
+        .find(|table| same_in_any_case(table.name(), name))
+}
+
+/// Whether two names are the same in any case.
+fn same_in_any_case(name: &str, other: &str) -> bool
+    ensures { result ≡ str_eq_ignore_ascii_case name.now other.now }
+{
+    name.eq_ignore_ascii_case(other)
 }
 
 /// The namespace and the name in the full name of a type, which its last dot divides. Without a dot there is no namespace.

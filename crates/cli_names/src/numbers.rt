@@ -33,19 +33,11 @@ pub fn row_of(word: &str) -> Option<Token>
     ensures sound { IfSome result (IsRowToken (digits_of word.now)) }
     ensures none { IfNone result ((token : TheToken) → ¬ IsRowToken (digits_of word.now) token) }
 {
-    row_with(digits_of(word))
-}
-
-/// The token with these eight hexadecimal digits; `None` for any other text.
-fn row_with(digits: &str) -> Option<Token>
-    ensures sound { IfSome result (IsRowToken digits.now) }
-    ensures none { IfNone result ((token : TheToken) → ¬ IsRowToken digits.now token) }
-{
+    let digits = digits_of(word);
     if digits.len() != 8 {
         return None;
     }
-    let number = token_of(digits)?;
-    Token::from_u32(number)
+    Token::from_u32(token_of(digits)?)
 }
 
 /// The number with these three decimal digits; `None` for any other argument.

@@ -10,5 +10,5 @@ returns-then-starts_with c =
 pub returns : goal.returns
 returns c =
     let first = c.starts_with.ensures.byte (lit< tt) (lit< tt) (λ w o finds. finds) in
-    number_read c.args.radix c.args.digits.now c.from_str_radix.result c.ok.result (sym first ∙ c.if-starts_with.false)
+    number_read 64 c.args.radix c.args.digits.now c.from_str_radix.result c.ok.result (sym first ∙ c.if-starts_with.false)
     c.from_str_radix.ensures.value c.ok.ensures.value
