@@ -1,5 +1,5 @@
 -- The cells and the members of a type (ECMA-335 II.22.37).
-use Rattle.cli_print.proofs.Prelude.{◌≡◌, ◌≤◌, ◌<◌, ◌⊎◌, ◌∙◌, ◌+◌, ◌-◌, ℕ, Bool, arith, ap, cond, inl, inr, sym, TypeDef, Metadata, cell_in, count_in, first_member, member_count, start_of}
+use Rattle.cli_print.proofs.Prelude.{◌≡◌, ◌≤◌, ◌<◌, ◌⊎◌, ◌+◌, ◌-◌, ℕ, arith, inl, inr, sym, TypeDef, Metadata, count_in, first_member, member_count}
 use Rattle.std.proofs.lemmas.Bool.{cases_lt, le-leb, lt-leb}
 use Rattle.std.proofs.Math.Logic.{⊎_elim}
 use Rattle.table_schema.specs.CellColumns.{cell_columns, cell_count}
@@ -16,16 +16,13 @@ module _ (model : Metadata) (cell_index : ℕ) (member : TableId) (row first pas
     (run : IsRun model TypeDef cell_index member row first past) where
   first_of_run : first_member model cell_index member row ≡ first
   unfolding first_member
-  first_of_run =
-      ap (λ t. cond t (start_of (cell_in model TypeDef row cell_index)) (count_in model member + 1)) (le-leb row (count_in model TypeDef) within) ∙ ap start_of run.start
+  first_of_run = rw (le-leb row (count_in model TypeDef) within, run.start)
 
   past_of_run : first_member model cell_index member (row + 1) ≡ past
   unfolding first_member
-  past_of_run =
-      let choice : Bool → ℕ = λ t. cond t (start_of (cell_in model TypeDef (row + 1) cell_index)) (count_in model member + 1) in
-      ⊎_elim
-      (λ more. ap choice (le-leb (row + 1) (count_in model TypeDef) (omega (arith, more))) ∙ ap start_of (run.next more))
-      (λ all. ap choice (lt-leb (row + 1) (count_in model TypeDef) (omega (arith, within))) ∙ sym (run.last (omega (arith, all, within))))
+  past_of_run = ⊎_elim
+      (λ more. rw (le-leb (row + 1) (count_in model TypeDef) (omega (arith, more)), run.next more))
+      (λ all. rw (lt-leb (row + 1) (count_in model TypeDef) (omega (arith, within))) (sym (run.last (omega (arith, all, within)))))
       (cases_lt row (count_in model TypeDef))
 
   pub run_counted : past - first ≡ member_count model cell_index member row

@@ -1,8 +1,8 @@
 //! `clim explain`: what rules say.
 ghost use Rattle.std.specs.Prelude.{◌≡◌, ◌∷◌, [], List};
 ghost use Rattle.cli_lines.specs.Lines.{Part as ThePart};
-ghost use Rattle.cli_lines.specs.Printed.{Adds, Begins, Printed, Prints};
-ghost use Rattle.cli_print.specs.Explanations.{AreExplanations, BeginsWords, IsAnother, IsExplanation, IsRule, PrintsEach, PrintsWords, known_parts, rule_line, space_before, summary_parts};
+ghost use Rattle.cli_lines.specs.Printed.{Adds, Printed, Prints};
+ghost use Rattle.cli_print.specs.Explanations.{AreExplanations, BeginsWords, IsAnother, IsExplanation, IsRule, PrintsEach, PrintsWords, known_parts, rule_line, space_before};
 
 use cli_faults::{Explanation, all_codes, explain};
 use cli_lines::Part::{Field, Member, Word};
@@ -70,22 +70,8 @@ fn print_rule<W: Write>(it: &Explanation, out: &mut Printer<'_, W>)
     ensures { Prints out.old out.new (rule_line it.now ∷ []) }
 {
     cli_lines::laws::parts_follow::<W>();
-    begin_rule(
-        it.code.number() as u64,
-        Fault::new(it.code, 0).name(),
-        it,
-        out,
-    );
-    add_known(Name::Section, it.section, out);
-    add_known(Name::Cause, it.cause, out);
-    out.end();
-}
-
-/// Begins the line of a rule.
-#[tactic(auto, unfolding(crate::specs::Explanations::summary_parts))]
-fn begin_rule<W: Write>(number: u64, name: &'static str, it: &Explanation, out: &mut Printer<'_, W>)
-    ensures { Begins out.old out.new (summary_parts number name.now it.now) }
-{
+    let number = it.code.number() as u64;
+    let name = Fault::new(it.code, 0).name();
     out.begin(&[
         Field(Name::Code, Number(number)),
         Word(space_before(name)),
@@ -95,6 +81,9 @@ fn begin_rule<W: Write>(number: u64, name: &'static str, it: &Explanation, out: 
         Member(Name::Rule, Plain(it.rule)),
         Member(Name::Offset, Plain(it.offset)),
     ]);
+    add_known(Name::Section, it.section, out);
+    add_known(Name::Cause, it.cause, out);
+    out.end();
 }
 
 /// A space before a name.

@@ -1,7 +1,7 @@
 //! `clim types`: the types of a file.
 ghost use Rattle.std.specs.Prelude.{◌≡◌, ◌≤◌, ◌-◌, ◌⊎◌, ◌∷◌, []};
 ghost use Rattle.cli_lines.specs.Printed.{Prints};
-ghost use Rattle.cli_print.specs.TypeLines.{dot_after, parts_of_type, text_of, type_line, types_lines};
+ghost use Rattle.cli_print.specs.TypeLines.{dot_after, text_of, type_line, types_lines};
 ghost use Rattle.metadata.specs.Metadata.{Metadata, cell_in};
 ghost use Rattle.metadata.specs.Model.{IsModel};
 ghost use Rattle.opening.specs.Views.{row_count};
@@ -45,11 +45,25 @@ fn print_type<W: Write>(cells: &mut CellCursor<'_, '_>, row: u32, out: &mut Prin
     let name = text_of(view, row, NAME);
     let fields = count_of(cells.run(MemberList::Fields, row));
     let methods = count_of(cells.run(MemberList::Methods, row));
-    print_parts(row, namespace, name, fields, methods, out);
+    let token = Token {
+        table: TableId::TypeDef,
+        row,
+    };
+    out.line(&[
+        Field(Name::Token, Value::Token(token)),
+        Word(" "),
+        Field(Name::Namespace, Text(namespace)),
+        Word(dot_after(namespace)),
+        Field(Name::Name, Text(name)),
+        Word(" "),
+        Field(Name::Fields, Number(fields as u64)),
+        Word(" "),
+        Field(Name::Methods, Number(methods as u64)),
+    ]);
 }
 
 /// The name of a type, which is its cell 1, or its namespace, which is its cell 2 (II.22.37).
-pub fn text_of<'a>(view: &View<'a>, row: u32, cell_index: usize) -> &'a str
+fn text_of<'a>(view: &View<'a>, row: u32, cell_index: usize) -> &'a str
     requires first { 1 ≤ row }
     requires last { row ≤ row_count view.now TypeDef }
     requires cell_index { (cell_index ≡ 1) ⊎ (cell_index ≡ 2) }
@@ -73,33 +87,4 @@ fn dot_after(namespace: &str) -> &'static str
     ensures { result.now ≡ dot_after namespace.now }
 {
     if namespace.is_empty() { "" } else { "." }
-}
-
-/// Prints the line of a type, from what it says.
-#[tactic(auto, unfolding(crate::specs::TypeLines::parts_of_type))]
-fn print_parts<'a, W: Write>(
-    row: u32,
-    namespace: &'a str,
-    name: &'a str,
-    fields: u32,
-    methods: u32,
-    out: &mut Printer<'_, W>,
-)
-    ensures { Prints out.old out.new (parts_of_type (record { table = TypeDef; row = row }) namespace.now name.now fields methods ∷ []) }
-{
-    let token = Token {
-        table: TableId::TypeDef,
-        row,
-    };
-    out.line(&[
-        Field(Name::Token, Value::Token(token)),
-        Word(" "),
-        Field(Name::Namespace, Text(namespace)),
-        Word(dot_after(namespace)),
-        Field(Name::Name, Text(name)),
-        Word(" "),
-        Field(Name::Fields, Number(fields as u64)),
-        Word(" "),
-        Field(Name::Methods, Number(methods as u64)),
-    ]);
 }

@@ -1,5 +1,4 @@
-use Rattle.cli_print.proofs.Prelude.{[], inl, inr, refl, subst, none_fails, AreOfImage}
-use Rattle.pe.specs.Image.{Image}
+use Rattle.cli_print.proofs.Prelude.{[], inl, inr, refl, none_fails}
 use Rattle.pe.specs.Rules.{rules_of_image}
 use Rattle.cli_print.proofs.readable_lines.print_readable.Goals as goal
 
@@ -13,5 +12,4 @@ returns-in-Err g c = rw c.in-File.is (
 pub returns-in-Ok : goal.returns-in-Ok
 returns-in-Ok g c =
     let more = c.print_readable_image.ensures in
-    let are = subst (λ (image : Image). AreOfImage image more.0) c.in-Ok.ensures.all.1 more.1 in
-    rw c.in-File.is (more.0, inr (c.in-Ok.ensures.all.0, are), more.2)
+    rw c.in-File.is (more.0, inr (c.in-Ok.ensures.all.0, rw c.in-Ok.ensures.all.1 at more.1), more.2)
