@@ -1,5 +1,5 @@
 -- The parts of a line of JSON, one after another.
-use Rattle.cli_lines.proofs.Prelude.{◌≡◌, ◌≢◌, ◌∙◌, ◌⊎◌, ℕ, Bool, true, false, List, [], ◌∷◌, ◌++◌, None, Some, map, refl, ap, sym, append_assoc, codes, cond, decimal, Bor, has_unpaired_surrogate, utf16_lossy_chars, ⊎_elim, array_json, items_json, member_json, opener, plain_string, row_json, units_json, value_json, Value, number, hex, byte, text, plain, token, reference, bytes, guid, signature, json_from, line_feed, named_from, named_token, part_tokens, units_tokens, value_tokens, table_name, name_text, shown, shown_value, escaped_bytes, hexadecimal, token_text, upper_hexadecimal, Before, Line, Brace}
+use Rattle.cli_lines.proofs.Prelude.{◌≡◌, ◌≢◌, ◌∙◌, ◌⊎◌, ℕ, Bool, true, false, List, [], ◌∷◌, ◌++◌, None, Some, map, refl, ap, sym, append_assoc, codes, cond, decimal, Bor, has_unpaired_surrogate, utf16_lossy_chars, ⊎_elim, array_json, items_json, plain_string, row_json, value_json, Value, number, hex, byte, text, token, reference, bytes, guid, signature, json_from, named_from, named_token, part_tokens, units_tokens, value_tokens, table_name, shown, shown_value, escaped_bytes, hexadecimal, token_text, upper_hexadecimal, Line, Brace}
 use Rattle.std.specs.Str.{encode_utf8_all}
 use Rattle.json.specs.Print.{escape_byte, print_from, quoted as string_text}
 use Rattle.json.specs.Token as json
@@ -20,35 +20,10 @@ closed tokens = tokens ++ json.end_object ∷ []
 abbrev pub PrintAs : List json.Token → List ℕ → Type 0
 PrintAs tokens of = (more : List json.Token) → print_from false (tokens ++ more) ≡ of ++ print_from true more
 
-after_key : (s remainder : List ℕ) → (((s ++ 58 ∷ []) ++ remainder) ++ line_feed) ≡ s ++ 58 ∷ (remainder ++ line_feed)
-after_key s remainder = append_assoc (s ++ 58 ∷ []) remainder line_feed ∙ append_assoc s (58 ∷ []) (remainder ++ line_feed)
-
--- a name, and what follows it
-pub name_from : (before : Before) (named : Name) (tokens : List json.Token)
-    → json_from before (named_token named ∷ tokens) ≡ opener before ++ (string_text (name_text named) ++ 58 ∷ (print_from false (closed tokens) ++ line_feed))
-unfolding print_from
-name_from Line named tokens = ap (λ xs. 123 ∷ xs) (after_key (string_text (name_text named)) (print_from false (closed tokens)))
-name_from Brace named tokens = after_key (string_text (name_text named)) (print_from false (closed tokens))
-name_from at.Value named tokens = ap (λ xs. 44 ∷ xs) (after_key (string_text (name_text named)) (print_from false (closed tokens)))
-
-regrouped : (line a s v remainder : List ℕ) → (line ++ (a ++ (s ++ 58 ∷ v))) ++ remainder ≡ line ++ (a ++ (s ++ 58 ∷ (v ++ remainder)))
-regrouped line a s v remainder =
-    append_assoc line (a ++ (s ++ 58 ∷ v)) remainder
-    ∙ ap (λ xs. line ++ xs) (append_assoc a (s ++ 58 ∷ v) remainder ∙ ap (λ xs. a ++ xs) (append_assoc s (58 ∷ v) remainder))
-
--- a member was appended
-pub member_printed : (before : Before) (named : Name) (values : List json.Token) (of line new : List ℕ) → PrintAs values of
-    → new ≡ line ++ (opener before ++ member_json named of)
-    → (more : List json.Token) → new ++ json_from at.Value more ≡ line ++ json_from before (named_token named ∷ (values ++ more))
-member_printed before named values of line new prints is more =
-    let s = string_text (name_text named) in
-    let remainder = json_from at.Value more in
-    ap (λ xs. xs ++ remainder) is
-    ∙ regrouped line (opener before) s of remainder
-    ∙ ap (λ xs. line ++ (opener before ++ (s ++ 58 ∷ xs)))
-    (sym (append_assoc of (print_from true (closed more)) line_feed)
-    ∙ ap (λ xs. xs ++ line_feed) (sym (ap (print_from false) (append_assoc values more (json.end_object ∷ [])) ∙ prints (closed more))))
-    ∙ ap (λ xs. line ++ xs) (sym (name_from before named (values ++ more)))
+-- tokens after a name were appended
+pub tokens_pushed : (tokens : List json.Token) (of line new : List ℕ) → PrintAs tokens of → new ≡ line ++ of
+    → (more : List json.Token) → new ++ json_from at.Value more ≡ line ++ json_from Brace (tokens ++ more)
+tokens_pushed tokens of line new prints is more = rw (is, append_assoc tokens more (json.end_object ∷ []), prints (closed more)) (simp append_assoc)
 
 -- the text of a value
 plain_is : (of : List ℕ) → Plain of → string_text of ≡ plain_string of
@@ -94,11 +69,6 @@ row_prints row more =
     (plain_is (token_text row) (token_is_plain row))
     ∙ sym (row_grouped (string_text (table_name row.table)) (decimal row.row) (plain_string (token_text row)) (print_from true more))
 
-pub row_joined : (line before key table digits of : List ℕ)
-    → ((((line ++ (before ++ (key ++ 58 ∷ []))) ++ (table ++ codes ",\"row\":")) ++ digits) ++ codes ",\"token\":") ++ of
-    ≡ line ++ (before ++ (key ++ 58 ∷ (table ++ (codes ",\"row\":" ++ (digits ++ (codes ",\"token\":" ++ of))))))
-row_joined line before key table digits of = simp append_assoc
-
 pub row_tokens_are : (part : KeptPart) (row : Token) → (part ≡ RowNumber row) ⊎ (part ≡ RowToken row) → part_tokens (shown part) ≡ named_token name.Table ∷ row_values row
 row_tokens_are part row =
     let of = λ (p : KeptPart). part_tokens (shown p) in
@@ -117,44 +87,23 @@ items_print : (units : List ℕ) (more : List json.Token)
     → print_from true ((map (λ unit. json.number (decimal unit)) units ++ json.end_array ∷ []) ++ more) ≡ items_json units ++ print_from true more
 unfolding print_from
 items_print [] more = refl
-items_print (unit ∷ units) more =
-    ap (λ xs. 44 ∷ (decimal unit ++ xs)) (items_print units more) ∙ ap (λ xs. 44 ∷ xs) (sym (append_assoc (decimal unit) (items_json units) (print_from true more)))
+items_print (unit ∷ units) more = rw (items_print units more) (simp append_assoc)
 
-array_prints : (units : List ℕ) → PrintAs (json.begin_array ∷ (map (λ unit. json.number (decimal unit)) units ++ json.end_array ∷ [])) (array_json units)
+abbrev pub array_tokens : List ℕ → List json.Token
+array_tokens units = json.begin_array ∷ (map (λ unit. json.number (decimal unit)) units ++ json.end_array ∷ [])
+
+pub array_prints : (units : List ℕ) → PrintAs (array_tokens units) (array_json units)
 unfolding print_from
 array_prints [] more = refl
-array_prints (unit ∷ units) more =
-    ap (λ xs. 91 ∷ (decimal unit ++ xs)) (items_print units more) ∙ ap (λ xs. 91 ∷ xs) (sym (append_assoc (decimal unit) (items_json units) (print_from true more)))
-
-either_units : (unpaired : Bool) (before : Before) (units of line new : List ℕ)
-    → new ≡ line ++ (opener before ++ cond unpaired (member_json name.Units (array_json units)) (member_json name.Text (string_text of)))
-    → (more : List json.Token)
-    → new ++ json_from at.Value more
-    ≡ line ++ json_from before (cond unpaired (named_token name.Units ∷ json.begin_array ∷ (map (λ unit. json.number (decimal unit)) units ++ json.end_array ∷ []))
-    (named_token name.Text ∷ json.string of ∷ []) ++ more)
-either_units true before units of line new is =
-    member_printed before name.Units (json.begin_array ∷ (map (λ unit. json.number (decimal unit)) units ++ json.end_array ∷ [])) (array_json units) line new (array_prints units) is
-either_units false before units of line new is =
-    member_printed before name.Text (json.string of ∷ []) (string_text of) line new (value_prints (plain of)) is
-
--- the member of units was appended
-pub units_printed : (before : Before) (units line new : List ℕ) → new ≡ line ++ (opener before ++ units_json units)
-    → (more : List json.Token) → new ++ json_from at.Value more ≡ line ++ json_from before (units_tokens units ++ more)
-units_printed before units line new is =
-    either_units (has_unpaired_surrogate units) before units (encode_utf8_all (utf16_lossy_chars units)) line new is
+array_prints (unit ∷ units) more = rw (items_print units more) (simp append_assoc)
 
 -- the member of units that are a text, and of units that are none
-pub text_units : (units of : List ℕ) → has_unpaired_surrogate units ≡ false → of ≡ encode_utf8_all (utf16_lossy_chars units)
-    → member_json name.Text (string_text of) ≡ units_json units
-text_units units of paired is =
-    let chars = string_text (encode_utf8_all (utf16_lossy_chars units)) in
-    ap (λ bs. member_json name.Text (string_text bs)) is
-    ∙ sym (ap (λ t. cond t (member_json name.Units (array_json units)) (member_json name.Text chars)) paired)
+pub text_tokens : (units of : List ℕ) → has_unpaired_surrogate units ≡ false → of ≡ encode_utf8_all (utf16_lossy_chars units)
+    → named_token name.Text ∷ json.string of ∷ [] ≡ units_tokens units
+text_tokens units of paired is = rw (paired, is)
 
-pub array_units : (units : List ℕ) → has_unpaired_surrogate units ≡ true → member_json name.Units (array_json units) ≡ units_json units
-array_units units unpaired =
-    let chars = string_text (encode_utf8_all (utf16_lossy_chars units)) in
-    sym (ap (λ t. cond t (member_json name.Units (array_json units)) (member_json name.Text chars)) unpaired)
+pub unit_tokens : (units : List ℕ) → has_unpaired_surrogate units ≡ true → named_token name.Units ∷ array_tokens units ≡ units_tokens units
+unit_tokens units unpaired = rw unpaired
 
 -- ---- the first member of a line that begins with the name of a file
 

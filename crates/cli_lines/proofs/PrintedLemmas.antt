@@ -1,12 +1,8 @@
 -- What a printer was asked to print.
 use Rattle.std.proofs.Common.{◌≡◌, ◌∙◌, ℕ, true, false, List, [], ◌∷◌, ◌++◌, Option, None, Some, Result, Ok, Err, refl, ap, sym, subst, append_assoc, append-nil}
-use Rattle.cli_lines.proofs.Prelude.{IsErr, is_some, GName, flat_map-append, Before, Part, Style, line_from, line_text, style, styled_text, Adds, Asked, Awaits, Begins, Completes, Ends, Moves, Printed, Prints, Same, waits, prefix_longer, prefix_more, sends_more}
+use Rattle.cli_lines.proofs.Prelude.{IsErr, is_some, GName, flat_map-append, Before, Line, Part, Style, lead, line_from, line_text, style, styled_text, Adds, AwaitsOrFails, Begins, Completes, Ends, Moves, Printed, Prints, Same, SendsOrFails, waits, prefix_longer, prefix_more, sends_more}
 use Rattle.std.specs.declared.io.ErrorKind.{ErrorKind}
 use Rattle.cli_sending.specs.Sent.{Sends, SendsPrefix}
-
-no_report : (look : Style) → styled_text look [] ≡ []
-unfolding styled_text
-no_report look = refl
 
 report_of_line : (look : Style) (line : List Part) → styled_text look (line ∷ []) ≡ line_text look line
 unfolding styled_text
@@ -32,26 +28,56 @@ pub itself : {W : Type 0} (a : Printed W) → Same a a
 itself a = record { style = refl; borrow = refl; stays = λ none. refl }
 
 pub prints_nothing : {W : Type 0} (a : Printed W) → Prints a a []
-prints_nothing a = record {
-  same = itself a;
-  asked = λ start text asked. subst (Asked start a) (sym (ap (λ xs. text ++ xs) (no_report a.style) ∙ append-nil text)) asked;
-}
+unfolding styled_text
+prints_nothing a = record { same = itself a; asked = λ start text asked. rw (append-nil text) asked }
 
 pub prints_more : {W : Type 0} (a b c : Printed W) (xs ys : List (List Part)) → Prints a b xs → Prints b c ys → Prints a c (xs ++ ys)
 prints_more a b c xs ys first second = record {
   same = then_same a b c first.same second.same;
   asked = λ start text asked.
-      subst (Asked start c)
-      (append_assoc text (styled_text a.style xs) (styled_text b.style ys)
-      ∙ ap (λ look. text ++ (styled_text a.style xs ++ styled_text look ys)) first.same.style
-      ∙ ap (λ bytes. text ++ bytes) (sym (report_joined a.style xs ys)))
-      (second.asked start (text ++ styled_text a.style xs) (first.asked start text asked));
+      rw (report_joined a.style xs ys, ← append_assoc text (styled_text a.style xs) (styled_text a.style ys))
+      (rw first.same.style at (second.asked start (text ++ styled_text a.style xs) (first.asked start text asked)));
 }
 
 -- the bytes that went out come first
 moved_on : (sent waiting left x y prefix whole : List ℕ) → prefix ≡ sent ++ waiting → left ++ x ≡ waiting ++ y → prefix ++ y ≡ whole → (sent ++ left) ++ x ≡ whole
-moved_on sent waiting left x y prefix whole prefix_is same is =
-    append_assoc sent left x ∙ ap (λ bytes. sent ++ bytes) same ∙ sym (append_assoc sent waiting y) ∙ ap (λ bytes. bytes ++ y) (sym prefix_is) ∙ is
+moved_on sent waiting left x y prefix whole prefix_is same is = rw (append_assoc sent left x, same, ← append_assoc sent waiting y, ← prefix_is) is
+
+-- nothing waits if printing failed
+pub none_waits : (waiting : List ℕ) (stopped : Option ErrorKind) → is_some stopped ≡ true → waits waiting stopped ≡ None
+none_waits waiting (Some kind) is = refl
+none_waits waiting None is = cc
+
+-- what was to be printed went out in part, or not at all
+asked_cut : (start contents unsent : Option (List ℕ)) (text more : List ℕ) → SendsOrFails start contents text unsent → SendsPrefix start contents (text ++ more)
+asked_cut start contents (Some waiting) text more sends = prefix_longer start contents text more (waiting, sends)
+asked_cut start contents None text more cut = prefix_longer start contents text more cut
+
+awaits_cut : (start contents unsent : Option (List ℕ)) (end : List Part → List ℕ) (whole : List ℕ) (more : List Part) → AwaitsOrFails start contents unsent end whole more
+    → SendsPrefix start contents whole
+awaits_cut start contents (Some waiting) end whole more awaits =
+    subst (λ (bytes : List ℕ). SendsPrefix start contents bytes) awaits.2 (prefix_longer start contents awaits.0 (end more) (waiting, awaits.1))
+awaits_cut start contents None end whole more cut = cut
+
+-- a printer that failed takes nothing, and one that fails takes any parts and lines
+module _ {W : Type 0} (look : Style) (borrow : GName) (out : W) (contents : Option (List ℕ)) (at : Before) (unsent : Option (List ℕ)) where
+  abbrev keeping : Option (List ℕ) → Printed W
+  keeping waiting = record { style = look; borrow = borrow; out = out; contents = contents; waiting = waiting; at = at }
+
+  fails : Same (keeping unsent) (keeping None)
+  fails = record { style = refl; borrow = refl; stays = λ none. ap keeping (sym none) }
+
+  pub begins_cut : (parts : List Part) → Begins (keeping unsent) (keeping None) parts
+  begins_cut parts = record { same = fails; awaits = λ start text more asked. asked_cut start contents unsent text (line_text look (parts ++ more)) asked }
+
+  pub adds_cut : (parts : List Part) → Adds (keeping unsent) (keeping None) parts
+  adds_cut parts = record { same = fails; awaits = λ start whole more awaits. awaits_cut start contents unsent (line_from look at) whole (parts ++ more) awaits }
+
+  pub ends_cut : Ends (keeping unsent) (keeping None)
+  ends_cut = record { same = fails; asked = λ start whole awaits. awaits_cut start contents unsent (line_from look at) whole [] awaits }
+
+  pub prints_cut : (lines : List (List Part)) → Prints (keeping unsent) (keeping None) lines
+  prints_cut lines = record { same = fails; asked = λ start text asked. asked_cut start contents unsent text (styled_text look lines) asked }
 
 module _ {W : Type 0} (look : Style) (borrow : GName) (out : W) (contents : Option (List ℕ)) (waiting : List ℕ) (at : Before) where
   abbrev before : Option ErrorKind → Printed W
@@ -61,69 +87,21 @@ module _ {W : Type 0} (look : Style) (borrow : GName) (out : W) (contents : Opti
       → Same (before None) (record { style = look; borrow = borrow; out = later; contents = after; waiting = left; at = now })
   changed later after left now = record { style = refl; borrow = refl; stays = λ none. cc }
 
-  -- a printer that failed takes nothing
-  pub begins_stopped : (parts : List Part) (stopped : Option ErrorKind) → is_some stopped ≡ true → Begins (before stopped) (before stopped) parts
-  begins_stopped parts (Some kind) is = record {
-    same = itself (before (Some kind));
-    awaits = λ start text more asked. prefix_longer start contents text (line_text look (parts ++ more)) asked;
-  }
-  begins_stopped parts None is = cc
-
-  pub adds_stopped : (parts : List Part) (stopped : Option ErrorKind) → is_some stopped ≡ true → Adds (before stopped) (before stopped) parts
-  adds_stopped parts (Some kind) is = record { same = itself (before (Some kind)); awaits = λ start whole more awaits. awaits }
-  adds_stopped parts None is = cc
-
-  pub ends_stopped : (stopped : Option ErrorKind) → is_some stopped ≡ true → Ends (before stopped) (before stopped)
-  ends_stopped (Some kind) is = record { same = itself (before (Some kind)); asked = λ start whole awaits. awaits }
-  ends_stopped None is = cc
-
-  pub prints_stopped : (lines : List (List Part)) (stopped : Option ErrorKind) → is_some stopped ≡ true → Prints (before stopped) (before stopped) lines
-  prints_stopped lines (Some kind) is = record {
-    same = itself (before (Some kind));
-    asked = λ start text asked. prefix_longer start contents text (styled_text look lines) asked;
-  }
-  prints_stopped lines None is = cc
-
-  -- a printer that fails takes any parts and lines
-  module _ (left : List ℕ) (kind : ErrorKind) where
-    abbrev failed : Printed W
-    failed = seen look borrow out contents left (Some kind) at
-
-    pub begun_cut : (parts : List Part) (stopped : Option ErrorKind) → is_some stopped ≡ false → Begins (before stopped) failed parts
-    begun_cut parts None is = record {
-      same = changed out contents None at;
-      awaits = λ start text more asked. prefix_longer start contents text (line_text look (parts ++ more)) (waiting, asked);
-    }
-    begun_cut parts (Some _) is = cc
-
-    pub added_cut : (parts : List Part) (stopped : Option ErrorKind) → is_some stopped ≡ false → Adds (before stopped) failed parts
-    added_cut parts None is = record {
-      same = changed out contents None at;
-      awaits = λ start whole more awaits.
-          subst (λ (bytes : List ℕ). SendsPrefix start contents bytes) awaits.2
-          (prefix_longer start contents awaits.0 (line_from look at (parts ++ more)) (waiting, awaits.1));
-    }
-    added_cut parts (Some _) is = cc
-
-    pub prints_cut : (lines : List (List Part)) (stopped : Option ErrorKind) → is_some stopped ≡ false → Prints (before stopped) failed lines
-    prints_cut lines None is = record {
-      same = changed out contents None at;
-      asked = λ start text asked. prefix_longer start contents text (styled_text look lines) (waiting, asked);
-    }
-    prints_cut lines (Some _) is = cc
-
   -- a printer that goes on
-  module _ (left : List ℕ) (parts : List Part) (now : Before) where
-    pub begun : (stopped : Option ErrorKind) → is_some stopped ≡ false
-        → ((more : List Part) → left ++ line_from look now more ≡ waiting ++ line_text look (parts ++ more))
-        → Begins (before stopped) (seen look borrow out contents left stopped now) parts
-    begun None is pushed = record {
-      same = changed out contents (Some left) now;
-      awaits = λ start text more asked.
-          (asked.0 ++ left, (asked.0, refl, asked.2), moved_on asked.0 waiting left (line_from look now more) (line_text look (parts ++ more)) text _ asked.1 (pushed more) refl);
-    }
-    begun (Some kind) is pushed = cc
+  pub started : (left : List ℕ) (stopped : Option ErrorKind) → is_some stopped ≡ false → left ≡ waiting ++ lead look.form look.file
+      → Begins (before stopped) (seen look borrow out contents left stopped Line) []
+  started left None is pushed = record {
+    same = changed out contents (Some left) Line;
+    awaits = λ start text more asked. (
+      asked.0 ++ left,
+      (asked.0, refl, asked.2),
+      moved_on asked.0 waiting left (line_from look Line more) (line_text look more) text _ asked.1
+          (ap (λ bytes. bytes ++ line_from look Line more) pushed ∙ append_assoc waiting (lead look.form look.file) (line_from look Line more)) refl,
+    );
+  }
+  started left (Some kind) is pushed = cc
 
+  module _ (left : List ℕ) (parts : List Part) (now : Before) where
     pub added : (stopped : Option ErrorKind) → is_some stopped ≡ false
         → ((more : List Part) → left ++ line_from look now more ≡ waiting ++ line_from look at (parts ++ more))
         → Adds (before stopped) (seen look borrow out contents left stopped now) parts
@@ -165,30 +143,26 @@ pub adds_more : {W : Type 0} (a b c : Printed W) (xs ys : List Part) → Adds a 
 adds_more a b c xs ys first second = record {
   same = then_same a b c first.same second.same;
   awaits = λ start whole more awaits.
-      second.awaits start whole more (first.awaits start whole (ys ++ more) (subst (λ (parts : List Part). Awaits start a whole parts) (append_assoc xs ys more) awaits));
+      second.awaits start whole more (first.awaits start whole (ys ++ more) (rw (append_assoc xs ys more) at awaits));
 }
 
 pub begins_more : {W : Type 0} (a b c : Printed W) (xs ys : List Part) → Begins a b xs → Adds b c ys → Begins a c (xs ++ ys)
 begins_more a b c xs ys begins adds = record {
   same = then_same a b c begins.same adds.same;
   awaits = λ start text more asked.
-      subst (λ (parts : List Part). Awaits start c (text ++ line_text a.style parts) more) (sym (append_assoc xs ys more))
-      (adds.awaits start (text ++ line_text a.style (xs ++ (ys ++ more))) more (begins.awaits start text (ys ++ more) asked));
+      rw (append_assoc xs ys more) (adds.awaits start (text ++ line_text a.style (xs ++ (ys ++ more))) more (begins.awaits start text (ys ++ more) asked));
 }
 
 pub line_printed : {W : Type 0} (a b c d : Printed W) (xs ys : List Part) → Begins a b xs → Adds b c ys → Ends c d → Prints a d ((xs ++ ys) ∷ [])
 line_printed a b c d xs ys begins adds ends = record {
   same = then_same a b d begins.same (then_same b c d adds.same ends.same);
   asked = λ start text asked.
-      let begun : Awaits start b (text ++ line_text a.style (xs ++ ys)) (ys ++ []) =
-      subst (λ (parts : List Part). Awaits start b (text ++ line_text a.style (xs ++ parts)) (ys ++ [])) (append-nil ys) (begins.awaits start text (ys ++ []) asked) in
-      subst (λ (bytes : List ℕ). Asked start d (text ++ bytes)) (sym (report_of_line a.style (xs ++ ys)))
-      (ends.asked start (text ++ line_text a.style (xs ++ ys)) (adds.awaits start (text ++ line_text a.style (xs ++ ys)) [] begun));
+      let whole = text ++ line_text a.style (xs ++ ys) in
+      rw (report_of_line a.style (xs ++ ys)) (ends.asked start whole (adds.awaits start whole [] (rw (append-nil ys) (begins.awaits start text ys asked))));
 }
 
 pub whole_line : {W : Type 0} (a b c : Printed W) (xs : List Part) → Begins a b xs → Ends b c → Prints a c (xs ∷ [])
-whole_line a b c xs begins ends =
-    subst (λ (parts : List Part). Prints a c (parts ∷ [])) (append-nil xs) (line_printed a b b c xs [] begins (adds_nothing b) ends)
+whole_line a b c xs begins ends = rw (append-nil xs) at (line_printed a b b c xs [] begins (adds_nothing b) ends)
 
 pub completed : {W : Type 0} (old now next : Printed W) (lines left all : List (List Part)) → Completes old now (lines ++ left) all → Prints now next lines
     → Completes old next left all

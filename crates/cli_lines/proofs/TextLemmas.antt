@@ -1,5 +1,5 @@
 -- What is appended to a line, one byte after another.
-use Rattle.cli_lines.proofs.Prelude.{◌≡◌, ◌∙◌, ℕ, zero, suc, ◌+◌, ◌-◌, ◌*◌, ◌/◌, ◌%◌, ◌<◌, Bool, true, false, ◌&&◌, T, eqb, eqb→eq, eq-zero-or-pos, IsTrue, List, [], ◌∷◌, ◌++◌, length, get_or, take, drop, refl, ap, sym, inl, inr, append_assoc, arith, if◌then◌else◌, flat_map, digit_glyph, cond-true, hex_byte, flat_map_more, take_more, hexadecimal, upper_hexadecimal}
+use Rattle.cli_lines.proofs.Prelude.{◌≡◌, ◌∙◌, ℕ, zero, suc, ◌+◌, ◌-◌, ◌*◌, ◌/◌, ◌%◌, ◌<◌, Bool, true, false, ◌&&◌, T, eqb, eqb→eq, eq-zero-or-pos, IsTrue, List, [], ◌∷◌, ◌++◌, length, get_or, take, drop, refl, ap, sym, inl, inr, append_assoc, arith, if◌then◌else◌, flat_map, digit_glyph, hex_byte, flat_map_more, take_more, hexadecimal, upper_hexadecimal}
 use lib.Ieee.Fits.{and_l, and_r}
 use Rattle.std.specs.Prelude.{Result, Ok, Err, OnOk, is_ok}
 use Rattle.std.proofs.Math.Seq.{drop-append_seam, take-append_seam}
@@ -35,18 +35,17 @@ pair_at n small = let digits = pair_below 256 n tt small in (λ i. digits.0 i �
 
 -- a pair, digit by digit
 pub pair_of : (digits : List ℕ) (n : ℕ) → n < 256 → digits ≡ hexadecimal 2 n → get_or digits 0 0 ∷ get_or digits 1 0 ∷ [] ≡ hexadecimal 2 n
-pair_of digits n small is = ap (λ ds. get_or ds 0 0 ∷ get_or ds 1 0 ∷ []) (is ∙ hex_byte false n small) ∙ sym (hex_byte false n small)
+pair_of digits n small is = rw (is, hex_byte false n small)
 
 pub upper_more : (line : List ℕ) (n : ℕ) → n < 256
     → (line ++ digit_glyph true (n / 16) ∷ []) ++ digit_glyph true (n % 16) ∷ [] ≡ line ++ upper_hexadecimal n
-upper_more line n small = two_bytes line (digit_glyph true (n / 16)) (digit_glyph true (n % 16)) ∙ ap (λ ys. line ++ ys) (sym (hex_byte true n small))
+upper_more line n small = rw (hex_byte true n small) (two_bytes line (digit_glyph true (n / 16)) (digit_glyph true (n % 16)))
 
 -- plain bytes are printed as they are
 pub plain_text : (text : List ℕ) → ((k : ℕ) → k < length text → IsTrue (is_plain (get_or text k 0))) → text ≡ escaped_text text
 plain_text [] plain = refl
 plain_text (byte ∷ bytes) plain =
-    ap (λ ys. byte ∷ ys) (plain_text bytes (λ k lt. plain (suc k) (omega arith)))
-    ∙ ap (λ xs. xs ++ escaped_text bytes) (sym (cond-true (is_plain byte) (byte ∷ []) (92 ∷ 120 ∷ hexadecimal 2 byte) (plain 0 (omega arith))))
+    rw (plain 0 (omega arith)) (ap (λ ys. byte ∷ ys) (plain_text bytes (λ k lt. plain (suc k) (omega arith))))
 
 -- a list that was appended, if it is that of another name
 pub appended : {T E : Type 0} (result : Result T E) (before after bytes text : List ℕ) → after ≡ (if is_ok result then before ++ bytes else before) → bytes ≡ text
@@ -58,9 +57,13 @@ pub on_ok : {T E P Q : Type 0} (result : Result T E) → OnOk result P → (P �
 on_ok (Ok done) is f = f is
 on_ok (Err error) is f = tt
 
+-- two lists that were appended, one after the other
+pub two_pushed : (line a b : List ℕ) → {now new : List ℕ} → now ≡ line ++ a → new ≡ now ++ b → new ≡ line ++ (a ++ b)
+two_pushed line a b first second = rw (second, first) (append_assoc line a b)
+
 -- the parts of a line, one after another
 pub three_joined : (line a b c : List ℕ) → ((line ++ a) ++ b) ++ c ≡ line ++ (a ++ b ++ c)
-three_joined line a b c = ap (λ xs. xs ++ c) (append_assoc line a b) ∙ append_assoc line (a ++ b) c
+three_joined line a b c = simp append_assoc
 
 -- what was appended to a line, with its letters as they are
 pub letters_shown : {T E : Type 0} (result : Result T E) (line text now new : List ℕ) (start : ℕ) → now ≡ line ++ text → start ≡ length line

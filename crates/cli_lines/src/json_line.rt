@@ -2,15 +2,11 @@
 ghost use Rattle.std.specs.Prelude.{◌≡◌, ◌++◌, ◌∷◌, [], List, OnOk, IfOk, Some};
 ghost use Rattle.json.specs.Token as json;
 ghost use Rattle.cli_lines.specs.declared.line.Before.TheVariants as here;
-ghost use Rattle.cli_lines.specs.declared.names.Name.TheVariants as name;
-ghost use Rattle.cli_lines.specs.Lines.{json_from, named_from, part_tokens};
+ghost use Rattle.cli_lines.specs.Lines.{json_from, named_from, named_token, part_tokens, value_tokens};
 ghost use Rattle.cli_lines.specs.Shown.{shown, shown_file, shown_value};
-ghost use Rattle.cli_lines.specs.JsonTexts.{member_json, opener, row_json, value_json};
+ghost use Rattle.cli_lines.specs.JsonTexts.{row_json, value_json};
 
-use crate::json_texts::{
-    push_byte_string, push_guid_string, push_signature, push_string, push_token_string,
-    push_word_string,
-};
+use crate::json_texts::{push_digit_string, push_guid_string, push_signature, push_string};
 use crate::json_units::push_units_member;
 use crate::line::Before;
 use crate::names::{Name, row_start};
@@ -21,21 +17,19 @@ use table_schema::Token;
 
 /// Appends a value.
 #[inline(always)]
-fn push_json_value(alloc: Global, value: Value<'_>, line: &mut Vec<u8>) -> Result<(), AllocError>
-    ensures { OnOk result (line.new.items ≡ line.old.items ++ value_json (shown_value value.entry)) }
+fn push_json_value(alloc: Global, value: &Value<'_>, line: &mut Vec<u8>) -> Result<(), AllocError>
+    ensures { OnOk result (line.new.items ≡ line.old.items ++ value_json (shown_value value.now)) }
 {
     match value {
-        Value::Number(number) | Value::Start(number) => push_decimal(number, line),
-        Value::Hex(number) => push_word_string(number, line),
-        Value::Byte(number) => push_byte_string(number, line),
+        Value::Number(number) | Value::Start(number) => push_decimal(*number, line),
         Value::Text(text) | Value::Plain(text) | Value::Quoted(text) => {
             push_string(text.as_bytes(), line)
         }
-        Value::Token(token) | Value::Reference(Some(token)) => push_token_string(
-            alloc, token, line,
-        ),
+        Value::Hex(_) | Value::Byte(_) | Value::Token(_) | Value::Reference(Some(_)) => {
+            push_digit_string(alloc, value, line)
+        }
         Value::Bytes(bytes) => push_between(b'"', bytes, b'"', line),
-        Value::Guid(Some(guid)) => push_guid_string(alloc, guid, line),
+        Value::Guid(Some(guid)) => push_guid_string(alloc, *guid, line),
         Value::Signature(blob, text) => push_signature(blob, text, line),
         Value::Yes => line.extend_from_slice(b"true"),
         Value::Reference(None) | Value::Guid(None) | Value::Null => line.extend_from_slice(b"null"),
@@ -43,9 +37,10 @@ fn push_json_value(alloc: Global, value: Value<'_>, line: &mut Vec<u8>) -> Resul
 }
 
 /// Appends the name of a member, with what is before and after it.
+#[tactic(auto, unfolding(json::specs::Print::print_from))]
 #[inline(always)]
 pub(crate) fn push_name(at: Before, name: Name, line: &mut Vec<u8>) -> Result<(), AllocError>
-    ensures { OnOk result (line.new.items ≡ line.old.items ++ (opener at ++ member_json name [])) }
+    ensures { OnOk result ((more : List json.Token) → line.new.items ++ json_from here.Brace more ≡ line.old.items ++ json_from at (named_token name ∷ more)) }
 {
     let key = name.key().as_bytes();
     let (_, colon) = key.split_at(1);
@@ -61,14 +56,13 @@ pub(crate) fn push_name(at: Before, name: Name, line: &mut Vec<u8>) -> Result<()
 
 /// Appends the table, the number and the token of a row.
 #[inline(never)]
-fn push_row(alloc: Global, at: Before, row: Token, line: &mut Vec<u8>) -> Result<(), AllocError>
-    ensures { OnOk result (line.new.items ≡ line.old.items ++ (opener at ++ member_json name.Table (row_json row))) }
+fn push_row(alloc: Global, row: Token, line: &mut Vec<u8>) -> Result<(), AllocError>
+    ensures { OnOk result (line.new.items ≡ line.old.items ++ row_json row) }
 {
-    push_name(at, Name::Table, line)?;
     line.extend_from_slice(row_start(row.table).as_bytes())?;
     push_decimal(row.row as u64, line)?;
     line.extend_from_slice(b",\"token\":")?;
-    push_token_string(alloc, row, line)
+    push_digit_string(alloc, &Value::Token(row), line)
 }
 
 /// Appends a member.
@@ -77,10 +71,10 @@ pub(crate) fn push_member(
     alloc: Global,
     at: Before,
     name: Name,
-    value: Value<'_>,
+    value: &Value<'_>,
     line: &mut Vec<u8>,
 ) -> Result<(), AllocError>
-    ensures { OnOk result (line.new.items ≡ line.old.items ++ (opener at ++ member_json name (value_json (shown_value value.entry)))) }
+    ensures { OnOk result ((more : List json.Token) → line.new.items ++ json_from here.Value more ≡ line.old.items ++ json_from at (named_token name ∷ (value_tokens (shown_value value.now) ++ more))) }
 {
     push_name(at, name, line)?;
     push_json_value(alloc, value, line)
@@ -103,21 +97,22 @@ fn push_close(at: Before, line: &mut Vec<u8>) -> Result<(), AllocError>
 fn push_json_part(
     alloc: Global,
     at: Before,
-    part: Part<'_>,
+    part: &Part<'_>,
     line: &mut Vec<u8>,
 ) -> Result<Before, AllocError>
-    ensures pushed { IfOk result (λ now. (more : List json.Token) → line.new.items ++ json_from now more ≡ line.old.items ++ json_from at (part_tokens (shown part.entry) ++ more)) }
+    ensures pushed { IfOk result (λ now. (more : List json.Token) → line.new.items ++ json_from now more ≡ line.old.items ++ json_from at (part_tokens (shown part.now) ++ more)) }
     // A line that has a token keeps it.
     ensures begun { IfOk result (λ now. now ≡ here.Line → at ≡ here.Line) }
 {
-    match &part {
+    match part {
         Part::Word(_) | Part::Note(_) => Ok(at),
         Part::Field(name, value) | Part::Member(name, value) | Part::Spaced(name, value) => {
-            push_member(alloc, at, *name, *value, line)?;
+            push_member(alloc, at, *name, value, line)?;
             Ok(Before::Value)
         }
         Part::RowNumber(row) | Part::RowToken(row) => {
-            push_row(alloc, at, *row, line)?;
+            push_name(at, Name::Table, line)?;
+            push_row(alloc, *row, line)?;
             Ok(Before::Value)
         }
         Part::Units(string) => {
@@ -162,7 +157,7 @@ pub(crate) fn push_named_part(
 {
     match (at, file) {
         (Before::Line, Some(file)) => push_first(alloc, file, part, line),
-        _ => push_json_part(alloc, at, *part, line),
+        _ => push_json_part(alloc, at, part, line),
     }
 }
 
@@ -181,8 +176,8 @@ fn push_first(
     match part {
         Part::Word(_) | Part::Note(_) => Ok(Before::Line),
         _ => {
-            push_member(alloc, Before::Line, Name::File, Value::Text(file), line)?;
-            push_json_part(alloc, Before::Value, *part, line)
+            push_member(alloc, Before::Line, Name::File, &Value::Text(file), line)?;
+            push_json_part(alloc, Before::Value, part, line)
         }
     }
 }

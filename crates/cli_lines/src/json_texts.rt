@@ -3,15 +3,16 @@ ghost use Rattle.std.specs.Prelude.{◌≡◌, ◌++◌, ◌∷◌, ◌<◌, [],
 ghost use Rattle.std.specs.Char.{digit_char};
 ghost use Rattle.json.specs.Print.{escape, escape_byte, escape_letter, quoted};
 ghost use Rattle.json.specs.Run.{is_plain};
-ghost use Rattle.table_schema.specs.Tokens.{hexadecimal, token_text};
 ghost use Rattle.cli_lines.specs.Lines as shown;
+ghost use Rattle.cli_lines.specs.Lines.{value_text};
 ghost use Rattle.cli_lines.specs.JsonTexts.{plain_string, value_json};
-ghost use Rattle.cli_faults.specs.Hexadecimal.{upper_hexadecimal};
+ghost use Rattle.cli_lines.specs.Shown.{shown_value};
 
-use crate::texts::{push_between, push_byte_digits, push_hexadecimal, push_token, push_word};
+use crate::line::push_text_value;
+use crate::parts::Value;
+use crate::texts::{push_between, push_hexadecimal};
 use heap_entries::guid_text;
 use std::alloc::{AllocError, Global};
-use table_schema::Token;
 
 /// Whether a byte stands for itself in a string (RFC 8259, section 7): it is no quote, backslash or control character.
 fn is_plain(byte: u8) -> bool
@@ -84,25 +85,16 @@ pub(crate) fn push_string(text: &[u8], line: &mut Vec<u8>) -> Result<(), AllocEr
     Ok(line.push(b'"')?)
 }
 
-/// Appends a number as a string of eight lower-case hexadecimal digits.
-pub(crate) fn push_word_string(number: u32, line: &mut Vec<u8>) -> Result<(), AllocError>
-    ensures { OnOk result (line.new.items ≡ line.old.items ++ plain_string (hexadecimal 8 number)) }
-{
-    line.push(b'"')?;
-    push_word(number, line)?;
-    Ok(line.push(b'"')?)
-}
-
-/// Appends the digits of a token as a string.
-pub(crate) fn push_token_string(
+/// Appends as a string what a value is in a line of text: digits, which stand for themselves.
+pub(crate) fn push_digit_string(
     alloc: Global,
-    token: Token,
+    value: &Value<'_>,
     line: &mut Vec<u8>,
 ) -> Result<(), AllocError>
-    ensures { OnOk result (line.new.items ≡ line.old.items ++ plain_string (token_text token)) }
+    ensures { OnOk result (line.new.items ≡ line.old.items ++ plain_string (value_text (shown_value value.now))) }
 {
     line.push(b'"')?;
-    push_token(alloc, token, line)?;
+    push_text_value(alloc, value, line)?;
     Ok(line.push(b'"')?)
 }
 
@@ -116,15 +108,6 @@ pub(crate) fn push_guid_string(
 {
     let text = guid_text(alloc, &guid)?;
     push_string(text.as_bytes(), line)
-}
-
-/// Appends a number as a string of two upper-case hexadecimal digits.
-pub(crate) fn push_byte_string(number: u8, line: &mut Vec<u8>) -> Result<(), AllocError>
-    ensures { OnOk result (line.new.items ≡ line.old.items ++ plain_string (upper_hexadecimal number)) }
-{
-    line.push(b'"')?;
-    push_byte_digits(number, line)?;
-    Ok(line.push(b'"')?)
 }
 
 /// Appends an object of the bytes and the text of a signature.

@@ -1,7 +1,9 @@
 //! Appends UTF-16 units as a member of a line of JSON.
-ghost use Rattle.std.specs.Prelude.{◌≡◌, ◌++◌, ◌∷◌, OnOk, IfOk};
-ghost use Rattle.cli_lines.specs.JsonTexts.{array_json, items_json, member_json, opener, units_json};
-ghost use Rattle.cli_lines.specs.declared.names.Name.TheVariants as name;
+ghost use Rattle.std.specs.Prelude.{◌≡◌, ◌++◌, List, IfOk, OnOk};
+ghost use Rattle.json.specs.Token as json;
+ghost use Rattle.cli_lines.specs.declared.line.Before.TheVariants as here;
+ghost use Rattle.cli_lines.specs.Lines.{json_from, units_tokens};
+ghost use Rattle.cli_lines.specs.JsonTexts.{array_json, items_json};
 
 use crate::json_line::{push_member, push_name};
 use crate::line::Before;
@@ -15,11 +17,7 @@ use std::alloc::{AllocError, Global};
 fn collect(alloc: Global, units: Units<'_>) -> Result<Vec<u16>, AllocError>
     ensures { IfOk result (λ all. all.items ≡ units.entry) }
 {
-    let mut all = Vec::new(alloc);
-    for unit in units {
-        all.push(unit)?;
-    }
-    Ok(all)
+    units.collect(alloc)
 }
 
 /// Appends each number after a comma, and the closing bracket.
@@ -47,14 +45,6 @@ fn push_array(units: &[u16], line: &mut Vec<u8>) -> Result<(), AllocError>
     }
 }
 
-/// Appends the member `units`.
-fn push_numbers(at: Before, units: &[u16], line: &mut Vec<u8>) -> Result<(), AllocError>
-    ensures { OnOk result (line.new.items ≡ line.old.items ++ (opener at ++ member_json name.Units (array_json units.now))) }
-{
-    push_name(at, Name::Units, line)?;
-    push_array(units, line)
-}
-
 /// Appends the member of units: a text, or an array if a surrogate among them has no partner.
 pub(crate) fn push_units_member(
     alloc: Global,
@@ -62,11 +52,14 @@ pub(crate) fn push_units_member(
     units: Units<'_>,
     line: &mut Vec<u8>,
 ) -> Result<(), AllocError>
-    ensures { OnOk result (line.new.items ≡ line.old.items ++ (opener at ++ units_json units.entry)) }
+    ensures { OnOk result ((more : List json.Token) → line.new.items ++ json_from here.Value more ≡ line.old.items ++ json_from at (units_tokens units.entry ++ more)) }
 {
     let units = collect(alloc, units)?;
     match String::from_utf16(alloc, &units)? {
-        Ok(text) => push_member(alloc, at, Name::Text, Value::Text(&text), line),
-        Err(_) => push_numbers(at, &units, line),
+        Ok(text) => push_member(alloc, at, Name::Text, &Value::Text(&text), line),
+        Err(_) => {
+            push_name(at, Name::Units, line)?;
+            push_array(&units, line)
+        }
     }
 }

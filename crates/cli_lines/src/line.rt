@@ -1,7 +1,6 @@
 //! Appends the parts of a line to the bytes that wait to be sent.
-ghost use Rattle.std.specs.Prelude.{◌≡◌, ◌++◌, ◌∷◌, [], ℕ, List, OnOk, Option, IfOk, map};
-ghost use Rattle.cli_lines.specs.declared.line.Before.TheVariants as here;
-ghost use Rattle.cli_lines.specs.Lines.{Part as ThePart, lead, line_from, line_text, part_letters, part_text, style, value_text};
+ghost use Rattle.std.specs.Prelude.{◌≡◌, ◌++◌, ◌∷◌, [], ℕ, List, OnOk, Option, IfOk};
+ghost use Rattle.cli_lines.specs.Lines.{Part as ThePart, lead, line_from, part_letters, part_text, style, value_text};
 ghost use Rattle.cli_lines.specs.Shown.{shown, shown_file, shown_value};
 
 use crate::json_line::{push_json_end, push_named_part};
@@ -14,7 +13,7 @@ use cli_escapes::show_letters;
 use std::alloc::{AllocError, Global};
 
 /// Where a printer is in its line of JSON.
-#[derive(Clone, Copy, PartialEq, Eq)]
+#[derive(Clone, Copy)]
 pub enum Before {
     /// At the start of the line.
     Line,
@@ -26,7 +25,11 @@ pub enum Before {
 
 /// Appends a value as in a line of text.
 #[inline(always)]
-fn push_text_value(alloc: Global, value: &Value<'_>, line: &mut Vec<u8>) -> Result<(), AllocError>
+pub(crate) fn push_text_value(
+    alloc: Global,
+    value: &Value<'_>,
+    line: &mut Vec<u8>,
+) -> Result<(), AllocError>
     ensures { OnOk result (line.new.items ≡ line.old.items ++ value_text (shown_value value.now)) }
 {
     match value {
@@ -104,7 +107,7 @@ pub(crate) fn push_part(
 }
 
 /// Appends what a line of text begins with: the name of the file, if there is one.
-fn push_lead(
+pub(crate) fn push_lead(
     alloc: Global,
     form: Form,
     file: Option<&str>,
@@ -123,39 +126,6 @@ fn push_lead(
         }
         _ => Ok(()),
     }
-}
-
-/// Begins a line, and appends its first parts. Returns where the printer is then.
-pub(crate) fn begin_line(
-    alloc: Global,
-    form: Form,
-    file: Option<&str>,
-    parts: &[Part<'_>],
-    line: &mut Vec<u8>,
-) -> Result<Before, AllocError>
-    ensures { IfOk result (λ now. (more : List ThePart) → line.new.items ++ line_from (style form (shown_file file.entry)) now more
-        ≡ line.old.items ++ line_text (style form (shown_file file.entry)) (map shown parts.now ++ more)) }
-{
-    push_lead(alloc, form, file, line)?;
-    push_parts(alloc, form, file, parts, line)
-}
-
-/// Appends the first parts of a line. Returns where the printer is then.
-fn push_parts(
-    alloc: Global,
-    form: Form,
-    file: Option<&str>,
-    parts: &[Part<'_>],
-    line: &mut Vec<u8>,
-) -> Result<Before, AllocError>
-    ensures { IfOk result (λ now. (more : List ThePart) → line.new.items ++ line_from (style form (shown_file file.entry)) now more
-        ≡ line.old.items ++ line_from (style form (shown_file file.entry)) here.Line (map shown parts.now ++ more)) }
-{
-    let mut at = Before::Line;
-    for part in parts {
-        at = push_part(alloc, form, file, at, part, line)?;
-    }
-    Ok(at)
 }
 
 /// Appends the end of a line.

@@ -6,7 +6,7 @@ ghost use Rattle.cli_lines.specs.declared.names.Name.TheVariants as name;
 use table_schema::TableId;
 
 /// The name of a member. Each name but that of a cell is the member of this name in lower case.
-#[derive(Clone, Copy, PartialEq, Eq)]
+#[derive(Clone, Copy)]
 pub enum Name {
     /// The name of the column of a cell, by the index of the cell in its row (ECMA-335 II.22).
     Cell(TableId, usize),

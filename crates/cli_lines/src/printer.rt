@@ -6,7 +6,7 @@ ghost use Rattle.cli_lines.specs.Printed.{Adds, Asked, Begins, Ends, Moves, Prin
 ghost use Rattle.cli_sending.specs.Sent.{SendsPrefix, Sent};
 ghost use Rattle.cli_lines.specs.Shown.{shown, shown_file};
 
-use crate::line::{Before, begin_line, push_end, push_part};
+use crate::line::{Before, push_end, push_lead, push_part};
 use crate::parts::{Form, Part};
 use cli_faults::Failure;
 use cli_sending::{finish, send};
@@ -85,16 +85,33 @@ impl<'o, W: Write> Printer<'o, W> {
     }
 
     /// Begins a line with these parts.
-    #[inline]
     pub fn begin(&mut self, parts: &[Part<'_>])
         ensures { Begins self.old self.new (map shown parts.now) }
+    {
+        self.start();
+        self.parts(parts);
+    }
+
+    /// Begins a line, with the name of the file if there is one.
+    #[inline]
+    fn start(&mut self)
+        ensures { Begins self.old self.new [] }
     {
         if self.stopped.is_some() {
             return;
         }
-        match begin_line(self.alloc, self.form, self.file, parts, &mut self.waiting) {
-            Ok(at) => self.at = at,
+        match push_lead(self.alloc, self.form, self.file, &mut self.waiting) {
+            Ok(()) => self.at = Before::Line,
             Err(_) => self.stopped = Some(ErrorKind::OutOfMemory),
+        }
+    }
+
+    /// Adds parts to the line that was begun.
+    fn parts(&mut self, parts: &[Part<'_>])
+        ensures { Adds self.old self.new (map shown parts.now) }
+    {
+        for part in parts {
+            self.part(part);
         }
     }
 
