@@ -28,6 +28,7 @@ pub fn rows_follow<W: Write>()
 {}
 
 /// A line has the parts that it was begun with, and those that were added.
+#[tactic(auto, using(crate::proofs::PrintedLemmas::adds_more, crate::proofs::PrintedLemmas::adds_nothing, crate::proofs::PrintedLemmas::begins_more))]
 pub fn parts_follow<W: Write>()
     ensures nothing { (printer : Printed W) → Adds printer printer [] }
     ensures more { (old between new : Printed W) (first second : List Part) → Adds old between first → Adds between new second → Adds old new (first ++ second) }

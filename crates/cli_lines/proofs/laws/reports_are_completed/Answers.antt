@@ -1,9 +1,6 @@
 use Rattle.cli_lines.proofs.PrintedLemmas.{all_completed, completed}
 use Rattle.cli_lines.proofs.laws.reports_are_completed.Goals as goal
 
-pub returns-clause-start : goal.returns-clause-start
-returns-clause-start g c = λ printer lines later printed. printed
-
 pub returns-clause-more : goal.returns-clause-more
 returns-clause-more g c = completed
 

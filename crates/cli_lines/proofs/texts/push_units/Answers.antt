@@ -1,9 +1,6 @@
 use Rattle.cli_lines.proofs.Prelude.{◌∙◌, sym, append_assoc, append-nil, flat_map, escaped_unit}
 use Rattle.cli_lines.proofs.texts.push_units.Goals as goal
 
-pub loop-unit-init : goal.loop-unit-init
-loop-unit-init c = rw c.into_iter-unit-iterator.ensures.into_iter_gives
-
 pub loop-unit-preserved : goal.loop-unit-preserved
 loop-unit-preserved c =
     rw (c.in_ok-push_unit.ensures, append_assoc c.loop-unit.line.items (escaped_unit c.in-Some.unit) (flat_map escaped_unit c.next.new.self))

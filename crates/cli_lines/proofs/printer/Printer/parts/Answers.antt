@@ -1,9 +1,6 @@
 use Rattle.cli_lines.proofs.Prelude.{map_more, take_all, shown}
-use Rattle.cli_lines.proofs.PrintedLemmas.{adds_more, adds_nothing}
+use Rattle.cli_lines.proofs.PrintedLemmas.{adds_more}
 use Rattle.cli_lines.proofs.printer.Printer.parts.Goals as goal
-
-pub loop-part-init : goal.loop-part-init
-loop-part-init g c = adds_nothing _
 
 pub loop-part-preserved : goal.loop-part-preserved
 loop-part-preserved g c =
