@@ -2,9 +2,6 @@ use Rattle.cli_cells.proofs.Prelude.{◌≡◌, ◌<◌, ◌≤◌, ◌∙◌, a
 use Rattle.cli_cells.proofs.PartLemmas.{parts_more}
 use Rattle.cli_cells.proofs.row_lines.print_row.Goals as goal
 
-pub loop-cell_index-init : goal.loop-cell_index-init
-loop-cell_index-init g c = record { same = refl; parts = λ content shows. c.parts_follow.ensures.nothing _ }
-
 pub print_cell-requires : goal.print_cell-requires
 print_cell-requires g c = λ k.
     let last : c.args.row ≤ g.R.ShownRows.ready_rows c.loop-cell_index.rows c.args.table = rw c.loop-cell_index.invariant.same c.requires.last in
