@@ -24,6 +24,7 @@ fn digit(number: u8) -> char
 }
 
 /// Appends the two hexadecimal digits of a byte.
+#[tactic(auto, using(crate::proofs::ByteLemmas::two_digits))]
 fn push_digits(byte: u8, text: &mut String) -> Result<(), AllocError>
     ensures { OnOk result (string_bytes text.new ≡ string_bytes text.old ++ hexadecimal 2 byte) }
 {
@@ -37,6 +38,7 @@ fn push_digits(byte: u8, text: &mut String) -> Result<(), AllocError>
 /// # Errors
 ///
 /// Out of memory.
+#[tactic(auto, using(crate::proofs::ByteLemmas::items_more))]
 pub fn push_hexadecimal(bytes: &[u8], text: &mut String) -> Result<(), AllocError>
     ensures { OnOk result (string_bytes text.new ≡ string_bytes text.old ++ flat_map (hexadecimal 2) bytes.now) }
 {
