@@ -25,5 +25,5 @@ pub use cells::{column_name, print_cell};
 pub use row_lines::Names;
 pub use shown_rows::ShownRows;
 pub use table_lines::print_show;
-pub use tokens::print_tokens;
+pub use tokens::{padded_copy, print_tokens};
 pub use until_fault::print_until_fault;

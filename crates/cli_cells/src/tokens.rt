@@ -40,7 +40,11 @@ fn existing_row(view: &View<'_>, number: u32) -> Option<Token>
 }
 
 /// A copy of bytes, padded with zeros to a multiple of four.
-fn padded_copy(alloc: Global, bytes: &[u8]) -> Result<Vec<u8>, AllocError>
+///
+/// # Errors
+///
+/// Out of memory.
+pub fn padded_copy(alloc: Global, bytes: &[u8]) -> Result<Vec<u8>, AllocError>
     ensures { IfOk result (λ copy. copy.items ≡ zero_padded bytes.now) }
 {
     let padding = (4 - bytes.len() % 4) % 4;
