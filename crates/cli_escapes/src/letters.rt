@@ -38,6 +38,7 @@ fn char_len(first: u8) -> usize
 }
 
 /// The character at the start of bytes, if they are UTF-8.
+#[tactic(auto, using(crate::proofs::LetterLemmas::first_is, crate::proofs::LetterLemmas::first_is_none))]
 fn first_char(bytes: &[u8]) -> Option<char>
     ensures { result ≡ first_char bytes.now }
 {

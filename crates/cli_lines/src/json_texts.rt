@@ -49,6 +49,7 @@ fn letter_of(byte: u8) -> Option<u8>
 }
 
 /// Appends a byte of a string, escaped if needed.
+#[tactic(auto, using(crate::proofs::PlainLemmas::long_escape, crate::proofs::PlainLemmas::no_escape, crate::proofs::PlainLemmas::short_escape))]
 fn push_byte(byte: u8, line: &mut Vec<u8>) -> Result<(), AllocError>
     ensures { OnOk result (line.new.items ≡ line.old.items ++ escape_byte byte) }
 {
