@@ -18,7 +18,7 @@ module _ (model : Metadata) (valid : IsValid model) (method owner : ℕ) (owns :
       omega (arith, e, to)
   later (suc k) row is within =
       let before = later k (row - 1) (omega (arith, is)) (omega (arith, is, within)) in
-      let rises = valid.methods.rising row (omega (arith, is)) within in
+      let rises = valid.linked.methods.rising row (omega (arith, is)) within in
       omega (arith, before, rises)
 
   among : (k count : ℕ) → count ≡ owner + k → count ≤ count_in model TypeDef → owner_among model method count ≡ owner

@@ -8,11 +8,11 @@ use Rattle.metadata_source.specs.declared.member_lists.MemberList.TheVariants as
 
 -- what is valid of each list
 owners : (model : Metadata) → IsValid model → (of : MemberList) → HasOwners model (owner_of of) (cell_of of) (member_of of)
-owners model valid list.Fields = valid.fields
-owners model valid list.Methods = valid.methods
-owners model valid list.Params = valid.params
-owners model valid list.Events = valid.events
-owners model valid list.Properties = valid.properties
+owners model valid list.Fields = valid.linked.fields
+owners model valid list.Methods = valid.linked.methods
+owners model valid list.Params = valid.linked.params
+owners model valid list.Events = valid.linked.events
+owners model valid list.Properties = valid.linked.properties
 
 -- a start is at most one past the last member
 starts_within : (model : Metadata) → IsValid model → (of : MemberList) (row : ℕ) → HasRow model (owner_of of) row

@@ -52,4 +52,4 @@ pub use Rattle.metadata.specs.Stands.{StandsFor, Refers}
 pub use Rattle.metadata.specs.Starts.{start_from}
 unfoldable pub use Rattle.metadata.specs.Starts.{start_of}
 pub use Rattle.metadata.specs.Streams.{root_in, stream_in, source_in}
-pub use Rattle.metadata.specs.Valid.{kind_at, IsValidAt, links_of, HasOwners, IsValid, Names, IsWithinMembers, IsValidCell, start_in, row_in}
+pub use Rattle.metadata.specs.Valid.{kind_at, IsValidAt, HasOwners, IsValid, Names, IsWithinMembers, IsValidCell, start_in, row_in}

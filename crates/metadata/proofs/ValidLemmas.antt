@@ -235,14 +235,16 @@ module _ (known : Known) (root : List ℕ) (model : Metadata) (is : IsModel root
     few = λ table. rw (counts table) (is.laid_out.few table);
     long = λ table row there. row_long table row there.0 (omega (arith, counts table, there.1));
     cells = λ table row cell_index there below. cell_valid table row cell_index there.0 (omega (arith, counts table, there.1)) below;
-    fields = has_owners TypeDef 4 Field (lit< tt) refl is.linked.fields;
-    methods = has_owners TypeDef 5 MethodDef (lit< tt) refl is.linked.methods;
-    params = has_owners MethodDef 5 Param (lit< tt) refl is.linked.params;
-    events = has_owners EventMap 1 Event (lit< tt) refl is.linked.events;
-    properties = has_owners PropertyMap 1 Property (lit< tt) refl is.linked.properties;
-    nested = λ row there.
-        let here : row ≤ rows_in source NestedClass = omega (arith, counts NestedClass, there.1) in
-        let low = referred _ TypeDef _ _ (cell_is NestedClass row 1 there.0 here (lit< tt)) in
-        let high = referred _ TypeDef _ _ (cell_is NestedClass row 0 there.0 here (lit< tt)) in
-        omega (arith, is.linked.nested row there.0 here, low, high);
+    linked = record {
+      fields = has_owners TypeDef 4 Field (lit< tt) refl is.linked.fields;
+      methods = has_owners TypeDef 5 MethodDef (lit< tt) refl is.linked.methods;
+      params = has_owners MethodDef 5 Param (lit< tt) refl is.linked.params;
+      events = has_owners EventMap 1 Event (lit< tt) refl is.linked.events;
+      properties = has_owners PropertyMap 1 Property (lit< tt) refl is.linked.properties;
+      nested = λ row first last.
+          let here : row ≤ rows_in source NestedClass = omega (arith, counts NestedClass, last) in
+          let low = referred _ TypeDef _ _ (cell_is NestedClass row 1 first here (lit< tt)) in
+          let high = referred _ TypeDef _ _ (cell_is NestedClass row 0 first here (lit< tt)) in
+          omega (arith, is.linked.nested row first here, low, high);
+    };
   }

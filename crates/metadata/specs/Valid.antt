@@ -3,7 +3,6 @@ use Rattle.std.specs.Prelude.{◌≡◌, ℕ, ◌+◌, ◌^◌, ◌%◌, ◌<◌
 use Rattle.std.specs.List.{AllByRecursion}
 use Rattle.root.specs.Root.{IsVersion}
 use Rattle.table_schema.specs.declared.table.TableId.{TableId}
-use Rattle.table_schema.specs.declared.table.TableId.TheVariants.{TypeDef, Field, MethodDef, Param, EventMap, Event, PropertyMap, Property, NestedClass}
 use Rattle.table_schema.specs.declared.token.Token.{Token}
 use Rattle.table_schema.specs.declared.column.ColumnKind.{ColumnKind}
 use Rattle.table_schema.specs.declared.column.ColumnKind.TheVariants as kind
@@ -14,7 +13,7 @@ use Rattle.metadata.specs.Cell.{Cell, Ref, Start, Sig}
 use Rattle.metadata.specs.Kinds.{IsOfKind, IsStorable, IsHeld}
 use Rattle.metadata.specs.Metadata.{Metadata, row_of, count_in, cell_in}
 use Rattle.metadata.specs.Lookups.{HasRow}
-use Rattle.metadata.specs.RowRules.{Links, IsOwned, IsNested}
+use Rattle.metadata.specs.RowRules.{Links, IsOwned, AreLinked}
 
 -- ---- cells
 
@@ -100,9 +99,4 @@ pub record IsValid (model : Metadata) : Type 0 where
   pub long : (table : TableId) (row : ℕ) → HasRow model table row → length (row_of model table row) ≡ cell_count table
   pub cells : (table : TableId) (row cell_index : ℕ) → HasRow model table row → cell_index < cell_count table
       → IsValidAt model table cell_index (cell_in model table row cell_index)
-  pub fields : HasOwners model TypeDef 4 Field
-  pub methods : HasOwners model TypeDef 5 MethodDef
-  pub params : HasOwners model MethodDef 5 Param
-  pub events : HasOwners model EventMap 1 Event
-  pub properties : HasOwners model PropertyMap 1 Property
-  pub nested : (row : ℕ) → HasRow model NestedClass row → IsNested (links_of model) row
+  pub linked : AreLinked (links_of model)

@@ -1,5 +1,5 @@
 -- Cells of a valid model that are references or texts.
-use Rattle.navigation.proofs.Prelude.{◌≡◌, ℕ, zero, suc, ◌<◌, ◌≤◌, Bool, false, List, [], ◌∷◌, Option, Some, None, refl, sym, ap, subst, arith, Bor, ∥∥₁_elim, le_prop, TableId, Token, ColumnKind, cell_count, Cell, Number, Text, Ref, Sig, IsOfKind, Metadata, cell_in, count_in, HasRow, IsValid, MayRefer, kind_at, nullable_at, Shows}
+use Rattle.navigation.proofs.Prelude.{◌≡◌, ℕ, zero, suc, ◌<◌, ◌≤◌, Bool, false, List, [], ◌∷◌, Option, Some, None, refl, sym, ap, subst, arith, Bor, ∥∥₁_elim, le_prop, TableId, Token, ColumnKind, cell_count, Cell, Number, Text, Ref, IsOfKind, Metadata, cell_in, count_in, HasRow, IsValid, MayRefer, kind_at, nullable_at, Shows}
 use Rattle.std.proofs.lemmas.Option.{same_Some}
 use Rattle.std.specs.Prelude.{⊤, Contains, IfSome}
 use Rattle.table_schema.specs.declared.column.ColumnKind.TheVariants as kind

@@ -27,11 +27,11 @@ start_of model list row = start_in (cell_in model (owner_of list) row (cell_of l
 
 module _ (model : Metadata) (valid : IsValid model) where
   owned : (list : MemberList) → HasOwners model (owner_of list) (cell_of list) (member_of list)
-  owned list_of.Fields = valid.fields
-  owned list_of.Methods = valid.methods
-  owned list_of.Params = valid.params
-  owned list_of.Events = valid.events
-  owned list_of.Properties = valid.properties
+  owned list_of.Fields = valid.linked.fields
+  owned list_of.Methods = valid.linked.methods
+  owned list_of.Params = valid.linked.params
+  owned list_of.Events = valid.linked.events
+  owned list_of.Properties = valid.linked.properties
 
   module _ (list : MemberList) where
     pub is_start : (row : ℕ) → HasRow model (owner_of list) row → cell_in model (owner_of list) row (cell_of list) ≡ Start (start_of model list row)

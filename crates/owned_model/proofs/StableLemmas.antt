@@ -325,10 +325,12 @@ module _ (stand : (table : TableId) → slice_index_or tables (table_index_of ta
     few = λ table. stable_le _ _ (so h (λ is. is.few table));
     long = λ table row there. stable_eq _ _ (so h (λ is. is.long table row there));
     cells = λ table row cell_index there below. stable_cell model _ _ _ (so h (λ is. is.cells table row cell_index there below));
-    fields = stable_owners model TypeDef 4 Field (so h (λ is. is.fields));
-    methods = stable_owners model TypeDef 5 MethodDef (so h (λ is. is.methods));
-    params = stable_owners model MethodDef 5 Param (so h (λ is. is.params));
-    events = stable_owners model EventMap 1 Event (so h (λ is. is.events));
-    properties = stable_owners model PropertyMap 1 Property (so h (λ is. is.properties));
-    nested = λ row there. stable_lt _ _ (so h (λ is. is.nested row there));
+    linked = record {
+      fields = stable_owners model TypeDef 4 Field (so h (λ is. is.linked.fields));
+      methods = stable_owners model TypeDef 5 MethodDef (so h (λ is. is.linked.methods));
+      params = stable_owners model MethodDef 5 Param (so h (λ is. is.linked.params));
+      events = stable_owners model EventMap 1 Event (so h (λ is. is.linked.events));
+      properties = stable_owners model PropertyMap 1 Property (so h (λ is. is.linked.properties));
+      nested = λ row low high. stable_lt _ _ (so h (λ is. is.linked.nested row low high));
+    };
   }

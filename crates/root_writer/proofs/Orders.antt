@@ -188,13 +188,13 @@ module _ (facts : Facts) (model : Metadata) (valid : IsValid model) (within : Is
   are_linked =
       let owned = is_owned facts model valid within in
       record {
-        fields = owned TypeDef 4 Field (lit< tt) refl valid.fields;
-        methods = owned TypeDef 5 MethodDef (lit< tt) refl valid.methods;
-        params = owned MethodDef 5 Param (lit< tt) refl valid.params;
-        events = owned EventMap 1 Event (lit< tt) refl valid.events;
-        properties = owned PropertyMap 1 Property (lit< tt) refl valid.properties;
+        fields = owned TypeDef 4 Field (lit< tt) refl valid.linked.fields;
+        methods = owned TypeDef 5 MethodDef (lit< tt) refl valid.linked.methods;
+        params = owned MethodDef 5 Param (lit< tt) refl valid.linked.params;
+        events = owned EventMap 1 Event (lit< tt) refl valid.linked.events;
+        properties = owned PropertyMap 1 Property (lit< tt) refl valid.linked.properties;
         nested = λ row first last.
             let count = count_is model facts NestedClass in
             rw (nested_value row 1 first (omega (arith, count)) (lit< tt) refl, nested_value row 0 first (omega (arith, count)) (lit< tt) refl)
-            (valid.nested row (first, omega (arith, count)));
+            (valid.linked.nested row first (omega (arith, count)));
       }

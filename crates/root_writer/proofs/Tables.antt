@@ -156,23 +156,23 @@ same_member model table cell_index a b owners e = let same : a ≡ b = cc in sub
 
 types_own : (model : Metadata) → IsValid model → (cell_index : ℕ) → OwnsBy model TypeDef cell_index
 unfolding cell_columns
-types_own model valid (suc (suc (suc (suc zero)))) member e = same_member model TypeDef 4 Field member valid.fields e
-types_own model valid (suc (suc (suc (suc (suc zero))))) member e = same_member model TypeDef 5 MethodDef member valid.methods e
+types_own model valid (suc (suc (suc (suc zero)))) member e = same_member model TypeDef 4 Field member valid.linked.fields e
+types_own model valid (suc (suc (suc (suc (suc zero))))) member e = same_member model TypeDef 5 MethodDef member valid.linked.methods e
 types_own model valid _ member e = cc
 
 methods_own : (model : Metadata) → IsValid model → (cell_index : ℕ) → OwnsBy model MethodDef cell_index
 unfolding cell_columns
-methods_own model valid (suc (suc (suc (suc (suc zero))))) member e = same_member model MethodDef 5 Param member valid.params e
+methods_own model valid (suc (suc (suc (suc (suc zero))))) member e = same_member model MethodDef 5 Param member valid.linked.params e
 methods_own model valid _ member e = cc
 
 events_own : (model : Metadata) → IsValid model → (cell_index : ℕ) → OwnsBy model EventMap cell_index
 unfolding cell_columns
-events_own model valid (suc zero) member e = same_member model EventMap 1 Event member valid.events e
+events_own model valid (suc zero) member e = same_member model EventMap 1 Event member valid.linked.events e
 events_own model valid _ member e = cc
 
 properties_own : (model : Metadata) → IsValid model → (cell_index : ℕ) → OwnsBy model PropertyMap cell_index
 unfolding cell_columns
-properties_own model valid (suc zero) member e = same_member model PropertyMap 1 Property member valid.properties e
+properties_own model valid (suc zero) member e = same_member model PropertyMap 1 Property member valid.linked.properties e
 properties_own model valid _ member e = cc
 
 owners_of : (model : Metadata) → IsValid model → (table : TableId) (cell_index : ℕ) → OwnsBy model table cell_index
