@@ -239,6 +239,18 @@ pub fn number(bytes: &[u8], here: Position) -> Option<(u32, Position)>
     long_number(bytes, here)
 }
 
+/// The position after a packed number of more than one byte.
+#[cold]
+#[inline(never)]
+#[tactic(auto, unfolding(crate::specs::Skips::skip_number))]
+fn after_long_number(bytes: &[u8], here: Position) -> Option<Position>
+    requires { length bytes.now < 2 ^ 29 }
+    ensures { option_map (left bytes.now) result ≡ skip_number (left bytes.now here) }
+{
+    let (_, behind) = long_number(bytes, here)?;
+    Some(behind)
+}
+
 /// The position after a packed number.
 #[inline(always)]
 #[tactic(auto, unfolding(crate::specs::Skips::skip_number))]
@@ -246,8 +258,10 @@ pub fn after_number(bytes: &[u8], here: Position) -> Option<Position>
     requires { length bytes.now < 2 ^ 29 }
     ensures { option_map (left bytes.now) result ≡ skip_number (left bytes.now here) }
 {
-    let (_, behind) = number(bytes, here)?;
-    Some(behind)
+    if let Some((_, behind)) = short_number(bytes, here) {
+        return Some(behind);
+    }
+    after_long_number(bytes, here)
 }
 
 /// A position after one more type index, that of a token: its number is kept if it is the first whose row does not

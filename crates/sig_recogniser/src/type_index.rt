@@ -42,8 +42,7 @@ pub fn after_index(bytes: &[u8], here: Position, counts: &[u32; 45]) -> Option<P
     after_index_number(number, behind, counts)
 }
 
-/// The position after modifiers, one after another (II.23.2.7). Most types have none.
-#[inline(always)]
+/// The position after modifiers, one after another (II.23.2.7).
 pub fn after_modifiers(bytes: &[u8], here: Position, counts: &[u32; 45]) -> Option<Position>
     requires { length bytes.now < 2 ^ 29 }
     ensures { option_map (left bytes.now) result ≡ skip_modifiers counts.now (left bytes.now here) }

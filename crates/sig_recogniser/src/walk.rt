@@ -1,7 +1,7 @@
 ghost use Rattle.std.specs.Prelude.{◌≡◌, ◌<◌, ◌^◌, length, ◌/◌, ◌%◌, ◌==◌, option_map, option_and_then};
 ghost use Rattle.sig_recogniser.specs.Skips.{left, skip_core, skip_by, skip_typed, skip_target, skip_instance, skip_many, skip_content, skip_slot, skip_ret, skip_void_or, skip_params, skip_generic, skip_method, skip_shape};
 
-use crate::position::{Position, after_number, after_sentinel, byte, number};
+use crate::position::{Position, after_number, after_sentinel, byte, has_modifier, number};
 use crate::shape::after_shape;
 use crate::type_index::{after_index, after_modifiers};
 use sig_grammar::Element;
@@ -74,14 +74,33 @@ fn after_array(bytes: &[u8], here: Position, depth: u8, counts: &[u32; 45]) -> O
     after_shape(bytes, here)
 }
 
-/// The position after a type.
+/// The position after modifiers and a type.
 #[cycle(walk)]
+#[inline(never)]
 #[tactic(auto, unfolding(crate::specs::Skips::skip_typed))]
-fn after_typed(bytes: &[u8], here: Position, depth: u8, counts: &[u32; 45]) -> Option<Position>
+fn after_modified_type(
+    bytes: &[u8],
+    here: Position,
+    depth: u8,
+    counts: &[u32; 45],
+) -> Option<Position>
     requires { length bytes.now < 2 ^ 29 }
     ensures { option_map (left bytes.now) result ≡ skip_typed counts.now (skip_core counts.now depth) (left bytes.now here) }
 {
     let here = after_modifiers(bytes, here, counts)?;
+    after_core(bytes, here, depth, counts)
+}
+
+/// The position after a type. Most types have no modifier.
+#[cycle(walk)]
+#[tactic(auto, using(crate::proofs::ItemLemmas::modifiers_end), unfolding(crate::specs::Skips::skip_typed))]
+fn after_typed(bytes: &[u8], here: Position, depth: u8, counts: &[u32; 45]) -> Option<Position>
+    requires { length bytes.now < 2 ^ 29 }
+    ensures { option_map (left bytes.now) result ≡ skip_typed counts.now (skip_core counts.now depth) (left bytes.now here) }
+{
+    if has_modifier(bytes, here) {
+        return after_modified_type(bytes, here, depth, counts);
+    }
     after_core(bytes, here, depth, counts)
 }
 
@@ -157,14 +176,33 @@ pub fn after_content(
     }
 }
 
-/// The position after a parameter or a field.
+/// The position after modifiers and a parameter or a field.
 #[cycle(walk)]
+#[inline(never)]
 #[tactic(auto, unfolding(crate::specs::Skips::skip_slot))]
-pub fn after_slot(bytes: &[u8], here: Position, depth: u8, counts: &[u32; 45]) -> Option<Position>
+fn after_modified_slot(
+    bytes: &[u8],
+    here: Position,
+    depth: u8,
+    counts: &[u32; 45],
+) -> Option<Position>
     requires { length bytes.now < 2 ^ 29 }
     ensures { option_map (left bytes.now) result ≡ skip_slot counts.now (skip_core counts.now depth) (left bytes.now here) }
 {
     let here = after_modifiers(bytes, here, counts)?;
+    after_content(bytes, here, depth, counts)
+}
+
+/// The position after a parameter or a field. Most have no modifier.
+#[cycle(walk)]
+#[tactic(auto, using(crate::proofs::ItemLemmas::modifiers_end), unfolding(crate::specs::Skips::skip_slot))]
+pub fn after_slot(bytes: &[u8], here: Position, depth: u8, counts: &[u32; 45]) -> Option<Position>
+    requires { length bytes.now < 2 ^ 29 }
+    ensures { option_map (left bytes.now) result ≡ skip_slot counts.now (skip_core counts.now depth) (left bytes.now here) }
+{
+    if has_modifier(bytes, here) {
+        return after_modified_slot(bytes, here, depth, counts);
+    }
     after_content(bytes, here, depth, counts)
 }
 
@@ -182,14 +220,33 @@ fn after_void_or(bytes: &[u8], here: Position, depth: u8, counts: &[u32; 45]) ->
     }
 }
 
-/// The position after a result (II.23.2.11).
+/// The position after modifiers and a result.
 #[cycle(walk)]
+#[inline(never)]
 #[tactic(auto, unfolding(crate::specs::Skips::skip_ret))]
-pub fn after_ret(bytes: &[u8], here: Position, depth: u8, counts: &[u32; 45]) -> Option<Position>
+fn after_modified_ret(
+    bytes: &[u8],
+    here: Position,
+    depth: u8,
+    counts: &[u32; 45],
+) -> Option<Position>
     requires { length bytes.now < 2 ^ 29 }
     ensures { option_map (left bytes.now) result ≡ skip_ret counts.now (skip_core counts.now depth) (left bytes.now here) }
 {
     let here = after_modifiers(bytes, here, counts)?;
+    after_void_or(bytes, here, depth, counts)
+}
+
+/// The position after a result (II.23.2.11). Most have no modifier.
+#[cycle(walk)]
+#[tactic(auto, using(crate::proofs::ItemLemmas::modifiers_end), unfolding(crate::specs::Skips::skip_ret))]
+pub fn after_ret(bytes: &[u8], here: Position, depth: u8, counts: &[u32; 45]) -> Option<Position>
+    requires { length bytes.now < 2 ^ 29 }
+    ensures { option_map (left bytes.now) result ≡ skip_ret counts.now (skip_core counts.now depth) (left bytes.now here) }
+{
+    if has_modifier(bytes, here) {
+        return after_modified_ret(bytes, here, depth, counts);
+    }
     after_void_or(bytes, here, depth, counts)
 }
 

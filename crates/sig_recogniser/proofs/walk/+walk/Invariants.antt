@@ -7,6 +7,9 @@ decreases-after_core l = 16 * l.depth
 abbrev pub decreases-after_code : goal.decreases-after_code
 decreases-after_code l = 16 * l.depth + 15
 
+abbrev pub decreases-after_modified_type : goal.decreases-after_modified_type
+decreases-after_modified_type l = 16 * l.depth + 1
+
 abbrev pub decreases-after_typed : goal.decreases-after_typed
 decreases-after_typed l = 16 * l.depth + 2
 
@@ -25,11 +28,17 @@ decreases-after_instance l = 16 * l.depth + 4
 abbrev pub decreases-after_content : goal.decreases-after_content
 decreases-after_content l = 16 * l.depth + 3
 
+abbrev pub decreases-after_modified_slot : goal.decreases-after_modified_slot
+decreases-after_modified_slot l = 16 * l.depth + 4
+
 abbrev pub decreases-after_slot : goal.decreases-after_slot
 decreases-after_slot l = 16 * l.depth + 5
 
 abbrev pub decreases-after_void_or : goal.decreases-after_void_or
 decreases-after_void_or l = 16 * l.depth + 4
+
+abbrev pub decreases-after_modified_ret : goal.decreases-after_modified_ret
+decreases-after_modified_ret l = 16 * l.depth + 5
 
 abbrev pub decreases-after_ret : goal.decreases-after_ret
 decreases-after_ret l = 16 * l.depth + 6
