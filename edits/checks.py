@@ -136,6 +136,7 @@ class Checker:
         with tempfile.TemporaryFile("w+", errors="replace") as said:
             how = {"stdin": subprocess.DEVNULL, "stdout": said, "stderr": subprocess.STDOUT, "start_new_session": True}
             ran = subprocess.Popen(words, cwd=room, **how)
+            build.lower(ran.pid)
             self.maker.running.add(ran)
             _, status, used = os.wait4(ran.pid, 0)
             self.maker.running.discard(ran)
