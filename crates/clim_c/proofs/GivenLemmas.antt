@@ -1,7 +1,6 @@
 -- A cell that was reported can be given.
-use Rattle.clim_c.proofs.Prelude.{◌≡◌, ℕ, ◌<◌, List, Some, None, IsUtf8, refl, sym, ap, ◌∙◌, subst, TableId, SigKind, ColumnKind, cell_count, Cell, CellRef, Shows, ShowsSignature, ClimCell, Reports}
+use Rattle.clim_c.proofs.Prelude.{Body, ◌≡◌, ℕ, ◌<◌, List, Some, None, IsUtf8, refl, sym, ap, ◌∙◌, subst, TableId, SigKind, ColumnKind, cell_count, Cell, CellRef, Shows, ShowsSignature, ClimCell, Reports}
 use Rattle.table_schema.specs.declared.column.ColumnKind.TheVariants as kind
-use Rattle.sig_grammar.specs.Syntax.{Body}
 use Rattle.sig_grammar.specs.Encodes.{Encodes}
 use Rattle.metadata.specs.Cell as says
 use Rattle.metadata.specs.Kinds.{IsStorable}

@@ -1,8 +1,6 @@
 -- In a column of signatures, a value in index is the blob of a signature.
-use Rattle.clim_c.proofs.Prelude.{◌≡◌, ℕ, ◌≤◌, List, Bor, refl, TableId, SigKind, ColumnKind, column_at, column_of, Cell, Sig, Source, rows_in, source_of, CellRef, Shows, ShowsCell, row_count}
+use Rattle.clim_c.proofs.Prelude.{Body, IsCell, ◌≡◌, ℕ, ◌≤◌, List, Bor, refl, TableId, SigKind, ColumnKind, column_at, column_of, Cell, Sig, Source, rows_in, source_of, CellRef, Shows, ShowsCell, row_count}
 use Rattle.table_schema.specs.declared.column.ColumnKind.TheVariants as kind
-use Rattle.sig_grammar.specs.Syntax.{Body}
-use Rattle.metadata.specs.Rows.{IsCell}
 use Rattle.reading.specs.declared.cell_ref.CellRef.TheVariants as seen
 
 other_value : (column : ColumnKind) (signature : Body) (value : CellRef) (cell : Cell) → cell ≡ Sig signature → Shows column value cell

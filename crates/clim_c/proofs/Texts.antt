@@ -1,6 +1,5 @@
 -- The names of the types of a model are UTF-8.
-use Rattle.clim_c.proofs.Prelude.{◌≡◌, ℕ, ◌<◌, inl, inr, List, [], IsUtf8, Option, None, Some, IfSome, IfNone, unwrap_or, refl, sym, ◌∙◌, ap, subst, arith, lit<, IsText, cell_columns, cell_count, TypeDef, Cell, Text, Source}
-use Rattle.metadata.specs.Rows.{IsCell}
+use Rattle.clim_c.proofs.Prelude.{IsCell, ◌≡◌, ℕ, ◌<◌, inl, inr, List, [], IsUtf8, Option, None, Some, IfSome, IfNone, unwrap_or, refl, sym, ◌∙◌, ap, subst, arith, lit<, IsText, cell_columns, cell_count, TypeDef, Cell, Text, Source}
 
 -- a text of a heap is UTF-8 (II.24.2.3)
 text_is : (heap : List ℕ) (index : ℕ) (text : List ℕ) → IsText heap index text → IsUtf8 text

@@ -1,15 +1,12 @@
 -- Rows of the same bytes have the same numbers, and equal numbers that are read alike stand for equal cells.
-use Rattle.std.proofs.Common.{◌≡◌, ◌≢◌, ◌↔◌, ◌∙◌, ◌<◌, ◌≤◌, inl, inr, ℕ, zero, suc, ◌+◌, ◌-◌, ◌*◌, ◌==◌, Bool, true, false, IsTrue, List, [], ◌∷◌, length, take, refl, ap, ap₂, sym, subst, cond, arith}
-use Rattle.comparison.proofs.Prelude.{Decides, AllByRecursion, ne_eqb, TableId, Token, Column, ColumnKind, column_at, columns_of, cell_count, column_of, IsText, IsBlob, IsGuid, tokens, Sizes, SameCounts, width_of, Metadata, cell_in, count_in, start_from, start_of, Refers, StandsFor, IsCell, IgnoredColumns, AreAlike, AreSameParts, HaveSameHeap, HaveSameNumbers, has_same_heap, row_differences, table_differences, is_same_cell}
+use Rattle.comparison.proofs.Prelude.{◌≡◌, ◌≢◌, ◌↔◌, ◌∙◌, ◌<◌, ◌≤◌, inl, inr, ℕ, zero, suc, ◌+◌, ◌-◌, ◌*◌, ◌==◌, Bool, true, false, IsTrue, List, [], ◌∷◌, length, take, refl, ap, ap₂, sym, subst, cond, arith, sum_by, Cell, Start, Decides, AllByRecursion, ne_eqb, TableId, Token, Column, ColumnKind, column_at, columns_of, cell_count, column_of, IsText, IsBlob, IsGuid, tokens, Sizes, SameCounts, width_of, Metadata, cell_in, count_in, start_from, start_of, Refers, StandsFor, IsCell, IgnoredColumns, AreAlike, AreSameParts, HaveSameHeap, HaveSameNumbers, has_same_heap, row_differences, table_differences, is_same_cell}
 use Rattle.std.proofs.Math.Path.{fun_ext}
-use Rattle.std.specs.Prelude.{sum_by}
 use Rattle.packed.specs.Number.{little_endian}
 use Rattle.packed.specs.Offsets.{part}
 use Rattle.table_schema.specs.declared.column.ColumnKind.TheVariants as kind
 use Rattle.schema.specs.Offsets.{columns_width, offset_in_row, row_width}
 use Rattle.schema.specs.Cells.{cell_width}
 use Rattle.rows.specs.Cells.{number_in_rows}
-use Rattle.metadata.specs.Cell.{Cell, Start}
 use Rattle.metadata.specs.Source.{Source, IsThere, number_of, rows_in}
 use Rattle.reading.specs.RowBytes.{AreRowBytes}
 use Rattle.comparison.specs.declared.same_bytes.SameParts.{SameParts}

@@ -1,9 +1,7 @@
 -- What is noted of two cells is so in each row with the same numbers.
-use Rattle.std.proofs.Common.{◌≡◌, ◌∙◌, ◌+◌, ◌≤◌, ◌<◌, ◌++◌, ℕ, Bool, true, false, List, Option, Some, None, ap, ap₂, sym, subst, cond, arith}
-use Rattle.comparison.proofs.Prelude.{IfSome, TableId, ColumnKind, column_at, cell_count, column_of, Metadata, cell_in, IsModel, IsCell, Source, number_of, rows_in, source_of, StandsFor, start_of, kind_at, Shows, ShowsCell, CellRef, row_count, AreBlobNames, Outcome, AreOutcomes, IsInBoth, IsInHeap, IsNoted, IsOutcome, key_cmp, outcome_at, is_same_cell}
+use Rattle.comparison.proofs.Prelude.{◌≡◌, ◌∙◌, ◌+◌, ◌≤◌, ◌<◌, ◌++◌, ℕ, Bool, true, false, List, Option, Some, None, ap, ap₂, sym, subst, cond, arith, Cell, IfSome, TableId, ColumnKind, column_at, cell_count, column_of, Metadata, cell_in, IsModel, IsCell, Source, number_of, rows_in, source_of, StandsFor, start_of, kind_at, Shows, ShowsCell, CellRef, row_count, AreBlobNames, Outcome, AreOutcomes, IsInBoth, IsInHeap, IsNoted, IsOutcome, key_cmp, outcome_at, is_same_cell}
 use Rattle.std.specs.Ordering.{is_eq}
 use Rattle.table_schema.specs.declared.column.ColumnKind.TheVariants as kind
-use Rattle.metadata.specs.Cell.{Cell}
 use Rattle.comparison.specs.declared.blob_names.BlobNames.{BlobNames}
 use Rattle.comparison.specs.declared.compared_cells.ComparedCells.{ComparedCells}
 

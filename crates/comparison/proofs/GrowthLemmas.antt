@@ -1,6 +1,5 @@
 -- Lists that grow up to a limit.
-use Rattle.std.proofs.Common.{◌≡◌, ◌∙◌, ◌<◌, ◌≤◌, ℕ, zero, suc, ◌+◌, List, [], ◌∷◌, ◌++◌, length, take, get_or, refl, ap, sym, append_assoc, append-nil, arith}
-use Rattle.comparison.proofs.Prelude.{flat_map, range_with_len, flat_map-append, take_all, take-append-le, take-suc}
+use Rattle.comparison.proofs.Prelude.{◌≡◌, ◌∙◌, ◌<◌, ◌≤◌, ℕ, zero, suc, ◌+◌, List, [], ◌∷◌, ◌++◌, length, take, get_or, refl, ap, sym, append_assoc, append-nil, arith, flat_map, range_with_len, flat_map-append, take_all, take-append-le, take-suc}
 
 module _ {X : Type 0} where
   pub take_again : (n : ℕ) (xs ys : List X) → take n (take n xs ++ ys) ≡ take n (xs ++ ys)

@@ -1,7 +1,5 @@
 -- The marks of ignored columns.
-use Rattle.std.proofs.Common.{◌≡◌, ◌≢◌, ◌∙◌, ◌<◌, ◌≤◌, ◌⊎◌, inl, inr, ℕ, zero, suc, ◌+◌, ◌*◌, Bool, true, false, List, length, lit≤, get_or, set, replicate, refl, ap, sym, arith}
-use Rattle.comparison.proofs.Prelude.{get_or-set_same, get_or-set_other, cases_eq, cases_lt, TableId, Module, cell_columns, cell_count, table_index_of, table_number, tables, IgnoredColumns, AreOthersSame, is_ignored, no_columns}
-use Rattle.std.specs.Prelude.{slice_index_or}
+use Rattle.comparison.proofs.Prelude.{◌≡◌, ◌≢◌, ◌∙◌, ◌<◌, ◌≤◌, ◌⊎◌, inl, inr, ℕ, zero, suc, ◌+◌, ◌*◌, Bool, true, false, List, length, lit≤, get_or, set, replicate, refl, ap, sym, arith, slice_index_or, get_or-set_same, get_or-set_other, cases_eq, cases_lt, TableId, Module, cell_columns, cell_count, table_index_of, table_number, tables, IgnoredColumns, AreOthersSame, is_ignored, no_columns}
 
 pub few_cells : (table : TableId) → cell_count table ≤ 9
 unfolding cell_columns

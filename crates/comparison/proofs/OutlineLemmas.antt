@@ -1,7 +1,5 @@
 -- The first thing besides cells that differs.
-use Rattle.std.proofs.Common.{◌≡◌, ◌≢◌, ◌∙◌, ◌<◌, ℕ, ◌+◌, true, false, List, [], ◌∷◌, ◌++◌, length, take, drop, get_or, ap, sym, cond}
-use Rattle.comparison.proofs.Prelude.{bytes_eq, flat_map, eq-eqb, ne_eqb, flat_map-append, take-append-drop, bytes_eq-Decides, TableId, tables, Metadata, count_in, Difference, Version, UserStrings, RowCount, count_difference, outline_differences, user_difference, version_difference}
-use Rattle.std.proofs.lemmas.Bool.Decides.{same_from_decides}
+use Rattle.comparison.proofs.Prelude.{◌≡◌, ◌≢◌, ◌∙◌, ◌<◌, ℕ, ◌+◌, true, false, List, [], ◌∷◌, ◌++◌, length, take, drop, get_or, ap, sym, cond, same_from_decides, bytes_eq, flat_map, eq-eqb, ne_eqb, flat_map-append, take-append-drop, bytes_eq-Decides, TableId, tables, Metadata, count_in, Difference, Version, UserStrings, RowCount, count_difference, outline_differences, user_difference, version_difference}
 use Rattle.comparison.proofs.GrowthLemmas.{item_more}
 
 same_bytes : (xs ys : List ℕ) → xs ≡ ys → bytes_eq xs ys ≡ true

@@ -1,8 +1,5 @@
 -- Bytes that are equal once they are padded with zeros.
-use Rattle.std.proofs.Common.{Bool, IsTrue, true, false, not, eqb, ◌≡◌, ◌↔◌, ◌∙◌, ℕ, suc, ◌+◌, ◌-◌, ◌*◌, ◌%◌, List, [], ◌∷◌, ◌++◌, All, length, take, drop, min, replicate, refl, ap, ap₂, sym, subst, append_assoc, arith, length-append}
-use Rattle.comparison.proofs.Prelude.{take-append_seam, drop-append_seam, length-replicate, length-take, replicate-append-replicate, take-append-drop, Decides-eqb}
-use Rattle.std.proofs.lemmas.List.Elements.{All-replicate, All-take, All-nil}
-use Rattle.std.proofs.lemmas.Bool.{not-false}
+use Rattle.comparison.proofs.Prelude.{Bool, IsTrue, true, false, not, eqb, ◌≡◌, ◌↔◌, ◌∙◌, ℕ, suc, ◌+◌, ◌-◌, ◌*◌, ◌%◌, List, [], ◌∷◌, ◌++◌, All, length, take, drop, min, replicate, refl, ap, ap₂, sym, subst, append_assoc, arith, length-append, All-replicate, All-take, All-nil, not-false, take-append_seam, drop-append_seam, length-replicate, length-take, replicate-append-replicate, take-append-drop, Decides-eqb}
 use Rattle.std.specs.Cmp.Lexicographic.{pointwise, pointwise_decides}
 use Rattle.heap_entries.specs.Padding.{zero_padded}
 

@@ -1,6 +1,5 @@
 -- Heaps that differ in zeros at their ends.
-use Rattle.std.proofs.Common.{◌≡◌, ℕ, ◌+◌, ◌-◌, ◌%◌, ◌/◌, ◌≤◌, inl, inr, min, List, [], ◌++◌, length, take, drop, replicate, refl, sym, ap, subst, ◌∙◌, arith, append_assoc, length-append}
-use Rattle.embedding.proofs.Prelude.{take-append_seam, cases_lt, take-append-drop, take-append-le, take-replicate, drop-append-le, drop_all, length-drop, length-take, length-replicate, replicate-append-replicate, part, zero_padded}
+use Rattle.embedding.proofs.Prelude.{◌≡◌, ℕ, ◌+◌, ◌-◌, ◌%◌, ◌/◌, ◌≤◌, inl, inr, min, List, [], ◌++◌, length, take, drop, replicate, refl, sym, ap, subst, ◌∙◌, arith, append_assoc, length-append, take-append_seam, cases_lt, take-append-drop, take-append-le, take-replicate, drop-append-le, drop_all, length-drop, length-take, length-replicate, replicate-append-replicate, part, zero_padded}
 
 -- bytes that end in zeros, with their padding
 zeros_joined : (bytes : List ℕ) (count : ℕ) → count ≤ length bytes → drop count bytes ≡ replicate (length (drop count bytes)) 0

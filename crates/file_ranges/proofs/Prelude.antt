@@ -1,5 +1,5 @@
 -- What several proofs of this crate name of std, of the crates below, and of its own definitions.
-pub use Rattle.std.proofs.Common.{◌≡◌, ℕ, zero, suc, ◌+◌, ◌-◌, ◌/◌, ◌≤◌, ◌<◌, List, Some, None, length, sym, ap, ◌∙◌, arith, subst, inl, inr, refl, ◌^◌, rules}
+pub use Rattle.std.proofs.Common.{◌≡◌, ℕ, zero, suc, ◌+◌, ◌-◌, ◌/◌, ◌≤◌, ◌<◌, List, Some, None, length, sym, ap, ◌∙◌, arith, subst, inl, inr, refl, ◌^◌, rules, below_more}
 pub use Rattle.std.proofs.lemmas.Bool.{false≢true}
 pub use Rattle.cli_header.specs.declared.header.CliHeader.{CliHeader}
 pub use Rattle.table_schema.specs.declared.table.TableId.TheVariants.{Field, FieldRVA, ClassLayout, MethodDef}

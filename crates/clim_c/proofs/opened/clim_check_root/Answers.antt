@@ -1,4 +1,4 @@
-use Rattle.std.proofs.lemmas.Grind.{not_there}
+use Rattle.clim_c.proofs.Prelude.{not_there}
 use Rattle.clim_c.proofs.opened.clim_check_root.Goals as goal
 
 pub returns-in-Err-clause-complete : goal.returns-in-Err-clause-complete

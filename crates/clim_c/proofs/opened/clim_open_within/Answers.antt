@@ -1,4 +1,4 @@
-use Rattle.std.proofs.lemmas.Grind.{not_there}
+use Rattle.clim_c.proofs.Prelude.{not_there}
 use Rattle.clim_c.proofs.opened.clim_open_within.Goals as goal
 
 pub returns-in-Err-Fault-clause-complete : goal.returns-in-Err-Fault-clause-complete

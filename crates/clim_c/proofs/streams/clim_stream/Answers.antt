@@ -1,6 +1,4 @@
-use Rattle.clim_c.proofs.Prelude.{◌≡◌, ℕ, List, Some, slice_get, option_map, refl, sym, ◌∙◌, ap}
-use Rattle.std.proofs.lemmas.Iterator.Consumers.{YieldsList-from_first, nth_from_yields_List}
-use Rattle.root.specs.Views.{view}
+use Rattle.clim_c.proofs.Prelude.{YieldsList-from_first, nth_from_yields_List, view, ◌≡◌, ℕ, List, Some, slice_get, option_map, refl, sym, ◌∙◌, ap}
 use Rattle.clim_c.proofs.HeaderLemmas.{there_is}
 use Rattle.clim_c.proofs.streams.clim_stream.Goals as goal
 use Rattle.clim_c.proofs.streams.clim_stream.Goals.{After-nth}

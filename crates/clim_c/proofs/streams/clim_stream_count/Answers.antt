@@ -1,6 +1,4 @@
-use Rattle.std.proofs.Common.{length, refl, ◌∙◌, ap}
-use Rattle.std.proofs.lemmas.Iterator.Consumers.{YieldsList-from_first, count_from_yields_List}
-use Rattle.root.specs.Views.{view}
+use Rattle.clim_c.proofs.Prelude.{length, refl, ◌∙◌, ap, YieldsList-from_first, count_from_yields_List, view}
 use Rattle.clim_c.proofs.streams.clim_stream_count.Goals as goal
 
 pub returns-in-Some-clause-open : goal.returns-in-Some-clause-open

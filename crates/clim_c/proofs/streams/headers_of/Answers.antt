@@ -1,5 +1,4 @@
-use Rattle.std.proofs.Common.{length, ◌∙◌, ap, arith}
-use Rattle.std.proofs.lemmas.Grind.{not_there}
+use Rattle.clim_c.proofs.Prelude.{length, ◌∙◌, ap, arith, not_there}
 use Rattle.clim_c.proofs.HeaderLemmas.{few_headers}
 use Rattle.clim_c.proofs.streams.headers_of.Goals as goal
 

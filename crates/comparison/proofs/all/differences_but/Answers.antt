@@ -1,4 +1,4 @@
-use Rattle.std.proofs.Common.{◌∙◌, ◌∷◌, ap}
+use Rattle.comparison.proofs.Prelude.{◌∙◌, ◌∷◌, ap}
 use Rattle.comparison.proofs.EqualLemmas.{first_is, none_is}
 use Rattle.comparison.proofs.all.differences_but.Goals as goal
 

@@ -1,5 +1,4 @@
-use Rattle.comparison.proofs.Prelude.{◌∙◌, ap, length, sym, arith, Decides-eqb, outline_differences}
-use Rattle.std.proofs.lemmas.List.{nil_from_length}
+use Rattle.comparison.proofs.Prelude.{nil_from_length, ◌∙◌, ap, length, sym, arith, Decides-eqb, outline_differences}
 use Rattle.comparison.proofs.EqualLemmas.{outline_none, outline_some}
 use Rattle.comparison.proofs.all.is_equal.Goals as goal
 

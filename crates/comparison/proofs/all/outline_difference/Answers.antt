@@ -1,5 +1,4 @@
-use Rattle.std.proofs.Common.{◌≡◌, ◌∙◌, List, [], ◌∷◌, take, subst, sym}
-use Rattle.comparison.proofs.Prelude.{IfSome, IfNone, Difference}
+use Rattle.comparison.proofs.Prelude.{◌≡◌, ◌∙◌, List, [], ◌∷◌, take, subst, sym, IfSome, IfNone, Difference}
 use Rattle.comparison.proofs.OutlineLemmas.{outline_counts, outline_user, outline_version}
 use Rattle.comparison.proofs.PaddingLemmas.{parts_differ, parts_same, unzero}
 use Rattle.comparison.proofs.all.outline_difference.Goals as goal

@@ -1,5 +1,4 @@
-use Rattle.std.proofs.Common.{◌≡◌, ◌≢◌, ℕ, List, ap, length, arith, below_more}
-use Rattle.comparison.proofs.Prelude.{Column, TableId, column_at, number_of}
+use Rattle.comparison.proofs.Prelude.{◌≡◌, ◌≢◌, ℕ, List, ap, length, arith, below_more, Column, TableId, column_at, number_of}
 use Rattle.table_schema.specs.declared.column.ColumnKind.TheVariants as kind
 use Rattle.comparison.proofs.same_bytes.has_null_start.Goals as goal
 

@@ -1,5 +1,4 @@
-use Rattle.std.proofs.Common.{ℕ, List, sym, subst}
-use Rattle.comparison.proofs.Prelude.{Decides-eqb, slice_eq-Decides, IsModel}
+use Rattle.comparison.proofs.Prelude.{ℕ, List, sym, subst, Decides-eqb, slice_eq-Decides, IsModel}
 use Rattle.comparison.proofs.AlikeLemmas.{compared}
 use Rattle.comparison.proofs.EqualLemmas.{cells_alike, same_alike}
 use Rattle.comparison.proofs.same_bytes.have_same_root.Goals as goal

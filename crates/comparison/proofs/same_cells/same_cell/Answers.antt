@@ -1,4 +1,4 @@
-use Rattle.std.proofs.Common.{◌∙◌}
+use Rattle.comparison.proofs.Prelude.{◌∙◌}
 use Rattle.comparison.proofs.CellTests.{signatures_tested, values_same}
 use Rattle.comparison.proofs.same_cells.same_cell.Goals as goal
 

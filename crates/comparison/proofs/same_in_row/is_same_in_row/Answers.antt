@@ -1,5 +1,4 @@
-use Rattle.std.proofs.Common.{◌≡◌, List, ℕ, subst, sym}
-use Rattle.comparison.proofs.Prelude.{ColumnKind, Metadata, cell_in, IsModel, IsInHeap, is_same_cell}
+use Rattle.comparison.proofs.Prelude.{◌≡◌, List, ℕ, subst, sym, ColumnKind, Metadata, cell_in, IsModel, IsInHeap, is_same_cell}
 use Rattle.comparison.proofs.ComparedLemmas.{tested_in_row}
 use Rattle.comparison.proofs.same_in_row.is_same_in_row.Goals as goal
 use Rattle.comparison.proofs.same_in_row.is_same_in_row.Goals.{In_ok-same}

@@ -1,4 +1,4 @@
-use Rattle.std.proofs.Common.{Some, true}
+use Rattle.comparison.proofs.Prelude.{Some, true}
 use Rattle.comparison.proofs.ComparedLemmas.{known_is}
 use Rattle.comparison.proofs.same_in_row.known_in_row.Goals as goal
 

@@ -1,4 +1,4 @@
-use Rattle.std.proofs.Common.{◌∙◌, ℕ, List, All, ap, sym, subst, take, drop}
+use Rattle.comparison.proofs.Prelude.{◌∙◌, ℕ, List, All, ap, sym, subst, take, drop}
 use Rattle.comparison.proofs.PaddingLemmas.{IsZero, padded_same, parts_differ, parts_same, unzero}
 use Rattle.comparison.proofs.user_strings.same_padded.Goals as goal
 

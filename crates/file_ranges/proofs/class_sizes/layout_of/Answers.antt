@@ -1,4 +1,4 @@
-use Rattle.std.proofs.Common.{◌+◌, ◌-◌, ◌/◌, arith}
+use Rattle.file_ranges.proofs.Prelude.{◌+◌, ◌-◌, ◌/◌, arith}
 use Rattle.file_ranges.proofs.SizeLemmas.{after_lower, before_higher}
 use Rattle.file_ranges.proofs.class_sizes.layout_of.Goals as goal
 

@@ -1,5 +1,5 @@
 use Rattle.comparison.proofs.IgnoredLemmas.{marked, others_kept}
-use Rattle.std.proofs.Common.{arith}
+use Rattle.comparison.proofs.Prelude.{arith}
 use Rattle.comparison.proofs.ignored.IgnoredColumns.insert.Goals as goal
 
 pub returns-clause-added : goal.returns-clause-added

@@ -1,5 +1,4 @@
-use Rattle.std.proofs.Common.{◌<◌, ℕ, List, ap, length, sym, subst, arith, below_more}
-use Rattle.comparison.proofs.Prelude.{Column, column_at, columns_of, HaveSameHeap}
+use Rattle.comparison.proofs.Prelude.{◌<◌, ℕ, List, ap, length, sym, subst, arith, below_more, Column, column_at, columns_of, HaveSameHeap}
 use Rattle.comparison.proofs.AlikeLemmas.{heap_differs, heap_same}
 use Rattle.comparison.proofs.same_bytes.SameParts.decide.Goals as goal
 
