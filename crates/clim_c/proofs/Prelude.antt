@@ -31,6 +31,4 @@ pub use Rattle.embedding.specs.declared.strong_name.StrongName.{StrongName}
 pub use Rattle.comparison.specs.declared.difference.Difference.{Difference}
 pub use Rattle.c_values.specs.Copies.{IsStrongName}
 pub use Rattle.c_values.specs.declared.cell.ClimCell.{ClimCell}
-pub use Rattle.clim_c.specs.Compared.{IsFirst}
-unfoldable pub use Rattle.clim_c.specs.Compared.{all_differences}
 pub use Rattle.clim_c.specs.Reported.{Reports, ReportsCell}

@@ -38,6 +38,7 @@ pub use Rattle.full_names.specs.RowNames.{IsRowName}
 pub use Rattle.cli_faults.specs.declared.explained.Explanation.{Explanation as Explained}
 pub use Rattle.root_writer.specs.Canonical.{canonical}
 pub use Rattle.embedding.specs.declared.strong_name.StrongName.{StrongName}
+pub use Rattle.comparison.specs.Differences.{first_differences}
 pub use Rattle.c_attributes.specs.Items.{AreItems}
 pub use Rattle.c_attributes.specs.Values.{IsValueAt}
 pub use Rattle.c_values.specs.Cells.{IsCell}
