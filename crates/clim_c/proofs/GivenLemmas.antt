@@ -10,7 +10,7 @@ use Rattle.c_values.specs.declared.cell_kind.CellKind.TheVariants as of
 use Rattle.c_values.specs.Cells.{HasSignatures, IsCell}
 
 -- a text that a heap can store is UTF-8
-utf8_of : (cell : Cell) (text : List ℕ) → cell ≡ says.Text text → IsStorable cell → IsUtf8 text
+pub utf8_of : (cell : Cell) (text : List ℕ) → cell ≡ says.Text text → IsStorable cell → IsUtf8 text
 utf8_of cell text is held = let there = subst IsStorable is held in there.1
 
 -- only a column of signatures shows one

@@ -1,23 +1,20 @@
-use Rattle.clim_c.proofs.Prelude.{◌≤◌, sym, ◌∙◌, arith, TypeDef, cell_in, source_of, rows_in}
+use Rattle.clim_c.proofs.Prelude.{sym, ◌∙◌, arith, TypeDef, cell_columns, cell_in}
 use Rattle.metadata.specs.Lookups.{IsFirstType}
-use Rattle.clim_c.proofs.Texts.{name_is, namespace_is, has_name, has_namespace, some_of, none_of}
+use Rattle.clim_c.proofs.GivenLemmas.{utf8_of}
+use Rattle.clim_c.proofs.FoundLemmas.{some_of, none_of}
 use Rattle.clim_c.proofs.look_ups.clim_find_type.Goals as goal
 
 pub returns-in_default-clause-none : goal.returns-in_default-clause-none
+unfolding cell_columns
 returns-in_default-clause-none c = λ is_open zero model is row there names.
-    let root = c.args.view.now.root.now in
-    let count = c.models_are_read.ensures.count root model is TypeDef in
-    let last : row ≤ rows_in (source_of root) TypeDef = omega (arith, count, there.1) in
-    let cell = c.models_are_read.ensures.cells root model is TypeDef row 1 there.0 last has_name in
-    c.in_default.ensures'.cases.0 (name_is (source_of root) row (cell_in model TypeDef row 1) c.args.name.now cell names.0)
+    let valid = c.models_of_roots_are_valid.ensures c.args.view.now.root.now model is in
+    c.in_default.ensures'.cases.0 (utf8_of (cell_in model TypeDef row 1) c.args.name.now names.0 (valid.cells TypeDef row 1 there (omega arith)).storable)
 
 pub returns-in_default-2-clause-none : goal.returns-in_default-2-clause-none
+unfolding cell_columns
 returns-in_default-2-clause-none c = λ is_open zero model is row there names.
-    let root = c.args.view.now.root.now in
-    let count = c.models_are_read.ensures.count root model is TypeDef in
-    let last : row ≤ rows_in (source_of root) TypeDef = omega (arith, count, there.1) in
-    let cell = c.models_are_read.ensures.cells root model is TypeDef row 2 there.0 last has_namespace in
-    c.in_default.ensures.cases.0 (namespace_is (source_of root) row (cell_in model TypeDef row 2) c.args.namespace.now cell names.1)
+    let valid = c.models_of_roots_are_valid.ensures c.args.view.now.root.now model is in
+    c.in_default.ensures.cases.0 (utf8_of (cell_in model TypeDef row 2) c.args.namespace.now names.1 (valid.cells TypeDef row 2 there (omega arith)).storable)
 
 pub returns-clause-sound : goal.returns-clause-sound
 returns-clause-sound c = λ above model is.
