@@ -26,7 +26,7 @@ pub use Rattle.attribute_values.specs.Values.{AttributeValue}
 pub use Rattle.metadata.specs.Cell.{Sig}
 pub use Rattle.metadata.specs.Lookups.{HasNames, HasRow, IsFirstType}
 pub use Rattle.metadata.specs.Metadata.{Metadata, cell_in, count_in}
-pub use Rattle.metadata.specs.Model.{IsModel}
+pub use Rattle.metadata.specs.Model.{IsModel, IsModelOfFile}
 pub use Rattle.metadata.specs.Rules.{rules_of_file, rules_of_metadata}
 pub use Rattle.metadata.specs.Streams.{root_in}
 pub use Rattle.metadata.specs.Valid.{IsValid}

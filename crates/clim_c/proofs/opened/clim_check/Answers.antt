@@ -1,6 +1,0 @@
-use Rattle.clim_c.proofs.Prelude.{not_there}
-use Rattle.clim_c.proofs.opened.clim_check.Goals as goal
-
-pub returns-in-Err-clause-complete : goal.returns-in-Err-clause-complete
-returns-in-Err-clause-complete c = λ whole.
-    absurd (not_there whole (λ file. not_there file.1 (λ some. c.in-Err.ensures.complete file.0 some.0 some.1)))
