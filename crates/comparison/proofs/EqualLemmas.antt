@@ -1,6 +1,5 @@
 -- Two valid models are equal if and only if nothing differs.
-use Rattle.comparison.proofs.Prelude.{◌≡◌, ◌↔◌, ◌∙◌, ◌<◌, ◌≤◌, ℕ, zero, suc, ◌+◌, ◌-◌, ◌||◌, Bool, true, false, IsTrue, List, [], ◌∷◌, ◌++◌, length, length-append, take, get_or, min, refl, ap, sym, subst, cond, arith, ◌==◌, Option, Some, None, is_some, nil_from_length, Cell, bytes_eq, take_all, IfNone, IfSome, flat_map, range_with_len, Decides-eqb, bytes_eq-Decides, TableId, Module, tables, table_index_of, cell_count, Metadata, cell_in, count_in, IsValid, Difference, IgnoredColumns, is_ignored, is_same_cell, cell_difference, cell_differences_but, count_difference, first_differences_but, outline_differences, row_differences, table_differences, user_difference, version_difference}
-use Rattle.std.proofs.lemmas.List.FromFn.{get_or-range_with_len, length-range_with_len}
+use Rattle.comparison.proofs.Prelude.{◌≡◌, ◌↔◌, ◌∙◌, ◌<◌, ◌≤◌, ℕ, zero, suc, ◌+◌, ◌-◌, ◌||◌, Bool, true, false, IsTrue, List, [], ◌∷◌, ◌++◌, length, length-append, take, get_or, min, refl, ap, sym, subst, cond, arith, ◌==◌, Option, Some, None, is_some, nil_from_length, Cell, bytes_eq, take_all, IfNone, IfSome, flat_map, range_with_len, Decides-eqb, bytes_eq-Decides, TableId, Module, tables, table_index_of, cell_count, Metadata, cell_in, count_in, IsValid, Difference, IgnoredColumns, is_ignored, is_same_cell, cell_difference, cell_differences_but, count_difference, first_differences_but, outline_differences, row_differences, table_differences, user_difference, version_difference, cond-true, get_or-range_with_len, length-range_with_len}
 use Rattle.metadata.specs.Lookups.{HasRow}
 use Rattle.metadata.specs.Same.{SaysSame}
 use Rattle.comparison.specs.declared.difference.Difference.TheVariants as difference
@@ -44,10 +43,6 @@ all_nothing_in f a (suc n) none =
     ap (λ xs. xs ++ flat_map f (range_with_len (a + 1) n)) (none a (omega arith) (omega arith))
     ∙ all_nothing_in f (a + 1) n (λ m low high. none m (omega (arith, low)) (omega (arith, high)))
 
--- a test that holds adds nothing
-pub adds_nothing : {X : Type 0} (test : Bool) (x : X) → test ≡ true → cond test [] (x ∷ []) ≡ []
-adds_nothing test x is = ap (λ t. cond t [] (x ∷ [])) is
-
 -- a column is ignored, or its cells are the same
 pub either_holds : (ignored same : Bool) → (ignored ≡ false → same ≡ true) → (ignored || same) ≡ true
 either_holds true same holds = refl
@@ -68,7 +63,7 @@ module _ (tested : (a b : Cell) → IsTrue (is_same_cell a b) ↔ (a ≡ b)) (ig
       all_nothing_in (cell_difference ignored first second table row) 0 (cell_count table) (λ cell_index low high.
       let left = cell_in first table row cell_index in
       let right = cell_in second table row cell_index in
-      adds_nothing (is_ignored ignored table cell_index || is_same_cell left right) (difference.Cell table row cell_index)
+      cond-true (is_ignored ignored table cell_index || is_same_cell left right) [] (difference.Cell table row cell_index ∷ [])
       (either_holds (is_ignored ignored table cell_index) (is_same_cell left right) (λ kept. (tested left right).1 (same cell_index (omega (arith, high)) kept))))
 
   pub table_nothing : (table : TableId)
