@@ -10,9 +10,7 @@ module _ (comparison : Comparison) where
       → Extends comparison progress.found.items progress more
   nothing_found progress more is none = record {
     progress = is;
-    found = λ first second one other.
-        subst (λ (xs : List Difference). Grows comparison.limit progress.found.items progress.found.items xs) (sym (none first second one other))
-        (grows_nothing comparison.limit progress.found.items is.few);
+    found = λ first second one other. rw (none first second one other) (grows_nothing comparison.limit progress.found.items is.few);
   }
 
   -- there is no room for more
@@ -39,9 +37,7 @@ module _ (comparison : Comparison) where
           few = rw grown fits;
           there = subst (All (IsThere comparison.left.now comparison.right.now)) (sym grown) (All-push (IsThere comparison.left.now comparison.right.now) progress.found.items one is.there there);
         };
-        found = λ first second model other.
-            subst (λ (xs : List Difference). Grows comparison.limit progress.found.items after.found.items xs) (sym (differs first second model other))
-            (grown ∙ sym (take_all comparison.limit (progress.found.items ++ one ∷ []) fits));
+        found = λ first second model other. rw (differs first second model other) (grown ∙ sym (take_all comparison.limit (progress.found.items ++ one ∷ []) fits));
       }
 
   -- one part after another
@@ -51,8 +47,7 @@ module _ (comparison : Comparison) where
   found_more before between after some more all is also parts = record {
     progress = also.progress;
     found = λ first second one other.
-        subst (λ (xs : List Difference). Grows comparison.limit before after.found.items xs) (sym (parts first second))
-        (grows_more comparison.limit before between.found.items after.found.items (some first second) (more first second)
+        rw (parts first second) (grows_more comparison.limit before between.found.items after.found.items (some first second) (more first second)
         (is.found first second one other) (also.found first second one other));
   }
 
@@ -62,8 +57,7 @@ module _ (comparison : Comparison) where
       → Extends comparison before after all
   found_as before after some all is same = record {
     progress = is.progress;
-    found = λ first second one other.
-        subst (λ (xs : List Difference). Grows comparison.limit before after.found.items xs) (same first second one other) (is.found first second one other);
+    found = λ first second one other. rw (← same first second one other) (is.found first second one other);
   }
 
 -- a cell that is not ignored differs, or is the same

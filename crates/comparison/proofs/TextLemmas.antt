@@ -60,6 +60,4 @@ module _ (tested : (first second : Cell) → IsTrue (is_same_cell first second) 
       → IfSome found (λ noted. AreSameTexts heap other noted.left noted.right noted.count) → IfSome found (IsNoted left right table)
   any_noted left right heap other cell_index None lt is_text heap_is other_is same texts = tt
   any_noted left right heap other cell_index (Some noted) lt is_text heap_is other_is same texts =
-      texts_noted left right noted (subst (λ (i : ℕ). i < cell_count table) (sym same.0) lt) (ap (kind_at table) same.0 ∙ is_text) same.1
-      (subst (λ (l : List ℕ). AreSameTexts l (source_of right).texts noted.left noted.right noted.count) heap_is
-      (subst (λ (l : List ℕ). AreSameTexts heap l noted.left noted.right noted.count) other_is texts))
+      texts_noted left right noted (rw same.0 lt) (rw same.0 is_text) same.1 (rw (← heap_is, ← other_is) texts)
