@@ -18,39 +18,7 @@ outcomes_after left right table before after key noted updated blobs was is = (
     go other more true found = let one : noted ≡ more = cc found in subst (IsNoted left right table) one is
     go other more false found = was.0 other more found
 
--- what was noted of numbers, and of the next ones
-pub noted_of : (left right : List ℕ) (table : TableId) (compared : ComparedCells) (key : ℕ × ℕ × ℕ) (noted : Outcome) (cell_index m n : ℕ) → outcome_at compared key ≡ Some noted
-    → (cell_index ≡ noted.cell_index) × ((k : ℕ) × (k < noted.count) × (m ≡ noted.left + k) × (n ≡ noted.right + k))
-    → AreOutcomes left right table compared → IsOutcome left right table cell_index m n noted.same
-noted_of left right table compared key noted cell_index m n found is all = let of = is.1 in rw (is.0, of.2, of.3) (all.0 key noted found of.0 of.1)
-
--- what is noted of two numbers alone
-pub one_noted : (left right : List ℕ) (table : TableId) (cell_index m n : ℕ) (same : Bool) → IsOutcome left right table cell_index m n same
-    → (k : ℕ) → k < 1 → IsOutcome left right table cell_index (m + k) (n + k) same
-one_noted left right table cell_index m n same is k h =
-    let first : m + k ≡ m = omega (arith, h) in
-    let second : n + k ≡ n = omega (arith, h) in
-    rw (first, second) is
-
--- what was noted of the numbers of a row is so in this row
-pub known_is : (left right : List ℕ) (table : TableId) (row cell_index m n : ℕ) (found : Option Bool) → IfSome found (IsOutcome left right table cell_index m n)
-    → IsInBoth left right table row → m ≡ number_of (source_of left) table row (column_of table cell_index) → n ≡ number_of (source_of right) table row (column_of table cell_index)
-    → (first second : Metadata) → IsModel left first → IsModel right second
-    → IfSome found (λ same. same ≡ is_same_cell (cell_in first table row cell_index) (cell_in second table row cell_index))
-known_is left right table row cell_index m n None is row_in m_is n_is first second one two = tt
-known_is left right table row cell_index m n (Some same) is row_in m_is n_is first second one two =
-    is first second one two row row_in.first row_in.left_last row_in.right_last (sym m_is) (sym n_is)
-
 -- ---- cells
-
--- the test of two values is that of the cells that they stand for
-pub tested_in_row : (kind : ColumnKind) (table : TableId) (row cell_index : ℕ) (left_value right_value : CellRef) (left right : List ℕ) (same : Bool) → kind ≡ kind_at table cell_index
-    → ((model : Metadata) → IsModel left model → ShowsCell table cell_index left_value (cell_in model table row cell_index))
-    → ((model : Metadata) → IsModel right model → ShowsCell table cell_index right_value (cell_in model table row cell_index))
-    → ((first second : Cell) → Shows kind left_value first → Shows kind right_value second → same ≡ is_same_cell first second)
-    → (first second : Metadata) → IsModel left first → IsModel right second → same ≡ is_same_cell (cell_in first table row cell_index) (cell_in second table row cell_index)
-tested_in_row kind table row cell_index left_value right_value left right same kind_is shown also_shown tested first second is also =
-    (rw kind_is at tested) (cell_in first table row cell_index) (cell_in second table row cell_index) (shown first is) (also_shown second also)
 
 -- the cell of an index of a heap does not depend on the row
 of_any_row : (source : Source) (column : ColumnKind) (nullable : Bool) (start other : TableId → ℕ) (number : ℕ) (cell : Cell) → IsInHeap column

@@ -6,6 +6,7 @@ pub use Rattle.std.proofs.lemmas.Bool.Decides.{Decides-eqb, Decides-like, same_f
 pub use Rattle.std.proofs.lemmas.Grind.{flat_map-append}
 pub use Rattle.std.proofs.lemmas.List.{take_all, take-append-le, get_or-set_same, get_or-set_other, take-append-drop, length-replicate, length-take, replicate-append-replicate, drop-drop, drop-take, get_or-drop, nil_from_length, take_more, flat_map_more, map-id}
 pub use Rattle.std.proofs.lemmas.List.FromFn.{map-range_with_len_more, get_or-range_with_len, length-range_with_len}
+pub use Rattle.std.proofs.lemmas.Option.{IfSome_then}
 pub use Rattle.std.proofs.lemmas.Result.{IfOk-weaker, on_ok_weaker}
 pub use Rattle.std.proofs.lemmas.Slice.Eq.{bytes_eq-Decides, slice_eq-Decides}
 pub use Rattle.std.specs.Bool.{Decides}
