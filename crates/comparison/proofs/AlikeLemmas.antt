@@ -12,10 +12,6 @@ use Rattle.reading.specs.RowBytes.{AreRowBytes}
 use Rattle.comparison.specs.declared.same_bytes.SameParts.{SameParts}
 use Rattle.comparison.proofs.EqualLemmas.{row_nothing, table_nothing}
 
--- a test of two values is one of what they are equal to
-pub compared : (xs ys left right : List ℕ) (test : Bool) → Decides test (xs ≡ ys) → xs ≡ left → ys ≡ right → IsTrue test ↔ (left ≡ right)
-compared xs ys left right test decides here there = ((λ is. sym here ∙ decides.0 is ∙ there), (λ same. decides.1 (here ∙ same ∙ sym there)))
-
 -- ---- heaps
 
 module _ (same : SameParts) (left right : Source) (parts : AreSameParts left right same) where
@@ -25,12 +21,6 @@ module _ (same : SameParts) (left right : Source) (parts : AreSameParts left rig
   heap_tested kind.Blob = parts.blobs
   heap_tested (kind.Signature encoded) = parts.blobs
   heap_tested _ = ((λ is. tt), (λ is. refl))
-
-  pub heap_same : (column : ColumnKind) (test : Bool) → test ≡ has_same_heap same column → test ≡ true → HaveSameHeap left right column
-  heap_same column test is holds = (heap_tested column).0 (sym is ∙ holds)
-
-  pub heap_differs : (column : ColumnKind) (test : Bool) → test ≡ has_same_heap same column → test ≡ false → HaveSameHeap left right column → ⊥
-  heap_differs column test is differs alike = let same = is ∙ (heap_tested column).1 alike in cc
 
 -- ---- numbers
 

@@ -2,7 +2,6 @@
 use Rattle.comparison.proofs.Prelude.{◌≡◌, ◌∙◌, ◌+◌, ◌≤◌, ◌<◌, ◌++◌, ℕ, Bool, true, false, List, Option, Some, None, ap, ap₂, sym, subst, cond, arith, Cell, IfSome, TableId, ColumnKind, column_at, cell_count, column_of, Metadata, cell_in, IsModel, IsCell, Source, number_of, rows_in, source_of, StandsFor, start_of, kind_at, Shows, ShowsCell, CellRef, row_count, AreBlobNames, Outcome, AreOutcomes, IsInBoth, IsInHeap, IsNoted, IsOutcome, key_cmp, outcome_at, is_same_cell}
 use Rattle.std.specs.Ordering.{is_eq}
 use Rattle.table_schema.specs.declared.column.ColumnKind.TheVariants as kind
-use Rattle.comparison.specs.declared.blob_names.BlobNames.{BlobNames}
 use Rattle.comparison.specs.declared.compared_cells.ComparedCells.{ComparedCells}
 
 -- what was noted before and what is noted now
@@ -11,7 +10,7 @@ pub outcomes_after : (left right : List ℕ) (table : TableId) (before after : C
     → after.blobs ≡ before.blobs → AreOutcomes left right table before → IsNoted left right table noted → AreOutcomes left right table after
 outcomes_after left right table before after key noted updated blobs was is = (
   λ other more found. go other more (is_eq (key_cmp key other)) (sym (updated other) ∙ found),
-  subst (λ (names : BlobNames). AreBlobNames ((source_of left).blobs ++ (source_of right).blobs) names) (sym blobs) was.1,
+  rw blobs was.1,
 )
   where
     go : (other : ℕ × ℕ × ℕ) (more : Outcome) (same : Bool) → cond same (Some noted) (outcome_at before other) ≡ Some more → IsNoted left right table more
