@@ -74,7 +74,3 @@ parts_differ xs ys other tested is same = let equal = ap not ((pointwise_decides
 
 pub parts_same : (xs ys : List ℕ) (other : Bool) → other ≡ not (pointwise eqb xs ys) → other ≡ false → xs ≡ ys
 parts_same xs ys other tested is = (pointwise_decides Decides-eqb xs ys).0 (not-false _ (sym tested ∙ is))
-
-pub unzero : {b : Bool} → IsTrue b → b ≡ false → ⊥
-unzero {b = true} is test = cc
-unzero {b = false} is test = cc

@@ -1,6 +1,6 @@
-use Rattle.comparison.proofs.Prelude.{◌≡◌, ◌∙◌, List, [], ◌∷◌, take, subst, sym, IfSome, IfNone, Difference}
+use Rattle.comparison.proofs.Prelude.{both_ways, ◌≡◌, ◌∙◌, List, [], ◌∷◌, take, subst, sym, IfSome, IfNone, Difference}
 use Rattle.comparison.proofs.OutlineLemmas.{outline_counts, outline_user, outline_version}
-use Rattle.comparison.proofs.PaddingLemmas.{parts_differ, parts_same, unzero}
+use Rattle.comparison.proofs.PaddingLemmas.{parts_differ, parts_same}
 use Rattle.comparison.proofs.all.outline_difference.Goals as goal
 
 pub returns-then-ne-clause-first : goal.returns-then-ne-clause-first
@@ -12,7 +12,7 @@ pub returns-then-not-same_padded-clause-first : goal.returns-then-not-same_padde
 returns-then-not-same_padded-clause-first c = λ first second is also.
     let versions = sym (c.version.ensures first is) ∙ parts_same c.version.result.now c.version-2.result.now c.ne.result c.ne.ensures c.if-ne.false ∙ c.version-2.ensures second also in
     outline_user first second versions
-    (λ same. unzero (c.same_padded.ensures.1 (c.user.ensures.model first is ∙ same ∙ sym (c.user-2.ensures.model second also))) c.if-not-same_padded.true)
+    (λ same. both_ways _ c.if-not-same_padded.true (c.same_padded.ensures.1 (c.user.ensures.model first is ∙ same ∙ sym (c.user-2.ensures.model second also))))
 
 pub returns-clause-first : goal.returns-clause-first
 returns-clause-first c = λ first second is also.

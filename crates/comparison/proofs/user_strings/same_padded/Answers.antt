@@ -1,5 +1,5 @@
-use Rattle.comparison.proofs.Prelude.{◌∙◌, ℕ, List, All, ap, sym, subst, take, drop}
-use Rattle.comparison.proofs.PaddingLemmas.{IsZero, padded_same, parts_differ, parts_same, unzero}
+use Rattle.comparison.proofs.Prelude.{both_ways, ◌∙◌, ℕ, List, All, ap, sym, subst, take, drop}
+use Rattle.comparison.proofs.PaddingLemmas.{IsZero, padded_same, parts_differ, parts_same}
 use Rattle.comparison.proofs.user_strings.same_padded.Goals as goal
 
 pub returns-then-group_count : goal.returns-then-group_count
@@ -18,7 +18,7 @@ pub returns-then-not-are_zeros : goal.returns-then-not-are_zeros
 returns-then-not-are_zeros c =
     let parts = padded_same c.args.left.now c.args.right.now c.group_count.result c.group_count-2.result c.group_count.ensures c.group_count-2.ensures in
     let left = c.split_at.ensures.back ∙ ap (λ n. drop n c.args.left.now) c.min-common.ensures in
-    ((λ is. cc), (λ same. absurd (unzero (c.are_zeros.ensures.1 (subst (λ (xs : List ℕ). All IsZero xs) (sym left) (parts.1 same).2)) c.if-not-are_zeros.true)))
+    ((λ is. cc), (λ same. absurd (both_ways _ c.if-not-are_zeros.true (c.are_zeros.ensures.1 (subst (λ (xs : List ℕ). All IsZero xs) (sym left) (parts.1 same).2)))))
 
 pub returns : goal.returns
 returns c =
