@@ -30,7 +30,9 @@ returns-clause-sound c =
       has = record {
         column_there = index.0;
         from = omega (arith, start, c.if-offset-start.false);
-        cell = rw (sizes, start) at (rw index.1 c.in_ok-cell.ensures.sound);
+        cell =
+            let found : HasCell c.layout_of-layout.result cell.table cell.row (column_of cell.table c.in_ok-column.column) (c.args.offset - c.tables_of-start.result.1) = rw index.1 c.in_ok-cell.ensures.sound in
+            rw (sizes, start) at found;
       };
       start = λ i. start i + (c.cell_start.ensures.value ∙ (λ j. cell_start (sizes j) cell.table cell.row (sym index.1 j))) i;
       size = c.cell_width.ensures.value ∙ (λ i. cell_width (sizes i) cell.table (sym index.1 i));
