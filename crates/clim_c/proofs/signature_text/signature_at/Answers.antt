@@ -1,6 +1,6 @@
-use Rattle.clim_c.proofs.Prelude.{rules, ◌≡◌, column_at, column_of, cell_in, source_of}
+use Rattle.clim_c.proofs.Prelude.{rules, ◌≡◌, column_at, column_of, cell_in, row_count}
 use Rattle.table_schema.specs.declared.column.ColumnKind.TheVariants.{Signature}
-use Rattle.clim_c.proofs.SignatureLemmas.{no_other_value, row_within}
+use Rattle.clim_c.proofs.SignatureLemmas.{no_other_value}
 use Rattle.clim_c.proofs.signature_text.signature_at.Goals as goal
 
 pub returns-in-Sig-clause-shown : goal.returns-in-Sig-clause-shown
@@ -9,12 +9,11 @@ returns-in-Sig-clause-shown c = λ model is.
     rw kind at (c.in-Sig.ensures.cell model is)
 
 pub returns-in_default-cell : goal.returns-in_default-cell
+unfolding row_count
 returns-in_default-cell c = record {
   kind = tt;
   shown = λ model is. tt;
   none = λ model is sig_kind same.
-      let last = row_within c.args.seen.now c.args.table c.args.row c.requires.last in
-      let stands = c.models_are_read.ensures.cells c.args.seen.now model is c.args.table c.args.row c.args.column c.requires.first last c.requires.column in
-      no_other_value (source_of c.args.seen.now) c.args.table c.args.row c.args.column sig_kind (cell_in model c.args.table c.args.row c.args.column)
-      c.cell.result same stands (c.cell.ensures.cell model is) c.in_default-cell.not-Sig;
+      let stands = rw same at (c.models_are_read.ensures.cells c.args.seen.now model is c.args.table c.args.row c.args.column c.requires.first c.requires.last c.requires.column) in
+      no_other_value _ stands.1 c.cell.result (cell_in model c.args.table c.args.row c.args.column) stands.5 (c.cell.ensures.cell model is) c.in_default-cell.not-Sig;
 }
