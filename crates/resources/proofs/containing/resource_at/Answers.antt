@@ -5,11 +5,10 @@ use Rattle.resources.proofs.containing.resource_at.Goals as goal
 pub loop-row-preserved : goal.loop-row-preserved
 loop-row-preserved c = λ file header model of is earlier first before has.
     let row = c.loop-row.row in
-    let At : ℕ → Type 0 = λ r. HasByte file header model r c.args.offset in
     ⊎_elim (λ (lt : earlier < row). c.loop-row.invariant file header model of is earlier first lt has)
     (λ (le : row ≤ earlier).
     let same : earlier ≡ row = omega arith in
-    let found : c.contains.result ≡ true = (c.contains.ensures file header model of is).1 (subst At same has) in
+    let found : c.contains.result ≡ true = (c.contains.ensures file header model of is).1 (rw same at has) in
     let none = c.if-contains.false in
     absurd cc)
     (cases_lt earlier row)

@@ -6,8 +6,7 @@ returns-in_default c = λ start bytes is. c.in_default.ensures.complete is.image
 
 pub returns-in_default-range : goal.returns-in_default-range
 returns-in_default-range c = λ start bytes is.
-    let At : Image → Type 0 = λ image. IsFileOffset image c.args.header.now.resources.rva c.args.header.now.resources.size start in
-    c.in_default-range.ensures.complete start (subst At (sym (c.in-Ok.ensures.complete is.image is.is_image)) is.named)
+    c.in_default-range.ensures.complete start (rw (c.in-Ok.ensures.complete is.image is.is_image) is.named)
 
 pub returns : goal.returns
 returns c =
