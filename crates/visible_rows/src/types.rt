@@ -7,7 +7,7 @@ ghost use Rattle.metadata.specs.Model.{IsModel};
 ghost use Rattle.opening.specs.Views.{row_count};
 ghost use Rattle.visible_rows.specs.Visible.{AreVisibleTypes, is_visible_type, outer_of};
 
-use crate::access::{access, is_open_nested, is_public};
+use crate::access::{access, is_visible_by};
 use crate::outers::outers_of;
 use opening::{TableId, View};
 use std::alloc::{AllocError, Global};
@@ -35,7 +35,7 @@ fn is_visible_type(view: &View<'_>, outer: u32, earlier: &[bool], row: u32) -> b
 {
     metadata::laws::models_of_roots_are_valid();
     let access = access(view, TableId::TypeDef, row, FLAGS);
-    is_public(access) || is_open_nested(access) && is_known(earlier, outer)
+    is_visible_by(access, is_known(earlier, outer))
 }
 
 /// Whether each type is visible, in the order of the rows: a type comes after the one that encloses it. The first result is that
