@@ -19,10 +19,7 @@ const FLAGS: usize = 0;
 fn is_known(earlier: &[bool], row: u32) -> bool
     ensures { result ≡ slice_index_or earlier.now row false }
 {
-    match earlier.get(row as usize) {
-        Some(visible) => *visible,
-        None => false,
-    }
+    earlier.get(row as usize).copied().unwrap_or(false)
 }
 
 /// Whether a type is visible, by the type that encloses it, and what is known of the rows before.
