@@ -1,5 +1,5 @@
 -- Why there is no root.
-use Rattle.c_values.proofs.Prelude.{◌≡◌, ℕ, ◌+◌, ◌^◌, ◌<◌, List, ◌∷◌, ◌++◌, length, take, drop, get_or, inl, inr, refl, sym, ap, ◌∙◌, add-one, take-append-drop, FirstBroken, TableId, table_number, Cell, Metadata, IsValid, Refusal, canonical, ClimCell, ClimRow, NoRoot, IsCell, IsFormed, IsGiven, IsNoRoot, IsRefused, MatchNoRoot, refusal_at, rules_of_cell}
+use Rattle.c_values.proofs.Prelude.{◌≡◌, ℕ, ◌+◌, ◌^◌, ◌<◌, List, ◌∷◌, ◌++◌, length, take, drop, get_or, sym, ap, ◌∙◌, add-one, take-append-drop, Metadata, IsValid, Refusal, canonical, ClimRow, NoRoot, IsGiven, IsNoRoot, IsRefused, MatchNoRoot}
 use Rattle.std.proofs.Math.Seq.{drop-cons}
 use Rattle.c_values.specs.declared.no_root.NoRoot.TheVariants.{Refused, TooLong, Memory}
 

@@ -1,5 +1,5 @@
 -- Rows of the same bytes have the same numbers, and equal numbers that are read alike stand for equal cells.
-use Rattle.comparison.proofs.Prelude.{◌≡◌, ◌≢◌, ◌↔◌, ◌∙◌, ◌<◌, ◌≤◌, inl, inr, ℕ, zero, suc, ◌+◌, ◌-◌, ◌*◌, ◌==◌, Bool, true, false, IsTrue, List, [], ◌∷◌, length, take, refl, ap, ap₂, sym, subst, cond, arith, sum_by, Cell, Start, Decides, AllByRecursion, ne_eqb, TableId, Token, Column, ColumnKind, column_at, columns_of, cell_count, column_of, IsText, IsBlob, IsGuid, tokens, Sizes, SameCounts, width_of, Metadata, cell_in, count_in, start_from, start_of, Refers, StandsFor, IsCell, IgnoredColumns, AreAlike, AreSameParts, HaveSameHeap, HaveSameNumbers, has_same_heap, row_differences, table_differences, is_same_cell}
+use Rattle.comparison.proofs.Prelude.{◌≡◌, ◌≢◌, ◌↔◌, ◌∙◌, ◌<◌, ◌≤◌, inl, inr, ℕ, zero, suc, ◌+◌, ◌-◌, ◌*◌, ◌==◌, Bool, IsTrue, List, [], ◌∷◌, length, take, refl, ap, ap₂, sym, subst, cond, arith, sum_by, Cell, Start, AllByRecursion, ne_eqb, TableId, Token, Column, ColumnKind, column_at, columns_of, cell_count, column_of, IsText, IsBlob, IsGuid, tokens, Sizes, SameCounts, width_of, Metadata, cell_in, count_in, start_from, start_of, Refers, StandsFor, IsCell, IgnoredColumns, AreAlike, AreSameParts, HaveSameHeap, HaveSameNumbers, has_same_heap, row_differences, table_differences, is_same_cell}
 use Rattle.std.proofs.Math.Path.{fun_ext}
 use Rattle.packed.specs.Number.{little_endian}
 use Rattle.packed.specs.Offsets.{part}

@@ -1,5 +1,5 @@
 -- What a part of a comparison adds to the cells that were found.
-use Rattle.comparison.proofs.Prelude.{◌≡◌, ◌||◌, ◌∙◌, ◌≤◌, ℕ, ◌+◌, Bool, true, false, List, [], ◌∷◌, ◌++◌, All, length, length-append, take, min, ◌≢◌, ap, sym, subst, cond, arith, All-push, IsThere, flat_map, range_with_len, take_all, TableId, tables, cell_count, Metadata, cell_in, count_in, IsModel, Difference, IgnoredColumns, is_ignored, is_same_cell, Comparison, Progress, Extends, IsProgress, Grows, cell_difference, cell_differences_but, row_differences, table_differences}
+use Rattle.comparison.proofs.Prelude.{◌≡◌, ◌||◌, ◌∙◌, ◌≤◌, ℕ, ◌+◌, Bool, true, false, List, [], ◌∷◌, ◌++◌, All, length, length-append, take, min, ◌≢◌, ap, sym, subst, cond, arith, All-push, IsThere, flat_map, range_with_len, take_all, TableId, tables, cell_count, Metadata, cell_in, count_in, IsModel, Difference, IgnoredColumns, is_ignored, is_same_cell, Comparison, Progress, Extends, IsProgress, cell_difference, cell_differences_but, row_differences, table_differences}
 use Rattle.comparison.specs.declared.difference.Difference.TheVariants.{Cell}
 use Rattle.comparison.proofs.GrowthLemmas.{grows_full, grows_more, grows_nothing}
 

@@ -1,5 +1,5 @@
 -- What is noted of two cells is so in each row with the same numbers.
-use Rattle.comparison.proofs.Prelude.{◌≡◌, ◌∙◌, ◌+◌, ◌≤◌, ◌<◌, ◌++◌, ℕ, Bool, true, false, List, Option, Some, None, ap, ap₂, sym, subst, cond, arith, Cell, IfSome, TableId, ColumnKind, column_at, cell_count, column_of, Metadata, cell_in, IsModel, IsCell, Source, number_of, rows_in, source_of, StandsFor, start_of, kind_at, Shows, ShowsCell, CellRef, row_count, AreBlobNames, Outcome, AreOutcomes, IsInBoth, IsInHeap, IsNoted, IsOutcome, key_cmp, outcome_at, is_same_cell}
+use Rattle.comparison.proofs.Prelude.{◌≡◌, ◌∙◌, ◌≤◌, ◌<◌, ℕ, Bool, true, false, List, Some, ap₂, sym, subst, cond, Cell, TableId, ColumnKind, column_at, cell_count, column_of, Metadata, cell_in, IsModel, IsCell, Source, number_of, rows_in, source_of, StandsFor, start_of, kind_at, row_count, Outcome, AreOutcomes, IsInBoth, IsInHeap, IsNoted, IsOutcome, key_cmp, outcome_at, is_same_cell}
 use Rattle.std.specs.Ordering.{is_eq}
 use Rattle.table_schema.specs.declared.column.ColumnKind.TheVariants as kind
 use Rattle.comparison.specs.declared.compared_cells.ComparedCells.{ComparedCells}

@@ -1,5 +1,5 @@
 -- Bytes that are equal once they are padded with zeros.
-use Rattle.comparison.proofs.Prelude.{Bool, IsTrue, true, false, not, eqb, ◌≡◌, ◌↔◌, ◌∙◌, ℕ, suc, ◌+◌, ◌-◌, ◌*◌, ◌%◌, List, [], ◌∷◌, ◌++◌, All, length, take, drop, min, replicate, refl, ap, ap₂, sym, subst, append_assoc, arith, length-append, All-replicate, All-take, All-nil, not-false, take-append_seam, drop-append_seam, length-replicate, length-take, replicate-append-replicate, take-append-drop, Decides-eqb}
+use Rattle.comparison.proofs.Prelude.{Bool, true, false, not, eqb, ◌≡◌, ◌↔◌, ◌∙◌, ℕ, suc, ◌+◌, ◌-◌, ◌*◌, ◌%◌, List, [], ◌∷◌, ◌++◌, All, length, take, drop, min, replicate, refl, ap, ap₂, sym, subst, append_assoc, arith, length-append, All-replicate, All-take, All-nil, not-false, take-append_seam, drop-append_seam, length-replicate, length-take, replicate-append-replicate, take-append-drop, Decides-eqb}
 use Rattle.std.specs.Cmp.Lexicographic.{pointwise, pointwise_decides}
 use Rattle.heap_entries.specs.Padding.{zero_padded}
 

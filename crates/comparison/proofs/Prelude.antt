@@ -40,13 +40,13 @@ pub use Rattle.metadata.specs.Starts.{start_from}
 unfoldable pub use Rattle.metadata.specs.Starts.{start_of}
 pub use Rattle.metadata.specs.Valid.{kind_at, IsValid}
 pub use Rattle.metadata.specs.Cell.{Cell, Start, Number, Text, Bytes, Guid, Ref, Sig}
-pub use Rattle.reading.specs.Shown.{Shows, ShowsSignature, ShowsCell}
+pub use Rattle.reading.specs.Shown.{Shows, ShowsSignature}
 pub use Rattle.reading.specs.declared.cell_ref.CellRef.{CellRef}
 unfoldable pub use Rattle.opening.specs.Views.{row_count}
 pub use Rattle.comparison.specs.Alike.{AreAlike, AreSameParts, HaveSameHeap, HaveSameNumbers, has_same_heap}
-pub use Rattle.comparison.specs.BlobNames.{AreBlobNames, AreSameBlobs}
+pub use Rattle.comparison.specs.BlobNames.{AreSameBlobs}
 pub use Rattle.comparison.specs.ComparedCells.{AreOutcomes, IsInBoth, IsInHeap, IsNoted, IsOutcome, key_cmp, outcome_at}
-pub use Rattle.comparison.specs.Differences.{cell_difference, count_difference, user_difference, version_difference, Grows, IsThere}
+pub use Rattle.comparison.specs.Differences.{cell_difference, count_difference, user_difference, version_difference, IsThere}
 unfoldable pub use Rattle.comparison.specs.Differences.{row_differences, table_differences, cell_differences_but, first_differences_but, outline_differences}
 pub use Rattle.comparison.specs.Ignored.{AreOthersSame}
 unfoldable pub use Rattle.comparison.specs.Ignored.{is_ignored, no_columns}

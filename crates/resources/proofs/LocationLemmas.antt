@@ -1,5 +1,5 @@
 -- Where a resource is, by what was found of the directory and of its row.
-use Rattle.resources.proofs.Prelude.{◌≡◌, ◌≤◌, ℕ, ◌+◌, List, Option, Some, None, Bool, length, arith, subst, Field, StandAt, AllSay, widths, image_of, Image, IsImage, CliHeader, ManifestResource, Metadata, cell_in, IsContent, IsDirectory, IsLocation, IsStored, Where, here, elsewhere, Directory}
+use Rattle.resources.proofs.Prelude.{◌≡◌, ◌≤◌, ℕ, ◌+◌, List, Option, Some, None, length, arith, Field, StandAt, AllSay, widths, image_of, Image, IsImage, CliHeader, ManifestResource, Metadata, cell_in, IsContent, IsDirectory, IsLocation, IsStored, Where, here, elsewhere, Directory}
 use Rattle.std.specs.Prelude.{IfSome, IsSomeAnd}
 use Rattle.table_schema.specs.declared.token.Token.{Token}
 use Rattle.metadata.specs.Cell.{Number, Ref}

@@ -1,5 +1,5 @@
 -- Types that enclose others, and how deep they are.
-use Rattle.visible_rows.proofs.Prelude.{◌≡◌, ◌∙◌, ◌==◌, ◌&&◌, ◌||◌, ◌≤◌, ◌<◌, ◌+◌, ℕ, zero, suc, List, Bool, true, false, cond, ap, get_or, map, refl, sym, arith, range_with_len, eqb-true, get_or-map-range_with_len, NestedClass, TypeDef, Metadata, cell_in, count_in, IsValid, row_in, access_in, is_open_nested, is_public_type, is_visible_type, is_visible_within, outer_among, outer_of}
+use Rattle.visible_rows.proofs.Prelude.{◌≡◌, ◌∙◌, ◌==◌, ◌&&◌, ◌||◌, ◌≤◌, ◌<◌, ◌+◌, ℕ, zero, suc, List, Bool, true, false, cond, ap, get_or, map, refl, arith, range_with_len, eqb-true, get_or-map-range_with_len, NestedClass, TypeDef, Metadata, cell_in, count_in, IsValid, row_in, access_in, is_open_nested, is_public_type, is_visible_type, is_visible_within, outer_among, outer_of}
 
 module _ (model : Metadata) (valid : IsValid model) where
   -- the test of a row, and what is found by it

@@ -1,4 +1,4 @@
-use Rattle.c_values.proofs.Prelude.{◌+◌, ◌-◌, ◌≤◌, sym, ◌∙◌, arith, column_of, HasCell}
+use Rattle.c_values.proofs.Prelude.{◌+◌, ◌-◌, sym, ◌∙◌, arith, column_of, HasCell}
 use Rattle.schema.specs.Cells.{cell_width}
 use Rattle.schema.specs.Offsets.{cell_start}
 use Rattle.c_values.proofs.located.location_at.Goals as goal

@@ -1,4 +1,4 @@
-use Rattle.comparison.proofs.Prelude.{◌≡◌, List, ℕ, subst, sym, ColumnKind, Metadata, cell_in, IsModel, IsInHeap, is_same_cell}
+use Rattle.comparison.proofs.Prelude.{◌≡◌, subst, ColumnKind, Metadata, cell_in, IsModel, IsInHeap, is_same_cell}
 use Rattle.comparison.proofs.same_in_row.is_same_in_row.Goals as goal
 use Rattle.comparison.proofs.same_in_row.is_same_in_row.Goals.{In_ok-same}
 

@@ -1,4 +1,4 @@
-use Rattle.embedding.proofs.Prelude.{◌≡◌, rules, List, ℕ, min, refl, sym, ap, ◌∙◌, drop, length, replicate, subst, arith, false≢true, not-false, Decides-eqb}
+use Rattle.embedding.proofs.Prelude.{◌≡◌, rules, min, refl, sym, ap, ◌∙◌, length, arith, false≢true, not-false, Decides-eqb}
 use mathlib.Core.Bool.{not}
 use Rattle.std.proofs.lemmas.Slice.Eq.{slice_eq-Decides}
 use Rattle.embedding.proofs.Padded.{padded_alike, same_begin, same_fours, zeros_after}

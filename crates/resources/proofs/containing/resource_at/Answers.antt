@@ -1,4 +1,4 @@
-use Rattle.resources.proofs.Prelude.{◌≡◌, ◌≤◌, ◌<◌, ℕ, true, ⊎_elim, arith, subst, HasByte}
+use Rattle.resources.proofs.Prelude.{◌≡◌, ◌≤◌, ◌<◌, true, ⊎_elim, arith}
 use Rattle.std.proofs.lemmas.Bool.{cases_lt}
 use Rattle.resources.proofs.containing.resource_at.Goals as goal
 

@@ -1,4 +1,4 @@
-use Rattle.resources.proofs.Prelude.{◌≡◌, ◌∙◌, [], ◌∷◌, length, take, ap, arith, subst, sym, literal, part, Image, IsFileOffset}
+use Rattle.resources.proofs.Prelude.{◌≡◌, ◌∙◌, [], ◌∷◌, length, take, ap, arith, sym, literal, part}
 use Rattle.resources.proofs.directory.directory_of.Goals as goal
 
 pub returns-in_default : goal.returns-in_default
