@@ -1,6 +1,6 @@
 -- What several proofs of this crate name of std, of the crates below, and of its own definitions.
-pub use Rattle.std.proofs.Common.{◌≡◌, ℕ, zero, suc, ◌+◌, ◌-◌, ◌/◌, ◌≤◌, ◌<◌, List, Some, None, length, sym, ap, ◌∙◌, arith, subst, inl, inr, refl, ◌^◌, rules, below_more}
-pub use Rattle.std.proofs.lemmas.Bool.{false≢true}
+pub use Rattle.std.proofs.Common.{◌≡◌, ℕ, zero, suc, ◌+◌, ◌-◌, ◌/◌, ◌≤◌, ◌<◌, List, Some, None, length, sym, ap, ◌∙◌, arith, subst, inl, inr, refl, ◌^◌, rules, below_more, ◌==◌, cond, ltb}
+pub use Rattle.std.proofs.lemmas.Bool.{cond-false, cond-true, eq-eqb, false≢true, le-ltb, lt-ltb, ne_eqb}
 pub use Rattle.cli_header.specs.declared.header.CliHeader.{CliHeader}
 pub use Rattle.table_schema.specs.declared.table.TableId.TheVariants.{ClassLayout, MethodDef}
 pub use Rattle.metadata.specs.Source.{Source, rows_in}
