@@ -182,14 +182,6 @@ itself_alike ignored model = record { version = refl; user = refl; counts = λ t
 pub same_alike : (ignored : IgnoredColumns) (first second : Metadata) → first ≡ second → AreEqualBut ignored first second
 same_alike ignored first second is = subst (λ (other : Metadata). AreEqualBut ignored first other) is (itself_alike ignored first)
 
-pub outline_some : (o : Option Difference) (xs : List Difference) → IfSome o (λ one. take 1 xs ≡ one ∷ []) → is_some o ≡ true → xs ≡ [] → ⊥
-outline_some None xs found test none = cc
-outline_some (Some one) xs found test none = let nothing = take_of_nothing 1 xs none in cc
-
-pub outline_none : (o : Option Difference) (xs : List Difference) → IfNone o (xs ≡ []) → is_some o ≡ false → xs ≡ []
-outline_none None xs found test = found
-outline_none (Some one) xs found test = cc
-
 pub first_differs : (ignored : IgnoredColumns) (first second : Metadata) (limit : ℕ) → first_differences_but ignored first second limit ≡ []
     → (outline_differences first second ≡ []) × (take limit (cell_differences_but ignored first second) ≡ [])
 unfolding first_differences_but

@@ -75,11 +75,13 @@ pub fn is_equal(alloc: Global, left: &View<'_>, right: &View<'_>) -> Result<bool
 {
     laws::models_without_differences_are_equal();
     metadata::laws::models_of_roots_are_valid();
-    if outline_difference(left, right).is_some() {
-        return Ok(false);
+    match outline_difference(left, right) {
+        Some(_) => Ok(false),
+        None => {
+            let found = differing_cells(alloc, left, right, 1)?;
+            Ok(found.is_empty())
+        }
     }
-    let found = differing_cells(alloc, left, right, 1)?;
-    Ok(found.is_empty())
 }
 
 /// The first of these that differs between two views: the version, the user strings, and the numbers of rows in the
