@@ -176,11 +176,8 @@ module _ (ignored : IgnoredColumns) (none : (table : TableId) (cell_index : ℕ)
         alike.cells table row cell_index has within (none table cell_index within);
   }
 
-itself_alike : (ignored : IgnoredColumns) (model : Metadata) → AreEqualBut ignored model model
-itself_alike ignored model = record { version = refl; user = refl; counts = λ table. refl; cells = λ table row cell_index has lt kept. refl }
-
 pub same_alike : (ignored : IgnoredColumns) (first second : Metadata) → first ≡ second → AreEqualBut ignored first second
-same_alike ignored first second is = subst (λ (other : Metadata). AreEqualBut ignored first other) is (itself_alike ignored first)
+same_alike ignored first second is = rw is (record { version = refl; user = refl; counts = λ table. refl; cells = λ table row cell_index has lt kept. refl })
 
 pub first_differs : (ignored : IgnoredColumns) (first second : Metadata) (limit : ℕ) → first_differences_but ignored first second limit ≡ []
     → (outline_differences first second ≡ []) × (take limit (cell_differences_but ignored first second) ≡ [])
@@ -195,13 +192,3 @@ pub first_nothing_differs : (ignored : IgnoredColumns) (first second : Metadata)
 unfolding first_differences_but
 first_nothing_differs ignored first second limit none also =
     ap (λ (xs : List Difference). take 1 xs ++ take limit (cell_differences_but ignored first second)) none ∙ also
-
--- the differences, by the first one besides cells
-pub first_is : (ignored : IgnoredColumns) (first second : Metadata) (limit : ℕ) (one : Difference) → take 1 (outline_differences first second) ≡ one ∷ []
-    → one ∷ take limit (cell_differences_but ignored first second) ≡ first_differences_but ignored first second limit
-unfolding first_differences_but
-first_is ignored first second limit one is = ap (λ (xs : List Difference). xs ++ take limit (cell_differences_but ignored first second)) (sym is)
-
-pub none_is : (ignored : IgnoredColumns) (first second : Metadata) (limit : ℕ) → outline_differences first second ≡ [] → take limit (cell_differences_but ignored first second) ≡ first_differences_but ignored first second limit
-unfolding first_differences_but
-none_is ignored first second limit none = ap (λ (xs : List Difference). take 1 xs ++ take limit (cell_differences_but ignored first second)) (sym none)
