@@ -1,5 +1,4 @@
-use Rattle.std.proofs.Common.{◌∙◌, ap, sym}
-use Rattle.declaring_types.specs.Declaring.{or_itself}
+use Rattle.declaring_types.proofs.Prelude.{◌∙◌, ap, sym, or_itself}
 use Rattle.declaring_types.proofs.described.described.Goals as goal
 
 pub returns-in-Some-clause-value : goal.returns-in-Some-clause-value

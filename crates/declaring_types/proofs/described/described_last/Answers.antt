@@ -1,5 +1,4 @@
-use Rattle.std.proofs.Common.{◌∙◌, ap}
-use Rattle.declaring_types.specs.Declaring.{described}
+use Rattle.declaring_types.proofs.Prelude.{◌∙◌, ap, described}
 use Rattle.declaring_types.proofs.described.described_last.Goals as goal
 
 pub returns-clause-value : goal.returns-clause-value

@@ -1,7 +1,5 @@
-use Rattle.std.proofs.Common.{◌∙◌, ap, sym}
-use Rattle.table_schema.specs.declared.table.TableId.{TableId}
+use Rattle.declaring_types.proofs.Prelude.{◌∙◌, ap, sym, TableId, subject_of}
 use Rattle.navigation.specs.Cells.{reference_in}
-use Rattle.declaring_types.specs.Declaring.{subject_of}
 use Rattle.declaring_types.proofs.DescribedLemmas.{no_subject}
 use Rattle.declaring_types.proofs.described.subject_of.Goals as goal
 

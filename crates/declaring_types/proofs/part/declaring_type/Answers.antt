@@ -1,6 +1,4 @@
-use Rattle.std.proofs.Common.{subst}
-use Rattle.table_schema.specs.declared.token.Token.{Token}
-use Rattle.declaring_types.specs.Declaring.{IsPartOf}
+use Rattle.declaring_types.proofs.Prelude.{subst, Token, IsPartOf}
 use Rattle.declaring_types.proofs.part.declaring_type.Goals as goal
 
 pub returns : goal.returns

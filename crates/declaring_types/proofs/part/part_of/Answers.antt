@@ -1,7 +1,4 @@
-use Rattle.std.proofs.Common.{Some, subst, sym}
-use Rattle.table_schema.specs.declared.table.TableId.{TableId}
-use Rattle.full_names.specs.RowNames.{IsMemberOf}
-use Rattle.declaring_types.specs.Declaring.{IsPartOf}
+use Rattle.declaring_types.proofs.Prelude.{Some, subst, sym, TableId, IsMemberOf, IsPartOf}
 use Rattle.declaring_types.proofs.DescribedLemmas.{part_of_member}
 use Rattle.declaring_types.proofs.part.part_of.Goals as goal
 
