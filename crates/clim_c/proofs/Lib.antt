@@ -4,6 +4,5 @@ pub mod HeaderLemmas
 pub mod Prelude
 pub mod RootLemmas
 pub mod SignatureLemmas
-pub mod FoundLemmas
 pub mod Written
 pub mod EmbedLemmas

@@ -25,7 +25,10 @@ pub extern "C" fn clim_find_type(view: &ClimView, namespace: &[u8], name: &[u8])
     let Some(seen) = seen(view) else {
         return 0;
     };
-    seen.find_type(namespace, name).unwrap_or(0)
+    match seen.find_type(namespace, name) {
+        Some(row) => row,
+        None => 0,
+    }
 }
 
 /// The run of rows of `member` that a row of `owner` owns; `None` if the owner table does not own rows of that table.
