@@ -30,11 +30,7 @@ whole_written buffer text first tail count first_is tail_is count_is fits = (
   (λ long. absurd (omega (arith, fits, count_is, long))),
 )
 
--- any other number than 1 and 2 is that of no choice
-pub no_choice : (number : ℕ) → (number ≡ 1 → ⊥) → (number ≡ 2 → ⊥) → (name : StrongName) → IsStrongName number name → ⊥
-no_choice number first second Keep is = first is
-no_choice number first second Clear is = second is
-
+-- a copy is in the buffer
 pub written : (name : StrongName) (file root copy : List ℕ) (len : ℕ) (initial buffer : List ℕ) → IsEmbedded name file root copy
     → len ≡ length copy → HasWhole initial copy buffer → IsWritten name file root len initial buffer
 written name file root copy len initial buffer embedded length_is whole =

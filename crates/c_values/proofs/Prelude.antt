@@ -22,7 +22,7 @@ pub use Rattle.tables.specs.Push.{with_row}
 pub use Rattle.tables.specs.Said.{said, all_said}
 pub use Rattle.root_writer.specs.Canonical.{canonical}
 pub use Rattle.c_values.specs.Cells.{AreCells, EncodesAs, IsCell, IsFormed, IsFormedAs, kind_number}
-pub use Rattle.c_values.specs.Copies.{IsAsked, IsCanonicalRootOf, IsNoCopy, IsStrongName, IsWritten, IsOwnReason}
+pub use Rattle.c_values.specs.Copies.{IsAsked, IsCanonicalRootOf, IsNoCopy, IsWritten, IsOwnReason}
 pub use Rattle.c_values.specs.Given.{AreRows, IsGiven, IsRow, TableRow, cells_of, is_of}
 pub use Rattle.c_values.specs.Refused.{rules_of_cell, IsNoRoot, IsRefused, MatchNoRoot, IsFirstBadCell, IsFirstBadRow, IsOfBadRow, row_after, count_given}
 pub use Rattle.c_values.specs.declared.cell.ClimCell.{ClimCell}

@@ -5,4 +5,3 @@ pub mod Prelude
 pub mod RootLemmas
 pub mod SignatureLemmas
 pub mod Written
-pub mod EmbedLemmas

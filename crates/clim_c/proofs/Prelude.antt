@@ -23,8 +23,6 @@ pub use Rattle.reading.specs.declared.cell_ref.CellRef.{CellRef}
 unfoldable pub use Rattle.opening.specs.Views.{row_count}
 pub use Rattle.root_writer.specs.Canonical.{canonical}
 unfoldable pub use Rattle.root_writer.specs.Canonical.{root_of}
-pub use Rattle.embedding.specs.declared.strong_name.StrongName.{StrongName}
 pub use Rattle.comparison.specs.declared.difference.Difference.{Difference}
-pub use Rattle.c_values.specs.Copies.{IsStrongName}
 pub use Rattle.c_values.specs.declared.cell.ClimCell.{ClimCell}
 pub use Rattle.clim_c.specs.Reported.{Reports, ReportsCell}
