@@ -1,5 +1,5 @@
 -- Copies of files that are written into a buffer.
-use Rattle.c_values.proofs.Prelude.{◌≡◌, ℕ, ◌<◌, ◌≤◌, ◌++◌, List, [], ◌∷◌, length, drop, refl, sym, ◌∙◌, ap, subst, inl, inr, arith, take_all, Metadata, canonical, IsAsked, IsCanonicalRootOf, IsNoCopy, IsStrongName, IsWritten}
+use Rattle.c_values.proofs.Prelude.{◌≡◌, ℕ, ◌<◌, ◌≤◌, ◌++◌, List, [], ◌∷◌, length, drop, refl, sym, ◌∙◌, ap, subst, inl, inr, arith, take_all, Metadata, canonical, IsAsked, IsCanonicalRootOf, IsNoCopy, IsWritten}
 use Rattle.std.proofs.Math.Logic.{∥∥₁_map}
 use Rattle.packed.specs.declared.fault.Fault.{Fault}
 use Rattle.cli_header.specs.declared.header.CliHeader.{CliHeader}
@@ -9,7 +9,6 @@ use Rattle.opening.specs.Views.{HasImage}
 use Rattle.embedding.specs.declared.error.EmbedError.{EmbedError}
 use Rattle.embedding.specs.declared.error.EmbedError.TheVariants as error
 use Rattle.embedding.specs.declared.strong_name.StrongName.{StrongName}
-use Rattle.embedding.specs.declared.strong_name.StrongName.TheVariants.{Keep, Clear}
 use Rattle.embedding.specs.Embedded.{IsEmbedded}
 use Rattle.embedding.specs.Errors.{IsReason, MatchFault}
 use Rattle.c_texts.specs.Texts.{HasWhole}

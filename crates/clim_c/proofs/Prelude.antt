@@ -1,5 +1,5 @@
 -- What several proofs of this crate name of std, of the crates below, and of its own definitions.
-pub use Rattle.std.proofs.Common.{◌≡◌, ◌∙◌, List, [], ◌∷◌, ◌++◌, length, take, Option, slice_get, refl, sym, ap, subst, arith, ℕ, ◌<◌, Some, None, IsUtf8, zero, suc, ◌+◌, ◌≤◌, ◌⊎◌, inl, inr, Bor, IfSome, IfNone, unwrap_or, get_or, set, append_assoc, slice_index_or, rules, option_map, ◌^◌}
+pub use Rattle.std.proofs.Common.{◌≡◌, ◌∙◌, List, [], ◌∷◌, ◌++◌, length, take, Option, slice_get, refl, sym, ap, subst, arith, ℕ, ◌<◌, Some, None, IsUtf8, zero, suc, ◌+◌, ◌≤◌, ◌⊎◌, inl, inr, Bor, get_or, set, append_assoc, slice_index_or, rules, option_map, ◌^◌}
 pub use Rattle.std.proofs.lemmas.List.{length-append, append-nil, length-take-le, take_all, take_at, take_more_set, get_or-set_same, get_or-set_other, length-set}
 pub use Rattle.std.proofs.lemmas.Option.{same_Some}
 pub use Rattle.std.specs.List.{SameFrom}

@@ -1,5 +1,5 @@
 -- Two valid models are equal if and only if nothing differs.
-use Rattle.comparison.proofs.Prelude.{◌≡◌, ◌↔◌, ◌∙◌, ◌<◌, ◌≤◌, ℕ, zero, suc, ◌+◌, ◌-◌, ◌||◌, Bool, true, false, IsTrue, List, [], ◌∷◌, ◌++◌, length, length-append, take, get_or, min, refl, ap, sym, subst, cond, arith, ◌==◌, Option, Some, None, is_some, nil_from_length, Cell, bytes_eq, take_all, IfNone, IfSome, flat_map, range_with_len, Decides-eqb, bytes_eq-Decides, TableId, Module, tables, table_index_of, cell_count, Metadata, cell_in, count_in, IsValid, Difference, IgnoredColumns, is_ignored, is_same_cell, cell_difference, cell_differences_but, count_difference, first_differences_but, outline_differences, row_differences, table_differences, user_difference, version_difference, cond-true, get_or-range_with_len, length-range_with_len}
+use Rattle.comparison.proofs.Prelude.{◌≡◌, ◌↔◌, ◌∙◌, ◌<◌, ◌≤◌, ℕ, zero, suc, ◌+◌, ◌-◌, ◌||◌, Bool, true, false, IsTrue, List, [], ◌∷◌, ◌++◌, length, length-append, take, get_or, min, refl, ap, sym, subst, cond, arith, ◌==◌, nil_from_length, Cell, bytes_eq, take_all, flat_map, range_with_len, Decides-eqb, bytes_eq-Decides, TableId, Module, tables, table_index_of, cell_count, Metadata, cell_in, count_in, IsValid, Difference, IgnoredColumns, is_ignored, is_same_cell, cell_difference, cell_differences_but, count_difference, first_differences_but, outline_differences, row_differences, table_differences, user_difference, version_difference, cond-true, get_or-range_with_len, length-range_with_len}
 use Rattle.metadata.specs.Lookups.{HasRow}
 use Rattle.metadata.specs.Same.{SaysSame}
 use Rattle.comparison.specs.declared.difference.Difference.TheVariants as difference

@@ -1,5 +1,5 @@
 -- What several proofs of this crate name of std, of the crates below, and of its own definitions.
-pub use Rattle.std.proofs.Common.{◌≡◌, ◌≤◌, length, take, ◌∙◌, ap, sym, arith, refl, ℕ, ◌<◌, ◌≢◌, get_or, ◌+◌, subst, ◌↔◌, inl, inr, zero, suc, ◌-◌, ◌*◌, ◌==◌, Bool, true, false, IsTrue, List, [], ◌∷◌, ap₂, cond, ◌||◌, ◌++◌, All, length-append, min, Some, None, Result, Option, is_some, append_assoc, append-nil, ◌⊎◌, lit≤, set, replicate, drop, take_at, drop_at, not, eqb, ◌%◌, slice_index, length-drop, below_more}
+pub use Rattle.std.proofs.Common.{◌≡◌, ◌≤◌, length, take, ◌∙◌, ap, sym, arith, refl, ℕ, ◌<◌, ◌≢◌, get_or, ◌+◌, subst, ◌↔◌, inl, inr, zero, suc, ◌-◌, ◌*◌, ◌==◌, Bool, true, false, IsTrue, List, [], ◌∷◌, ap₂, cond, ◌||◌, ◌++◌, All, length-append, min, Some, None, Result, Option, append_assoc, append-nil, ◌⊎◌, lit≤, set, replicate, drop, take_at, drop_at, not, eqb, ◌%◌, slice_index, length-drop, below_more}
 pub use Rattle.std.proofs.Math.Seq.{take-append_seam, drop-append_seam}
 pub use Rattle.std.proofs.lemmas.Bool.{both_ways, cases_eq, cases_lt, cond-true, eq-eqb, ne_eqb, not-false}
 pub use Rattle.std.proofs.lemmas.Bool.Decides.{Decides-eqb, Decides-like, same_from_decides}
