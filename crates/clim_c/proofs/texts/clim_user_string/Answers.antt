@@ -1,4 +1,4 @@
-use Rattle.clim_c.proofs.user_strings.clim_user_string.Goals as goal
+use Rattle.clim_c.proofs.texts.clim_user_string.Goals as goal
 
 pub returns-in_default-write_user_string-clause-complete : goal.returns-in_default-write_user_string-clause-complete
 returns-in_default-write_user_string-clause-complete c = λ opened token_is string is.

@@ -1,7 +1,7 @@
 use Rattle.clim_c.proofs.Prelude.{rules, ◌≡◌, column_at, column_of, cell_in, row_count}
 use Rattle.table_schema.specs.declared.column.ColumnKind.TheVariants.{Signature}
 use Rattle.clim_c.proofs.SignatureLemmas.{no_other_value}
-use Rattle.clim_c.proofs.signature_text.signature_at.Goals as goal
+use Rattle.clim_c.proofs.texts.signature_at.Goals as goal
 
 pub returns-in-Sig-clause-shown : goal.returns-in-Sig-clause-shown
 returns-in-Sig-clause-shown c = λ model is.

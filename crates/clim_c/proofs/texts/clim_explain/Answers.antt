@@ -1,5 +1,5 @@
 use Rattle.clim_c.proofs.Prelude.{◌≡◌, ◌∙◌, same_Some}
-use Rattle.clim_c.proofs.explained.clim_explain.Goals as goal
+use Rattle.clim_c.proofs.texts.clim_explain.Goals as goal
 
 pub returns-in-Some-clause-known : goal.returns-in-Some-clause-known
 returns-in-Some-clause-known c = λ known is.

@@ -1,7 +1,7 @@
 use Rattle.clim_c.proofs.Prelude.{rules, ◌≡◌}
 use Rattle.table_schema.specs.Tables.{table_number}
 use Rattle.clim_c.specs.SignatureCells.{HasSignature}
-use Rattle.clim_c.proofs.signature_text.clim_signature_text.Goals as goal
+use Rattle.clim_c.proofs.texts.clim_signature_text.Goals as goal
 
 pub returns-in_default-signature_at-clause-text : goal.returns-in_default-signature_at-clause-text
 returns-in_default-signature_at-clause-text c = λ is_open model is known kind number has.
