@@ -1,6 +1,6 @@
 use Rattle.clim_c.proofs.Prelude.{length, ◌∙◌, ap, arith, not_there}
 use Rattle.clim_c.proofs.HeaderLemmas.{few_headers}
-use Rattle.clim_c.proofs.streams.headers_of.Goals as goal
+use Rattle.clim_c.proofs.view_parts.headers_of.Goals as goal
 
 pub unreachable-requires : goal.unreachable-requires
 unreachable-requires c =

@@ -1,7 +1,7 @@
 use Rattle.clim_c.proofs.Prelude.{YieldsList-from_first, nth_from_yields_List, view, ◌≡◌, ℕ, List, Some, slice_get, option_map, refl, sym, ◌∙◌, ap}
 use Rattle.clim_c.proofs.HeaderLemmas.{there_is}
-use Rattle.clim_c.proofs.streams.clim_stream.Goals as goal
-use Rattle.clim_c.proofs.streams.clim_stream.Goals.{After-nth}
+use Rattle.clim_c.proofs.view_parts.clim_stream.Goals as goal
+use Rattle.clim_c.proofs.view_parts.clim_stream.Goals.{After-nth}
 
 -- the header that was found is the one at the index
 found : (c : After-nth) → option_map view c.nth.result ≡ slice_get c.in-Some.headers c.args.index

@@ -1,5 +1,5 @@
 use Rattle.clim_c.proofs.Prelude.{length, refl, ◌∙◌, ap, YieldsList-from_first, count_from_yields_List, view}
-use Rattle.clim_c.proofs.streams.clim_stream_count.Goals as goal
+use Rattle.clim_c.proofs.view_parts.clim_stream_count.Goals as goal
 
 pub returns-in-Some-clause-open : goal.returns-in-Some-clause-open
 returns-in-Some-clause-open c = λ opened version headers is.
