@@ -1,6 +1,6 @@
 use Rattle.visible_rows.proofs.Prelude.{◌≡◌, ◌∙◌, ◌+◌, ◌-◌, ◌∷◌, ℕ, List, add-one, ap, arith, get_or, length, length-set, replicate, rules, set, subst, sym, range_with_len, get_or-replicate, length-replicate, NestedClass, count_in, row_in, outer_among}
 use Rattle.visible_rows.proofs.OuterLemmas.{AreAmong, outers_more}
-use Rattle.visible_rows.proofs.outers.outers_of.Goals as goal
+use Rattle.visible_rows.proofs.types.outers_of.Goals as goal
 
 pub loop-later-init : goal.loop-later-init
 loop-later-init c =

@@ -1,6 +1,6 @@
 use Rattle.visible_rows.proofs.Prelude.{◌≡◌, ◌∙◌, ◌+◌, ap, arith, length, map, range_with_len, length_push, row_count, has_visible_accessor}
 use Rattle.visible_rows.proofs.ResultLemmas.{results_more}
-use Rattle.visible_rows.proofs.accessors.visible_accessors.Goals as goal
+use Rattle.visible_rows.proofs.members.visible_accessors.Goals as goal
 
 pub loop-earlier-preserved : goal.loop-earlier-preserved
 loop-earlier-preserved c =

@@ -3,7 +3,7 @@ use Rattle.std.proofs.lemmas.List.Folds.{list_any_at, list_any_more}
 use Rattle.navigation.specs.declared.keyed.KeyedRow.{KeyedRow}
 use Rattle.navigation.specs.Keyed.{row_of}
 use Rattle.visible_rows.proofs.ResultLemmas.{any_of_map}
-use Rattle.visible_rows.proofs.accessors.has_visible_accessor.Goals as goal
+use Rattle.visible_rows.proofs.members.has_visible_accessor.Goals as goal
 
 abbrev test : Metadata → KeyedRow → Bool
 test model found = is_visible_accessor model found.row

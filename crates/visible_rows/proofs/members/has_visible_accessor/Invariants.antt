@@ -1,5 +1,5 @@
 use Rattle.visible_rows.proofs.Prelude.{◌≡◌, take, false, list_any, Metadata, IsModel, is_visible_accessor}
-use Rattle.visible_rows.proofs.accessors.has_visible_accessor.Given as goal
+use Rattle.visible_rows.proofs.members.has_visible_accessor.Given as goal
 
 -- none so far is visible
 abbrev pub invariant-loop-accessor : goal.invariant-loop-accessor

@@ -1,5 +1,5 @@
 use Rattle.visible_rows.proofs.Prelude.{◌≡◌, length, map, range_with_len, Metadata, IsModel, has_visible_accessor}
-use Rattle.visible_rows.proofs.accessors.visible_accessors.Given as goal
+use Rattle.visible_rows.proofs.members.visible_accessors.Given as goal
 
 -- the rows so far
 abbrev pub invariant-loop-earlier : goal.invariant-loop-earlier

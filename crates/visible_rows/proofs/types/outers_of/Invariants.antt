@@ -1,6 +1,6 @@
 use Rattle.visible_rows.proofs.Prelude.{◌≡◌, ◌+◌, ◌-◌, length, range_with_len, TypeDef, Metadata, IsModel, row_count}
 use Rattle.visible_rows.proofs.OuterLemmas.{AreAmong}
-use Rattle.visible_rows.proofs.outers.outers_of.Given as goal
+use Rattle.visible_rows.proofs.types.outers_of.Given as goal
 
 -- those by the last rows
 abbrev pub invariant-loop-later : goal.invariant-loop-later
