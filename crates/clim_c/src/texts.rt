@@ -18,6 +18,12 @@ use opening::{CellRef, TableId, View};
 use std::alloc::Global;
 use table_schema::{ColumnKind, SigKind, cell_count, column_of_cell, columns};
 
+/// The high byte of the token of a user string (III.1.9).
+const USER_STRINGS: u32 = 0x70;
+
+/// The number of offsets that a token can have.
+const OFFSETS: u32 = 1 << 24;
+
 /// Writes the text that explains a rule into a buffer, up to its length, and returns the length of the whole text: the
 /// number and the name of the rule, what is wrong, and in lines of their own the rule, its section, where the offset of
 /// a fault points, and the usual cause. 0 if no rule has the number; the buffer is then unchanged.
@@ -148,12 +154,6 @@ pub extern "C" fn clim_declaration(
         None => 0,
     }
 }
-
-/// The high byte of the token of a user string (III.1.9).
-const USER_STRINGS: u32 = 0x70;
-
-/// The number of offsets that a token can have.
-const OFFSETS: u32 = 1 << 24;
 
 /// Writes the UTF-16 units of the user string that a token names, up to the length of `units` (II.24.2.4). The high byte
 /// of the token is 0x70, and the others are the offset in `#US`, padded with zeros to a multiple of four.

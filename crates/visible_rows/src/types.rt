@@ -12,6 +12,9 @@ use navigation::cells::target;
 use opening::{TableId, View};
 use std::alloc::{AllocError, Global};
 
+/// The cell of the flags of a type (II.22.37).
+const FLAGS: usize = 0;
+
 /// The cells of NestedClass: the nested type, and the type that encloses it.
 const NESTED: usize = 0;
 
@@ -38,9 +41,6 @@ fn outers_of(alloc: Global, view: &View<'_>) -> Result<Vec<u32>, AllocError>
     }
     Ok(outers)
 }
-
-/// The cell of the flags of a type (II.22.37).
-const FLAGS: usize = 0;
 
 /// Whether the type in a row is visible, by what is known of the rows before; 0 is no row.
 fn is_known(earlier: &[bool], row: u32) -> bool

@@ -1,6 +1,6 @@
 use Rattle.declaring_types.proofs.Prelude.{Some, subst, sym, TableId, IsMemberOf, IsPartOf}
 use Rattle.declaring_types.proofs.DescribedLemmas.{part_of_member}
-use Rattle.declaring_types.proofs.part.part_of.Goals as goal
+use Rattle.declaring_types.proofs.declaring.part_of.Goals as goal
 
 pub returns-in-TypeDef : goal.returns-in-TypeDef
 returns-in-TypeDef c = λ model is.

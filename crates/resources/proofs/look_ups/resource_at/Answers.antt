@@ -1,6 +1,6 @@
 use Rattle.resources.proofs.Prelude.{◌≡◌, ◌≤◌, ◌<◌, true, ⊎_elim, arith}
 use Rattle.std.proofs.lemmas.Bool.{cases_lt}
-use Rattle.resources.proofs.containing.resource_at.Goals as goal
+use Rattle.resources.proofs.look_ups.resource_at.Goals as goal
 
 pub loop-row-preserved : goal.loop-row-preserved
 loop-row-preserved c = λ file header model of is earlier first before has.

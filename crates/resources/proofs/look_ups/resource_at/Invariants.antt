@@ -1,5 +1,5 @@
 use Rattle.resources.proofs.Prelude.{ℕ, ◌<◌, ◌≤◌, List, CliHeader, Metadata, IsModel, HasByte, IsDirectoryOf}
-use Rattle.resources.proofs.containing.resource_at.Given as goal
+use Rattle.resources.proofs.look_ups.resource_at.Given as goal
 
 -- no resource in a row before this one has the byte
 abbrev pub invariant-loop-row : goal.invariant-loop-row

@@ -1,5 +1,5 @@
 use Rattle.declaring_types.proofs.Prelude.{◌∙◌, ap, described}
-use Rattle.declaring_types.proofs.described.described_last.Goals as goal
+use Rattle.declaring_types.proofs.declaring.described_last.Goals as goal
 
 pub returns-clause-value : goal.returns-clause-value
 returns-clause-value c = λ model is.

@@ -1,5 +1,5 @@
 use Rattle.declaring_types.proofs.Prelude.{◌∙◌, ap, sym, or_itself}
-use Rattle.declaring_types.proofs.described.described.Goals as goal
+use Rattle.declaring_types.proofs.declaring.described.Goals as goal
 
 pub returns-in-Some-clause-value : goal.returns-in-Some-clause-value
 returns-in-Some-clause-value c = λ model is. ap (or_itself c.args.of) (sym c.in-Some.is ∙ c.subject_of.ensures.value model is)

@@ -1,5 +1,5 @@
 use Rattle.resources.proofs.Prelude.{◌≤◌, ◌<◌, ◌+◌, ℕ, length, subst, sym, Where, elsewhere, here}
-use Rattle.resources.proofs.containing.contains.Goals as goal
+use Rattle.resources.proofs.look_ups.contains.Goals as goal
 
 -- a location in this file has the byte
 abbrev Within : ℕ → Where → Type 0

@@ -1,5 +1,5 @@
 use Rattle.declaring_types.proofs.Prelude.{subst, Token, IsPartOf}
-use Rattle.declaring_types.proofs.part.declaring_type.Goals as goal
+use Rattle.declaring_types.proofs.declaring.declaring_type.Goals as goal
 
 pub returns : goal.returns
 returns c = λ model is.

@@ -1,7 +1,7 @@
 use Rattle.declaring_types.proofs.Prelude.{◌∙◌, ap, sym, TableId, subject_of}
 use Rattle.navigation.specs.Cells.{reference_in}
 use Rattle.declaring_types.proofs.DescribedLemmas.{no_subject}
-use Rattle.declaring_types.proofs.described.subject_of.Goals as goal
+use Rattle.declaring_types.proofs.declaring.subject_of.Goals as goal
 
 pub returns-in-InterfaceImpl-clause-value : goal.returns-in-InterfaceImpl-clause-value
 returns-in-InterfaceImpl-clause-value c = λ model is. ap reference_in (sym (c.reference.ensures.value model is)) ∙ sym (ap (λ (t : TableId). subject_of model t c.args.of.row) c.in-InterfaceImpl.is)

@@ -1,5 +1,5 @@
 use Rattle.resources.proofs.Prelude.{arith, ManifestResource}
-use Rattle.resources.proofs.names.find_resource.Goals as goal
+use Rattle.resources.proofs.look_ups.find_resource.Goals as goal
 
 pub returns-clause-none : goal.returns-clause-none
 returns-clause-none c = λ model shown row there names.
