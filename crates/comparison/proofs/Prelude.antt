@@ -11,7 +11,7 @@ pub use Rattle.std.proofs.lemmas.Result.{IfOk-weaker, on_ok_weaker}
 pub use Rattle.std.proofs.lemmas.Slice.Eq.{bytes_eq-Decides, slice_eq-Decides}
 pub use Rattle.std.specs.Bool.{Decides}
 pub use Rattle.std.specs.List.{AllByRecursion, flat_map, range_with_len}
-pub use Rattle.std.specs.Prelude.{IfOk, IfSome, bytes_eq, IfNone, sum_by, slice_index_or}
+pub use Rattle.std.specs.Prelude.{IfOk, IfSome, bytes_eq, sum_by, slice_index_or}
 pub use Rattle.std.proofs.lemmas.List.Elements.{All-push, All-replicate, All-take, All-nil}
 pub use Rattle.heap_entries.specs.Entries.{IsText, IsBlob, IsGuid, IsCounted}
 pub use Rattle.heap_entries.proofs.BlobLemmas.{blob_counted, counted_behind}
