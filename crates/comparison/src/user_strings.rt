@@ -1,42 +1,35 @@
 //! Whether the user strings of two views are equal.
-ghost use Rattle.std.specs.Prelude.{◌≡◌, ◌↔◌, ◌+◌, ◌-◌, ◌*◌, ◌%◌, IsTrue, All, length};
+ghost use Rattle.std.specs.Prelude.{◌≡◌, ◌≤◌, ◌↔◌, IsTrue, length, replicate};
 ghost use Rattle.heap_entries.specs.Padding.{zero_padded};
-
-/// The number of bytes in a group of padded bytes.
-const GROUP: usize = 4;
 
 /// Whether bytes are equal once each is padded with zeros to a multiple of four (II.24.2.2). It does not allocate.
 pub(crate) fn same_padded(left: &[u8], right: &[u8]) -> bool
     ensures { IsTrue result ↔ (zero_padded left.now ≡ zero_padded right.now) }
 {
-    let common = left.len().min(right.len());
-    let (left_prefix, left_tail) = left.split_at(common);
-    let (right_prefix, right_tail) = right.split_at(common);
-    if group_count(left.len()) != group_count(right.len()) {
-        return false;
+    if left.len() < right.len() {
+        return has_more_zeros(right, left);
     }
-    if left_prefix != right_prefix {
-        return false;
-    }
-    if !are_zeros(left_tail) {
-        return false;
-    }
-    are_zeros(right_tail)
+    has_more_zeros(left, right)
 }
 
-/// The number of groups of four bytes that bytes have once they are padded.
-fn group_count(len: usize) -> usize
-    ensures { GROUP * result ≡ len + (4 - len % 4) % 4 }
+/// Whether longer bytes are the shorter ones with zeros after them, no more than these are padded with.
+fn has_more_zeros(longer: &[u8], shorter: &[u8]) -> bool
+    requires { length shorter.now ≤ length longer.now }
+    ensures { IsTrue result ↔ (zero_padded longer.now ≡ zero_padded shorter.now) }
 {
-    if len % GROUP == 0 {
-        return len / GROUP;
+    if longer.len().div_ceil(4) != shorter.len().div_ceil(4) {
+        return false;
     }
-    len / GROUP + 1
+    let (prefix, tail) = longer.split_at(shorter.len());
+    if prefix != shorter {
+        return false;
+    }
+    are_zeros(tail)
 }
 
 /// Whether all bytes are zero.
 fn are_zeros(bytes: &[u8]) -> bool
-    ensures { IsTrue result ↔ All (λ byte. byte ≡ 0) bytes.now }
+    ensures { IsTrue result ↔ (bytes.now ≡ replicate (length bytes.now) 0) }
 {
     bytes.iter().all(|byte| *byte == 0)
 }
