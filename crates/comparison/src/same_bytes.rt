@@ -98,13 +98,7 @@ fn have_same_layout(left: &Source<'_>, right: &Source<'_>) -> bool
 
 /// Whether the rows of a table from `first` up to but not including `past` have the same bytes. Then they have the same
 /// numbers.
-fn have_same_bytes(
-    left: &View<'_>,
-    right: &View<'_>,
-    table: TableId,
-    first: u32,
-    past: u32,
-) -> bool
+fn have_same_bytes(left: &View<'_>, right: &View<'_>, table: TableId, first: u32, past: u32) -> bool
     requires layout { SameCounts (source_of left.now).sizes (source_of right.now).sizes }
     requires first { 1 ≤ first }
     requires order { first ≤ past }

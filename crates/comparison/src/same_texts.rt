@@ -27,8 +27,7 @@ pub(crate) fn same_texts(
         count: before.saturating_add(len).saturating_add(1),
         same: true,
     };
-    have_same_texts(left_heap, right_heap, noted.left, noted.right, noted.count)
-        .then_some(noted)
+    have_same_texts(left_heap, right_heap, noted.left, noted.right, noted.count).then_some(noted)
 }
 
 /// Whether this number of bytes at two indexes are the same and end with a NUL. Then the texts there are equal.
@@ -105,6 +104,7 @@ fn common_before(left_heap: &[u8], right_heap: &[u8], left: u32, right: u32, mos
 
 /// Whether this number of bytes at two indexes are the same and no NUL.
 fn is_same_part(left_heap: &[u8], right_heap: &[u8], left: u32, right: u32, count: u32) -> bool {
-    common_bytes(left_heap, right_heap, left, right, count)
-        .is_some_and(|bytes| memchr(0, bytes).is_none())
+    common_bytes(left_heap, right_heap, left, right, count).is_some_and(|bytes| memchr(
+        0, bytes,
+    ).is_none())
 }

@@ -8,9 +8,15 @@ returns-in-Err-Bad-clause-refused c =
     let position = c.args.position in
     let given = c.args.given.now in
     let has = c.in-Some.ensures.sound in
-    rw c.refused-in-Err-Bad.ensures (inr ((Signature, c.requires, (c.in-Some.kind, has)), inl ((λ some.
-    let encodes = needs_encoding position.table position.column Signature given some.0 c.requires some.1 in
-    let e : kind.Signature encodes.0 ≡ kind.Signature c.in-Some.kind = sym encodes.1.1 ∙ has.1 in
-    let k : encodes.0 ≡ c.in-Some.kind = cc in
-    let P : SigKind → Type 0 = λ signatures. Encodes signatures encodes.2.0 given.bytes.now in
-    c.in-Err-Bad.ensures.bad.0 (ap Err c.in-Err-Bad.field-0-is) (encodes.2.0, subst P k encodes.2.1)), refl)))
+    rw c.refused-in-Err-Bad.ensures (inr (
+      (Signature, c.requires, (c.in-Some.kind, has)),
+      inl (
+        (λ some.
+            let encodes = needs_encoding position.table position.column Signature given some.0 c.requires some.1 in
+            let e : kind.Signature encodes.0 ≡ kind.Signature c.in-Some.kind = sym encodes.1.1 ∙ has.1 in
+            let k : encodes.0 ≡ c.in-Some.kind = cc in
+            let P : SigKind → Type 0 = λ signatures. Encodes signatures encodes.2.0 given.bytes.now in
+            c.in-Err-Bad.ensures.bad.0 (ap Err c.in-Err-Bad.field-0-is) (encodes.2.0, subst P k encodes.2.1)),
+        refl,
+      ),
+    ))
