@@ -1,5 +1,5 @@
 -- The first thing besides cells that differs.
-use Rattle.comparison.proofs.Prelude.{◌≡◌, ◌≢◌, ◌∙◌, ◌<◌, ℕ, ◌+◌, true, false, List, [], ◌∷◌, ◌++◌, length, take, drop, get_or, ap, sym, same_from_decides, bytes_eq, flat_map, eq-eqb, ne_eqb, flat_map-append, take-append-drop, bytes_eq-Decides, TableId, tables, Metadata, count_in, Difference, Version, UserStrings, RowCount, count_difference, outline_differences}
+use Rattle.comparison.proofs.Prelude.{refl, ◌≡◌, ◌≢◌, ◌∙◌, ◌<◌, ℕ, ◌+◌, true, false, List, [], ◌∷◌, ◌++◌, length, take, drop, get_or, ap, sym, same_from_decides, bytes_eq, flat_map, eq-eqb, ne_eqb, flat_map-append, take-append-drop, bytes_eq-Decides, TableId, tables, Metadata, count_in, Difference, Version, UserStrings, RowCount, count_difference, outline_differences}
 use Rattle.comparison.proofs.GrowthLemmas.{item_more}
 
 same_bytes : (xs ys : List ℕ) → xs ≡ ys → bytes_eq xs ys ≡ true

@@ -21,7 +21,7 @@ module _ (longer shorter : List ℕ) (long : length shorter ≤ length longer) w
       × (drop (length shorter) longer ≡ replicate (length (drop (length shorter) longer)) 0)
   parts_alike same =
       let tail = drop (length shorter) longer in
-      let zeros = replicate ((4 - length longer % 4) % 4) 0 in
+      let zeros : List ℕ = replicate ((4 - length longer % 4) % 4) 0 in
       let pad = (4 - length shorter % 4) % 4 in
       let lengths : length longer + (4 - length longer % 4) % 4 ≡ length shorter + pad =
       omega (arith, ap length same, length-append longer zeros, length-append shorter (replicate pad 0), length-replicate {A = ℕ} ((4 - length longer % 4) % 4) 0, length-replicate {A = ℕ} pad 0) in

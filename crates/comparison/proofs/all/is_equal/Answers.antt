@@ -8,8 +8,8 @@ returns-in-Some c = λ first second is also.
     let found = c.in-Some.ensures.first first second is also in
     ((λ test. cc), (λ same. let nothing = ap (λ (xs : List Difference). take 1 xs) (law.1 same).0 in absurd cc))
 
-pub returns-in-None : goal.returns-in-None
-returns-in-None c = λ first second is also.
+pub returns-in_ok-found-in-None : goal.returns-in_ok-found-in-None
+returns-in_ok-found-in-None c = λ first second is also.
     let law = c.models_without_differences_are_equal.ensures.parts first second (c.models_of_roots_are_valid.ensures c.args.left.now first is)
     (c.models_of_roots_are_valid.ensures c.args.right.now second also) 1 (omega arith) in
     let found = c.in_ok-found.ensures.sound first second is also in (

@@ -1,4 +1,4 @@
-use Rattle.comparison.proofs.Prelude.{◌<◌, ℕ, List, ap, length, sym, arith, below_more, Column, column_at, columns_of, HaveSameHeap}
+use Rattle.comparison.proofs.Prelude.{◌∙◌, ◌<◌, ℕ, List, ap, length, sym, arith, below_more, Column, column_at, columns_of, HaveSameHeap}
 use Rattle.comparison.proofs.AlikeLemmas.{heap_tested}
 use Rattle.comparison.proofs.same_bytes.SameParts.decide.Goals as goal
 
