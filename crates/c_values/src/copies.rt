@@ -48,10 +48,7 @@ fn canonical_root_of(alloc: Global, file: &[u8]) -> Result<Prepared, EmbedError>
     ensures first_error { IfErr result (MatchFault (FirstBroken (rules_of_file file.now)) (IsFaultOfRoot (IsCanonicalRootOf file.now))) }
     ensures refused { IfErr result (IsNoCopy file.now []) }
 {
-    let view = match open_image(file) {
-        Ok((_, view)) => view,
-        Err(fault) => return Err(EmbedError::File(fault)),
-    };
+    let (_, view) = open_image(file)?;
     match prepare(alloc, &view, ROOT_LIMIT) {
         Ok(root) => Ok(root),
         Err(WriteError::TooLarge) => Err(EmbedError::TooLong),

@@ -1,4 +1,4 @@
-use Rattle.comparison.proofs.Prelude.{◌∙◌, ◌<◌, ℕ, List, ap, length, sym, arith, below_more, Column, column_at, columns_of, HaveSameHeap}
+use Rattle.comparison.proofs.Prelude.{both_ways, ◌∙◌, ◌<◌, ℕ, List, ap, length, sym, arith, below_more, Column, column_at, columns_of, HaveSameHeap}
 use Rattle.comparison.proofs.AlikeLemmas.{heap_tested}
 use Rattle.comparison.proofs.same_bytes.SameParts.decide.Goals as goal
 
@@ -9,7 +9,7 @@ returns-then-not-has_same_heap c = λ left right parts. (
       let long = ap (λ (l : List Column). length l) c.columns-column-end.ensures in
       let lt : c.loop-column.column < length (columns_of c.args.table) = omega arith in
       let same = c.has_same_heap.ensures ∙ (heap_tested c.args.self.now left right parts c.column_at.result.kind).1 (rw c.column_at.ensures (alike.heaps c.loop-column.column lt)) in
-      absurd cc),
+      absurd (both_ways _ c.if-not-has_same_heap.true same)),
 )
 
 pub loop-column-preserved : goal.loop-column-preserved
