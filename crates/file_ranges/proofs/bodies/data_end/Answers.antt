@@ -24,6 +24,6 @@ pub loop-number-preserved : goal.loop-number-preserved
 loop-number-preserved c = (
   omega arith,
   sym (next c.args.bytes.now (64 - c.loop-number.number) (64 - (c.loop-number.number + 1)) c.loop-number.end _ _ (omega arith) c.section_start-start.ensures c.data_size-size.ensures.size
-  ∙ cond-false _ _ _ (le-ltb (length c.args.bytes.now) (c.section_start-start.result + 4) (omega arith)) ∙ cond-false _ _ _ (le-ltb c.data_size-size.result 4 (omega arith)) ∙ cond-false _ _ _ (ne_eqb (byte_at c.args.bytes.now c.section_start-start.result / 0x80) 0 (λ last. omega (arith, c.byte_at-kind.ensures, last))))
-  ∙ c.loop-number.invariant.1,
+      ∙ cond-false _ _ _ (le-ltb (length c.args.bytes.now) (c.section_start-start.result + 4) (omega arith)) ∙ cond-false _ _ _ (le-ltb c.data_size-size.result 4 (omega arith)) ∙ cond-false _ _ _ (ne_eqb (byte_at c.args.bytes.now c.section_start-start.result / 0x80) 0 (λ last. omega (arith, c.byte_at-kind.ensures, last))))
+      ∙ c.loop-number.invariant.1,
 )
