@@ -4,14 +4,14 @@ pub use Rattle.std.proofs.Math.Seq.{take-append_seam, drop-append_seam}
 pub use Rattle.std.proofs.lemmas.Bool.{both_ways, cases_eq, cases_lt, cond-true, eq-eqb, ne_eqb, not-false}
 pub use Rattle.std.proofs.lemmas.Bool.Decides.{Decides-eqb, Decides-like, same_from_decides}
 pub use Rattle.std.proofs.lemmas.Grind.{flat_map-append}
-pub use Rattle.std.proofs.lemmas.List.{take_all, take-append-le, take-replicate, drop-append-le, get_or-set_same, get_or-set_other, take-append-drop, length-replicate, replicate-append-replicate, drop-drop, drop-take, get_or-drop, nil_from_length, take_more, flat_map_more, map-id}
+pub use Rattle.std.proofs.lemmas.List.{take_all, take-append-le, take-replicate, drop-append-le, get_or-set_other, take-append-drop, length-replicate, replicate-append-replicate, drop-drop, drop-take, get_or-drop, nil_from_length, take_more, flat_map_more, map-id}
 pub use Rattle.std.proofs.lemmas.List.FromFn.{map-range_with_len_more, get_or-range_with_len, length-range_with_len}
 pub use Rattle.std.proofs.lemmas.Option.{IfSome_then}
 pub use Rattle.std.proofs.lemmas.Result.{IfOk-weaker, on_ok_weaker}
 pub use Rattle.std.proofs.lemmas.Slice.Eq.{bytes_eq-Decides, slice_eq-Decides}
 pub use Rattle.std.specs.Bool.{Decides}
 pub use Rattle.std.specs.List.{AllByRecursion, flat_map, range_with_len}
-pub use Rattle.std.specs.Prelude.{IfOk, IfSome, bytes_eq, sum_by, slice_index_or}
+pub use Rattle.std.specs.Prelude.{IfOk, IfSome, bytes_eq, sum_by}
 pub use Rattle.std.proofs.lemmas.List.Elements.{All-push}
 pub use Rattle.heap_entries.specs.Entries.{IsText, IsBlob, IsGuid, IsCounted}
 pub use Rattle.heap_entries.proofs.BlobLemmas.{blob_counted, counted_behind}

@@ -1,6 +1,6 @@
 use Rattle.comparison.proofs.Prelude.{◌∙◌, ap, sym, Decides-eqb, slice_eq-Decides, short}
 use Rattle.comparison.proofs.SignatureLemmas.{same_short}
-use Rattle.comparison.proofs.same_cells.same_signature.Goals as goal
+use Rattle.comparison.proofs.same_in_row.same_signature.Goals as goal
 
 pub returns : goal.returns
 returns c = λ first second is also.

@@ -1,6 +1,6 @@
 use Rattle.comparison.proofs.Prelude.{◌∙◌, sym, arith}
 use Rattle.comparison.proofs.PaddingLemmas.{padded_alike, parts_alike, parts_differ, parts_same}
-use Rattle.comparison.proofs.user_strings.has_more_zeros.Goals as goal
+use Rattle.comparison.proofs.all.has_more_zeros.Goals as goal
 
 pub returns-then-div_ceil : goal.returns-then-div_ceil
 returns-then-div_ceil c = (

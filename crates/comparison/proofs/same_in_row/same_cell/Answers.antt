@@ -1,6 +1,6 @@
 use Rattle.comparison.proofs.Prelude.{◌∙◌}
 use Rattle.comparison.proofs.CellTests.{signatures_tested, values_same}
-use Rattle.comparison.proofs.same_cells.same_cell.Goals as goal
+use Rattle.comparison.proofs.same_in_row.same_cell.Goals as goal
 
 pub returns-in_default : goal.returns-in_default
 returns-in_default c = λ first second is also. c.eq.ensures ∙ values_same c.args.kind c.args.left c.args.right first second c.in_default.ensures.none is also
