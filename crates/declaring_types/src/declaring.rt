@@ -29,7 +29,7 @@ const SECURED: usize = 1;
 const ATTRIBUTED: usize = 0;
 
 /// The row that a row describes; `None` if its table describes nothing, or if the reference is null.
-#[tactic(auto, unfolding(table_schema::specs::CellColumns::cell_columns))]
+#[tactic(auto, using(crate::proofs::DescribedLemmas::referred), unfolding(table_schema::specs::CellColumns::cell_columns))]
 fn subject_of(view: &View<'_>, of: Token) -> Option<Token>
     requires first { 1 ≤ of.row }
     requires last { of.row ≤ row_count view.now of.table }
