@@ -6,4 +6,3 @@ pub mod RefusedLemmas
 pub mod ReasonLemmas
 pub mod StepLemmas
 pub mod CopyLemmas
-pub mod LocationLemmas

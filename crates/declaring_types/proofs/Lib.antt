@@ -1,1 +1,2 @@
 mod DescribedLemmas
+mod Prelude

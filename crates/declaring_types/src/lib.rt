@@ -10,8 +10,6 @@
 //! ```
 #![tactic(auto)]
 
-mod described;
-mod part;
+mod declaring;
 
-pub use described::described_last;
-pub use part::declaring_type;
+pub use declaring::{declaring_type, described_last};

@@ -1,5 +1,4 @@
 pub mod BodyLemmas
-pub mod FieldLemmas
 pub mod Lowest
 pub mod Prelude
 pub mod SizeLemmas

@@ -14,13 +14,11 @@
 //! ```
 #![tactic(auto)]
 
-mod containing;
 mod directory;
 mod location;
-mod names;
+mod look_ups;
 
-pub use containing::resource_at;
 pub use directory::{Content, Directory, directory_of};
 pub use location::{Location, NotWithin, location_of};
-pub use names::find_resource;
+pub use look_ups::{find_resource, resource_at};
 pub use opening::{CliHeader, TableId, Token, View};

@@ -11,9 +11,7 @@
 #![tactic(auto)]
 
 mod access;
-mod accessors;
 mod members;
-mod outers;
 mod types;
 mod visible;
 
