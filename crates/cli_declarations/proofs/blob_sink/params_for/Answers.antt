@@ -1,6 +1,6 @@
 use Rattle.cli_declarations.proofs.Prelude.{length, le-leb, lt-leb}
 use Rattle.cli_values.specs.Constants.{value_limit}
-use Rattle.cli_declarations.proofs.attribute_sink.params_for.Goals as goal
+use Rattle.cli_declarations.proofs.blob_sink.params_for.Goals as goal
 
 pub returns-then-blob-gt-VALUE_LIMIT : goal.returns-then-blob-gt-VALUE_LIMIT
 returns-then-blob-gt-VALUE_LIMIT c = λ model is. rw (lt-leb (length c.args.blob.now) value_limit c.if-blob-gt-VALUE_LIMIT.true)

@@ -1,6 +1,6 @@
 use Rattle.cli_declarations.proofs.Prelude.{inl, inr, refl, bytes_value, decoded_value}
 use Rattle.cli_declarations.proofs.PieceLemmas.{on_ok}
-use Rattle.cli_declarations.proofs.attribute_sink.push_value.Goals as goal
+use Rattle.cli_declarations.proofs.blob_sink.push_value.Goals as goal
 
 pub returns-in-Some : goal.returns-in-Some
 returns-in-Some c =

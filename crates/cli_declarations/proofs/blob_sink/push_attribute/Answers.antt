@@ -1,6 +1,6 @@
 use Rattle.cli_declarations.proofs.Prelude.{refl, bytes_value}
 use Rattle.cli_declarations.proofs.PieceLemmas.{on_ok}
-use Rattle.cli_declarations.proofs.attribute_sink.push_attribute.Goals as goal
+use Rattle.cli_declarations.proofs.blob_sink.push_attribute.Goals as goal
 
 pub returns-in-Some : goal.returns-in-Some
 returns-in-Some c = λ model is. rw (← c.bytes-blob.ensures model is, ← c.in-Some.ensures model is, ← c.as_slice.ensures) c.push_value.ensures
