@@ -1,8 +1,7 @@
-use Rattle.cli_outline.proofs.Prelude.{drop, map, flat_map, MethodSemantics, Metadata, IsModel, PrintsRows}
+use Rattle.cli_outline.proofs.Prelude.{drop, map, flat_map, MethodSemantics, Metadata, IsModel, PrintsRows, row_of}
 use Rattle.navigation.specs.Keyed.{row_of as row_in}
 use Rattle.cli_lines.specs.Printed.{Printed}
-use Rattle.cli_outline.specs.Outline.{row_of}
-use Rattle.cli_outline.proofs.mapped.print_accessed.Given as goal
+use Rattle.cli_outline.proofs.outline.print_accessed.Given as goal
 
 -- the accessors that are left complete them
 abbrev pub invariant-loop-accessor : goal.invariant-loop-accessor

@@ -1,6 +1,6 @@
-use Rattle.cli_outline.proofs.Prelude.{◌+◌, IsModel, row_in, accessed_by, each_from}
+use Rattle.cli_outline.proofs.Prelude.{◌+◌, IsModel, order_in, accessed_rows, each_from}
 use Rattle.cli_outline.proofs.PrintedLemmas.{each_more, each_none, rows_more, rows_nothing}
-use Rattle.cli_outline.proofs.mapped.print_map.Goals as goal
+use Rattle.cli_outline.proofs.outline.print_map.Goals as goal
 
 pub loop-position-init : goal.loop-position-init
 loop-position-init g c = λ model later is.
@@ -10,13 +10,14 @@ loop-position-init g c = λ model later is.
 pub loop-position-preserved : goal.loop-position-preserved
 loop-position-preserved g c = λ model later is printed.
     let loop = c.loop-position in
-    let rows = accessed_by (row_in c.args.source.now.orders.items) model c.member-table.result in
-    loop.invariant model later is (rw (each_more rows loop.position _ c.loop-position-test.true)
-    (rows_more c.args.source.now.options model c.lines_follow.ensures.more _ _ _ _ (each_from rows (loop.position + 1) _) (rw c.row_at-row.ensures.row at (c.print_accessed.ensures model is)) printed))
+    let rows = accessed_rows model c.member-table.result in
+    let order = order_in c.args.source.now.orders.items c.member-table.result in
+    loop.invariant model later is (rw (each_more rows order loop.position _ c.loop-position-test.true)
+    (rows_more c.args.source.now.options model c.lines_follow.ensures.more _ _ _ _ (each_from rows order (loop.position + 1) _) (rw c.row_at-row.ensures.row at (c.print_accessed.ensures model is)) printed))
 
 pub returns-clause-lines : goal.returns-clause-lines
 returns-clause-lines g c = λ model is.
     let loop = c.loop-position in
     loop.invariant model loop.out is
-    (rw (each_none (accessed_by (row_in c.args.source.now.orders.items) model c.member-table.result) loop.position _ c.loop-position-test.false)
+    (rw (each_none (accessed_rows model c.member-table.result) (order_in c.args.source.now.orders.items c.member-table.result) loop.position _ c.loop-position-test.false)
     (rows_nothing c.args.source.now.options model loop.out (c.lines_follow.ensures.nothing loop.out)))
