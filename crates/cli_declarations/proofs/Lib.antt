@@ -1,4 +1,3 @@
 pub mod Prelude
 pub mod TextLemmas
-pub mod LayoutLemmas
 pub mod PieceLemmas

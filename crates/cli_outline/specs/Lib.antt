@@ -1,4 +1,3 @@
-pub mod Chosen
 pub mod Declarations
 pub mod Orders
 pub mod Outline

@@ -17,13 +17,10 @@
 
 mod chosen;
 mod line;
-mod mapped;
 mod orders;
-mod outcome;
 mod outline;
 mod source;
 
 pub use cli_paths::Subject;
-pub use outcome::Outcome;
-pub use outline::{print_outline, print_outline_of, print_refs, print_refs_of};
+pub use outline::{Outcome, print_outline, print_outline_of, print_refs, print_refs_of};
 pub use source::{OutlineOptions, Rows, Sorting, Tokens};
