@@ -1,10 +1,9 @@
 //! The rows of a root that precede the first row that breaks a rule for cells.
-ghost use Rattle.std.specs.Prelude.{◌≡◌, ◌≤◌, ◌<◌, ◌^◌, ℕ, List, IfSome, false, length};
+ghost use Rattle.std.specs.Prelude.{◌≡◌, ◌≤◌, ◌<◌, ◌^◌, IfSome, false, length};
 ghost use Rattle.packed.specs.Rule.{AllHold};
 ghost use Rattle.table_schema.specs.declared.column.ColumnKind.TheVariants.{Signature};
 ghost use Rattle.table_schema.specs.Columns.{columns_of, column_at};
 ghost use Rattle.table_schema.specs.CellColumns.{is_padding};
-ghost use Rattle.heap_entries.specs.Entries.{IsBlob};
 ghost use Rattle.metadata.specs.Source.{rows_in};
 ghost use Rattle.metadata.specs.Rules.{rules_of_cell};
 ghost use Rattle.reading.specs.KnownStarts.{AreKnown};
@@ -12,7 +11,7 @@ ghost use Rattle.reading.specs.Cursors.{AreCursors};
 ghost use Rattle.reading.specs.Shown.{Shows};
 ghost use Rattle.checks.specs.Broken.{IsFirstBroken};
 ghost use Rattle.cli_cells.specs.MetRows.{rows_before};
-ghost use Rattle.cli_cells.specs.Shown.{blob_at as the_blob, cell_at, content_at, signature_at};
+ghost use Rattle.cli_cells.specs.Shown.{cell_at, content_at, signature_at};
 
 use crate::shown_rows::ShownRows;
 use checks::{BrokenRow, first_broken_row};
@@ -124,31 +123,17 @@ fn cell_in_pass<'a>(
     ensures cell { Shows (column_at table column).kind result (cell_at source.now.source table row column) }
 {
     packed::laws::numbers_are_read();
+    packed::laws::shortest_forms_encode();
     table_schema::laws::tags_fit();
-    sig_values::laws::signatures_are_read();
     match column_at(table, column).kind {
         ColumnKind::Signature(kind) => {
-            blob_cell(
-                kind,
-                blob_at(source.blobs(), source.number(table, row, column)),
-            )
+            let Ok(blob) = blob(source.blobs(), source.number(table, row, column)) else {
+                unreachable!();
+            };
+            blob_cell(kind, blob)
         }
         _ => cell_onward(source, known, cursors, table, row, column),
     }
-}
-
-/// The blob at an index that has one (II.24.2.4).
-fn blob_at(heap: &[u8], index: u32) -> &[u8]
-    requires { (blob : List ℕ) × IsBlob heap.now index blob }
-    ensures value { result.now ≡ the_blob heap.now index }
-    ensures short { length result.now < 2 ^ 29 }
-{
-    packed::laws::numbers_are_read();
-    packed::laws::shortest_forms_encode();
-    let Ok(blob) = blob(heap, index) else {
-        unreachable!();
-    };
-    blob
 }
 
 /// The cell of a blob in a column of signatures (II.23.2).
