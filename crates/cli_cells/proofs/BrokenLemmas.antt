@@ -1,5 +1,5 @@
 -- The rows before the first one that breaks a rule for cells.
-use Rattle.cli_cells.proofs.Prelude.{◌≡◌, ◌∙◌, ℕ, ◌-◌, ◌<◌, ◌≤◌, ◌==◌, Bool, true, false, Option, Some, None, refl, sym, ap, subst, arith, nat_lt, if◌then◌else◌, slice_index_or, eqb-true, ltb-true, AllHold, each_holds, TableId, Module, rows_in, SourceAt, table_at, rules_of_cells, rules_of_table, rules_of_table_at, rules_of_row, IsBroken, IsBrokenRow, IsFirstBroken, BrokenRow, rows_before}
+use Rattle.cli_cells.proofs.Prelude.{◌≡◌, ◌∙◌, ℕ, ◌-◌, ◌<◌, ◌≤◌, ◌==◌, Bool, true, false, Option, Some, None, refl, sym, ap, subst, arith, nat_lt, if◌then◌else◌, slice_index_or, eqb-true, ltb-true, AllHold, each_holds, TableId, Module, rows_in, SourceAt, table_at, rules_of_cells, rules_of_table, rules_of_table_at, rules_of_row, rules_of_cell, columns_of, length, IsBroken, IsBrokenRow, IsFirstBroken, BrokenRow, rows_before}
 use Rattle.table_schema.specs.Tables.{tables, table_index_of}
 
 module _ (here : SourceAt) (stand : (table : TableId) → slice_index_or tables (table_index_of table) Module ≡ table) (listed : (table : TableId) → table_index_of table < 38) where
@@ -21,10 +21,18 @@ module _ (here : SourceAt) (stand : (table : TableId) → slice_index_or tables 
   before_met at is table row first false false lower equal last = absurd (omega (arith, first, last))
 
   -- each row before the broken one exists, and follows the rules for cells
-  pub row_met : (broken : Option BrokenRow) → IsFirstBroken here broken → (table : TableId) (row : ℕ) → 1 ≤ row → row ≤ rows_before here.source broken table
+  row_met : (broken : Option BrokenRow) → IsFirstBroken here broken → (table : TableId) (row : ℕ) → 1 ≤ row → row ≤ rows_before here.source broken table
       → (row ≤ rows_in here.source table) × AllHold (rules_of_row here table row)
   unfolding rules_of_cells
   row_met None all table row first last =
       (last, table_met table row (each_holds (rules_of_table_at here) 0 38 all (table_index_of table) (omega arith) (omega (arith, listed table))) first last)
   row_met (Some at) is table row first last =
       before_met at is table row first (nat_lt (table_index_of table) at.table_index) (table_index_of table == at.table_index) refl refl last
+
+  -- so does each of its cells
+  pub cell_met : (broken : Option BrokenRow) → IsFirstBroken here broken → (table : TableId) (row column : ℕ) → 1 ≤ row → row ≤ rows_before here.source broken table
+      → column < length (columns_of table) → (row ≤ rows_in here.source table) × AllHold (rules_of_cell here table row column)
+  unfolding rules_of_row
+  cell_met broken is table row column first last within =
+      let met = row_met broken is table row first last in
+      (met.0, each_holds (rules_of_cell here table row) 0 (length (columns_of table)) met.1 column (omega arith) (omega (arith, within)))

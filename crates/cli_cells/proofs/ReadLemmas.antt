@@ -1,5 +1,5 @@
 -- The cell that is read for a number is one that the number represents.
-use Rattle.cli_cells.proofs.Prelude.{◌≡◌, ◌≢◌, ◌∙◌, ℕ, zero, suc, ◌+◌, ◌*◌, ◌/◌, ◌%◌, ◌^◌, ◌<◌, ◌≤◌, Bool, false, List, [], ◌∷◌, ◌++◌, length, drop, Option, Some, None, refl, ap, sym, subst, inl, inr, arith, ne_eqb, All-head, All-tail, AllHold, each_holds, TableId, ColumnKind, columns_of, column_at, is_padding, Source, number_of, SourceAt, cell_offset, start_of, StandsIn, MayRefer, rules_of_cell, rules_of_number, rules_of_row, blob_at, cell_at, coded_at, guid_at, read_cell, row_at, signature_at, signature_of, text_at, text_of}
+use Rattle.cli_cells.proofs.Prelude.{◌≡◌, ◌≢◌, ◌∙◌, ℕ, zero, suc, ◌+◌, ◌*◌, ◌/◌, ◌%◌, ◌^◌, ◌<◌, ◌≤◌, Bool, false, List, [], ◌∷◌, ◌++◌, length, drop, Option, Some, None, refl, ap, sym, subst, inl, inr, arith, ne_eqb, All-head, All-tail, AllHold, TableId, ColumnKind, column_at, is_padding, Source, number_of, SourceAt, cell_offset, start_of, StandsIn, MayRefer, rules_of_cell, rules_of_number, blob_at, cell_at, coded_at, guid_at, read_cell, row_at, signature_at, signature_of, text_at, text_of}
 use Rattle.std.proofs.Math.Seq.{drop-append_seam, take-append_seam}
 use Rattle.std.proofs.lemmas.Nat.{div-add-mod', mod_below, same_from_place}
 use Rattle.std.proofs.lemmas.Option.{slice_get_within}
@@ -140,7 +140,3 @@ module _ (here : SourceAt) (table : TableId) (row column : ℕ) where
   signature_blob of is all =
       let P : ColumnKind → Type 0 = λ k. AllHold (rules_of_number here.source k (column_at table column).nullable (number_of here.source table row column) (cell_offset here table row column)) in
       (subst P is all).0
-
-  pub cell_of_row : column < length (columns_of table) → AllHold (rules_of_row here table row) → AllHold (rules_of_cell here table row column)
-  unfolding rules_of_row
-  cell_of_row within all = each_holds (rules_of_cell here table row) 0 (length (columns_of table)) all column (omega arith) (omega (arith, within))
