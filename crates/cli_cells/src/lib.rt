@@ -12,7 +12,6 @@
 #![tactic(auto)]
 
 mod cells;
-pub mod laws;
 mod met_rows;
 mod row_lines;
 mod shown_rows;

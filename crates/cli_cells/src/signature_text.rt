@@ -51,16 +51,12 @@ impl TextSink for SignatureText {
 
     fn number(&mut self, number: u32) -> Option<()> {
         let mut digits = Buffer::new();
-        let pushed = self
-            .text
-            .extend_from_slice(digits.format(number).as_bytes());
-        answer(&mut self.refused, pushed)
+        self.text(digits.format(number))
     }
 
     fn signed(&mut self, value: i64) -> Option<()> {
         let mut digits = Buffer::new();
-        let pushed = self.text.extend_from_slice(digits.format(value).as_bytes());
-        answer(&mut self.refused, pushed)
+        self.text(digits.format(value))
     }
 
     fn name(&mut self, token: Token) -> Option<()> {

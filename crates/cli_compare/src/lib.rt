@@ -11,6 +11,5 @@
 #![tactic(auto)]
 
 mod differences;
-pub mod laws;
 
 pub use differences::print_differences;

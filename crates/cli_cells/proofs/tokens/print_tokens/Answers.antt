@@ -1,6 +1,6 @@
 use Rattle.cli_cells.proofs.Prelude.{◌+◌, ◌++◌, ◌∷◌, ◌∙◌, [], ℕ, List, ap, drop, get_or, refl, sym, take, drop_more, take-append-drop, take_all, take_more, All-more, All-nil, IsNamed}
 use Rattle.cli_cells.proofs.TokenLemmas.{lines_appended}
-use Rattle.cli_cells.proofs.tokens.print_each.Goals as goal
+use Rattle.cli_cells.proofs.tokens.print_tokens.Goals as goal
 
 pub loop-number-init : goal.loop-number-init
 loop-number-init g c = record { there = All-nil _; printed = λ model is. ([], refl, c.lines_follow.ensures.nothing _) }

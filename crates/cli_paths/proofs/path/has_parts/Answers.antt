@@ -1,6 +1,6 @@
-use Rattle.cli_paths.proofs.Prelude.{◌≡◌, ◌+◌, ◌-◌, ◌<◌, ℕ, suc, List, [], length, map, arith, subst, sym, Bor, get_or-map, TypeRef, HasOwnName}
-use Rattle.cli_paths.proofs.PathLemmas.{ref_more}
-use Rattle.cli_paths.proofs.refs.has_ref_parts.Goals as goal
+use Rattle.cli_paths.proofs.Prelude.{◌≡◌, ◌+◌, ◌-◌, ◌<◌, ℕ, suc, List, [], length, map, arith, subst, sym, Bor, get_or-map, HasOwnName}
+use Rattle.cli_paths.proofs.PathLemmas.{part_more}
+use Rattle.cli_paths.proofs.path.has_parts.Goals as goal
 
 pub returns-in_default : goal.returns-in_default
 returns-in_default c = λ model is. (
@@ -21,15 +21,15 @@ returns-then-not-has_own_name c = λ model is. (
       let lt : k < length parts = omega (arith, below) in
       let same : length parts - c.loop-below.below ≡ suc k = omega (arith, below) in
       let named = rw (same, c.in-Some.is) at ((c.loop-below.invariant.same model is).0 has) in
-      let yes = (c.has_own_name.ensures model is).1 (subst (λ (t : List ℕ). HasOwnName model TypeRef t c.in-Some.inner) (get_or-map (λ (part : Bor (List ℕ)). part.now) parts k _ [] lt) named.0) in
+      let yes = (c.has_own_name.ensures model is).1 (subst (λ (t : List ℕ). HasOwnName model c.args.table t c.in-Some.inner) (get_or-map (λ (part : Bor (List ℕ)). part.now) parts k _ [] lt) named.0) in
       let no = c.if-not-has_own_name.true in
       absurd cc),
 )
 
 pub loop-below-preserved : goal.loop-below-preserved
 loop-below-preserved c = record {
-  first = c.enclosing_type_ref-left.ensures.first;
-  last = c.enclosing_type_ref-left.ensures.last;
+  first = c.outer_row-left.ensures.first;
+  last = c.outer_row-left.ensures.last;
   same = λ model is.
       let parts = c.args.parts.now in
       let inner = c.in-Some.inner in
@@ -40,8 +40,7 @@ loop-below-preserved c = record {
       let next : length parts - (c.loop-below.below + 1) ≡ k = omega (arith, below) in
       let here = rw (same, c.in-Some.is) at (c.loop-below.invariant.same model is) in
       let own = (c.has_own_name.ensures model is).0 c.if-not-has_own_name.false in
-      let name = subst (λ (t : List ℕ). HasOwnName model TypeRef t inner) (sym (get_or-map (λ (part : Bor (List ℕ)). part.now) parts k _ [] lt)) own in
-      let outer = c.enclosing_type_ref-left in
-      let more = ref_more model inner (map (λ (part : Bor (List ℕ)). part.now) parts) k outer.result (outer.ensures.sound model is, outer.ensures.none model is) in
+      let name = subst (λ (t : List ℕ). HasOwnName model c.args.table t inner) (sym (get_or-map (λ (part : Bor (List ℕ)). part.now) parts k _ [] lt)) own in
+      let more = part_more model c.args.table inner (map (λ (part : Bor (List ℕ)). part.now) parts) k c.outer_row-left.result (c.outer_row-left.ensures.around model is) in
       rw next ((λ x. (more.0 (here.0 x)).1), (λ y. here.1 (more.1 (name, y))));
 }

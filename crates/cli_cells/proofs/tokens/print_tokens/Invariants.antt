@@ -1,5 +1,5 @@
 use Rattle.cli_cells.proofs.Prelude.{All, take, ArePrinted, IsNamed}
-use Rattle.cli_cells.proofs.tokens.print_each.Given as goal
+use Rattle.cli_cells.proofs.tokens.print_tokens.Given as goal
 
 abbrev pub invariant-loop-number : goal.invariant-loop-number
 invariant-loop-number g l = record {
