@@ -39,10 +39,6 @@ pub on_ok : {T E P Q : Type 0} (result : Result T E) → OnOk result P → (P �
 on_ok (Ok done) is f = f is
 on_ok (Err error) is f = tt
 
--- two lists that were appended, one after the other
-pub two_pushed : (line a b : List ℕ) → {now new : List ℕ} → now ≡ line ++ a → new ≡ now ++ b → new ≡ line ++ (a ++ b)
-two_pushed line a b first second = rw (second, first) (append_assoc line a b)
-
 -- the parts of a line, one after another
 pub three_joined : (line a b c : List ℕ) → ((line ++ a) ++ b) ++ c ≡ line ++ (a ++ b ++ c)
 three_joined line a b c = simp append_assoc

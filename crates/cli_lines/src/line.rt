@@ -84,6 +84,7 @@ fn push_text_part(alloc: Global, part: &Part<'_>, line: &mut Vec<u8>) -> Result<
 }
 
 /// Appends a part of a line of text, with letters beyond ASCII as they are.
+#[tactic(auto, using(crate::proofs::TextLemmas::letters_shown))]
 #[inline(never)]
 fn push_letters_part(alloc: Global, part: &Part<'_>, line: &mut Vec<u8>) -> Result<(), AllocError>
     ensures { OnOk result (line.new.items ≡ line.old.items ++ part_letters (shown part.now)) }

@@ -85,6 +85,7 @@ impl<'o, W: Write> Printer<'o, W> {
     }
 
     /// Begins a line with these parts.
+    #[tactic(auto, using(crate::proofs::PrintedLemmas::begins_more))]
     pub fn begin(&mut self, parts: &[Part<'_>])
         ensures { Begins self.old self.new (map shown parts.now) }
     {
