@@ -1,3 +1,2 @@
-pub mod AsIsLemmas
 pub mod LetterLemmas
 pub mod Prelude

@@ -1,4 +1,3 @@
-pub mod Finding
 pub mod NumbersRead
 pub mod Prelude
 pub mod TypeNames
