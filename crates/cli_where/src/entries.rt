@@ -63,10 +63,7 @@ fn stream_in<'a>(root: &Root<'a>, kind: Kind) -> &'a [u8]
     ensures stream { result.now ≡ unwrap_or (stream_of root.now kind) [] }
     ensures within { length result.now ≤ length root.now.bytes }
 {
-    match root.stream(kind) {
-        Some(stream) => stream,
-        None => &[],
-    }
+    root.stream(kind).unwrap_or(&[])
 }
 
 /// The offset of a stream in a root; 0 if no header refers to it.
@@ -74,10 +71,7 @@ fn stream_offset(root: &Root, kind: Kind) -> usize
     ensures offset { result ≡ unwrap_or (option_map (λ range. range.0) (range_of root.now kind)) 0 }
     ensures within { result ≤ length root.now.bytes }
 {
-    match root.stream_place(kind) {
-        Some(range) => range.start,
-        None => 0,
-    }
+    root.stream_place(kind).map_or(0, |range| range.start)
 }
 
 /// A stream of a root that is at offset `start` of the file. It has no bytes if no header refers to it.
