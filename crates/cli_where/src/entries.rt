@@ -109,10 +109,7 @@ pub(crate) fn run_of(texts: Heap<'_>, offset: u64) -> Option<Run>
     requires { IsLow texts }
     ensures { IsRunOf (heap_of texts.entry) offset result }
 {
-    if offset < texts.start {
-        return None;
-    }
-    let byte = offset - texts.start;
+    let byte = offset.checked_sub(texts.start)?;
     if byte >= texts.bytes.len() as u64 {
         return None;
     }
@@ -202,13 +199,7 @@ pub(crate) fn entry_at(target: &Target<'_>, kind: ColumnKind, index: u32) -> Opt
         ColumnKind::Text => string_at(target, index),
         ColumnKind::Guid => guid_at(target, index),
         ColumnKind::Blob | ColumnKind::Signature(_) => blob_at(target, index),
-        ColumnKind::U8
-        | ColumnKind::U16
-        | ColumnKind::U32
-        | ColumnKind::Padding
-        | ColumnKind::Row(_)
-        | ColumnKind::Coded(_)
-        | ColumnKind::List(_) => None,
+        _ => None,
     }
 }
 
