@@ -16,7 +16,6 @@
 //! ```
 #![tactic(auto)]
 
-mod cells;
 mod entries;
 mod named_entries;
 mod report;

@@ -2,7 +2,7 @@ use Rattle.cli_where.proofs.Prelude.{finds_joined, finds_none}
 use Rattle.std.proofs.Common.{◌+◌, ◌≤◌, ◌∷◌, [], None, Some, arith, refl}
 use Rattle.cli_regions.specs.Regions.{cell as is_cell}
 use Rattle.cli_where.specs.Cells.{AreCellsAt}
-use Rattle.cli_where.proofs.cells.find_cell.Goals as goal
+use Rattle.cli_where.proofs.walk.find_cell.Goals as goal
 
 pub returns-then-offset-start : goal.returns-then-offset-start
 returns-then-offset-start c =
@@ -18,6 +18,6 @@ returns-in-Some c =
     )
     c.keep.ensures
 
-pub returns-in-None : goal.returns-in-None
-returns-in-None c =
-    finds_none _ c.args.found.now (None, (λ table row column from cell. c.in-None.ensures.none table row column (rw c.offset-offset.ensures cell)), refl)
+pub returns-in_default : goal.returns-in_default
+returns-in_default c =
+    finds_none _ c.args.found.now (None, (λ table row column from cell. c.in_default.ensures.none table row column (rw c.offset-offset.ensures cell)), refl)
