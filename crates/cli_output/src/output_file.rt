@@ -64,8 +64,7 @@ impl Relation {
 
     /// Compares the file that a path leads to with another.
     fn at<R: Files>(rt: &R, path: &str, other: &Metadata) -> Relation {
-        fs::metadata(rt, path)
-            .map_or(Relation::Unknown, |found| Relation::of(&found, other))
+        fs::metadata(rt, path).map_or(Relation::Unknown, |found| Relation::of(&found, other))
     }
 
     /// Compares each of the files that were read with another: whether one of them is it, or may be it.
@@ -166,14 +165,14 @@ fn replace<'a, R: Files + AllocGlobal>(
     ensures unwritten { IfErr result (IsUnwritten path.now) }
 {
     // A symbolic link stays. The file that it leads to is replaced.
-    let target =
-        fs::canonicalize(rt, path).map_err(|error| Failure::of_opening(&error, path))?;
+    let target = fs::canonicalize(rt, path).map_err(|error| Failure::of_opening(&error, path))?;
     // An open file that was removed leads to a path of which another file may have been made.
     if let Relation::Different = Relation::at(rt, target.as_str(), replaced) {
         return Err(not_written(path, Reason::Input));
     }
-    let (file, beside) = create_beside(rt, target.as_str())
-        .map_err(|error| Failure::of_opening(&error, path))?;
+    let (file, beside) = create_beside(rt, target.as_str()).map_err(|error| Failure::of_opening(
+        &error, path,
+    ))?;
     let outcome = match send(bytes, file, path) {
         Ok(file) => match finish(rt, &file, replaced, beside.as_str(), target.as_str()) {
             Ok(()) => Ok(file),

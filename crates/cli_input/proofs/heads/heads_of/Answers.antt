@@ -24,7 +24,7 @@ pub returns-in_ok-heads-in-File-clause-one : goal.returns-in_ok-heads-in-File-cl
 returns-in_ok-heads-in-File-clause-one c =
     let it = c.in_ok-heads-in-File in
     rw c.in-File.is (λ other more are.
-        let same : are.1 ≡ it.heads.header =
-        c.headers_are_read.ensures.said are.0 are.1 are.3 ∙ ap header_of (c.images_are_read.ensures.said c.args.bytes.now are.0 are.2) ∙ sym it.ensures.header in
-        let read = it.ensures.root ∙ c.roots_are_read.ensures.said (root_in c.args.bytes.now it.heads.header) more.version more.headers it.ensures.small.1 (rw same at are.5) in
-        (ap Some (sym same) ∙ sym are.4, ap (λ r. r.version) read, ap (λ r. r.headers) read))
+    let same : are.1 ≡ it.heads.header =
+    c.headers_are_read.ensures.said are.0 are.1 are.3 ∙ ap header_of (c.images_are_read.ensures.said c.args.bytes.now are.0 are.2) ∙ sym it.ensures.header in
+    let read = it.ensures.root ∙ c.roots_are_read.ensures.said (root_in c.args.bytes.now it.heads.header) more.version more.headers it.ensures.small.1 (rw same at are.5) in
+    (ap Some (sym same) ∙ sym are.4, ap (λ r. r.version) read, ap (λ r. r.headers) read))
