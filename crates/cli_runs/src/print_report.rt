@@ -139,6 +139,7 @@ fn print_first_rows<'a, W: Write>(
 }
 
 /// Prints the declarations.
+#[tactic(auto, using(crate::proofs::Printings::model_of_facts, crate::proofs::Printings::some_declared))]
 fn print_all<'a, W: Write>(
     job: &Job<'_>,
     options: OutlineOptions,
@@ -178,6 +179,7 @@ fn print_row<'a, W: Write>(
 }
 
 /// Prints what is referred to of one type of other modules.
+#[tactic(auto, using(crate::proofs::Printings::declared))]
 fn print_type_refs<'a, W: Write>(
     job: &Job<'_>,
     subject: Subject<'_>,
