@@ -2,4 +2,3 @@ pub mod ColumnsNamed
 pub mod Prelude
 pub mod NamedEach
 pub mod EmbedRuns
-pub mod OneCheck

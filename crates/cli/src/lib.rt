@@ -10,7 +10,6 @@
 #![tactic(auto)]
 
 mod columns;
-pub mod laws;
 mod program;
 mod task;
 mod usage_text;

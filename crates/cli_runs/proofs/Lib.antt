@@ -1,4 +1,3 @@
-pub mod NamesListed
 pub mod Prelude
 pub mod Printings
 pub mod Reporting

@@ -9,7 +9,7 @@ use crate::print_report::print_report;
 use crate::report::{Ended, Job, Report, Request, Verdict};
 use cli_faults::{Failure, Stop};
 use cli_lines::Printer;
-use cli_roots::check_within;
+use cli_roots::{check_within, is_spent};
 use opening::BoundedError;
 use std::alloc::Global;
 use std::io::Write;
@@ -28,6 +28,12 @@ pub fn report_on<'a, W: Write>(
 ) -> Result<Ended<'a>, Failure<'a>>
     ensures { IsReported request.now W.contents out.old out.new name.now bytes.now result }
 {
+    let job = Job {
+        alloc,
+        request,
+        name,
+        bytes,
+    };
     match &request.report {
         Report::Check(Verdict::Quiet) => {
             match check_within(bytes, request.input, request.budget) {
@@ -36,15 +42,12 @@ pub fn report_on<'a, W: Write>(
                 Err(BoundedError::Fault(_)) => Ok(Ended::Stopped(Stop::Broken)),
             }
         }
-        _ => send_report(
-            &Job {
-                alloc,
-                request,
-                name,
-                bytes,
-            },
-            out,
-        ),
+        // A check looks at the budget by itself.
+        Report::Check(_) => send_report(&job, out),
+        _ if is_spent(bytes, request.input, request.budget) => {
+            Ok(Ended::Refused(Stop::BudgetSpent))
+        }
+        _ => send_report(&job, out),
     }
 }
 
