@@ -1,5 +1,7 @@
 ghost use Rattle.std.specs.Prelude.{◌≡◌};
+ghost use Rattle.std.specs.Str.{bytes_eq};
 ghost use Rattle.cli_arguments.specs.Asked.{subcommand_named};
+ghost use Rattle.cli_arguments.specs.CommandLine.{name_of};
 
 use crate::subcommands::usage_of;
 
@@ -119,11 +121,16 @@ impl Subcommand {
     pub fn named(word: &str) -> Option<Subcommand>
         ensures { result ≡ subcommand_named word.now }
     {
-        for subcommand in Subcommand::ALL {
-            if word == usage_of(*subcommand).name {
-                return Some(*subcommand);
-            }
-        }
-        None
+        Subcommand::ALL
+            .iter()
+            .copied()
+            .find(|subcommand| subcommand.has_name(word))
+    }
+
+    /// Whether this is its name.
+    fn has_name(self, word: &str) -> bool
+        ensures { result ≡ bytes_eq word.now (name_of self) }
+    {
+        word == usage_of(self).name
     }
 }
