@@ -16,19 +16,40 @@ macro_rules! argument {
     };
 }
 
-/// The arguments of a report on files: those that name the files, what all reports take, and others.
-macro_rules! reports {
-    ($files:expr $(, $other:expr)*) => {
+/// Arguments among which are those that list files: the ones before these, and the ones after them.
+macro_rules! from_lists {
+    ([$($before:expr),*] [$($after:expr),*]) => {
         &[
-            $files,
-            crate::subcommands::BARE,
-            crate::subcommands::BUDGET,
+            $($before,)*
             crate::subcommands::FILES_FROM,
             crate::subcommands::NULL,
             crate::subcommands::RECURSIVE,
-            crate::subcommands::JSON,
-            $($other,)*
+            $($after,)*
         ]
+    };
+}
+
+/// The arguments of a report on files: those that name the files, what all reports take, and others.
+macro_rules! reports {
+    ($files:expr $(, $other:expr)*) => {
+        from_lists!([$files, crate::subcommands::BARE, crate::subcommands::BUDGET] [crate::subcommands::JSON $(, $other)*])
+    };
+}
+
+/// The help of a report on files: what it says of several files stands between these texts.
+macro_rules! of_several {
+    ($before:literal $after:literal) => {
+        concat!(
+            $before,
+            "
+For several FILEs each line begins with 'FILE: '. A FILE that breaks a rule or
+cannot be read is reported to standard error with its name, and the next one
+follows. The exit status is the greatest. 'clim check --help' says what '-r',
+'-0' and '--files-from' read.
+
+",
+            $after
+        )
     };
 }
 

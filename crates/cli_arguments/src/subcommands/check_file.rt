@@ -1,20 +1,14 @@
 //! `clim check`: checks files against the rules of the standard.
-use crate::subcommands::{BARE, BUDGET, FILES, FILES_FROM, JSON, NULL, RECURSIVE, Usage};
+use crate::subcommands::{BARE, BUDGET, FILES, JSON, Usage};
 
 pub(crate) const USAGE: Usage<'static> = Usage {
     name: "check",
     about: "Check files against the rules of the standard",
-    arguments: &[
-        FILES,
-        BARE,
-        BUDGET,
-        FILES_FROM,
-        NULL,
-        RECURSIVE,
+    arguments: from_lists!([FILES, BARE, BUDGET] [
         argument!["quiet" EitherFlag('q') "Print no faults; only the exit status reports them"],
         JSON,
-        argument!["where" Flag "Print what contains the byte at a fault; explain it"],
-    ],
+        argument!["where" Flag "Print what contains the byte at a fault; explain it"]
+    ]),
     output: "\
 Prints 'ok' if FILE breaks no rule. Otherwise prints only the first fault, to
 standard error. The rules are those that 'clim explain' lists from 101 to 801,

@@ -1,10 +1,10 @@
 //! `clim digest`: the SHA-256 digests of the canonical roots of files.
-use crate::subcommands::{BARE, BUDGET, FILES, FILES_FROM, JSON, NULL, RECURSIVE, Usage};
+use crate::subcommands::{FILES, Usage};
 
 pub(crate) const USAGE: Usage<'static> = Usage {
     name: "digest",
     about: "Print the SHA-256 digest of the canonical root of each file",
-    arguments: &[FILES, BARE, BUDGET, FILES_FROM, NULL, RECURSIVE, JSON],
+    arguments: reports![FILES],
     output: "\
 Prints the 64 hexadecimal digits of the digest, two spaces and FILE, like
 sha256sum. The digest is that of the bytes that 'clim rewrite' writes:
