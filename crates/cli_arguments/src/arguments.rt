@@ -103,22 +103,15 @@ fn list<'a>(alloc: Global, given: &ArgMatches<'a>, id: &str) -> Result<Vec<&'a s
 fn command<'a>(alloc: Global) -> Result<Command<'a>, AllocError>
     ensures { IfOk result (λ command. app_of command ≡ line.clim) }
 {
-    let mut program = program(alloc);
+    let mut program = Command::new(alloc, "clim")
+        .version("0.1.0")
+        .long_version(LONG_VERSION)
+        .override_help(HELP)
+        .subcommand_required(true);
     for subcommand in Subcommand::ALL {
         program = program.subcommand(command_of(alloc, *subcommand)?)?;
     }
     Ok(program)
-}
-
-/// The program without its subcommands.
-fn program<'a>(alloc: Global) -> Command<'a>
-    ensures { app_of result ≡ line.without_subcommands }
-{
-    Command::new(alloc, "clim")
-        .version("0.1.0")
-        .long_version(LONG_VERSION)
-        .override_help(HELP)
-        .subcommand_required(true)
 }
 
 /// A subcommand, with its arguments and its help.
