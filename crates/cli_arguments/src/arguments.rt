@@ -1,8 +1,8 @@
 //! The command line, and what its arguments ask for.
-ghost use Rattle.std.specs.Prelude.{◌≡◌, ◌↔◌, IfOk, IsTrue, Some, [], codes, false, map, true, unwrap_or};
-ghost use Rattle.clap.specs.Words.{FailsBy, HasMatchesOf, all_of, app_of, fault_of, found_of, has_subcommand, one_of, rows_of, shape_of, subcommand_of};
+ghost use Rattle.std.specs.Prelude.{◌≡◌, IfOk, Some, [], false, map, true, unwrap_or};
+ghost use Rattle.clap.specs.Words.{FailsBy, HasMatchesOf, all_of, app_of, fault_of, found_of, has_subcommand, rows_of, shape_of, subcommand_of};
 ghost use Rattle.clap.specs.declared.Command.TheViews.{out-Command as fields_of};
-ghost use Rattle.cli_arguments.specs.Asked.{Gives};
+ghost use Rattle.cli_arguments.specs.Asked.{Gives, has_flag};
 ghost use Rattle.cli_arguments.specs.CommandLine as line;
 
 use crate::argument::arg_of;
@@ -87,7 +87,7 @@ fn asked<'a>(
 
 /// Whether the flag was given.
 pub(crate) fn flag(given: &ArgMatches<'_>, id: &str) -> bool
-    ensures { IsTrue result ↔ (one_of id.now (rows_of (found_of given.now)) ≡ Some (codes "true")) }
+    ensures { result ≡ has_flag (rows_of (found_of given.now)) id.now }
 {
     given.get_one::<bool>(id).unwrap_or(false)
 }
