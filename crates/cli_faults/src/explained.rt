@@ -20,11 +20,31 @@ pub struct Explanation {
     pub cause: Option<&'static str>,
 }
 
+/// A text, if there is one.
+macro_rules! text {
+    () => { None };
+    ($text:literal) => { Some($text) };
+}
+
+/// The explanation of a rule.
+macro_rules! explanation {
+    ($code:ident $summary:literal $(section $section:literal)? rule $rule:literal offset $offset:literal $(cause $cause:literal)?) => {
+        Explanation {
+            code: FaultCode::$code,
+            summary: $summary,
+            section: text!($($section)?),
+            rule: $rule,
+            offset: $offset,
+            cause: text!($($cause)?),
+        }
+    };
+}
+
 /// The explanation of the rule with a code.
 macro_rules! explained {
-    ($by:ident $($number:literal $code:ident $name:ident,)*) => {
+    ($by:ident $($number:literal $code:ident [$($texts:tt)*])*) => {
         match $by {
-            $(FaultCode::$code => &crate::rules::$name,)*
+            $(FaultCode::$code => &explanation!($code $($texts)*),)*
         }
     };
 }
