@@ -1,11 +1,6 @@
 //! `clim info`: what one wants to know first of an assembly.
-use crate::subcommands::{FILES, Usage};
 
-pub(crate) const USAGE: Usage<'static> = Usage {
-    name: "info",
-    about: "Print what an assembly is: its identity, headers and references",
-    arguments: reports![FILES],
-    output: of_several!["\
+pub(crate) const OUTPUT: &str = of_several!["\
 Each line begins with a word for what follows it:
   assembly   the identity of the assembly, as .NET writes it; a module alone has
              none
@@ -49,5 +44,4 @@ Examples:
   types 0 methods 0 fields 0 resources 0
   $ clim info --json --bare two_types.root
   {\"version\":\"v4.0.30319\"}
-  {\"types\":2,\"methods\":1,\"fields\":2,\"resources\":0}"],
-};
+  {\"types\":2,\"methods\":1,\"fields\":2,\"resources\":0}"];

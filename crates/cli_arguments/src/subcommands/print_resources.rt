@@ -1,14 +1,6 @@
 //! `clim resources`: where the resources of a file are, and the content of one.
-use crate::subcommands::{BUDGET, FILES, JSON, Usage};
 
-pub(crate) const USAGE: Usage<'static> = Usage {
-    name: "resources",
-    about: "Print where the resources are, or write the content of one",
-    arguments: from_lists!([FILES, BUDGET] [
-        JSON,
-        argument!["extract" Option("NAME") "Write the content of this resource alone"]
-    ]),
-    output: of_several!["\
+pub(crate) const OUTPUT: &str = of_several!["\
 Prints a line for each row of ManifestResource (ECMA-335, II.22.24), in their
 order: 'resource OFFSET SIZE VISIBILITY NAME', with the offset and the size of
 its content in FILE, or 'resource in HOLDER VISIBILITY NAME' if another file or
@@ -29,5 +21,4 @@ Examples:
   $ clim resources shapes.dll
   resource 2364 7 public notes.txt
   $ clim resources --extract notes.txt shapes.dll
-  a note"],
-};
+  a note"];

@@ -1,14 +1,6 @@
 //! `clim root`: the CLI header of a PE file, and the version and the stream headers of its metadata root.
-use crate::subcommands::{BARE, FILES, JSON, Usage};
 
-pub(crate) const USAGE: Usage<'static> = Usage {
-    name: "root",
-    about: "Print the CLI header, the version and the stream headers",
-    arguments: from_lists!([FILES, BARE] [
-        JSON,
-        argument!["until-fault" Flag "Print what can be read before a fault, then the fault"]
-    ]),
-    output: of_several!["\
+pub(crate) const OUTPUT: &str = of_several!["\
 For a PE file the first line is 'cli MAJOR.MINOR flags F entry E root OFFSET
 SIZE' (ECMA-335, II.25.3.3). F and E are hexadecimal, and OFFSET is an offset in
 the file. Then it prints 'version TEXT', and for each stream header 'stream
@@ -42,5 +34,4 @@ Examples:
   {\"version\":\"v4.0.30319\"}
   {\"stream\":{\"offset\":80,\"size\":40,\"name\":\"#~\"}}
   {\"stream\":{\"offset\":120,\"size\":8,\"name\":\"#Strings\"}}
-  {\"stream\":{\"offset\":128,\"size\":16,\"name\":\"#GUID\"}}"],
-};
+  {\"stream\":{\"offset\":128,\"size\":16,\"name\":\"#GUID\"}}"];

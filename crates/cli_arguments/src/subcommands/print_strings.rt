@@ -1,11 +1,6 @@
 //! `clim strings`: the user strings of a file.
-use crate::subcommands::{FILES, Usage};
 
-pub(crate) const USAGE: Usage<'static> = Usage {
-    name: "strings",
-    about: "Print the user strings, with their tokens",
-    arguments: reports![FILES],
-    output: of_several!["\
+pub(crate) const OUTPUT: &str = of_several!["\
 Prints a line 'TOKEN TEXT' for each entry of '#US' that is not empty (ECMA-335,
 II.24.2.4), in the order of their offsets. 'clim token' prints the entry of a
 TOKEN. The entries follow one another from offset 1, up to the end, to offset
@@ -21,5 +16,4 @@ as without the option.
 Examples:
   $ clim strings --bare two_strings.root
   70000001 Hello
-  7000000d a\\u005cb"],
-};
+  7000000d a\\u005cb"];

@@ -1,11 +1,6 @@
 //! `clim types`: the types of a file.
-use crate::subcommands::{FILES, Usage};
 
-pub(crate) const USAGE: Usage<'static> = Usage {
-    name: "types",
-    about: "Print the types, with the number of their fields and methods",
-    arguments: reports![FILES],
-    output: of_several!["\
+pub(crate) const OUTPUT: &str = of_several!["\
 Prints a line 'TOKEN NAME FIELDS METHODS' for each row of TypeDef (ECMA-335,
 II.22.37). NAME begins with the namespace and a dot, if there is a namespace,
 and is escaped like the texts of 'clim show', but not quoted: it may have
@@ -25,5 +20,4 @@ Examples:
   {\"token\":\"02000002\",\"namespace\":\"N\",\"name\":\"C\",\"fields\":2,\"methods\":1}
   $ clim types --bare one_module.root two_types.root
   two_types.root: 02000001 <Module> 0 0
-  two_types.root: 02000002 N.C 2 1"],
-};
+  two_types.root: 02000002 N.C 2 1"];

@@ -1,15 +1,6 @@
 //! `clim show`: the rows of all tables, or of one.
-use crate::subcommands::Usage;
 
-pub(crate) const USAGE: Usage<'static> = Usage {
-    name: "show",
-    about: "Print the rows of all tables, or of one",
-    arguments: reports![
-        argument!["FILE" AnyNumber "The files to read, then the TABLE to print alone, if it is one"],
-        argument!["names" Flag "Print the name of each column before its cell"],
-        argument!["until-fault" Flag "Print the rows before the first fault, then the fault"]
-    ],
-    output: of_several!["\
+pub(crate) const OUTPUT: &str = of_several!["\
 Prints for each table that has rows (ECMA-335, II.22) a line 'table NN NAME
 COUNT', with the number NN of the table in hexadecimal. Then it prints a line
 for each row: its number and its cells. A cell is one of these:
@@ -95,5 +86,4 @@ Examples:
   $ clim show --names --bare two_types.root Field
   table 04 Field 2
   04000001 Flags=1 Name=\"a\" Signature=<0608>
-  04000002 Flags=1 Name=\"b\" Signature=<0608>"],
-};
+  04000002 Flags=1 Name=\"b\" Signature=<0608>"];
