@@ -1,6 +1,5 @@
 //! Prints the lines of methods, and of fields with data.
-ghost use Rattle.std.specs.Prelude.{◌≡◌, ◌-◌, ◌<◌, ◌≤◌, ◌∷◌, ◌^◌, [], IfSome, MatchOption, false, length, map, nat_le, take, true};
-ghost use Rattle.std.specs.Option.{option_to_list};
+ghost use Rattle.std.specs.Prelude.{◌≡◌, ◌<◌, ◌≤◌, ◌∷◌, ◌^◌, [], IfSome, MatchOption, false, length, map, nat_le, take, true};
 ghost use Rattle.metadata.specs.Metadata.{Metadata};
 ghost use Rattle.metadata.specs.Model.{IsModel};
 ghost use Rattle.opening.specs.Views.{row_count};
@@ -27,7 +26,7 @@ use std::io::Write;
 /// The number of methods that are printed, and that of fields.
 const LIMIT: usize = 10;
 
-/// The largest number of sections of a file whose methods are printed: that of Windows' loader, by Microsoft's PE format.
+/// The largest number of sections of a file whose methods and fields are printed: that of Windows' loader, by Microsoft's PE format.
 const SECTION_LIMIT: usize = 96;
 
 /// How many bytes are known of data of a size that is not known.
@@ -121,31 +120,17 @@ pub(crate) fn print_content<'a, W: Write>(
     ]);
 }
 
-/// Prints the line of what a row refers to, if there is something and lines are left. Returns how many are left after it.
-fn print_row<W: Write>(
-    view: &View<'_>,
-    kind: Kind,
-    of: Option<Body>,
-    left: usize,
-    out: &mut Printer<'_, W>,
-) -> usize
-    requires { IfSome of (λ body. (1 ≤ body.row) × (body.row ≤ row_count view.now (table_of kind))) }
-    ensures lines { (model : Metadata) → IsModel view.now model → Prints out.old out.new (map (row_line kind model) (take left (option_to_list of))) }
-    ensures left { result ≡ left - length (option_to_list of) }
+/// Prints the line of what a row refers to.
+fn print_row<W: Write>(view: &View<'_>, kind: Kind, of: Body, out: &mut Printer<'_, W>)
+    requires first { 1 ≤ of.row }
+    requires last { of.row ≤ row_count view.now (table_of kind) }
+    ensures { (model : Metadata) → IsModel view.now model → Prints out.old out.new (row_line kind model of ∷ []) }
 {
-    cli_lines::laws::lines_follow::<W>();
-    let Some(body) = of else {
-        return left;
-    };
-    if left == 0 {
-        return 0;
-    }
     let (table, cell, word) = shape(kind);
-    let row = body.row;
+    let row = of.row;
     let name = text(view, table, row, cell);
-    let (start, size) = (body.start as u64, body.size as u64);
+    let (start, size) = (of.start as u64, of.size as u64);
     print_content(start, size, word, Token { table, row }, name, out);
-    left - 1
 }
 
 /// Prints the lines of the first rows whose bodies or data contain the byte at an offset of a file.
@@ -165,8 +150,14 @@ fn print_first<W: Write>(
     let mut left = LIMIT;
     let count = source.view.count(table);
     for row in 1..count + 1 {
-        let of = content_with(kind, pe, source, row, offset);
-        left = print_row(source.view, kind, of, left, out);
+        let Some(of) = content_with(kind, pe, source, row, offset) else {
+            continue;
+        };
+        if left == 0 {
+            return;
+        }
+        print_row(source.view, kind, of, out);
+        left -= 1;
     }
 }
 
