@@ -128,14 +128,11 @@ fn method_name<'a>(row: u32, view: &View<'a>) -> &'a str
 fn entry_name<'a>(header: &CliHeader, view: &View<'a>) -> &'a str
     ensures { (model : Metadata) → IsModel view.now model → result.now ≡ entry_name header.now model }
 {
-    if header.flags / NATIVE_ENTRYPOINT % 2 == 1 {
+    let is_native = header.flags / NATIVE_ENTRYPOINT % 2 == 1;
+    if is_native || header.entry_point_token / ROWS != METHOD_DEF {
         return "";
     }
-    if header.entry_point_token / ROWS == METHOD_DEF {
-        method_name(header.entry_point_token % ROWS, view)
-    } else {
-        ""
-    }
+    method_name(header.entry_point_token % ROWS, view)
 }
 
 /// Prints the line of an entry point.

@@ -50,13 +50,7 @@ fn are_texts(blob: &[u8], params: &[ArgumentType]) -> bool
 pub(crate) fn texts_in<'a, 'p>(value: &'a [u8], params: &'p [ArgumentType]) -> Option<Items<'a, 'p>>
     ensures { result ≡ texts_in params.now value.now }
 {
-    if params.is_empty() {
-        return None;
-    }
-    if value.len() > VALUE_LIMIT {
-        return None;
-    }
-    if !are_texts(value, params) {
+    if params.is_empty() || value.len() > VALUE_LIMIT || !are_texts(value, params) {
         return None;
     }
     Items::of(value, params)
