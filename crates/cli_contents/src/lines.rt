@@ -199,11 +199,9 @@ pub fn print_contents<W: Write>(
     let Some(pe) = image_in(file) else {
         return;
     };
-    match Neighbours::new(alloc, view) {
-        Ok(source) => {
-            print_first(&pe, &source, Kind::Method, offset, out);
-            print_first(&pe, &source, Kind::Field, offset, out);
-        }
-        Err(_) => out.fail(),
-    }
+    let Ok(source) = Neighbours::new(alloc, view) else {
+        return out.fail();
+    };
+    print_first(&pe, &source, Kind::Method, offset, out);
+    print_first(&pe, &source, Kind::Field, offset, out);
 }
