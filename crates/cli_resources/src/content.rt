@@ -2,7 +2,7 @@
 ghost use Rattle.std.specs.Prelude.{IfErr, IfOk};
 ghost use Rattle.cli_resources.specs.Unfound.{IsContentOf, IsUnfound};
 
-use crate::opened::{Unfound, open_file, resource_in};
+use crate::opened::{Unfound, open_file};
 use resources::{Location, NotWithin, find_resource, location_of};
 
 /// The content of the first resource with this name, as it is in the file.
@@ -25,7 +25,7 @@ pub fn resource_named<'a>(file: &'a [u8], name: &str) -> Result<&'a [u8], Unfoun
     };
     match location_of(opened.directory, &opened.view, row) {
         Ok(Location::Here(content)) => Ok(content.bytes),
-        Ok(Location::Elsewhere(_)) => Err(Unfound::Elsewhere(resource_in(row))),
-        Err(NotWithin) => Err(Unfound::Outside(resource_in(row))),
+        Ok(Location::Elsewhere(_)) => Err(Unfound::Elsewhere(row)),
+        Err(NotWithin) => Err(Unfound::Outside(row)),
     }
 }

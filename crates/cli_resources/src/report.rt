@@ -11,7 +11,7 @@ ghost use Rattle.metadata.specs.Model.{IsModel, IsModelOfFile};
 ghost use Rattle.resources.specs.Resources.{IsDirectoryOf, Where};
 
 use crate::lines::print_resource;
-use crate::opened::{Unfound, open_file, resource_in};
+use crate::opened::{Unfound, open_file};
 use cli_lines::Printer;
 use opening::View;
 use resources::{Directory, TableId, location_of};
@@ -69,7 +69,7 @@ pub fn print_resources<W: Write>(file: &[u8], out: &mut Printer<'_, W>) -> Resul
         Err(fault) => return Err(Unfound::Fault(fault)),
     };
     match first_outside(opened.directory, &opened.view) {
-        Some(row) => Err(Unfound::Outside(resource_in(row))),
+        Some(row) => Err(Unfound::Outside(row)),
         None => {
             print_rows(opened.directory, &opened.view, out);
             Ok(())
