@@ -1,5 +1,5 @@
 -- The custom attributes of the assembly whose arguments are all strings (ECMA-335 II.22.10 and II.23.3).
-use Rattle.std.specs.Prelude.{ℕ, ◌+◌, ◌-◌, ◌==◌, ◌&&◌, Bool, false, if◌then◌else◌, List, [], ◌∷◌, ◌++◌, codes, filter, flat_map, length, take, Option, None, Some, option_and_then}
+use Rattle.std.specs.Prelude.{ℕ, ◌+◌, ◌-◌, ◌==◌, ◌&&◌, Bool, true, false, if◌then◌else◌, List, [], ◌∷◌, ◌++◌, codes, filter, flat_map, length, take, Option, None, Some, option_and_then}
 use Rattle.std.specs.List.{range_with_len}
 use Rattle.table_schema.specs.declared.table.TableId.{TableId}
 use Rattle.table_schema.specs.declared.table.TableId.TheVariants.{CustomAttribute, TypeDef, TypeRef}
@@ -52,11 +52,15 @@ attribute_line namespace own items =
     member name.Directive (plain (codes "attribute")) ∷ word (codes "attribute ") ∷ field name.Namespace (line.text namespace)
     ∷ word (dot_after namespace) ∷ field name.Name (line.text own) ∷ items_parts items
 
--- of a type that is a row of TypeDef or TypeRef
+-- the rows of the table are types
+abbrev pub has_types : TableId → Bool
+has_types TypeDef = true
+has_types TypeRef = true
+has_types _ = false
+
 abbrev pub lines_of_type : Metadata → TableId → ℕ → List Item → List (List Part)
-lines_of_type model TypeDef row items = attribute_line (text_of (cell_in model TypeDef row 2)) (text_of (cell_in model TypeDef row 1)) items ∷ []
-lines_of_type model TypeRef row items = attribute_line (text_of (cell_in model TypeRef row 2)) (text_of (cell_in model TypeRef row 1)) items ∷ []
-lines_of_type model _ row items = []
+lines_of_type model table row items =
+    if has_types table then attribute_line (text_of (cell_in model table row 2)) (text_of (cell_in model table row 1)) items ∷ [] else []
 
 abbrev pub lines_of_items : Metadata → Option Token → Option (List Item) → List (List Part)
 lines_of_items model (Some class) (Some items) = lines_of_type model class.table class.row items
