@@ -13,18 +13,14 @@ use Rattle.navigation.specs.Cells.{reference_in}
 use Rattle.cli_declarations.specs.Parts.{bytes_of, text_of}
 use Rattle.cli_lines.specs.declared.names.Name.TheVariants as name
 use Rattle.cli_lines.specs.Lines as line
-use Rattle.cli_lines.specs.Lines.{Part, Value, word, field, note, member, plain, quoted, null}
+use Rattle.cli_lines.specs.Lines.{Part, Value, word, field, note, member, plain}
 use Rattle.cli_print.specs.TypeLines.{dot_after}
 use Rattle.cli_info.specs.Texts.{string_in, texts_in}
 
-abbrev pub quoted_or_null : Option (List ℕ) → Value
-quoted_or_null None = null
-quoted_or_null (Some of) = quoted of
-
 -- an argument in a line of text, if it is a string
-abbrev pub argument_parts : List ℕ → Option (Option (List ℕ)) → List Part
+abbrev pub argument_parts : List ℕ → Option Value → List Part
 argument_parts before None = []
-argument_parts before (Some of) = word before ∷ note (quoted_or_null of) ∷ []
+argument_parts before (Some of) = word before ∷ note of ∷ []
 
 -- an argument, and the name of a named one before it
 abbrev pub item_parts : Item → List Part
@@ -34,9 +30,9 @@ item_parts (named_count n) = []
 item_parts (named of own head) = word (codes " ") ∷ note (line.text own) ∷ argument_parts (codes "=") (string_in head)
 
 -- the first argument, which is in JSON too
-abbrev pub string_parts : Option (Option (List ℕ)) → List Part
+abbrev pub string_parts : Option Value → List Part
 string_parts None = []
-string_parts (Some of) = word (codes " ") ∷ field name.Text (quoted_or_null of) ∷ []
+string_parts (Some of) = word (codes " ") ∷ field name.Text of ∷ []
 
 abbrev pub first_parts : Item → List Part
 first_parts (fixed head) = string_parts (string_in head)

@@ -1,5 +1,5 @@
 //! Prints the attributes of the assembly whose arguments are all strings (II.22.10 and II.23.3).
-ghost use Rattle.std.specs.Prelude.{◌≡◌, ◌≤◌, ◌<◌, ◌∷◌, [], IsTrue, option_map};
+ghost use Rattle.std.specs.Prelude.{◌≡◌, ◌≤◌, ◌<◌, ◌∷◌, [], IsTrue};
 ghost use Rattle.table_schema.specs.declared.table.TableId.TheVariants.{CustomAttribute};
 ghost use Rattle.table_schema.specs.CellColumns.{cell_count};
 ghost use Rattle.attribute_values.specs.Views.{head_view, view};
@@ -8,8 +8,7 @@ ghost use Rattle.metadata.specs.Model.{IsModel};
 ghost use Rattle.opening.specs.Views.{row_count};
 ghost use Rattle.cli_print.specs.TypeLines.{dot_after};
 ghost use Rattle.cli_lines.specs.Printed.{Adds, Prints};
-ghost use Rattle.cli_lines.specs.Shown.{shown_value};
-ghost use Rattle.cli_info.specs.Attributes.{argument_parts, attribute_lines, attributes_lines, first_parts, has_types, is_assembly, is_own, item_parts, items_parts, lines_of_type, more_lines, quoted_or_null};
+ghost use Rattle.cli_info.specs.Attributes.{argument_parts, attribute_lines, attributes_lines, first_parts, has_types, is_assembly, is_own, item_parts, items_parts, lines_of_type, more_lines};
 ghost use Rattle.cli_info.specs.Texts.{string_in};
 
 use crate::texts::{string_in, texts_in};
@@ -17,8 +16,8 @@ use attribute_constructors::{constructor, params_of, type_of};
 use attribute_values::{Argument, Item, Items};
 use cli_declarations::{bytes, text};
 use cli_lines::Part::{Field, Member, Note, Word};
-use cli_lines::Value::{Null, Number, Plain, Quoted, Text};
-use cli_lines::{Name, Printer, Value};
+use cli_lines::Value::{Number, Plain, Text};
+use cli_lines::{Name, Printer};
 use cli_print::{NAME, NAMESPACE};
 use navigation::{Neighbours, cells};
 use opening::{TableId, Token, View};
@@ -36,16 +35,6 @@ const ASSEMBLY: u8 = 0x20;
 /// The largest number of attributes of the assembly that are read. Many rows can share a constructor and a value that take long.
 const ATTRIBUTE_LIMIT: u32 = 256;
 
-/// A text in quotes, or `null`.
-fn quoted_or_null(text: Option<&str>) -> Value<'_>
-    ensures { shown_value result ≡ quoted_or_null (option_map (λ of. of.now) text.entry) }
-{
-    match text {
-        Some(text) => Quoted(text),
-        None => Null,
-    }
-}
-
 /// Adds an argument, if it is a string, after what is before it.
 fn print_argument<W: Write>(before: &str, argument: Argument<'_>, out: &mut Printer<'_, W>)
     ensures { Adds out.old out.new (argument_parts before.now (string_in (head_view argument.entry))) }
@@ -53,7 +42,7 @@ fn print_argument<W: Write>(before: &str, argument: Argument<'_>, out: &mut Prin
     cli_lines::laws::parts_follow::<W>();
     if let Some(text) = string_in(argument) {
         out.part(&Word(before));
-        out.part(&Note(quoted_or_null(text)));
+        out.part(&Note(text));
     }
 }
 
@@ -82,7 +71,7 @@ fn print_first<W: Write>(item: Item<'_>, out: &mut Printer<'_, W>)
     if let Item::Fixed(argument) = item {
         if let Some(text) = string_in(argument) {
             out.part(&Word(" "));
-            out.part(&Field(Name::Text, quoted_or_null(text)));
+            out.part(&Field(Name::Text, text));
         }
     }
 }
