@@ -163,20 +163,18 @@ pub(crate) fn print_headers<W: Write>(
     ensures { (model : Metadata) → IsModel view.now model → Prints out.old out.new (header_lines file.now header.now model) }
 {
     cli_lines::laws::lines_follow::<W>();
-    match header {
-        Some(header) => {
-            print_image(file, out);
-            print_flags(header.flags, out);
-            print_entry(header.entry_point_token, entry_name(header, view), out);
-            let signature = header.strong_name_signature.size as u64;
-            let native = header.managed_native_header.size as u64;
-            out.line(&[
-                Word("signature "),
-                Field(Name::Signature, Number(signature)),
-                Word(" native "),
-                Field(Name::Native, Number(native)),
-            ]);
-        }
-        None => {}
-    }
+    let Some(header) = header else {
+        return;
+    };
+    print_image(file, out);
+    print_flags(header.flags, out);
+    print_entry(header.entry_point_token, entry_name(header, view), out);
+    let signature = header.strong_name_signature.size as u64;
+    let native = header.managed_native_header.size as u64;
+    out.line(&[
+        Word("signature "),
+        Field(Name::Signature, Number(signature)),
+        Word(" native "),
+        Field(Name::Native, Number(native)),
+    ]);
 }
