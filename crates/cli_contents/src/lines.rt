@@ -7,7 +7,7 @@ ghost use Rattle.pe.specs.Headers.{section_count};
 ghost use Rattle.pe.specs.Image.{Image, IsImage};
 ghost use Rattle.table_schema.specs.CellColumns.{cell_count};
 ghost use Rattle.cli_lines.specs.Printed.{Prints};
-ghost use Rattle.cli_contents.specs.Contents.{contains, content_of, content_with, contents_at, name_in, table_of, word_for};
+ghost use Rattle.cli_contents.specs.Contents.{content_with, contents_at, kept, name_in, table_of, word_for};
 ghost use Rattle.cli_contents.specs.Lines.{content_line, content_lines, content_limit, row_line, section_limit};
 
 use crate::bodies::{Body, body_of};
@@ -55,25 +55,16 @@ fn shape(kind: Kind) -> (TableId, usize, &'static str)
     }
 }
 
-/// Whether the byte at an offset is in a body or data.
-fn contains(of: Body, offset: u64) -> bool
-    ensures { result ≡ contains offset of }
+/// A body or data, if the byte at an offset is in it.
+fn kept(of: Body, offset: u64) -> Option<Body>
+    ensures kept { result ≡ kept offset of }
+    ensures row { IfSome result (λ body. body.row ≡ of.row) }
 {
     let start = of.start as u64;
-    start <= offset && offset - start < of.size.max(KNOWN) as u64
-}
-
-/// What a row refers to in the file.
-fn content_of(kind: Kind, pe: &Pe<'_>, source: &Neighbours<'_, '_>, row: u32) -> Option<Body>
-    requires small { length pe.now.bytes ≤ 2 ^ 30 }
-    requires first { 1 ≤ row }
-    requires last { row ≤ row_count source.now.view.now (table_of kind) }
-    ensures content { (model : Metadata) → IsModel source.now.view.now model → result ≡ content_of kind pe.now model row }
-    ensures row { IfSome result (λ of. of.row ≡ row) }
-{
-    match kind {
-        Kind::Method => body_of(pe, source.view, row),
-        Kind::Field => data_of(pe, source, row),
+    if start <= offset && offset - start < of.size.max(KNOWN) as u64 {
+        Some(of)
+    } else {
+        None
     }
 }
 
@@ -91,8 +82,10 @@ fn content_with(
     ensures content { (model : Metadata) → IsModel source.now.view.now model → result ≡ content_with kind pe.now model offset row }
     ensures row { IfSome result (λ of. of.row ≡ row) }
 {
-    let of = content_of(kind, pe, source, row)?;
-    if contains(of, offset) { Some(of) } else { None }
+    match kind {
+        Kind::Method => kept(body_of(pe, source.view, row)?, offset),
+        Kind::Field => kept(data_of(pe, source, row)?, offset),
+    }
 }
 
 /// Prints the line of something in the file: its file offset and its size in bytes, what it is, its token and its name.
