@@ -6,12 +6,11 @@ use Rattle.table_schema.specs.declared.table.TableId.TheVariants.{ManifestResour
 use Rattle.table_schema.specs.declared.token.Token.{Token}
 use Rattle.metadata.specs.Lookups.{HasRow}
 use Rattle.metadata.specs.Metadata.{Metadata}
-use Rattle.metadata.specs.Model.{IsModel, IsModelOfFile}
+use Rattle.metadata.specs.Model.{IsModelOfFile}
 use Rattle.metadata.specs.Rules.{rules_of_file}
 use Rattle.cli_input.specs.Checked.{IsWhole}
 use Rattle.cli_input.specs.declared.opened.Input.TheVariants as input
-use Rattle.resources.specs.Resources.{HasName, IsDirectoryOf, IsFirstNamed, IsLocation, Where, elsewhere, here}
-use Rattle.cli_resources.specs.declared.opened.Opened.{Opened}
+use Rattle.resources.specs.Resources.{HasName, IsFirstNamed, IsLocation, Where, elsewhere, here}
 use Rattle.cli_resources.specs.declared.opened.Unfound.{Unfound}
 use Rattle.cli_resources.specs.declared.opened.Unfound.TheVariants.{Elsewhere, Fault, NoSuchResource, Outside}
 
@@ -53,7 +52,3 @@ IsUnfound file name NoSuchResource = OfFile file (λ header model. (row : ℕ) �
 IsUnfound file name (Elsewhere row) =
     OfFile file (λ header model. IsFirstNamed model name row × (having : Token) × IsLocation file header model row (elsewhere having))
 IsUnfound file name (Outside row) = OfFile file (λ header model. IsFirstNamed model name row × IsNowhere file header model row)
-
--- what was found of a file that was opened: it has a model, which is that of the view, and this is its resources directory
-abbrev pub IsOpened : List ℕ → Opened → Type 0
-IsOpened file opened = OfFile file (λ header model. IsDirectoryOf file header opened.directory × IsModel opened.view model)

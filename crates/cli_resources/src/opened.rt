@@ -1,8 +1,10 @@
 //! Opens a file, and says why a resource is not found in it.
-ghost use Rattle.std.specs.Prelude.{IfErr, IfOk};
-ghost use Rattle.cli_resources.specs.Unfound.{IsOpened};
+ghost use Rattle.std.specs.Prelude.{◌×◌, IfErr, IfOk};
+ghost use Rattle.cli_resources.specs.Unfound.{OfFile};
+ghost use Rattle.metadata.specs.Model.{IsModel};
 ghost use Rattle.metadata.specs.Rules.{rules_of_file};
 ghost use Rattle.packed.specs.Rule.{FirstBroken};
+ghost use Rattle.resources.specs.Resources.{IsDirectoryOf};
 
 use opening::{View, open_image};
 use packed::Fault;
@@ -21,25 +23,15 @@ pub enum Unfound {
     Outside(u32),
 }
 
-/// A file that was opened: its resources directory, and its view.
-#[derive(Drop)]
-pub(crate) struct Opened<'a> {
-    pub(crate) directory: Option<Directory<'a>>,
-    pub(crate) view: View<'a>,
-}
-
-/// Opens a file.
+/// Opens a file: its resources directory, and its view.
 ///
 /// # Errors
 ///
 /// The fault of the first rule that fails.
-pub(crate) fn open_file(file: &[u8]) -> Result<Opened<'_>, Fault>
+pub(crate) fn open_file(file: &[u8]) -> Result<(Option<Directory<'_>>, View<'_>), Fault>
     ensures first_error { IfErr result (FirstBroken (rules_of_file file.now)) }
-    ensures opened { IfOk result (IsOpened file.now) }
+    ensures opened { IfOk result (λ opened. OfFile file.now (λ header model. IsDirectoryOf file.now header opened.0 × IsModel opened.1 model)) }
 {
     let (header, view) = open_image(file)?;
-    Ok(Opened {
-        directory: directory_of(file, &header),
-        view,
-    })
+    Ok((directory_of(file, &header), view))
 }

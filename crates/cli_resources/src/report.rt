@@ -64,14 +64,14 @@ pub fn print_resources<W: Write>(file: &[u8], out: &mut Printer<'_, W>) -> Resul
     ensures printed { OnOk result ((header : Header) (model : Metadata) → IsModelOfFile file.now header model
         → (locations : ℕ → Where) → AreLocations file.now header model locations → Prints out.old out.new (resource_lines model locations)) }
 {
-    let opened = match open_file(file) {
+    let (directory, view) = match open_file(file) {
         Ok(opened) => opened,
         Err(fault) => return Err(Unfound::Fault(fault)),
     };
-    match first_outside(opened.directory, &opened.view) {
+    match first_outside(directory, &view) {
         Some(row) => Err(Unfound::Outside(row)),
         None => {
-            print_rows(opened.directory, &opened.view, out);
+            print_rows(directory, &view, out);
             Ok(())
         }
     }
