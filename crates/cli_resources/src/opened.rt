@@ -1,5 +1,5 @@
 //! Opens a file, and says why a resource is not found in it.
-ghost use Rattle.std.specs.Prelude.{◌×◌, IfErr, IfOk};
+ghost use Rattle.std.specs.Prelude.{IfErr, IfOk};
 ghost use Rattle.cli_resources.specs.Unfound.{OfFile};
 ghost use Rattle.metadata.specs.Model.{IsModel};
 ghost use Rattle.metadata.specs.Rules.{rules_of_file};
