@@ -26,25 +26,20 @@ macro_rules! text {
     ($text:literal) => { Some($text) };
 }
 
-/// The explanation of a rule.
-macro_rules! explanation {
-    ($code:ident $summary:literal $(section $section:literal)? rule $rule:literal offset $offset:literal $(cause $cause:literal)?) => {
-        Explanation {
-            code: FaultCode::$code,
-            summary: $summary,
-            section: text!($($section)?),
-            rule: $rule,
-            offset: $offset,
-            cause: text!($($cause)?),
-        }
-    };
-}
-
 /// The explanation of the rule with a code.
 macro_rules! explained {
-    ($by:ident $($number:literal $code:ident [$($texts:tt)*])*) => {
+    ($by:ident $($number:literal $code:ident [
+        $summary:literal $(section $section:literal)? rule $rule:literal offset $offset:literal $(cause $cause:literal)?
+    ])*) => {
         match $by {
-            $(FaultCode::$code => &explanation!($code $($texts)*),)*
+            $(FaultCode::$code => &Explanation {
+                code: FaultCode::$code,
+                summary: $summary,
+                section: text!($($section)?),
+                rule: $rule,
+                offset: $offset,
+                cause: text!($($cause)?),
+            },)*
         }
     };
 }
