@@ -83,7 +83,10 @@ impl fmt::Display for Stop<'_> {
             }
             Stop::ResourceOutside(row) => {
                 let resource = resource_in(*row);
-                write!(f, "the resource {resource} is not within the resources directory")
+                write!(
+                    f,
+                    "the resource {resource} is not within the resources directory"
+                )
             }
         }
     }

@@ -188,7 +188,10 @@ pub fn report_missing_type<E: Write>(
 ) {
     let nearest = match (path, open(bytes, input)) {
         (Some(path), Ok(view)) => {
-            if let (Types::Declared, Ok(Some(several))) = (types, several_types(alloc, &view, path)) {
+            if let (Types::Declared, Ok(Some(several))) = (
+                types,
+                several_types(alloc, &view, path),
+            ) {
                 let _ = send_message(alloc, &several, err);
                 return;
             }
