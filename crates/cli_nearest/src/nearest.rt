@@ -42,7 +42,7 @@ pub(crate) fn edits_below(alloc: Global, word: &str, name: &str, limit: usize) -
 }
 
 /// The first of these whose name is nearest to an argument; `None` if all are far.
-fn nearest_of<T: Copy, F: Fn(T) -> &'static str>(
+fn nearest_of<'a, T: Copy, F: Fn(T) -> &'a str>(
     alloc: Global,
     word: &str,
     all: &[T],
