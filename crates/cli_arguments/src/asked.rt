@@ -7,7 +7,7 @@ use crate::subcommands::{each_subcommand, usage_of};
 
 /// The subcommands.
 macro_rules! variants {
-    ($($variant:ident $name:literal $module:ident $about:literal [$($arguments:tt)*])*) => {
+    ($($variant:ident $position:literal $name:literal $module:ident $about:literal [$($arguments:tt)*])*) => {
         &[$(Subcommand::$variant),*]
     };
 }

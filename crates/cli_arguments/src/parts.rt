@@ -32,7 +32,10 @@ pub(crate) fn take_part<'a>(
 fn has_files(given: &ArgMatches<'_>, words: &[&str]) -> bool
     ensures { result ≡ has_files (rows_of (found_of given.now)) (map (λ word. word.now) words.now) }
 {
-    given.get_str("files-from").is_some() || flag(given, "null") || !words.is_empty()
+    match given.get_str("files-from") {
+        Some(_) => true,
+        None => flag(given, "null") || !words.is_empty(),
+    }
 }
 
 /// Whether the last argument says what to print of files, if there are any besides.

@@ -70,67 +70,67 @@ pub(crate) mod print_where;
 pub(crate) mod rewrite_file;
 pub(crate) mod show_tables;
 
-/// The subcommands in the order of the program, as the input of a macro: the variant, the name and the module of each, what it
-/// does, in a line, and its arguments. Help shows them in this order.
+/// The subcommands in the order of the program, as the input of a macro: the variant, the position, the name and the module of
+/// each, what it does, in a line, and its arguments. Help shows them in this order.
 macro_rules! each_subcommand {
     ($then:ident $($by:ident)?) => { $then! { $($by)?
 
-    Root "root" print_root "Print the CLI header, the version and the stream headers" [from_lists!([FILES, BARE] [
+    Root 0 "root" print_root "Print the CLI header, the version and the stream headers" [from_lists!([FILES, BARE] [
         JSON,
         argument!["until-fault" Flag "Print what can be read before a fault, then the fault"]
     ])]
-    Info "info" print_info "Print what an assembly is: its identity, headers and references" [reports![FILES]]
-    Check "check" check_file "Check files against the rules of the standard" [from_lists!([FILES, BARE, BUDGET] [
+    Info 1 "info" print_info "Print what an assembly is: its identity, headers and references" [reports![FILES]]
+    Check 2 "check" check_file "Check files against the rules of the standard" [from_lists!([FILES, BARE, BUDGET] [
         argument!["quiet" EitherFlag('q') "Print no faults; only the exit status reports them"],
         JSON,
         argument!["where" Flag "Print what contains the byte at a fault; explain it"]
     ])]
-    Show "show" show_tables "Print the rows of all tables, or of one" [reports![
+    Show 3 "show" show_tables "Print the rows of all tables, or of one" [reports![
         argument!["FILE" AnyNumber "The files to read, then the TABLE to print alone, if it is one"],
         argument!["names" Flag "Print the name of each column before its cell"],
         argument!["until-fault" Flag "Print the rows before the first fault, then the fault"]
     ]]
-    Types "types" print_types "Print the types, with the number of their fields and methods" [reports![FILES]]
-    Outline "outline" print_outline "Print the declarations of the assembly, or of one type" [reports![
+    Types 4 "types" print_types "Print the types, with the number of their fields and methods" [reports![FILES]]
+    Outline 5 "outline" print_outline "Print the declarations of the assembly, or of one type" [reports![
         argument!["FILE" AnyNumber "The files to read, then the type or the row to print alone, if any"],
         argument!["no-tokens" Flag "Leave the comment with the token away"],
         argument!["public" Flag "Print only what is visible outside of the assembly"],
         argument!["sorted" Flag "Print in the order of names, not of rows"]
     ]]
-    Refs "refs" print_refs "Print what the assembly refers to in other modules" [reports![
+    Refs 6 "refs" print_refs "Print what the assembly refers to in other modules" [reports![
         argument!["FILE" AnyNumber "The files to read, then the type to print alone, if it is one"]
     ]]
-    Resources "resources" print_resources "Print where the resources are, or write the content of one" [from_lists!([FILES, BUDGET] [
+    Resources 7 "resources" print_resources "Print where the resources are, or write the content of one" [from_lists!([FILES, BUDGET] [
         JSON,
         argument!["extract" Option("NAME") "Write the content of this resource alone"]
     ])]
-    Strings "strings" print_strings "Print the user strings, with their tokens" [reports![FILES]]
-    Token "token" print_token "Print the row or the user string of each token" [&[
+    Strings 8 "strings" print_strings "Print the user strings, with their tokens" [reports![FILES]]
+    Token 9 "token" print_token "Print the row or the user string of each token" [&[
         FILE, BARE, BUDGET, JSON,
         argument!["HEX" Several "The tokens: one to eight hexadecimal digits each"],
     ]]
-    Where "where" print_where "Print which header, stream or cell contains the byte at an offset" [reports![
+    Where 10 "where" print_where "Print which header, stream or cell contains the byte at an offset" [reports![
         argument!["FILE" AnyNumber "The files to read, then the OFFSET of a byte"]
     ]]
-    Rewrite "rewrite" rewrite_file "Write the canonical metadata root of a file" [&[
+    Rewrite 11 "rewrite" rewrite_file "Write the canonical metadata root of a file" [&[
         FILE, BARE, BUDGET,
         argument!["second" Required("OUT") "The file to write"],
     ]]
-    Embed "embed" embed_root "Write a copy of a file with its canonical root, or with another" [&[
+    Embed 12 "embed" embed_root "Write a copy of a file with its canonical root, or with another" [&[
         FILE, JSON,
         argument!["second" Required("OUT") "The file to write"],
         argument!["root" Option("ROOT") "A metadata root to take instead of the canonical one"],
         argument!["unsigned" Flag "Clear the strong name: its flag and its directory"],
     ]]
-    Digest "digest" digest_file "Print the SHA-256 digest of the canonical root of each file" [reports![FILES]]
-    Compare "compare" compare_files "Compare the metadata of two files" [&[
+    Digest 13 "digest" digest_file "Print the SHA-256 digest of the canonical root of each file" [reports![FILES]]
+    Compare 14 "compare" compare_files "Compare the metadata of two files" [&[
         FILE, BARE, BUDGET,
         argument!["quiet" EitherFlag('q') "Print nothing; the exit status is the answer"],
         JSON,
         argument!["second" Required("OTHER") "The file to compare it with"],
         argument!["ignore" Repeated("TABLE.COLUMN") "Do not compare the cells of this column"],
     ]]
-    Explain "explain" explain_fault "Explain faults, or list all" [&[
+    Explain 15 "explain" explain_fault "Explain faults, or list all" [&[
         argument!["CODE" AnyNumber "The number or the name of a fault; without it, list all faults"],
         JSON,
     ]]
@@ -139,19 +139,29 @@ macro_rules! each_subcommand {
 
 pub(crate) use each_subcommand;
 
+/// The rows of the subcommands.
+macro_rules! usages {
+    ($($variant:ident $position:literal $name:literal $module:ident $about:literal [$arguments:expr])*) => {
+        [$(Usage {
+            name: $name,
+            about: $about,
+            arguments: $arguments,
+            output: $module::OUTPUT,
+        }),*]
+    };
+}
+
 /// The row of a subcommand.
 macro_rules! usage {
-    ($by:ident $($variant:ident $name:literal $module:ident $about:literal [$arguments:expr])*) => {
+    ($by:ident $($variant:ident $position:literal $name:literal $module:ident $about:literal [$($arguments:tt)*])*) => {
         match $by {
-            $(Subcommand::$variant => Usage {
-                name: $name,
-                about: $about,
-                arguments: $arguments,
-                output: $module::OUTPUT,
-            },)*
+            $(Subcommand::$variant => USAGES[$position],)*
         }
     };
 }
+
+/// The rows of the subcommands, in the order of the program.
+static USAGES: [Usage<'static>; 16] = each_subcommand!(usages);
 
 /// A subcommand: its name, its arguments and its help.
 #[derive(Clone, Copy)]

@@ -1,23 +1,26 @@
-use Rattle.std.proofs.Common.{◌≡◌, ◌∙◌, Option, None, Some, ap, codes, is_some, option_map, refl}
+use Rattle.std.proofs.Common.{◌≡◌, ◌∙◌, None, Some, ap, codes, option_map, refl, sym}
 use Rattle.std.proofs.lemmas.List.{length-map}
 use Rattle.cli_arguments.proofs.Prelude.{Bor, first_value-rows}
 use Rattle.clap.specs.Words.{Text, first_of, found_of, rows_of}
 use Rattle.cli_arguments.proofs.parts.has_files.Goals as goal
 
-some_text : (o : Option (Bor Text)) (text : Option Text) → option_map (λ word. word.now) o ≡ text → is_some o ≡ is_some text
-some_text None text is = ap is_some is
-some_text (Some word) text is = ap is_some is
-
-pub returns-then-is_some : goal.returns-then-is_some
-returns-then-is_some c =
-    rw (← some_text _ _ (c.get_str.ensures ∙ first_value-rows (found_of c.args.given.now) (codes "files-from")), ← c.is_some.ensures, c.if-is_some.true) refl
+pub returns-in-Some : goal.returns-in-Some
+returns-in-Some c =
+    let found = found_of c.args.given.now in
+    let from : first_of (codes "files-from") (rows_of found) ≡ Some c.in-Some.field-0.now =
+    sym (c.get_str.ensures ∙ first_value-rows found (codes "files-from")) ∙ ap (option_map (λ word. word.now)) c.in-Some.is in
+    rw from refl
 
 pub returns-then-flag : goal.returns-then-flag
 returns-then-flag c =
-    rw (← some_text _ _ (c.get_str.ensures ∙ first_value-rows (found_of c.args.given.now) (codes "files-from")), ← c.is_some.ensures, c.if-is_some.false)
-    (rw (← c.flag.ensures, c.if-flag.true) refl)
+    let found = found_of c.args.given.now in
+    let from : first_of (codes "files-from") (rows_of found) ≡ None =
+    sym (c.get_str.ensures ∙ first_value-rows found (codes "files-from")) ∙ ap (option_map (λ word. word.now)) c.in-None.is in
+    rw (from, ← c.flag.ensures, c.if-flag.true) refl
 
 pub returns-else-flag : goal.returns-else-flag
 returns-else-flag c =
-    rw (← some_text _ _ (c.get_str.ensures ∙ first_value-rows (found_of c.args.given.now) (codes "files-from")), ← c.is_some.ensures, c.if-is_some.false)
-    (rw (← c.flag.ensures, c.if-flag.false, length-map c.args.words.now (λ (word : Bor Text). word.now), c.is_empty.ensures) refl)
+    let found = found_of c.args.given.now in
+    let from : first_of (codes "files-from") (rows_of found) ≡ None =
+    sym (c.get_str.ensures ∙ first_value-rows found (codes "files-from")) ∙ ap (option_map (λ word. word.now)) c.in-None.is in
+    rw (from, ← c.flag.ensures, c.if-flag.false, length-map c.args.words.now (λ (word : Bor Text). word.now), c.is_empty.ensures) refl

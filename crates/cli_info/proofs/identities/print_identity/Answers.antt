@@ -12,4 +12,4 @@ returns g c = λ model is.
     rw (← c.shape-table.ensures.word, ← c.shape-table.ensures.name, ← c.shape-table.ensures.table, ← c.shape-table.ensures.first, none)
     (rw (← c.number-major.ensures model is, ← c.number-minor.ensures model is, ← c.number-build.ensures model is, ← c.number-revision.ensures model is)
     (rw (← c.number-flags.ensures model is, ← c.bytes-key.ensures model is, ← c.text-own_name.ensures model is, ← c.text.ensures model is, ← c.culture_text-culture.ensures)
-    (rw (← c.in-Ok.ensures.0, ← c.in-Ok.ensures.1, ← c.in-Ok.ensures.2, ← c.deref.ensures, ← c.deref-2.ensures, ← c.deref-3.ensures) c.line.ensures)))
+    (rw (← c.in-Ok-Ok-Ok.ensures, ← c.in-Ok-Ok-Ok.ensures', ← c.in-Ok-Ok-Ok.ensures'', ← c.deref.ensures, ← c.deref-2.ensures, ← c.deref-3.ensures) c.line.ensures)))

@@ -1,4 +1,4 @@
-use Rattle.cli_resources.proofs.Opened.{of_file}
+use Rattle.cli_resources.proofs.OfFiles.{of_file}
 use Rattle.cli_resources.proofs.content.resource_named.Goals as goal
 
 pub returns-in_default-clause-unfound : goal.returns-in_default-clause-unfound

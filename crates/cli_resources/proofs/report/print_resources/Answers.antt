@@ -1,4 +1,4 @@
-use Rattle.cli_resources.proofs.Opened.{of_file}
+use Rattle.cli_resources.proofs.OfFiles.{of_file}
 use Rattle.cli_resources.proofs.report.print_resources.Goals as goal
 
 pub returns-in-Some-clause-first_error : goal.returns-in-Some-clause-first_error
