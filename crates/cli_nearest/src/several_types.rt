@@ -34,13 +34,13 @@ impl fmt::Display for SeveralTypes<'_> {
     }
 }
 
-/// The types that have a name, whatever encloses them.
+/// The types that have a name, whatever encloses them, if there are several.
 #[tactic(auto, unfolding(table_schema::specs::CellColumns::cell_columns))]
-fn types_named<'a>(
+pub(crate) fn several_types<'a>(
     alloc: Global,
     view: &View<'_>,
     name: &'a str,
-) -> Result<SeveralTypes<'a>, AllocError> {
+) -> Result<Option<SeveralTypes<'a>>, AllocError> {
     let source = Neighbours::new(alloc, view)?;
     let mut types = SeveralTypes {
         name,
@@ -61,17 +61,9 @@ fn types_named<'a>(
         name_row(&source, Token { table, row }, &mut full_name)?;
         types.listed.push(full_name)?;
     }
-    Ok(types)
-}
-
-/// The types that have a name, whatever encloses them, if there are several; `None` also if out of memory.
-pub(crate) fn several_types<'a>(
-    alloc: Global,
-    view: &View<'_>,
-    name: &'a str,
-) -> Option<SeveralTypes<'a>> {
-    match types_named(alloc, view, name) {
-        Ok(types) if types.listed.len() > 1 => Some(types),
-        _ => None,
+    if types.listed.len() > 1 {
+        Ok(Some(types))
+    } else {
+        Ok(None)
     }
 }
