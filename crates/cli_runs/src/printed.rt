@@ -52,6 +52,7 @@ pub fn report_on<'a, W: Write>(
 }
 
 /// The name that each line of a report begins with, if there is one. The lines of a check and a digest have it already.
+#[tactic(auto, using(crate::proofs::Reporting::other_lead))]
 fn lead_of<'a>(request: &Request<'_>, name: &'a str) -> Option<&'a str>
     ensures { option_map (λ file. file.now) result ≡ lead_of request.now.report (label request.now.naming name.now) }
 {
