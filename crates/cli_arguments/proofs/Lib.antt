@@ -1,4 +1,5 @@
 pub mod NoHelp
 pub mod KnownNames
+pub mod PartLemmas
 pub mod Prelude
 pub mod Readings

@@ -8,14 +8,14 @@ use packed::FaultCode;
 
 /// The codes of the rules.
 macro_rules! codes {
-    ($($number:literal $code:ident $position:literal [$($texts:tt)*])*) => {
+    ($($number:literal $code:ident $name:ident,)*) => {
         [$(FaultCode::$code),*]
     };
 }
 
 /// The rule with a number.
 macro_rules! numbered {
-    ($by:ident $($number:literal $code:ident $position:literal [$($texts:tt)*])*) => {
+    ($by:ident $($number:literal $code:ident $name:ident,)*) => {
         match $by {
             $($number => Some(FaultCode::$code),)*
             _ => None,

@@ -1,7 +1,7 @@
 //! An argument that is wrong, and the line that reports it.
 ghost use Rattle.std.specs.Prelude.{Some};
 ghost use Rattle.std.specs.Fmt.{WritesOnOk};
-ghost use Rattle.cli_faults.specs.Texts.{hint_text, usage_text, wrong_text};
+ghost use Rattle.cli_faults.specs.Texts.{nearest_text, usage_text, wrong_text};
 
 use crate::escaped::Escaped;
 use packed::{Fault, FaultCode};
@@ -32,26 +32,62 @@ pub enum UsageError<'a> {
     NoColumn(&'a str, Option<(TableId, &'static str)>),
 }
 
-/// The name that a wrong argument may have meant. `Display` gives a line feed and the line of a hint; nothing if there is none.
+/// A name that an argument may have meant. `Display` gives a line feed and the line of a hint; nothing if there is none.
 #[derive(Clone, Copy)]
-struct Hint<'a>(&'a UsageError<'a>);
+enum Nearest {
+    /// There is none.
+    None,
+    /// This name.
+    Name(&'static str),
+    /// A name of two parts, with a dot between them.
+    Pair(&'static str, &'static str),
+}
 
-impl fmt::Display for Hint<'_> {
-    ghost output = { λ hint. Some (hint_text hint.0.now) };
+impl Nearest {
+    ghost use Rattle.std.specs.Prelude.{◌≡◌};
+    ghost use Rattle.cli_faults.specs.Texts.{hint_of_code, hint_of_column, hint_of_table, nearest_text};
+
+    /// The name of a rule.
+    fn of_code(code: Option<FaultCode>) -> Nearest
+        ensures { nearest_text result ≡ hint_of_code code }
+    {
+        match code {
+            Some(code) => Nearest::Name(Fault::new(code, 0).name()),
+            None => Nearest::None,
+        }
+    }
+
+    /// The name of a table.
+    fn of_table(table: Option<TableId>) -> Nearest
+        ensures { nearest_text result ≡ hint_of_table table }
+    {
+        match table {
+            Some(table) => Nearest::Name(table.name()),
+            None => Nearest::None,
+        }
+    }
+
+    /// The name of a table and of its column.
+    fn of_column(column: Option<(TableId, &'static str)>) -> Nearest
+        ensures { nearest_text result ≡ hint_of_column column.entry }
+    {
+        match column {
+            Some((table, column)) => Nearest::Pair(table.name(), column),
+            None => Nearest::None,
+        }
+    }
+}
+
+impl fmt::Display for Nearest {
+    ghost output = { λ nearest. Some (nearest_text nearest) };
 
     fn fmt<W: fmt::Write>(&self, f: &mut fmt::Formatter<W>) -> fmt::Result {
-        match self.0 {
-            UsageError::NoCode(_, Some(code)) => {
-                let name = Fault::new(*code, 0).name();
-                write!(f, "\n  hint: the nearest name is '{name}'")
+        match self {
+            Nearest::None => Ok(()),
+            Nearest::Name(name) => write!(f, "\n  hint: the nearest name is '{name}'"),
+            Nearest::Pair(first, second) => {
+                write!(f, "\n  hint: the nearest name is '{first}.{second}'")
             }
-            UsageError::NoTable(_, Some(table)) => {
-                write!(f, "\n  hint: the nearest name is '{table}'")
-            }
-            UsageError::NoColumn(_, Some((table, column))) => {
-                write!(f, "\n  hint: the nearest name is '{table}.{column}'")
-            }
-            _ => Ok(()),
         }
     }
 }
@@ -63,12 +99,12 @@ impl fmt::Display for UsageError<'_> {
         match self {
             UsageError::NoToken(word) => {
                 let wanted = "HEX is one to eight hexadecimal digits, as '06001d06'";
-                write_wrong(wanted, word, self, f)
+                write_wrong(wanted, word, Nearest::None, f)
             }
-            UsageError::NoCode(word, _) => {
+            UsageError::NoCode(word, code) => {
                 let wanted =
                     "CODE is the number or the name of a fault, which 'clim explain' lists";
-                write_wrong(wanted, word, self, f)
+                write_wrong(wanted, word, Nearest::of_code(*code), f)
             }
             UsageError::NoFile => f.write_str(
                 "error: no FILE given\n  hint: '-' reads standard input; 'clim <COMMAND> -h' shows the options",
@@ -82,18 +118,18 @@ impl fmt::Display for UsageError<'_> {
             UsageError::ExtractAlone => f.write_str(
                 "error: '--extract' takes one FILE, and no '--json', '-r' or list of files",
             ),
-            UsageError::NoTable(word, _) => {
+            UsageError::NoTable(word, table) => {
                 let wanted = "TABLE is a table, which 'clim show --help' lists";
-                write_wrong(wanted, word, self, f)
+                write_wrong(wanted, word, Nearest::of_table(*table), f)
             }
             UsageError::NoOffset(word) => {
                 let wanted = "OFFSET is a number, decimal or hexadecimal after '0x'";
-                write_wrong(wanted, word, self, f)
+                write_wrong(wanted, word, Nearest::None, f)
             }
-            UsageError::NoColumn(word, _) => {
+            UsageError::NoColumn(word, column) => {
                 let wanted =
                     "no such column: '--ignore' takes a table and one of its columns, as 'Module.Mvid'";
-                write_wrong(wanted, word, self, f)
+                write_wrong(wanted, word, Nearest::of_column(*column), f)
             }
         }
     }
@@ -103,10 +139,10 @@ impl fmt::Display for UsageError<'_> {
 fn write_wrong<W: fmt::Write>(
     wanted: &'static str,
     word: &str,
-    error: &UsageError<'_>,
+    nearest: Nearest,
     f: &mut fmt::Formatter<W>,
 ) -> fmt::Result
-    ensures { WritesOnOk W.write_str_gives f.old result (wrong_text wanted.now word.now (hint_text error.now)) f.new }
+    ensures { WritesOnOk W.write_str_gives f.old result (wrong_text wanted.now word.now (nearest_text nearest)) f.new }
 {
-    write!(f, "error: {wanted}, not '{}'{}", Escaped(word), Hint(error))
+    write!(f, "error: {wanted}, not '{}'{nearest}", Escaped(word))
 }

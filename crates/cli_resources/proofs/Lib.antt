@@ -1,2 +1,1 @@
-pub mod OfFiles
 pub mod Prelude
