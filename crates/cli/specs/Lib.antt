@@ -1,3 +1,4 @@
 pub mod Columns
+pub mod OneCheck
 pub mod Runs
 pub mod Tasks

@@ -10,6 +10,7 @@
 #![tactic(auto)]
 
 mod columns;
+pub mod laws;
 mod program;
 mod task;
 mod usage_text;
