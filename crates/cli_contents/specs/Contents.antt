@@ -30,9 +30,12 @@ abbrev pub content_of : Kind → Image → Metadata → ℕ → Option Body
 content_of Method image model row = body_of image model row
 content_of Field image model row = data_of image model row
 
--- a body or data, if the byte at an offset is in it; of data of a size that is not known, only the first byte is known
+-- the byte at an offset is in a body or data; of data of a size that is not known, only the first byte is known
+abbrev pub contains : ℕ → Body → Bool
+contains offset of = nat_le of.start offset && nat_lt (offset - of.start) (max of.size 1)
+
 abbrev pub kept : ℕ → Body → Option Body
-kept offset of = if nat_le of.start offset && nat_lt (offset - of.start) (max of.size 1) then Some of else None
+kept offset of = if contains offset of then Some of else None
 
 -- what a row refers to, if it contains the byte at an offset of the file
 abbrev pub content_with : Kind → Image → Metadata → ℕ → ℕ → Option Body

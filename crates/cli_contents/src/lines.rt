@@ -1,5 +1,6 @@
 //! Prints the lines of methods, and of fields with data.
-ghost use Rattle.std.specs.Prelude.{◌≡◌, ◌<◌, ◌≤◌, ◌∷◌, ◌^◌, [], IfSome, MatchOption, false, length, map, nat_le, take, true};
+ghost use Rattle.std.specs.Prelude.{◌≡◌, ◌-◌, ◌<◌, ◌≤◌, ◌∷◌, ◌^◌, [], IfSome, MatchOption, false, length, map, nat_le, take, true};
+ghost use Rattle.std.specs.Option.{option_to_list};
 ghost use Rattle.metadata.specs.Metadata.{Metadata};
 ghost use Rattle.metadata.specs.Model.{IsModel};
 ghost use Rattle.opening.specs.Views.{row_count};
@@ -7,7 +8,7 @@ ghost use Rattle.pe.specs.Headers.{section_count};
 ghost use Rattle.pe.specs.Image.{Image, IsImage};
 ghost use Rattle.table_schema.specs.CellColumns.{cell_count};
 ghost use Rattle.cli_lines.specs.Printed.{Prints};
-ghost use Rattle.cli_contents.specs.Contents.{content_with, contents_at, kept, name_in, table_of, word_for};
+ghost use Rattle.cli_contents.specs.Contents.{contains, content_of, content_with, contents_at, name_in, table_of, word_for};
 ghost use Rattle.cli_contents.specs.Lines.{content_line, content_lines, content_limit, row_line, section_limit};
 
 use crate::bodies::{Body, body_of};
@@ -26,7 +27,7 @@ use std::io::Write;
 /// The number of methods that are printed, and that of fields.
 const LIMIT: usize = 10;
 
-/// The largest number of sections of a file whose methods and fields are printed: that of Windows' loader, by Microsoft's PE format.
+/// The largest number of sections of a file whose methods are printed: that of Windows' loader, by Microsoft's PE format.
 const SECTION_LIMIT: usize = 96;
 
 /// How many bytes are known of data of a size that is not known.
@@ -55,16 +56,25 @@ fn shape(kind: Kind) -> (TableId, usize, &'static str)
     }
 }
 
-/// A body or data, if the byte at an offset is in it.
-fn kept(of: Body, offset: u64) -> Option<Body>
-    ensures kept { result ≡ kept offset of }
-    ensures row { IfSome result (λ body. body.row ≡ of.row) }
+/// Whether the byte at an offset is in a body or data.
+fn contains(of: Body, offset: u64) -> bool
+    ensures { result ≡ contains offset of }
 {
     let start = of.start as u64;
-    if start <= offset && offset - start < of.size.max(KNOWN) as u64 {
-        Some(of)
-    } else {
-        None
+    start <= offset && offset - start < of.size.max(KNOWN) as u64
+}
+
+/// What a row refers to in the file.
+fn content_of(kind: Kind, pe: &Pe<'_>, source: &Neighbours<'_, '_>, row: u32) -> Option<Body>
+    requires small { length pe.now.bytes ≤ 2 ^ 30 }
+    requires first { 1 ≤ row }
+    requires last { row ≤ row_count source.now.view.now (table_of kind) }
+    ensures content { (model : Metadata) → IsModel source.now.view.now model → result ≡ content_of kind pe.now model row }
+    ensures row { IfSome result (λ of. of.row ≡ row) }
+{
+    match kind {
+        Kind::Method => body_of(pe, source.view, row),
+        Kind::Field => data_of(pe, source, row),
     }
 }
 
@@ -82,10 +92,8 @@ fn content_with(
     ensures content { (model : Metadata) → IsModel source.now.view.now model → result ≡ content_with kind pe.now model offset row }
     ensures row { IfSome result (λ of. of.row ≡ row) }
 {
-    match kind {
-        Kind::Method => kept(body_of(pe, source.view, row)?, offset),
-        Kind::Field => kept(data_of(pe, source, row)?, offset),
-    }
+    let of = content_of(kind, pe, source, row)?;
+    if contains(of, offset) { Some(of) } else { None }
 }
 
 /// Prints the line of something in the file: its file offset and its size in bytes, what it is, its token and its name.
@@ -113,17 +121,31 @@ pub(crate) fn print_content<'a, W: Write>(
     ]);
 }
 
-/// Prints the line of what a row refers to.
-fn print_row<W: Write>(view: &View<'_>, kind: Kind, of: Body, out: &mut Printer<'_, W>)
-    requires first { 1 ≤ of.row }
-    requires last { of.row ≤ row_count view.now (table_of kind) }
-    ensures { (model : Metadata) → IsModel view.now model → Prints out.old out.new (row_line kind model of ∷ []) }
+/// Prints the line of what a row refers to, if there is something and lines are left. Returns how many are left after it.
+fn print_row<W: Write>(
+    view: &View<'_>,
+    kind: Kind,
+    of: Option<Body>,
+    left: usize,
+    out: &mut Printer<'_, W>,
+) -> usize
+    requires { IfSome of (λ body. (1 ≤ body.row) × (body.row ≤ row_count view.now (table_of kind))) }
+    ensures lines { (model : Metadata) → IsModel view.now model → Prints out.old out.new (map (row_line kind model) (take left (option_to_list of))) }
+    ensures left { result ≡ left - length (option_to_list of) }
 {
+    cli_lines::laws::lines_follow::<W>();
+    let Some(body) = of else {
+        return left;
+    };
+    if left == 0 {
+        return 0;
+    }
     let (table, cell, word) = shape(kind);
-    let row = of.row;
+    let row = body.row;
     let name = text(view, table, row, cell);
-    let (start, size) = (of.start as u64, of.size as u64);
+    let (start, size) = (body.start as u64, body.size as u64);
     print_content(start, size, word, Token { table, row }, name, out);
+    left - 1
 }
 
 /// Prints the lines of the first rows whose bodies or data contain the byte at an offset of a file.
@@ -143,14 +165,8 @@ fn print_first<W: Write>(
     let mut left = LIMIT;
     let count = source.view.count(table);
     for row in 1..count + 1 {
-        let Some(of) = content_with(kind, pe, source, row, offset) else {
-            continue;
-        };
-        if left == 0 {
-            return;
-        }
-        print_row(source.view, kind, of, out);
-        left -= 1;
+        let of = content_with(kind, pe, source, row, offset);
+        left = print_row(source.view, kind, of, left, out);
     }
 }
 
@@ -192,9 +208,11 @@ pub fn print_contents<W: Write>(
     let Some(pe) = image_in(file) else {
         return;
     };
-    let Ok(source) = Neighbours::new(alloc, view) else {
-        return out.fail();
-    };
-    print_first(&pe, &source, Kind::Method, offset, out);
-    print_first(&pe, &source, Kind::Field, offset, out);
+    match Neighbours::new(alloc, view) {
+        Ok(source) => {
+            print_first(&pe, &source, Kind::Method, offset, out);
+            print_first(&pe, &source, Kind::Field, offset, out);
+        }
+        Err(_) => out.fail(),
+    }
 }

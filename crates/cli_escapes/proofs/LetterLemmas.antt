@@ -1,6 +1,5 @@
 -- A text whose escapes are read back, byte by byte.
 use Rattle.cli_escapes.proofs.Prelude.{◌==◌, false, true, ◌≡◌, ℕ, zero, suc, ◌-◌, ◌*◌, ◌<◌, ◌≤◌, Bool, if◌then◌else◌, Option, Some, None, Result, Ok, Err, MatchResult, IsUtf8, Bor, List, [], ◌∷◌, ◌++◌, drop, get_or, length, take, take-append-drop, ap, append_assoc, append-nil, arith, refl, sym, ◌∙◌, slice_get, slice_index, chars, is_utf8, false_from_ne_true, IsUtf8-from_is_utf8, is_utf8-from_IsUtf8, drop_all, escaped_at, as_is, first_char, found_at, readable, readable_after}
-use Rattle.std.proofs.Common.{eqb-true}
 use Rattle.cli_escapes.specs.declared.letters.ReadBack.{ReadBack}
 use Rattle.cli_escapes.specs.declared.letters.ReadBack.TheVariants.{Bytes, Letters}
 
@@ -49,7 +48,7 @@ module _ (what : ReadBack) where
       → (before ++ first ∷ []) ++ readable_after what 0 (drop 1 text) ≡ before ++ readable_after what skipped text
   unfolding readable_after
   byte_shown before [] found skipped first none some is empty at = absurd (omega arith)
-  byte_shown before (byte ∷ tail) (found ∷ later) skipped first none some is empty at = let long = eqb-true (length (found ∷ later)) 0 empty in absurd (omega arith)
+  byte_shown before (byte ∷ tail) (found ∷ later) skipped first none some is empty at = absurd cc
   byte_shown before (byte ∷ tail) [] skipped first none some is empty at = rw (none, ← is, at) (append_assoc before (byte ∷ []) (readable_after what 0 tail))
 
   -- at the end nothing is left

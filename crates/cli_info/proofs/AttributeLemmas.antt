@@ -1,7 +1,14 @@
--- The attributes of the assembly, by their types and by their rows.
-use Rattle.cli_info.proofs.Prelude.{◌≡◌, ◌≤◌, ◌<◌, ◌+◌, ◌-◌, ℕ, suc, Bool, Option, None, Some, List, [], ◌∷◌, cond, length, take, arith, refl, Metadata, Token, Part, attribute_limit, attribute_lines, is_own, lines_of_items, lines_of_rows, more_lines, own_after}
+-- The attributes of the assembly, by the tables of their types and by their rows.
+use Rattle.cli_info.proofs.Prelude.{◌≡◌, ◌≤◌, ◌<◌, ◌+◌, ◌-◌, ℕ, suc, Bool, Option, None, Some, List, [], ◌∷◌, cond, length, take, arith, refl, Metadata, TableId, Token, Part, attribute_limit, attribute_lines, is_own, lines_of_items, lines_of_rows, lines_of_type, more_lines, own_after}
 use Rattle.std.proofs.lemmas.List.{append_assoc, take_all}
 use Rattle.std.specs.Prelude.{◌++◌, flat_map}
+use Rattle.table_schema.specs.declared.table.TableId.TheVariants.{TypeDef, TypeRef}
+use Rattle.attribute_values.specs.Items.{Item}
+
+pub other_type : (model : Metadata) (table : TableId) (row : ℕ) (items : List Item) → (table ≡ TypeDef → ⊥) → (table ≡ TypeRef → ⊥) → [] ≡ lines_of_type model table row items
+other_type model TypeDef row items a b = absurd (a refl)
+other_type model TypeRef row items a b = absurd (b refl)
+other_type model _ row items a b = refl
 
 pub no_items : (model : Metadata) (class : Option Token) → lines_of_items model class None ≡ []
 no_items model None = refl

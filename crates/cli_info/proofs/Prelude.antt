@@ -3,6 +3,7 @@ pub use Rattle.std.proofs.Common.{◌≡◌, ◌∙◌, ◌≤◌, ◌<◌, ◌+
 pub use Rattle.std.proofs.lemmas.Bool.{le-ltb, lt-ltb}
 pub use Rattle.std.specs.List.{list_all}
 pub use Rattle.std.specs.Prelude.{flat_map}
+pub use Rattle.table_schema.specs.declared.table.TableId.{TableId}
 pub use Rattle.table_schema.specs.declared.table.TableId.TheVariants.{Module}
 pub use Rattle.table_schema.specs.declared.token.Token.{Token}
 pub use Rattle.attribute_values.specs.Views.{view}
@@ -11,7 +12,7 @@ pub use Rattle.metadata.specs.Model.{IsModel}
 pub use Rattle.cli_lines.specs.Lines.{Part}
 pub use Rattle.cli_lines.specs.Printed.{Adds, Prints, Printed}
 unfoldable pub use Rattle.cli_lines.specs.Printed.{rows_after}
-pub use Rattle.cli_info.specs.Attributes.{attribute_limit, is_own, lines_of_items, lines_of_rows, more_lines, is_assembly, first_parts, item_parts, items_parts, attributes_lines}
+pub use Rattle.cli_info.specs.Attributes.{attribute_limit, is_own, lines_of_items, lines_of_rows, lines_of_type, more_lines, is_assembly, first_parts, item_parts, items_parts, attributes_lines}
 unfoldable pub use Rattle.cli_info.specs.Attributes.{attribute_lines, own_after, attribute_line}
 unfoldable pub use Rattle.cli_info.specs.HeaderLines.{image_line}
 pub use Rattle.cli_info.specs.Identities.{identity_lines}

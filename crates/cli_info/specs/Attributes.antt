@@ -1,5 +1,5 @@
 -- The custom attributes of the assembly whose arguments are all strings (ECMA-335 II.22.10 and II.23.3).
-use Rattle.std.specs.Prelude.{ℕ, ◌+◌, ◌-◌, ◌==◌, ◌&&◌, Bool, true, false, if◌then◌else◌, List, [], ◌∷◌, ◌++◌, codes, filter, flat_map, length, take, Option, None, Some, option_and_then}
+use Rattle.std.specs.Prelude.{ℕ, ◌+◌, ◌-◌, ◌==◌, ◌&&◌, Bool, false, if◌then◌else◌, List, [], ◌∷◌, ◌++◌, codes, filter, flat_map, length, take, Option, None, Some, option_and_then}
 use Rattle.std.specs.List.{range_with_len}
 use Rattle.table_schema.specs.declared.table.TableId.{TableId}
 use Rattle.table_schema.specs.declared.table.TableId.TheVariants.{CustomAttribute, TypeDef, TypeRef}
@@ -13,14 +13,18 @@ use Rattle.navigation.specs.Cells.{reference_in}
 use Rattle.cli_declarations.specs.Parts.{bytes_of, text_of}
 use Rattle.cli_lines.specs.declared.names.Name.TheVariants as name
 use Rattle.cli_lines.specs.Lines as line
-use Rattle.cli_lines.specs.Lines.{Part, Value, word, field, note, member, plain}
+use Rattle.cli_lines.specs.Lines.{Part, Value, word, field, note, member, plain, quoted, null}
 use Rattle.cli_print.specs.TypeLines.{dot_after}
 use Rattle.cli_info.specs.Texts.{string_in, texts_in}
 
+abbrev pub quoted_or_null : Option (List ℕ) → Value
+quoted_or_null None = null
+quoted_or_null (Some of) = quoted of
+
 -- an argument in a line of text, if it is a string
-abbrev pub argument_parts : List ℕ → Option Value → List Part
+abbrev pub argument_parts : List ℕ → Option (Option (List ℕ)) → List Part
 argument_parts before None = []
-argument_parts before (Some of) = word before ∷ note of ∷ []
+argument_parts before (Some of) = word before ∷ note (quoted_or_null of) ∷ []
 
 -- an argument, and the name of a named one before it
 abbrev pub item_parts : Item → List Part
@@ -30,9 +34,9 @@ item_parts (named_count n) = []
 item_parts (named of own head) = word (codes " ") ∷ note (line.text own) ∷ argument_parts (codes "=") (string_in head)
 
 -- the first argument, which is in JSON too
-abbrev pub string_parts : Option Value → List Part
+abbrev pub string_parts : Option (Option (List ℕ)) → List Part
 string_parts None = []
-string_parts (Some of) = word (codes " ") ∷ field name.Text of ∷ []
+string_parts (Some of) = word (codes " ") ∷ field name.Text (quoted_or_null of) ∷ []
 
 abbrev pub first_parts : Item → List Part
 first_parts (fixed head) = string_parts (string_in head)
@@ -48,15 +52,11 @@ attribute_line namespace own items =
     member name.Directive (plain (codes "attribute")) ∷ word (codes "attribute ") ∷ field name.Namespace (line.text namespace)
     ∷ word (dot_after namespace) ∷ field name.Name (line.text own) ∷ items_parts items
 
--- the rows of the table are types
-abbrev pub has_types : TableId → Bool
-has_types TypeDef = true
-has_types TypeRef = true
-has_types _ = false
-
+-- of a type that is a row of TypeDef or TypeRef
 abbrev pub lines_of_type : Metadata → TableId → ℕ → List Item → List (List Part)
-lines_of_type model table row items =
-    if has_types table then attribute_line (text_of (cell_in model table row 2)) (text_of (cell_in model table row 1)) items ∷ [] else []
+lines_of_type model TypeDef row items = attribute_line (text_of (cell_in model TypeDef row 2)) (text_of (cell_in model TypeDef row 1)) items ∷ []
+lines_of_type model TypeRef row items = attribute_line (text_of (cell_in model TypeRef row 2)) (text_of (cell_in model TypeRef row 1)) items ∷ []
+lines_of_type model _ row items = []
 
 abbrev pub lines_of_items : Metadata → Option Token → Option (List Item) → List (List Part)
 lines_of_items model (Some class) (Some items) = lines_of_type model class.table class.row items

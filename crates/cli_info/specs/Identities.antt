@@ -59,6 +59,9 @@ culture_text culture = culture
 abbrev pub shown_part : List ℕ → Part
 shown_part of = note (plain (display_name of))
 
+abbrev pub token_part : Kind → ℕ → List ℕ → Part
+token_part kind flags key = field name.Token (plain (token_text kind flags key))
+
 -- the identity in these cells of a row, in this order: four numbers of the version, flags, key, name and culture
 abbrev pub identity_in : Kind → (ℕ → Cell) → List Part
 identity_in kind cell =
@@ -66,7 +69,7 @@ identity_in kind cell =
     ∷ word (codes ", Version=") ∷ field name.Major (number (number_of (cell 0))) ∷ word (codes ".") ∷ field name.Minor (number (number_of (cell 1)))
     ∷ word (codes ".") ∷ field name.Build (number (number_of (cell 2))) ∷ word (codes ".") ∷ field name.Revision (number (number_of (cell 3)))
     ∷ word (codes ", Culture=") ∷ member name.Culture (text (culture_text (text_of (cell 7)))) ∷ shown_part (culture_text (text_of (cell 7)))
-    ∷ word (codes ", PublicKeyToken=") ∷ field name.Token (plain (token_text kind (number_of (cell 4)) (bytes_of (cell 5)))) ∷ []
+    ∷ word (codes ", PublicKeyToken=") ∷ token_part kind (number_of (cell 4)) (bytes_of (cell 5)) ∷ []
 
 unfoldable pub identity_line : Kind → Metadata → ℕ → List Part
 identity_line kind model row = identity_in kind (λ index. cell_in model (table_of kind) row (first_cell kind + index))

@@ -5,12 +5,10 @@ use Rattle.attribute_values.specs.declared.types.ArgumentType.{ArgumentType}
 use Rattle.attribute_values.specs.Items.{Head, element, Item, fixed, entry, named_count, named}
 use Rattle.attribute_values.specs.Values.{plain, text}
 use Rattle.attribute_values.specs.Steps.{value_items}
-use Rattle.cli_lines.specs.Lines.{Value, quoted, null}
 
--- an argument that is a string, in quotes, or `null`
-abbrev pub string_in : Head → Option Value
-string_in (element (plain (text (Some of)))) = Some (quoted of)
-string_in (element (plain (text None))) = Some null
+-- an argument that is a string, which may be null
+abbrev pub string_in : Head → Option (Option (List ℕ))
+string_in (element (plain (text of))) = Some of
 string_in _ = None
 
 abbrev pub is_text : Item → Bool

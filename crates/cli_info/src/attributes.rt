@@ -1,14 +1,16 @@
 //! Prints the attributes of the assembly whose arguments are all strings (II.22.10 and II.23.3).
-ghost use Rattle.std.specs.Prelude.{◌≡◌, ◌≤◌, ◌<◌, ◌∷◌, [], IsTrue};
+ghost use Rattle.std.specs.Prelude.{◌≡◌, ◌≤◌, ◌<◌, ◌∷◌, [], option_map};
 ghost use Rattle.table_schema.specs.declared.table.TableId.TheVariants.{CustomAttribute};
 ghost use Rattle.table_schema.specs.CellColumns.{cell_count};
 ghost use Rattle.attribute_values.specs.Views.{head_view, view};
-ghost use Rattle.metadata.specs.Metadata.{Metadata};
+ghost use Rattle.metadata.specs.Metadata.{Metadata, cell_in};
 ghost use Rattle.metadata.specs.Model.{IsModel};
 ghost use Rattle.opening.specs.Views.{row_count};
+ghost use Rattle.cli_declarations.specs.Parts.{text_of};
 ghost use Rattle.cli_print.specs.TypeLines.{dot_after};
 ghost use Rattle.cli_lines.specs.Printed.{Adds, Prints};
-ghost use Rattle.cli_info.specs.Attributes.{argument_parts, attribute_lines, attributes_lines, first_parts, has_types, is_assembly, is_own, item_parts, items_parts, lines_of_type, more_lines};
+ghost use Rattle.cli_lines.specs.Shown.{shown_value};
+ghost use Rattle.cli_info.specs.Attributes.{argument_parts, attribute_line, attribute_lines, attributes_lines, first_parts, is_assembly, is_own, item_parts, items_parts, lines_of_type, more_lines, quoted_or_null};
 ghost use Rattle.cli_info.specs.Texts.{string_in};
 
 use crate::texts::{string_in, texts_in};
@@ -16,8 +18,8 @@ use attribute_constructors::{constructor, params_of, type_of};
 use attribute_values::{Argument, Item, Items};
 use cli_declarations::{bytes, text};
 use cli_lines::Part::{Field, Member, Note, Word};
-use cli_lines::Value::{Number, Plain, Text};
-use cli_lines::{Name, Printer};
+use cli_lines::Value::{Null, Number, Plain, Quoted, Text};
+use cli_lines::{Name, Printer, Value};
 use cli_print::{NAME, NAMESPACE};
 use navigation::{Neighbours, cells};
 use opening::{TableId, Token, View};
@@ -35,6 +37,16 @@ const ASSEMBLY: u8 = 0x20;
 /// The largest number of attributes of the assembly that are read. Many rows can share a constructor and a value that take long.
 const ATTRIBUTE_LIMIT: u32 = 256;
 
+/// A text in quotes, or `null`.
+fn quoted_or_null(text: Option<&str>) -> Value<'_>
+    ensures { shown_value result ≡ quoted_or_null (option_map (λ of. of.now) text.entry) }
+{
+    match text {
+        Some(text) => Quoted(text),
+        None => Null,
+    }
+}
+
 /// Adds an argument, if it is a string, after what is before it.
 fn print_argument<W: Write>(before: &str, argument: Argument<'_>, out: &mut Printer<'_, W>)
     ensures { Adds out.old out.new (argument_parts before.now (string_in (head_view argument.entry))) }
@@ -42,7 +54,7 @@ fn print_argument<W: Write>(before: &str, argument: Argument<'_>, out: &mut Prin
     cli_lines::laws::parts_follow::<W>();
     if let Some(text) = string_in(argument) {
         out.part(&Word(before));
-        out.part(&Note(text));
+        out.part(&Note(quoted_or_null(text)));
     }
 }
 
@@ -71,7 +83,7 @@ fn print_first<W: Write>(item: Item<'_>, out: &mut Printer<'_, W>)
     if let Item::Fixed(argument) = item {
         if let Some(text) = string_in(argument) {
             out.part(&Word(" "));
-            out.part(&Field(Name::Text, text));
+            out.part(&Field(Name::Text, quoted_or_null(text)));
         }
     }
 }
@@ -97,17 +109,37 @@ fn dot_after(namespace: &str) -> &'static str
     if namespace.is_empty() { "" } else { "." }
 }
 
-/// Whether the rows of a table are types. Their names are in the same cells in both tables.
-#[tactic(auto, unfolding(table_schema::specs::CellColumns::cell_columns))]
-fn has_types(table: TableId) -> bool
-    ensures value { result ≡ has_types table }
-    ensures names { IsTrue result → 2 < cell_count table }
+/// Prints the line of an attribute whose type is this row.
+#[tactic(auto, unfolding(crate::specs::Attributes::attribute_line))]
+fn print_named<W: Write>(
+    view: &View<'_>,
+    table: TableId,
+    row: u32,
+    items: Items<'_, '_>,
+    out: &mut Printer<'_, W>,
+)
+    requires first { 1 ≤ row }
+    requires last { row ≤ row_count view.now table }
+    requires cells { 2 < cell_count table }
+    ensures { (model : Metadata) → IsModel view.now model
+        → Prints out.old out.new (attribute_line (text_of (cell_in model table row 2)) (text_of (cell_in model table row 1)) items.entry ∷ []) }
 {
-    matches!(table, TableId::TypeDef | TableId::TypeRef)
+    cli_lines::laws::parts_follow::<W>();
+    let namespace = text(view, table, row, NAMESPACE);
+    let name = text(view, table, row, NAME);
+    out.begin(&[
+        Member(Name::Directive, Plain("attribute")),
+        Word("attribute "),
+        Field(Name::Namespace, Text(namespace)),
+        Word(dot_after(namespace)),
+        Field(Name::Name, Text(name)),
+    ]);
+    print_items(items, out);
+    out.end();
 }
 
 /// Prints the line of an attribute of this type, if that is a row of TypeDef or TypeRef.
-#[tactic(auto, unfolding(crate::specs::Attributes::attribute_line))]
+#[tactic(auto, unfolding(table_schema::specs::CellColumns::cell_columns))]
 fn print_typed<W: Write>(
     view: &View<'_>,
     class: Token,
@@ -119,21 +151,11 @@ fn print_typed<W: Write>(
     ensures { (model : Metadata) → IsModel view.now model → Prints out.old out.new (lines_of_type model class.table class.row items.entry) }
 {
     cli_lines::laws::lines_follow::<W>();
-    cli_lines::laws::parts_follow::<W>();
-    if !has_types(class.table) {
-        return;
+    match class.table {
+        TableId::TypeDef => print_named(view, TableId::TypeDef, class.row, items, out),
+        TableId::TypeRef => print_named(view, TableId::TypeRef, class.row, items, out),
+        _ => {}
     }
-    let namespace = text(view, class.table, class.row, NAMESPACE);
-    let name = text(view, class.table, class.row, NAME);
-    out.begin(&[
-        Member(Name::Directive, Plain("attribute")),
-        Word("attribute "),
-        Field(Name::Namespace, Text(namespace)),
-        Word(dot_after(namespace)),
-        Field(Name::Name, Text(name)),
-    ]);
-    print_items(items, out);
-    out.end();
 }
 
 /// Whether this is the first row of Assembly.

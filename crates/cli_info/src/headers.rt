@@ -128,11 +128,14 @@ fn method_name<'a>(row: u32, view: &View<'a>) -> &'a str
 fn entry_name<'a>(header: &CliHeader, view: &View<'a>) -> &'a str
     ensures { (model : Metadata) → IsModel view.now model → result.now ≡ entry_name header.now model }
 {
-    let is_native = header.flags / NATIVE_ENTRYPOINT % 2 == 1;
-    if is_native || header.entry_point_token / ROWS != METHOD_DEF {
+    if header.flags / NATIVE_ENTRYPOINT % 2 == 1 {
         return "";
     }
-    method_name(header.entry_point_token % ROWS, view)
+    if header.entry_point_token / ROWS == METHOD_DEF {
+        method_name(header.entry_point_token % ROWS, view)
+    } else {
+        ""
+    }
 }
 
 /// Prints the line of an entry point.
@@ -163,18 +166,20 @@ pub(crate) fn print_headers<W: Write>(
     ensures { (model : Metadata) → IsModel view.now model → Prints out.old out.new (header_lines file.now header.now model) }
 {
     cli_lines::laws::lines_follow::<W>();
-    let Some(header) = header else {
-        return;
-    };
-    print_image(file, out);
-    print_flags(header.flags, out);
-    print_entry(header.entry_point_token, entry_name(header, view), out);
-    let signature = header.strong_name_signature.size as u64;
-    let native = header.managed_native_header.size as u64;
-    out.line(&[
-        Word("signature "),
-        Field(Name::Signature, Number(signature)),
-        Word(" native "),
-        Field(Name::Native, Number(native)),
-    ]);
+    match header {
+        Some(header) => {
+            print_image(file, out);
+            print_flags(header.flags, out);
+            print_entry(header.entry_point_token, entry_name(header, view), out);
+            let signature = header.strong_name_signature.size as u64;
+            let native = header.managed_native_header.size as u64;
+            out.line(&[
+                Word("signature "),
+                Field(Name::Signature, Number(signature)),
+                Word(" native "),
+                Field(Name::Native, Number(native)),
+            ]);
+        }
+        None => {}
+    }
 }

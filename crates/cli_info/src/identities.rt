@@ -1,7 +1,7 @@
 //! Prints the identities of assemblies, as .NET prints them (II.22.2 and II.22.5).
 ghost use Rattle.std.specs.Prelude.{◌≡◌, ◌≤◌, ◌∷◌, [], IfOk, string_bytes};
-ghost use Rattle.cli_info.specs.Identities.{culture_text, identity_line, identity_lines, table_of, token_text};
-ghost use Rattle.cli_lines.specs.Printed.{Prints};
+ghost use Rattle.cli_info.specs.Identities.{culture_text, identity_line, identity_lines, shown_part, table_of, token_part, token_text};
+ghost use Rattle.cli_lines.specs.Printed.{Adds, Prints};
 ghost use Rattle.metadata.specs.Metadata.{Metadata};
 ghost use Rattle.metadata.specs.Model.{IsModel};
 ghost use Rattle.opening.specs.Views.{row_count};
@@ -150,6 +150,33 @@ fn culture_text(culture: &str) -> &str
     }
 }
 
+/// Adds a name or a culture, escaped.
+fn print_shown<W: Write>(alloc: Global, name: &str, out: &mut Printer<'_, W>)
+    ensures { Adds out.old out.new (shown_part name.now ∷ []) }
+{
+    match display_name(alloc, name) {
+        Ok(shown) => out.part(&Note(Plain(&shown))),
+        Err(_) => out.fail(),
+    }
+}
+
+/// Adds the token of a key.
+fn print_token<W: Write>(
+    alloc: Global,
+    kind: Kind,
+    flags: u32,
+    key: &[u8],
+    last: &mut LastKey,
+    out: &mut Printer<'_, W>,
+)
+    ensures { Adds out.old out.new (token_part kind flags key.now ∷ []) }
+{
+    match token_text(alloc, kind, flags, key, last) {
+        Ok(token) => out.part(&Field(Name::Token, Plain(&token))),
+        Err(_) => out.fail(),
+    }
+}
+
 /// Prints the identity in a row.
 #[tactic(auto, unfolding(crate::specs::Identities::identity_line))]
 fn print_identity<W: Write>(
@@ -164,6 +191,7 @@ fn print_identity<W: Write>(
     requires last { row ≤ row_count view.now (table_of kind) }
     ensures { (model : Metadata) → IsModel view.now model → Prints out.old out.new (identity_line kind model row ∷ []) }
 {
+    cli_lines::laws::parts_follow::<W>();
     let (table, first, word, name) = kind.shape();
     let major = number(view, table, row, first);
     let minor = number(view, table, row, first + 1);
@@ -173,31 +201,22 @@ fn print_identity<W: Write>(
     let key = bytes(view, table, row, first + 5);
     let own_name = text(view, table, row, first + 6);
     let culture = culture_text(text(view, table, row, first + 7));
-    let (Ok(shown_name), Ok(shown_culture), Ok(token)) = (
-        display_name(alloc, own_name),
-        display_name(alloc, culture),
-        token_text(alloc, kind, flags, key, last),
-    ) else {
-        return out.fail();
-    };
-    out.line(&[
-        Word(word),
-        Member(name, Text(own_name)),
-        Note(Plain(&shown_name)),
-        Word(", Version="),
-        Field(Name::Major, Number(major as u64)),
-        Word("."),
-        Field(Name::Minor, Number(minor as u64)),
-        Word("."),
-        Field(Name::Build, Number(build as u64)),
-        Word("."),
-        Field(Name::Revision, Number(revision as u64)),
-        Word(", Culture="),
-        Member(Name::Culture, Text(culture)),
-        Note(Plain(&shown_culture)),
-        Word(", PublicKeyToken="),
-        Field(Name::Token, Plain(&token)),
-    ]);
+    out.begin(&[Word(word), Member(name, Text(own_name))]);
+    print_shown(alloc, own_name, out);
+    out.part(&Word(", Version="));
+    out.part(&Field(Name::Major, Number(major as u64)));
+    out.part(&Word("."));
+    out.part(&Field(Name::Minor, Number(minor as u64)));
+    out.part(&Word("."));
+    out.part(&Field(Name::Build, Number(build as u64)));
+    out.part(&Word("."));
+    out.part(&Field(Name::Revision, Number(revision as u64)));
+    out.part(&Word(", Culture="));
+    out.part(&Member(Name::Culture, Text(culture)));
+    print_shown(alloc, culture, out);
+    out.part(&Word(", PublicKeyToken="));
+    print_token(alloc, kind, flags, key, last, out);
+    out.end();
 }
 
 /// Prints the identities in all rows of a table.

@@ -2,22 +2,19 @@
 ghost use Rattle.std.specs.Prelude.{◌≡◌, option_map};
 ghost use Rattle.attribute_values.specs.Steps.{value_items};
 ghost use Rattle.attribute_values.specs.Views.{head_view, view};
-ghost use Rattle.cli_lines.specs.Shown.{shown_value};
 ghost use Rattle.cli_info.specs.Texts.{are_texts, is_text, string_in, texts_in};
 
-use attribute_values::{Argument, ArgumentType, Item, Items, Scalar, Value as Given};
-use cli_lines::Value::{self, Null, Quoted};
+use attribute_values::{Argument, ArgumentType, Item, Items, Scalar, Value};
 
 /// The largest value that is printed, in bytes.
 const VALUE_LIMIT: usize = 1024;
 
-/// An argument that is a string, in quotes, or `null`.
-pub(crate) fn string_in(argument: Argument<'_>) -> Option<Value<'_>>
-    ensures { option_map shown_value result ≡ string_in (head_view argument.entry) }
+/// An argument that is a string, which may be null.
+pub(crate) fn string_in(argument: Argument<'_>) -> Option<Option<&str>>
+    ensures { option_map (λ of. option_map (λ text. text.now) of) result ≡ string_in (head_view argument.entry) }
 {
     match argument {
-        Argument::One(Given::Plain(Scalar::String(Some(text)))) => Some(Quoted(text)),
-        Argument::One(Given::Plain(Scalar::String(None))) => Some(Null),
+        Argument::One(Value::Plain(Scalar::String(text))) => Some(text),
         _ => None,
     }
 }
@@ -53,7 +50,13 @@ fn are_texts(blob: &[u8], params: &[ArgumentType]) -> bool
 pub(crate) fn texts_in<'a, 'p>(value: &'a [u8], params: &'p [ArgumentType]) -> Option<Items<'a, 'p>>
     ensures { result ≡ texts_in params.now value.now }
 {
-    if params.is_empty() || value.len() > VALUE_LIMIT || !are_texts(value, params) {
+    if params.is_empty() {
+        return None;
+    }
+    if value.len() > VALUE_LIMIT {
+        return None;
+    }
+    if !are_texts(value, params) {
         return None;
     }
     Items::of(value, params)

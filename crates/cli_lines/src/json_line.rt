@@ -1,10 +1,10 @@
 //! Appends the parts of a line of JSON.
 ghost use Rattle.std.specs.Prelude.{◌≡◌, ◌++◌, ◌∷◌, List, OnOk, IfOk, Some};
+ghost use Rattle.json.specs.Print.{print};
 ghost use Rattle.json.specs.Token as json;
 ghost use Rattle.cli_lines.specs.declared.line.Before.TheVariants as here;
-ghost use Rattle.cli_lines.specs.Lines.{json_from, named_token, part_tokens, value_tokens};
+ghost use Rattle.cli_lines.specs.Lines.{json_from, named_token, part_tokens, row_values, value_tokens};
 ghost use Rattle.cli_lines.specs.Shown.{shown, shown_file, shown_value};
-ghost use Rattle.cli_lines.specs.JsonTexts.{row_json, value_json};
 
 use crate::json_texts::{push_digit_string, push_signature, push_string};
 use crate::json_units::push_units_member;
@@ -17,9 +17,10 @@ use std::alloc::{AllocError, Global};
 use table_schema::Token;
 
 /// Appends a value.
+#[tactic(auto, using(std::proofs::lemmas::Grind::common_steps, crate::proofs::PlainLemmas::bytes_are_plain, crate::proofs::PlainLemmas::padded_is_plain, crate::proofs::PlainLemmas::token_is_plain), unfolding(json::specs::Print::print_from))]
 #[inline(always)]
 fn push_json_value(alloc: Global, value: &Value<'_>, line: &mut Vec<u8>) -> Result<(), AllocError>
-    ensures { OnOk result (line.new.items ≡ line.old.items ++ value_json (shown_value value.now)) }
+    ensures { OnOk result (line.new.items ≡ line.old.items ++ print (value_tokens (shown_value value.now))) }
 {
     match value {
         Value::Number(number) | Value::Start(number) => push_decimal(*number, line),
@@ -77,9 +78,10 @@ pub(crate) fn push_name(
 }
 
 /// Appends the table, the number and the token of a row.
+#[tactic(auto, using(std::proofs::lemmas::Grind::common_steps, crate::proofs::PlainLemmas::token_is_plain), unfolding(json::specs::Print::print_from, json::specs::Print::escape_byte))]
 #[inline(never)]
 fn push_row(alloc: Global, row: Token, line: &mut Vec<u8>) -> Result<(), AllocError>
-    ensures { OnOk result (line.new.items ≡ line.old.items ++ row_json row) }
+    ensures { OnOk result (line.new.items ≡ line.old.items ++ print (row_values row)) }
 {
     line.extend_from_slice(keys_of(row.table).row.as_bytes())?;
     push_decimal(row.row as u64, line)?;

@@ -1,10 +1,9 @@
 //! Appends texts of JSON to a line.
-ghost use Rattle.std.specs.Prelude.{◌≡◌, ◌++◌, IsTrue, OnOk};
-ghost use Rattle.json.specs.Print.{escape, escape_byte, quoted};
+ghost use Rattle.std.specs.Prelude.{◌≡◌, ◌++◌, ◌∷◌, [], IsTrue, OnOk};
+ghost use Rattle.json.specs.Print.{escape, escape_byte, print, quoted};
 ghost use Rattle.json.specs.Run.{is_plain};
 ghost use Rattle.cli_lines.specs.Lines as shown;
-ghost use Rattle.cli_lines.specs.Lines.{value_text};
-ghost use Rattle.cli_lines.specs.JsonTexts.{plain_string, value_json};
+ghost use Rattle.cli_lines.specs.Lines.{value_text, value_tokens};
 ghost use Rattle.cli_lines.specs.Shown.{shown_value};
 
 use crate::line::push_text_value;
@@ -80,7 +79,7 @@ pub(crate) fn push_digit_string(
     value: &Value<'_>,
     line: &mut Vec<u8>,
 ) -> Result<(), AllocError>
-    ensures { OnOk result (line.new.items ≡ line.old.items ++ plain_string (value_text (shown_value value.now))) }
+    ensures { OnOk result (line.new.items ≡ line.old.items ++ 34 ∷ (value_text (shown_value value.now) ++ 34 ∷ [])) }
 {
     line.push(b'"')?;
     push_text_value(alloc, value, line)?;
@@ -88,8 +87,9 @@ pub(crate) fn push_digit_string(
 }
 
 /// Appends an object of the bytes and the text of a signature.
+#[tactic(auto, using(std::proofs::lemmas::Grind::common_steps, crate::proofs::PlainLemmas::bytes_are_plain), unfolding(json::specs::Print::print_from, json::specs::Print::escape_byte))]
 pub(crate) fn push_signature(blob: &[u8], text: &[u8], line: &mut Vec<u8>) -> Result<(), AllocError>
-    ensures { OnOk result (line.new.items ≡ line.old.items ++ value_json (shown.signature blob.now text.now)) }
+    ensures { OnOk result (line.new.items ≡ line.old.items ++ print (value_tokens (shown.signature blob.now text.now))) }
 {
     line.extend_from_slice(b"{\"blob\":")?;
     push_between(b'"', blob, b'"', line)?;

@@ -1,9 +1,9 @@
 //! Appends UTF-16 units as a member of a line of JSON.
-ghost use Rattle.std.specs.Prelude.{◌≡◌, ◌++◌, List, IfOk, OnOk};
+ghost use Rattle.std.specs.Prelude.{◌≡◌, ◌++◌, ◌∷◌, List, IfOk, OnOk};
+ghost use Rattle.json.specs.Print.{print};
 ghost use Rattle.json.specs.Token as json;
 ghost use Rattle.cli_lines.specs.declared.line.Before.TheVariants as here;
-ghost use Rattle.cli_lines.specs.Lines.{json_from, units_tokens};
-ghost use Rattle.cli_lines.specs.JsonTexts.{array_json};
+ghost use Rattle.cli_lines.specs.Lines.{items_tokens, json_from, units_tokens};
 ghost use Rattle.cli_lines.specs.Shown.{shown_file};
 
 use crate::json_line::{push_member, push_name};
@@ -22,8 +22,9 @@ fn collect(alloc: Global, units: Units<'_>) -> Result<Vec<u16>, AllocError>
 }
 
 /// Appends units as an array of numbers.
+#[tactic(auto, unfolding(json::specs::Print::print_from))]
 fn push_array(units: &[u16], line: &mut Vec<u8>) -> Result<(), AllocError>
-    ensures { OnOk result (line.new.items ≡ line.old.items ++ array_json units.now) }
+    ensures { OnOk result (line.new.items ≡ line.old.items ++ print (json.begin_array ∷ items_tokens units.now)) }
 {
     match units.split_first() {
         Some((first, later)) => {

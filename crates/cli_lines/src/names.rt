@@ -1,5 +1,5 @@
 //! The names of members.
-ghost use Rattle.std.specs.Prelude.{◌≡◌, [], map, slice_index_or};
+ghost use Rattle.std.specs.Prelude.{◌≡◌, map};
 ghost use Rattle.cli_lines.specs.Names.{cell_names, key_text, label_text, name_text, row_start};
 ghost use Rattle.cli_lines.specs.declared.names.Name.TheVariants as name;
 
@@ -78,7 +78,10 @@ macro_rules! key {
 macro_rules! key_of {
     ($name:expr; $($variant:ident $word:ident,)+) => {
         match $name {
-            Name::Cell(table, index) => cell_key(table, index),
+            Name::Cell(table, index) => match keys_of(table).cells.get(index) {
+                Some(key) => *key,
+                None => ",\"\":",
+            },
             $(Name::$variant => key!($word),)+
         }
     };
@@ -125,17 +128,6 @@ impl Name {
             Token token, Type type, Types types, Units units, Value value, Version version,
             Visibility visibility,
         }
-    }
-}
-
-/// The key of a cell.
-#[inline(always)]
-fn cell_key(table: TableId, index: usize) -> &'static str
-    ensures { result.now ≡ key_text (slice_index_or (cell_names table) index []) }
-{
-    match keys_of(table).cells.get(index) {
-        Some(key) => *key,
-        None => ",\"\":",
     }
 }
 

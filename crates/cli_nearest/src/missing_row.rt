@@ -7,15 +7,17 @@ use std::alloc::Global;
 use std::fmt;
 use std::io::Write;
 
-/// Why a row was not printed: the table that does not have it, and its row count, if the token names a table. `Display` gives the
-/// lines for standard error.
+/// Why a row was not printed. `Display` gives the lines for standard error.
 #[derive(Clone, Copy)]
-struct MissingRow(Option<(TableId, u32)>);
+struct MissingRow {
+    /// The table that does not have the row, and its row count, if the token names a table.
+    table: Option<(TableId, u32)>,
+}
 
 impl fmt::Display for MissingRow {
     fn fmt<W: fmt::Write>(&self, f: &mut fmt::Formatter<W>) -> fmt::Result {
         write!(f, "{}\n", Stop::Failed(Failure::NoSuchRow))?;
-        match &self.0 {
+        match &self.table {
             Some((table, 1)) => write!(f, "  hint: {} has 1 row\n", table.name()),
             Some((table, rows)) => write!(f, "  hint: {} has {rows} rows\n", table.name()),
             None => Ok(()),
@@ -48,5 +50,5 @@ pub fn report_missing_row<E: Write>(
         Ok(view) => table_without_row(&view, numbers),
         Err(_) => None,
     };
-    let _ = send_message(alloc, &MissingRow(table), err);
+    let _ = send_message(alloc, &MissingRow { table }, err);
 }

@@ -4,16 +4,13 @@ use packed::{Fault, FaultCode};
 use schema::column_names;
 use std::alloc::Global;
 use strsim::levenshtein;
-use table_schema::TableId;
+use table_schema::{TableId, cell_count, column_of_cell};
 
 /// The largest length of an argument for which a name is looked for, in bytes. It bounds the time.
 const LONGEST: usize = 64;
 
 /// The largest length of a name that can be near, in bytes.
 pub(crate) const LONGEST_NAME: usize = 2 * LONGEST;
-
-/// The name of the column of Constant without cells, a padding byte (II.22.9).
-const PADDING: &str = "padding";
 
 /// The number of edits from which on a name is too far from a part of an argument, whose other parts have `others` bytes.
 pub(crate) fn limit_of(word: &str, others: usize) -> usize {
@@ -41,34 +38,46 @@ pub(crate) fn edits_below(alloc: Global, word: &str, name: &str, limit: usize) -
     if edits < limit { Some(edits) } else { None }
 }
 
-/// The first of these whose name is nearest to an argument; `None` if all are far.
-fn nearest_of<'a, T: Copy, F: Fn(T) -> &'a str>(
-    alloc: Global,
-    word: &str,
-    all: &[T],
-    name_of: F,
-) -> Option<T>
-    requires { F.IsAlwaysCallable name_of }
-{
+/// The table whose name is nearest to an argument; `None` if all are far. Of several the first one.
+pub fn nearest_table(alloc: Global, word: &str) -> Option<TableId> {
     let mut limit = limit_of(word, 0);
     let mut nearest = None;
-    for of in all {
-        if let Some(edits) = edits_below(alloc, word, name_of(*of), limit) {
+    for table in TableId::all() {
+        if let Some(edits) = edits_below(alloc, word, table.name(), limit) {
             limit = edits;
-            nearest = Some(*of);
+            nearest = Some(*table);
         }
     }
     nearest
 }
 
-/// The table whose name is nearest to an argument; `None` if all are far. Of several the first one.
-pub fn nearest_table(alloc: Global, word: &str) -> Option<TableId> {
-    nearest_of(alloc, word, TableId::all(), |table| table.name())
-}
-
 /// The rule whose name is nearest to an argument; `None` if all are far. Of several the first one.
 pub fn nearest_code(alloc: Global, word: &str) -> Option<FaultCode> {
-    nearest_of(alloc, word, all_codes(), |code| Fault::new(code, 0).name())
+    let mut limit = limit_of(word, 0);
+    let mut nearest = None;
+    for code in all_codes() {
+        if let Some(edits) = edits_below(alloc, word, Fault::new(*code, 0).name(), limit) {
+            limit = edits;
+            nearest = Some(*code);
+        }
+    }
+    nearest
+}
+
+/// The column of a table whose name is nearest to an argument; `None` if all are far. Of several the first one.
+fn nearest_in(alloc: Global, table: TableId, word: &str) -> Option<&'static str> {
+    let mut limit = limit_of(word, 0);
+    let mut nearest = None;
+    for cell_index in 0..cell_count(table) {
+        let Some(&name) = column_names(table).get(column_of_cell(table, cell_index)) else {
+            continue;
+        };
+        if let Some(edits) = edits_below(alloc, word, name, limit) {
+            limit = edits;
+            nearest = Some(name);
+        }
+    }
+    nearest
 }
 
 /// The table and the name of its column that are nearest to an argument such as `Module.Mvid`; `None` if all are far, or if it
@@ -76,9 +85,7 @@ pub fn nearest_code(alloc: Global, word: &str) -> Option<FaultCode> {
 pub fn nearest_column(alloc: Global, word: &str) -> Option<(TableId, &'static str)> {
     let (table, column) = word.split_once('.')?;
     let table = nearest_table(alloc, table)?;
-    let name_of = |name| if name == PADDING { "" } else { name };
-    let column = nearest_of(alloc, column, column_names(table), name_of)?;
-    Some((table, column))
+    Some((table, nearest_in(alloc, table, column)?))
 }
 
 /// The names of all subcommands, that of `help` too.
@@ -108,5 +115,13 @@ pub fn nearest_command(alloc: Global, words: &[&str]) -> Option<&'static str> {
     let ["help", word, ..] = words else {
         return None;
     };
-    nearest_of(alloc, word, &COMMANDS, |command| command)
+    let mut limit = limit_of(word, 0);
+    let mut nearest = None;
+    for command in COMMANDS.iter() {
+        if let Some(edits) = edits_below(alloc, word, command, limit) {
+            limit = edits;
+            nearest = Some(*command);
+        }
+    }
+    nearest
 }

@@ -38,14 +38,17 @@ impl fmt::Display for TypeName<'_> {
     }
 }
 
-/// Why nothing of a type was printed, and the type whose name is nearest, if one is near. `Display` gives the lines for standard error.
+/// Why nothing of a type was printed. `Display` gives the lines for standard error.
 #[derive(Clone, Copy)]
-struct MissingType<'a>(Option<TypeName<'a>>);
+struct MissingType<'a> {
+    /// The type whose name is nearest, if one is near.
+    nearest: Option<TypeName<'a>>,
+}
 
 impl fmt::Display for MissingType<'_> {
     fn fmt<W: fmt::Write>(&self, f: &mut fmt::Formatter<W>) -> fmt::Result {
         write!(f, "{}\n", Stop::NoSuchType)?;
-        match &self.0 {
+        match &self.nearest {
             Some(nearest) => write!(f, "  hint: the nearest name is '{nearest}'\n"),
             None => Ok(()),
         }
@@ -170,7 +173,10 @@ fn nearest_type<'a>(
 
 /// The names that are wanted of a path: of a nested type, written after the type that encloses it and a slash, its own.
 fn wanted_names<'a>(path: &'a str) -> TypeName<'a> {
-    let (_, own) = path.rsplit_once('/').unwrap_or(("", path));
+    let own = match path.rsplit_once('/') {
+        Some((_, own)) => own,
+        None => path,
+    };
     let (namespace, name) = names_of_type(own);
     TypeName { namespace, name }
 }
@@ -188,10 +194,7 @@ pub fn report_missing_type<E: Write>(
 ) {
     let nearest = match (path, open(bytes, input)) {
         (Some(path), Ok(view)) => {
-            if let (Types::Declared, Ok(Some(several))) = (
-                types,
-                several_types(alloc, &view, path),
-            ) {
+            if let (Types::Declared, Some(several)) = (types, several_types(alloc, &view, path)) {
                 let _ = send_message(alloc, &several, err);
                 return;
             }
@@ -199,5 +202,5 @@ pub fn report_missing_type<E: Write>(
         }
         _ => None,
     };
-    let _ = send_message(alloc, &MissingType(nearest), err);
+    let _ = send_message(alloc, &MissingType { nearest }, err);
 }

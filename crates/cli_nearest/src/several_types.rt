@@ -34,13 +34,13 @@ impl fmt::Display for SeveralTypes<'_> {
     }
 }
 
-/// The types that have a name, whatever encloses them, if there are several.
+/// The types that have a name, whatever encloses them.
 #[tactic(auto, unfolding(table_schema::specs::CellColumns::cell_columns))]
-pub(crate) fn several_types<'a>(
+fn types_named<'a>(
     alloc: Global,
     view: &View<'_>,
     name: &'a str,
-) -> Result<Option<SeveralTypes<'a>>, AllocError> {
+) -> Result<SeveralTypes<'a>, AllocError> {
     let source = Neighbours::new(alloc, view)?;
     let mut types = SeveralTypes {
         name,
@@ -61,9 +61,17 @@ pub(crate) fn several_types<'a>(
         name_row(&source, Token { table, row }, &mut full_name)?;
         types.listed.push(full_name)?;
     }
-    if types.listed.len() > 1 {
-        Ok(Some(types))
-    } else {
-        Ok(None)
+    Ok(types)
+}
+
+/// The types that have a name, whatever encloses them, if there are several; `None` also if out of memory.
+pub(crate) fn several_types<'a>(
+    alloc: Global,
+    view: &View<'_>,
+    name: &'a str,
+) -> Option<SeveralTypes<'a>> {
+    match types_named(alloc, view, name) {
+        Ok(types) if types.listed.len() > 1 => Some(types),
+        _ => None,
     }
 }

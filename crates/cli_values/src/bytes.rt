@@ -49,6 +49,7 @@ pub fn push_hexadecimal(bytes: &[u8], text: &mut String) -> Result<(), AllocErro
 }
 
 /// The bytes of a value that are printed.
+#[tactic(auto, using(std::proofs::lemmas::List::take_min))]
 pub(crate) fn printed(bytes: &[u8]) -> &[u8]
     ensures { result.now ≡ take value_limit bytes.now }
 {

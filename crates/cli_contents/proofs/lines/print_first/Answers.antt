@@ -1,4 +1,4 @@
-use Rattle.cli_contents.proofs.Prelude.{◌≡◌, ℕ, suc, ◌+◌, ◌-◌, ◌<◌, ◌≤◌, [], ◌++◌, arith, take_all, option_to_list, Image, Metadata, Body, Kind, content_with, contents_from}
+use Rattle.cli_contents.proofs.Prelude.{◌≡◌, ℕ, suc, zero, ◌+◌, ◌-◌, ◌<◌, ◌≤◌, List, [], ◌++◌, Option, None, Some, arith, length, map, refl, take, take_all, option_to_list, Image, Metadata, Body, Kind, content_with, contents_from}
 use Rattle.cli_contents.proofs.lines.print_first.Goals as goal
 
 module _ (kind : Kind) (image : Image) (model : Metadata) (offset row past : ℕ) where
@@ -12,25 +12,22 @@ module _ (kind : Kind) (image : Image) (model : Metadata) (offset row past : ℕ
   unfolding contents_from
   contents_none le = let none : past - row ≡ 0 = omega (arith, le) in rw none
 
+-- the first of one more item
+first_more : {X Y : Type 0} (f : X → Y) (left : ℕ) (of : Option X) (later : List X)
+    → map f (take left (option_to_list of ++ later)) ≡ map f (take left (option_to_list of)) ++ map f (take (left - length (option_to_list of)) later)
+first_more {X} f left None later = let all : left - 0 ≡ left = omega arith in rw (all, take_all {A = X} left [] (omega arith))
+first_more f zero (Some x) later = refl
+first_more {X} f (suc left) (Some x) later = let same : suc left - 1 ≡ left = omega arith in rw (same, take_all {A = X} left [] (omega arith))
+
 pub loop-row-init : goal.loop-row-init
 loop-row-init g c = λ model later is printed. rw (← c.shape-table.ensures.table, ← c.count-count.ensures.model model is) printed
-
-pub loop-row-preserved-in_default : goal.loop-row-preserved-in_default
-loop-row-preserved-in_default g c = λ model later is printed.
-    let loop = c.loop-row in
-    loop.invariant model later is
-    (rw (contents_more c.args.kind c.args.pe.now model c.args.offset loop.row (c.count-count.result + 1) c.loop-row-test.true, ← c.in_default.ensures.content model is) printed)
-
-pub returns-then-left-eq0 : goal.returns-then-left-eq0
-returns-then-left-eq0 g c = λ model is. c.loop-row.invariant model c.loop-row.out is (rw c.if-left-eq0.true (c.lines_follow.ensures.nothing _))
 
 pub loop-row-preserved : goal.loop-row-preserved
 loop-row-preserved g c = λ model later is printed.
     let loop = c.loop-row in
-    let some : loop.left ≡ suc (loop.left - 1) = omega (arith, c.if-left-eq0.false) in
     loop.invariant model later is
-    (rw (contents_more c.args.kind c.args.pe.now model c.args.offset loop.row (c.count-count.result + 1) c.loop-row-test.true, ← c.in-Some.ensures.content model is, some)
-    (c.lines_follow.ensures.more _ _ _ _ _ (c.print_row.ensures model is) printed))
+    (rw (contents_more c.args.kind c.args.pe.now model c.args.offset loop.row (c.count-count.result + 1) c.loop-row-test.true, ← c.content_with-of.ensures.content model is, first_more)
+    (c.lines_follow.ensures.more _ _ _ _ _ (c.print_row-left.ensures.lines model is) (rw c.print_row-left.ensures.left at printed)))
 
 pub returns : goal.returns
 returns g c = λ model is.

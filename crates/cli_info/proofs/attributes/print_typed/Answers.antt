@@ -1,11 +1,12 @@
-use Rattle.cli_info.proofs.Prelude.{attribute_line}
+use Rattle.cli_info.proofs.AttributeLemmas.{other_type}
 use Rattle.cli_info.proofs.attributes.print_typed.Goals as goal
 
-pub returns-then-not-has_types : goal.returns-then-not-has_types
-returns-then-not-has_types g c = λ model is. rw (← c.has_types.ensures.value, c.if-not-has_types.true) (c.lines_follow.ensures.nothing _)
+pub returns-in-TypeDef : goal.returns-in-TypeDef
+returns-in-TypeDef g c = λ model is. rw c.in-TypeDef.is (c.print_named.ensures model is)
 
-pub returns : goal.returns
-unfolding attribute_line
-returns g c = λ model is.
-    rw (← c.has_types.ensures.value, c.if-not-has_types.false, ← c.text-namespace.ensures model is, ← c.text-name.ensures model is, ← c.dot_after.ensures)
-    (c.parts_follow.ensures.line _ _ _ _ _ _ c.begin.ensures c.print_items.ensures c.end.ensures)
+pub returns-in-TypeRef : goal.returns-in-TypeRef
+returns-in-TypeRef g c = λ model is. rw c.in-TypeRef.is (c.print_named-in-TypeRef.ensures model is)
+
+pub returns-in_default : goal.returns-in_default
+returns-in_default g c = λ model is.
+    rw (← other_type model c.args.class.table c.args.class.row c.args.items c.in_default.not-TypeDef c.in_default.not-TypeRef) (c.lines_follow.ensures.nothing _)
