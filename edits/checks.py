@@ -132,13 +132,10 @@ class Checker:
         return sum_of(self.crate.line, self.below, sorted(sums.items()), edit.functions)
 
     def run(self, words, room):
-        """Runs the prover in a folder to its end, unless the run is to end."""
-        if self.maker.is_stopped:
-            return Checked(Verdict.STOPPED, 0, [""], 0)
+        """Runs the prover in a folder to its end."""
         with tempfile.TemporaryFile("w+", errors="replace") as said:
             how = {"stdin": subprocess.DEVNULL, "stdout": said, "stderr": subprocess.STDOUT, "start_new_session": True}
             ran = subprocess.Popen(words, cwd=room, **how)
-            build.lower(ran.pid)
             self.maker.running.add(ran)
             _, status, used = os.wait4(ran.pid, 0)
             self.maker.running.discard(ran)

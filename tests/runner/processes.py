@@ -7,8 +7,6 @@ import subprocess
 import sys
 import tempfile
 
-from crates import build
-
 
 def end_group(process):
     """Ends a program and the programs that it has started."""
@@ -47,7 +45,6 @@ class Processes:
             read.seek(0)
             pipes = {"stdin": subprocess.DEVNULL if given is None else read, "stdout": printed, "stderr": log}
             with subprocess.Popen(words, start_new_session=True, **pipes, **how) as it:
-                build.lower(it.pid)
                 self.running.add(it)
                 _, status, used = os.wait4(it.pid, 0)
                 it.returncode = os.waitstatus_to_exitcode(status)
@@ -58,7 +55,6 @@ class Processes:
     def show(self, words):
         """Runs a program that says what it does, and returns its status."""
         with subprocess.Popen(words, start_new_session=True, stdin=subprocess.DEVNULL, stdout=sys.stderr) as it:
-            build.lower(it.pid)
             self.running.add(it)
             it.wait()
             self.running.discard(it)

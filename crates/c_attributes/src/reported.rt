@@ -2,6 +2,7 @@
 ghost use Rattle.std.specs.Prelude.{◌≡◌};
 ghost use Rattle.attribute_values.specs.Parts.{code_of};
 ghost use Rattle.attribute_values.specs.Views.{element_view, head_view, scalar_view, view};
+ghost use Rattle.attribute_values.specs.Items.{named_count};
 ghost use Rattle.attribute_values.specs.Values.{scalar_type};
 ghost use Rattle.c_attributes.specs.Items.{element_fields, fields_of, head_fields, is_null, item_fields, member_kind, number_in, scalar_fields, text_in};
 
@@ -104,6 +105,21 @@ fn of_argument<'a>(kind: u8, name: &'a [u8], argument: Argument<'a>) -> ClimAttr
     }
 }
 
+/// The item with the number of named arguments.
+fn of_count<'a>(count: u16) -> ClimAttributeItem<'a>
+    ensures { fields_of result ≡ item_fields (named_count count) }
+{
+    ClimAttributeItem {
+        name: &[],
+        text: &[],
+        number: u64::from(count),
+        kind: NAMED_COUNT,
+        form: 0,
+        of: 0,
+        is_null: false,
+    }
+}
+
 /// The kind of a named argument.
 fn member_kind(member: Member) -> u8
     ensures { result ≡ member_kind member }
@@ -121,15 +137,7 @@ pub(crate) fn reported<'a>(item: Item<'a>) -> ClimAttributeItem<'a>
     match item {
         Item::Fixed(argument) => of_argument(FIXED, &[], argument),
         Item::Element(value) => of_element(ELEMENT, &[], value),
-        Item::NamedCount(count) => ClimAttributeItem {
-            name: &[],
-            text: &[],
-            number: u64::from(count),
-            kind: NAMED_COUNT,
-            form: 0,
-            of: 0,
-            is_null: false,
-        },
+        Item::NamedCount(count) => of_count(count),
         Item::Named(member, name, argument) => {
             of_argument(member_kind(member), name.as_bytes(), argument)
         }

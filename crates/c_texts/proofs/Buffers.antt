@@ -1,5 +1,6 @@
 -- Texts that are written into a buffer.
-use Rattle.c_texts.proofs.Prelude.{append-nil, length-append, length-drop, take-append-drop, take_all, take_min, take_more, drop-drop, drop_all, drop_min, ◌≡◌, ℕ, ◌+◌, ◌<◌, ◌≤◌, List, [], ◌∷◌, ◌++◌, length, take, drop, get_or, zero, suc, ◌-◌, ◌^◌, min, append_assoc, Bor, refl, sym, ◌∙◌, ap, ⊎_elim, arith, cases_lt, Extends, HasText, IsLenWithin, joined, overwritten, text_limit, with_text}
+use Rattle.c_texts.proofs.Prelude.{◌≡◌, ℕ, ◌+◌, ◌<◌, ◌≤◌, List, [], ◌∷◌, ◌++◌, length, take, drop, get_or, zero, suc, ◌-◌, ◌^◌, min, append_assoc, Bor, refl, sym, ◌∙◌, ap, ⊎_elim, arith, cases_lt, Extends, HasText, IsLenWithin, joined, overwritten, text_limit, with_text}
+use Rattle.std.proofs.lemmas.List.{append-nil, length-append, length-drop, take-append-drop, take_all, take_min, take_more, drop-drop, drop_all, drop_min}
 use Rattle.std.proofs.lemmas.List.Concat.{flat_map-append}
 
 -- a buffer after a text was written to its start, byte by byte

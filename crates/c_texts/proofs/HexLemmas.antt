@@ -1,5 +1,6 @@
 -- The hexadecimal digits of a token.
-use Rattle.c_texts.proofs.Prelude.{append-nil, drop-append-le, drop-replicate, drop-set, length-append, length-replicate, length-set, set_split, take-replicate, take-set, take-take, ◌≡◌, ◌∙◌, ℕ, zero, suc, ◌+◌, ◌-◌, ◌/◌, ◌%◌, ◌^◌, ◌<◌, ◌≤◌, min, false, List, [], ◌∷◌, ◌++◌, length, take, drop, set, replicate, refl, ap, sym, arith, cond, char_count, digit_glyph, digits, digits_onto, padded_integral, eq-eqb, ne_eqb, hexadecimal}
+use Rattle.c_texts.proofs.Prelude.{◌≡◌, ◌∙◌, ℕ, zero, suc, ◌+◌, ◌-◌, ◌/◌, ◌%◌, ◌^◌, ◌<◌, ◌≤◌, min, false, List, [], ◌∷◌, ◌++◌, length, take, drop, set, replicate, refl, ap, sym, arith, cond, char_count, digit_glyph, digits, digits_onto, padded_integral, eq-eqb, ne_eqb, hexadecimal}
+use Rattle.std.proofs.lemmas.List.{append-nil, drop-append-le, drop-replicate, drop-set, length-append, length-replicate, length-set, set_split, take-replicate, take-set, take-take}
 
 abbrev glyph : ℕ → ℕ
 glyph n = digit_glyph false n

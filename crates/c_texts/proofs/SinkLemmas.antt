@@ -1,5 +1,6 @@
 -- A text that is written piece by piece.
-use Rattle.c_texts.proofs.Prelude.{◌≡◌, ℕ, ◌≤◌, Bool, false, List, [], ◌∷◌, ◌++◌, flat_map, append_assoc, append-nil, refl, sym, ap, subst, ◌∙◌, WritesInCalls, Piece, HasText, Extends, piece_bytes}
+use Rattle.std.proofs.Common.{◌≡◌, ℕ, ◌≤◌, Bool, false, List, [], ◌∷◌, ◌++◌, flat_map, append_assoc, append-nil, refl, sym, ap, subst, ◌∙◌}
+use Rattle.c_texts.proofs.Prelude.{WritesInCalls, Piece, HasText, Extends, piece_bytes}
 use Rattle.std.specs.List.{FoldsTo, concat}
 use Rattle.sig_text.specs.Receives.{Receives, nothing, refused, taken}
 use Rattle.c_texts.proofs.Buffers.{stays}

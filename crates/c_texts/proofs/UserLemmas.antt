@@ -1,5 +1,7 @@
 -- A user string of a padded heap, by its bytes.
-use Rattle.c_texts.proofs.Prelude.{get_or-take, get_or-drop, take_more, take_more_set, drop-set-lt, drop-drop, drop_at, length-append, length-take, length-take-le, length-drop, take-take, take-append-drop, take_min, drop_min, slice_get-get_or, ◌≡◌, ℕ, zero, suc, ◌+◌, ◌-◌, ◌*◌, ◌/◌, ◌%◌, ◌<◌, ◌≤◌, min, List, [], ◌∷◌, ◌++◌, length, take, drop, set, replicate, get_or, unwrap_or, inl, inr, refl, sym, ap, subst, ◌∙◌, arith, IsBlob, IsUserString, zero_padded, units_in, last_of, user_text, AreBytes, blob_bytes, encodes_from, last_at, with_text}
+use Rattle.c_texts.proofs.Prelude.{◌≡◌, ℕ, zero, suc, ◌+◌, ◌-◌, ◌*◌, ◌/◌, ◌%◌, ◌<◌, ◌≤◌, min, List, [], ◌∷◌, ◌++◌, length, take, drop, set, replicate, get_or, unwrap_or, inl, inr, refl, sym, ap, subst, ◌∙◌, arith, IsBlob, IsUserString, zero_padded, units_in, last_of, user_text, AreBytes, blob_bytes, encodes_from, last_at, with_text}
+use Rattle.std.proofs.lemmas.List.{get_or-take, get_or-drop, take_more, take_more_set, drop-set-lt, drop-drop, drop_at, length-append, length-take, length-take-le, length-drop, take-take, take-append-drop, take_min, drop_min}
+use Rattle.std.proofs.lemmas.Option.{slice_get-get_or}
 use Rattle.packed.specs.Packed.{IsPacked}
 
 zeros_are : (zeros i : ℕ) → get_or (replicate zeros 0) i 0 < 256

@@ -1,7 +1,7 @@
 //! The name and the declaration of a row in a caller's buffer, in the notation of ILAsm.
 ghost use Rattle.std.specs.Prelude.{◌≡◌, ◌≢◌, ◌≤◌, ◌⊎◌, ◌^◌, ◌+◌, ◌-◌, List, ℕ, IfOk, OnOk, true, false, length};
 ghost use Rattle.table_schema.specs.declared.column.SigKind.TheVariants as kind;
-ghost use Rattle.table_schema.specs.declared.table.TableId.TheVariants.{Field};
+ghost use Rattle.table_schema.specs.declared.table.TableId.TheVariants.{Field, MethodDef, Property};
 ghost use Rattle.table_schema.specs.declared.token.Token.{Token as TheToken};
 ghost use Rattle.sig_grammar.specs.Syntax.{Body};
 ghost use Rattle.sig_grammar.specs.Encodes.{Encodes};
@@ -11,7 +11,7 @@ ghost use Rattle.metadata.specs.Model.{IsModel};
 ghost use Rattle.opening.specs.Views.{row_count};
 ghost use Rattle.full_names.specs.declared.limit.Scopes.TheVariants.{Omitted};
 ghost use Rattle.full_names.specs.Names.{Wrote};
-ghost use Rattle.c_texts.specs.RowTexts.{IsDeclared, IsFieldDeclaration, IsRowText, IsTextWithin, IsTokenIn, has_declaration, has_text};
+ghost use Rattle.c_texts.specs.RowTexts.{IsDeclared, IsDeclaredProperty, IsFieldDeclaration, IsMethodDeclaration, IsRowText, IsTextWithin, IsTokenIn, has_declaration, has_text};
 ghost use Rattle.c_texts.specs.Texts.{HasText, text_limit};
 
 use crate::limited_text::{LimitedText, TEXT_LIMIT, TextLimit, len_within};
@@ -93,6 +93,42 @@ fn write_field<W: fmt::Write, L: Limit<W>>(
     Ok(write_name(out, NameKind::Dotted, name, limit)?)
 }
 
+/// Writes the declaration of a method.
+fn write_method<W: fmt::Write, L: Limit<W>>(
+    alloc: Global,
+    view: &View<'_>,
+    row: u32,
+    limit: &L,
+    out: &mut W,
+) -> Result<(), TextError>
+    requires first { 1 ≤ row }
+    requires last { row ≤ row_count view.now MethodDef }
+    requires omitted { L.scopes ≡ Omitted }
+    ensures { (model : Metadata) → IsModel view.now model → OnOk result (Wrote W.write_str_gives out.old (IsMethodDeclaration model row) out.new) }
+{
+    metadata::laws::models_are_read();
+    metadata::laws::models_of_roots_are_valid();
+    write_method_within(alloc, view, row, limit, out)
+}
+
+/// Writes the declaration of a property.
+fn write_property<W: fmt::Write, L: Limit<W>>(
+    alloc: Global,
+    view: &View<'_>,
+    row: u32,
+    limit: &L,
+    out: &mut W,
+) -> Result<(), TextError>
+    requires first { 1 ≤ row }
+    requires last { row ≤ row_count view.now Property }
+    requires omitted { L.scopes ≡ Omitted }
+    ensures { (model : Metadata) → IsModel view.now model → OnOk result (Wrote W.write_str_gives out.old (IsDeclaredProperty model row) out.new) }
+{
+    metadata::laws::models_are_read();
+    metadata::laws::models_of_roots_are_valid();
+    write_property_within(alloc, view, row, limit, out)
+}
+
 /// Writes the declaration of a row of a table whose rows have one.
 fn write_declaration<W: fmt::Write, L: Limit<W>>(
     alloc: Global,
@@ -107,13 +143,11 @@ fn write_declaration<W: fmt::Write, L: Limit<W>>(
     requires omitted { L.scopes ≡ Omitted }
     ensures { (model : Metadata) → IsModel view.now model → OnOk result (Wrote W.write_str_gives out.old (IsDeclared model token.table token.row) out.new) }
 {
-    metadata::laws::models_are_read();
-    metadata::laws::models_of_roots_are_valid();
     match token.table {
         TableId::TypeDef => Ok(write_type_def_within(view, token.row, limit, out, DEPTH)?),
         TableId::Field => write_field(alloc, view, token.row, limit, out),
-        TableId::MethodDef => write_method_within(alloc, view, token.row, limit, out),
-        TableId::Property => write_property_within(alloc, view, token.row, limit, out),
+        TableId::MethodDef => write_method(alloc, view, token.row, limit, out),
+        TableId::Property => write_property(alloc, view, token.row, limit, out),
         _ => unreachable!(),
     }
 }

@@ -1,5 +1,5 @@
 -- Copies of files that are written into a buffer.
-use Rattle.c_values.proofs.Prelude.{◌≡◌, ℕ, ◌<◌, ◌≤◌, ◌++◌, List, [], ◌∷◌, length, drop, refl, sym, ◌∙◌, ap, subst, inl, inr, arith, take_all, Metadata, canonical, IsAsked, IsCanonicalRootOf, IsNoCopy, IsWritten}
+use Rattle.c_values.proofs.Prelude.{◌≡◌, ℕ, ◌<◌, ◌≤◌, ◌++◌, List, [], ◌∷◌, length, drop, refl, sym, ◌∙◌, ap, subst, inl, inr, arith, take_all, Metadata, canonical, IsAsked, IsCanonicalRootOf, IsNoCopy, IsStrongName, IsWritten}
 use Rattle.std.proofs.Math.Logic.{∥∥₁_map}
 use Rattle.packed.specs.declared.fault.Fault.{Fault}
 use Rattle.cli_header.specs.declared.header.CliHeader.{CliHeader}
@@ -9,6 +9,7 @@ use Rattle.opening.specs.Views.{HasImage}
 use Rattle.embedding.specs.declared.error.EmbedError.{EmbedError}
 use Rattle.embedding.specs.declared.error.EmbedError.TheVariants as error
 use Rattle.embedding.specs.declared.strong_name.StrongName.{StrongName}
+use Rattle.embedding.specs.declared.strong_name.StrongName.TheVariants.{Keep, Clear}
 use Rattle.embedding.specs.Embedded.{IsEmbedded}
 use Rattle.embedding.specs.Errors.{IsReason, MatchFault}
 use Rattle.c_texts.specs.Texts.{HasWhole}
@@ -29,7 +30,11 @@ whole_written buffer text first tail count first_is tail_is count_is fits = (
   (λ long. absurd (omega (arith, fits, count_is, long))),
 )
 
--- a copy is in the buffer
+-- any other number than 1 and 2 is that of no choice
+pub no_choice : (number : ℕ) → (number ≡ 1 → ⊥) → (number ≡ 2 → ⊥) → (name : StrongName) → IsStrongName number name → ⊥
+no_choice number first second Keep is = first is
+no_choice number first second Clear is = second is
+
 pub written : (name : StrongName) (file root copy : List ℕ) (len : ℕ) (initial buffer : List ℕ) → IsEmbedded name file root copy
     → len ≡ length copy → HasWhole initial copy buffer → IsWritten name file root len initial buffer
 written name file root copy len initial buffer embedded length_is whole =

@@ -6,3 +6,4 @@ pub mod RefusedLemmas
 pub mod ReasonLemmas
 pub mod StepLemmas
 pub mod CopyLemmas
+pub mod LocationLemmas

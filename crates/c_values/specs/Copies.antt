@@ -1,5 +1,5 @@
 -- The copy of a file with another root that a C caller asks for (ECMA-335 II.25).
-use Rattle.std.specs.Prelude.{◌≡◌, ◌⊎◌, ◌-◌, ◌^◌, ◌<◌, ◌==◌, if◌then◌else◌, ℕ, List, [], ◌∷◌, length, Option, None, Some}
+use Rattle.std.specs.Prelude.{◌≡◌, ◌⊎◌, ◌-◌, ◌^◌, ◌<◌, ℕ, List, [], ◌∷◌, length}
 use Rattle.packed.specs.Rule.{FirstBroken}
 use Rattle.packed.specs.declared.fault.Fault.{Fault}
 use Rattle.cli_header.specs.declared.header.CliHeader.{CliHeader}
@@ -15,9 +15,10 @@ use Rattle.embedding.specs.Embedded.{IsEmbedded}
 use Rattle.embedding.specs.Errors.{IsReason}
 use Rattle.c_texts.specs.Texts.{HasWhole}
 
--- what becomes of a strong name, by its number for C
-abbrev pub strong_name_by : ℕ → Option StrongName
-strong_name_by number = if number == 1 then Some Keep else (if number == 2 then Some Clear else None)
+-- the number for C of what becomes of a strong name
+abbrev pub IsStrongName : ℕ → StrongName → Type 0
+IsStrongName number Keep = number ≡ 1
+IsStrongName number Clear = number ≡ 2
 
 -- the canonical root of the model of a file (II.24.2)
 abbrev pub IsCanonicalRootOf : List ℕ → List ℕ → Type 0

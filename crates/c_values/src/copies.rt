@@ -1,11 +1,12 @@
 //! A copy of a file with another root, in a caller's buffer.
-ghost use Rattle.std.specs.Prelude.{◌≡◌, ◌≤◌, ◌^◌, IfErr, IfOk, OnErr, [], length};
+ghost use Rattle.std.specs.Prelude.{◌≡◌, ◌≤◌, ◌^◌, IfErr, IfNone, IfOk, IfSome, OnErr, [], length};
 ghost use Rattle.packed.specs.Rule.{FirstBroken};
 ghost use Rattle.metadata.specs.Rules.{rules_of_file, rules_of_metadata};
+ghost use Rattle.embedding.specs.declared.strong_name.StrongName.{StrongName as Name};
 ghost use Rattle.embedding.specs.Errors.{IsReason, MatchFault};
 ghost use Rattle.embedding.specs.Planned.{result_of};
 ghost use Rattle.c_texts.specs.Texts.{HasWhole};
-ghost use Rattle.c_values.specs.Copies.{IsAsked, IsCanonicalRootOf, IsCopied, IsFaultOfRoot, IsNoCopy, IsWritten, strong_name_by};
+ghost use Rattle.c_values.specs.Copies.{IsAsked, IsCanonicalRootOf, IsCopied, IsFaultOfRoot, IsNoCopy, IsStrongName, IsWritten};
 
 use c_texts::ROOT_LIMIT;
 use embedding::{EmbedError, EmbedPlan, StrongName, plan_embedding};
@@ -32,8 +33,10 @@ pub const OCCUPIED: usize = usize::MAX - 6;
 pub const NO_ROOM: usize = usize::MAX - 7;
 
 /// What becomes of a strong name, by its number in `enum clim_strong_name` of `clim.h`; `None` for any other number.
+#[tactic(auto, using(crate::proofs::CopyLemmas::no_choice))]
 pub fn strong_name_of(number: u8) -> Option<StrongName>
-    ensures { result ≡ strong_name_by number }
+    ensures sound { IfSome result (IsStrongName number) }
+    ensures none { IfNone result ((name : Name) → ¬ IsStrongName number name) }
 {
     match number {
         1 => Some(StrongName::Keep),
@@ -48,7 +51,10 @@ fn canonical_root_of(alloc: Global, file: &[u8]) -> Result<Prepared, EmbedError>
     ensures first_error { IfErr result (MatchFault (FirstBroken (rules_of_file file.now)) (IsFaultOfRoot (IsCanonicalRootOf file.now))) }
     ensures refused { IfErr result (IsNoCopy file.now []) }
 {
-    let (_, view) = open_image(file)?;
+    let view = match open_image(file) {
+        Ok((_, view)) => view,
+        Err(fault) => return Err(EmbedError::File(fault)),
+    };
     match prepare(alloc, &view, ROOT_LIMIT) {
         Ok(root) => Ok(root),
         Err(WriteError::TooLarge) => Err(EmbedError::TooLong),

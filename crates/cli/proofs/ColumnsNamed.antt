@@ -1,5 +1,5 @@
 -- The columns that arguments name, one after another.
-use Rattle.cli.proofs.Prelude.{◌≡◌, ◌≢◌, ◌∙◌, ◌+◌, ◌<◌, ℕ, true, List, [], ◌∷◌, ◌++◌, All, drop, take, get_or, length, ap, sym, subst, arith, inl, inr, ◌⊎◌, Any, to_ascii_lowercase, Bor, drop-append_seam, take-append_seam, get_or_append_left, length-append, length-map, take_more, All-get_or, All-more, All-weaker, TableId, cell_count, table_index_of, table_name, tables, AreOthersSame, is_ignored, AreNamed, NamesColumn, NamesIgnored}
+use Rattle.cli.proofs.Prelude.{◌≡◌, ◌≢◌, ◌∙◌, ◌+◌, ◌<◌, ℕ, true, false, List, [], ◌∷◌, ◌++◌, All, drop, take, get_or, length, ap, sym, subst, arith, inl, inr, ◌⊎◌, Any, to_ascii_lowercase, Bor, drop-append_seam, take-append_seam, get_or_append_left, length-append, length-map, take_more, All-get_or, All-more, All-weaker, TableId, cell_count, table_index_of, table_name, tables, AreOthersSame, is_ignored, no_columns, NamesColumn, NamesIgnored}
 use Rattle.std.specs.Prelude.{Option, None, Some, IfNone, slice_index_or}
 use Rattle.std.proofs.lemmas.Bool.{cases_eq}
 use Rattle.std.proofs.lemmas.List.Quantifiers.{Any-push}
@@ -11,10 +11,22 @@ any_longer : {X : Type 0} (P : X → Type 0) (xs ys : List X) → Any P xs → A
 any_longer P xs ys any =
     (any.0, any.1, omega (arith, any.2, length-append xs ys), get_or_append_left xs ys any.1 any.0 any.2 ∙ any.3, any.4)
 
+-- no column is ignored at first
+pub none_ignored : ((table : TableId) (cell_index : ℕ) → is_ignored no_columns table cell_index ≡ false) → (ignored : IgnoredColumns) → ignored ≡ no_columns
+    → (words : List (Bor (List ℕ))) (table : TableId) (cell_index : ℕ) → cell_index < cell_count table
+    → is_ignored ignored table cell_index ≡ true → Any (λ word. NamesColumn word.now table cell_index) words
+none_ignored none ignored is words table cell_index within marked =
+    let other = sym (none table cell_index) ∙ subst (λ (columns : IgnoredColumns). is_ignored columns table cell_index ≡ true) is marked in cc
+
 -- what holds if there is no value
 pub when_none : (P : Type 0) (found : Option ℕ) → P → IfNone found P
 when_none P None holds = holds
 when_none P (Some value) holds = tt
+
+-- what follows if there is no value
+pub none_then : (found : Option ℕ) (P Q : Type 0) → IfNone found P → (P → Q) → IfNone found Q
+none_then None P Q is to = to is
+none_then (Some value) P Q is to = tt
 
 -- of an argument that names a column, the part that is as long as the name of the table, and what follows it
 pub halves : (word : List ℕ) (table : TableId) (cell_index : ℕ) (named : NamesColumn word table cell_index)
@@ -54,21 +66,25 @@ module _ (stand : (table : TableId) → slice_index_or tables (table_index_of ta
     stays : (other : TableId) (index : ℕ) → index < cell_count other → is_ignored old other index ≡ true → is_ignored new other index ≡ true
     stays other index within marked =
         elim (added_or_other other index) [
-          | inl is ↦ rw (is.0, is.1) added
+          | inl is ↦ subst (λ (t : TableId). is_ignored new t index ≡ true) (sym is.0) (subst (λ (i : ℕ). is_ignored new table i ≡ true) (sym is.1) added)
           | inr is_not ↦ others other index within is_not ∙ marked
         ]
 
-    -- one more argument names an ignored column, and no column is ignored but those that the arguments name
-    pub named_more : AreNamed (take k words) old → AreNamed (take (k + 1) words) new
-    named_more so_far = record {
-      all = All-more (NamesIgnored new) words k d lt
-          (All-weaker (NamesIgnored old) (NamesIgnored new) (λ word is. (is.0, is.1, is.2, stays is.0 is.1 is.2.0 is.3)) (take k words) so_far.all)
-          (table, cell_index, named, added);
-      only = λ other index within marked.
-          rw (take_more words k d lt)
-          (elim (added_or_other other index) [
-            | inl is ↦ Any-push (λ word. NamesColumn word.now other index) (take k words) (get_or words k d) (rw (is.0, is.1) named)
-            | inr is_not ↦ any_longer (λ word. NamesColumn word.now other index) (take k words) (get_or words k d ∷ [])
-                (so_far.only other index within (sym (others other index within is_not) ∙ marked))
-          ]);
-    }
+    -- one more argument names an ignored column
+    pub all_more : All (NamesIgnored old) (take k words) → All (NamesIgnored new) (take (k + 1) words)
+    all_more all =
+        All-more (NamesIgnored new) words k d lt
+        (All-weaker (NamesIgnored old) (NamesIgnored new) (λ word is. (is.0, is.1, is.2, stays is.0 is.1 is.2.0 is.3)) (take k words) all)
+        (table, cell_index, named, added)
+
+    -- no column is ignored but those that the arguments name
+    pub only_more : ((other : TableId) (index : ℕ) → index < cell_count other → is_ignored old other index ≡ true → Any (λ word. NamesColumn word.now other index) (take k words))
+        → (other : TableId) (index : ℕ) → index < cell_count other → is_ignored new other index ≡ true → Any (λ word. NamesColumn word.now other index) (take (k + 1) words)
+    only_more only other index within marked =
+        subst (λ (xs : List (Bor (List ℕ))). Any (λ word. NamesColumn word.now other index) xs) (sym (take_more words k d lt))
+        (elim (added_or_other other index) [
+          | inl is ↦ Any-push (λ word. NamesColumn word.now other index) (take k words) (get_or words k d)
+              (subst (λ (t : TableId). NamesColumn (get_or words k d).now t index) (sym is.0)
+              (subst (λ (i : ℕ). NamesColumn (get_or words k d).now table i) (sym is.1) named))
+          | inr is_not ↦ any_longer (λ word. NamesColumn word.now other index) (take k words) (get_or words k d ∷ []) (only other index within (sym (others other index within is_not) ∙ marked))
+        ])

@@ -23,18 +23,18 @@ unread file failed.OutOfMemory refused = refl
 unread file _ refused = absurd refused
 
 module _ {W : Type 0} (contents : W → Option (List ℕ)) (before after : W) (same : report_text Text (verdict_line None None ∷ []) ≡ ok_line) where
-  of_bytes : (name bytes : List ℕ) (status : ℕ) → IsCheckOfBytes contents before after bytes status → AreRun check_of_one contents 0 false before after (name ∷ []) status
+  of_bytes : (name bytes : List ℕ) (status : ℕ) → IsCheckOfBytes contents before after bytes status → AreRun check_of_one contents false before after (name ∷ []) status
   of_bytes name bytes status (inl done) =
       let out = subst (λ (text : List ℕ). Appends (contents before) (contents after) text) (sym same) done.1 in
-      inl (after, 0, inl (Ok bytes, (Printed, (done.0, out), refl)), (refl, done.2))
+      inl (after, 0, 0, inl (Ok bytes, (Printed, (done.0, (tt, out)), refl)), (refl, refl), done.2)
   of_bytes name bytes status (inr (inl cut)) =
       let out = subst (λ (text : List ℕ). SendsPrefix (contents before) (contents after) text) (sym same) cut.1 in
       inr (inl (bytes, failed.CannotWriteOutput Other, (tt, (Printed, (cut.0, out)))), cut.2)
   of_bytes name bytes status (inr (inr broken)) =
-      inl (after, 1, inl (Ok bytes, (Refused (Failed (failed.Fault broken.0.0)), ((refl, broken.0.1), broken.1), refl)), (refl, broken.2))
+      inl (after, 1, 0, inl (Ok bytes, (Refused (Failed (failed.Fault broken.0.0)), ((refl, broken.0.1), broken.1), refl)), (refl, refl), broken.2)
 
   pub of_file : {F I : Type 0} (remaining : F → Option (List ℕ)) (given : I → Option (List ℕ)) (file : List ℕ) (status : ℕ)
       → IsCheckOfFile contents before after remaining given file status → IsRunOn check_of_one contents false before after (file ∷ []) status
   of_file remaining given file status (inl read) = inl (of_bytes file read.0 status read.2)
   of_file remaining given file status (inr refused) =
-      inl (inl (after, 3, inl (Err refused.0.0, (refused.0.1, unread file refused.0.0 refused.0.1, refused.1)), (refl, refused.2)))
+      inl (inl (after, 3, 0, inl (Err refused.0.0, (refused.0.1, unread file refused.0.0 refused.0.1, refused.1)), (refl, refl), refused.2))

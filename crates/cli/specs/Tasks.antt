@@ -15,6 +15,7 @@ use Rattle.cli_faults.specs.declared.usage_error.UsageError.TheVariants as wrong
 use Rattle.table_schema.specs.declared.table.TableId.{TableId}
 use Rattle.table_schema.specs.declared.token.Token.{Token}
 use Rattle.comparison.specs.declared.ignored.IgnoredColumns.{IgnoredColumns}
+use Rattle.cli_cells.specs.declared.row_lines.Names.{Names}
 use Rattle.cli_cells.specs.declared.row_lines.Names.TheVariants.{Hidden, Shown}
 use Rattle.cli_names.specs.Names.{NamesCode, NamesTable}
 use Rattle.cli_names.specs.Numbers.{IsHexNumber, IsOffset, IsRowToken, digits_of}
@@ -93,11 +94,15 @@ abbrev pub IsFirstUnknown : (Bor (List ℕ) → Type 0) → List (Bor (List ℕ)
 IsFirstUnknown Names words word =
     (before later : List (Bor (List ℕ))) × (words ≡ before ++ word ∷ later) × All Names before × (¬ Names word)
 
--- the report of `show` on a table, or on all; its columns are named if the arguments have `--names`
+-- whether columns are named, by whether the arguments have `--names`
+abbrev pub names_of : Bool → Names
+names_of true = Shown
+names_of false = Hidden
+
+-- the report of `show` on a table, or on all
 abbrev pub show_of : Ask → Option TableId → Report
 show_of ask table =
-    let names = if ask.names then Shown else Hidden in
-    if ask.until_fault then report.ShowUntilFault table names else report.Listing (listing.Show table names)
+    if ask.until_fault then report.ShowUntilFault table (names_of ask.names) else report.Listing (listing.Show table (names_of ask.names))
 
 -- the report of `show`: that of the table that the argument names, or of all if there is no argument; else the failure says
 -- that it names none

@@ -1,6 +1,9 @@
 //! The columns that arguments name.
-ghost use Rattle.std.specs.Prelude.{ℕ, IfErr, IfNone, IfOk, IfSome};
+ghost use Rattle.std.specs.Prelude.{◌≡◌, ◌≢◌, ◌<◌, ℕ, IfErr, IfNone, IfOk, IfSome};
+ghost use Rattle.std.specs.Str.{str_to_ascii_lowercase};
 ghost use Rattle.table_schema.specs.declared.table.TableId.{TableId as Table};
+ghost use Rattle.table_schema.specs.CellColumns.{cell_count};
+ghost use Rattle.cli_lines.specs.Names.{column_name};
 ghost use Rattle.cli.specs.Columns.{AreNamed, NamesColumn, NamesSome};
 ghost use Rattle.cli.specs.Tasks.{IsFirstUnknown};
 
@@ -53,6 +56,14 @@ fn cell_in(table: TableId, word: &[u8]) -> Option<usize>
     if !first.eq_ignore_ascii_case(table.name().as_bytes()) {
         return None;
     }
+    cell_named(table, name)
+}
+
+/// The index of the cell whose column has a name, in any case.
+fn cell_named(table: TableId, name: &[u8]) -> Option<usize>
+    ensures sound { IfSome result (λ cell_index. (cell_index < cell_count table) × (str_to_ascii_lowercase name.now ≡ str_to_ascii_lowercase (column_name table cell_index))) }
+    ensures complete { IfNone result ((cell_index : ℕ) → cell_index < cell_count table → str_to_ascii_lowercase name.now ≢ str_to_ascii_lowercase (column_name table cell_index)) }
+{
     for cell_index in 0..cell_count(table) {
         if name.eq_ignore_ascii_case(column_name(table, cell_index).as_bytes()) {
             return Some(cell_index);

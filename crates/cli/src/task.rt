@@ -1,6 +1,7 @@
 //! What the arguments ask the program to do.
 ghost use Rattle.std.specs.Prelude.{◌≡◌, if◌then◌else◌};
-ghost use Rattle.cli.specs.Tasks.{IsCompareTask, IsExplainTask, IsOutline, IsRefs, IsShow, IsTask, IsTokens, IsWhere, NamesSubject, embed_task, form_of, input_of, naming_of, options_of, paths_of, report_task, request_of, resources_task, show_of};
+ghost use Rattle.cli.specs.Tasks.{IsCompareTask, IsExplainTask, IsOutline, IsRefs, IsShow, IsTask, IsTokens, IsWhere, NamesSubject, embed_task, form_of, input_of, names_of, naming_of, options_of, paths_of, report_task, request_of, resources_task, show_of, task_on};
+ghost use Rattle.cli.specs.declared.task.Task.TheVariants as tasks;
 
 use crate::columns::columns_of;
 use cli_arguments::{Ask, Subcommand};
@@ -63,10 +64,7 @@ pub(crate) fn task_of<'a>(alloc: Global, ask: &'a Ask<'a>) -> Result<Task<'a>, F
         Subcommand::Strings => on_files(ask, Ok(Report::Strings)),
         Subcommand::Token => on_files(ask, tokens_of(alloc, ask.tokens.as_slice())),
         Subcommand::Where => on_files(ask, where_of(ask.part)),
-        Subcommand::Rewrite => {
-            let (file, out) = paths_of(ask.file, ask.second)?;
-            Ok(Task::Rewrite(file, out))
-        }
+        Subcommand::Rewrite => rewrite_of(ask.file, ask.second),
         Subcommand::Embed => embed_of(ask),
         Subcommand::Digest => on_files(ask, Ok(Report::Digest)),
         Subcommand::Compare => compare_of(alloc, ask),
@@ -126,7 +124,10 @@ fn on_files<'a>(
 ) -> Result<Task<'a>, Failure<'a>>
     ensures { result ≡ report_task ask.now report.entry }
 {
-    let report = report?;
+    let report = match report {
+        Ok(report) => report,
+        Err(failure) => return Err(failure),
+    };
     let is_listed = ask.null | ask.files_from.is_some();
     match (is_listed, ask.files.is_empty()) {
         (false, true) => Err(Failure::Usage(UsageError::NoFile)),
@@ -158,6 +159,13 @@ fn resources_of<'a>(ask: &'a Ask<'a>) -> Result<Task<'a>, Failure<'a>>
     }
 }
 
+/// Whether columns are named, by whether the arguments have `--names`.
+fn names_of(shown: bool) -> Names
+    ensures { result ≡ names_of shown }
+{
+    if shown { Names::Shown } else { Names::Hidden }
+}
+
 /// The report of `show`: the table that the argument names, or all if there is no argument.
 fn show_of<'a>(alloc: Global, ask: &'a Ask<'a>) -> Result<Report<'a>, Failure<'a>>
     ensures { IsShow ask.now.part ask.now result }
@@ -175,7 +183,7 @@ fn show_of<'a>(alloc: Global, ask: &'a Ask<'a>) -> Result<Report<'a>, Failure<'a
 fn shown<'a>(ask: &Ask<'_>, table: Option<TableId>) -> Report<'a>
     ensures { result ≡ show_of ask.now table }
 {
-    let names = choose(ask.names, Names::Shown, Names::Hidden);
+    let names = names_of(ask.names);
     if ask.until_fault {
         Report::ShowUntilFault(table, names)
     } else {
@@ -272,18 +280,32 @@ fn paths_of<'a>(
     }
 }
 
+/// The task of `rewrite`.
+fn rewrite_of<'a>(file: Option<&'a str>, out: Option<&'a str>) -> Result<Task<'a>, Failure<'a>>
+    ensures { result ≡ task_on tasks.Rewrite (paths_of file.entry out.entry) }
+{
+    match paths_of(file, out) {
+        Ok((file, out)) => Ok(Task::Rewrite(file, out)),
+        Err(failure) => Err(failure),
+    }
+}
+
 /// The task of `embed`.
 fn embed_of<'a>(ask: &'a Ask<'a>) -> Result<Task<'a>, Failure<'a>>
     ensures { result ≡ embed_task ask.now }
 {
-    let (file, path) = paths_of(ask.file, ask.second)?;
-    let options = EmbedOptions {
-        path,
-        root: ask.root,
-        strong_name: choose(ask.unsigned, StrongName::Clear, StrongName::Keep),
-        form: form_of(ask.json),
-    };
-    Ok(Task::Embed(file, options))
+    match paths_of(ask.file, ask.second) {
+        Ok((file, path)) => {
+            let options = EmbedOptions {
+                path,
+                root: ask.root,
+                strong_name: choose(ask.unsigned, StrongName::Clear, StrongName::Keep),
+                form: form_of(ask.json),
+            };
+            Ok(Task::Embed(file, options))
+        }
+        Err(failure) => Err(failure),
+    }
 }
 
 /// The task of `compare`, which leaves out the columns that arguments name.

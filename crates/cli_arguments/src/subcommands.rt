@@ -1,4 +1,4 @@
-//! The subcommands as rows of a table: the arguments of each and its help, one module for each.
+//! The subcommands as rows of a table: the arguments of each and its help. The texts of help are in one module for each.
 ghost use Rattle.std.specs.Prelude.{◌≡◌};
 ghost use Rattle.cli_arguments.specs.CommandLine as line;
 
@@ -16,19 +16,40 @@ macro_rules! argument {
     };
 }
 
-/// The arguments of a report on files: those that name the files, what all reports take, and others.
-macro_rules! reports {
-    ($files:expr $(, $other:expr)*) => {
+/// Arguments among which are those that list files: the ones before these, and the ones after them.
+macro_rules! from_lists {
+    ([$($before:expr),*] [$($after:expr),*]) => {
         &[
-            $files,
-            crate::subcommands::BARE,
-            crate::subcommands::BUDGET,
+            $($before,)*
             crate::subcommands::FILES_FROM,
             crate::subcommands::NULL,
             crate::subcommands::RECURSIVE,
-            crate::subcommands::JSON,
-            $($other,)*
+            $($after,)*
         ]
+    };
+}
+
+/// The arguments of a report on files: those that name the files, what all reports take, and others.
+macro_rules! reports {
+    ($files:expr $(, $other:expr)*) => {
+        from_lists!([$files, crate::subcommands::BARE, crate::subcommands::BUDGET] [crate::subcommands::JSON $(, $other)*])
+    };
+}
+
+/// The help of a report on files: what it says of several files stands between these texts.
+macro_rules! of_several {
+    ($before:literal $after:literal) => {
+        concat!(
+            $before,
+            "
+For several FILEs each line begins with 'FILE: '. A FILE that breaks a rule or
+cannot be read is reported to standard error with its name, and the next one
+follows. The exit status is the greatest. 'clim check --help' says what '-r',
+'-0' and '--files-from' read.
+
+",
+            $after
+        )
     };
 }
 
@@ -49,6 +70,99 @@ pub(crate) mod print_where;
 pub(crate) mod rewrite_file;
 pub(crate) mod show_tables;
 
+/// The subcommands in the order of the program, as the input of a macro: the variant, the position, the name and the module of
+/// each, what it does, in a line, and its arguments. Help shows them in this order.
+macro_rules! each_subcommand {
+    ($then:ident $($by:ident)?) => { $then! { $($by)?
+
+    Root 0 "root" print_root "Print the CLI header, the version and the stream headers" [from_lists!([FILES, BARE] [
+        JSON,
+        argument!["until-fault" Flag "Print what can be read before a fault, then the fault"]
+    ])]
+    Info 1 "info" print_info "Print what an assembly is: its identity, headers and references" [reports![FILES]]
+    Check 2 "check" check_file "Check files against the rules of the standard" [from_lists!([FILES, BARE, BUDGET] [
+        argument!["quiet" EitherFlag('q') "Print no faults; only the exit status reports them"],
+        JSON,
+        argument!["where" Flag "Print what contains the byte at a fault; explain it"]
+    ])]
+    Show 3 "show" show_tables "Print the rows of all tables, or of one" [reports![
+        argument!["FILE" AnyNumber "The files to read, then the TABLE to print alone, if it is one"],
+        argument!["names" Flag "Print the name of each column before its cell"],
+        argument!["until-fault" Flag "Print the rows before the first fault, then the fault"]
+    ]]
+    Types 4 "types" print_types "Print the types, with the number of their fields and methods" [reports![FILES]]
+    Outline 5 "outline" print_outline "Print the declarations of the assembly, or of one type" [reports![
+        argument!["FILE" AnyNumber "The files to read, then the type or the row to print alone, if any"],
+        argument!["no-tokens" Flag "Leave the comment with the token away"],
+        argument!["public" Flag "Print only what is visible outside of the assembly"],
+        argument!["sorted" Flag "Print in the order of names, not of rows"]
+    ]]
+    Refs 6 "refs" print_refs "Print what the assembly refers to in other modules" [reports![
+        argument!["FILE" AnyNumber "The files to read, then the type to print alone, if it is one"]
+    ]]
+    Resources 7 "resources" print_resources "Print where the resources are, or write the content of one" [from_lists!([FILES, BUDGET] [
+        JSON,
+        argument!["extract" Option("NAME") "Write the content of this resource alone"]
+    ])]
+    Strings 8 "strings" print_strings "Print the user strings, with their tokens" [reports![FILES]]
+    Token 9 "token" print_token "Print the row or the user string of each token" [&[
+        FILE, BARE, BUDGET, JSON,
+        argument!["HEX" Several "The tokens: one to eight hexadecimal digits each"],
+    ]]
+    Where 10 "where" print_where "Print which header, stream or cell contains the byte at an offset" [reports![
+        argument!["FILE" AnyNumber "The files to read, then the OFFSET of a byte"]
+    ]]
+    Rewrite 11 "rewrite" rewrite_file "Write the canonical metadata root of a file" [&[
+        FILE, BARE, BUDGET,
+        argument!["second" Required("OUT") "The file to write"],
+    ]]
+    Embed 12 "embed" embed_root "Write a copy of a file with its canonical root, or with another" [&[
+        FILE, JSON,
+        argument!["second" Required("OUT") "The file to write"],
+        argument!["root" Option("ROOT") "A metadata root to take instead of the canonical one"],
+        argument!["unsigned" Flag "Clear the strong name: its flag and its directory"],
+    ]]
+    Digest 13 "digest" digest_file "Print the SHA-256 digest of the canonical root of each file" [reports![FILES]]
+    Compare 14 "compare" compare_files "Compare the metadata of two files" [&[
+        FILE, BARE, BUDGET,
+        argument!["quiet" EitherFlag('q') "Print nothing; the exit status is the answer"],
+        JSON,
+        argument!["second" Required("OTHER") "The file to compare it with"],
+        argument!["ignore" Repeated("TABLE.COLUMN") "Do not compare the cells of this column"],
+    ]]
+    Explain 15 "explain" explain_fault "Explain faults, or list all" [&[
+        argument!["CODE" AnyNumber "The number or the name of a fault; without it, list all faults"],
+        JSON,
+    ]]
+    } };
+}
+
+pub(crate) use each_subcommand;
+
+/// The rows of the subcommands.
+macro_rules! usages {
+    ($($variant:ident $position:literal $name:literal $module:ident $about:literal [$arguments:expr])*) => {
+        [$(Usage {
+            name: $name,
+            about: $about,
+            arguments: $arguments,
+            output: $module::OUTPUT,
+        }),*]
+    };
+}
+
+/// The row of a subcommand.
+macro_rules! usage {
+    ($by:ident $($variant:ident $position:literal $name:literal $module:ident $about:literal [$($arguments:tt)*])*) => {
+        match $by {
+            $(Subcommand::$variant => USAGES[$position],)*
+        }
+    };
+}
+
+/// The rows of the subcommands, in the order of the program.
+static USAGES: [Usage<'static>; 16] = each_subcommand!(usages);
+
 /// A subcommand: its name, its arguments and its help.
 #[derive(Clone, Copy)]
 pub(crate) struct Usage<'a> {
@@ -66,24 +180,7 @@ pub(crate) struct Usage<'a> {
 pub(crate) fn usage_of<'a>(subcommand: Subcommand) -> Usage<'a>
     ensures { line.shape result ≡ line.shape_of subcommand }
 {
-    match subcommand {
-        Subcommand::Root => print_root::USAGE,
-        Subcommand::Info => print_info::USAGE,
-        Subcommand::Check => check_file::USAGE,
-        Subcommand::Show => show_tables::USAGE,
-        Subcommand::Types => print_types::USAGE,
-        Subcommand::Outline => print_outline::USAGE,
-        Subcommand::Refs => print_refs::USAGE,
-        Subcommand::Resources => print_resources::USAGE,
-        Subcommand::Strings => print_strings::USAGE,
-        Subcommand::Token => print_token::USAGE,
-        Subcommand::Where => print_where::USAGE,
-        Subcommand::Rewrite => rewrite_file::USAGE,
-        Subcommand::Embed => embed_root::USAGE,
-        Subcommand::Digest => digest_file::USAGE,
-        Subcommand::Compare => compare_files::USAGE,
-        Subcommand::Explain => explain_fault::USAGE,
-    }
+    each_subcommand!(usage subcommand)
 }
 
 /// `[FILE]..`, the paths of the files to read.

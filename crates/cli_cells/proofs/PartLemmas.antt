@@ -1,5 +1,5 @@
 -- Parts of lines.
-use Rattle.cli_cells.proofs.Prelude.{◌≡◌, ◌∙◌, ℕ, zero, suc, ◌+◌, List, [], ◌∷◌, ◌++◌, Option, Some, None, ◌⊎◌, inl, inr, ap, subst, sym, refl, arith, flat_map_more, Part, form_from, line_feed, line_from, part_letters, part_text, Adds, AwaitsOrFails, Printed, cell_part, Hidden, Shown}
+use Rattle.cli_cells.proofs.Prelude.{◌≡◌, ◌∙◌, ℕ, zero, suc, ◌+◌, List, [], ◌∷◌, ◌++◌, Option, Some, None, ◌⊎◌, inl, inr, ap, subst, sym, refl, arith, flat_map_more, Part, Style, form_from, line_feed, line_from, part_letters, part_text, Adds, AwaitsOrFails, Printed, cell_part, Hidden, Shown}
 use Rattle.std.specs.List.{flat_map, range_with_len}
 use Rattle.cli_lines.specs.declared.line.Before.{Before}
 use Rattle.cli_lines.specs.declared.parts.Form.{Form}
@@ -15,6 +15,11 @@ same_in Text file at first second more is same = ap (λ xs. (xs ++ flat_map part
 same_in Letters file at first second more is same = ap (λ xs. (part_letters (line.word xs) ++ flat_map part_letters more) ++ line_feed) same
 same_in JsonLines file at first second more is same = elim is [ inl text ↦ cc | inr letters ↦ cc ]
 
+same_line : (style : Style) (at : Before) (first second : Part) (more : List Part) → (style.form ≡ Text) ⊎ (style.form ≡ Letters) → part_text first ≡ part_text second
+    → line_from style at (first ∷ more) ≡ line_from style at (second ∷ more)
+unfolding line_from
+same_line style at first second more is same = same_in style.form style.file at first second more is same
+
 same_awaits : (start contents waiting : Option (List ℕ)) (end : List Part → List ℕ) (whole : List ℕ) (first second : List Part) → end first ≡ end second
     → AwaitsOrFails start contents waiting end whole first → AwaitsOrFails start contents waiting end whole second
 same_awaits start contents (Some waiting) end whole first second same awaits = (awaits.0, awaits.1, ap (λ xs. awaits.0 ++ xs) (sym same) ∙ awaits.2)
@@ -27,12 +32,11 @@ signature_text_is Shown key encoding of = refl
 
 pub adds_text : {W : Type 0} (old new : Printed W) (first second : Part) → {form : Form} → form ≡ old.style.form → (form ≡ Text) ⊎ (form ≡ Letters) → part_text first ≡ part_text second
     → Adds old new (first ∷ []) → Adds old new (second ∷ [])
-unfolding line_from
 adds_text old new first second known is same adds = record {
   same = adds.same;
   awaits = λ start whole more awaits. adds.awaits start whole more
       (same_awaits start old.contents old.waiting (line_from old.style old.at) whole (second ∷ more) (first ∷ more)
-      (sym (same_in old.style.form old.style.file old.at first second more (subst (λ (f : Form). (f ≡ Text) ⊎ (f ≡ Letters)) known is) same)) awaits);
+      (sym (same_line old.style old.at first second more (subst (λ (f : Form). (f ≡ Text) ⊎ (f ≡ Letters)) known is) same)) awaits);
 }
 
 -- the parts of one more cell

@@ -3,6 +3,7 @@ use Rattle.std.specs.Prelude.{◌≡◌, ℕ, ◌⊎◌, List, [], flat_map, Opt
 use Rattle.packed.specs.Rule.{AllHold}
 use Rattle.table_schema.specs.declared.table.TableId.{TableId}
 use Rattle.metadata.specs.Source.{Source}
+use Rattle.metadata.specs.SourceAt.{SourceAt}
 use Rattle.checks.specs.Broken.{IsFirstBroken}
 use Rattle.checks.specs.declared.cell_checks.BrokenRow.{BrokenRow}
 use Rattle.cli_input.specs.Checked.{rules_before, source_in}
@@ -17,9 +18,11 @@ use Rattle.cli_cells.specs.declared.row_lines.Names.{Names}
 abbrev pub lines_before : Names → Source → Option BrokenRow → List TableId → List (List Part)
 lines_before names source broken tables = flat_map (λ table. first_lines names (content_at source) table (rows_before source broken table)) tables
 
--- these are the rows of tables before the first row that breaks a rule for cells; no rows if a rule before those for cells is broken
+-- these are the rows of tables before the first row that breaks a rule for cells
+abbrev pub AreRowLines : Names → SourceAt → List TableId → List (List Part) → Type 0
+AreRowLines names here tables lines = (broken : Option BrokenRow) × IsFirstBroken here broken × (lines ≡ lines_before names here.source broken tables)
+
+-- the same of the bytes; no rows if a rule before those for cells is broken
 abbrev pub AreLinesBefore : Names → Input → List ℕ → List TableId → List (List Part) → Type 0
 AreLinesBefore names input bytes tables lines =
-    (AllHold (rules_before input bytes) × (broken : Option BrokenRow) × IsFirstBroken (source_in input bytes) broken
-    × (lines ≡ lines_before names (source_in input bytes).source broken tables))
-    ⊎ ((¬ AllHold (rules_before input bytes)) × (lines ≡ []))
+    (AllHold (rules_before input bytes) × AreRowLines names (source_in input bytes) tables lines) ⊎ ((¬ AllHold (rules_before input bytes)) × (lines ≡ []))

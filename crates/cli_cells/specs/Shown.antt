@@ -1,5 +1,5 @@
 -- The cells that are read for the numbers of rows, whether or not the later rules hold (ECMA-335 II.22).
-use Rattle.std.specs.Prelude.{◌≡◌, ◌==◌, ℕ, zero, suc, ◌*◌, ◌/◌, ◌%◌, ◌^◌, if◌then◌else◌, List, [], ◌∷◌, take, drop, Option, Some, None, slice_get}
+use Rattle.std.specs.Prelude.{◌≡◌, ◌==◌, ℕ, zero, suc, ◌*◌, ◌/◌, ◌%◌, ◌^◌, ◌≤◌, ◌<◌, if◌then◌else◌, List, [], ◌∷◌, take, drop, Option, Some, None, slice_get}
 use Rattle.packed.specs.Prefix.{unsigned_at}
 use Rattle.table_schema.specs.declared.table.TableId.{TableId}
 use Rattle.table_schema.specs.declared.coded.Coded.{Coded}
@@ -8,7 +8,7 @@ use Rattle.table_schema.specs.declared.column.ColumnKind.{ColumnKind}
 use Rattle.table_schema.specs.declared.column.ColumnKind.TheVariants as kind
 use Rattle.table_schema.specs.CodedIndexes.{tables_of, tag_bits}
 use Rattle.table_schema.specs.Columns.{column_at}
-use Rattle.table_schema.specs.CellColumns.{column_of}
+use Rattle.table_schema.specs.CellColumns.{cell_count, column_of}
 use Rattle.sig_grammar.specs.Syntax.{Body}
 use Rattle.sig_grammar.specs.Reading.{core_at}
 use Rattle.sig_grammar.specs.Columns.{body_at}
@@ -55,15 +55,22 @@ abbrev pub coded_at : Coded → ℕ → Cell
 coded_at coded number = tagged (slice_get (tables_of coded) (number % 2 ^ tag_bits coded)) (number / 2 ^ tag_bits coded)
 
 -- the signature in all the bytes of a blob (II.23.2), or the bytes if they encode none
+abbrev pub signature_or : List ℕ → Body → List ℕ → Cell
+signature_or blob signature [] = Sig signature
+signature_or blob signature (byte ∷ bytes) = Bytes blob
+
 abbrev pub signature_of : List ℕ → Option (Body × List ℕ) → Cell
-signature_of blob (Some (signature, [])) = Sig signature
-signature_of blob _ = Bytes blob
+signature_of blob None = Bytes blob
+signature_of blob (Some read) = signature_or blob read.0 read.1
 
 abbrev pub signature_at : SigKind → List ℕ → Cell
 signature_at column blob = signature_of blob (body_at column (core_at 128) blob)
 
 -- the cell of a number in a column of a kind. For a list column, `start` gives the start of the owner's run
 abbrev pub read_cell : Source → ColumnKind → (TableId → ℕ) → ℕ → Cell
+read_cell source kind.U8 start number = Number number
+read_cell source kind.U16 start number = Number number
+read_cell source kind.U32 start number = Number number
 read_cell source kind.Padding start number = Number 0
 read_cell source kind.Text start number = Text (text_at source.texts number)
 read_cell source kind.Guid start number = Guid (guid_at source.guids number)
@@ -72,7 +79,6 @@ read_cell source (kind.Signature column) start number = signature_at column (blo
 read_cell source (kind.Row table) start number = row_at table number
 read_cell source (kind.Coded coded) start number = coded_at coded number
 read_cell source (kind.List member) start number = Start (start member)
-read_cell source _ start number = Number number
 
 -- the cell of a column, in a row counted from 1
 unfoldable pub cell_at : Source → TableId → ℕ → ℕ → Cell
@@ -92,3 +98,9 @@ content_at source = record { count = rows_in source; cell = λ table row cell_in
 -- it is that of a model of the root
 abbrev pub IsContent : List ℕ → Content → Type 0
 IsContent root content = (model : Metadata) × IsModel root model × (content ≡ content_of model)
+
+-- the rows of a model have the cells that are read
+pub record IsRead (source : Source) (model : Metadata) : Type 0 where
+  pub count : (table : TableId) → count_in model table ≡ rows_in source table
+  pub cells : (table : TableId) (row cell_index : ℕ) → 1 ≤ row → row ≤ rows_in source table → cell_index < cell_count table
+      → cell_in model table row cell_index ≡ cell_at source table row (column_of table cell_index)

@@ -36,15 +36,18 @@ IsNamed root number =
 
 -- ---- the line of what it names
 
--- the line of the user string that a number names: its units and its last byte; a string without bytes has none
-unfoldable pub user_line : ℕ → List ℕ → Option ℕ → List Part
-user_line number of None = word (codes "user") ∷ member name.Token (line.hex number) ∷ units of ∷ member name.Flag line.null ∷ []
-user_line number of (Some flag) =
-    word (codes "user ") ∷ member name.Token (line.hex number) ∷ units of ∷ word (codes " ") ∷ field name.Flag (line.number flag) ∷ []
+-- units and the last byte, each after a space; a string without bytes has none
+unfoldable pub user_parts : List ℕ → Option ℕ → List Part
+user_parts of None = units of ∷ member name.Flag line.null ∷ []
+user_parts of (Some flag) = word (codes " ") ∷ units of ∷ word (codes " ") ∷ field name.Flag (line.number flag) ∷ []
+
+-- the line of the user string that a number names
+abbrev pub user_line : ℕ → UserText → List Part
+user_line number string = word (codes "user") ∷ member name.Token (line.hex number) ∷ user_parts string.units string.flag
 
 -- the line of the user string that a number names by its offset in the model's `#US` heap
 abbrev pub IsStringLine : Metadata → ℕ → List Part → Type 0
-IsStringLine model number parts = (string : UserText) × IsUserString model.user (number % 2 ^ 24) string × (parts ≡ user_line number string.units string.flag)
+IsStringLine model number parts = (string : UserText) × IsUserString model.user (number % 2 ^ 24) string × (parts ≡ user_line number string)
 
 -- the line of the row that a number is the token of, as in `clim show`
 abbrev pub IsRowLine : Metadata → ℕ → List Part → Type 0

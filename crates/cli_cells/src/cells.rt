@@ -1,5 +1,5 @@
 //! The values of cells, and the names of columns.
-ghost use Rattle.std.specs.Prelude.{◌≡◌, ◌≢◌, ◌≤◌, ◌<◌, ◌∷◌, []};
+ghost use Rattle.std.specs.Prelude.{◌≡◌, ◌≢◌, ◌≤◌, ◌<◌, ◌∷◌, [], IfOk};
 ghost use Rattle.table_schema.specs.CellColumns.{cell_count};
 ghost use Rattle.sig_grammar.specs.Syntax.{Body};
 ghost use Rattle.sig_grammar.specs.Encodes.{Encodes, short};
@@ -24,8 +24,8 @@ use cli_lines::{Form, Name, Printer};
 use metadata_source::kind_of;
 use opening::{CellRef, TableId};
 use schema::column_names;
-use signatures::{canonical_encoding, is_plainly_canonical};
-use std::alloc::Global;
+use signatures::{SigError, canonical_encoding, is_plainly_canonical};
+use std::alloc::{AllocError, Global};
 use std::io::Write;
 use table_schema::{ColumnKind, SigKind, column_of_cell};
 
@@ -102,7 +102,7 @@ fn print_part<W: Write>(names: Names, name: Name, value: Value<'_>, out: &mut Pr
     }
 }
 
-/// Adds the canonical encoding of the signature in a blob (II.23.2). Most blobs are their canonical encoding themselves.
+/// Adds the signature in a blob. Most blobs are their canonical encoding themselves.
 fn print_signature<W: Write>(
     alloc: Global,
     names: Names,
@@ -118,9 +118,25 @@ fn print_signature<W: Write>(
     if is_plainly_canonical(blob) {
         return print_encoding(alloc, names, name, kind, blob, blob, out);
     }
-    match canonical_encoding(alloc, blob, kind) {
+    match shortest(alloc, kind, blob) {
         Ok(encoding) => print_encoding(alloc, names, name, kind, blob, &encoding, out),
         Err(_) => out.fail(),
+    }
+}
+
+/// The canonical encoding of the signature in a blob (II.23.2).
+///
+/// # Errors
+///
+/// Out of memory.
+fn shortest(alloc: Global, kind: SigKind, blob: &[u8]) -> Result<Vec<u8>, AllocError>
+    requires { ¬ (¬ ((signature : Body) × Encodes kind signature blob.now)) }
+    ensures { IfOk result (λ bytes. (signature : Body) → Encodes kind signature blob.now → bytes.items ≡ short signature) }
+{
+    match canonical_encoding(alloc, blob, kind) {
+        Ok(encoding) => Ok(encoding),
+        Err(SigError::Memory) => Err(AllocError),
+        Err(SigError::Bad) => unreachable!(),
     }
 }
 

@@ -12,6 +12,7 @@
 #![tactic(auto)]
 
 mod cells;
+pub mod laws;
 mod met_rows;
 mod row_lines;
 mod shown_rows;

@@ -1,10 +1,18 @@
 //! The rows of a root that precede the first row that breaks a rule for cells.
-ghost use Rattle.std.specs.Prelude.{◌≡◌, ◌≤◌, ◌<◌, ◌^◌, IfSome, length};
+ghost use Rattle.std.specs.Prelude.{◌≡◌, ◌≤◌, ◌<◌, ◌^◌, ℕ, List, IfSome, false, length};
+ghost use Rattle.packed.specs.Rule.{AllHold};
 ghost use Rattle.table_schema.specs.declared.column.ColumnKind.TheVariants.{Signature};
+ghost use Rattle.table_schema.specs.Columns.{columns_of, column_at};
+ghost use Rattle.table_schema.specs.CellColumns.{is_padding};
+ghost use Rattle.heap_entries.specs.Entries.{IsBlob};
+ghost use Rattle.metadata.specs.Source.{rows_in};
+ghost use Rattle.metadata.specs.Rules.{rules_of_cell};
+ghost use Rattle.reading.specs.KnownStarts.{AreKnown};
+ghost use Rattle.reading.specs.Cursors.{AreCursors};
 ghost use Rattle.reading.specs.Shown.{Shows};
 ghost use Rattle.checks.specs.Broken.{IsFirstBroken};
 ghost use Rattle.cli_cells.specs.MetRows.{rows_before};
-ghost use Rattle.cli_cells.specs.Shown.{content_at, signature_at};
+ghost use Rattle.cli_cells.specs.Shown.{blob_at as the_blob, cell_at, content_at, signature_at};
 
 use crate::shown_rows::ShownRows;
 use checks::{BrokenRow, first_broken_row};
@@ -65,22 +73,17 @@ impl<'a> ShownRows<'a> for MetRows<'_, 'a> {
     }
 
     fn cell(&mut self, table: TableId, row: u32, cell_index: usize) -> CellRef<'a> {
-        packed::laws::numbers_are_read();
-        packed::laws::shortest_forms_encode();
-        table_schema::laws::cells_have_columns();
         table_schema::laws::tables_stand();
-        table_schema::laws::tags_fit();
-        let source = self.source;
+        table_schema::laws::cells_have_columns();
         let column = column_of_cell(table, cell_index);
-        match column_at(table, column).kind {
-            ColumnKind::Signature(kind) => {
-                let Ok(blob) = blob(source.blobs(), source.number(table, row, column)) else {
-                    unreachable!();
-                };
-                blob_cell(kind, blob)
-            }
-            _ => cell_onward(source, &self.known, &mut self.cursors, table, row, column),
-        }
+        cell_in_pass(
+            self.source,
+            &self.known,
+            &mut self.cursors,
+            table,
+            row,
+            column,
+        )
     }
 }
 
@@ -101,7 +104,54 @@ fn rows_before(source: &Source, broken: Option<BrokenRow>, table: TableId) -> u3
     }
 }
 
-/// The cell of a blob in a column of signatures (II.23.2). A blob that is none is bytes.
+/// The cell of a column of a row that follows the rules for cells. A blob that should be a signature and is none is bytes.
+fn cell_in_pass<'a>(
+    source: &Source<'a>,
+    known: &KnownRuns,
+    cursors: &mut RunCursors,
+    table: TableId,
+    row: u32,
+    column: usize,
+) -> CellRef<'a>
+    requires known { AreKnown source.now.source known.now }
+    requires cursors { AreCursors source.now.source cursors.old }
+    requires first { 1 ≤ row }
+    requires last { row ≤ rows_in source.now.source table }
+    requires column { column < length (columns_of table) }
+    requires cell { is_padding (column_at table column).kind ≡ false }
+    requires rules { AllHold (rules_of_cell source.now table row column) }
+    ensures cursors { AreCursors source.now.source cursors.new }
+    ensures cell { Shows (column_at table column).kind result (cell_at source.now.source table row column) }
+{
+    packed::laws::numbers_are_read();
+    table_schema::laws::tags_fit();
+    sig_values::laws::signatures_are_read();
+    match column_at(table, column).kind {
+        ColumnKind::Signature(kind) => {
+            blob_cell(
+                kind,
+                blob_at(source.blobs(), source.number(table, row, column)),
+            )
+        }
+        _ => cell_onward(source, known, cursors, table, row, column),
+    }
+}
+
+/// The blob at an index that has one (II.24.2.4).
+fn blob_at(heap: &[u8], index: u32) -> &[u8]
+    requires { (blob : List ℕ) × IsBlob heap.now index blob }
+    ensures value { result.now ≡ the_blob heap.now index }
+    ensures short { length result.now < 2 ^ 29 }
+{
+    packed::laws::numbers_are_read();
+    packed::laws::shortest_forms_encode();
+    let Ok(blob) = blob(heap, index) else {
+        unreachable!();
+    };
+    blob
+}
+
+/// The cell of a blob in a column of signatures (II.23.2).
 fn blob_cell(kind: SigKind, blob: &[u8]) -> CellRef<'_>
     requires { length blob.now < 2 ^ 29 }
     ensures { Shows (Signature kind) result (signature_at kind blob.now) }

@@ -51,12 +51,16 @@ impl TextSink for SignatureText {
 
     fn number(&mut self, number: u32) -> Option<()> {
         let mut digits = Buffer::new();
-        self.text(digits.format(number))
+        let pushed = self
+            .text
+            .extend_from_slice(digits.format(number).as_bytes());
+        answer(&mut self.refused, pushed)
     }
 
     fn signed(&mut self, value: i64) -> Option<()> {
         let mut digits = Buffer::new();
-        self.text(digits.format(value))
+        let pushed = self.text.extend_from_slice(digits.format(value).as_bytes());
+        answer(&mut self.refused, pushed)
     }
 
     fn name(&mut self, token: Token) -> Option<()> {

@@ -1,9 +1,9 @@
 //! Prints tables.
-ghost use Rattle.std.specs.Prelude.{◌≡◌, flat_map};
+ghost use Rattle.std.specs.Prelude.{◌≡◌, ◌∷◌, [], flat_map};
 ghost use Rattle.metadata.specs.Metadata.{Metadata};
 ghost use Rattle.metadata.specs.Model.{IsModel};
 ghost use Rattle.cli_lines.specs.Printed.{Prints};
-ghost use Rattle.cli_cells.specs.RowLines.{first_lines, show_lines};
+ghost use Rattle.cli_cells.specs.RowLines.{first_lines, heading_line, show_lines};
 ghost use Rattle.cli_cells.specs.Shown.{Content};
 
 use crate::row_lines::{Names, print_row};
@@ -72,15 +72,23 @@ fn print_table<'a, R: ShownRows<'a>, W: Write>(
     if ready == 0 {
         return;
     }
+    print_heading(table, rows.count(table), out);
+    for earlier in 0..ready {
+        print_row(alloc, names, rows, table, earlier + 1, out);
+    }
+}
+
+/// Prints the line before the rows of a table.
+#[tactic(auto, unfolding(crate::specs::RowLines::heading_line))]
+fn print_heading<W: Write>(table: TableId, count: u32, out: &mut Printer<'_, W>)
+    ensures { Prints out.old out.new (heading_line table count ∷ []) }
+{
     out.line(&[
         Word("table "),
         Note(Byte(table.number())),
         Word(" "),
         Word(table.name()),
         Word(" "),
-        Note(Number(rows.count(table) as u64)),
+        Note(Number(count as u64)),
     ]);
-    for earlier in 0..ready {
-        print_row(alloc, names, rows, table, earlier + 1, out);
-    }
 }

@@ -1,13 +1,13 @@
 //! `clim token`: the rows and user strings that tokens name (ECMA-335 III.1.9 and II.24.2.4).
-ghost use Rattle.std.specs.Prelude.{◌≡◌, ◌≤◌, ◌∷◌, [], List, IfErr, IfNone, IfOk, IfSome, OnOk, OnSome, All};
+ghost use Rattle.std.specs.Prelude.{◌≡◌, ◌≤◌, ◌∷◌, ◌%◌, ◌^◌, [], List, IfErr, IfNone, IfOk, IfSome, None, OnOk, OnSome, Some, All};
 ghost use Rattle.heap_entries.specs.Padding.{zero_padded};
 ghost use Rattle.table_schema.specs.Tokens.{IsToken};
 ghost use Rattle.metadata.specs.Metadata.{Metadata};
 ghost use Rattle.metadata.specs.Model.{IsModel};
 ghost use Rattle.opening.specs.Views.{row_count, user_of};
 ghost use Rattle.cli_lines.specs.Lines.{Part};
-ghost use Rattle.cli_lines.specs.Printed.{Prints};
-ghost use Rattle.cli_cells.specs.TokenLines.{ArePrinted, HasTokenRow, IsNamed, IsTokenLine, Reports, user_line};
+ghost use Rattle.cli_lines.specs.Printed.{Adds, Prints};
+ghost use Rattle.cli_cells.specs.TokenLines.{ArePrinted, HasString, HasTokenRow, IsNamed, IsStringLine, IsTokenLine, Reports, user_line, user_parts};
 
 use crate::row_lines::{Names, print_row};
 use cli_faults::Failure;
@@ -69,12 +69,28 @@ pub fn print_tokens<W: Write>(
     ensures printed { OnOk result (ArePrinted view.now out.old out.new numbers.now) }
     ensures stopped { IfErr result (Reports view.now out.old out.new numbers.now) }
 {
+    match padded_copy(alloc, view.user()) {
+        Ok(user) => print_each(alloc, view, &user, numbers, out),
+        Err(_) => Err(Failure::OutOfMemory),
+    }
+}
+
+/// Prints a line for what each of these tokens names. The user strings are padded.
+fn print_each<W: Write>(
+    alloc: Global,
+    view: &View<'_>,
+    user: &[u8],
+    numbers: &[u32],
+    out: &mut Printer<'_, W>,
+) -> Result<(), Failure<'static>>
+    requires { user.now ≡ zero_padded (user_of view.now) }
+    ensures there { OnOk result (All (IsNamed view.now) numbers.now) }
+    ensures printed { OnOk result (ArePrinted view.now out.old out.new numbers.now) }
+    ensures stopped { IfErr result (Reports view.now out.old out.new numbers.now) }
+{
     cli_lines::laws::lines_follow::<W>();
-    let Ok(user) = padded_copy(alloc, view.user()) else {
-        return Err(Failure::OutOfMemory);
-    };
     for number in numbers {
-        match print_named(alloc, view, &user, *number, out) {
+        match print_named(alloc, view, user, *number, out) {
             Some(()) => {}
             None => return Err(Failure::NoSuchRow),
         }
@@ -82,8 +98,7 @@ pub fn print_tokens<W: Write>(
     Ok(())
 }
 
-/// Prints the line of what a token names: the user string at the offset in its low three bytes, or a row. `None` if it names nothing.
-/// The user strings are padded.
+/// Prints the line of what a token names. `None` if it names nothing.
 fn print_named<W: Write>(
     alloc: Global,
     view: &View<'_>,
@@ -99,11 +114,7 @@ fn print_named<W: Write>(
 {
     metadata::laws::models_are_read();
     if number / ROWS == USER_STRINGS {
-        let Ok(string) = user_string(user, number % ROWS) else {
-            return None;
-        };
-        print_user_string(number, &string, out);
-        return Some(());
+        return print_string_at(view, user, number, out);
     }
     let token = existing_row(view, number)?;
     let mut cells = CellCursor::new(view);
@@ -118,22 +129,69 @@ fn print_named<W: Write>(
     Some(())
 }
 
+/// Prints the line of the user string at the offset in the low three bytes of a token. `None` if there is none.
+fn print_string_at<W: Write>(
+    view: &View<'_>,
+    user: &[u8],
+    number: u32,
+    out: &mut Printer<'_, W>,
+) -> Option<()>
+    requires { user.now ≡ zero_padded (user_of view.now) }
+    ensures named { OnSome result (HasString view.now (number % 2 ^ 24)) }
+    ensures line { OnSome result ((model : Metadata) → IsModel view.now model
+        → (parts : List Part) × IsStringLine model number parts × Prints out.old out.new (parts ∷ [])) }
+    ensures none { IfNone result ((¬ HasString view.now (number % 2 ^ 24)) × (out.new ≡ out.old)) }
+{
+    metadata::laws::models_are_read();
+    match user_string(user, number % ROWS) {
+        Ok(string) => {
+            print_user_string(number, &string, out);
+            Some(())
+        }
+        Err(_) => None,
+    }
+}
+
 /// Prints the line of the user string that a number names (II.24.2.4): `user TEXT FLAG`. TEXT has each unit from 0x20 to
 /// 0x7E except the backslash as it is, and any other as `\u` and four hexadecimal digits. FLAG is the last byte in
 /// decimal. The line of a string of no bytes is `user`.
-#[tactic(auto, unfolding(crate::specs::TokenLines::user_line))]
 fn print_user_string<W: Write>(number: u32, string: &UserString<'_>, out: &mut Printer<'_, W>)
-    ensures { Prints out.old out.new (user_line number string.now.units string.now.flag ∷ []) }
+    ensures { Prints out.old out.new (user_line number string.now ∷ []) }
 {
-    let token = Member(Name::Token, Hex(number));
+    cli_lines::laws::parts_follow::<W>();
+    out.begin(&[Word("user"), Member(Name::Token, Hex(number))]);
+    print_parts(string, out);
+    out.end();
+}
+
+/// Adds the units and the last byte of a user string.
+fn print_parts<W: Write>(string: &UserString<'_>, out: &mut Printer<'_, W>)
+    ensures { Adds out.old out.new (user_parts string.now.units string.now.flag) }
+{
     match string.flag() {
-        Some(flag) => out.line(&[
-            Word("user "),
-            token,
-            Units(string),
-            Word(" "),
-            Field(Name::Flag, Number(flag as u64)),
-        ]),
-        None => out.line(&[Word("user"), token, Units(string), Member(Name::Flag, Null)]),
+        Some(flag) => print_flagged(string, flag, out),
+        None => print_empty(string, out),
     }
+}
+
+/// Adds the units and the last byte of a user string that has bytes.
+#[tactic(auto, unfolding(crate::specs::TokenLines::user_parts))]
+fn print_flagged<W: Write>(string: &UserString<'_>, flag: u8, out: &mut Printer<'_, W>)
+    ensures { Adds out.old out.new (user_parts string.now.units (Some flag)) }
+{
+    cli_lines::laws::parts_follow::<W>();
+    out.part(&Word(" "));
+    out.part(&Units(string));
+    out.part(&Word(" "));
+    out.part(&Field(Name::Flag, Number(flag as u64)));
+}
+
+/// Adds the members of a user string without bytes.
+#[tactic(auto, unfolding(crate::specs::TokenLines::user_parts))]
+fn print_empty<W: Write>(string: &UserString<'_>, out: &mut Printer<'_, W>)
+    ensures { Adds out.old out.new (user_parts string.now.units None) }
+{
+    cli_lines::laws::parts_follow::<W>();
+    out.part(&Units(string));
+    out.part(&Member(Name::Flag, Null));
 }

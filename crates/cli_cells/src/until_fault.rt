@@ -49,19 +49,35 @@ pub fn print_until_fault<W: Write>(
     ensures first_error { IfErr result (FirstBroken (rules_of input bytes.now)) }
     ensures before { OnErr result ((lines : List (List Part)) × AreLinesBefore names input bytes.now tables.now lines × Prints out.old out.new lines) }
 {
-    cli_lines::laws::lines_follow::<W>();
     match open(bytes, input) {
         Ok(view) => {
             print_show(alloc, &view, tables, names, out);
             Ok(())
         }
         Err(fault) => {
-            let Ok(source) = rows_of(bytes, input) else {
-                return Err(fault);
-            };
-            let mut rows = MetRows::new(&source);
-            print_tables(alloc, names, &mut rows, tables, out);
+            print_before(alloc, bytes, input, tables, names, out);
             Err(fault)
         }
+    }
+}
+
+/// Prints the rows before the first broken rule: those before the first row that breaks a rule for cells, or none.
+fn print_before<W: Write>(
+    alloc: Global,
+    bytes: &[u8],
+    input: Input,
+    tables: &[TableId],
+    names: Names,
+    out: &mut Printer<'_, W>,
+)
+    ensures { (lines : List (List Part)) × AreLinesBefore names input bytes.now tables.now lines × Prints out.old out.new lines }
+{
+    cli_lines::laws::lines_follow::<W>();
+    match rows_of(bytes, input) {
+        Ok(source) => {
+            let mut rows = MetRows::new(&source);
+            print_tables(alloc, names, &mut rows, tables, out);
+        }
+        Err(_) => {}
     }
 }

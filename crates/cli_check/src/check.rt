@@ -28,14 +28,22 @@ pub fn check_one<R: Files + Input + AllocGlobal, W: Write, E: Write>(
     ensures checked { IsCheckOfFile W.contents out.old out.new R.File.remaining R.Reader.remaining file.now result }
     ensures quiet { result ≡ 0 → err.new ≡ err.old }
 {
-    let alloc = rt.alloc();
-    let mut bytes = Vec::new(alloc);
+    let outcome = check_file(rt, file, out);
+    status(rt.alloc(), outcome, err)
+}
+
+/// Reads a file, checks it, and prints `ok` if it breaks no rule.
+fn check_file<'a, R: Files + Input + AllocGlobal, W: Write>(
+    rt: &R,
+    file: &'a str,
+    out: &mut W,
+) -> Result<(), Stopped<'a>>
+    ensures { IsCheckOfFile W.contents out.old out.new R.File.remaining R.Reader.remaining file.now (status_of_outcome result) }
+{
+    let mut bytes = Vec::new(rt.alloc());
     match read_into(rt, file, &mut bytes) {
-        Ok(()) => {
-            let outcome = check_bytes(alloc, bytes.as_slice(), out);
-            status(alloc, outcome, err)
-        }
-        Err(failure) => status(alloc, Err(Stopped::from(failure)), err),
+        Ok(()) => check_bytes(rt.alloc(), bytes.as_slice(), out),
+        Err(failure) => Err(Stopped::from(failure)),
     }
 }
 

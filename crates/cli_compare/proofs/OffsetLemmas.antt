@@ -1,7 +1,25 @@
 -- The first offset at which two lists differ.
-use Rattle.cli_compare.proofs.Prelude.{◌≡◌, ◌≢◌, ◌+◌, ◌<◌, ℕ, inl, inr, List, [], ◌∷◌, arith, drop, get_or, length, min, refl, drop_all, drop_more, same_bytes}
-use Rattle.std.proofs.lemmas.Bool.{cases_lt}
+use Rattle.cli_compare.proofs.Prelude.{◌≡◌, ◌≢◌, ◌+◌, ◌<◌, ◌==◌, ℕ, suc, inl, inr, List, [], ◌∷◌, arith, drop, get_or, length, min, refl, slice_get, take, drop_all, drop_more, same_bytes}
+use Rattle.std.proofs.lemmas.Bool.{cases_lt, cond_both, eqb-false, eqb-true}
 use Rattle.std.proofs.lemmas.Bool.Decides.{nat_tests}
+
+pub same_before : (left right : List ℕ) → take (same_bytes left right) left ≡ take (same_bytes left right) right
+same_before [] right = refl
+same_before (byte ∷ left) [] = refl
+same_before (byte ∷ left) (other ∷ right) =
+    cond_both (byte == other) (suc (same_bytes left right)) 0 (λ n. take n (byte ∷ left) ≡ take n (other ∷ right))
+    (λ is. let heads = eqb-true byte other is in let tails = same_before left right in cc) (λ is. refl)
+
+pub first_differs : (left right : List ℕ) → left ≢ right → slice_get left (same_bytes left right) ≢ slice_get right (same_bytes left right)
+first_differs [] [] distinct = absurd (distinct refl)
+first_differs [] (other ∷ right) distinct = λ equal. cc
+first_differs (byte ∷ left) [] distinct = λ equal. cc
+first_differs (byte ∷ left) (other ∷ right) distinct =
+    cond_both (byte == other) (suc (same_bytes left right)) 0 (λ n. slice_get (byte ∷ left) n ≢ slice_get (other ∷ right) n)
+    (λ is. let heads = eqb-true byte other is in first_differs left right (λ equal. distinct cc))
+    (λ is equal. let heads : byte ≡ other = cc in eqb-false byte other is heads)
+
+-- ---- from an offset on
 
 pub next_same : (left right : List ℕ) (offset : ℕ) → offset < length left → offset < length right → get_or left offset 0 ≡ get_or right offset 0
     → offset + same_bytes (drop offset left) (drop offset right) ≡ offset + 1 + same_bytes (drop (offset + 1) left) (drop (offset + 1) right)

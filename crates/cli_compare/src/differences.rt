@@ -4,9 +4,8 @@ ghost use Rattle.heap_entries.specs.Padding.{zero_padded};
 ghost use Rattle.metadata.specs.Metadata.{Metadata};
 ghost use Rattle.metadata.specs.Model.{IsModel};
 ghost use Rattle.comparison.specs.Differences.{IsThere};
-ghost use Rattle.comparison.specs.declared.difference.Difference.TheVariants.{Cell, Version};
-ghost use Rattle.cli_lines.specs.Printed.{Prints};
-ghost use Rattle.cli_compare.specs.ComparedLines.{compared_lines, difference_line, same_bytes};
+ghost use Rattle.cli_lines.specs.Printed.{Adds, Begins, Prints};
+ghost use Rattle.cli_compare.specs.ComparedLines.{HasColumn, HasRows, compared_lines, difference_line, label_parts, offset_parts, same_bytes, value_part};
 
 use cli_cells::{Names, column_name, print_cell};
 use cli_lines::Part::{Field, Member, Note, Word};
@@ -58,101 +57,109 @@ fn print_difference<W: Write>(
     ensures line { (model other : Metadata) → IsModel left.old model → IsModel right.old other
         → Prints out.old out.new (difference_line model other difference ∷ []) }
 {
-    let one = left.view();
-    let other = right.view();
+    cli_lines::laws::parts_follow::<W>();
+    begin_label(difference, out);
+    out.part(&Word(": "));
+    print_value(alloc, Name::Left, left, difference, out);
+    out.part(&Word(" | "));
+    print_value(alloc, Name::Right, right, difference, out);
+    print_offset(left.view(), right.view(), difference, out);
+    out.end();
+}
+
+/// Begins a line with what differs.
+#[tactic(auto, unfolding(crate::specs::ComparedLines::label_parts))]
+fn begin_label<W: Write>(difference: Difference, out: &mut Printer<'_, W>)
+    requires { HasColumn difference }
+    ensures { Begins out.old out.new (label_parts difference) }
+{
     match difference {
-        Difference::Version => print_versions(one.version(), other.version(), out),
-        Difference::UserStrings => {
-            let ours = one.user();
-            let theirs = other.user();
-            out.line(&[
-                Member(Name::Difference, Plain("UserStrings")),
-                Word("user strings: "),
-                Note(Number(padded_len(ours) as u64)),
-                Word(" | "),
-                Note(Number(padded_len(theirs) as u64)),
-                Word(" at "),
-                Field(Name::Offset, Number(same_bytes(ours, theirs) as u64)),
-            ]);
+        Difference::Version => {
+            out.begin(&[Member(Name::Difference, Plain("Version")), Word("version")]);
         }
-        Difference::RowCount { table, .. } => out.line(&[
+        Difference::UserStrings => out.begin(&[
+            Member(Name::Difference, Plain("UserStrings")),
+            Word("user strings"),
+        ]),
+        Difference::RowCount { table, .. } => out.begin(&[
             Member(Name::Difference, Plain("RowCount")),
             Word("rows "),
             Note(Byte(table.number())),
             Word(" "),
             Field(Name::Table, Plain(table.name())),
-            Word(": "),
-            Field(Name::Left, Number(one.count(table) as u64)),
-            Word(" | "),
-            Field(Name::Right, Number(other.count(table) as u64)),
         ]),
         Difference::Cell {
             table,
             row,
             cell_index,
-        } => print_cells(alloc, left, right, Token { table, row }, cell_index, out),
+        } => out.begin(&[
+            Member(Name::Difference, Plain("Cell")),
+            Field(Name::Token, Value::Token(Token { table, row })),
+            Word(" "),
+            Field(Name::Column, Plain(column_name(table, cell_index))),
+        ]),
     }
 }
 
-/// Prints the line of two versions that differ.
-fn print_versions<'v, W: Write>(left: &'v str, right: &'v str, out: &mut Printer<'_, W>)
-    ensures { (model other : Metadata) → left.now ≡ model.version → right.now ≡ other.version
-        → Prints out.old out.new (difference_line model other Version ∷ []) }
-{
-    out.line(&[
-        Member(Name::Difference, Plain("Version")),
-        Word("version: "),
-        Field(Name::Left, Text(left)),
-        Word(" | "),
-        Field(Name::Right, Text(right)),
-    ]);
-}
-
-/// Prints the line of a cell that differs.
-fn print_cells<W: Write>(
+/// Adds what a view has where something differs.
+fn print_value<W: Write>(
     alloc: Global,
-    left: &mut CellCursor<'_, '_>,
-    right: &mut CellCursor<'_, '_>,
-    row: Token,
-    cell_index: usize,
+    name: Name,
+    cells: &mut CellCursor<'_, '_>,
+    difference: Difference,
     out: &mut Printer<'_, W>,
 )
-    requires { IsThere left.old right.old (Cell row.table row.row cell_index) }
-    ensures left { left.new ≡ left.old }
-    ensures right { right.new ≡ right.old }
-    ensures line { (model other : Metadata) → IsModel left.old model → IsModel right.old other
-        → Prints out.old out.new (difference_line model other (Cell row.table row.row cell_index) ∷ []) }
+    requires { HasRows cells.old difference }
+    ensures same { cells.new ≡ cells.old }
+    ensures part { (model : Metadata) → IsModel cells.old model → Adds out.old out.new (value_part name model difference ∷ []) }
+{
+    let view = cells.view();
+    match difference {
+        Difference::Version => out.part(&Field(name, Text(view.version()))),
+        Difference::UserStrings => out.part(&Note(Number(padded_len(view.user()) as u64))),
+        Difference::RowCount { table, .. } => out.part(&Field(
+            name,
+            Number(view.count(table) as u64),
+        )),
+        Difference::Cell {
+            table,
+            row,
+            cell_index,
+        } => print_cell(
+            alloc,
+            Names::Shown,
+            name,
+            cells,
+            table,
+            row,
+            cell_index,
+            out,
+        ),
+    }
+}
+
+/// Adds where the user strings of two views differ, if these differ.
+#[tactic(auto, unfolding(crate::specs::ComparedLines::offset_parts))]
+fn print_offset<W: Write>(
+    left: &View<'_>,
+    right: &View<'_>,
+    difference: Difference,
+    out: &mut Printer<'_, W>,
+)
+    ensures { (model other : Metadata) → IsModel left.now model → IsModel right.now other
+        → Adds out.old out.new (offset_parts model other difference) }
 {
     cli_lines::laws::parts_follow::<W>();
-    out.begin(&[
-        Member(Name::Difference, Plain("Cell")),
-        Field(Name::Token, Value::Token(row)),
-        Word(" "),
-        Field(Name::Column, Plain(column_name(row.table, cell_index))),
-        Word(": "),
-    ]);
-    print_cell(
-        alloc,
-        Names::Shown,
-        Name::Left,
-        left,
-        row.table,
-        row.row,
-        cell_index,
-        out,
-    );
-    out.part(&Word(" | "));
-    print_cell(
-        alloc,
-        Names::Shown,
-        Name::Right,
-        right,
-        row.table,
-        row.row,
-        cell_index,
-        out,
-    );
-    out.end();
+    match difference {
+        Difference::UserStrings => {
+            let offset = same_bytes(left.user(), right.user());
+            out.part(&Word(" at "));
+            out.part(&Field(Name::Offset, Number(offset as u64)));
+        }
+        Difference::Version => {}
+        Difference::RowCount { .. } => {}
+        Difference::Cell { .. } => {}
+    }
 }
 
 /// The number of bytes before the first that differs, of two heaps that are padded with zeros to a multiple of four.

@@ -11,5 +11,6 @@
 #![tactic(auto)]
 
 mod differences;
+pub mod laws;
 
 pub use differences::print_differences;

@@ -1,3 +1,4 @@
 pub mod Prelude
 pub mod TextLemmas
+pub mod LayoutLemmas
 pub mod PieceLemmas

@@ -1,11 +1,16 @@
 -- The program's pieces and words are the parts and words of specs/.
-use Rattle.cli_declarations.proofs.Prelude.{◌≡◌, ◌∙◌, ℕ, List, ◌++◌, OnOk, Result, Ok, Err, length, ap, refl, subst, sym, string_bytes, IsOk, WritesInCalls, TableId, Metadata, IsPartText, Part, cut_text, shown, Begins, Ends, Gains, Piece}
+use Rattle.cli_declarations.proofs.Prelude.{◌≡◌, ◌∙◌, ℕ, List, ◌++◌, OnOk, Result, Ok, Err, append_assoc, length, ap, refl, subst, sym, string_bytes, IsOk, if◌then◌else◌, is_ok, WritesInCalls, TableId, Metadata, IsPartText, Part, cut_text, shown, Begins, Ends, Gains, Piece}
 use Rattle.cli_declarations.specs.declared.declared.Declared.{Declared}
 use Rattle.cli_declarations.proofs.TextLemmas.{Takes, text_cut}
 
 pub on_ok : {T E P Q : Type 0} (result : Result T E) → OnOk result P → (P → Q) → OnOk result Q
 on_ok (Ok done) is f = f is
 on_ok (Err error) is f = tt
+
+-- what was appended by the last call of a function
+pub extended : {T E : Type 0} (result : Result T E) (before after bytes : List ℕ) → after ≡ (if is_ok result then before ++ bytes else before) → OnOk result (after ≡ before ++ bytes)
+extended (Ok done) before after bytes is = is
+extended (Err error) before after bytes is = tt
 
 -- what was written holds if it was written
 pub was_ok : {T E P : Type 0} (written : Result T E) → IsOk written → OnOk written P → P
@@ -28,6 +33,12 @@ module _ {T U E F : Type 0} (old begun out new : Declared) (written : Result T E
   pub some_gained : (Is : List ℕ → Type 0) → OnOk written ((text : List ℕ) × Is text × WritesText begun text out)
       → OnOk result (Gains (λ whole. (text : List ℕ) × Is text × (whole ≡ cut_text text)) (string_bytes old.text) (string_bytes new.text))
   some_gained Is wrote = on_ok result ends (λ e. let it = was_ok written e.0 wrote in (cut_text it.0, (it.0, it.1, refl), cut old begun out new it.0 begins it.2 e.1))
+
+-- a word, and a text with a property after it
+pub gains_after : {T E : Type 0} (Is : List ℕ → Type 0) (word before between after : List ℕ) (result : Result T E) → between ≡ before ++ word → OnOk result (Gains Is between after)
+    → OnOk result (Gains (λ whole. (text : List ℕ) × Is text × (whole ≡ word ++ text)) before after)
+gains_after Is word before between after result first gained = on_ok result gained (λ gains.
+    (word ++ gains.0, (gains.0, gains.1, refl), gains.2 ∙ ap (λ (xs : List ℕ). xs ++ gains.0) first ∙ append_assoc before word gains.0))
 
 -- the text of a piece is that of its part
 module _ {T E : Type 0} (model : Metadata) (table : TableId) (row : ℕ) (piece : Piece) {part : Part} (before after : List ℕ) (result : Result T E) (is : shown piece ≡ part) where

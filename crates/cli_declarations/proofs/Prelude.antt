@@ -1,14 +1,14 @@
 -- What several proofs of this crate name of std, of the crates below, and of its own definitions.
-pub use Rattle.std.proofs.Common.{◌≡◌, ◌∙◌, ◌≤◌, ◌<◌, ℕ, List, [], cond, length, ap, refl, sym, zero, suc, ◌∷◌, get_or, arith, rules, ◌+◌, ◌++◌, OnOk, Result, Ok, Err, append_assoc, take, map, subst, string_bytes, ◌-◌, eqb, ltb, drop, append-nil, length-append, ⊎_elim, inl, inr, true, Bor}
+pub use Rattle.std.proofs.Common.{◌≡◌, ◌∙◌, ◌≤◌, ◌<◌, ℕ, List, [], cond, length, ap, refl, sym, zero, suc, ◌∷◌, get_or, arith, rules, ◌+◌, ◌++◌, OnOk, Result, Ok, Err, append_assoc, take, map, subst, string_bytes, ◌-◌, Bool, eqb, ltb, drop, append-nil, length-append, ⊎_elim, inl, inr, true, Bor}
 pub use Rattle.std.proofs.lemmas.Bool.{le-leb, lt-leb, cases_lt, eq-eqb, le-ltb, lt-ltb, ne_eqb}
-pub use Rattle.std.proofs.lemmas.List.{flat_map_more, map_more, take_all}
+pub use Rattle.std.proofs.lemmas.List.{flat_map_more, take_more, take_all, take_min}
 pub use Rattle.std.specs.Fmt.{WritesInCalls}
 pub use Rattle.std.specs.List.{flat_map}
-pub use Rattle.std.specs.Prelude.{IsOk, codes, decimal}
+pub use Rattle.std.specs.Prelude.{⊤, IsOk, if◌then◌else◌, is_ok, codes, decimal}
 unfoldable pub use Rattle.table_schema.specs.CellColumns.{cell_columns}
 pub use Rattle.table_schema.specs.declared.column.ColumnKind.{ColumnKind}
 pub use Rattle.table_schema.specs.declared.table.TableId.{TableId}
-pub use Rattle.table_schema.specs.declared.table.TableId.TheVariants.{CustomAttribute, MethodDef, Property, Param}
+pub use Rattle.table_schema.specs.declared.table.TableId.TheVariants.{CustomAttribute, Assembly, AssemblyRef, Module, ModuleRef, File, ManifestResource, TypeDef, Field, MethodDef, InterfaceImpl, GenericParam, GenericParamConstraint, ExportedType, MethodImpl, MethodSemantics, Event, Property, ImplMap, DeclSecurity, TypeRef, MemberRef, Param}
 pub use Rattle.table_schema.specs.declared.token.Token.{Token}
 pub use Rattle.metadata.specs.Cell.{Cell}
 pub use Rattle.metadata.specs.Lookups.{HasRow}
@@ -17,8 +17,9 @@ pub use Rattle.reading.specs.Shown.{ShowsSignature, Shows}
 unfoldable pub use Rattle.opening.specs.Views.{row_count}
 pub use Rattle.full_names.proofs.PieceLemmas.{method_in, property_in}
 pub use Rattle.type_heads.specs.FlagWords.{shown_word, word_text, words_text, words_of}
-pub use Rattle.cli_declarations.specs.Parts.{Part, IsPartText, cut_mark, text_limit, bytes_value, decoded_value, number_of, bytes_text, guid_text_in_comment, key_text, quoted_text, IsReferenceIn, IsReferred, has_reference, IsDeclarationAt, IsSignatureOf}
+pub use Rattle.cli_declarations.specs.Layouts.{parts_of, IsDeclared}
+pub use Rattle.cli_declarations.specs.Parts.{Part, IsPartText, cut_mark, text_limit, bytes_value, decoded_value, IsNameText, IsNaming, number_of, bytes_text, guid_text_in_comment, key_text, quoted_text, IsReferenceIn, IsReferred, has_reference, IsDeclarationAt, IsSignatureOf}
 unfoldable pub use Rattle.cli_declarations.specs.Parts.{cut_text}
-pub use Rattle.cli_declarations.specs.Shown.{AreWithin, IsWithin, shown}
+pub use Rattle.cli_declarations.specs.Shown.{IsWithin, shown}
 pub use Rattle.cli_declarations.specs.Texts.{AreTexts, Begins, Ends, Gains}
 pub use Rattle.cli_declarations.specs.declared.layouts.Piece.{Piece}

@@ -1,5 +1,5 @@
 -- Texts one after another, and what a writer that escapes took.
-use Rattle.cli_declarations.proofs.Prelude.{◌≡◌, ◌∙◌, ℕ, zero, suc, ◌+◌, ◌-◌, ◌<◌, ◌≤◌, cond, eqb, ltb, List, [], ◌∷◌, ◌++◌, length, get_or, drop, map, take, refl, ap, sym, subst, append_assoc, append-nil, length-append, arith, ⊎_elim, cases_lt, eq-eqb, le-ltb, lt-ltb, ne_eqb, map_more, WritesInCalls, cut_mark, cut_text, text_limit, AreTexts, Gains}
+use Rattle.cli_declarations.proofs.Prelude.{◌≡◌, ◌∙◌, ℕ, zero, suc, ◌+◌, ◌-◌, ◌<◌, ◌≤◌, Bool, cond, eqb, ltb, List, [], ◌∷◌, ◌++◌, length, get_or, drop, map, take, refl, ap, sym, subst, append_assoc, append-nil, length-append, arith, ⊎_elim, cases_lt, eq-eqb, le-ltb, lt-ltb, ne_eqb, take_more, WritesInCalls, cut_mark, cut_text, text_limit, AreTexts, Gains}
 use Rattle.std.proofs.Math.Seq.{drop-append_seam}
 use Rattle.std.specs.List.{FoldsTo, concat}
 
@@ -9,14 +9,10 @@ module _ {X : Type 0} (is_text : X → List ℕ → Type 0) where
   texts_more [] x a b are one = (b, one, [], refl, ap (λ t. t ++ b) are ∙ sym (append-nil b))
   texts_more (y ∷ ys) x a b are one = (are.0, are.1, are.2 ++ b, texts_more ys x are.2 b are.3 one, ap (λ t. t ++ b) are.4 ∙ append_assoc are.0 are.2 b)
 
-  -- one more item of a list
-  pub gains_more : {Y : Type 0} (f : Y → X) (ys : List Y) (i : ℕ) (d : Y) (first between after : List ℕ) → i < length ys → Gains (AreTexts is_text (map f (take i ys))) first between
-      → Gains (is_text (f (get_or ys i d))) between after → Gains (AreTexts is_text (map f (take (i + 1) ys))) first after
-  gains_more f ys i d first between after lt before one = (
-    before.0 ++ one.0,
-    rw (map_more f ys i d lt) (texts_more (map f (take i ys)) (f (get_or ys i d)) before.0 one.0 before.1 one.1),
-    one.2 ∙ ap (λ (t : List ℕ). t ++ one.0) before.2 ∙ append_assoc first before.0 one.0,
-  )
+  -- the texts of the items of a list that is a map
+  pub texts_map : {Y : Type 0} (f : Y → X) (ys : List Y) (a : List ℕ) → AreTexts (λ y. is_text (f y)) ys a → AreTexts is_text (map f ys) a
+  texts_map f [] a are = are
+  texts_map f (y ∷ ys) a are = (are.0, are.1, are.2, texts_map f ys are.2 are.3, are.4)
 
 -- the first items of two lists
 take_nothing : {X : Type 0} (n : ℕ) → take {A = X} n [] ≡ []
@@ -68,4 +64,17 @@ module _ {W : Type 0} (bytes : W → List ℕ) (left begun : W → ℕ) where
       let whole : bytes after ≡ bytes before ++ first = takes.0 ∙ ap (λ (m : ℕ). bytes before ++ take m text) room in
       let mine : drop (begun after) (bytes after) ≡ first =
       ap (λ (m : ℕ). drop m (bytes after)) (takes.2 ∙ begins) ∙ ap (drop (length (bytes before))) whole ∙ drop-append_seam (bytes before) first in
-      is ∙ rw (mine, whole, longer (left after) text gone) (append_assoc (bytes before) first _)
+      is ∙ ap (λ (m : List ℕ). bytes after ++ cond (eqb (left after) 0) (cut_mark m) []) mine
+      ∙ ap (λ (b : List ℕ). b ++ cond (eqb (left after) 0) (cut_mark first) []) whole
+      ∙ append_assoc (bytes before) first (cond (eqb (left after) 0) (cut_mark first) [])
+      ∙ ap (λ (t : Bool). bytes before ++ (first ++ cond t (cut_mark first) [])) (longer (left after) text gone)
+
+-- one more item of a list
+module _ {X : Type 0} (is_text : X → List ℕ → Type 0) where
+  pub gains_more : (xs : List X) (i : ℕ) (d : X) (first between after : List ℕ) → i < length xs → Gains (AreTexts is_text (take i xs)) first between
+      → Gains (is_text (get_or xs i d)) between after → Gains (AreTexts is_text (take (i + 1) xs)) first after
+  gains_more xs i d first between after lt before one = (
+    before.0 ++ one.0,
+    rw (take_more xs i d lt) (texts_more is_text (take i xs) (get_or xs i d) before.0 one.0 before.1 one.1),
+    one.2 ∙ ap (λ (t : List ℕ). t ++ one.0) before.2 ∙ append_assoc first before.0 one.0,
+  )

@@ -1,5 +1,5 @@
 -- The line of a row of each table, as a list of parts (ECMA-335 II.6 and II.10). A row of another table has no line.
-use Rattle.std.specs.Prelude.{ℕ, ◌==◌, Bool, not, List, [], ◌∷◌, length, codes}
+use Rattle.std.specs.Prelude.{ℕ, Bool, true, false, List, [], ◌∷◌, codes}
 use Rattle.table_schema.specs.declared.table.TableId.{TableId}
 use Rattle.table_schema.specs.declared.table.TableId.TheVariants.{Assembly, AssemblyRef, Module, ModuleRef, File, ManifestResource, TypeDef, Field, MethodDef, InterfaceImpl, GenericParam, GenericParamConstraint, ExportedType, MethodImpl, MethodSemantics, Event, Property, ImplMap, DeclSecurity, CustomAttribute, TypeRef, MemberRef, Param}
 use Rattle.table_schema.specs.declared.token.Token.{Token}
@@ -79,5 +79,9 @@ abbrev pub IsDeclared : Metadata → Token → List ℕ → Type 0
 IsDeclared model of whole = AreTexts (IsPartText model of.table of.row) (parts_of of.table) whole
 
 -- the rows of a table have declarations
+abbrev pub has_parts : List Part → Bool
+has_parts [] = false
+has_parts (first ∷ later) = true
+
 abbrev pub is_declared_in : TableId → Bool
-is_declared_in table = not (length (parts_of table) == 0)
+is_declared_in table = has_parts (parts_of table)

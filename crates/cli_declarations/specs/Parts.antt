@@ -4,7 +4,7 @@ use Rattle.table_schema.specs.declared.table.TableId.{TableId}
 use Rattle.table_schema.specs.declared.table.TableId.TheVariants.{MethodDef, Property, Constant, ClassLayout, FieldLayout, FieldRVA, FieldMarshal, Event, Field, MemberRef, Param, TypeDef, CustomAttribute}
 use Rattle.table_schema.specs.declared.token.Token.{Token}
 use Rattle.table_schema.specs.Tokens.{hexadecimal, token_text}
-use Rattle.sig_grammar.specs.Syntax.{Method, Slot, method_body, property}
+use Rattle.sig_grammar.specs.Syntax.{Body, Method, Slot, method_body, property}
 use Rattle.sig_text.specs.Declares.{as_method}
 use Rattle.sig_text.specs.SignatureText.{text_of as pieces_of_signature}
 use Rattle.metadata.specs.Cell.{Cell, Number, Text, Bytes, Guid, Sig}
@@ -27,7 +27,8 @@ use Rattle.declarations.specs.Descriptors.{descriptor_in, descriptor_text}
 use Rattle.marshal_descriptors.specs.Values.{Descriptor}
 use Rattle.declarations.specs.Declarations.{IsMethodHead, IsPropertyDeclarationBy, IsReference}
 use Rattle.navigation.specs.declared.links.Link.{Link}
-use Rattle.navigation.specs.Linked.{first_linked, linked, table_of}
+use Rattle.navigation.specs.declared.links.Link.TheVariants as link_of
+use Rattle.navigation.specs.Linked.{first_linked, linked}
 use Rattle.cli_lines.specs.Lines.{guid_text}
 use Rattle.cli_lines.specs.Texts.{escaped_bytes}
 use Rattle.type_heads.specs.Heads.{AreListed, IsInHead, enclosed}
@@ -35,7 +36,7 @@ use Rattle.cli_values.specs.Actions.{action_text}
 use Rattle.cli_values.specs.Constants.{constant_text, value_limit, bytes_text as value_bytes_text}
 use Rattle.type_heads.specs.FlagWords.{words_of, words_text}
 use Rattle.type_heads.specs.declared.flag_words.FlagTable.{FlagTable}
-use Rattle.type_heads.specs.declared.flag_words.FlagTable.TheVariants as flags_of
+use Rattle.type_heads.specs.declared.flag_words.FlagTable.TheVariants as table_of
 use Rattle.cli_declarations.specs.declared.layouts.Naming.{Naming}
 use Rattle.cli_declarations.specs.declared.layouts.Naming.TheVariants as naming
 
@@ -126,15 +127,19 @@ bytes_text before (first ∷ tail) = before ++ codes "(" ++ escaped_bytes (first
 -- the word for a public key or for the token of one, by the flags (II.23.1.2), and its bytes, unless there are none
 abbrev pub key_text : ℕ → List ℕ → List ℕ
 key_text bits [] = []
-key_text bits (first ∷ tail) = words_text bits (words_of flags_of.Key) ++ bytes_text (codes " = ") (first ∷ tail)
+key_text bits (first ∷ tail) = words_text bits (words_of table_of.Key) ++ bytes_text (codes " = ") (first ∷ tail)
 
 -- the name of a row (II.5.3), up to the limit
 abbrev pub IsNameText : Metadata → Token → List ℕ → Type 0
 IsNameText model token out = (name : List ℕ) × IsRowNameBy Written model token name × (out ≡ cut_text name)
 
--- the text of the signature in a cell, with the full names of types, up to the limit (II.7.1, II.15.3); a cell that is no signature has no text
+-- the text of a signature, with the full names of types, up to the limit (II.7.1, II.15.3)
+abbrev pub IsSignatureText : Metadata → Body → List ℕ → Type 0
+IsSignatureText model of out = (plain : List ℕ) × ArePiecesText (IsPieceText (IsFullNameBy Written model)) (pieces_of_signature of) plain × (out ≡ cut_text plain)
+
+-- the same of a cell, which has no text if it is no signature
 abbrev pub IsSignatureOf : Metadata → Cell → List ℕ → Type 0
-IsSignatureOf model (Sig of) out = (plain : List ℕ) × ArePiecesText (IsPieceText (IsFullNameBy Written model)) (pieces_of_signature of) plain × (out ≡ cut_text plain)
+IsSignatureOf model (Sig of) out = IsSignatureText model of out
 IsSignatureOf model _ out = out ≡ []
 
 -- the declaration of a method, with its full name, its generic parameters and the names of its parameters, up to the limit (II.15.3)
@@ -174,11 +179,14 @@ abbrev pub IsReferenceIn : Metadata → TableId → Token → List ℕ → Type 
 IsReferenceIn model Param token out = (HasRow model Param token.row × IsParamText model token.row out) ⊎ (¬ HasRow model Param token.row × (out ≡ token_text token))
 IsReferenceIn model table token out = IsReferred model (has_reference table) token out
 
+abbrev pub IsReferenceText : Metadata → Token → List ℕ → Type 0
+IsReferenceText model token out = IsReferenceIn model token.table token out
+
 -- what a row is referred to by: its token, its name, or the reference to it
 abbrev pub IsNaming : Naming → Metadata → Token → List ℕ → Type 0
 IsNaming naming.Token model of out = out ≡ token_text of
 IsNaming naming.Name model of out = IsNameText model of out
-IsNaming naming.Reference model of out = IsReferenceIn model of.table of out
+IsNaming naming.Reference model of out = IsReferenceText model of out
 
 -- a word and what a row is referred to by, unless the reference is null
 abbrev pub IsAfter : Metadata → List ℕ → Naming → Option Token → List ℕ → Type 0
@@ -202,11 +210,15 @@ bytes_value blob = codes " = (" ++ (value_bytes_text blob ++ codes ")")
 abbrev pub decoded_value : AttributeValue → List ℕ
 decoded_value v = codes " = {" ++ (cut_text (attribute_value_text v) ++ codes " }")
 
+-- the bytes are a value, for a constructor with parameters of these types
+abbrev pub HasValue : List ArgumentType → List ℕ → Type 0
+HasValue params blob = (v : AttributeValue) × IsAttributeValue params v blob
+
 -- the text of the value that the bytes are, and of the bytes if they are none
 abbrev pub IsValueText : Option (List ArgumentType) → List ℕ → List ℕ → Type 0
 IsValueText None blob out = out ≡ bytes_value blob
 IsValueText (Some params) blob out =
-    ((v : AttributeValue) × IsAttributeValue params v blob × (out ≡ decoded_value v)) ⊎ (¬ ((v : AttributeValue) × IsAttributeValue params v blob) × (out ≡ bytes_value blob))
+    ((v : AttributeValue) × IsAttributeValue params v blob × (out ≡ decoded_value v)) ⊎ (¬ HasValue params blob × (out ≡ bytes_value blob))
 
 -- the text of the value of the attribute in a row
 abbrev pub IsAttributeText : Metadata → ℕ → List ℕ → Type 0
@@ -245,25 +257,29 @@ marshal_content (Some of) blob = cut_text (descriptor_text of)
 abbrev pub marshal_text : List ℕ → List ℕ
 marshal_text blob = codes " marshal(" ++ marshal_content (descriptor_in blob) blob ++ codes ")"
 
--- what a row of a table adds to the row that it refers to
-abbrev pub referring_text : Metadata → TableId → ℕ → List ℕ
-referring_text model Constant row = value_text (number_of (cell_in model Constant row 0)) (bytes_of (cell_in model Constant row 2))
-referring_text model ClassLayout row = layout_text (number_of (cell_in model ClassLayout row 0)) (number_of (cell_in model ClassLayout row 1))
-referring_text model FieldLayout row = offset_text (number_of (cell_in model FieldLayout row 0))
-referring_text model FieldRVA row = address_text (number_of (cell_in model FieldRVA row 0))
-referring_text model FieldMarshal row = marshal_text (bytes_of (cell_in model FieldMarshal row 1))
+-- what a row adds to the row that it refers to
+abbrev pub referring_text : Metadata → Link → ℕ → List ℕ
+referring_text model link_of.Constants row = value_text (number_of (cell_in model Constant row 0)) (bytes_of (cell_in model Constant row 2))
+referring_text model link_of.TypeLayouts row = layout_text (number_of (cell_in model ClassLayout row 0)) (number_of (cell_in model ClassLayout row 1))
+referring_text model link_of.FieldOffsets row = offset_text (number_of (cell_in model FieldLayout row 0))
+referring_text model link_of.FieldData row = address_text (number_of (cell_in model FieldRVA row 0))
+referring_text model link_of.Marshalling row = marshal_text (bytes_of (cell_in model FieldMarshal row 1))
 referring_text model _ row = []
 
 -- that of the first row that refers to a row, if there is one: if there are several, the others have no text
 abbrev pub linked_text : Metadata → Link → Option ℕ → List ℕ
 linked_text model of None = []
-linked_text model of (Some row) = referring_text model (table_of of) row
+linked_text model of (Some row) = referring_text model of row
 
 -- ---- the lists in the head of a type
 
--- the list of some rows, up to the limit, between two words
+-- the list of some rows, up to the limit
+abbrev pub IsCutList : Metadata → Link → List ℕ → List ℕ → Type 0
+IsCutList model of rows out = (items : List ℕ) × AreListed (IsInHead Written model of) [] rows items × (out ≡ cut_text items)
+
+-- the same between two words
 abbrev pub IsHeadList : Metadata → Link → List ℕ → List ℕ → List ℕ → List ℕ → Type 0
-IsHeadList model of before after rows out = (items : List ℕ) × AreListed (IsInHead Written model of) [] rows items × (out ≡ enclosed before after rows (cut_text items))
+IsHeadList model of before after rows out = (items : List ℕ) × IsCutList model of rows items × (out ≡ enclosed before after rows items)
 
 -- a GUID in a comment, unless it is null
 abbrev pub guid_text_in_comment : Option (List ℕ) → List ℕ

@@ -1,5 +1,5 @@
 -- The parts of the program, as values of specs/.
-use Rattle.std.specs.Prelude.{◌<◌, List, [], ◌∷◌, ⊤}
+use Rattle.std.specs.Prelude.{◌<◌, ⊤}
 use Rattle.table_schema.specs.declared.table.TableId.{TableId}
 use Rattle.table_schema.specs.CellColumns.{cell_count}
 use Rattle.cli_declarations.specs.Parts as part
@@ -28,6 +28,7 @@ shown (Listed of before after) = part.listed of before.now after.now
 
 -- the cells of a part are in the rows of a table
 abbrev pub IsWithin : TableId → Part → Type 0
+IsWithin table (part.word of) = ⊤
 IsWithin table (part.flags of cell) = cell < cell_count table
 IsWithin table (part.text cell) = cell < cell_count table
 IsWithin table (part.number cell) = cell < cell_count table
@@ -36,12 +37,11 @@ IsWithin table (part.bytes_after of cell) = cell < cell_count table
 IsWithin table (part.key of cell) = (of < cell_count table) × (cell < cell_count table)
 IsWithin table (part.first_bytes cell) = cell < cell_count table
 IsWithin table (part.signature cell) = cell < cell_count table
+IsWithin table part.declaration = ⊤
+IsWithin table (part.own how) = ⊤
 IsWithin table (part.row_after of how cell) = cell < cell_count table
 IsWithin table (part.eight_digits cell) = cell < cell_count table
 IsWithin table (part.guid_comment cell) = cell < cell_count table
 IsWithin table (part.action cell) = cell < cell_count table
-IsWithin table _ = ⊤
-
-abbrev pub AreWithin : TableId → List Part → Type 0
-AreWithin table [] = ⊤
-AreWithin table (first ∷ later) = IsWithin table first × AreWithin table later
+IsWithin table (part.linked_by of) = ⊤
+IsWithin table (part.listed of before after) = ⊤

@@ -1,5 +1,5 @@
 //! The text of a declaration.
-ghost use Rattle.std.specs.Prelude.{◌≡◌, ◌++◌, take, string_bytes, IsOk, OnOk};
+ghost use Rattle.std.specs.Prelude.{◌≡◌, ◌==◌, ◌++◌, count_by, drop, take, string_bytes, IsOk, OnOk};
 ghost use Rattle.full_names.specs.declared.quoted.NameKind.TheVariants.{Dotted};
 ghost use Rattle.full_names.specs.Quoted.{name_text, quoted_bytes};
 ghost use Rattle.cli_declarations.specs.Parts.{cut_mark, cut_text, is_open};
@@ -61,12 +61,14 @@ impl fmt::Write for Declared {
     fn write_str(&mut self, text: &str) -> fmt::Result {
         let room = self.left.saturating_sub(1);
         self.left = self.left.saturating_sub(text.len());
-        push_first(text, room, &mut self.text).map_err(|_| fmt::Error)
+        match push_first(text, room, &mut self.text) {
+            Ok(()) => Ok(()),
+            Err(_) => Err(fmt::Error),
+        }
     }
 }
 
 /// Appends the first bytes of a text. A part of a character is refused; names and signatures are ASCII.
-#[tactic(auto, using(std::proofs::lemmas::List::take_min))]
 fn push_first(text: &str, room: usize, out: &mut String) -> Result<(), AllocError>
     ensures { OnOk result (string_bytes out.new ≡ string_bytes out.old ++ take room text.now) }
 {
@@ -101,11 +103,18 @@ pub(crate) fn begin_text(declared: &mut Declared)
     declared.begun = declared.text.len();
 }
 
+/// The number of quotes in a text.
+fn quotes_in(text: &[u8]) -> usize
+    ensures { result ≡ count_by (λ byte. byte == 39) text.now }
+{
+    text.iter().filter(|byte| **byte == b'\'').count()
+}
+
 /// Whether a quote is open at the end of a text.
 fn is_open(text: &[u8]) -> bool
     ensures { result ≡ is_open text.now }
 {
-    text.iter().filter(|byte| **byte == b'\'').count() % 2 == 1
+    quotes_in(text) % 2 == 1
 }
 
 /// What marks a cut after a text.
@@ -113,6 +122,14 @@ fn cut_mark(text: &[u8]) -> &'static str
     ensures { result.now ≡ cut_mark text.now }
 {
     if is_open(text) { "'.." } else { ".." }
+}
+
+/// The bytes of a text from an offset on.
+fn bytes_from(text: &str, begun: usize) -> &[u8]
+    ensures { result.now ≡ drop begun text.now }
+{
+    let bytes = text.as_bytes();
+    bytes.split_at(begun.min(bytes.len())).1
 }
 
 /// Ends a text of the file that was written: appends a mark if it was cut.
@@ -126,8 +143,7 @@ pub(crate) fn end_text<E: Drop>(
         return Err(AllocError);
     }
     if declared.left == 0 {
-        let bytes = declared.text.as_bytes();
-        let mark = cut_mark(bytes.split_at(declared.begun.min(bytes.len())).1);
+        let mark = cut_mark(bytes_from(declared.text.as_str(), declared.begun));
         return push_plain(mark, declared);
     }
     Ok(())

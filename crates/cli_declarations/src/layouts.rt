@@ -1,7 +1,7 @@
 //! The line of a row of each table, as a list of pieces (II.6 and II.10).
 ghost use Rattle.std.specs.Prelude.{◌≡◌, map};
 ghost use Rattle.cli_declarations.specs.Layouts.{parts_of};
-ghost use Rattle.cli_declarations.specs.Shown.{AreWithin, shown};
+ghost use Rattle.cli_declarations.specs.Shown.{shown};
 
 use navigation::Link;
 use opening::TableId;
@@ -170,10 +170,8 @@ const TYPE_REF: &[Piece] = pieces![Word(".typeref "); Own(Name);];
 const MEMBER_REF: &[Piece] = pieces![Word(".memberref "); Own(Reference);];
 
 /// The pieces of the line of a row. A row of a table that is not named here has none.
-#[tactic(auto, unfolding(table_schema::specs::CellColumns::cell_columns))]
 pub(crate) fn pieces_of(table: TableId) -> &'static [Piece]
-    ensures parts { map shown result.now ≡ parts_of table }
-    ensures within { AreWithin table (map shown result.now) }
+    ensures { map shown result.now ≡ parts_of table }
 {
     match table {
         TableId::Assembly => ASSEMBLY,

@@ -11,13 +11,16 @@
 //! ```
 #![tactic(auto)]
 
-mod blob_sink;
+mod attribute_sink;
 mod cell_values;
 mod declaration;
 mod declared;
+mod heads;
 mod layouts;
 mod linked;
+mod marshal_sink;
 mod pieces;
+mod signature_sink;
 
 pub use cell_values::{bytes, guid, number, text};
 pub use declaration::{declare, is_declared_in, name_and_declare, name_row};

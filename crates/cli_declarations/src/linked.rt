@@ -1,23 +1,18 @@
-//! Appends what rows add to the row that they refer to: the first of them, or all in the head of a type (II.10.1.7, II.12.2).
+//! Appends what a row adds to the row that it refers to.
 ghost use Rattle.std.specs.Prelude.{◌≡◌, ◌≤◌, ◌++◌, string_bytes, OnOk};
 ghost use Rattle.metadata.specs.Metadata.{Metadata};
 ghost use Rattle.metadata.specs.Model.{IsModel};
-ghost use Rattle.declarations.specs.Descriptors.{descriptor_in, descriptor_text};
-ghost use Rattle.marshal_descriptors.specs.Views.{view};
-ghost use Rattle.navigation.specs.Linked.{first_linked, linked};
+ghost use Rattle.navigation.specs.Linked.{first_linked, table_of};
 ghost use Rattle.opening.specs.Views.{row_count};
-ghost use Rattle.cli_declarations.specs.Parts.{IsHeadList, address_text, cut_text, layout_text, linked_text, marshal_content, marshal_text, offset_text, referring_text, value_text};
-ghost use Rattle.cli_declarations.specs.Texts.{Gains};
+ghost use Rattle.cli_declarations.specs.Parts.{address_text, layout_text, linked_text, offset_text, referring_text, token_at, value_text};
 
 use crate::cell_values::{bytes, number};
-use crate::declared::{Declared, TextLimit, begin_text, end_text, push_plain};
-use cli_values::{push_constant, push_decimal, push_eight_digits, push_value_bytes};
-use declarations::{descriptor_in, write_descriptor};
-use marshal_descriptors::Descriptor;
+use crate::declared::{Declared, push_plain};
+use crate::marshal_sink::push_marshal;
+use cli_values::{push_constant, push_decimal, push_eight_digits};
 use navigation::{Link, Neighbours};
 use opening::{TableId, Token, View};
 use std::alloc::AllocError;
-use type_heads::write_items;
 
 /// Appends the value of a constant.
 fn push_value(code: u32, value: &[u8], declared: &mut Declared) -> Result<(), AllocError>
@@ -55,62 +50,39 @@ fn push_address(address: u32, declared: &mut Declared) -> Result<(), AllocError>
     push_eight_digits(address as u64, &mut declared.text)
 }
 
-/// Appends a descriptor, up to the limit.
-fn push_descriptor(of: Descriptor<'_>, declared: &mut Declared) -> Result<(), AllocError>
-    ensures { OnOk result (string_bytes declared.new.text ≡ string_bytes declared.old.text ++ cut_text (descriptor_text (view of.entry))) }
-{
-    begin_text(declared);
-    let written = write_descriptor(declared, of, &TextLimit);
-    end_text(written, declared)
-}
-
-/// Appends the descriptor that a blob is, or its bytes if it is none.
-fn push_content(blob: &[u8], declared: &mut Declared) -> Result<(), AllocError>
-    ensures { OnOk result (string_bytes declared.new.text ≡ string_bytes declared.old.text ++ marshal_content (descriptor_in blob.now) blob.now) }
-{
-    match descriptor_in(blob) {
-        Some(of) => push_descriptor(of, declared),
-        None => push_value_bytes(blob, &mut declared.text),
-    }
-}
-
-/// Appends how a field is marshalled, by the blob of its row of FieldMarshal.
-fn push_marshal(blob: &[u8], declared: &mut Declared) -> Result<(), AllocError>
-    ensures { OnOk result (string_bytes declared.new.text ≡ string_bytes declared.old.text ++ marshal_text blob.now) }
-{
-    push_plain(" marshal(", declared)?;
-    push_content(blob, declared)?;
-    push_plain(")", declared)
-}
-
-/// Appends what a row of a table adds to the row that it refers to: the value of a constant (II.22.9), the layout of a type (II.22.8),
-/// and of a field the offset (II.22.16), the address of its data (II.22.18) or how it is marshalled (II.22.17).
+/// Appends what a row adds to the row that it refers to: the value of a constant (II.22.9), the layout of a type (II.22.8), and of a
+/// field the offset (II.22.16), the address of its data (II.22.18) or how it is marshalled (II.22.17).
 #[tactic(auto, unfolding(table_schema::specs::CellColumns::cell_columns))]
 fn push_referring(
     view: &View<'_>,
-    table: TableId,
+    link: Link,
     row: u32,
     declared: &mut Declared,
 ) -> Result<(), AllocError>
     requires first { 1 ≤ row }
-    requires last { row ≤ row_count view.now table }
+    requires last { row ≤ row_count view.now (table_of link) }
     ensures { (model : Metadata) → IsModel view.now model
-        → OnOk result (string_bytes declared.new.text ≡ string_bytes declared.old.text ++ referring_text model table row) }
+        → OnOk result (string_bytes declared.new.text ≡ string_bytes declared.old.text ++ referring_text model link row) }
 {
-    match table {
-        TableId::Constant => {
+    match link {
+        Link::Constants => {
             let code = number(view, TableId::Constant, row, 0);
             push_value(code, bytes(view, TableId::Constant, row, 2), declared)
         }
-        TableId::ClassLayout => {
+        Link::TypeLayouts => {
             let packing = number(view, TableId::ClassLayout, row, 0);
             let size = number(view, TableId::ClassLayout, row, 1);
             push_layout(packing, size, declared)
         }
-        TableId::FieldLayout => push_offset(number(view, TableId::FieldLayout, row, 0), declared),
-        TableId::FieldRVA => push_address(number(view, TableId::FieldRVA, row, 0), declared),
-        TableId::FieldMarshal => push_marshal(bytes(view, TableId::FieldMarshal, row, 1), declared),
-        _ => Ok(()),
+        Link::FieldOffsets => push_offset(number(view, TableId::FieldLayout, row, 0), declared),
+        Link::FieldData => push_address(number(view, TableId::FieldRVA, row, 0), declared),
+        Link::Marshalling => push_marshal(bytes(view, TableId::FieldMarshal, row, 1), declared),
+        Link::Events => Ok(()),
+        Link::Properties => Ok(()),
+        Link::Accessors => Ok(()),
+        Link::Interfaces => Ok(()),
+        Link::GenericParams => Ok(()),
+        Link::Constraints => Ok(()),
     }
 }
 
@@ -118,43 +90,18 @@ fn push_referring(
 pub(crate) fn push_linked(
     source: &Neighbours<'_, '_>,
     link: Link,
-    token: Token,
+    table: TableId,
+    row: u32,
     declared: &mut Declared,
 ) -> Result<(), AllocError>
-    requires { token.row ≤ row_count source.now.view.now token.table }
+    requires { row ≤ row_count source.now.view.now table }
     ensures { (model : Metadata) → IsModel source.now.view.now model
-        → OnOk result (string_bytes declared.new.text ≡ string_bytes declared.old.text ++ linked_text model link (first_linked model link token)) }
+        → OnOk result (string_bytes declared.new.text ≡ string_bytes declared.old.text ++ linked_text model link (first_linked model link (token_at table row))) }
 {
     // The table has at most 0xFFFFFF rows.
-    let _count = source.view.count(token.table);
-    match source.first_linked(link, token) {
-        Some(referring) => push_referring(source.view, link.table(), referring, declared),
+    let _count = source.view.count(table);
+    match source.first_linked(link, Token { table, row }) {
+        Some(referring) => push_referring(source.view, link, referring, declared),
         None => Ok(()),
     }
-}
-
-/// Appends what the rows that refer to a row are in its head, up to the limit, between two words; nothing if there are none.
-pub(crate) fn push_listed(
-    source: &Neighbours<'_, '_>,
-    link: Link,
-    before: &str,
-    after: &str,
-    token: Token,
-    declared: &mut Declared,
-) -> Result<(), AllocError>
-    requires { token.row ≤ row_count source.now.view.now token.table }
-    ensures { (model : Metadata) → IsModel source.now.view.now model
-        → OnOk result (Gains (IsHeadList model link before.now after.now (linked model link token)) (string_bytes declared.old.text) (string_bytes declared.new.text)) }
-{
-    // The table has at most 0xFFFFFF rows.
-    let _count = source.view.count(token.table);
-    let rows = source.linked(link, link.number_to(token));
-    if rows.is_empty() {
-        return Ok(());
-    }
-    push_plain(before, declared)?;
-    begin_text(declared);
-    let written = write_items(declared.alloc, source, link, rows, &TextLimit, declared);
-    end_text(written, declared)?;
-    push_plain(after, declared)
 }

@@ -6,17 +6,18 @@ ghost use Rattle.metadata.specs.Model.{IsModel};
 ghost use Rattle.type_heads.specs.FlagWords.{shown_word, word_text, words_of, words_text};
 ghost use Rattle.opening.specs.Views.{row_count};
 ghost use Rattle.table_schema.specs.Tokens.{token_text};
-ghost use Rattle.cli_declarations.specs.Parts.{IsAfter, IsNameText, IsNaming, IsPartText, IsReferenceIn, IsReferred, bytes_text, guid_text_in_comment, has_reference, key_text, quoted_text};
+ghost use Rattle.cli_declarations.specs.Parts.{IsAfter, IsNameText, IsNaming, IsParamText, IsPartText, IsReferenceIn, IsReferenceText, IsReferred, bytes_text, guid_text_in_comment, has_reference, key_text, quoted_text};
 ghost use Rattle.cli_declarations.specs.Shown.{IsWithin, shown};
 ghost use Rattle.cli_declarations.specs.Texts.{Gains};
 
-use crate::blob_sink::{push_declaration, push_signature};
 use crate::cell_values::{bytes, guid, number, reference, text};
 use crate::declared::{
     Declared, TextLimit, begin_text, end_text, push_plain, push_string, push_text,
 };
+use crate::heads::push_listed;
 use crate::layouts::{Naming, Piece};
-use crate::linked::{push_linked, push_listed};
+use crate::linked::push_linked;
+use crate::signature_sink::{push_declaration, push_signature};
 use cli_values::{
     push_action, push_decimal, push_eight_digits, push_hexadecimal, push_value_bytes,
 };
@@ -47,7 +48,10 @@ fn push_word(flags: u32, word: FlagWord, declared: &mut Declared) -> Result<(), 
 fn push_token(token: Token, declared: &mut Declared) -> Result<(), AllocError>
     ensures { OnOk result (string_bytes declared.new.text ≡ string_bytes declared.old.text ++ token_text token) }
 {
-    write!(declared.text, "{token}").map_err(|_| AllocError)
+    match write!(declared.text, "{token}") {
+        Ok(()) => Ok(()),
+        Err(_) => Err(AllocError),
+    }
 }
 
 /// Appends the words of flags, a space before each.
@@ -140,9 +144,31 @@ fn push_member(
     end_text(written, declared)
 }
 
-/// Appends the reference to a parameter: its position, and the reference to its method; or its token if it does not exist.
+/// Appends the reference to a parameter: its position, and the reference to its method.
 #[tactic(auto, unfolding(table_schema::specs::CellColumns::cell_columns))]
 fn push_param(
+    source: &Neighbours<'_, '_>,
+    row: u32,
+    declared: &mut Declared,
+) -> Result<(), AllocError>
+    requires first { 1 ≤ row }
+    requires last { row ≤ row_count source.now.view.now Param }
+    ensures { (model : Metadata) → IsModel source.now.view.now model
+        → OnOk result (Gains (IsParamText model row) (string_bytes declared.old.text) (string_bytes declared.new.text)) }
+{
+    let method = Token {
+        table: TableId::MethodDef,
+        row: method_of_param(source, row),
+    };
+    let position = number(source.view, TableId::Param, row, SEQUENCE);
+    push_plain("param [", declared)?;
+    push_decimal(position as u64, &mut declared.text)?;
+    push_plain("] of ", declared)?;
+    push_member(source, method, declared)
+}
+
+/// Appends the reference to a parameter, or its token if it does not exist.
+fn push_param_or_token(
     source: &Neighbours<'_, '_>,
     token: Token,
     declared: &mut Declared,
@@ -153,15 +179,7 @@ fn push_param(
     if token.row == 0 || token.row > source.view.count(TableId::Param) {
         return push_token(token, declared);
     }
-    let method = Token {
-        table: TableId::MethodDef,
-        row: method_of_param(source, token.row),
-    };
-    let position = number(source.view, TableId::Param, token.row, SEQUENCE);
-    push_plain("param [", declared)?;
-    push_decimal(position as u64, &mut declared.text)?;
-    push_plain("] of ", declared)?;
-    push_member(source, method, declared)
+    push_param(source, token.row, declared)
 }
 
 /// Appends the reference to a row, or its token if the reference does not say which row it is.
@@ -171,10 +189,10 @@ fn push_reference(
     declared: &mut Declared,
 ) -> Result<(), AllocError>
     ensures { (model : Metadata) → IsModel source.now.view.now model
-        → OnOk result (Gains (IsReferenceIn model token.table token) (string_bytes declared.old.text) (string_bytes declared.new.text)) }
+        → OnOk result (Gains (IsReferenceText model token) (string_bytes declared.old.text) (string_bytes declared.new.text)) }
 {
     match token.table {
-        TableId::Param => push_param(source, token, declared),
+        TableId::Param => push_param_or_token(source, token, declared),
         table if has_reference(table) => push_member(source, token, declared),
         _ => push_token(token, declared),
     }
@@ -279,7 +297,7 @@ pub(crate) fn push_piece(
             let action = number(view, table, row, cell);
             push_action(action, &mut declared.text)
         }
-        Piece::Linked(link) => push_linked(source, link, token, declared),
+        Piece::Linked(link) => push_linked(source, link, table, row, declared),
         Piece::Listed(link, before, after) => {
             push_listed(source, link, before, after, token, declared)
         }

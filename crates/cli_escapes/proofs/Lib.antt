@@ -1,2 +1,3 @@
+pub mod AsIsLemmas
 pub mod LetterLemmas
 pub mod Prelude

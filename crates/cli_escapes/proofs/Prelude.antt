@@ -5,7 +5,8 @@ pub use Rattle.std.proofs.lemmas.List.{drop_all, drop-drop}
 pub use Rattle.std.proofs.lemmas.Str.{IsUtf8-from_is_utf8, is_utf8-from_IsUtf8}
 pub use Rattle.std.specs.Prelude.{slice_get, slice_index}
 unfoldable pub use Rattle.std.specs.Str.{is_utf8, chars}
-pub use Rattle.cli_escapes.specs.AsIs.{as_is}
+pub use Rattle.cli_escapes.specs.AsIs.{as_is, unescaped}
+unfoldable pub use Rattle.cli_escapes.specs.AsIs.{unescaped_after}
 unfoldable pub use Rattle.cli_escapes.specs.Escapes.{escaped_at}
-pub use Rattle.cli_escapes.specs.Letters.{first_char, readable}
-unfoldable pub use Rattle.cli_escapes.specs.Letters.{found_at, readable_after}
+pub use Rattle.cli_escapes.specs.Letters.{first_char, letter_from, readable}
+unfoldable pub use Rattle.cli_escapes.specs.Letters.{letter_at, readable_after}

@@ -1,5 +1,7 @@
 -- Why a run stopped: its exit code and its line.
 use Rattle.std.specs.Prelude.{ℕ, List, ◌++◌, codes}
+use Rattle.table_schema.specs.declared.table.TableId.TheVariants.{ManifestResource}
+use Rattle.table_schema.specs.declared.token.Token.{Token}
 use Rattle.table_schema.specs.Tokens.{token_text}
 use Rattle.cli_faults.specs.Status.{status_of}
 use Rattle.cli_faults.specs.Texts.{failure_text}
@@ -10,13 +12,11 @@ use Rattle.cli_faults.specs.declared.stop.Stop.TheVariants.{Failed, BudgetSpent,
 abbrev pub status_of_stop : Stop → ℕ
 status_of_stop (Failed failure) = status_of failure
 status_of_stop BudgetSpent = 3
-status_of_stop Different = 1
-status_of_stop (NothingAt offset) = 1
-status_of_stop Broken = 1
-status_of_stop NoSuchType = 1
-status_of_stop NoSuchResource = 1
-status_of_stop (ResourceElsewhere row) = 1
-status_of_stop (ResourceOutside row) = 1
+status_of_stop _ = 1
+
+-- the resource in a row
+abbrev pub resource_in : ℕ → Token
+resource_in row = record { table = ManifestResource; row = row }
 
 -- the line that reports a stop, without its line feed
 abbrev pub stop_text : Stop → List ℕ
@@ -27,5 +27,5 @@ stop_text (NothingAt offset) = codes "nothing is at the offset"
 stop_text Broken = codes "the file breaks a rule"
 stop_text NoSuchType = codes "no such type"
 stop_text NoSuchResource = codes "no such resource"
-stop_text (ResourceElsewhere row) = codes "the resource " ++ token_text row ++ codes " is not in this file"
-stop_text (ResourceOutside row) = codes "the resource " ++ token_text row ++ codes " is not within the resources directory"
+stop_text (ResourceElsewhere row) = codes "the resource " ++ token_text (resource_in row) ++ codes " is not in this file"
+stop_text (ResourceOutside row) = codes "the resource " ++ token_text (resource_in row) ++ codes " is not within the resources directory"

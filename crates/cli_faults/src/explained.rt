@@ -20,14 +20,39 @@ pub struct Explanation {
     pub cause: Option<&'static str>,
 }
 
+/// A text, if there is one.
+macro_rules! text {
+    () => { None };
+    ($text:literal) => { Some($text) };
+}
+
+/// The explanations.
+macro_rules! explanations {
+    ($($number:literal $code:ident $position:literal [
+        $summary:literal $(section $section:literal)? rule $rule:literal offset $offset:literal $(cause $cause:literal)?
+    ])*) => {
+        [$(Explanation {
+            code: FaultCode::$code,
+            summary: $summary,
+            section: text!($($section)?),
+            rule: $rule,
+            offset: $offset,
+            cause: text!($($cause)?),
+        }),*]
+    };
+}
+
 /// The explanation of the rule with a code.
 macro_rules! explained {
-    ($by:ident $($number:literal $code:ident $name:ident,)*) => {
+    ($by:ident $($number:literal $code:ident $position:literal [$($texts:tt)*])*) => {
         match $by {
-            $(FaultCode::$code => &crate::rules::$name,)*
+            $(FaultCode::$code => &EXPLANATIONS[$position],)*
         }
     };
 }
+
+/// The explanations of all rules, in ascending order of their numbers.
+static EXPLANATIONS: [Explanation; 45] = each_rule!(explanations);
 
 /// The explanation of a rule.
 pub fn explain(code: FaultCode) -> &'static Explanation

@@ -8,14 +8,14 @@ use packed::FaultCode;
 
 /// The codes of the rules.
 macro_rules! codes {
-    ($($number:literal $code:ident $name:ident,)*) => {
+    ($($number:literal $code:ident $position:literal [$($texts:tt)*])*) => {
         [$(FaultCode::$code),*]
     };
 }
 
 /// The rule with a number.
 macro_rules! numbered {
-    ($by:ident $($number:literal $code:ident $name:ident,)*) => {
+    ($by:ident $($number:literal $code:ident $position:literal [$($texts:tt)*])*) => {
         match $by {
             $($number => Some(FaultCode::$code),)*
             _ => None,

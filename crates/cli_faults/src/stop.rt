@@ -1,11 +1,11 @@
 //! Why the program stopped early.
 ghost use Rattle.std.specs.Prelude.{◌≡◌, Some};
-ghost use Rattle.cli_faults.specs.Stops.{stop_text};
+ghost use Rattle.cli_faults.specs.Stops.{resource_in, stop_text};
 ghost use Rattle.cli_faults.specs.declared.stop.Stop.TheVariants.{Failed};
 
 use crate::failure::Failure;
 use std::fmt;
-use table_schema::Token;
+use table_schema::{TableId, Token};
 
 /// Why the program stopped early. `Display` gives the line for standard error, without the line feed.
 #[derive(Clone, Copy, PartialEq, Eq)]
@@ -25,9 +25,9 @@ pub enum Stop<'a> {
     /// No resource has the name that was asked for.
     NoSuchResource,
     /// The resource in this row is in another file or assembly.
-    ResourceElsewhere(Token),
+    ResourceElsewhere(u32),
     /// The resource in this row is not within the resources directory (II.25.3.3), or the file does not have this directory.
-    ResourceOutside(Token),
+    ResourceOutside(u32),
 }
 
 impl Stop<'_> {
@@ -57,6 +57,14 @@ impl<'a> From<Failure<'a>> for Stop<'a> {
     }
 }
 
+/// The token of the resource in a row of ManifestResource.
+fn resource_in(row: u32) -> Token
+    ensures { result ≡ resource_in row }
+{
+    let table = TableId::ManifestResource;
+    Token { table, row }
+}
+
 impl fmt::Display for Stop<'_> {
     ghost output = { λ stop. Some (stop_text stop) };
 
@@ -69,11 +77,15 @@ impl fmt::Display for Stop<'_> {
             Stop::Broken => f.write_str("the file breaks a rule"),
             Stop::NoSuchType => f.write_str("no such type"),
             Stop::NoSuchResource => f.write_str("no such resource"),
-            Stop::ResourceElsewhere(row) => write!(f, "the resource {row} is not in this file"),
+            Stop::ResourceElsewhere(row) => {
+                let resource = resource_in(*row);
+                write!(f, "the resource {resource} is not in this file")
+            }
             Stop::ResourceOutside(row) => {
+                let resource = resource_in(*row);
                 write!(
                     f,
-                    "the resource {row} is not within the resources directory"
+                    "the resource {resource} is not within the resources directory"
                 )
             }
         }

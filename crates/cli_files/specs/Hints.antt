@@ -15,15 +15,10 @@ use Rattle.cli_files.specs.declared.hint.Hint.TheVariants.{AddBare, DropBare, Le
 abbrev pub begin_with : List ℕ → List ℕ → Bool
 begin_with prefix bytes = bytes_eq prefix (take (length prefix) bytes)
 
--- the first bytes of a file of this kind: of a PE file (II.25.2.1) or of a metadata root (II.24.2.1)
-abbrev pub signature_of : Input → List ℕ
-signature_of File = codes "MZ"
-signature_of BareRoot = codes "BSJB"
-
--- a PE file was expected, and the bytes begin like a metadata root; or the other way round
+-- a PE file was expected, and the bytes begin like a metadata root (II.24.2.1); or the other way round (II.25.2.1)
 abbrev pub hint_for_fault : Input → List ℕ → ℕ → Option Hint
-hint_for_fault BareRoot bytes code = if (code == number_of_code RootSignature) && begin_with (signature_of File) bytes then Some DropBare else None
-hint_for_fault File bytes code = if (code == number_of_code DosHeader) && begin_with (signature_of BareRoot) bytes then Some AddBare else None
+hint_for_fault BareRoot bytes code = if (code == number_of_code RootSignature) && begin_with (codes "MZ") bytes then Some DropBare else None
+hint_for_fault File bytes code = if (code == number_of_code DosHeader) && begin_with (codes "BSJB") bytes then Some AddBare else None
 
 -- for an offset past the end of the file: the length of the file
 abbrev pub hint_for_offset : ℕ → List ℕ → Option Hint

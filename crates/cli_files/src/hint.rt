@@ -1,11 +1,17 @@
 //! What the user may have meant.
 ghost use Rattle.std.specs.Prelude.{◌≡◌, Some};
-ghost use Rattle.cli_files.specs.Hints.{hint_for, hint_for_fault, hint_for_offset, hint_text, signature_of};
+ghost use Rattle.cli_files.specs.Hints.{hint_for, hint_for_fault, hint_for_offset, hint_text};
 
 use cli_faults::{Failure, Stop};
 use cli_input::Input;
 use packed::{Fault, FaultCode};
 use std::fmt;
+
+/// What a metadata root begins with (II.24.2.1).
+const ROOT_SIGNATURE: &[u8] = b"BSJB";
+
+/// What a PE file begins with (II.25.2.1).
+const DOS_SIGNATURE: &[u8] = b"MZ";
 
 /// What the user may have meant. `Display` gives a line for standard error, without the line feed.
 #[derive(Clone, Copy)]
@@ -50,20 +56,10 @@ fn hint_of_fault(fault: &Fault, input: Input, bytes: &[u8]) -> Option<Hint>
     ensures { result ≡ hint_for_fault input bytes.now fault.now.code }
 {
     let (expected, found, hint) = match input {
-        Input::BareRoot => (FaultCode::RootSignature, Input::File, Hint::DropBare),
-        Input::File => (FaultCode::DosHeader, Input::BareRoot, Hint::AddBare),
+        Input::BareRoot => (FaultCode::RootSignature, DOS_SIGNATURE, Hint::DropBare),
+        Input::File => (FaultCode::DosHeader, ROOT_SIGNATURE, Hint::AddBare),
     };
-    (fault.code == expected.number() && bytes.starts_with(signature_of(found))).then_some(hint)
-}
-
-/// The first bytes of a file of this kind (II.25.2.1, II.24.2.1).
-pub fn signature_of(input: Input) -> &'static [u8]
-    ensures { result.now ≡ signature_of input }
-{
-    match input {
-        Input::File => b"MZ".as_slice(),
-        Input::BareRoot => b"BSJB".as_slice(),
-    }
+    (fault.code == expected.number() && bytes.starts_with(found)).then_some(hint)
 }
 
 /// The hint for an offset at which there is nothing: the length of the file, if the offset is past its end.

@@ -44,8 +44,10 @@ pub fn read_into<'a, R: Files + Input>(
     ensures read { OnOk result (IsRead R.File.remaining R.Reader.remaining file.now bytes.new.items) }
     ensures refused { IfErr result (IsRefused file.now) }
 {
-    read_prefix(rt, file, bytes).map_err(|error| Failure::of_reading(&error, file))?;
-    Ok(())
+    match read_prefix(rt, file, bytes) {
+        Ok(_) => Ok(()),
+        Err(error) => Err(Failure::of_reading(&error, file)),
+    }
 }
 
 /// Reads a file, or its first 2^30 + 1 bytes if it has more, and returns the number of bytes.
@@ -56,7 +58,10 @@ fn read_prefix<R: Files + Input>(rt: &R, path: &str, bytes: &mut Vec<u8>) -> io:
         return read_first(rt.reader(), 0, bytes);
     }
     let file = fs::open(rt, path)?;
-    let reported = file.metadata().map_or(0, |metadata| metadata.len());
+    let reported = match file.metadata() {
+        Ok(metadata) => metadata.len(),
+        Err(_) => 0,
+    };
     read_first(file, reported, bytes)
 }
 

@@ -14,7 +14,7 @@ mod input;
 mod stopped;
 mod words;
 
-pub use hint::{Hint, signature_of};
+pub use hint::Hint;
 pub use input::{LIMIT, STANDARD_INPUT, read_file, read_into};
 pub use stopped::{Stopped, out_of_memory, status};
 pub use words::refuse_words;

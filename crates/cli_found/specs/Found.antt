@@ -1,8 +1,5 @@
 -- The line of the offset of a fault: the number there, and what its rule compares it with (ECMA-335 II.22 to II.25).
-use Rattle.std.specs.Prelude.{◌≡◌, ◌⊎◌, ◌&&◌, ◌-◌, ◌+◌, ◌/◌, ◌%◌, ◌^◌, ◌==◌, ℕ, Bool, nat_le, nat_lt, if◌then◌else◌, List, [], ◌∷◌, ◌++◌, codes, decimal, length, Option, None, Some, option_and_then, slice_get}
-use Rattle.std.specs.List.{list_any}
-use Rattle.std.specs.Option.{option_map}
-use Rattle.packed.specs.Codes.{number_of_code}
+use Rattle.std.specs.Prelude.{◌≡◌, ◌⊎◌, ◌&&◌, ◌-◌, ◌+◌, ◌/◌, ◌%◌, ◌^◌, ℕ, Bool, true, false, nat_le, nat_lt, if◌then◌else◌, List, [], ◌∷◌, ◌++◌, codes, decimal, length, Option, None, Some, option_and_then, slice_get}
 use Rattle.packed.specs.declared.code.FaultCode.{FaultCode}
 use Rattle.packed.specs.declared.code.FaultCode.TheVariants.{DosHeader, PeSignature, OptionalHeader, Pe32PlusSize, Magic, Directories, Sections, NoCliHeader, CliAddress, CliSize, MetadataAddress, RootSignature, Version, NoTables, TablesVersion, HeapSizes, UnknownTable, RowCount, NotSorted, BadRun, NoOwner, NestedOrder, EntryPoint}
 use Rattle.packed.specs.Number.{little_endian}
@@ -114,29 +111,51 @@ limit_of NestedOrder source at of = nested_limit source at
 limit_of NoOwner source at of = rows_limit source at.table
 limit_of rule source at of = kind_limit source (kind_of at) of
 
--- the number in a cell, and what the rule compares it with
-abbrev pub number_of_cell : FaultCode → Source → TableCell → ℕ → Option (Lead × List Part)
-number_of_cell rule source at offset =
-    option_map (λ of. (record { offset = offset; number = of; coded = coded_of (kind_of at) }, limit_of rule source at of)) (number_in source at)
+-- the line of a cell at an offset
+abbrev pub lines_of : FaultCode → Source → TableCell → ℕ → Option ℕ → List (List Part)
+lines_of rule source at offset None = offset_line offset ∷ []
+lines_of rule source at offset (Some of) = value_line offset of (coded_of (kind_of at)) (limit_of rule source at of) ∷ []
+
+abbrev pub cell_lines : FaultCode → Source → TableCell → ℕ → List (List Part)
+cell_lines rule source at offset = lines_of rule source at offset (number_in source at)
 
 -- ---- the number in a header
 
--- the rule is one of these
-abbrev pub is_of : FaultCode → List FaultCode → Bool
-is_of rule rules = list_any (λ of. number_of_code of == number_of_code rule) rules
-
--- the number of bytes at the offset of a fault that its rule is about; none if it is about a cell, or about more than one number
-abbrev pub field_size : FaultCode → Option ℕ
-field_size rule =
-    if is_of rule (HeapSizes ∷ []) then Some 1
-    else (if is_of rule (DosHeader ∷ OptionalHeader ∷ Pe32PlusSize ∷ Magic ∷ Sections ∷ NoTables ∷ TablesVersion ∷ []) then Some 2
-    else (if is_of rule (PeSignature ∷ Directories ∷ NoCliHeader ∷ CliAddress ∷ CliSize ∷ MetadataAddress ∷ RootSignature ∷ Version ∷ RowCount ∷ EntryPoint ∷ []) then Some 4
-    else (if is_of rule (UnknownTable ∷ []) then Some 8 else None)))
+-- the number of bytes at the offset of a fault that its rule is about; 0 if it is about a cell, or about more than one number
+abbrev pub field_size : FaultCode → ℕ
+field_size HeapSizes = 1
+field_size DosHeader = 2
+field_size OptionalHeader = 2
+field_size Pe32PlusSize = 2
+field_size Magic = 2
+field_size Sections = 2
+field_size NoTables = 2
+field_size TablesVersion = 2
+field_size PeSignature = 4
+field_size Directories = 4
+field_size NoCliHeader = 4
+field_size CliAddress = 4
+field_size CliSize = 4
+field_size MetadataAddress = 4
+field_size RootSignature = 4
+field_size Version = 4
+field_size RowCount = 4
+field_size EntryPoint = 4
+field_size UnknownTable = 8
+field_size _ = 0
 
 -- the number of this size at an offset, if the bytes have it
 abbrev pub lead_at : List ℕ → ℕ → ℕ → Option Coded → Option Lead
 lead_at bytes offset size coded =
     if nat_le (offset + size) (length bytes) then Some (record { offset = offset; number = little_endian (part bytes offset size); coded = coded }) else None
+
+-- its line, or that of the offset
+abbrev pub lines_at : ℕ → Option Lead → List (List Part)
+lines_at offset None = offset_line offset ∷ []
+lines_at offset (Some lead) = value_line lead.offset lead.number lead.coded [] ∷ []
+
+abbrev pub field_lines : FaultCode → List ℕ → ℕ → List (List Part)
+field_lines rule bytes offset = lines_at offset (lead_at bytes offset (field_size rule) None)
 
 -- ---- the line at a fault
 
@@ -146,30 +165,25 @@ cell_of _ = None
 
 -- the last of these structures
 abbrev pub last_of : List Region → Option Region
-last_of structures = slice_get structures (length structures - 1)
+last_of [] = None
+last_of (of ∷ []) = Some of
+last_of (of ∷ next ∷ later) = last_of (next ∷ later)
 
 -- the cell that it is
 abbrev pub innermost : List Region → Option TableCell
 innermost structures = option_and_then (λ of. cell_of of.what) (last_of structures)
 
--- the number in a cell; none if a rule before those for cells is broken
-abbrev pub IsOfCell : FaultCode → Input → List ℕ → ℕ → Option TableCell → Option (Lead × List Part) → Type 0
-IsOfCell rule input bytes offset None found = found ≡ None
-IsOfCell rule input bytes offset (Some at) found =
-    (AllHold (rules_before input bytes) × (found ≡ number_of_cell rule (source_in input bytes).source at offset)) ⊎ ((¬ AllHold (rules_before input bytes)) × (found ≡ None))
+-- the line of a cell, or that of its offset if a rule before those for cells is broken
+abbrev pub AreOfCell : FaultCode → Input → List ℕ → ℕ → Option TableCell → List (List Part) → Type 0
+AreOfCell rule input bytes offset None lines = lines ≡ offset_line offset ∷ []
+AreOfCell rule input bytes offset (Some at) lines =
+    (AllHold (rules_before input bytes) × (lines ≡ cell_lines rule (source_in input bytes).source at offset)) ⊎ ((¬ AllHold (rules_before input bytes)) × (lines ≡ offset_line offset ∷ []))
 
--- the number of a field of this size, or that in the innermost structure
-abbrev pub IsFound : Option ℕ → FaultCode → Input → List ℕ → ℕ → List Region → Option (Lead × List Part) → Type 0
-IsFound None rule input bytes offset structures found = IsOfCell rule input bytes offset (innermost structures) found
-IsFound (Some size) rule input bytes offset structures found = found ≡ option_map (λ lead. (lead, [])) (lead_at bytes offset size None)
-
--- the line of a number with what it is compared with, or that of the offset
-abbrev pub line_of : ℕ → Option (Lead × List Part) → List Part
-line_of offset None = offset_line offset
-line_of offset (Some of) = value_line of.0.offset of.0.number of.0.coded of.1
+abbrev pub AreOf : Bool → FaultCode → Input → List ℕ → ℕ → List Region → List (List Part) → Type 0
+AreOf true rule input bytes offset structures lines = lines ≡ field_lines rule bytes offset
+AreOf false rule input bytes offset structures lines = AreOfCell rule input bytes offset (innermost structures) lines
 
 -- The line of the offset of a fault of a rule, with the number there if the rule is about one. The structures are those that
 -- contain the byte at the offset, outermost first.
 abbrev pub AreFound : FaultCode → Input → List ℕ → ℕ → List Region → List (List Part) → Type 0
-AreFound rule input bytes offset structures lines =
-    (found : Option (Lead × List Part)) × IsFound (field_size rule) rule input bytes offset structures found × (lines ≡ line_of offset found ∷ [])
+AreFound rule input bytes offset structures lines = AreOf (nat_lt 0 (field_size rule)) rule input bytes offset structures lines

@@ -11,9 +11,6 @@ abbrev pub shown_limit : Option Limit → List Part
 shown_limit None = []
 shown_limit (Some of) = limit_parts of.before.now of.name (shown_value of.of) of.limit of.unit.now
 
-abbrev pub shown_found : Lead × Option Limit → Lead × List Part
-shown_found found = (found.0, shown_limit found.1)
-
 abbrev pub lead_text : Lead → List ℕ
 lead_text lead = value_text lead.offset lead.number lead.coded
 
@@ -23,4 +20,4 @@ lead_of bytes offset size coded = if size == 1 || size == 2 || size == 4 then le
 
 -- the sizes of numbers in headers
 abbrev pub IsFieldSize : ℕ → Type 0
-IsFieldSize size = (size ≡ 1) ⊎ ((size ≡ 2) ⊎ ((size ≡ 4) ⊎ (size ≡ 8)))
+IsFieldSize size = (size ≡ 0) ⊎ ((size ≡ 1) ⊎ ((size ≡ 2) ⊎ ((size ≡ 4) ⊎ (size ≡ 8))))

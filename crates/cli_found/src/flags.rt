@@ -2,7 +2,7 @@
 ghost use Rattle.std.specs.Prelude.{◌≡◌, string_bytes, OnOk, IfOk};
 ghost use Rattle.type_heads.specs.FlagWords.{shown_word};
 ghost use Rattle.cli_lines.specs.Printed.{Adds};
-ghost use Rattle.cli_found.specs.Flags.{flag_parts, flag_text, flags_at, text_parts, with_word};
+ghost use Rattle.cli_found.specs.Flags.{flag_parts, flag_text, flags_at, only_at, text_parts, with_word};
 
 use cli_lines::Part::Spaced;
 use cli_lines::Value::Plain;
@@ -12,33 +12,33 @@ use std::io::Write;
 use table_schema::TableId;
 use type_heads::{FlagTable, FlagWord, words_of};
 
-/// The columns of flags (II.22): the table, the number of the column, and the kind of the flags.
-const FLAG_COLUMNS: [(TableId, usize, FlagTable); 15] = [
-    (TableId::TypeDef, 0, FlagTable::Type),
-    (TableId::Field, 0, FlagTable::Field),
-    (TableId::MethodDef, 1, FlagTable::Implementation),
-    (TableId::MethodDef, 2, FlagTable::Method),
-    (TableId::Param, 0, FlagTable::Param),
-    (TableId::Event, 0, FlagTable::Mapped),
-    (TableId::Property, 0, FlagTable::Mapped),
-    (TableId::MethodSemantics, 0, FlagTable::Semantics),
-    (TableId::ImplMap, 0, FlagTable::Import),
-    (TableId::Assembly, 5, FlagTable::Assembly),
-    (TableId::AssemblyRef, 4, FlagTable::Assembly),
-    (TableId::File, 0, FlagTable::File),
-    (TableId::ExportedType, 0, FlagTable::Type),
-    (TableId::ManifestResource, 1, FlagTable::Resource),
-    (TableId::GenericParam, 1, FlagTable::Generic),
-];
+/// The kind of flags, if a column is that of the flags.
+fn only_at(its: usize, of: FlagTable, column: usize) -> Option<FlagTable>
+    ensures { result ≡ only_at its of column }
+{
+    if column == its { Some(of) } else { None }
+}
 
-/// The column of flags with this table and number, if the column has flags (II.22).
-pub(crate) fn flags_at(table: TableId, column: usize) -> Option<(TableId, usize, FlagTable)>
+/// The kind of the flags in a column of a table, if it has flags (II.22).
+pub(crate) fn flags_at(table: TableId, column: usize) -> Option<FlagTable>
     ensures { result ≡ flags_at table column }
 {
-    FLAG_COLUMNS
-        .iter()
-        .copied()
-        .find(|row| row.0.number() == table.number() && row.1 == column)
+    match table {
+        TableId::TypeDef | TableId::ExportedType => only_at(0, FlagTable::Type, column),
+        TableId::Field => only_at(0, FlagTable::Field, column),
+        TableId::MethodDef if column == 1 => Some(FlagTable::Implementation),
+        TableId::MethodDef => only_at(2, FlagTable::Method, column),
+        TableId::Param => only_at(0, FlagTable::Param, column),
+        TableId::Event | TableId::Property => only_at(0, FlagTable::Mapped, column),
+        TableId::MethodSemantics => only_at(0, FlagTable::Semantics, column),
+        TableId::ImplMap => only_at(0, FlagTable::Import, column),
+        TableId::Assembly => only_at(5, FlagTable::Assembly, column),
+        TableId::AssemblyRef => only_at(4, FlagTable::Assembly, column),
+        TableId::File => only_at(0, FlagTable::File, column),
+        TableId::ManifestResource => only_at(1, FlagTable::Resource, column),
+        TableId::GenericParam => only_at(1, FlagTable::Generic, column),
+        _ => None,
+    }
 }
 
 /// Appends a word, if the flags have its value; after a space if it is not the first one.

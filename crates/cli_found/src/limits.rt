@@ -1,7 +1,7 @@
 //! The numbers in cells, and what rules compare them with (II.22).
-ghost use Rattle.std.specs.Prelude.{◌≡◌, ◌-◌, ◌/◌, ◌%◌, ◌^◌, Option};
+ghost use Rattle.std.specs.Prelude.{◌≡◌, ◌&&◌, ◌-◌, ◌/◌, ◌%◌, ◌^◌, Option};
 ghost use Rattle.table_schema.specs.CodedIndexes.{tag_bits};
-ghost use Rattle.cli_found.specs.Found.{coded_of, earlier_limit, heap_limit, kind_limit, kind_of, limit_of, nested_limit, number_in, rows_limit};
+ghost use Rattle.cli_found.specs.Found.{coded_of, earlier_limit, heap_limit, is_cell, kind_limit, kind_of, limit_of, nested_limit, number_in, rows_limit};
 ghost use Rattle.cli_found.specs.Kept.{shown_limit};
 
 use cli_faults::FaultCode;
@@ -34,9 +34,10 @@ pub(crate) struct Limit<'a> {
 pub(crate) fn kind_of(cell: TableCell) -> ColumnKind
     ensures { result ≡ kind_of cell }
 {
-    columns(cell.table)
-        .get(cell.column)
-        .map_or(ColumnKind::U8, |column| column.kind)
+    match columns(cell.table).get(cell.column) {
+        Some(column) => column.kind,
+        None => ColumnKind::U8,
+    }
 }
 
 /// The coded index of a column of a kind, if it is one.
@@ -49,17 +50,22 @@ pub(crate) fn coded_of(kind: ColumnKind) -> Option<Coded>
     }
 }
 
+/// Whether the tables have a cell.
+fn is_cell(source: &Source<'_>, cell: TableCell) -> bool
+    ensures { result ≡ is_cell source.now.source cell }
+{
+    1 <= cell.row && cell.row <= source.count(cell.table) && cell.column < columns(cell.table).len()
+}
+
 /// The number in a cell, if the tables have it.
 pub(crate) fn number_in(source: &Source<'_>, cell: TableCell) -> Option<u32>
     ensures { result ≡ number_in source.now.source cell }
 {
-    if cell.row < 1
-        || cell.row > source.count(cell.table)
-        || cell.column >= columns(cell.table).len()
-    {
-        return None;
+    if is_cell(source, cell) {
+        Some(source.number(cell.table, cell.row, cell.column))
+    } else {
+        None
     }
-    Some(source.number(cell.table, cell.row, cell.column))
 }
 
 /// The size of a heap, in items of a unit.

@@ -1,13 +1,13 @@
 //! Prints the line of the offset of a fault.
-ghost use Rattle.std.specs.Prelude.{◌≡◌, ◌∷◌, ◌+◌, ◌≤◌, [], IfSome, length, List, map, Some};
+ghost use Rattle.std.specs.Prelude.{◌≡◌, ◌∷◌, ◌+◌, ◌≤◌, [], length, List, map, Some};
 ghost use Rattle.std.specs.Option.{option_map};
 ghost use Rattle.packed.specs.Number.{little_endian};
 ghost use Rattle.packed.specs.Offsets.{part};
 ghost use Rattle.cli_lines.specs.Lines.{Part as ThePart};
 ghost use Rattle.cli_lines.specs.Printed.{Prints};
 ghost use Rattle.cli_regions.specs.Kept.{seen, seen_what};
-ghost use Rattle.cli_found.specs.Found.{AreFound, IsFound, cell_of, field_size, last_of, lead_at, number_of_cell, offset_line, value_line};
-ghost use Rattle.cli_found.specs.Kept.{IsFieldSize, lead_of, lead_text, shown_found, shown_limit};
+ghost use Rattle.cli_found.specs.Found.{AreFound, AreOfCell, cell_lines, cell_of, field_lines, field_size, innermost, last_of, lead_at, offset_line, value_line};
+ghost use Rattle.cli_found.specs.Kept.{IsFieldSize, lead_of, lead_text, shown_limit};
 
 use crate::limits::{Limit, coded_of, kind_of, limit_of, number_in, row_of, tag_of};
 use cli_faults::FaultCode;
@@ -93,21 +93,36 @@ fn print_parts<'a, W: Write>(
     }
 }
 
-/// How many bytes at the offset of a fault are the number that its rule is about; `None` if the rule is about a cell, or about
-/// more than one number.
-fn field_size(rule: FaultCode) -> Option<usize>
+/// Prints the line of a number, with what its rule compares it with.
+fn print_line<W: Write>(
+    alloc: Global,
+    lead: Lead,
+    limit: Option<Limit<'static>>,
+    out: &mut Printer<'_, W>,
+)
+    ensures { Prints out.old out.new (value_line lead.offset lead.number lead.coded (shown_limit limit.entry) ∷ []) }
+{
+    match lead.to_string(alloc) {
+        Ok(text) => print_parts(&text, lead, limit, out),
+        Err(_) => out.fail(),
+    }
+}
+
+/// How many bytes at the offset of a fault are the number that its rule is about; 0 if the rule is about a cell, or about more
+/// than one number.
+fn field_size(rule: FaultCode) -> usize
     ensures size { result ≡ field_size rule }
-    ensures known { IfSome result IsFieldSize }
+    ensures known { IsFieldSize result }
 {
     match rule {
-        FaultCode::HeapSizes => Some(1),
+        FaultCode::HeapSizes => 1,
         FaultCode::DosHeader
         | FaultCode::OptionalHeader
         | FaultCode::Pe32PlusSize
         | FaultCode::Magic
         | FaultCode::Sections
         | FaultCode::NoTables
-        | FaultCode::TablesVersion => Some(2),
+        | FaultCode::TablesVersion => 2,
         FaultCode::PeSignature
         | FaultCode::Directories
         | FaultCode::NoCliHeader
@@ -117,9 +132,9 @@ fn field_size(rule: FaultCode) -> Option<usize>
         | FaultCode::RootSignature
         | FaultCode::Version
         | FaultCode::RowCount
-        | FaultCode::EntryPoint => Some(4),
-        FaultCode::UnknownTable => Some(8),
-        _ => None,
+        | FaultCode::EntryPoint => 4,
+        FaultCode::UnknownTable => 8,
+        _ => 0,
     }
 }
 
@@ -133,7 +148,8 @@ fn number_at(bytes: &[u8], offset: usize, size: usize) -> u64
         8 => u64_at(bytes, offset),
         4 => u64::from(u32_at(bytes, offset)),
         2 => u64::from(u16_at(bytes, offset)),
-        _ => u64::from(bytes[offset]),
+        1 => u64::from(bytes[offset]),
+        _ => 0,
     }
 }
 
@@ -145,9 +161,10 @@ fn lead_at(bytes: &[u8], offset: u64, size: usize, coded: Option<Coded>) -> Opti
     if offset.saturating_add(size as u64) > bytes.len() as u64 {
         return None;
     }
+    let number = number_at(bytes, offset as usize, size);
     Some(Lead {
         offset,
-        number: number_at(bytes, offset as usize, size),
+        number,
         coded,
     })
 }
@@ -159,6 +176,47 @@ pub(crate) fn number_of(bytes: &[u8], offset: u64, size: u64, coded: Option<Code
     match size {
         1 | 2 | 4 => lead_at(bytes, offset, size as usize, coded),
         _ => None,
+    }
+}
+
+/// Prints the line of a number in a header, or that of its offset if the bytes end before it.
+fn print_field<W: Write>(
+    alloc: Global,
+    rule: FaultCode,
+    bytes: &[u8],
+    offset: u64,
+    out: &mut Printer<'_, W>,
+)
+    ensures { Prints out.old out.new (field_lines rule bytes.now offset) }
+{
+    match lead_at(bytes, offset, field_size(rule), None) {
+        Some(lead) => print_line(alloc, lead, None, out),
+        None => print_offset(alloc, offset, out),
+    }
+}
+
+/// Prints the line of the number in a cell, or that of its offset if the tables do not have the cell.
+fn print_cell<W: Write>(
+    alloc: Global,
+    rule: FaultCode,
+    source: &Source<'_>,
+    cell: TableCell,
+    offset: u64,
+    out: &mut Printer<'_, W>,
+)
+    ensures { Prints out.old out.new (cell_lines rule source.now.source cell offset) }
+{
+    match number_in(source, cell) {
+        Some(number) => {
+            let lead = Lead {
+                offset,
+                number: u64::from(number),
+                coded: coded_of(kind_of(cell)),
+            };
+            let limit = limit_of(rule, source, cell, number);
+            print_line(alloc, lead, limit, out);
+        }
+        None => print_offset(alloc, offset, out),
     }
 }
 
@@ -176,45 +234,38 @@ fn cell_of(what: What<'_>) -> Option<TableCell>
 pub(crate) fn last_of<'a>(structures: &[Structure<'a>]) -> Option<Structure<'a>>
     ensures { option_map seen result ≡ last_of (map seen structures.now) }
 {
-    structures.last().copied()
+    match structures.split_last() {
+        Some((last, _)) => Some(*last),
+        None => None,
+    }
 }
 
-/// The number in a cell, and what a rule compares it with, if the tables have the cell.
-fn number_of_cell(
-    rule: FaultCode,
-    source: &Source<'_>,
-    cell: TableCell,
-    offset: u64,
-) -> Option<(Lead, Option<Limit<'static>>)>
-    ensures { option_map shown_found result ≡ number_of_cell rule source.now.source cell offset }
+/// The cell that is the innermost of these structures; `None` if that is no cell.
+fn innermost(structures: &[Structure<'_>]) -> Option<TableCell>
+    ensures { result ≡ innermost (map seen structures.now) }
 {
-    let number = number_in(source, cell)?;
-    let lead = Lead {
-        offset,
-        number: u64::from(number),
-        coded: coded_of(kind_of(cell)),
-    };
-    Some((lead, limit_of(rule, source, cell, number)))
+    cell_of(last_of(structures)?.what)
 }
 
-/// The number at the offset of a fault, and what its rule compares it with; `None` if there is none.
-fn number_at_fault(
+/// Prints the line of the number in the cell of a fault, or that of its offset if there is none.
+fn print_at_cell<W: Write>(
+    alloc: Global,
     rule: FaultCode,
     bytes: &[u8],
     input: Input,
     offset: u64,
-    structures: &[Structure<'_>],
-) -> Option<(Lead, Option<Limit<'static>>)>
-    ensures { IsFound (field_size rule) rule input bytes.now offset (map seen structures.now) (option_map shown_found result) }
+    found: Option<TableCell>,
+    out: &mut Printer<'_, W>,
+)
+    ensures { (lines : List (List ThePart)) × AreOfCell rule input bytes.now offset found lines × Prints out.old out.new lines }
 {
-    if let Some(size) = field_size(rule) {
-        return Some((lead_at(bytes, offset, size, None)?, None));
+    match found {
+        Some(cell) => match rows_of(bytes, input) {
+            Ok(source) => print_cell(alloc, rule, &source, cell, offset, out),
+            Err(_) => print_offset(alloc, offset, out),
+        },
+        None => print_offset(alloc, offset, out),
     }
-    let cell = cell_of(last_of(structures)?.what)?;
-    let Ok(source) = rows_of(bytes, input) else {
-        return None;
-    };
-    number_of_cell(rule, &source, cell, offset)
 }
 
 /// Prints the offset of a fault of this rule, the number there, and what the rule compares it with. `structures` are those
@@ -241,11 +292,11 @@ pub fn print_found<W: Write>(
 )
     ensures { (lines : List (List ThePart)) × AreFound rule input bytes.now offset (map seen structures.now) lines × Prints out.old out.new lines }
 {
-    match number_at_fault(rule, bytes, input, offset, structures) {
-        Some((lead, limit)) => match lead.to_string(alloc) {
-            Ok(text) => print_parts(&text, lead, limit, out),
-            Err(_) => out.fail(),
-        },
-        None => print_offset(alloc, offset, out),
+    let size = field_size(rule);
+    if size == 0 {
+        let cell = innermost(structures);
+        print_at_cell(alloc, rule, bytes, input, offset, cell, out);
+    } else {
+        print_field(alloc, rule, bytes, offset, out);
     }
 }

@@ -7,7 +7,7 @@ ghost use Rattle.cli_lines.specs.Printed.{Adds, Prints};
 ghost use Rattle.cli_regions.specs.Kept.{seen, seen_what};
 ghost use Rattle.opening.specs.Views.{row_count};
 ghost use Rattle.cli_found.specs.Columns.{column_number};
-ghost use Rattle.cli_found.specs.Values.{cell_lead, is_reference, lead_in, meaning_in, reference, refers, value_lines};
+ghost use Rattle.cli_found.specs.Values.{cell_lead, is_reference, lead_in, lines_of, meaning, meaning_in, reference, refers, value_lines};
 
 use crate::columns::column_number;
 use crate::flags::{flags_at, print_flags};
@@ -71,8 +71,27 @@ fn print_reference<W: Write>(
     );
 }
 
-/// Adds what the number that a structure is means, if it is a cell: the words of flags, or what it refers to.
+/// Adds what a number in a cell means: the words of flags, or what it refers to.
 fn print_meaning<W: Write>(
+    alloc: Global,
+    view: &View<'_>,
+    cell: TableCell,
+    number: u64,
+    out: &mut Printer<'_, W>,
+)
+    ensures { (model : Metadata) → IsModel view.now model → Adds out.old out.new (meaning model cell number) }
+{
+    match flags_at(cell.table, cell.column) {
+        Some(of) => {
+            let named = Name::Cell(cell.table, column_number(cell));
+            print_flags(alloc, named, of, number, out);
+        }
+        None => print_reference(alloc, view, cell, out),
+    }
+}
+
+/// Adds what the number that a structure is means, if it is a cell.
+fn print_what<W: Write>(
     alloc: Global,
     view: &View<'_>,
     what: What<'_>,
@@ -82,14 +101,9 @@ fn print_meaning<W: Write>(
     ensures { (model : Metadata) → IsModel view.now model → Adds out.old out.new (meaning_in model (seen_what what.entry) number) }
 {
     cli_lines::laws::parts_follow::<W>();
-    if let What::Cell(cell) = what {
-        match flags_at(cell.table, cell.column) {
-            Some((_, _, of)) => {
-                let named = Name::Cell(cell.table, column_number(cell));
-                print_flags(alloc, named, of, number, out);
-            }
-            None => print_reference(alloc, view, cell, out),
-        }
+    match what {
+        What::Cell(cell) => print_meaning(alloc, view, cell, number, out),
+        _ => {}
     }
 }
 
@@ -114,13 +128,42 @@ fn lead_in(bytes: &[u8], of: Structure<'_>) -> Option<Lead>
     }
 }
 
+/// Prints the line of the number that a structure is, if it is one.
+#[tactic(auto, unfolding(crate::specs::Found::value_line))]
+fn print_number<W: Write>(
+    alloc: Global,
+    bytes: &[u8],
+    view: &View<'_>,
+    of: Structure<'_>,
+    out: &mut Printer<'_, W>,
+)
+    ensures { (model : Metadata) → IsModel view.now model → Prints out.old out.new (lines_of model bytes.now (seen of.entry)) }
+{
+    cli_lines::laws::lines_follow::<W>();
+    cli_lines::laws::parts_follow::<W>();
+    match lead_in(bytes, of) {
+        Some(lead) => match lead.to_string(alloc) {
+            Ok(text) => {
+                out.begin(&[
+                    Member(Name::Offset, Number(lead.offset)),
+                    Word(&text),
+                    Member(Name::Value, Number(lead.number)),
+                ]);
+                print_what(alloc, view, of.what, lead.number, out);
+                out.end();
+            }
+            Err(_) => out.fail(),
+        },
+        None => {}
+    }
+}
+
 /// Prints the line of the number that the last structure is: the offset of its first byte in hexadecimal, and the number in
 /// decimal and in hexadecimal, or with its tag and row if it is a coded index (II.24.2.6). The words of flags follow (II.23.1),
 /// and if the number in a cell stands for something else, what `clim show` prints of it. A structure that is no cell and no
 /// field of at most four bytes has no line.
 ///
 /// In JSON it is `{"offset":674,"value":17,"TypeName":"A"}`.
-#[tactic(auto, unfolding(crate::specs::Found::value_line))]
 pub fn print_value<W: Write>(
     alloc: Global,
     bytes: &[u8],
@@ -131,23 +174,8 @@ pub fn print_value<W: Write>(
     ensures { (model : Metadata) → IsModel view.now model → Prints out.old out.new (value_lines model bytes.now (map seen structures.now)) }
 {
     cli_lines::laws::lines_follow::<W>();
-    cli_lines::laws::parts_follow::<W>();
-    let Some(of) = last_of(structures) else {
-        return;
-    };
-    let Some(lead) = lead_in(bytes, of) else {
-        return;
-    };
-    match lead.to_string(alloc) {
-        Ok(text) => {
-            out.begin(&[
-                Member(Name::Offset, Number(lead.offset)),
-                Word(&text),
-                Member(Name::Value, Number(lead.number)),
-            ]);
-            print_meaning(alloc, view, of.what, lead.number, out);
-            out.end();
-        }
-        Err(_) => out.fail(),
+    match last_of(structures) {
+        Some(last) => print_number(alloc, bytes, view, last, out),
+        None => {}
     }
 }

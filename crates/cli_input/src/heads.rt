@@ -18,7 +18,6 @@ use root::{Root, read_root};
 /// # Errors
 ///
 /// The fault of the first rule that fails.
-#[tactic(auto, unfolding(crate::specs::Heads::rules_of_heads))]
 pub fn heads_of(bytes: &[u8], input: Input) -> Result<(Option<CliHeader>, Root<'_>), Fault>
     ensures sound { IfOk result (λ heads. AreHeads input bytes.now heads.0 heads.1) }
     ensures one { IfOk result (λ heads. (header : Option Header) (root : RootRead) → AreHeads input bytes.now header root

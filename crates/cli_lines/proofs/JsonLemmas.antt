@@ -1,11 +1,11 @@
 -- The parts of a line of JSON, one after another.
-use Rattle.cli_lines.proofs.Prelude.{◌≡◌, ◌∙◌, ◌⊎◌, ℕ, true, false, List, [], ◌∷◌, ◌++◌, Option, None, Some, map, refl, ap, sym, append_assoc, codes, decimal, has_unpaired_surrogate, utf16_lossy_chars, ⊎_elim, array_json, items_json, plain_string, row_json, value_json, Value, number, hex, byte, text, token, reference, bytes, guid, signature, json_from, named_token, part_tokens, units_tokens, value_tokens, table_name, shown, shown_value, escaped_bytes, hexadecimal, token_text, upper_hexadecimal, Brace}
+use Rattle.cli_lines.proofs.Prelude.{◌≡◌, ◌≢◌, ◌∙◌, ◌⊎◌, ℕ, Bool, true, false, List, [], ◌∷◌, ◌++◌, None, Some, map, refl, ap, sym, append_assoc, codes, cond, decimal, Bor, has_unpaired_surrogate, utf16_lossy_chars, ⊎_elim, array_json, items_json, plain_string, row_json, value_json, Value, number, hex, byte, text, token, reference, bytes, guid, signature, json_from, named_from, named_token, part_tokens, units_tokens, value_tokens, table_name, shown, shown_value, escaped_bytes, hexadecimal, token_text, upper_hexadecimal, Line, Brace}
 use Rattle.std.specs.Str.{encode_utf8_all}
 use Rattle.json.specs.Print.{escape_byte, print_from, quoted as string_text}
 use Rattle.json.specs.Token as json
 use Rattle.table_schema.specs.declared.token.Token.{Token}
 use Rattle.cli_lines.specs.declared.parts.Part.{Part as KeptPart}
-use Rattle.cli_lines.specs.declared.parts.Part.TheVariants.{Field, Member, Spaced, RowNumber, RowToken}
+use Rattle.cli_lines.specs.declared.parts.Part.TheVariants.{Word, Field, Note, Member, Spaced, RowNumber, RowToken, Units}
 use Rattle.cli_lines.specs.declared.parts.Value.{Value as KeptValue}
 use Rattle.cli_lines.proofs.PlainLemmas.{Plain, bytes_are_plain, padded_is_plain, token_is_plain}
 use Rattle.cli_lines.specs.declared.line.Before.TheVariants as at
@@ -21,9 +21,9 @@ abbrev pub PrintAs : List json.Token → List ℕ → Type 0
 PrintAs tokens of = (more : List json.Token) → print_from false (tokens ++ more) ≡ of ++ print_from true more
 
 -- tokens after a name were appended
-pub tokens_pushed : (file : Option (List ℕ)) (tokens : List json.Token) (of line new : List ℕ) → PrintAs tokens of → new ≡ line ++ of
-    → (more : List json.Token) → new ++ json_from file at.Value more ≡ line ++ json_from file Brace (tokens ++ more)
-tokens_pushed file tokens of line new prints is more = rw (is, append_assoc tokens more (json.end_object ∷ []), prints (closed more)) (simp append_assoc)
+pub tokens_pushed : (tokens : List json.Token) (of line new : List ℕ) → PrintAs tokens of → new ≡ line ++ of
+    → (more : List json.Token) → new ++ json_from at.Value more ≡ line ++ json_from Brace (tokens ++ more)
+tokens_pushed tokens of line new prints is more = rw (is, append_assoc tokens more (json.end_object ∷ []), prints (closed more)) (simp append_assoc)
 
 -- the text of a value
 plain_is : (of : List ℕ) → Plain of → string_text of ≡ plain_string of
@@ -104,3 +104,17 @@ text_tokens units of paired is = rw (paired, is)
 
 pub unit_tokens : (units : List ℕ) → has_unpaired_surrogate units ≡ true → named_token name.Units ∷ array_tokens units ≡ units_tokens units
 unit_tokens units unpaired = rw unpaired
+
+-- ---- the first member of a line that begins with the name of a file
+
+first_of_either : (file : List ℕ) (test : Bool) (x y : json.Token) (xs ys more : List json.Token)
+    → json_from Line (named_token name.File ∷ json.string file ∷ (cond test (x ∷ xs) (y ∷ ys) ++ more)) ≡ named_from (Some file) Line (cond test (x ∷ xs) (y ∷ ys) ++ more)
+first_of_either file true x y xs ys more = refl
+first_of_either file false x y xs ys more = refl
+
+pub first_tokens : (file : List ℕ) (part : KeptPart) → ((of : Bor (List ℕ)) → part ≢ Word of) → ((value : KeptValue) → part ≢ Note value) → (more : List json.Token)
+    → json_from Line (named_token name.File ∷ json.string file ∷ (part_tokens (shown part) ++ more)) ≡ named_from (Some file) Line (part_tokens (shown part) ++ more)
+first_tokens file (Word of) word note more = absurd (word of refl)
+first_tokens file (Note value) word note more = absurd (note value refl)
+first_tokens file (Units of) word note more = first_of_either file (has_unpaired_surrogate of.now.units) _ _ _ _ more
+first_tokens file _ word note more = refl

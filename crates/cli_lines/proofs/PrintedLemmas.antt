@@ -1,6 +1,7 @@
 -- What a printer was asked to print.
-use Rattle.std.proofs.Common.{◌≡◌, ◌∙◌, ℕ, List, [], ◌∷◌, ◌++◌, Option, None, Some, refl, ap, sym, subst, append_assoc, append-nil}
-use Rattle.cli_lines.proofs.Prelude.{GName, flat_map-append, Before, Line, Part, Style, lead, line_from, line_text, style, styled_text, Adds, AwaitsOrFails, Begins, Completes, Ends, Printed, Prints, Same, SendsOrFails, prefix_longer, prefix_more, sends_more}
+use Rattle.std.proofs.Common.{◌≡◌, ◌∙◌, ℕ, true, false, List, [], ◌∷◌, ◌++◌, Option, None, Some, Result, Ok, Err, refl, ap, sym, subst, append_assoc, append-nil}
+use Rattle.cli_lines.proofs.Prelude.{IsErr, is_some, GName, flat_map-append, Before, Line, Part, Style, lead, line_from, line_text, style, styled_text, Adds, AwaitsOrFails, Begins, Completes, Ends, Moves, Printed, Prints, Same, SendsOrFails, waits, prefix_longer, prefix_more, sends_more}
+use Rattle.std.specs.declared.io.ErrorKind.{ErrorKind}
 use Rattle.cli_sending.specs.Sent.{Sends, SendsPrefix}
 
 report_of_line : (look : Style) (line : List Part) → styled_text look (line ∷ []) ≡ line_text look line
@@ -10,6 +11,11 @@ report_of_line look line = append-nil (line_text look line)
 report_joined : (look : Style) (xs ys : List (List Part)) → styled_text look (xs ++ ys) ≡ styled_text look xs ++ styled_text look ys
 unfolding styled_text
 report_joined look xs ys = flat_map-append (line_text look) xs ys
+
+-- what contracts see of a printer
+abbrev pub seen : {W : Type 0} → Style → GName → W → Option (List ℕ) → List ℕ → Option ErrorKind → Before → Printed W
+seen look borrow out contents waiting stopped at =
+    record { style = look; borrow = borrow; out = out; contents = contents; waiting = waits waiting stopped; at = at }
 
 pub then_same : {W : Type 0} (a b c : Printed W) → Same a b → Same b c → Same a c
 then_same a b c first second = record {
@@ -37,6 +43,11 @@ prints_more a b c xs ys first second = record {
 moved_on : (sent waiting left x y prefix whole : List ℕ) → prefix ≡ sent ++ waiting → left ++ x ≡ waiting ++ y → prefix ++ y ≡ whole → (sent ++ left) ++ x ≡ whole
 moved_on sent waiting left x y prefix whole prefix_is same is = rw (append_assoc sent left x, same, ← append_assoc sent waiting y, ← prefix_is) is
 
+-- nothing waits if printing failed
+pub none_waits : (waiting : List ℕ) (stopped : Option ErrorKind) → is_some stopped ≡ true → waits waiting stopped ≡ None
+none_waits waiting (Some kind) is = refl
+none_waits waiting None is = cc
+
 -- what was to be printed went out in part, or not at all
 asked_cut : (start contents unsent : Option (List ℕ)) (text more : List ℕ) → SendsOrFails start contents text unsent → SendsPrefix start contents (text ++ more)
 asked_cut start contents (Some waiting) text more sends = prefix_longer start contents text more (waiting, sends)
@@ -48,47 +59,53 @@ awaits_cut start contents (Some waiting) end whole more awaits =
     subst (λ (bytes : List ℕ). SendsPrefix start contents bytes) awaits.2 (prefix_longer start contents awaits.0 (end more) (waiting, awaits.1))
 awaits_cut start contents None end whole more cut = cut
 
--- what contracts see of a printer
-module _ {W : Type 0} (look : Style) (borrow : GName) where
-  abbrev pub seen : W → Option (List ℕ) → Before → Option (List ℕ) → Printed W
-  seen out contents at waiting = record { style = look; borrow = borrow; out = out; contents = contents; waiting = waiting; at = at }
+-- a printer that failed takes nothing, and one that fails takes any parts and lines
+module _ {W : Type 0} (look : Style) (borrow : GName) (out : W) (contents : Option (List ℕ)) (at : Before) (unsent : Option (List ℕ)) where
+  abbrev keeping : Option (List ℕ) → Printed W
+  keeping waiting = record { style = look; borrow = borrow; out = out; contents = contents; waiting = waiting; at = at }
 
-  -- a printer that failed takes nothing, and one that fails takes any parts and lines
-  module _ (out : W) (contents : Option (List ℕ)) (at : Before) (unsent : Option (List ℕ)) where
-    fails : Same (seen out contents at unsent) (seen out contents at None)
-    fails = record { style = refl; borrow = refl; stays = λ none. ap (seen out contents at) (sym none) }
+  fails : Same (keeping unsent) (keeping None)
+  fails = record { style = refl; borrow = refl; stays = λ none. ap keeping (sym none) }
 
-    pub begins_cut : (parts : List Part) → Begins (seen out contents at unsent) (seen out contents at None) parts
-    begins_cut parts = record { same = fails; awaits = λ start text more asked. asked_cut start contents unsent text (line_text look (parts ++ more)) asked }
+  pub begins_cut : (parts : List Part) → Begins (keeping unsent) (keeping None) parts
+  begins_cut parts = record { same = fails; awaits = λ start text more asked. asked_cut start contents unsent text (line_text look (parts ++ more)) asked }
 
-    pub adds_cut : (parts : List Part) → Adds (seen out contents at unsent) (seen out contents at None) parts
-    adds_cut parts = record { same = fails; awaits = λ start whole more awaits. awaits_cut start contents unsent (line_from look at) whole (parts ++ more) awaits }
+  pub adds_cut : (parts : List Part) → Adds (keeping unsent) (keeping None) parts
+  adds_cut parts = record { same = fails; awaits = λ start whole more awaits. awaits_cut start contents unsent (line_from look at) whole (parts ++ more) awaits }
 
-    pub ends_cut : Ends (seen out contents at unsent) (seen out contents at None)
-    ends_cut = record { same = fails; asked = λ start whole awaits. awaits_cut start contents unsent (line_from look at) whole [] awaits }
+  pub ends_cut : Ends (keeping unsent) (keeping None)
+  ends_cut = record { same = fails; asked = λ start whole awaits. awaits_cut start contents unsent (line_from look at) whole [] awaits }
 
-    pub prints_cut : (lines : List (List Part)) → Prints (seen out contents at unsent) (seen out contents at None) lines
-    prints_cut lines = record { same = fails; asked = λ start text asked. asked_cut start contents unsent text (styled_text look lines) asked }
+  pub prints_cut : (lines : List (List Part)) → Prints (keeping unsent) (keeping None) lines
+  prints_cut lines = record { same = fails; asked = λ start text asked. asked_cut start contents unsent text (styled_text look lines) asked }
+
+module _ {W : Type 0} (look : Style) (borrow : GName) (out : W) (contents : Option (List ℕ)) (waiting : List ℕ) (at : Before) where
+  abbrev before : Option ErrorKind → Printed W
+  before stopped = seen look borrow out contents waiting stopped at
+
+  changed : (later : W) (after left : Option (List ℕ)) (now : Before)
+      → Same (before None) (record { style = look; borrow = borrow; out = later; contents = after; waiting = left; at = now })
+  changed later after left now = record { style = refl; borrow = refl; stays = λ none. cc }
 
   -- a printer that goes on
-  module _ (out : W) (contents : Option (List ℕ)) (waiting : List ℕ) (at : Before) where
-    changed : (later : W) (after left : Option (List ℕ)) (now : Before) → Same (seen out contents at (Some waiting)) (seen later after now left)
-    changed later after left now = record { style = refl; borrow = refl; stays = λ none. cc }
+  pub started : (left : List ℕ) (stopped : Option ErrorKind) → is_some stopped ≡ false → left ≡ waiting ++ lead look.form look.file
+      → Begins (before stopped) (seen look borrow out contents left stopped Line) []
+  started left None is pushed = record {
+    same = changed out contents (Some left) Line;
+    awaits = λ start text more asked. (
+      asked.0 ++ left,
+      (asked.0, refl, asked.2),
+      moved_on asked.0 waiting left (line_from look Line more) (line_text look more) text _ asked.1
+          (ap (λ bytes. bytes ++ line_from look Line more) pushed ∙ append_assoc waiting (lead look.form look.file) (line_from look Line more)) refl,
+    );
+  }
+  started left (Some kind) is pushed = cc
 
-    pub started : (left : List ℕ) → left ≡ waiting ++ lead look.form look.file → Begins (seen out contents at (Some waiting)) (seen out contents Line (Some left)) []
-    started left pushed = record {
-      same = changed out contents (Some left) Line;
-      awaits = λ start text more asked. (
-        asked.0 ++ left,
-        (asked.0, refl, asked.2),
-        moved_on asked.0 waiting left (line_from look Line more) (line_text look more) text _ asked.1
-            (ap (λ bytes. bytes ++ line_from look Line more) pushed ∙ append_assoc waiting (lead look.form look.file) (line_from look Line more)) refl,
-      );
-    }
-
-    pub added : (left : List ℕ) (parts : List Part) (now : Before) → ((more : List Part) → left ++ line_from look now more ≡ waiting ++ line_from look at (parts ++ more))
-        → Adds (seen out contents at (Some waiting)) (seen out contents now (Some left)) parts
-    added left parts now pushed = record {
+  module _ (left : List ℕ) (parts : List Part) (now : Before) where
+    pub added : (stopped : Option ErrorKind) → is_some stopped ≡ false
+        → ((more : List Part) → left ++ line_from look now more ≡ waiting ++ line_from look at (parts ++ more))
+        → Adds (before stopped) (seen look borrow out contents left stopped now) parts
+    added None is pushed = record {
       same = changed out contents (Some left) now;
       awaits = λ start whole more awaits. (
         awaits.1.0 ++ left,
@@ -96,24 +113,28 @@ module _ {W : Type 0} (look : Style) (borrow : GName) where
         moved_on awaits.1.0 waiting left (line_from look now more) (line_from look at (parts ++ more)) awaits.0 whole awaits.1.1 (pushed more) awaits.2,
       );
     }
+    added (Some kind) is pushed = cc
 
-    pub ended : (later : W) (after : Option (List ℕ)) (left : List ℕ) → Sends contents after (waiting ++ line_from look at []) left
-        → Ends (seen out contents at (Some waiting)) (seen later after at (Some left))
-    ended later after left sends = record {
+  module _ (later : W) (after : Option (List ℕ)) (left : List ℕ) where
+    pub ended : (stopped : Option ErrorKind) → is_some stopped ≡ false → Sends contents after (waiting ++ line_from look at []) left
+        → Ends (before stopped) (seen look borrow later after left stopped at)
+    ended None is sends = record {
       same = changed later after (Some left) at;
       asked = λ start whole awaits.
           subst (λ (bytes : List ℕ). Sends start after bytes left) awaits.2
           (sends_more start contents after awaits.0 waiting (line_from look at []) left awaits.1 sends);
     }
+    ended (Some kind) is sends = cc
 
-    pub ended_cut : (later : W) (after : Option (List ℕ)) → SendsPrefix contents after (waiting ++ line_from look at [])
-        → Ends (seen out contents at (Some waiting)) (seen later after at None)
-    ended_cut later after cut = record {
+    pub ended_cut : (kind : ErrorKind) (stopped : Option ErrorKind) → is_some stopped ≡ false → SendsPrefix contents after (waiting ++ line_from look at [])
+        → Ends (before stopped) (seen look borrow later after left (Some kind) at)
+    ended_cut kind None is cut = record {
       same = changed later after None at;
       asked = λ start whole awaits.
           subst (λ (bytes : List ℕ). SendsPrefix start after bytes) awaits.2
           (prefix_more start contents after awaits.0 waiting (line_from look at []) awaits.1 cut);
     }
+    ended_cut kind (Some _) is cut = cc
 
 pub adds_nothing : {W : Type 0} (a : Printed W) → Adds a a []
 adds_nothing a = record { same = itself a; awaits = λ start whole more awaits. awaits }
@@ -149,3 +170,9 @@ completed old now next lines left all completes printed = λ later more. complet
 
 pub all_completed : {W : Type 0} (old new : Printed W) (all : List (List Part)) → Completes old new [] all → Prints old new all
 all_completed old new all completes = completes new (prints_nothing new)
+
+-- a prefix went out, and then it failed
+pub cut_moved : {T E : Type 0} (result : Result T E) (before after : Option (List ℕ)) (bytes left : List ℕ) → IsErr result → SendsPrefix before after bytes
+    → Moves before after result bytes left
+cut_moved (Ok done) before after bytes left is cut = cc
+cut_moved (Err error) before after bytes left is cut = cut

@@ -3,6 +3,7 @@ use Rattle.cli_lines.proofs.Prelude.{◌≡◌, ◌∙◌, ℕ, zero, suc, ◌+�
 use lib.Ieee.Fits.{and_l, and_r}
 use Rattle.std.specs.Prelude.{Result, Ok, Err, OnOk, is_ok}
 use Rattle.std.proofs.Math.Seq.{drop-append_seam, take-append_seam}
+use Rattle.cli_faults.specs.Escaped.{escaped_text, is_plain}
 use Rattle.cli_escapes.specs.Letters.{readable}
 use Rattle.cli_lines.specs.declared.texts.TheConstants.{PAIRS}
 
@@ -10,6 +11,9 @@ use Rattle.cli_lines.specs.declared.texts.TheConstants.{PAIRS}
 pub items_more : {X : Type 0} (f : X → List ℕ) (line : List ℕ) (xs : List X) (i : ℕ) (d : X) → i < length xs
     → (line ++ flat_map f (take i xs)) ++ f (get_or xs i d) ≡ line ++ flat_map f (take (i + 1) xs)
 items_more f line xs i d lt = flat_map_more f line (take i xs) (get_or xs i d) ∙ ap (λ ys. line ++ flat_map f ys) (sym (take_more xs i d lt))
+
+pub two_bytes : (line : List ℕ) (a b : ℕ) → (line ++ a ∷ []) ++ b ∷ [] ≡ line ++ a ∷ b ∷ []
+two_bytes line a b = append_assoc line (a ∷ []) (b ∷ [])
 
 -- the pairs of digits in order
 abbrev are_pairs : ℕ → Bool
@@ -29,6 +33,20 @@ pair_below (suc count) n are few =
 pub pair_at : (n : ℕ) → n < 256 → get_or PAIRS (n * 2) 0 ∷ get_or PAIRS (n * 2 + 1) 0 ∷ [] ≡ hexadecimal 2 n
 pair_at n small = let digits = pair_below 256 n tt small in (λ i. digits.0 i ∷ digits.1 i ∷ []) ∙ sym (hex_byte false n small)
 
+-- a pair, digit by digit
+pub pair_of : (digits : List ℕ) (n : ℕ) → n < 256 → digits ≡ hexadecimal 2 n → get_or digits 0 0 ∷ get_or digits 1 0 ∷ [] ≡ hexadecimal 2 n
+pair_of digits n small is = rw (is, hex_byte false n small)
+
+pub upper_more : (line : List ℕ) (n : ℕ) → n < 256
+    → (line ++ digit_glyph true (n / 16) ∷ []) ++ digit_glyph true (n % 16) ∷ [] ≡ line ++ upper_hexadecimal n
+upper_more line n small = rw (hex_byte true n small) (two_bytes line (digit_glyph true (n / 16)) (digit_glyph true (n % 16)))
+
+-- plain bytes are printed as they are
+pub plain_text : (text : List ℕ) → ((k : ℕ) → k < length text → IsTrue (is_plain (get_or text k 0))) → text ≡ escaped_text text
+plain_text [] plain = refl
+plain_text (byte ∷ bytes) plain =
+    rw (plain 0 (omega arith)) (ap (λ ys. byte ∷ ys) (plain_text bytes (λ k lt. plain (suc k) (omega arith))))
+
 -- a list that was appended, if it is that of another name
 pub appended : {T E : Type 0} (result : Result T E) (before after bytes text : List ℕ) → after ≡ (if is_ok result then before ++ bytes else before) → bytes ≡ text
     → OnOk result (after ≡ before ++ text)
@@ -38,6 +56,10 @@ appended (Err error) before after bytes text is same = tt
 pub on_ok : {T E P Q : Type 0} (result : Result T E) → OnOk result P → (P → Q) → OnOk result Q
 on_ok (Ok done) is f = f is
 on_ok (Err error) is f = tt
+
+-- two lists that were appended, one after the other
+pub two_pushed : (line a b : List ℕ) → {now new : List ℕ} → now ≡ line ++ a → new ≡ now ++ b → new ≡ line ++ (a ++ b)
+two_pushed line a b first second = rw (second, first) (append_assoc line a b)
 
 -- the parts of a line, one after another
 pub three_joined : (line a b c : List ℕ) → ((line ++ a) ++ b) ++ c ≡ line ++ (a ++ b ++ c)

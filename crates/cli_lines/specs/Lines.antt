@@ -96,11 +96,13 @@ abbrev pub part_text : Part → List ℕ
 part_text (word of) = of
 part_text (field _ value) = value_text value
 part_text (note value) = value_text value
+part_text (member _ _) = []
 part_text (spaced _ value) = codes " " ++ value_text value
 part_text (row_number of) = decimal of.row ++ codes ":"
 part_text (row_token of) = token_text of
 part_text (units of) = flat_map escaped_unit of
-part_text _ = []
+part_text (opens _) = []
+part_text closes = []
 
 -- the same with letters beyond ASCII as they are
 abbrev pub part_letters : Part → List ℕ
@@ -111,11 +113,15 @@ part_letters part = readable (part_text part)
 abbrev pub named_token : Name → json.Token
 named_token named = json.key (name_text named)
 
--- digits are a string of what they are in a line of text, and so is a plain text
 abbrev pub value_tokens : Value → List json.Token
 value_tokens (number n) = json.number (decimal n) ∷ []
+value_tokens (hex n) = json.string (hexadecimal 8 n) ∷ []
+value_tokens (byte n) = json.string (upper_hexadecimal n) ∷ []
 value_tokens (text of) = json.string of ∷ []
+value_tokens (plain of) = json.string of ∷ []
+value_tokens (token of) = json.string (token_text of) ∷ []
 value_tokens (reference None) = json.null ∷ []
+value_tokens (reference (Some of)) = json.string (token_text of) ∷ []
 value_tokens (quoted of) = json.string of ∷ []
 value_tokens (bytes of) = json.string (escaped_bytes of) ∷ []
 value_tokens (guid None) = json.null ∷ []
@@ -125,7 +131,6 @@ value_tokens (signature blob of) =
     json.begin_object ∷ named_token name.Blob ∷ json.string (escaped_bytes blob) ∷ named_token name.Text ∷ json.string of ∷ json.end_object ∷ []
 value_tokens yes = json.boolean true ∷ []
 value_tokens null = json.null ∷ []
-value_tokens digits = json.string (value_text digits) ∷ []
 
 -- units as a text, or as an array of numbers if a surrogate among them has no partner, because then they are not a text
 abbrev pub units_tokens : List ℕ → List json.Token
@@ -139,7 +144,9 @@ row_tokens of =
     ∷ named_token name.Token ∷ json.string (token_text of) ∷ []
 
 abbrev pub part_tokens : Part → List json.Token
+part_tokens (word of) = []
 part_tokens (field named value) = named_token named ∷ value_tokens value
+part_tokens (note value) = []
 part_tokens (member named value) = named_token named ∷ value_tokens value
 part_tokens (spaced named value) = named_token named ∷ value_tokens value
 part_tokens (row_number of) = row_tokens of
@@ -147,20 +154,19 @@ part_tokens (row_token of) = row_tokens of
 part_tokens (units of) = units_tokens of
 part_tokens (opens named) = named_token named ∷ json.begin_object ∷ []
 part_tokens closes = json.end_object ∷ []
-part_tokens _ = []
-
--- the member that a line begins with if it has the name of a file
-abbrev pub file_tokens : Option (List ℕ) → List json.Token
-file_tokens None = []
-file_tokens (Some file) = named_token name.File ∷ json.string file ∷ []
 
 -- The text of an object with these tokens, from where the printer is: all of it at the start of a line, and what follows an
--- opening brace or a value. At the start the name of the file comes first. A line without tokens is no line.
-abbrev pub json_from : Option (List ℕ) → Before → List json.Token → List ℕ
-json_from file before.Line [] = []
-json_from file before.Line (next ∷ tokens) = print (json.begin_object ∷ (file_tokens file ++ next ∷ (tokens ++ json.end_object ∷ []))) ++ line_feed
-json_from file before.Brace tokens = print (tokens ++ json.end_object ∷ []) ++ line_feed
-json_from file before.Value tokens = print_from true (tokens ++ json.end_object ∷ []) ++ line_feed
+-- opening brace or a value. A line without tokens is no line.
+abbrev pub json_from : Before → List json.Token → List ℕ
+json_from before.Line [] = []
+json_from before.Line (next ∷ tokens) = print (json.begin_object ∷ next ∷ (tokens ++ json.end_object ∷ [])) ++ line_feed
+json_from before.Brace tokens = print (tokens ++ json.end_object ∷ []) ++ line_feed
+json_from before.Value tokens = print_from true (tokens ++ json.end_object ∷ []) ++ line_feed
+
+-- the same of a line that begins with the name of a file, if there is one: the member `file` comes first
+abbrev pub named_from : Option (List ℕ) → Before → List json.Token → List ℕ
+named_from (Some file) before.Line (next ∷ tokens) = json_from before.Line (named_token name.File ∷ json.string file ∷ next ∷ tokens)
+named_from file at tokens = json_from at tokens
 
 -- ---- a line in a style
 
@@ -181,7 +187,7 @@ lead form file = []
 abbrev pub form_from : Form → Option (List ℕ) → Before → List Part → List ℕ
 form_from Text file at parts = flat_map part_text parts ++ line_feed
 form_from Letters file at parts = flat_map part_letters parts ++ line_feed
-form_from JsonLines file at parts = json_from file at (flat_map part_tokens parts)
+form_from JsonLines file at parts = named_from file at (flat_map part_tokens parts)
 
 -- these parts, and the end of the line, from where the printer is
 unfoldable pub line_from : Style → Before → List Part → List ℕ

@@ -1,6 +1,7 @@
 //! Appends texts of JSON to a line.
-ghost use Rattle.std.specs.Prelude.{◌≡◌, ◌++◌, IsTrue, OnOk};
-ghost use Rattle.json.specs.Print.{escape, escape_byte, quoted};
+ghost use Rattle.std.specs.Prelude.{◌≡◌, ◌++◌, ◌∷◌, ◌<◌, [], IsTrue, IfSome, OnOk, Some, EachIndex, slice_index, unwrap_or};
+ghost use Rattle.std.specs.Char.{digit_char};
+ghost use Rattle.json.specs.Print.{escape, escape_byte, escape_letter, quoted};
 ghost use Rattle.json.specs.Run.{is_plain};
 ghost use Rattle.cli_lines.specs.Lines as shown;
 ghost use Rattle.cli_lines.specs.Lines.{value_text};
@@ -10,6 +11,7 @@ ghost use Rattle.cli_lines.specs.Shown.{shown_value};
 use crate::line::push_text_value;
 use crate::parts::Value;
 use crate::texts::{push_between, push_hexadecimal};
+use heap_entries::guid_text;
 use std::alloc::{AllocError, Global};
 
 /// Whether a byte stands for itself in a string (RFC 8259, section 7): it is no quote, backslash or control character.
@@ -20,9 +22,8 @@ fn is_plain(byte: u8) -> bool
 }
 
 /// Whether all bytes stand for themselves. It reads all of them, many at a time.
-#[tactic(auto, using(std::proofs::lemmas::Grind::common_steps, json::proofs::Printed::Strings::escape_byte_plain))]
 fn are_plain(text: &[u8]) -> bool
-    ensures { IsTrue result → escape text.now ≡ text.now }
+    ensures { IsTrue result → EachIndex text.now (λ k. IsTrue (is_plain (slice_index text.now k))) }
 {
     let mut all = true;
     for byte in text {
@@ -31,23 +32,33 @@ fn are_plain(text: &[u8]) -> bool
     all
 }
 
+/// The letter after the backslash in the short escape of a byte, if it has one.
+fn letter_of(byte: u8) -> Option<u8>
+    ensures letter { unwrap_or result 0 ≡ escape_letter byte }
+    ensures some { IfSome result (λ letter. 0 < letter) }
+{
+    match byte {
+        b'"' | b'\\' => Some(byte),
+        0x08 => Some(b'b'),
+        0x0C => Some(b'f'),
+        b'\n' => Some(b'n'),
+        b'\r' => Some(b'r'),
+        b'\t' => Some(b't'),
+        _ => None,
+    }
+}
+
 /// Appends a byte of a string, escaped if needed.
-#[tactic(auto, using(std::proofs::lemmas::Grind::common_steps, crate::proofs::PlainLemmas::long_escape, json::proofs::Printed::Strings::escape_byte_plain), unfolding(json::specs::Print::escape_byte))]
 fn push_byte(byte: u8, line: &mut Vec<u8>) -> Result<(), AllocError>
     ensures { OnOk result (line.new.items ≡ line.old.items ++ escape_byte byte) }
 {
-    match byte {
-        b'"' | b'\\' => line.extend_from_slice(&[b'\\', byte]),
-        0x08 => line.extend_from_slice(b"\\b"),
-        0x0C => line.extend_from_slice(b"\\f"),
-        b'\n' => line.extend_from_slice(b"\\n"),
-        b'\r' => line.extend_from_slice(b"\\r"),
-        b'\t' => line.extend_from_slice(b"\\t"),
-        0..0x20 => {
+    match letter_of(byte) {
+        Some(letter) => line.extend_from_slice(&[b'\\', letter]),
+        None if byte < 0x20 => {
             line.extend_from_slice(b"\\u00")?;
             push_hexadecimal(&[byte], line)
         }
-        _ => Ok(line.push(byte)?),
+        None => Ok(line.push(byte)?),
     }
 }
 
@@ -85,6 +96,18 @@ pub(crate) fn push_digit_string(
     line.push(b'"')?;
     push_text_value(alloc, value, line)?;
     Ok(line.push(b'"')?)
+}
+
+/// Appends a GUID as a string.
+pub(crate) fn push_guid_string(
+    alloc: Global,
+    guid: [u8; 16],
+    line: &mut Vec<u8>,
+) -> Result<(), AllocError>
+    ensures { OnOk result (line.new.items ≡ line.old.items ++ value_json (shown.guid (Some guid))) }
+{
+    let text = guid_text(alloc, &guid)?;
+    push_string(text.as_bytes(), line)
 }
 
 /// Appends an object of the bytes and the text of a signature.

@@ -3,8 +3,7 @@ ghost use Rattle.std.specs.Prelude.{◌≡◌, ◌++◌, List, IfOk, OnOk};
 ghost use Rattle.json.specs.Token as json;
 ghost use Rattle.cli_lines.specs.declared.line.Before.TheVariants as here;
 ghost use Rattle.cli_lines.specs.Lines.{json_from, units_tokens};
-ghost use Rattle.cli_lines.specs.JsonTexts.{array_json};
-ghost use Rattle.cli_lines.specs.Shown.{shown_file};
+ghost use Rattle.cli_lines.specs.JsonTexts.{array_json, items_json};
 
 use crate::json_line::{push_member, push_name};
 use crate::line::Before;
@@ -21,6 +20,17 @@ fn collect(alloc: Global, units: Units<'_>) -> Result<Vec<u16>, AllocError>
     units.collect(alloc)
 }
 
+/// Appends each number after a comma, and the closing bracket.
+fn push_later_items(units: &[u16], line: &mut Vec<u8>) -> Result<(), AllocError>
+    ensures { OnOk result (line.new.items ≡ line.old.items ++ items_json units.now) }
+{
+    for unit in units {
+        line.push(b',')?;
+        push_decimal(*unit as u64, line)?;
+    }
+    Ok(line.push(b']')?)
+}
+
 /// Appends units as an array of numbers.
 fn push_array(units: &[u16], line: &mut Vec<u8>) -> Result<(), AllocError>
     ensures { OnOk result (line.new.items ≡ line.old.items ++ array_json units.now) }
@@ -29,11 +39,7 @@ fn push_array(units: &[u16], line: &mut Vec<u8>) -> Result<(), AllocError>
         Some((first, later)) => {
             line.push(b'[')?;
             push_decimal(*first as u64, line)?;
-            for unit in later {
-                line.push(b',')?;
-                push_decimal(*unit as u64, line)?;
-            }
-            Ok(line.push(b']')?)
+            push_later_items(later, line)
         }
         None => line.extend_from_slice(b"[]"),
     }
@@ -42,19 +48,17 @@ fn push_array(units: &[u16], line: &mut Vec<u8>) -> Result<(), AllocError>
 /// Appends the member of units: a text, or an array if a surrogate among them has no partner.
 pub(crate) fn push_units_member(
     alloc: Global,
-    file: Option<&str>,
     at: Before,
     units: Units<'_>,
     line: &mut Vec<u8>,
 ) -> Result<(), AllocError>
-    ensures { OnOk result ((more : List json.Token) → line.new.items ++ json_from (shown_file file.entry) here.Value more
-        ≡ line.old.items ++ json_from (shown_file file.entry) at (units_tokens units.entry ++ more)) }
+    ensures { OnOk result ((more : List json.Token) → line.new.items ++ json_from here.Value more ≡ line.old.items ++ json_from at (units_tokens units.entry ++ more)) }
 {
     let units = collect(alloc, units)?;
     match String::from_utf16(alloc, &units)? {
-        Ok(text) => push_member(alloc, file, at, Name::Text, &Value::Text(&text), line),
+        Ok(text) => push_member(alloc, at, Name::Text, &Value::Text(&text), line),
         Err(_) => {
-            push_name(file, at, Name::Units, line)?;
+            push_name(at, Name::Units, line)?;
             push_array(&units, line)
         }
     }

@@ -3,14 +3,13 @@ ghost use Rattle.std.specs.Prelude.{◌≡◌, ◌++◌, ◌∷◌, [], ℕ, Lis
 ghost use Rattle.cli_lines.specs.Lines.{Part as ThePart, lead, line_from, part_letters, part_text, style, value_text};
 ghost use Rattle.cli_lines.specs.Shown.{shown, shown_file, shown_value};
 
-use crate::json_line::push_json_part;
+use crate::json_line::{push_json_end, push_named_part};
 use crate::parts::{Form, Part, Value};
 use crate::texts::{
-    push_between, push_byte_digits, push_decimal, push_escaped, push_plain, push_token, push_units,
-    push_word,
+    push_between, push_byte_digits, push_decimal, push_escaped, push_guid, push_plain, push_quoted,
+    push_start, push_token, push_units, push_word,
 };
 use cli_escapes::show_letters;
-use heap_entries::guid_text;
 use std::alloc::{AllocError, Global};
 
 /// Where a printer is in its line of JSON.
@@ -40,22 +39,10 @@ pub(crate) fn push_text_value(
         Value::Text(text) => push_escaped(text.as_bytes(), line),
         Value::Plain(text) => push_plain(text, line),
         Value::Token(token) | Value::Reference(Some(token)) => push_token(alloc, *token, line),
-        Value::Quoted(text) => {
-            line.push(b'"')?;
-            push_escaped(text.as_bytes(), line)?;
-            Ok(line.push(b'"')?)
-        }
+        Value::Quoted(text) => push_quoted(text, line),
         Value::Bytes(bytes) | Value::Signature(bytes, _) => push_between(b'<', bytes, b'>', line),
-        Value::Guid(Some(guid)) => {
-            let text = guid_text(alloc, guid)?;
-            line.push(b'{')?;
-            line.extend_from_slice(text.as_bytes())?;
-            Ok(line.push(b'}')?)
-        }
-        Value::Start(start) => {
-            line.push(b'+')?;
-            push_decimal(*start, line)
-        }
+        Value::Guid(Some(guid)) => push_guid(alloc, guid, line),
+        Value::Start(start) => push_start(*start, line),
         Value::Yes => push_plain("true", line),
         Value::Reference(None) | Value::Guid(None) | Value::Null => push_plain("null", line),
     }
@@ -84,7 +71,6 @@ fn push_text_part(alloc: Global, part: &Part<'_>, line: &mut Vec<u8>) -> Result<
 }
 
 /// Appends a part of a line of text, with letters beyond ASCII as they are.
-#[tactic(auto, using(crate::proofs::TextLemmas::letters_shown))]
 #[inline(never)]
 fn push_letters_part(alloc: Global, part: &Part<'_>, line: &mut Vec<u8>) -> Result<(), AllocError>
     ensures { OnOk result (line.new.items ≡ line.old.items ++ part_letters (shown part.now)) }
@@ -116,7 +102,7 @@ pub(crate) fn push_part(
             push_letters_part(alloc, part, line)?;
             Ok(at)
         }
-        Form::JsonLines => push_json_part(alloc, file, at, part, line),
+        Form::JsonLines => push_named_part(alloc, file, at, part, line),
     }
 }
 
@@ -142,14 +128,13 @@ pub(crate) fn push_lead(
     }
 }
 
-/// Appends the end of a line. In JSON a line without members is no line.
-#[tactic(auto, unfolding(crate::specs::Lines::line_from, json::specs::Print::print_from))]
+/// Appends the end of a line.
+#[tactic(auto, unfolding(crate::specs::Lines::line_from))]
 pub(crate) fn push_end(form: Form, at: Before, line: &mut Vec<u8>) -> Result<(), AllocError>
     ensures { OnOk result ((file : Option (List ℕ)) → line.new.items ≡ line.old.items ++ line_from (style form file) at []) }
 {
-    match (form, at) {
-        (Form::Text | Form::Letters, _) => Ok(line.push(b'\n')?),
-        (Form::JsonLines, Before::Line) => Ok(()),
-        (Form::JsonLines, Before::Brace | Before::Value) => line.extend_from_slice(b"}\n"),
+    match form {
+        Form::Text | Form::Letters => Ok(line.push(b'\n')?),
+        Form::JsonLines => push_json_end(at, line),
     }
 }

@@ -87,8 +87,8 @@ macro_rules! key_of {
 /// What the members of a row begin with: its table with the key of its number, and the key of each cell; and the label of
 /// each cell in a line of text.
 #[derive(Clone, Copy)]
-pub(crate) struct Keys {
-    pub(crate) row: &'static str,
+struct Keys {
+    row: &'static str,
     cells: &'static [&'static str],
     labels: &'static [&'static str],
 }
@@ -150,10 +150,18 @@ pub fn cell_label(table: TableId, index: usize) -> &'static str
     }
 }
 
+/// The name of a table as a string, with the key of a row's number.
+#[inline]
+pub(crate) fn row_start(table: TableId) -> &'static str
+    ensures { result.now ≡ row_start table }
+{
+    keys_of(table).row
+}
+
 /// The keys of the rows of a table.
 #[tactic(auto, unfolding(json::specs::Print::escape_byte, table_schema::specs::CellColumns::cell_columns))]
 #[inline(always)]
-pub(crate) fn keys_of(table: TableId) -> Keys
+fn keys_of(table: TableId) -> Keys
     ensures row { result.row.now ≡ row_start table }
     ensures cells { map (λ text. text.now) result.cells.now ≡ map key_text (cell_names table) }
     ensures labels { map (λ text. text.now) result.labels.now ≡ map label_text (cell_names table) }

@@ -85,7 +85,6 @@ impl<'o, W: Write> Printer<'o, W> {
     }
 
     /// Begins a line with these parts.
-    #[tactic(auto, using(crate::proofs::PrintedLemmas::begins_more))]
     pub fn begin(&mut self, parts: &[Part<'_>])
         ensures { Begins self.old self.new (map shown parts.now) }
     {
@@ -98,17 +97,17 @@ impl<'o, W: Write> Printer<'o, W> {
     fn start(&mut self)
         ensures { Begins self.old self.new [] }
     {
-        match self.stopped {
-            Some(_) => {}
-            None => match push_lead(self.alloc, self.form, self.file, &mut self.waiting) {
-                Ok(()) => self.at = Before::Line,
-                Err(_) => self.stopped = Some(ErrorKind::OutOfMemory),
-            },
+        if self.stopped.is_some() {
+            return;
+        }
+        match push_lead(self.alloc, self.form, self.file, &mut self.waiting) {
+            Ok(()) => self.at = Before::Line,
+            Err(_) => self.stopped = Some(ErrorKind::OutOfMemory),
         }
     }
 
     /// Adds parts to the line that was begun.
-    pub fn parts(&mut self, parts: &[Part<'_>])
+    fn parts(&mut self, parts: &[Part<'_>])
         ensures { Adds self.old self.new (map shown parts.now) }
     {
         for part in parts {
@@ -121,19 +120,19 @@ impl<'o, W: Write> Printer<'o, W> {
     pub fn part(&mut self, part: &Part<'_>)
         ensures { Adds self.old self.new (shown part.now ∷ []) }
     {
-        match self.stopped {
-            Some(_) => {}
-            None => match push_part(
-                self.alloc,
-                self.form,
-                self.file,
-                self.at,
-                part,
-                &mut self.waiting,
-            ) {
-                Ok(at) => self.at = at,
-                Err(_) => self.stopped = Some(ErrorKind::OutOfMemory),
-            },
+        if self.stopped.is_some() {
+            return;
+        }
+        match push_part(
+            self.alloc,
+            self.form,
+            self.file,
+            self.at,
+            part,
+            &mut self.waiting,
+        ) {
+            Ok(at) => self.at = at,
+            Err(_) => self.stopped = Some(ErrorKind::OutOfMemory),
         }
     }
 
@@ -141,12 +140,11 @@ impl<'o, W: Write> Printer<'o, W> {
     pub fn end(&mut self)
         ensures { Ends self.old self.new }
     {
-        match self.stopped {
-            Some(_) => {}
-            None => match end_line(self.form, self.at, &mut self.waiting, self.out) {
-                Ok(()) => {}
-                Err(error) => self.stopped = Some(error.kind()),
-            },
+        if self.stopped.is_some() {
+            return;
+        }
+        if let Err(error) = end_line(self.form, self.at, &mut self.waiting, self.out) {
+            self.stopped = Some(error.kind());
         }
     }
 
@@ -156,10 +154,10 @@ impl<'o, W: Write> Printer<'o, W> {
         ensures lines { (lines : List (List ThePart)) → Prints self.old self.new lines }
         ensures stopped { self.new.waiting ≡ None }
     {
-        match self.stopped {
-            Some(_) => {}
-            None => self.stopped = Some(ErrorKind::OutOfMemory),
+        if self.stopped.is_some() {
+            return;
         }
+        self.stopped = Some(ErrorKind::OutOfMemory);
     }
 
     /// Sends what waits, and flushes the writer. Returns the writer and the first failure: out of memory, or that the

@@ -1,3 +1,4 @@
+pub mod Finding
 pub mod NumbersRead
 pub mod Prelude
 pub mod TypeNames

@@ -1,5 +1,5 @@
 -- The arguments that name a fault or a table.
-use Rattle.std.specs.Prelude.{◌≡◌, ◌≢◌, ◌==◌, ℕ, ◌⊎◌, if◌then◌else◌, List, [], ◌∷◌, ◌++◌, Option, None, Some, find, length}
+use Rattle.std.specs.Prelude.{◌≡◌, ◌≢◌, ℕ, ◌⊎◌, List, [], ◌∷◌, ◌++◌, Option, None, Some, find}
 use Rattle.std.specs.List.{All}
 use Rattle.std.specs.Str.{str_eq_ignore_ascii_case}
 use Rattle.std.specs.Str.Parse.{digits_value}
@@ -12,7 +12,8 @@ use Rattle.cli_names.specs.Numbers.{IsCodeNumber, IsTableNumber}
 
 -- the rule with this name, in any case; some rules have none
 abbrev pub code_named : List ℕ → Option FaultCode
-code_named name = if length name == 0 then None else find (λ code. str_eq_ignore_ascii_case (name_of (number_of_code code)) name) codes_in_order
+code_named [] = None
+code_named name = find (λ code. str_eq_ignore_ascii_case (name_of (number_of_code code)) name) codes_in_order
 
 -- the argument is the number of a rule in three decimal digits, or else its name
 abbrev pub NamesCode : List ℕ → FaultCode → Type 0

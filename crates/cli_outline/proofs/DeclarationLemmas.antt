@@ -29,7 +29,7 @@ word_len text =
 -- ---- the line in each form
 
 -- a line of text has no members
-pub same_text : (form : Form) (file : Option (List ℕ)) (tokens : Tokens) (of : Token) (class : Option Token) (directive : Bool) (declared : List ℕ) → (form ≡ JsonLines → ⊥)
+same_text : (form : Form) (file : Option (List ℕ)) (tokens : Tokens) (of : Token) (class : Option Token) (directive : Bool) (declared : List ℕ) → (form ≡ JsonLines → ⊥)
     → styled_text (style form file) (text_line tokens of declared ∷ []) ≡ styled_text (style form file) (declaration_line tokens of class directive declared ∷ [])
 unfolding declaration_line styled_text line_from readable_after
 same_text Text file tokens of None true declared is = refl
@@ -43,7 +43,7 @@ same_text Letters file tokens of (Some class) false declared is = refl
 same_text JsonLines file tokens of class directive declared is = absurd (is refl)
 
 -- a line of JSON has nothing else
-pub same_json : (file : Option (List ℕ)) (tokens : Tokens) (of : Token) (class : Option Token) (directive : Bool) (declared : List ℕ)
+same_json : (file : Option (List ℕ)) (tokens : Tokens) (of : Token) (class : Option Token) (directive : Bool) (declared : List ℕ)
     → styled_text (style JsonLines file) (json_line of class directive (unindented declared) (as_is (unindented declared)) ∷ [])
     ≡ styled_text (style JsonLines file) (declaration_line tokens of class directive declared ∷ [])
 unfolding declaration_line styled_text line_from
@@ -51,10 +51,21 @@ same_json file Shown of class directive declared = refl
 same_json file Hidden of class directive declared = refl
 
 -- a line is printed if one with the same text is
-pub line_printed : {W : Type 0} (a b : Printed W) (line other : List Part) (form : Form) → a.style.form ≡ form
-    → styled_text (style form a.style.file) (other ∷ []) ≡ styled_text (style form a.style.file) (line ∷ []) → Prints a b (other ∷ []) → Prints a b (line ∷ [])
-line_printed a b line other form is same printed = record {
+line_printed : {W : Type 0} (a b : Printed W) (line other : List Part) → styled_text a.style (other ∷ []) ≡ styled_text a.style (line ∷ []) → Prints a b (other ∷ []) → Prints a b (line ∷ [])
+line_printed a b line other same printed = record {
   same = printed.same;
-  asked = λ start text asked. subst (λ (t : List ℕ). Asked start b (text ++ t))
-      (subst (λ (f : Form). styled_text (style f a.style.file) (other ∷ []) ≡ styled_text (style f a.style.file) (line ∷ [])) (sym is) same) (printed.asked start text asked);
+  asked = λ start text asked. subst (λ (t : List ℕ). Asked start b (text ++ t)) same (printed.asked start text asked);
 }
+
+pub text_printed : {W : Type 0} (a b : Printed W) (tokens : Tokens) (of : Token) (class : Option Token) (directive : Bool) (declared : List ℕ)
+    → (a.style.form ≡ JsonLines → ⊥) → Prints a b (text_line tokens of declared ∷ []) → Prints a b (declaration_line tokens of class directive declared ∷ [])
+text_printed a b tokens of class directive declared is printed =
+    line_printed a b (declaration_line tokens of class directive declared) (text_line tokens of declared) (same_text a.style.form a.style.file tokens of class directive declared is) printed
+
+pub json_printed : {W : Type 0} (a b : Printed W) (tokens : Tokens) (of : Token) (class : Option Token) (directive : Bool) (declared named : List ℕ) → named ≡ as_is (unindented declared)
+    → a.style.form ≡ JsonLines → Prints a b (json_line of class directive (unindented declared) named ∷ []) → Prints a b (declaration_line tokens of class directive declared ∷ [])
+json_printed a b tokens of class directive declared named read is printed =
+    line_printed a b (declaration_line tokens of class directive declared) (json_line of class directive (unindented declared) (as_is (unindented declared)))
+    (subst (λ (form : Form). styled_text (style form a.style.file) (json_line of class directive (unindented declared) (as_is (unindented declared)) ∷ [])
+    ≡ styled_text (style form a.style.file) (declaration_line tokens of class directive declared ∷ [])) (sym is) (same_json a.style.file tokens of class directive declared))
+    (subst (λ (text : List ℕ). Prints a b (json_line of class directive (unindented declared) text ∷ [])) read printed)

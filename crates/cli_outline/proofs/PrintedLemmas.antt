@@ -1,5 +1,5 @@
 -- The lines of rows, one after another.
-use Rattle.cli_outline.proofs.Prelude.{◌≡◌, Bool, true, false, cond, ℕ, suc, ◌+◌, ◌-◌, ◌<◌, ◌≤◌, List, [], ◌∷◌, ◌++◌, Option, None, Some, refl, ap, sym, subst, append_assoc, append-nil, arith, IsSome, filter-append, flat_map, range_with_len, Token, Metadata, Part, OutlineOptions, each_from, row_at, AreLines, IsLine, PrintsRows, is_shown, shown_rows}
+use Rattle.cli_outline.proofs.Prelude.{◌≡◌, Bool, true, false, cond, ℕ, suc, ◌+◌, ◌-◌, ◌<◌, ◌≤◌, List, [], ◌∷◌, ◌++◌, Option, None, Some, refl, ap, sym, subst, append_assoc, append-nil, arith, IsSome, filter-append, flat_map, range_with_len, Token, Metadata, Part, OutlineOptions, each_from, AreLines, IsLine, PrintsRows, is_shown, shown_rows}
 use Rattle.cli_lines.specs.Printed.{Printed, Prints}
 
 lines_append : (options : OutlineOptions) (model : Metadata) (xs ys : List Token) (a b : List (List Part)) → AreLines options model xs a → AreLines options model ys b → AreLines options model (xs ++ ys) (a ++ b)
@@ -78,14 +78,14 @@ module _ {W : Type 0} (options : OutlineOptions) (model : Metadata) where
     rows_more = after_either b.waiting refl
 
 -- what there is for the first number, and for the others
-pub each_more : (rows : ℕ → List Token) (order : List ℕ) (number past : ℕ) → number < past → each_from rows order number past ≡ rows (row_at order number) ++ each_from rows order (number + 1) past
+pub each_more : (rows : ℕ → List Token) (number past : ℕ) → number < past → each_from rows number past ≡ rows number ++ each_from rows (number + 1) past
 unfolding each_from
-each_more rows order number past lt =
+each_more rows number past lt =
     let one : past - number ≡ suc (past - (number + 1)) = omega (arith, lt) in
-    ap (λ n. flat_map (λ position. rows (row_at order position)) (range_with_len number n)) one
+    ap (λ n. flat_map rows (range_with_len number n)) one
 
-pub each_none : (rows : ℕ → List Token) (order : List ℕ) (number past : ℕ) → past ≤ number → each_from rows order number past ≡ []
+pub each_none : (rows : ℕ → List Token) (number past : ℕ) → past ≤ number → each_from rows number past ≡ []
 unfolding each_from
-each_none rows order number past le =
+each_none rows number past le =
     let none : past - number ≡ 0 = omega (arith, le) in
-    ap (λ n. flat_map (λ position. rows (row_at order position)) (range_with_len number n)) none
+    ap (λ n. flat_map rows (range_with_len number n)) none

@@ -43,20 +43,24 @@ abbrev pub directive_part : Bool → List ℕ → Part
 directive_part true declared = member name.Directive (text (before_first ends_word declared))
 directive_part false declared = no_part
 
--- the comment with the token, if it is shown; it is in text alone
-abbrev pub comment : Tokens → Token → List Part
-comment Shown of = word (codes "  // ") ∷ note (token of) ∷ []
-comment Hidden of = []
+-- the comment with the token, if it is shown; it is a part of text alone
+abbrev pub comment_mark : Tokens → Part
+comment_mark Shown = word (codes "  // ")
+comment_mark Hidden = no_part
+
+abbrev pub comment_token : Tokens → Token → Part
+comment_token Shown of = note (token of)
+comment_token Hidden of = no_part
 
 -- the line: in JSON it has its token even if text has none; the text of the member has no spaces at its start, and names as they are in the file
 unfoldable pub declaration_line : Tokens → Token → Option Token → Bool → List ℕ → List Part
 declaration_line tokens of class directive declared =
     member name.Token (token of) ∷ type_part class ∷ directive_part directive (unindented declared)
-    ∷ note (plain declared) ∷ member name.Text (plain (as_is (unindented declared))) ∷ comment tokens of
+    ∷ note (plain declared) ∷ member name.Text (plain (as_is (unindented declared))) ∷ comment_mark tokens ∷ comment_token tokens of ∷ []
 
 -- the parts that are in a line of text, and those that are in a line of JSON, whose text is `named`
 abbrev pub text_line : Tokens → Token → List ℕ → List Part
-text_line tokens of declared = note (plain declared) ∷ comment tokens of
+text_line tokens of declared = note (plain declared) ∷ comment_mark tokens ∷ comment_token tokens of ∷ []
 
 abbrev pub json_line : Token → Option Token → Bool → List ℕ → List ℕ → List Part
 json_line of class directive declared named =

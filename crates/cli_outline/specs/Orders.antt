@@ -1,20 +1,20 @@
 -- The order of the rows of an outline: that of the rows in their tables, or that of their names.
-use Rattle.std.specs.Prelude.{◌≡◌, ◌≤◌, ℕ, zero, suc, ◌+◌, ◌-◌, ◌/◌, Bool, true, false, if◌then◌else◌, List, ◌∷◌, ◌++◌, [], All, Option, None, Some, ⊤, map, slice_get, take}
+use Rattle.std.specs.Prelude.{◌≡◌, ◌≤◌, ℕ, ◌+◌, ◌-◌, ◌/◌, Bool, true, false, List, ◌∷◌, ◌++◌, [], All, Option, None, Some, ⊤, map, slice_get, slice_index_or, take}
 use Rattle.std.specs.Cmp.Lexicographic.{slice_cmp}
 use Rattle.std.specs.List.{range_with_len}
 use Rattle.std.specs.List.Sorted.{IsPermutation, IsSorted}
 use Rattle.std.specs.Ordering.{nat_cmp, ordering_then}
 use Rattle.std.specs.declared.cmp.Ordering.{Ordering}
 use Rattle.table_schema.specs.declared.table.TableId.{TableId}
-use Rattle.table_schema.specs.declared.table.TableId.TheVariants.{Field, MethodDef, Event, Property, MethodSemantics, TypeRef, MemberRef}
+use Rattle.table_schema.specs.declared.table.TableId.TheVariants.{Assembly, AssemblyRef, Module, ModuleRef, File, ManifestResource, ExportedType, TypeDef, Field, MethodDef, Event, Property, Param, InterfaceImpl, GenericParam, GenericParamConstraint, MethodImpl, ImplMap, DeclSecurity, CustomAttribute}
 use Rattle.table_schema.specs.declared.token.Token.{Token}
 use Rattle.table_schema.specs.Tables.{table_index_of}
+use Rattle.metadata.specs.Lookups.{HasRow}
 use Rattle.metadata.specs.Metadata.{Metadata, count_in}
 use Rattle.metadata_source.specs.declared.member_lists.MemberList.TheVariants as list
-use Rattle.metadata_source.specs.declared.member_lists.MemberList.{MemberList}
-use Rattle.metadata_source.specs.MemberLists.{member_of, owner_of}
+use Rattle.metadata_source.specs.MemberLists.{owner_of}
 use Rattle.opening.specs.Views.{row_count}
-use Rattle.cli_declarations.specs.Layouts.{IsDeclared, is_declared_in}
+use Rattle.cli_declarations.specs.Layouts.{IsDeclared}
 use Rattle.cli_declarations.specs.Parts.{IsNameText, token_at}
 use Rattle.cli_outline.specs.declared.orders.Grouping.{Grouping}
 use Rattle.cli_outline.specs.declared.orders.Grouping.TheVariants.{Members, Nothing, Table}
@@ -30,15 +30,17 @@ use Rattle.cli_outline.specs.Shown.{is_shown}
 abbrev pub key_limit : ℕ → ℕ
 key_limit count = 64 + 0x2000000 / (count + 1)
 
--- The key of a row that has a line: the first bytes of its name, as it stands in declarations, a zero byte, and its declaration. That of a
--- row that has none is empty.
-abbrev pub IsKey : Bool → Metadata → ℕ → Token → List ℕ → Type 0
-IsKey true model limit of key =
+-- the key of a row that has a line: the first bytes of its name, as it stands in declarations, a zero byte, and its declaration
+abbrev pub IsKeyIf : Bool → Metadata → ℕ → Token → List ℕ → Type 0
+IsKeyIf true model limit of key =
     (name declared : List ℕ) × IsNameText model of name × IsDeclared model of declared × (key ≡ take limit (name ++ 0 ∷ declared))
-IsKey false model limit of key = key ≡ []
+IsKeyIf false model limit of key = key ≡ []
+
+abbrev pub IsKey : OutlineOptions → Metadata → ℕ → Token → List ℕ → Type 0
+IsKey options model limit of key = IsKeyIf (is_shown options model of) model limit of key
 
 abbrev pub IsKeyed : OutlineOptions → Metadata → TableId → ℕ → Keyed → Type 0
-IsKeyed options model table limit keyed = let of = token_at table keyed.row in IsKey (is_shown options model of) model limit of keyed.key.items
+IsKeyed options model table limit keyed = IsKey options model limit (token_at table keyed.row) keyed.key.items
 
 abbrev pub row_of_keyed : Keyed → ℕ
 row_of_keyed keyed = keyed.row
@@ -55,33 +57,42 @@ pub record AreInOrder (options : OutlineOptions) (model : Metadata) (table : Tab
   pub same : IsPermutation (range_with_len first (past - first)) (map row_of_keyed keyed)
   pub rows : found ≡ map row_of_keyed keyed
 
--- these are the members of the first owners, owner by owner: those of each in the order of their keys
-abbrev pub AreMembers : OutlineOptions → Metadata → MemberList → ℕ → List ℕ → Type 0
-AreMembers options model list zero rows = rows ≡ []
-AreMembers options model list (suc owners) rows =
-    (before : List ℕ) × AreMembers options model list owners before × (found : List ℕ)
-    × AreInOrder options model (member_of list) (run_start model list (suc owners)) (run_start model list (suc owners + 1)) found × (rows ≡ before ++ found)
+abbrev pub IsOrdered : OutlineOptions → Metadata → TableId → (ℕ → ℕ) → ℕ → ℕ → Type 0
+IsOrdered options model table rows first past = AreInOrder options model table first past (map rows (range_with_len first (past - first)))
 
--- Which rows of a table are put in order together: the members of each owner, or all. None of accessors, which stand below their event or property, and of
--- references to other modules.
+-- which rows of a table are put in order together: all, the members of each owner, or none
 abbrev pub grouping_of : TableId → Grouping
+grouping_of Assembly = Table
+grouping_of AssemblyRef = Table
+grouping_of Module = Table
+grouping_of ModuleRef = Table
+grouping_of File = Table
+grouping_of ManifestResource = Table
+grouping_of ExportedType = Table
+grouping_of TypeDef = Table
 grouping_of Field = Members list.Fields
 grouping_of MethodDef = Members list.Methods
 grouping_of Event = Members list.Events
 grouping_of Property = Members list.Properties
-grouping_of MethodSemantics = Nothing
-grouping_of TypeRef = Nothing
-grouping_of MemberRef = Nothing
-grouping_of table = if is_declared_in table then Table else Nothing
+grouping_of Param = Table
+grouping_of InterfaceImpl = Table
+grouping_of GenericParam = Table
+grouping_of GenericParamConstraint = Table
+grouping_of MethodImpl = Table
+grouping_of ImplMap = Table
+grouping_of DeclSecurity = Table
+grouping_of CustomAttribute = Table
+grouping_of _ = Nothing
 
-abbrev pub AreGrouped : OutlineOptions → Metadata → TableId → List ℕ → Grouping → Type 0
-AreGrouped options model table rows Table = AreInOrder options model table 1 (count_in model table + 1) rows
-AreGrouped options model table rows (Members list) = AreMembers options model list (count_in model (owner_of list)) rows
+abbrev pub AreGrouped : OutlineOptions → Metadata → TableId → (ℕ → ℕ) → Grouping → Type 0
+AreGrouped options model table rows Table = IsOrdered options model table rows 1 (count_in model table + 1)
+AreGrouped options model table rows (Members list) =
+    (owner : ℕ) → HasRow model (owner_of list) owner → IsOrdered options model table rows (run_start model list owner) (run_start model list (owner + 1))
 AreGrouped options model table rows Nothing = ⊤
 
 -- the rows are in the order that is asked for
 abbrev pub IsOrder : OutlineOptions → Sorting → Metadata → Order → Type 0
-IsOrder options ByRow model order = (table : TableId) → order table ≡ []
+IsOrder options ByRow model order = (table : TableId) (row : ℕ) → order table row ≡ row
 IsOrder options ByName model order = (table : TableId) → AreGrouped options model table (order table) (grouping_of table)
 
 -- the rows of the outline, in the order that is asked for
@@ -90,17 +101,21 @@ AreOutlineRows options model rows = (order : Order) × IsOrder options options.s
 
 -- ---- the orders that are known
 
+-- the row at a position; that of the position itself if it is not known
+abbrev pub row_at : List ℕ → ℕ → ℕ
+row_at rows position = slice_index_or rows (position - 1) position
+
 abbrev pub rows_of : Option TableOrder → List ℕ
 rows_of None = []
 rows_of (Some order) = order.rows.items
 
 -- the order that the orders of the first tables make, by their index
-abbrev pub order_in : List TableOrder → Order
-order_in orders table = rows_of (slice_get orders (table_index_of table))
+abbrev pub row_in : List TableOrder → Order
+row_in orders table position = row_at (rows_of (slice_get orders (table_index_of table))) position
 
 -- all of them are rows of the table
 abbrev pub IsRowIn : List ℕ → TableId → ℕ → Type 0
 IsRowIn root table row = (1 ≤ row) × (row ≤ row_count root table)
 
 abbrev pub AreRowsIn : List ℕ → List TableOrder → Type 0
-AreRowsIn root orders = (table : TableId) → All (IsRowIn root table) (order_in orders table)
+AreRowsIn root orders = (table : TableId) → All (IsRowIn root table) (rows_of (slice_get orders (table_index_of table)))

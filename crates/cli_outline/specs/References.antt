@@ -7,18 +7,21 @@ use Rattle.metadata.specs.Metadata.{Metadata}
 use Rattle.cli_lines.specs.Printed.{Printed as Printer}
 use Rattle.cli_paths.specs.declared.subject.Subject.{Subject}
 use Rattle.cli_paths.specs.Refs.{BelongsTo, HasSome, IsMeantRef}
-use Rattle.cli_outline.specs.declared.outline.Outcome.{Outcome}
-use Rattle.cli_outline.specs.declared.outline.Outcome.TheVariants.{Printed, NoSuchType, OutOfMemory}
+use Rattle.cli_outline.specs.declared.outcome.Outcome.{Outcome}
+use Rattle.cli_outline.specs.declared.outcome.Outcome.TheVariants.{Printed, NoSuchType, OutOfMemory}
 use Rattle.cli_outline.specs.declared.source.OutlineOptions.{OutlineOptions}
-use Rattle.cli_outline.specs.Subjects.{AreChosenBy}
+use Rattle.cli_outline.specs.Chosen.{AreChosenBy}
 use Rattle.cli_outline.specs.Outline.{all_rows, by_row}
 use Rattle.cli_outline.specs.Printed.{PrintsRows}
 
--- what is referred to of the types that the subject means: the types of other modules, and the methods and fields, by table and row
+-- the types of other modules, and the methods and fields, by table and row
+abbrev pub types_and_members : Metadata → List Token
+types_and_members model = flat_map (all_rows by_row model) (TypeRef ∷ MemberRef ∷ [])
+
+-- what is referred to of the types that the subject means
 abbrev pub AreRefsOf : Metadata → Subject → List Token → Type 0
 AreRefsOf model subject found =
-    AreChosenBy (BelongsTo model (IsMeantRef model subject)) (λ row. ¬ BelongsTo model (IsMeantRef model subject) row)
-    (flat_map (all_rows by_row model) (TypeRef ∷ MemberRef ∷ [])) found
+    AreChosenBy (BelongsTo model (IsMeantRef model subject)) (λ row. ¬ BelongsTo model (IsMeantRef model subject) row) (types_and_members model) found
 
 -- the lines of what is referred to were printed if the subject means some type
 abbrev pub PrintsRefs : {W : Type 0} → OutlineOptions → Metadata → Subject → Printer W → Printer W → Outcome → Type 0

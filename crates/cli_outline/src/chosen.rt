@@ -4,9 +4,9 @@ ghost use Rattle.std.specs.List.{flat_map};
 ghost use Rattle.metadata.specs.Metadata.{Metadata};
 ghost use Rattle.metadata.specs.Model.{IsModel};
 ghost use Rattle.opening.specs.Views.{row_count};
-ghost use Rattle.cli_outline.specs.Orders.{order_in};
-ghost use Rattle.cli_outline.specs.Outline.{all_rows, each_from, row_of};
-ghost use Rattle.cli_outline.specs.Subjects.{IsChosen, PrintsChosen};
+ghost use Rattle.cli_outline.specs.Chosen.{IsChosen, PrintsChosen};
+ghost use Rattle.cli_outline.specs.Orders.{row_in};
+ghost use Rattle.cli_outline.specs.Outline.{all_rows, each_from, row_by};
 
 use crate::line::print_row;
 use crate::source::Source;
@@ -54,7 +54,7 @@ pub(crate) fn print_positions<W: Write>(
     requires first { 1 ≤ positions.start }
     requires last { positions.«end» ≤ row_count source.now.neighbours.view.now table + 1 }
     ensures { (model : Metadata) → IsModel source.now.neighbours.view.now model
-        → PrintsChosen source.now.options model choice.entry out.old out.new (each_from (row_of table) (order_in source.now.orders.items table) positions.start positions.«end») }
+        → PrintsChosen source.now.options model choice.entry out.old out.new (each_from (row_by (row_in source.now.orders.items) table) positions.start positions.«end») }
 {
     cli_lines::laws::lines_follow::<W>();
     let (first, past) = (positions.start, positions.end);
@@ -76,7 +76,7 @@ pub(crate) fn print_chosen<W: Write>(
     declared: &mut Declared,
     out: &mut Printer<'_, W>,
 )
-    ensures { (model : Metadata) → IsModel source.now.neighbours.view.now model → PrintsChosen source.now.options model choice.entry out.old out.new (flat_map (all_rows (order_in source.now.orders.items) model) tables.now) }
+    ensures { (model : Metadata) → IsModel source.now.neighbours.view.now model → PrintsChosen source.now.options model choice.entry out.old out.new (flat_map (all_rows (row_in source.now.orders.items) model) tables.now) }
 {
     cli_lines::laws::lines_follow::<W>();
     for table in tables {

@@ -17,10 +17,13 @@
 
 mod chosen;
 mod line;
+mod mapped;
 mod orders;
+mod outcome;
 mod outline;
 mod source;
 
 pub use cli_paths::Subject;
-pub use outline::{Outcome, print_outline, print_outline_of, print_refs, print_refs_of};
+pub use outcome::Outcome;
+pub use outline::{print_outline, print_outline_of, print_refs, print_refs_of};
 pub use source::{OutlineOptions, Rows, Sorting, Tokens};

@@ -88,7 +88,7 @@ fn print_text<W: Write>(tokens: Tokens, of: Token, text: &str, out: &mut Printer
 {
     match tokens {
         Tokens::Shown => out.line(&[Note(Plain(text)), Word("  // "), Note(Value::Token(of))]),
-        Tokens::Hidden => out.line(&[Note(Plain(text))]),
+        Tokens::Hidden => out.line(&[Note(Plain(text)), Word(""), Word("")]),
     }
 }
 

@@ -1,6 +1,7 @@
 //! The rows of tables in the order of their names.
-ghost use Rattle.std.specs.Prelude.{◌≡◌, ◌≤◌, ◌+◌, ◌-◌, ◌++◌, ℕ, List, All, IfOk, OnOk, map};
+ghost use Rattle.std.specs.Prelude.{◌≡◌, ◌≤◌, ◌+◌, ◌-◌, ◌++◌, ℕ, List, All, IfOk, OnOk, map, slice_get};
 ghost use Rattle.std.specs.List.{range_with_len};
+ghost use Rattle.table_schema.specs.Tables.{table_index_of};
 ghost use Rattle.metadata.specs.Metadata.{Metadata};
 ghost use Rattle.metadata.specs.Model.{IsModel};
 ghost use Rattle.metadata_source.specs.declared.member_lists.MemberList.{MemberList as TheList};
@@ -8,12 +9,11 @@ ghost use Rattle.metadata_source.specs.MemberLists.{member_of};
 ghost use Rattle.opening.specs.Views.{row_count};
 ghost use Rattle.cli_outline.specs.declared.orders.Grouping.TheVariants.{Members};
 ghost use Rattle.cli_outline.specs.declared.source.Sorting.TheVariants.{ByName};
-ghost use Rattle.cli_outline.specs.Orders.{AreGrouped, AreInOrder, AreRowsIn, IsKey, IsKeyed, IsOrder, IsRowIn, grouping_of, key_limit, keyed_cmp, order_in, row_of_keyed};
-ghost use Rattle.cli_outline.specs.Shown.{is_shown};
+ghost use Rattle.cli_outline.specs.Orders.{AreGrouped, AreInOrder, AreRowsIn, IsKey, IsKeyed, IsOrder, IsRowIn, grouping_of, key_limit, keyed_cmp, row_at, row_in, row_of_keyed, rows_of};
 
 use crate::outline::run_of;
 use crate::source::Source;
-use cli_declarations::{Declared, is_declared_in, name_and_declare};
+use cli_declarations::{Declared, name_and_declare};
 use opening::{CellCursor, MemberList, TableId, Token};
 use std::alloc::{AllocError, Global};
 use std::cmp::Ordering;
@@ -58,12 +58,26 @@ fn grouping_of(table: TableId) -> Grouping
     ensures members { (list : TheList) → result ≡ Members list → table ≡ member_of list }
 {
     match table {
+        TableId::Assembly
+        | TableId::AssemblyRef
+        | TableId::Module
+        | TableId::ModuleRef
+        | TableId::File
+        | TableId::ManifestResource
+        | TableId::ExportedType
+        | TableId::TypeDef
+        | TableId::Param
+        | TableId::InterfaceImpl
+        | TableId::GenericParam
+        | TableId::GenericParamConstraint
+        | TableId::MethodImpl
+        | TableId::ImplMap
+        | TableId::DeclSecurity
+        | TableId::CustomAttribute => Grouping::Table,
         TableId::Field => Grouping::Members(MemberList::Fields),
         TableId::MethodDef => Grouping::Members(MemberList::Methods),
         TableId::Event => Grouping::Members(MemberList::Events),
         TableId::Property => Grouping::Members(MemberList::Properties),
-        TableId::MethodSemantics | TableId::TypeRef | TableId::MemberRef => Grouping::Nothing,
-        _ if is_declared_in(table) => Grouping::Table,
         _ => Grouping::Nothing,
     }
 }
@@ -77,7 +91,7 @@ fn key_of(
 ) -> Result<Vec<u8>, AllocError>
     requires first { 1 ≤ token.row }
     requires last { token.row ≤ row_count source.now.neighbours.view.now token.table }
-    ensures { (model : Metadata) → IsModel source.now.neighbours.view.now model → IfOk result (λ key. IsKey (is_shown source.now.options model token) model limit token key.items) }
+    ensures { (model : Metadata) → IsModel source.now.neighbours.view.now model → IfOk result (λ key. IsKey source.now.options model limit token key.items) }
 {
     if !source.shows(token) {
         return Ok(Vec::new(declared.alloc));
@@ -144,8 +158,10 @@ fn members_in_order(
 ) -> Result<Vec<u32>, AllocError>
     ensures within { IfOk result (λ order. All (IsRowIn source.now.neighbours.view.now (member_of list)) order.items) }
     ensures grouped { (model : Metadata) → IsModel source.now.neighbours.view.now model
-        → IfOk result (λ order. AreGrouped source.now.options model (member_of list) order.items (Members list)) }
+        → IfOk result (λ order. AreGrouped source.now.options model (member_of list) (row_at order.items) (Members list)) }
 {
+    metadata::laws::models_are_read();
+    metadata::laws::models_of_roots_are_valid();
     let mut order = Vec::new(declared.alloc);
     let mut cells = CellCursor::new(source.neighbours.view);
     for owner in 1..source.neighbours.view.count(list.owner()) + 1 {
@@ -163,7 +179,7 @@ fn rows_in_order(
 ) -> Result<Vec<u32>, AllocError>
     ensures within { IfOk result (λ order. All (IsRowIn source.now.neighbours.view.now table) order.items) }
     ensures grouped { (model : Metadata) → IsModel source.now.neighbours.view.now model
-        → IfOk result (λ order. AreGrouped source.now.options model table order.items (grouping_of table)) }
+        → IfOk result (λ order. AreGrouped source.now.options model table (row_at order.items) (grouping_of table)) }
 {
     match grouping_of(table) {
         Grouping::Table => {
@@ -179,7 +195,7 @@ fn rows_in_order(
 
 /// The rows of a table in the order that is known; none if none is.
 pub(crate) fn rows_of(orders: &[TableOrder], table: TableId) -> &[u32]
-    ensures { result.now ≡ order_in orders.now table }
+    ensures { result.now ≡ rows_of (slice_get orders.now (table_index_of table)) }
 {
     match orders.get(table.table_index()) {
         Some(order) => &order.rows,
@@ -197,7 +213,7 @@ pub(crate) fn orders_by_name(
     source: &Source<'_, '_>,
 ) -> Result<Vec<TableOrder>, AllocError>
     ensures within { IfOk result (λ orders. AreRowsIn source.now.neighbours.view.now orders.items) }
-    ensures order { (model : Metadata) → IsModel source.now.neighbours.view.now model → IfOk result (λ orders. IsOrder source.now.options ByName model (order_in orders.items)) }
+    ensures order { (model : Metadata) → IsModel source.now.neighbours.view.now model → IfOk result (λ orders. IsOrder source.now.options ByName model (row_in orders.items)) }
 {
     table_schema::laws::tables_stand();
     let mut orders = Vec::new(alloc);

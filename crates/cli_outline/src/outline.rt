@@ -1,66 +1,30 @@
 //! Prints the outline of a view.
 ghost use Rattle.std.specs.Prelude.{◌≡◌, ◌≤◌, ◌+◌};
 ghost use Rattle.table_schema.specs.declared.table.TableId.TheVariants.{TypeDef};
+ghost use Rattle.metadata.specs.Lookups.{IsRun};
 ghost use Rattle.metadata.specs.Metadata.{Metadata, count_in};
 ghost use Rattle.metadata.specs.Model.{IsModel};
-ghost use Rattle.metadata_source.specs.MemberLists.{member_of, owner_of};
-ghost use Rattle.navigation.specs.Linked.{number_to, table_of};
+ghost use Rattle.metadata_source.specs.MemberLists.{cell_of, member_of, owner_of};
 ghost use Rattle.opening.specs.Views.{row_count};
-ghost use Rattle.cli_declarations.specs.Parts.{token_at};
-ghost use Rattle.cli_outline.specs.Outline.{accessed_rows, class_rows, each_from, mapped_rows, members, outline_rows, refs_rows, run_start, type_rows};
-ghost use Rattle.cli_outline.specs.Orders.{AreOutlineRows, order_in};
+ghost use Rattle.cli_outline.specs.Chosen.{AreTypeRows};
+ghost use Rattle.cli_outline.specs.Outline.{class_by, class_rows, each_from, first_tables, last_tables, members, outline_rows, ref_tables, refs_rows, run_start};
+ghost use Rattle.cli_outline.specs.Orders.{AreOutlineRows, row_in};
 ghost use Rattle.cli_outline.specs.Printed.{PrintsRows, PrintsSome};
 ghost use Rattle.cli_outline.specs.References.{PrintsRefs};
-ghost use Rattle.cli_outline.specs.Subjects.{AreTypeRows, PrintsNone, PrintsSubject};
+ghost use Rattle.cli_outline.specs.Subjects.{PrintsNone, PrintsSubject};
 
 use crate::chosen::{Choice, print_chosen, print_positions};
 use crate::line::print_row;
+use crate::mapped::print_mapped;
+use crate::outcome::Outcome;
 use crate::source::{OutlineOptions, Source};
 use cli_declarations::Declared;
 use cli_lines::Printer;
 use cli_paths::{Subject, finds, found_row, wanted_types};
-use navigation::Link;
 use opening::{CellCursor, MemberList, TableId, Token, View};
 use std::alloc::Global;
 use std::io::Write;
 use std::ops::Range;
-
-/// The tables whose rows come before the types, in the order of the lines.
-const FIRST_TABLES: &[TableId] = &[
-    TableId::Assembly,
-    TableId::AssemblyRef,
-    TableId::Module,
-    TableId::ModuleRef,
-    TableId::File,
-    TableId::ManifestResource,
-    TableId::ExportedType,
-];
-
-/// The tables whose rows come after the types.
-const LAST_TABLES: &[TableId] = &[
-    TableId::Param,
-    TableId::InterfaceImpl,
-    TableId::GenericParam,
-    TableId::GenericParamConstraint,
-    TableId::MethodImpl,
-    TableId::ImplMap,
-    TableId::DeclSecurity,
-    TableId::CustomAttribute,
-];
-
-/// The tables whose rows refer to other modules and to what is in them.
-const REF_TABLES: &[TableId] = &[TableId::ModuleRef, TableId::TypeRef, TableId::MemberRef];
-
-/// What became of the outline of one type or another row.
-#[derive(Clone, Copy, PartialEq, Eq)]
-pub enum Outcome {
-    /// Its lines are printed.
-    Printed,
-    /// No row is the subject, or the row has no declaration. Nothing is printed.
-    NoSuchType,
-    /// Memory ran out before the row was found. Nothing is printed.
-    OutOfMemory,
-}
 
 /// The members of an owner.
 pub(crate) fn run_of(cells: &mut CellCursor<'_, '_>, list: MemberList, row: u32) -> Range<u32>
@@ -69,6 +33,7 @@ pub(crate) fn run_of(cells: &mut CellCursor<'_, '_>, list: MemberList, row: u32)
     ensures same { cells.new ≡ cells.old }
     ensures first { 1 ≤ result.start }
     ensures last { result.«end» ≤ row_count cells.old (member_of list) + 1 }
+    ensures run { (model : Metadata) → IsModel cells.old model → IsRun model (owner_of list) (cell_of list) (member_of list) row result.start result.«end» }
     ensures begin { (model : Metadata) → IsModel cells.old model → result.start ≡ run_start model list row }
     ensures past { (model : Metadata) → IsModel cells.old model → result.«end» ≡ run_start model list (row + 1) }
 {
@@ -92,85 +57,13 @@ fn print_members<W: Write>(
     requires last { row ≤ row_count cells.old (owner_of list) }
     requires at { cells.old ≡ source.now.neighbours.view.now }
     ensures same { cells.new ≡ cells.old }
-    ensures lines { (model : Metadata) → IsModel source.now.neighbours.view.now model → PrintsRows source.now.options model out.old out.new (members (order_in source.now.orders.items) model list row) }
+    ensures lines { (model : Metadata) → IsModel source.now.neighbours.view.now model → PrintsRows source.now.options model out.old out.new (members (row_in source.now.orders.items) model list row) }
 {
     let rows = run_of(cells, list, row);
     print_positions(source, list.member(), rows, Choice::All, declared, out);
 }
 
-/// Prints the line of an event or a property, and those of its accessors.
-fn print_accessed<W: Write>(
-    source: &Source<'_, '_>,
-    token: Token,
-    declared: &mut Declared,
-    out: &mut Printer<'_, W>,
-)
-    requires first { 1 ≤ token.row }
-    requires last { token.row ≤ row_count source.now.neighbours.view.now token.table }
-    ensures { (model : Metadata) → IsModel source.now.neighbours.view.now model → PrintsRows source.now.options model out.old out.new (accessed_rows model token.table token.row) }
-{
-    cli_lines::laws::lines_follow::<W>();
-    print_row(source, token, declared, out);
-    // The table has at most 0xFFFFFF rows.
-    let _count = source.neighbours.view.count(token.table);
-    let number = Link::Accessors.number_to(token);
-    let accessors = source.neighbours.linked(Link::Accessors, number);
-    for accessor in accessors {
-        let (table, row) = (TableId::MethodSemantics, accessor.row);
-        print_row(source, Token { table, row }, declared, out);
-    }
-}
-
-/// Prints the lines of the events or the properties of a row of their map, each with its accessors.
-fn print_map<W: Write>(
-    source: &Source<'_, '_>,
-    cells: &mut CellCursor<'_, '_>,
-    list: MemberList,
-    map: u32,
-    declared: &mut Declared,
-    out: &mut Printer<'_, W>,
-)
-    requires first { 1 ≤ map }
-    requires last { map ≤ row_count cells.old (owner_of list) }
-    requires at { cells.old ≡ source.now.neighbours.view.now }
-    ensures same { cells.new ≡ cells.old }
-    ensures lines { (model : Metadata) → IsModel source.now.neighbours.view.now model → PrintsRows source.now.options model out.old out.new (mapped_rows (order_in source.now.orders.items) model list map) }
-{
-    cli_lines::laws::lines_follow::<W>();
-    let rows = run_of(cells, list, map);
-    let (first, past) = (rows.start, rows.end);
-    let table = list.member();
-    for position in first..past {
-        let row = source.row_at(table, position);
-        print_accessed(source, Token { table, row }, declared, out);
-    }
-}
-
-/// Prints the lines of the events or the properties of a type. The rows of their map refer to it by the link.
-fn print_mapped<W: Write>(
-    source: &Source<'_, '_>,
-    cells: &mut CellCursor<'_, '_>,
-    list: MemberList,
-    link: Link,
-    class: u32,
-    declared: &mut Declared,
-    out: &mut Printer<'_, W>,
-)
-    requires maps { table_of link ≡ owner_of list }
-    requires number { class ≡ number_to link (token_at TypeDef class) }
-    requires at { cells.old ≡ source.now.neighbours.view.now }
-    ensures same { cells.new ≡ cells.old }
-    ensures lines { (model : Metadata) → IsModel source.now.neighbours.view.now model → PrintsRows source.now.options model out.old out.new (type_rows (order_in source.now.orders.items) model list link class) }
-{
-    cli_lines::laws::lines_follow::<W>();
-    let maps = source.neighbours.linked(link, class);
-    for map in maps {
-        print_map(source, cells, list, map.row, declared, out);
-    }
-}
-
 /// Prints the lines of a type, of its fields, its methods, its events and its properties.
-#[tactic(auto, unfolding(table_schema::specs::CellColumns::cell_columns))]
 fn print_class<W: Write>(
     source: &Source<'_, '_>,
     cells: &mut CellCursor<'_, '_>,
@@ -182,17 +75,15 @@ fn print_class<W: Write>(
     requires last { row ≤ row_count cells.old TypeDef }
     requires at { cells.old ≡ source.now.neighbours.view.now }
     ensures same { cells.new ≡ cells.old }
-    ensures lines { (model : Metadata) → IsModel source.now.neighbours.view.now model → PrintsRows source.now.options model out.old out.new (class_rows (order_in source.now.orders.items) model row) }
+    ensures lines { (model : Metadata) → IsModel source.now.neighbours.view.now model → PrintsRows source.now.options model out.old out.new (class_rows (row_in source.now.orders.items) model row) }
 {
     cli_lines::laws::lines_follow::<W>();
     let table = TableId::TypeDef;
     print_row(source, Token { table, row }, declared, out);
     print_members(source, cells, MemberList::Fields, row, declared, out);
     print_members(source, cells, MemberList::Methods, row, declared, out);
-    let (list, link) = (MemberList::Events, Link::Events);
-    print_mapped(source, cells, list, link, row, declared, out);
-    let (list, link) = (MemberList::Properties, Link::Properties);
-    print_mapped(source, cells, list, link, row, declared, out);
+    print_mapped(source, cells, MemberList::Events, row, declared, out);
+    print_mapped(source, cells, MemberList::Properties, row, declared, out);
 }
 
 /// Prints the lines of all types and their members.
@@ -201,7 +92,7 @@ fn print_classes<W: Write>(
     declared: &mut Declared,
     out: &mut Printer<'_, W>,
 )
-    ensures { (model : Metadata) → IsModel source.now.neighbours.view.now model → PrintsRows source.now.options model out.old out.new (each_from (class_rows (order_in source.now.orders.items) model) (order_in source.now.orders.items TypeDef) 1 (count_in model TypeDef + 1)) }
+    ensures { (model : Metadata) → IsModel source.now.neighbours.view.now model → PrintsRows source.now.options model out.old out.new (each_from (class_by (row_in source.now.orders.items) model) 1 (count_in model TypeDef + 1)) }
 {
     cli_lines::laws::lines_follow::<W>();
     let mut cells = CellCursor::new(source.neighbours.view);
@@ -212,14 +103,47 @@ fn print_classes<W: Write>(
     }
 }
 
+/// The tables whose rows come before the types, in the order of the lines.
+#[tactic(auto, unfolding(crate::specs::Outline::first_tables))]
+fn first_tables() -> &'static [TableId]
+    ensures { result.now ≡ first_tables }
+{
+    &[
+        TableId::Assembly,
+        TableId::AssemblyRef,
+        TableId::Module,
+        TableId::ModuleRef,
+        TableId::File,
+        TableId::ManifestResource,
+        TableId::ExportedType,
+    ]
+}
+
+/// The tables whose rows come after the types.
+#[tactic(auto, unfolding(crate::specs::Outline::last_tables))]
+fn last_tables() -> &'static [TableId]
+    ensures { result.now ≡ last_tables }
+{
+    &[
+        TableId::Param,
+        TableId::InterfaceImpl,
+        TableId::GenericParam,
+        TableId::GenericParamConstraint,
+        TableId::MethodImpl,
+        TableId::ImplMap,
+        TableId::DeclSecurity,
+        TableId::CustomAttribute,
+    ]
+}
+
 /// Prints all lines of the outline.
 fn print_all<W: Write>(source: &Source<'_, '_>, declared: &mut Declared, out: &mut Printer<'_, W>)
-    ensures { (model : Metadata) → IsModel source.now.neighbours.view.now model → PrintsRows source.now.options model out.old out.new (outline_rows (order_in source.now.orders.items) model) }
+    ensures { (model : Metadata) → IsModel source.now.neighbours.view.now model → PrintsRows source.now.options model out.old out.new (outline_rows (row_in source.now.orders.items) model) }
 {
     cli_lines::laws::lines_follow::<W>();
-    print_chosen(source, FIRST_TABLES, Choice::All, declared, out);
+    print_chosen(source, first_tables(), Choice::All, declared, out);
     print_classes(source, declared, out);
-    print_chosen(source, LAST_TABLES, Choice::All, declared, out);
+    print_chosen(source, last_tables(), Choice::All, declared, out);
 }
 
 /// Prints the outline of a view: its declarations in the notation of ILAsm (II.5 to II.22), one per line. Each line ends
@@ -260,6 +184,14 @@ pub fn print_outline<W: Write>(
     }
 }
 
+/// The tables whose rows refer to other modules and to what is in them.
+#[tactic(auto, unfolding(crate::specs::Outline::ref_tables))]
+fn ref_tables() -> &'static [TableId]
+    ensures { result.now ≡ ref_tables }
+{
+    &[TableId::ModuleRef, TableId::TypeRef, TableId::MemberRef]
+}
+
 /// Prints what a view refers to in other modules, one per line as [`print_outline`] prints declarations: the modules, the
 /// types, and the methods and fields, in the order of their rows (II.22.25, II.22.31, II.22.38). A type has its scope in
 /// brackets before its name (II.7.3).
@@ -276,7 +208,7 @@ pub fn print_refs<W: Write>(
     match Source::new(alloc, view, options) {
         Ok(source) => {
             let mut declared = Declared::new(alloc);
-            print_chosen(&source, REF_TABLES, Choice::All, &mut declared, out);
+            print_chosen(&source, ref_tables(), Choice::All, &mut declared, out);
         }
         Err(_) => out.fail(),
     }
@@ -334,7 +266,7 @@ fn print_type<W: Write>(
             print_class(&source, &mut cells, row, &mut declared, out);
             let table = TableId::TypeDef;
             let describing = Choice::Describing(Token { table, row });
-            print_chosen(&source, LAST_TABLES, describing, &mut declared, out);
+            print_chosen(&source, last_tables(), describing, &mut declared, out);
         }
         Err(_) => out.fail(),
     }

@@ -94,8 +94,7 @@ impl<'v, 'a> Source<'v, 'a> {
     ghost use Rattle.metadata.specs.Metadata.{Metadata};
     ghost use Rattle.metadata.specs.Model.{IsModel};
     ghost use Rattle.opening.specs.Views.{row_count};
-    ghost use Rattle.cli_outline.specs.Orders.{IsOrder, order_in};
-    ghost use Rattle.cli_outline.specs.Outline.{row_at};
+    ghost use Rattle.cli_outline.specs.Orders.{IsOrder, row_in};
     ghost use Rattle.cli_outline.specs.Shown.{has_line, is_shown};
     ghost use Rattle.cli_outline.specs.Subjects.{is_declared};
 
@@ -135,7 +134,7 @@ impl<'v, 'a> Source<'v, 'a> {
     ) -> Result<Source<'v, 'a>, AllocError>
         ensures view { IfOk result (λ source. source.neighbours.view.now ≡ view.now) }
         ensures options { IfOk result (λ source. source.options ≡ options) }
-        ensures order { (model : Metadata) → IsModel view.now model → IfOk result (λ source. IsOrder options options.sorting model (order_in source.orders.items)) }
+        ensures order { (model : Metadata) → IsModel view.now model → IfOk result (λ source. IsOrder options options.sorting model (row_in source.orders.items)) }
     {
         let mut source = Source::new(alloc, view, options)?;
         match options.sorting {
@@ -151,7 +150,7 @@ impl<'v, 'a> Source<'v, 'a> {
     pub(crate) fn row_at(&self, table: TableId, position: u32) -> u32
         requires first { 1 ≤ position }
         requires last { position ≤ row_count self.now.neighbours.view.now table }
-        ensures row { result ≡ row_at (order_in self.now.orders.items table) position }
+        ensures row { result ≡ row_in self.now.orders.items table position }
         ensures first { 1 ≤ result }
         ensures last { result ≤ row_count self.now.neighbours.view.now table }
     {

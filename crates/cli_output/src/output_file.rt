@@ -64,7 +64,10 @@ impl Relation {
 
     /// Compares the file that a path leads to with another.
     fn at<R: Files>(rt: &R, path: &str, other: &Metadata) -> Relation {
-        fs::metadata(rt, path).map_or(Relation::Unknown, |found| Relation::of(&found, other))
+        match fs::metadata(rt, path) {
+            Ok(found) => Relation::of(&found, other),
+            Err(_) => Relation::Unknown,
+        }
     }
 
     /// Compares each of the files that were read with another: whether one of them is it, or may be it.
@@ -81,8 +84,7 @@ impl Relation {
     }
 }
 
-/// Refuses a path of a file to write that is that of the standard output, which takes the line `wrote N bytes`: a terminal, a
-/// pipe or a file that the shell opened. `/dev/null` keeps nothing, so there two outputs do not mix.
+/// Refuses a path of a file to write that is that of the standard output, which takes the line `wrote N bytes`.
 ///
 /// # Errors
 ///
@@ -90,14 +92,21 @@ impl Relation {
 pub fn check_path<'a, R: Files>(rt: &R, path: &'a str) -> Result<(), Failure<'a>>
     ensures { IfErr result (IsUnwritten path.now) }
 {
+    if is_standard_output(rt, path) {
+        return Err(not_written(path, Reason::StandardOutput));
+    }
+    Ok(())
+}
+
+/// Whether a path is that of the standard output: a terminal, a pipe or a file that the shell opened. `/dev/null` keeps
+/// nothing, so there two outputs do not mix.
+fn is_standard_output<R: Files>(rt: &R, path: &str) -> bool {
     if path == NULL_DEVICE {
-        return Ok(());
+        return false;
     }
     match fs::metadata(rt, path) {
-        Ok(found) if matches!(Relation::at(rt, OUTPUT_PATH, &found), Relation::Same) => {
-            Err(not_written(path, Reason::StandardOutput))
-        }
-        _ => Ok(()),
+        Ok(found) => matches!(Relation::at(rt, OUTPUT_PATH, &found), Relation::Same),
+        Err(_) => false,
     }
 }
 
@@ -149,8 +158,10 @@ fn overwrite<'a, R: Files>(rt: &R, bytes: &[u8], path: &'a str) -> Result<R::Fil
     ensures given { IfOk result (WasGiven R.File.contents bytes.now) }
     ensures unwritten { IfErr result (IsUnwritten path.now) }
 {
-    let file = fs::create(rt, path).map_err(|error| Failure::of_opening(&error, path))?;
-    send(bytes, file, path)
+    match fs::create(rt, path) {
+        Ok(file) => send(bytes, file, path),
+        Err(error) => Err(Failure::of_opening(&error, path)),
+    }
 }
 
 /// Writes bytes to a new file beside the one at `path`, gives it the same permissions, renames it and returns it. If
@@ -165,14 +176,18 @@ fn replace<'a, R: Files + AllocGlobal>(
     ensures unwritten { IfErr result (IsUnwritten path.now) }
 {
     // A symbolic link stays. The file that it leads to is replaced.
-    let target = fs::canonicalize(rt, path).map_err(|error| Failure::of_opening(&error, path))?;
+    let target = match fs::canonicalize(rt, path) {
+        Ok(target) => target,
+        Err(error) => return Err(Failure::of_opening(&error, path)),
+    };
     // An open file that was removed leads to a path of which another file may have been made.
     if let Relation::Different = Relation::at(rt, target.as_str(), replaced) {
         return Err(not_written(path, Reason::Input));
     }
-    let (file, beside) = create_beside(rt, target.as_str()).map_err(|error| Failure::of_opening(
-        &error, path,
-    ))?;
+    let (file, beside) = match create_beside(rt, target.as_str()) {
+        Ok(created) => created,
+        Err(error) => return Err(Failure::of_opening(&error, path)),
+    };
     let outcome = match send(bytes, file, path) {
         Ok(file) => match finish(rt, &file, replaced, beside.as_str(), target.as_str()) {
             Ok(()) => Ok(file),

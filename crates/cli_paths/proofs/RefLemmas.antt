@@ -1,5 +1,5 @@
 -- The types of other modules that an argument means, and what belongs to them.
-use Rattle.cli_paths.proofs.Prelude.{◌≡◌, ◌∙◌, ◌↔◌, ◌==◌, Bool, true, false, cond, IsTrue, ℕ, List, [], ◌∷◌, ◌++◌, Option, None, Some, length, refl, ap, sym, subst, TypeRef, TableId, Token, Ref, HasRow, Metadata, BelongsTo, IsWantedRef, generic_at, generic_of, type_of_ref}
+use Rattle.cli_paths.proofs.Prelude.{◌≡◌, ◌∙◌, ◌↔◌, ◌==◌, Bool, true, false, cond, IsTrue, ℕ, List, [], ◌∷◌, ◌++◌, Option, None, Some, length, refl, ap, sym, subst, TypeRef, TableId, Token, HasRow, Metadata, BelongsTo, IsWantedRef, generic_at, generic_of, type_of_ref}
 use Rattle.std.specs.Prelude.{option_map}
 use Rattle.packed.specs.Packed.{IsPacked}
 use Rattle.packed.specs.Prefix.{unsigned_at}
@@ -7,16 +7,15 @@ use Rattle.table_schema.specs.declared.column.SigKind.TheVariants as column
 use Rattle.table_schema.specs.declared.coded.Coded.TheVariants.{TypeDefOrRef}
 use Rattle.table_schema.specs.CodedIndexes.{IsCoded}
 use Rattle.sig_grammar.specs.declared.element.Element.{Element}
-use Rattle.sig_grammar.specs.declared.element.Element.TheVariants.{Boolean}
+use Rattle.sig_grammar.specs.declared.element.Element.TheVariants.{Boolean, Char, I1, U1, I2, U2, I4, U4, I8, U8, R4, R8, String, I, U, Object}
 use Rattle.sig_grammar.specs.declared.types.Modifier.{Modifier}
 use Rattle.sig_grammar.specs.ElementTypes.{CMOD_OPT, CMOD_REQD, element_code}
 use Rattle.sig_grammar.specs.Encodes.{Encodes}
-use Rattle.sig_grammar.specs.Grammar.{content_parts, core_parts, count_types, modifiers_parts, named_code, ret_parts, types_parts}
+use Rattle.sig_grammar.specs.Grammar.{content_parts, core_parts, count_types, method_parts, modifiers_parts, named_code, shape_parts, typed_parts, types_parts}
 use Rattle.sig_grammar.specs.Parts.{EncodesParts, IsIndex, Part, byte, index, number}
 use Rattle.sig_grammar.specs.Reading.{index_at, number_at, token_of}
-use Rattle.sig_grammar.specs.Syntax.{Body, Core, instance, plain, simple, slot, some_ret, type_spec, void_ret}
+use Rattle.sig_grammar.specs.Syntax.{Body, Core, array, by_ref, class, field, function, instance, instance_body, locals, method_body, mvar, plain, pointer, property, simple, slot, some_ret, type_spec, typed_ref, value, var, vector, void_pointer, void_ret}
 use Rattle.cli_paths.specs.declared.refs.Wanted.{Wanted}
-use Rattle.cli_paths.proofs.PathLemmas.{row_in}
 
 -- ---- the generic type in the bytes of a signature
 
@@ -26,15 +25,28 @@ read_head c [] differs = refl
 read_head c (d ∷ tail) differs = ap (λ (t : Bool). cond t (option_map (λ read. read.0) (index_at tail)) None) differs
 
 -- bytes that begin with another byte are those of no instance
-other_head : (c : ℕ) (tail parts : List Part) (bytes : List ℕ) → EncodesParts parts bytes → parts ≡ byte c ∷ tail → (c == 0x15) ≡ false → generic_at bytes ≡ None
-other_head c tail parts bytes encodes is differs =
-    let head : EncodesParts (byte c ∷ tail) bytes = subst (λ (ps : List Part). EncodesParts ps bytes) is encodes in
-    let whole : bytes ≡ c ∷ head.1 = head.2 ∙ ap (λ (h : List ℕ). h ++ head.1) head.3 in
-    ap generic_at whole ∙ read_head c head.1 differs
+other_head : (c : ℕ) (parts : List Part) (bytes : List ℕ) → (c == 0x15) ≡ false → EncodesParts (byte c ∷ parts) bytes → generic_at bytes ≡ None
+other_head c parts bytes differs encodes =
+    let whole : bytes ≡ c ∷ encodes.1 = encodes.2 ∙ ap (λ (h : List ℕ). h ++ encodes.1) encodes.3 in
+    ap generic_at whole ∙ read_head c encodes.1 differs
 
 element_differs : (element : Element) → (element_code element == 0x15) ≡ false
 element_differs Boolean = refl
-element_differs _ = refl
+element_differs Char = refl
+element_differs I1 = refl
+element_differs U1 = refl
+element_differs I2 = refl
+element_differs U2 = refl
+element_differs I4 = refl
+element_differs U4 = refl
+element_differs I8 = refl
+element_differs U8 = refl
+element_differs R4 = refl
+element_differs R8 = refl
+element_differs String = refl
+element_differs I = refl
+element_differs U = refl
+element_differs Object = refl
 
 modifier_differs : (required : Bool) → (cond required CMOD_REQD CMOD_OPT == 0x15) ≡ false
 modifier_differs true = refl
@@ -42,7 +54,7 @@ modifier_differs false = refl
 
 modified_read : (m : Modifier) (ms : List Modifier) (parts : List Part) (bytes : List ℕ) → EncodesParts (modifiers_parts (m ∷ ms) ++ parts) bytes → generic_at bytes ≡ None
 modified_read m ms parts bytes encodes =
-    other_head _ _ (modifiers_parts (m ∷ ms) ++ parts) bytes encodes refl (modifier_differs m.required)
+    other_head (cond m.required CMOD_REQD CMOD_OPT) (index m.of ∷ (modifiers_parts ms ++ parts)) bytes (modifier_differs m.required) encodes
 
 module _ (numbers : (n : ℕ) (prefix tail : List ℕ) → IsPacked n prefix → unsigned_at (prefix ++ tail) ≡ Some (n, length prefix))
     (indexes : (number : ℕ) (token : Token) → IsCoded TypeDefOrRef number token.table token.row → token_of number ≡ Some token) where
@@ -61,21 +73,42 @@ module _ (numbers : (n : ℕ) (prefix tail : List ℕ) → IsPacked n prefix →
       ap generic_at whole ∙ index_read of third.0 third.1 third.3
 
   core_read : (core : Core) (bytes : List ℕ) → EncodesParts (core_parts core) bytes → generic_at bytes ≡ generic_of (type_spec (some_ret (slot [] (plain core))))
-  core_read (simple element) bytes encodes = other_head _ _ (core_parts (simple element)) bytes encodes refl (element_differs element)
+  core_read (simple element) bytes encodes = other_head (element_code element) [] bytes (element_differs element) encodes
+  core_read (void_pointer modifiers) bytes encodes = other_head 0x0F (modifiers_parts modifiers ++ byte 0x01 ∷ []) bytes refl encodes
+  core_read (pointer modifiers to) bytes encodes = other_head 0x0F (modifiers_parts modifiers ++ core_parts to) bytes refl encodes
+  core_read (vector of) bytes encodes = other_head 0x1D (typed_parts of) bytes refl encodes
+  core_read (array of shape) bytes encodes = other_head 0x14 (typed_parts of ++ shape_parts shape) bytes refl encodes
+  core_read (class of) bytes encodes = other_head 0x12 (index of ∷ []) bytes refl encodes
+  core_read (value of) bytes encodes = other_head 0x11 (index of ∷ []) bytes refl encodes
+  core_read (var n) bytes encodes = other_head 0x13 (number n ∷ []) bytes refl encodes
+  core_read (mvar n) bytes encodes = other_head 0x1E (number n ∷ []) bytes refl encodes
   core_read (instance is_value of args) bytes encodes = instance_read is_value of (number (count_types args) ∷ types_parts args) bytes encodes
-  core_read core bytes encodes = other_head _ _ (core_parts core) bytes encodes refl refl
+  core_read (function m) bytes encodes = other_head 0x1B (method_parts m) bytes refl encodes
 
   pub generic_read : (signature : Body) (bytes : List ℕ) → Encodes column.TypeSpec signature bytes → generic_at bytes ≡ generic_of signature
+  generic_read (type_spec (some_ret (slot [] typed_ref))) bytes encodes = other_head 0x16 [] bytes refl encodes.parts
   generic_read (type_spec (some_ret (slot [] (plain core)))) bytes encodes = core_read core bytes encodes.parts
+  generic_read (type_spec (some_ret (slot [] (by_ref modifiers core)))) bytes encodes = other_head 0x10 (modifiers_parts modifiers ++ core_parts core) bytes refl encodes.parts
   generic_read (type_spec (some_ret (slot (m ∷ ms) content))) bytes encodes = modified_read m ms (content_parts content) bytes encodes.parts
+  generic_read (type_spec (void_ret [])) bytes encodes = other_head 0x01 [] bytes refl encodes.parts
   generic_read (type_spec (void_ret (m ∷ ms))) bytes encodes = modified_read m ms (byte 0x01 ∷ []) bytes encodes.parts
-  generic_read (type_spec of) bytes encodes = other_head _ _ (ret_parts of) bytes encodes.parts refl refl
-  generic_read _ bytes encodes = absurd encodes.column
+  generic_read (field s) bytes encodes = absurd encodes.column
+  generic_read (method_body m) bytes encodes = absurd encodes.column
+  generic_read (property this of params) bytes encodes = absurd encodes.column
+  generic_read (locals variables) bytes encodes = absurd encodes.column
+  generic_read (instance_body args) bytes encodes = absurd encodes.column
 
 -- ---- what belongs to a TypeRef that is wanted
 
 abbrev token_in : TableId → ℕ → Token
 token_in table row = record { table = table; row = row }
+
+abbrev row_in : Option Token → ℕ
+row_in None = 0
+row_in (Some token) = token.row
+
+same_ref : (a b : ℕ) → Some (token_in TypeRef a) ≡ Some (token_in TypeRef b) → a ≡ b
+same_ref a b same = ap row_in same
 
 pub belongs_by : (model : Metadata) (wanted : Wanted) (of found : Token) → type_of_ref model of.table of.row ≡ Some found → found.table ≡ TypeRef → (test : Bool)
     → IsTrue test ↔ (HasRow model TypeRef found.row × IsWantedRef model wanted found.row) → IsTrue test ↔ BelongsTo model (IsWantedRef model wanted) of
@@ -83,6 +116,6 @@ belongs_by model wanted of found is types test decides =
     let whole : Some found ≡ Some (token_in TypeRef found.row) = ap (λ (t : TableId). Some (token_in t found.row)) types in (
       (λ yes. let at = decides.0 yes in (found.row, is ∙ whole, at.0, at.1)),
       (λ belongs.
-          let same : belongs.0 ≡ found.row = ap (λ (of : Option Token). row_in (Ref of)) (sym belongs.1 ∙ is ∙ whole) in
+          let same = same_ref belongs.0 found.row (sym belongs.1 ∙ is ∙ whole) in
           decides.1 (subst (λ (r : ℕ). HasRow model TypeRef r) same belongs.2, subst (λ (r : ℕ). IsWantedRef model wanted r) same belongs.3)),
     )

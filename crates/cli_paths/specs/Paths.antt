@@ -1,13 +1,12 @@
 -- The type that a path means: the names of the types that enclose it, the outermost first, and its own, with slashes between them
 -- (ECMA-335 II.22.32 and II.22.37).
-use Rattle.std.specs.Prelude.{◌≡◌, ◌≢◌, ◌==◌, ℕ, zero, suc, ◌<◌, ◌⊎◌, Bool, List, [], length, Option, None, Some, IfNone, IfSome, IsNone, slice_index, slice_index_or, EachIndex}
+use Rattle.std.specs.Prelude.{◌≡◌, ◌≢◌, ◌==◌, ◌↔◌, ℕ, zero, suc, ◌+◌, ◌<◌, ◌≤◌, ◌⊎◌, Bool, List, [], length, Option, None, Some, IfNone, IfSome, IsNone, slice_index, slice_index_or, EachIndex}
 use Rattle.std.specs.List.{slice_split}
 use Rattle.table_schema.specs.declared.table.TableId.{TableId}
-use Rattle.table_schema.specs.declared.table.TableId.TheVariants.{TypeDef, TypeRef}
+use Rattle.table_schema.specs.declared.table.TableId.TheVariants.{TypeDef}
 use Rattle.metadata.specs.Cell.{Text}
 use Rattle.metadata.specs.Lookups.{HasRow}
 use Rattle.metadata.specs.Metadata.{Metadata, cell_in}
-use Rattle.navigation.specs.Nesting.{IsScope}
 use Rattle.full_names.specs.Names.{IsOuter}
 use Rattle.cli_names.specs.Names.{IsFullName}
 
@@ -27,27 +26,27 @@ HasOwnName model table part row =
 abbrev pub IsAround : (ℕ → ℕ → Type 0) → ℕ → Option ℕ → Type 0
 IsAround is_outside row found = IfSome found (is_outside row) × IfNone found ((outer : ℕ) → ¬ is_outside row outer)
 
--- what is outside of a row of TypeDef: the type that encloses it; and of a row of TypeRef: its scope, if that is a TypeRef too (II.22.38)
-abbrev pub IsOutside : Metadata → TableId → ℕ → ℕ → Type 0
-IsOutside model TypeDef row outer = IsOuter model row outer
-IsOutside model TypeRef row outer = IsScope model row outer
-IsOutside model _ row outer = ⊥
-
 -- the first parts of a path, this many, are the names of a row and of those outside of it; none are those of no row
-abbrev pub HasParts : Metadata → TableId → List (List ℕ) → ℕ → Option ℕ → Type 0
-HasParts model table parts zero found = IsNone found
-HasParts model table parts (suc count) None = ⊥
-HasParts model table parts (suc count) (Some row) =
-    HasOwnName model table (slice_index_or parts count []) row
-    × (outer : Option ℕ) × IsAround (IsOutside model table) row outer × HasParts model table parts count outer
+abbrev pub HasParts : (ℕ → ℕ → Type 0) → (List ℕ → ℕ → Type 0) → List (List ℕ) → ℕ → Option ℕ → Type 0
+HasParts is_outside has_name parts zero found = IsNone found
+HasParts is_outside has_name parts (suc count) None = ⊥
+HasParts is_outside has_name parts (suc count) (Some row) =
+    has_name (slice_index_or parts count []) row × (outer : Option ℕ) × IsAround is_outside row outer × HasParts is_outside has_name parts count outer
 
--- all the parts are
-abbrev pub HasAllParts : Metadata → TableId → List (List ℕ) → ℕ → Type 0
-HasAllParts model table parts row = HasParts model table parts (length parts) (Some row)
+abbrev pub HasTypeParts : Metadata → List (List ℕ) → ℕ → Option ℕ → Type 0
+HasTypeParts model parts count class = HasParts (IsOuter model) (HasOwnName model TypeDef) parts count class
 
 -- a type has a path
 abbrev pub HasPath : Metadata → List ℕ → ℕ → Type 0
-HasPath model path row = HasAllParts model TypeDef (slice_split is_slash path) row
+HasPath model path row = let parts = slice_split is_slash path in HasTypeParts model parts (length parts) (Some row)
+
+-- how many of the first parts are the names of a type and of those that enclose it, if it is on the path; for private clauses
+abbrev pub IsMatched : Metadata → List (List ℕ) → Option ℕ → Option ℕ → Type 0
+IsMatched model parts class found = (count : ℕ) → count ≤ length parts → HasTypeParts model parts count class ↔ (found ≡ Some count)
+
+-- that of the types from the first row on
+abbrev pub AreMatched : Metadata → List (List ℕ) → List (Option ℕ) → Type 0
+AreMatched model parts found = (row : ℕ) → row < length found → IsMatched model parts (Some (row + 1)) (slice_index_or found row None)
 
 -- the first type after a row that has a property
 pub record IsNext (model : Metadata) (Has : ℕ → Type 0) (after row : ℕ) : Type 0 where

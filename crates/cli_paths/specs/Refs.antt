@@ -1,5 +1,5 @@
 -- The types of other modules that an argument means, and what the assembly refers to of them (ECMA-335 II.22.25 and II.22.38).
-use Rattle.std.specs.Prelude.{◌≡◌, ◌↔◌, ◌==◌, ℕ, if◌then◌else◌, List, [], ◌∷◌, map, option_and_then, option_map, Option, None, Some}
+use Rattle.std.specs.Prelude.{◌≡◌, ◌↔◌, ◌==◌, ℕ, if◌then◌else◌, List, [], ◌∷◌, length, map, option_and_then, option_map, Option, None, Some}
 use Rattle.std.specs.List.{slice_split}
 use Rattle.table_schema.specs.declared.table.TableId.{TableId}
 use Rattle.table_schema.specs.declared.table.TableId.TheVariants.{MemberRef, TypeRef, TypeSpec}
@@ -11,20 +11,25 @@ use Rattle.metadata.specs.Cell.{Cell, Sig}
 use Rattle.metadata.specs.Lookups.{HasRow}
 use Rattle.metadata.specs.Metadata.{Metadata, cell_in}
 use Rattle.navigation.specs.Cells.{reference_in}
+use Rattle.navigation.specs.Nesting.{IsScope}
 use Rattle.cli_paths.specs.declared.refs.Wanted.{Wanted}
 use Rattle.cli_paths.specs.declared.refs.Wanted.TheVariants as wanted
 use Rattle.cli_paths.specs.declared.subject.Subject.{Subject}
 use Rattle.cli_paths.specs.declared.subject.Subject.TheVariants.{Path, Row}
-use Rattle.cli_paths.specs.Paths.{HasAllParts, is_slash}
+use Rattle.cli_paths.specs.Paths.{HasOwnName, HasParts, is_slash}
+
+-- a TypeRef has a path that consists of these parts
+abbrev pub HasRefParts : Metadata → List (List ℕ) → ℕ → Type 0
+HasRefParts model parts row = HasParts (IsScope model) (HasOwnName model TypeRef) parts (length parts) (Some row)
 
 -- a TypeRef is meant: it has the path, or it is the row with this token
 abbrev pub IsMeantRef : Metadata → Subject → ℕ → Type 0
-IsMeantRef model (Path path) row = HasAllParts model TypeRef (slice_split is_slash path.now) row
+IsMeantRef model (Path path) row = HasRefParts model (slice_split is_slash path.now) row
 IsMeantRef model (Row token) row = token ≡ record { table = TypeRef; row = row }
 
 -- the same of a path that was taken apart; for private clauses
 abbrev pub IsWantedRef : Metadata → Wanted → ℕ → Type 0
-IsWantedRef model (wanted.Path parts) row = HasAllParts model TypeRef (map (λ part. part.now) parts.items) row
+IsWantedRef model (wanted.Path parts) row = HasRefParts model (map (λ part. part.now) parts.items) row
 IsWantedRef model (wanted.Row token) row = token ≡ record { table = TypeRef; row = row }
 
 abbrev pub Wants : Metadata → Subject → Wanted → Type 0

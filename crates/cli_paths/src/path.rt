@@ -1,6 +1,6 @@
 //! Finds the type that a path means: the names of the types that enclose it and its own, with slashes between them
 //! (II.22.32, II.22.37).
-ghost use Rattle.std.specs.Prelude.{◌≡◌, ◌≤◌, ◌<◌, ◌↔◌, ℕ, IfNone, IfOk, IfSome, IsTrue, map};
+ghost use Rattle.std.specs.Prelude.{◌≡◌, ◌≤◌, ◌<◌, ◌+◌, ◌↔◌, ℕ, List, Option, Some, IfNone, IfOk, IfSome, IsTrue, length, map};
 ghost use Rattle.std.specs.List.{slice_split};
 ghost use Rattle.table_schema.specs.CellColumns.{cell_count};
 ghost use Rattle.table_schema.specs.declared.column.ColumnKind.TheVariants as kind;
@@ -9,11 +9,12 @@ ghost use Rattle.metadata.specs.Lookups.{HasRow};
 ghost use Rattle.metadata.specs.Metadata.{Metadata};
 ghost use Rattle.metadata.specs.Model.{IsModel};
 ghost use Rattle.metadata.specs.Valid.{kind_at};
+ghost use Rattle.full_names.specs.Names.{IsOuter};
 ghost use Rattle.opening.specs.Views.{row_count};
-ghost use Rattle.cli_paths.specs.Paths.{HasAllParts, HasName, HasOwnName, HasPath, IsAround, IsBare, IsMeant, IsNext, IsOutside, is_slash};
+ghost use Rattle.cli_paths.specs.Paths.{AreMatched, HasName, HasOwnName, HasPath, IsAround, IsBare, IsMatched, IsMeant, IsNext, is_slash};
 
 use cli_names::names_of_type;
-use navigation::{enclosing_type, enclosing_type_ref};
+use navigation::enclosing_type;
 use opening::{ReadMetadata, TableId, View};
 use std::alloc::{AllocError, Global};
 
@@ -31,7 +32,7 @@ pub(crate) fn parts_of<'p>(alloc: Global, path: &'p str) -> Result<Vec<&'p str>,
 }
 
 /// Whether a row of TypeDef or TypeRef has the name that a part of a path is, after its namespace and a dot.
-fn has_own_name(view: &View<'_>, table: TableId, row: u32, part: &str) -> bool
+pub(crate) fn has_own_name(view: &View<'_>, table: TableId, row: u32, part: &str) -> bool
     requires first { 1 ≤ row }
     requires last { row ≤ row_count view.now table }
     requires texts { (2 < cell_count table) × (kind_at table 1 ≡ kind.Text) × (kind_at table 2 ≡ kind.Text) }
@@ -41,47 +42,34 @@ fn has_own_name(view: &View<'_>, table: TableId, row: u32, part: &str) -> bool
     view.is_text(table, row, NAME, name) && view.is_text(table, row, NAMESPACE, namespace)
 }
 
-/// The row outside of a row: of a TypeDef the type that encloses it, of a TypeRef its scope, if that is a TypeRef too. If NestedClass is
-/// not in the order of its key (II.22), nothing encloses a type, because then each look-up would pass over the table.
-fn outer_row(view: &View<'_>, table: TableId, row: u32) -> Option<u32>
-    requires first { 1 ≤ row }
-    requires last { row ≤ row_count view.now table }
-    ensures around { (model : Metadata) → IsModel view.now model → IsAround (IsOutside model table) row result }
-    ensures first { IfSome result (λ outer. 1 ≤ outer) }
-    ensures last { IfSome result (λ outer. outer ≤ row_count view.now table) }
+/// How many of the first parts of a path are the names of the types that enclose a type; `None` if those are not on the path.
+/// The same of the types in the rows before it is given. If NestedClass is not in the order of its key (II.22), nothing encloses
+/// a type, because then each look-up would pass over the table.
+fn parts_around(view: &View<'_>, earlier: &[Option<usize>], row: u32) -> Option<usize>
+    requires rows { length earlier.now + 1 ≡ row }
+    ensures { (model : Metadata) → IsModel view.now model → (parts : List (List ℕ)) → AreMatched model parts earlier.now
+        → (outer : Option ℕ) × IsAround (IsOuter model) row outer × IsMatched model parts outer result }
 {
-    match table {
-        TableId::TypeDef => {
-            if !view.in_order(TableId::NestedClass) {
-                return None;
-            }
-            enclosing_type(view, row)
-        }
-        TableId::TypeRef => enclosing_type_ref(view, row),
-        _ => None,
+    if !view.in_order(TableId::NestedClass) {
+        return Some(0);
+    }
+    match enclosing_type(view, row) {
+        Some(outer) => earlier[outer as usize - 1],
+        None => Some(0),
     }
 }
 
-/// Whether these parts of a path are the names of a row and of those outside of it. The scopes of TypeRefs may go in a circle, but
-/// no more rows are looked at than there are parts.
-pub(crate) fn has_parts(view: &View<'_>, table: TableId, parts: &[&str], row: u32) -> bool
-    requires first { 1 ≤ row }
-    requires last { row ≤ row_count view.now table }
-    requires texts { (2 < cell_count table) × (kind_at table 1 ≡ kind.Text) × (kind_at table 2 ≡ kind.Text) }
-    ensures { (model : Metadata) → IsModel view.now model → IsTrue result ↔ HasAllParts model table (map (λ part. part.now) parts.now) row }
+/// How many of the first parts are the names of a type and of those that enclose it; `None` if it is not on the path.
+#[tactic(auto, unfolding(table_schema::specs::CellColumns::cell_columns))]
+fn parts_at(view: &View<'_>, parts: &[&str], earlier: &[Option<usize>], row: u32) -> Option<usize>
+    requires last { row ≤ row_count view.now TypeDef }
+    requires rows { length earlier.now + 1 ≡ row }
+    ensures { (model : Metadata) → IsModel view.now model → AreMatched model (map (λ part. part.now) parts.now) earlier.now
+        → IsMatched model (map (λ part. part.now) parts.now) (Some row) result }
 {
-    let mut left = Some(row);
-    for below in 0..parts.len() {
-        let Some(inner) = left else {
-            return false;
-        };
-        let part = parts[parts.len() - 1 - below];
-        if !has_own_name(view, table, inner, part) {
-            return false;
-        }
-        left = outer_row(view, table, inner);
-    }
-    left.is_none()
+    let count = parts_around(view, earlier, row)?;
+    let part = parts.get(count)?;
+    has_own_name(view, TableId::TypeDef, row, part).then_some(count + 1)
 }
 
 /// The first type with a path; `None` if no type has it.
@@ -89,7 +77,6 @@ pub(crate) fn has_parts(view: &View<'_>, table: TableId, parts: &[&str], row: u3
 /// # Errors
 ///
 /// Out of memory.
-#[tactic(auto, unfolding(table_schema::specs::CellColumns::cell_columns))]
 fn first_at(alloc: Global, view: &View<'_>, path: &str) -> Result<Option<u32>, AllocError>
     ensures sound { (model : Metadata) → IsModel view.now model → IfOk result (λ found. IfSome found (IsNext model (HasPath model path.now) 0)) }
     ensures none { (model : Metadata) → IsModel view.now model → IfOk result (λ found. IfNone found ((row : ℕ) → HasRow model TypeDef row → ¬ HasPath model path.now row)) }
@@ -97,10 +84,13 @@ fn first_at(alloc: Global, view: &View<'_>, path: &str) -> Result<Option<u32>, A
     ensures last { IfOk result (λ found. IfSome found (λ row. row ≤ row_count view.now TypeDef)) }
 {
     let parts = parts_of(alloc, path)?;
+    let mut earlier = Vec::new(alloc);
     for row in 1..view.count(TableId::TypeDef) + 1 {
-        if has_parts(view, TableId::TypeDef, parts.as_slice(), row) {
+        let found = parts_at(view, parts.as_slice(), earlier.as_slice(), row);
+        if found == Some(parts.len()) {
             return Ok(Some(row));
         }
+        earlier.push(found)?;
     }
     Ok(None)
 }

@@ -1,15 +1,19 @@
 //! The types of other modules that an argument means, and what belongs to them (II.22.25, II.22.38).
-ghost use Rattle.std.specs.Prelude.{◌≡◌, ◌≤◌, ◌↔◌, IfOk, IsTrue};
+ghost use Rattle.std.specs.Prelude.{◌≡◌, ◌≤◌, ◌↔◌, IfOk, IsTrue, map};
+ghost use Rattle.table_schema.specs.declared.column.SigKind.TheVariants as kind;
 ghost use Rattle.table_schema.specs.declared.table.TableId.TheVariants.{TypeRef, TypeSpec};
+ghost use Rattle.sig_grammar.specs.Encodes.{Encodes};
+ghost use Rattle.sig_grammar.specs.Syntax.{Body};
 ghost use Rattle.metadata.specs.Lookups.{HasRow};
 ghost use Rattle.metadata.specs.Metadata.{Metadata, cell_in};
 ghost use Rattle.metadata.specs.Model.{IsModel};
 ghost use Rattle.opening.specs.Views.{row_count};
-ghost use Rattle.cli_paths.specs.Refs.{BelongsTo, HasSome, IsWantedRef, Wants, generic_at, generic_in, type_of_parent, type_of_ref};
+ghost use Rattle.cli_paths.specs.Refs.{BelongsTo, HasRefParts, HasSome, IsWantedRef, Wants, generic_at, generic_in, generic_of as generic_type, type_of_parent, type_of_ref};
 
-use crate::path::{has_parts, parts_of};
+use crate::path::{has_own_name, parts_of};
 use crate::subject::Subject;
 use full_names::member_parent;
+use navigation::enclosing_type_ref;
 use opening::{CellRef, ReadMetadata, TableId, Token, View};
 use sig_grammar::element_type::GENERICINST;
 use sig_recogniser::{byte, index};
@@ -42,8 +46,29 @@ pub fn wanted_types<'p>(alloc: Global, subject: Subject<'p>) -> Result<Wanted<'p
     }
 }
 
-/// Whether a TypeRef exists and is wanted.
+/// Whether these parts of a path are the names of a TypeRef and of those that enclose it. The scopes of TypeRefs may go in a
+/// circle, but no more of them are looked at than there are parts.
 #[tactic(auto, unfolding(table_schema::specs::CellColumns::cell_columns))]
+fn has_ref_parts(view: &View<'_>, parts: &[&str], row: u32) -> bool
+    requires first { 1 ≤ row }
+    requires last { row ≤ row_count view.now TypeRef }
+    ensures { (model : Metadata) → IsModel view.now model → IsTrue result ↔ HasRefParts model (map (λ part. part.now) parts.now) row }
+{
+    let mut left = Some(row);
+    for below in 0..parts.len() {
+        let Some(inner) = left else {
+            return false;
+        };
+        let part = parts[parts.len() - 1 - below];
+        if !has_own_name(view, TableId::TypeRef, inner, part) {
+            return false;
+        }
+        left = enclosing_type_ref(view, inner);
+    }
+    left.is_none()
+}
+
+/// Whether a TypeRef exists and is wanted.
 fn is_wanted(view: &View<'_>, wanted: &Wanted<'_>, row: u32) -> bool
     ensures { (model : Metadata) → IsModel view.now model → IsTrue result ↔ (HasRow model TypeRef row × IsWantedRef model wanted.now row) }
 {
@@ -52,7 +77,7 @@ fn is_wanted(view: &View<'_>, wanted: &Wanted<'_>, row: u32) -> bool
         return false;
     }
     match wanted {
-        Wanted::Path(parts) => has_parts(view, TableId::TypeRef, parts.as_slice(), row),
+        Wanted::Path(parts) => has_ref_parts(view, parts.as_slice(), row),
         Wanted::Row(token) => match token.table {
             TableId::TypeRef => token.row == row,
             _ => false,
@@ -85,6 +110,15 @@ fn generic_at(blob: &[u8]) -> Option<Token>
     Some(of)
 }
 
+/// The same, by the signature that the bytes encode.
+fn generic_in_blob(blob: &[u8]) -> Option<Token>
+    ensures { (signature : Body) → Encodes kind.TypeSpec signature blob.now → result ≡ generic_type signature }
+{
+    packed::laws::numbers_are_read();
+    sig_grammar::laws::indexes_are_read();
+    generic_at(blob)
+}
+
 /// The same of the type that a TypeSpec is.
 #[tactic(auto, unfolding(table_schema::specs::CellColumns::cell_columns))]
 fn generic_of(view: &View<'_>, row: u32) -> Option<Token>
@@ -92,10 +126,8 @@ fn generic_of(view: &View<'_>, row: u32) -> Option<Token>
     requires last { row ≤ row_count view.now TypeSpec }
     ensures { (model : Metadata) → IsModel view.now model → result ≡ generic_in (cell_in model TypeSpec row 0) }
 {
-    packed::laws::numbers_are_read();
-    sig_grammar::laws::indexes_are_read();
     match view.cell(TableId::TypeSpec, row, TYPE_SIGNATURE) {
-        CellRef::Sig(blob) => generic_at(blob),
+        CellRef::Sig(blob) => generic_in_blob(blob),
         _ => None,
     }
 }

@@ -1,5 +1,5 @@
 -- What `clim types` prints: the types of a model, one on a line (ECMA-335 II.22.37).
-use Rattle.std.specs.Prelude.{ℕ, ◌+◌, ◌-◌, nat_lt, if◌then◌else◌, List, [], ◌∷◌, codes, map}
+use Rattle.std.specs.Prelude.{ℕ, ◌+◌, ◌-◌, nat_le, if◌then◌else◌, List, [], ◌∷◌, codes, map}
 use Rattle.std.specs.List.{range_with_len}
 use Rattle.table_schema.specs.declared.table.TableId.{TableId}
 use Rattle.table_schema.specs.declared.table.TableId.TheVariants.{TypeDef, Field, MethodDef}
@@ -19,11 +19,14 @@ abbrev pub start_of : Cell → ℕ
 start_of (Start row) = row
 start_of _ = 0
 
--- the number of a type's members: they begin at its cell with their start, and end before those of the next type
+-- the first of a type's members, by its cell with their start; after the last type, one more than the last member
+unfoldable pub first_member : Metadata → ℕ → TableId → ℕ → ℕ
+first_member model cell_index member row =
+    if nat_le row (count_in model TypeDef) then start_of (cell_in model TypeDef row cell_index) else count_in model member + 1
+
+-- the number of a type's members: they end before those of the next type
 unfoldable pub member_count : Metadata → ℕ → TableId → ℕ → ℕ
-member_count model cell_index member row =
-    (if nat_lt row (count_in model TypeDef) then start_of (cell_in model TypeDef (row + 1) cell_index) else count_in model member + 1)
-    - start_of (cell_in model TypeDef row cell_index)
+member_count model cell_index member row = first_member model cell_index member (row + 1) - first_member model cell_index member row
 
 -- a dot after a namespace
 abbrev pub dot_after : List ℕ → List ℕ

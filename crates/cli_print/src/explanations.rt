@@ -62,11 +62,7 @@ pub fn print_explanation<W: Write>(rule: FaultCode, out: &mut Printer<'_, W>)
     cli_lines::laws::lines_follow::<W>();
     let it = explain(rule);
     print_rule(it, out);
-    out.line(&[]);
-    print_item("Rule:", Some(it.rule), out);
-    print_item("Section:", it.section, out);
-    print_item("Offset:", Some(it.offset), out);
-    print_item("Usual cause:", it.cause, out);
+    print_items(it, out);
 }
 
 /// Prints the line of a rule.
@@ -108,15 +104,35 @@ fn add_known<W: Write>(name: Name, text: Option<&'static str>, out: &mut Printer
     }
 }
 
-/// Prints a dash, a label and a text, in lines of at most [`WIDTH`] columns. It prints nothing if the text is not known.
-fn print_item<W: Write>(label: &str, text: Option<&str>, out: &mut Printer<'_, W>)
+/// Prints the items after the line of a rule.
+fn print_items<W: Write>(it: &Explanation, out: &mut Printer<'_, W>)
+    ensures { PrintsWords out.old out.new }
+{
+    cli_lines::laws::lines_follow::<W>();
+    out.line(&[]);
+    print_item("Rule:", it.rule, out);
+    print_known("Section:", it.section, out);
+    print_item("Offset:", it.offset, out);
+    print_known("Usual cause:", it.cause, out);
+}
+
+/// Prints an item if its text is known.
+fn print_known<W: Write>(label: &str, text: Option<&str>, out: &mut Printer<'_, W>)
+    ensures { PrintsWords out.old out.new }
+{
+    cli_lines::laws::lines_follow::<W>();
+    match text {
+        Some(text) => print_item(label, text, out),
+        None => {}
+    }
+}
+
+/// Prints a dash, a label and a text, in lines of at most [`WIDTH`] columns.
+fn print_item<W: Write>(label: &str, text: &str, out: &mut Printer<'_, W>)
     ensures { PrintsWords out.old out.new }
 {
     cli_lines::laws::parts_follow::<W>();
     cli_lines::laws::lines_follow::<W>();
-    let Some(text) = text else {
-        return;
-    };
     out.begin(&[Word("- "), Word(label)]);
     let mut room = (WIDTH - INDENT.len()).saturating_sub(label.len());
     for word in text.split_whitespace() {

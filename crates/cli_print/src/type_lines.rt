@@ -1,11 +1,10 @@
 //! `clim types`: the types of a file.
-ghost use Rattle.std.specs.Prelude.{◌≡◌, ◌≤◌, ◌<◌, ◌-◌, ◌∷◌, []};
+ghost use Rattle.std.specs.Prelude.{◌≡◌, ◌≤◌, ◌-◌, ◌⊎◌, ◌∷◌, []};
 ghost use Rattle.cli_lines.specs.Printed.{Prints};
 ghost use Rattle.cli_print.specs.TypeLines.{dot_after, text_of, type_line, types_lines};
 ghost use Rattle.metadata.specs.Metadata.{Metadata, cell_in};
 ghost use Rattle.metadata.specs.Model.{IsModel};
 ghost use Rattle.opening.specs.Views.{row_count};
-ghost use Rattle.table_schema.specs.CellColumns.{cell_count};
 ghost use Rattle.table_schema.specs.declared.table.TableId.TheVariants.{TypeDef};
 
 use cli_lines::Part::{Field, Word};
@@ -34,7 +33,6 @@ pub fn print_types<W: Write>(view: &View<'_>, out: &mut Printer<'_, W>)
 }
 
 /// Prints the line of a type.
-#[tactic(auto, unfolding(table_schema::specs::CellColumns::cell_columns))]
 fn print_type<W: Write>(cells: &mut CellCursor<'_, '_>, row: u32, out: &mut Printer<'_, W>)
     requires first { 1 ≤ row }
     requires last { row ≤ row_count cells.old TypeDef }
@@ -64,11 +62,11 @@ fn print_type<W: Write>(cells: &mut CellCursor<'_, '_>, row: u32, out: &mut Prin
     ]);
 }
 
-/// The text in a cell of a type (II.22.37).
+/// The name of a type, which is its cell 1, or its namespace, which is its cell 2 (II.22.37).
 fn text_of<'a>(view: &View<'a>, row: u32, cell_index: usize) -> &'a str
     requires first { 1 ≤ row }
     requires last { row ≤ row_count view.now TypeDef }
-    requires cell_index { cell_index < cell_count TypeDef }
+    requires cell_index { (cell_index ≡ 1) ⊎ (cell_index ≡ 2) }
     ensures { (model : Metadata) → IsModel view.now model → result.now ≡ text_of (cell_in model TypeDef row cell_index) }
 {
     match view.cell(TableId::TypeDef, row, cell_index) {

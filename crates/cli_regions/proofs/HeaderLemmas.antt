@@ -1,6 +1,5 @@
 -- The offsets of stream headers (ECMA-335 II.24.2.2).
 use Rattle.cli_regions.proofs.Prelude.{◌≡◌, ℕ, ◌+◌, ◌*◌, ◌/◌, ◌%◌, ◌<◌, ◌≤◌, List, [], ◌∷◌, ◌++◌, length, ap, arith, length-append, All, All-cons, All-nil, header_length, Header}
-use Rattle.root.specs.Fields.{root_read}
 use Rattle.root.specs.Root.{AreHeaders, IsHeader, IsRoot}
 
 -- the header ends at or before an offset
@@ -25,10 +24,9 @@ headers_end limit position bytes (header ∷ headers) within are =
     All-cons (EndsBy limit) header headers (omega (arith, long, whole, are.3))
     (headers_end limit (position + length first) are.1 headers (omega (arith, whole)) are.5)
 
-pub root_headers_end : (root : List ℕ) → (length root ≤ 0x40000000) × IsRoot root (root_read root).version (root_read root).headers
-    → All (λ header. header.place + header_length header ≤ 0x40000000) (root_read root).headers
-root_headers_end root rooted =
-    let is = rooted.1 in
+pub root_headers_end : (root version : List ℕ) (headers : List Header) → length root ≤ 0x40000000 → IsRoot root version headers
+    → All (λ header. header.place + header_length header ≤ 0x40000000) headers
+root_headers_end root version headers small is =
     let whole = simp length-append at (ap length is.whole) in
-    headers_end 0x40000000 (20 + length ((root_read root).version ++ 0 ∷ is.padding)) is.directory (root_read root).headers
-    (simp length-append (omega (arith, whole, rooted.0, is.ignored_long, is.version_long.long, is.flags_long, is.count.long))) is.headers_are
+    headers_end 0x40000000 (20 + length (version ++ 0 ∷ is.padding)) is.directory headers
+    (simp length-append (omega (arith, whole, small, is.ignored_long, is.version_long.long, is.flags_long, is.count.long))) is.headers_are

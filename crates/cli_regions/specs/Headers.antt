@@ -1,7 +1,6 @@
 -- A metadata root, its streams and the row counts of its tables as structures, outermost first (ECMA-335 II.24.2).
-use Rattle.std.specs.Prelude.{ℕ, ◌+◌, ◌-◌, min, Bool, if◌then◌else◌, List, [], ◌∷◌, ◌++◌, codes, length, map}
+use Rattle.std.specs.Prelude.{ℕ, ◌+◌, ◌-◌, min, Bool, if◌then◌else◌, List, [], ◌∷◌, ◌++◌, codes, length, map, Option, None, Some}
 use Rattle.std.specs.List.{flat_map, list_any}
-use Rattle.std.specs.Option.{option_map_or}
 use Rattle.std.specs.Str.{bytes_eq}
 use Rattle.root.specs.declared.kind.Kind.{Kind}
 use Rattle.root.specs.declared.kind.Kind.TheVariants.{Tables, Strings, UserStrings, Guids, Blobs}
@@ -26,10 +25,14 @@ stream_header_regions start header =
 abbrev pub streams : List Kind
 streams = Strings ∷ UserStrings ∷ Guids ∷ Blobs ∷ Tables ∷ []
 
+-- a stream with this range of a root, if there is one
+abbrev pub ranged : ℕ → Kind → Option (ℕ × ℕ) → List Region
+ranged start kind None = []
+ranged start kind (Some range) = region (start + range.0) (range.1 - range.0) (codes "stream" ++ codes " " ++ stream_name kind) ∷ []
+
 -- a stream of a root, if a header names it (II.24.2.2)
 unfoldable pub stream_regions : ℕ → RootRead → Kind → List Region
-stream_regions start root kind =
-    option_map_or (λ range. region (start + range.0) (range.1 - range.0) (codes "stream" ++ codes " " ++ stream_name kind) ∷ []) (range_of root kind) []
+stream_regions start root kind = ranged start kind (range_of root kind)
 
 -- the standard defines a stream of this name (II.24.2.2)
 abbrev pub is_standard : List ℕ → Bool

@@ -1,13 +1,12 @@
 -- What a program keeps while it looks for the structures that contain a byte.
 use Rattle.std.specs.Prelude.{◌≡◌, ℕ, ◌+◌, ◌*◌, ◌≤◌, Bool, true, false, Option, None, Some, List, [], ◌++◌, codes, length}
-use Rattle.root.specs.Streams.{Header}
 use Rattle.pe.specs.Headers.{lfanew, optional_header_size, section_count, sections_offset}
 use Rattle.cli_faults.specs.Escaped.{escaped_text}
-use Rattle.cli_regions.specs.Headers.{other_stream_regions, stream_header_regions, table_words}
+use Rattle.cli_regions.specs.Headers.{table_words}
 use Rattle.cli_regions.specs.PeHeaders.{numbered, section_header_regions, section_regions}
 use Rattle.cli_regions.specs.Regions.{Region, What as TheWhat, cell, entry, regions_at, scalar, user_string, words}
-use Rattle.cli_regions.specs.declared.searches.Part.{Part}
-use Rattle.cli_regions.specs.declared.searches.Part.TheVariants as part
+use Rattle.cli_regions.specs.declared.sections.SectionPart.{SectionPart}
+use Rattle.cli_regions.specs.declared.sections.SectionPart.TheVariants.{Header, Bytes}
 use Rattle.cli_regions.specs.declared.searches.Name.{Name}
 use Rattle.cli_regions.specs.declared.searches.Name.TheVariants.{Empty, Plain, Text, Section, Table}
 use Rattle.cli_regions.specs.declared.searches.Structure.{Structure}
@@ -70,11 +69,6 @@ pub record HasHeaders (file : List ℕ) : Type 0 where
   pub sections : sections_offset file + 40 * section_count file ≤ length file
 
 -- a section header with its fields, or a section
-abbrev pub part_regions : Part → List ℕ → ℕ → List Region
-part_regions part.Header = section_header_regions
-part_regions part.Bytes = section_regions
-
--- a stream header with its fields, or a stream whose name is not one of the standard, in a root of `size` bytes
-abbrev pub stream_part_regions : Part → ℕ → ℕ → Header → List Region
-stream_part_regions part.Header start size = stream_header_regions start
-stream_part_regions part.Bytes start size = other_stream_regions start size
+abbrev pub part_regions : SectionPart → List ℕ → ℕ → List Region
+part_regions Header = section_header_regions
+part_regions Bytes = section_regions

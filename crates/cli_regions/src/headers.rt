@@ -5,11 +5,11 @@ ghost use Rattle.packed.specs.Rule.{AllHold};
 ghost use Rattle.root.specs.Fields.{header_length, root_read};
 ghost use Rattle.root.specs.Rules.{rules_of_root};
 ghost use Rattle.root.specs.Views.{view};
-ghost use Rattle.cli_regions.specs.Headers.{is_standard, root_regions, stream_regions, streams};
-ghost use Rattle.cli_regions.specs.Kept.{Adds, stream_part_regions};
+ghost use Rattle.cli_regions.specs.Headers.{is_standard, other_stream_regions, root_header_regions, root_regions, stream_header_regions, stream_regions, streams};
+ghost use Rattle.cli_regions.specs.Kept.{Adds};
 
 use crate::fields::{AFTER_VERSION, BEFORE_NAME, BEFORE_VERSION, find_fields, find_header};
-use crate::searches::{Name, Part, Search};
+use crate::searches::{Name, Search};
 use packed::u32_at;
 use root::{Headers, Kind, Root, StreamHeader};
 
@@ -22,72 +22,78 @@ const VERSION: u64 = 16;
 /// The offset of the name in a stream header (II.24.2.2).
 const STREAM_NAME: u64 = 8;
 
-/// The streams of the standard, in the order of the lines: heaps, and then the tables.
-const STREAMS: [Kind; 5] = [
-    Kind::Strings,
-    Kind::UserStrings,
-    Kind::Guids,
-    Kind::Blobs,
-    Kind::Tables,
-];
+/// Looks at a metadata root, and at its fields before the stream headers.
+#[tactic(auto, unfolding(crate::specs::Headers::root_header_regions))]
+fn find_root_header(root: &[u8], start: u64, found: &mut Search<'_>)
+    requires start { start ≤ 0x40000000 }
+    requires room { 16 ≤ length root.now }
+    ensures { Adds found.old found.new (root_header_regions start root.now) }
+{
+    let word = "root header";
+    let version = start + VERSION;
+    let size = u32_at(root, VERSION_SIZE) as u64;
+    found.look(start, root.len() as u64, "root", Name::Empty);
+    find_fields(word, start, &BEFORE_VERSION, found);
+    found.look(version, size, word, Name::Plain("Version"));
+    find_fields(word, version + size, &AFTER_VERSION, found);
+}
+
+/// Looks at a stream header and its fields.
+#[tactic(auto, unfolding(crate::specs::Headers::stream_header_regions))]
+fn find_stream_header<'a>(header: &StreamHeader<'a>, start: u64, found: &mut Search<'a>)
+    requires start { start ≤ 0x40000000 }
+    requires small { header.now.place + header_length (view header.now) ≤ 0x40000000 }
+    ensures { Adds found.old found.new (stream_header_regions start (view header.now)) }
+{
+    let word = "stream header";
+    let start = start + header.place as u64;
+    let name_size = ((header.name.len() + 4) / 4 * 4) as u64;
+    let size = STREAM_NAME + name_size;
+    let name = Name::Text(header.name);
+    find_header(word, name, start, size, &BEFORE_NAME, found);
+    found.look(start + STREAM_NAME, name_size, word, Name::Plain("Name"));
+}
+
+/// Looks at stream headers and their fields.
+fn find_stream_headers<'a>(headers: Headers<'a>, start: u64, found: &mut Search<'a>)
+    requires start { start ≤ 0x40000000 }
+    requires small { All (λ header. header.place + header_length header ≤ 0x40000000) headers }
+    ensures { Adds found.old found.new (flat_map (stream_header_regions start) headers.entry) }
+{
+    for header in headers {
+        find_stream_header(&header, start, found);
+    }
+}
 
 /// Whether the standard defines a stream of this name (II.24.2.2).
 fn is_standard(name: &str) -> bool
     ensures { result ≡ is_standard name.now }
 {
-    STREAMS.iter().any(|kind| name == kind.name())
+    Kind::of(name).is_some()
 }
 
-/// Looks at a part of a stream: its header with the fields, or its bytes that are within the root, of `size` bytes, if its name is
-/// not one of the standard.
-#[tactic(auto, unfolding(crate::specs::Headers::other_stream_regions, crate::specs::Headers::stream_header_regions))]
-fn find_stream_part<'a>(
-    header: &StreamHeader<'a>,
-    part: Part,
-    start: u64,
-    size: u64,
-    found: &mut Search<'a>,
-)
+/// Looks at a stream if its name is not one of the standard. It has the bytes that are within the root.
+#[tactic(auto, unfolding(crate::specs::Headers::other_stream_regions))]
+fn find_other_stream<'a>(header: &StreamHeader<'a>, start: u64, size: u64, found: &mut Search<'a>)
     requires start { start ≤ 0x40000000 }
-    requires small { header.now.place + header_length (view header.now) ≤ 0x40000000 }
-    ensures { Adds found.old found.new (stream_part_regions part start size (view header.now)) }
+    ensures { Adds found.old found.new (other_stream_regions start size (view header.now)) }
 {
-    let name = Name::Text(header.name);
-    match part {
-        Part::Header => {
-            let word = "stream header";
-            let start = start + header.place as u64;
-            let name_size = ((header.name.len() + 4) / 4 * 4) as u64;
-            let size = STREAM_NAME + name_size;
-            find_header(word, name, start, size, &BEFORE_NAME, found);
-            found.look(start + STREAM_NAME, name_size, word, Name::Plain("Name"));
-        }
-        Part::Bytes => {
-            if is_standard(header.name) {
-                return;
-            }
-            let start = start + u64::from(header.offset);
-            let left = size.saturating_sub(u64::from(header.offset));
-            let count = u64::from(header.size).min(left);
-            found.look(start, count, "stream", name);
-        }
+    if is_standard(header.name) {
+        return;
     }
+    let start = start + u64::from(header.offset);
+    let left = size.saturating_sub(u64::from(header.offset));
+    let count = u64::from(header.size).min(left);
+    found.look(start, count, "stream", Name::Text(header.name));
 }
 
-/// Looks at a part of each stream of a root of `size` bytes.
-fn find_stream_parts<'a>(
-    headers: Headers<'a>,
-    part: Part,
-    start: u64,
-    size: u64,
-    found: &mut Search<'a>,
-)
-    requires start { start ≤ 0x40000000 }
-    requires small { All (λ header. header.place + header_length header ≤ 0x40000000) headers }
-    ensures { Adds found.old found.new (flat_map (stream_part_regions part start size) headers.entry) }
+/// Looks at the streams of a root of `size` bytes whose names are not those of the standard.
+fn find_other_streams<'a>(headers: Headers<'a>, start: u64, size: u64, found: &mut Search<'a>)
+    requires { start ≤ 0x40000000 }
+    ensures { Adds found.old found.new (flat_map (other_stream_regions start size) headers.entry) }
 {
     for header in headers {
-        find_stream_part(&header, part, start, size, found);
+        find_other_stream(&header, start, size, found);
     }
 }
 
@@ -97,10 +103,13 @@ fn find_stream(root: &Root<'_>, kind: Kind, start: u64, found: &mut Search<'_>)
     requires small { length root.now.bytes ≤ 0x40000000 }
     ensures { Adds found.old found.new (stream_regions start root.now kind) }
 {
-    if let Some(range) = root.stream_place(kind) {
-        let size = (range.end - range.start) as u64;
-        let start = start + range.start as u64;
-        found.look(start, size, "stream", Name::Plain(kind.name()));
+    match root.stream_place(kind) {
+        Some(range) => {
+            let size = (range.end - range.start) as u64;
+            let start = start + range.start as u64;
+            found.look(start, size, "stream", Name::Plain(kind.name()));
+        }
+        None => {}
     }
 }
 
@@ -119,7 +128,6 @@ fn find_streams(root: &Root<'_>, start: u64, found: &mut Search<'_>)
 
 /// Looks at a metadata root, its fields, its stream headers and its streams. `root` is at offset `start` of the file, and
 /// `directory` was read from it.
-#[tactic(auto, unfolding(crate::specs::Headers::root_header_regions))]
 pub fn find_root<'a>(root: &[u8], directory: &Root<'a>, start: u64, found: &mut Search<'a>)
     requires start { start ≤ 0x40000000 }
     requires rules { AllHold (rules_of_root root.now) }
@@ -127,15 +135,8 @@ pub fn find_root<'a>(root: &[u8], directory: &Root<'a>, start: u64, found: &mut 
     ensures { Adds found.old found.new (root_regions start root.now) }
 {
     root::laws::roots_are_read();
-    let word = "root header";
-    let version = start + VERSION;
-    let version_size = u32_at(root, VERSION_SIZE) as u64;
-    let size = root.len() as u64;
-    found.look(start, size, "root", Name::Empty);
-    find_fields(word, start, &BEFORE_VERSION, found);
-    found.look(version, version_size, word, Name::Plain("Version"));
-    find_fields(word, version + version_size, &AFTER_VERSION, found);
-    find_stream_parts(directory.headers(), Part::Header, start, size, found);
-    find_stream_parts(directory.headers(), Part::Bytes, start, size, found);
+    find_root_header(root, start, found);
+    find_stream_headers(directory.headers(), start, found);
+    find_other_streams(directory.headers(), start, root.len() as u64, found);
     find_streams(directory, start, found);
 }

@@ -19,8 +19,7 @@ mod searches;
 mod sections;
 mod table_stream;
 
-pub use files::find_cli;
+pub use files::{find_cli, find_pe};
 pub use headers::find_root;
-pub use pe_headers::find_pe;
 pub use searches::{Name, Search, Structure, What, Words, has_byte};
 pub use table_stream::find_table_stream;

@@ -1,19 +1,15 @@
-//! Looks at the headers of a PE file, and at its sections (II.25.2, II.25.3).
+//! Looks at the headers of a PE file before its section headers (II.25.2).
 ghost use Rattle.std.specs.Prelude.{◌≡◌, ◌≤◌, length, map};
-ghost use Rattle.packed.specs.Rule.{AllHold};
-ghost use Rattle.pe.specs.Headers.{directory_offset, image_of, sections_offset};
-ghost use Rattle.pe.specs.Rules.{rules_of_image};
+ghost use Rattle.pe.specs.Headers.{directory_offset, lfanew, sections_offset};
 ghost use Rattle.cli_regions.specs.Fields.{seen_field};
 ghost use Rattle.cli_regions.specs.Kept.{HasHeaders, Adds};
-ghost use Rattle.cli_regions.specs.PeHeaders.{directories_offset, directories_regions, image_regions, optional_fields};
+ghost use Rattle.cli_regions.specs.PeHeaders.{directories_offset, directories_regions, dos_header_regions, file_header_regions, optional_fields, optional_header_regions};
 
 use crate::fields::{
     DIRECTORIES, DIRECTORY_FIELDS, FILE_HEADER, Field, PE32, PE32_PLUS, find_fields, find_header,
 };
-use crate::searches::{Name, Part, Search};
-use crate::sections::find_sections;
+use crate::searches::{Name, Search};
 use packed::{u16_at, u32_at};
-use pe::Pe;
 
 /// The size of the MS-DOS header, in bytes (II.25.2.1).
 const DOS_HEADER_SIZE: u64 = 64;
@@ -54,6 +50,58 @@ const DIRECTORY_SIZE: usize = 8;
 /// The number of data directories that the standard names.
 const NAMED_DIRECTORIES: usize = 16;
 
+/// The offsets of the headers of a PE file.
+#[derive(Clone, Copy)]
+pub(crate) struct Offsets {
+    /// The PE signature.
+    pub signature: usize,
+    /// The first data directory.
+    pub directories: usize,
+    /// The first section header.
+    pub sections: usize,
+}
+
+/// The offsets of the headers of a file. The data directory of the CLI header is at offset `cli_directory`.
+pub(crate) fn offsets_of(file: &[u8], cli_directory: usize) -> Offsets
+    requires headers { HasHeaders file.now }
+    requires directory { cli_directory ≡ directory_offset file.now }
+    ensures signature { result.signature ≡ lfanew file.now }
+    ensures directories { result.directories ≡ directories_offset file.now }
+    ensures sections { result.sections ≡ sections_offset file.now }
+{
+    let signature = u32_at(file, LFANEW) as usize;
+    let size = u16_at(file, signature + OPTIONAL_HEADER_SIZE) as usize;
+    Offsets {
+        signature,
+        directories: cli_directory - BEFORE_CLI_DIRECTORY,
+        sections: signature + OPTIONAL_HEADER + size,
+    }
+}
+
+/// Looks at the MS-DOS header and its fields (II.25.2.1).
+#[tactic(auto, unfolding(crate::specs::PeHeaders::dos_header_regions))]
+pub(crate) fn find_dos_header(found: &mut Search<'_>)
+    ensures { Adds found.old found.new dos_header_regions }
+{
+    let word = "ms-dos header";
+    let lfanew = LFANEW as u64;
+    found.look(0, DOS_HEADER_SIZE, word, Name::Empty);
+    found.look(0, DOS_SIGNATURE_SIZE, word, Name::Plain("Signature"));
+    found.look_field(lfanew, LFANEW_SIZE, word, Name::Plain("lfanew"));
+}
+
+/// Looks at the PE signature, the PE file header and its fields (II.25.2.2).
+#[tactic(auto, unfolding(crate::specs::PeHeaders::file_header_regions))]
+pub(crate) fn find_file_header(start: u64, found: &mut Search<'_>)
+    requires { start ≤ 0x40000000 }
+    ensures { Adds found.old found.new (file_header_regions start) }
+{
+    let word = "pe file header";
+    let (header, size) = (start + SIGNATURE_SIZE, FILE_HEADER_SIZE);
+    found.look(start, SIGNATURE_SIZE, "pe signature", Name::Empty);
+    find_header(word, Name::Empty, header, size, &FILE_HEADER, found);
+}
+
 /// The fields of the optional header before the data directories, by Magic.
 fn optional_fields(magic: u16) -> &'static [Field]
     ensures fields { map seen_field result.now ≡ optional_fields magic }
@@ -66,66 +114,36 @@ fn optional_fields(magic: u16) -> &'static [Field]
     }
 }
 
-/// Looks at the data directories and their fields (II.25.2.3.3). The first is at offset `start`, and the first section header at
-/// offset `sections`.
-#[tactic(auto, unfolding(crate::specs::PeHeaders::directories_regions))]
-fn find_directories(file: &[u8], start: usize, sections: usize, found: &mut Search<'_>)
+/// Looks at the optional header, and at its fields before the data directories (II.25.2.3).
+#[tactic(auto, unfolding(crate::specs::PeHeaders::optional_header_regions))]
+pub(crate) fn find_optional_header(file: &[u8], offsets: Offsets, found: &mut Search<'_>)
     requires headers { HasHeaders file.now }
-    requires directories { start ≡ directories_offset file.now }
-    requires sections { sections ≡ sections_offset file.now }
+    requires signature { offsets.signature ≡ lfanew file.now }
+    requires sections { offsets.sections ≡ sections_offset file.now }
+    ensures { Adds found.old found.new (optional_header_regions file.now) }
+{
+    let word = "optional header";
+    let start = offsets.signature + OPTIONAL_HEADER;
+    let size = (offsets.sections - start) as u64;
+    let fields = optional_fields(u16_at(file, start));
+    find_header(word, Name::Empty, start as u64, size, fields, found);
+}
+
+/// Looks at the data directories and their fields (II.25.2.3.3).
+#[tactic(auto, unfolding(crate::specs::PeHeaders::directories_regions))]
+pub(crate) fn find_directories(file: &[u8], offsets: Offsets, found: &mut Search<'_>)
+    requires headers { HasHeaders file.now }
+    requires directories { offsets.directories ≡ directories_offset file.now }
+    requires sections { offsets.sections ≡ sections_offset file.now }
     ensures { Adds found.old found.new (directories_regions file.now) }
 {
+    let start = offsets.directories;
     let counted = u32_at(file, start - DIRECTORY_COUNT_SIZE);
-    let room = (sections - start) / DIRECTORY_SIZE;
+    let room = (offsets.sections - start) / DIRECTORY_SIZE;
     let whole = room.min(counted as usize);
     let named = whole.min(NAMED_DIRECTORIES);
     let (directories, _) = DIRECTORIES.split_at(named);
     let (fields, _) = DIRECTORY_FIELDS.split_at(2 * named);
     find_fields("data directory", start as u64, directories, found);
     find_fields("data directory", start as u64, fields, found);
-}
-
-/// Looks at the headers and sections of an image. The data directory of the CLI header is at offset `cli_directory`.
-#[tactic(auto, unfolding(crate::specs::PeHeaders::image_regions))]
-fn find_image<'a>(file: &'a [u8], cli_directory: usize, found: &mut Search<'a>)
-    requires headers { HasHeaders file.now }
-    requires directory { cli_directory ≡ directory_offset file.now }
-    ensures { Adds found.old found.new (image_regions file.now) }
-{
-    let word = "ms-dos header";
-    found.look(0, DOS_HEADER_SIZE, word, Name::Empty);
-    found.look(0, DOS_SIGNATURE_SIZE, word, Name::Plain("Signature"));
-    found.look_field(LFANEW as u64, LFANEW_SIZE, word, Name::Plain("lfanew"));
-
-    let signature = u32_at(file, LFANEW) as usize;
-    let (start, size) = (signature as u64 + SIGNATURE_SIZE, FILE_HEADER_SIZE);
-    let word = "pe file header";
-    found.look(
-        signature as u64,
-        SIGNATURE_SIZE,
-        "pe signature",
-        Name::Empty,
-    );
-    find_header(word, Name::Empty, start, size, &FILE_HEADER, found);
-
-    let optional_size = u16_at(file, signature + OPTIONAL_HEADER_SIZE) as usize;
-    let start = signature + OPTIONAL_HEADER;
-    let fields = optional_fields(u16_at(file, start));
-    let word = "optional header";
-    let size = optional_size as u64;
-    find_header(word, Name::Empty, start as u64, size, fields, found);
-
-    let sections = start + optional_size;
-    find_directories(file, cli_directory - BEFORE_CLI_DIRECTORY, sections, found);
-    find_sections(file, Part::Header, signature, sections, found);
-    find_sections(file, Part::Bytes, signature, sections, found);
-}
-
-/// Looks at the PE headers, their fields, and the sections (II.25.2, II.25.3). Its time is linear in the number of sections.
-pub fn find_pe<'a>(pe: &Pe<'a>, found: &mut Search<'a>)
-    requires rules { AllHold (rules_of_image pe.now.bytes) }
-    requires image { pe.now ≡ image_of pe.now.bytes }
-    ensures { Adds found.old found.new (image_regions pe.now.bytes) }
-{
-    find_image(pe.bytes(), pe.cli_directory_offset(), found);
 }

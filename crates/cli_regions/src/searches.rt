@@ -84,15 +84,6 @@ pub struct Structure<'a> {
     pub what: What<'a>,
 }
 
-/// What to look at of a section or a stream.
-#[derive(Clone, Copy)]
-pub(crate) enum Part {
-    /// Its header.
-    Header,
-    /// Its bytes.
-    Bytes,
-}
-
 /// The size of the longest field that is one number, in bytes. A longer one is a name, an address and a size, or bits.
 const LONGEST_NUMBER: u64 = 4;
 
@@ -159,6 +150,9 @@ impl<'a> Search<'a> {
     pub fn keep(&mut self, structure: Structure<'a>)
         ensures { Joins self.old self.new (seen structure.entry ∷ []) }
     {
+        if self.failed {
+            return;
+        }
         if self.found.push(structure).is_err() {
             self.failed = true;
         }

@@ -1,13 +1,15 @@
 //! Looks at section headers and sections (II.25.3).
 ghost use Rattle.std.specs.Prelude.{◌≡◌, ◌≤◌, ◌+◌, ◌==◌, length, position};
 ghost use Rattle.std.specs.List.{flat_map, range_with_len};
+ghost use Rattle.packed.specs.Offsets.{part};
 ghost use Rattle.root.specs.Fields.{before_nul};
 ghost use Rattle.pe.specs.Headers.{lfanew, section_count, sections_offset};
 ghost use Rattle.cli_regions.specs.Kept.{HasHeaders, Adds, part_regions};
 ghost use Rattle.cli_regions.specs.PeHeaders.{section_offset};
 
 use crate::fields::{SECTION_HEADER, find_header};
-use crate::searches::{Name, Part, Search};
+use crate::pe_headers::Offsets;
+use crate::searches::{Name, Search};
 use packed::{u16_at, u32_at};
 
 /// The offset of NumberOfSections, relative to the PE signature (II.25.2.2).
@@ -36,30 +38,56 @@ fn nul_in(bytes: &[u8]) -> Option<usize>
 fn before_nul(bytes: &[u8]) -> &[u8]
     ensures { result.now ≡ before_nul bytes.now }
 {
-    bytes.split_at(nul_in(bytes).unwrap_or(bytes.len())).0
+    match nul_in(bytes) {
+        Some(nul) => bytes.split_at(nul).0,
+        None => bytes,
+    }
 }
 
-/// Looks at a part of a section: its index counts from 0, and its header is at offset `header`. Its bytes end with the file at
-/// the latest.
-#[tactic(auto, unfolding(crate::specs::PeHeaders::section_header_regions, crate::specs::PeHeaders::section_regions))]
-fn find_part<'a>(file: &'a [u8], part: Part, index: usize, header: usize, found: &mut Search<'a>)
-    requires start { header ≡ section_offset file.now index }
-    requires within { header + 40 ≤ length file.now }
-    requires small { length file.now ≤ 0x40000000 }
-    ensures { Adds found.old found.new (part_regions part file.now index) }
+/// The name in the section header at an offset.
+fn section_name(file: &[u8], start: usize) -> &[u8]
+    requires { start + 40 ≤ length file.now }
+    ensures { result.now ≡ before_nul (part file.now start 8) }
 {
-    let (_, tail) = file.split_at(header);
+    let (_, tail) = file.split_at(start);
     let (name, _) = tail.split_at(NAME_SIZE);
-    let name = Name::Section(index as u64 + 1, before_nul(name));
+    before_nul(name)
+}
+
+/// A section: the offset of its header, and its index from 0.
+#[derive(Clone, Copy)]
+struct Section {
+    start: usize,
+    index: usize,
+}
+
+/// What to look at of a section.
+#[derive(Clone, Copy)]
+pub(crate) enum SectionPart {
+    /// Its header.
+    Header,
+    /// Its bytes.
+    Bytes,
+}
+
+/// Looks at a part of a section. Its bytes end with the file at the latest.
+#[tactic(auto, unfolding(crate::specs::PeHeaders::section_header_regions, crate::specs::PeHeaders::section_regions))]
+fn find_part<'a>(file: &'a [u8], part: SectionPart, section: Section, found: &mut Search<'a>)
+    requires start { section.start ≡ section_offset file.now section.index }
+    requires within { section.start + 40 ≤ length file.now }
+    requires small { length file.now ≤ 0x40000000 }
+    ensures { Adds found.old found.new (part_regions part file.now section.index) }
+{
+    let name = Name::Section(section.index as u64 + 1, section_name(file, section.start));
     match part {
-        Part::Header => {
-            let (start, size) = (header as u64, SECTION_HEADER_SIZE as u64);
+        SectionPart::Header => {
+            let (start, size) = (section.start as u64, SECTION_HEADER_SIZE as u64);
             let word = "section header";
             find_header(word, name, start, size, &SECTION_HEADER, found);
         }
-        Part::Bytes => {
-            let size = u32_at(file, header + SIZE_OF_RAW_DATA);
-            let start = u32_at(file, header + POINTER_TO_RAW_DATA);
+        SectionPart::Bytes => {
+            let size = u32_at(file, section.start + SIZE_OF_RAW_DATA);
+            let start = u32_at(file, section.start + POINTER_TO_RAW_DATA);
             let left = file.len().saturating_sub(start as usize);
             let count = left.min(size as usize);
             found.look(start as u64, count as u64, "section", name);
@@ -67,22 +95,24 @@ fn find_part<'a>(file: &'a [u8], part: Part, index: usize, header: usize, found:
     }
 }
 
-/// Looks at a part of each section. The PE signature is at offset `signature`, and the first section header at offset `start`.
+/// Looks at a part of each section.
 pub(crate) fn find_sections<'a>(
     file: &'a [u8],
-    part: Part,
-    signature: usize,
-    start: usize,
+    part: SectionPart,
+    offsets: Offsets,
     found: &mut Search<'a>,
 )
     requires headers { HasHeaders file.now }
-    requires signature { signature ≡ lfanew file.now }
-    requires start { start ≡ sections_offset file.now }
+    requires signature { offsets.signature ≡ lfanew file.now }
+    requires start { offsets.sections ≡ sections_offset file.now }
     ensures { Adds found.old found.new (flat_map (part_regions part file.now) (range_with_len 0 (section_count file.now))) }
 {
-    let count = u16_at(file, signature + SECTION_COUNT) as usize;
+    let count = u16_at(file, offsets.signature + SECTION_COUNT) as usize;
     for index in 0..count {
-        let header = start + SECTION_HEADER_SIZE * index;
-        find_part(file, part, index, header, found);
+        let section = Section {
+            start: offsets.sections + SECTION_HEADER_SIZE * index,
+            index,
+        };
+        find_part(file, part, section, found);
     }
 }

@@ -1,6 +1,7 @@
 //! Looks at the fields and row counts of a table stream.
 ghost use Rattle.std.specs.Prelude.{◌≡◌, ◌≤◌, length};
-ghost use Rattle.cli_regions.specs.Headers.{count_size, table_stream_regions};
+ghost use Rattle.table_schema.specs.Tables.{tables};
+ghost use Rattle.cli_regions.specs.Headers.{count_size, counts_from, table_stream_regions};
 ghost use Rattle.cli_regions.specs.Kept.{Adds};
 
 use crate::fields::{TABLE_STREAM, find_fields};
@@ -29,6 +30,20 @@ fn count_size(bits: u64, table: TableId) -> u64
     }
 }
 
+/// Looks at the row counts. The first one is at offset `start`.
+fn find_row_counts(valid: u64, start: u64, found: &mut Search<'_>)
+    requires { start ≤ 0x100000000 }
+    ensures { Adds found.old found.new (counts_from valid start tables) }
+{
+    let tables = TableId::all();
+    let mut next = start;
+    for table in tables {
+        let size = count_size(valid, *table);
+        found.look_field(next, size, "row count", Name::Table(*table));
+        next += size;
+    }
+}
+
 /// Looks at the fields and row counts of a table stream.
 #[tactic(auto, unfolding(crate::specs::Headers::table_stream_regions))]
 pub fn find_table_stream(stream: &[u8], start: u64, found: &mut Search<'_>)
@@ -37,12 +52,5 @@ pub fn find_table_stream(stream: &[u8], start: u64, found: &mut Search<'_>)
     ensures { Adds found.old found.new (table_stream_regions start stream.now) }
 {
     find_fields("table stream", start, &TABLE_STREAM, found);
-    let valid = u64_at(stream, VALID);
-    let tables = TableId::all();
-    let mut next = start + ROW_COUNTS;
-    for table in tables {
-        let size = count_size(valid, *table);
-        found.look_field(next, size, "row count", Name::Table(*table));
-        next += size;
-    }
+    find_row_counts(u64_at(stream, VALID), start + ROW_COUNTS, found);
 }

@@ -1,1 +1,2 @@
+pub mod OfFiles
 pub mod Prelude

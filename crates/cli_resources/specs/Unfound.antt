@@ -1,18 +1,16 @@
 -- Why resources of a file are not found, and the content of one that is (ECMA-335 II.22.24).
-use Rattle.std.specs.Prelude.{◌≡◌, ℕ, ◌<◌, ◌≤◌, List}
+use Rattle.std.specs.Prelude.{ℕ, ◌<◌, ◌≤◌, List}
 use Rattle.packed.specs.Rule.{FirstBroken}
 use Rattle.cli_header.specs.declared.header.CliHeader.{CliHeader}
 use Rattle.table_schema.specs.declared.table.TableId.TheVariants.{ManifestResource}
 use Rattle.table_schema.specs.declared.token.Token.{Token}
 use Rattle.metadata.specs.Lookups.{HasRow}
 use Rattle.metadata.specs.Metadata.{Metadata}
-use Rattle.metadata.specs.Model.{IsModel, IsModelOfFile}
+use Rattle.metadata.specs.Model.{IsModelOfFile}
 use Rattle.metadata.specs.Rules.{rules_of_file}
 use Rattle.cli_input.specs.Checked.{IsWhole}
 use Rattle.cli_input.specs.declared.opened.Input.TheVariants as input
-use Rattle.resources.specs.Resources.{HasName, IsDirectoryOf, IsFirstNamed, IsLocation, Where, elsewhere, here}
-use Rattle.cli_resources.specs.ResourceLines.{resource_in}
-use Rattle.cli_resources.specs.declared.opened.Opened.{Opened}
+use Rattle.resources.specs.Resources.{HasName, IsFirstNamed, IsLocation, Where, elsewhere, here}
 use Rattle.cli_resources.specs.declared.opened.Unfound.{Unfound}
 use Rattle.cli_resources.specs.declared.opened.Unfound.TheVariants.{Elsewhere, Fault, NoSuchResource, Outside}
 
@@ -40,7 +38,7 @@ pub record IsFirstOutside (file : List ℕ) (header : CliHeader) (model : Metada
 -- why no line is printed
 abbrev pub IsUnlisted : List ℕ → Unfound → Type 0
 IsUnlisted file (Fault found) = FirstBroken (rules_of_file file) found
-IsUnlisted file (Outside of) = (of ≡ resource_in of.row) × OfFile file (λ header model. IsFirstOutside file header model of.row)
+IsUnlisted file (Outside row) = OfFile file (λ header model. IsFirstOutside file header model row)
 IsUnlisted file _ = ⊥
 
 -- the content of the first resource with this name
@@ -51,12 +49,6 @@ IsContentOf file name content = OfFile file (λ header model. (row : ℕ) × IsF
 abbrev pub IsUnfound : List ℕ → List ℕ → Unfound → Type 0
 IsUnfound file name (Fault found) = FirstBroken (rules_of_file file) found
 IsUnfound file name NoSuchResource = OfFile file (λ header model. (row : ℕ) → HasRow model ManifestResource row → ¬ HasName model name row)
-IsUnfound file name (Elsewhere of) =
-    (of ≡ resource_in of.row)
-    × OfFile file (λ header model. IsFirstNamed model name of.row × (having : Token) × IsLocation file header model of.row (elsewhere having))
-IsUnfound file name (Outside of) =
-    (of ≡ resource_in of.row) × OfFile file (λ header model. IsFirstNamed model name of.row × IsNowhere file header model of.row)
-
--- what was found of a file that was opened: it has a model, which is that of the view, and this is its resources directory
-abbrev pub IsOpened : List ℕ → Opened → Type 0
-IsOpened file opened = OfFile file (λ header model. IsDirectoryOf file header opened.directory × IsModel opened.view model)
+IsUnfound file name (Elsewhere row) =
+    OfFile file (λ header model. IsFirstNamed model name row × (having : Token) × IsLocation file header model row (elsewhere having))
+IsUnfound file name (Outside row) = OfFile file (λ header model. IsFirstNamed model name row × IsNowhere file header model row)

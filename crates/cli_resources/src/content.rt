@@ -2,7 +2,7 @@
 ghost use Rattle.std.specs.Prelude.{IfErr, IfOk};
 ghost use Rattle.cli_resources.specs.Unfound.{IsContentOf, IsUnfound};
 
-use crate::opened::{Unfound, open_file, resource_in};
+use crate::opened::{Unfound, open_file};
 use resources::{Location, NotWithin, find_resource, location_of};
 
 /// The content of the first resource with this name, as it is in the file.
@@ -16,16 +16,16 @@ pub fn resource_named<'a>(file: &'a [u8], name: &str) -> Result<&'a [u8], Unfoun
     ensures sound { IfOk result (λ content. IsContentOf file.now name.now content.now) }
     ensures unfound { IfErr result (IsUnfound file.now name.now) }
 {
-    let opened = match open_file(file) {
+    let (directory, view) = match open_file(file) {
         Ok(opened) => opened,
         Err(fault) => return Err(Unfound::Fault(fault)),
     };
-    let Some(row) = find_resource(&opened.view, name) else {
+    let Some(row) = find_resource(&view, name) else {
         return Err(Unfound::NoSuchResource);
     };
-    match location_of(opened.directory, &opened.view, row) {
+    match location_of(directory, &view, row) {
         Ok(Location::Here(content)) => Ok(content.bytes),
-        Ok(Location::Elsewhere(_)) => Err(Unfound::Elsewhere(resource_in(row))),
-        Err(NotWithin) => Err(Unfound::Outside(resource_in(row))),
+        Ok(Location::Elsewhere(_)) => Err(Unfound::Elsewhere(row)),
+        Err(NotWithin) => Err(Unfound::Outside(row)),
     }
 }

@@ -10,7 +10,6 @@ ghost use Rattle.opening.specs.Views.{row_count};
 ghost use Rattle.resources.specs.Resources.{IsThere, seen};
 ghost use Rattle.table_schema.specs.declared.table.TableId.TheVariants.{ManifestResource};
 
-use crate::opened::resource_in;
 use cli_declarations::{number, text};
 use cli_lines::Part::{Close, Field, Member, Open, Word};
 use cli_lines::Value::{Hex, Number, Plain, Text};
@@ -83,7 +82,8 @@ pub(crate) fn print_resource<W: Write>(
 {
     let flags = number(view, TableId::ManifestResource, row, FLAGS);
     let name = text(view, TableId::ManifestResource, row, NAME);
-    let token = resource_in(row);
+    let table = TableId::ManifestResource;
+    let token = Token { table, row };
     match location {
         Location::Here(content) => {
             let size = content.bytes.len() as u64;

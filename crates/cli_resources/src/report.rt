@@ -11,7 +11,7 @@ ghost use Rattle.metadata.specs.Model.{IsModel, IsModelOfFile};
 ghost use Rattle.resources.specs.Resources.{IsDirectoryOf, Where};
 
 use crate::lines::print_resource;
-use crate::opened::{Unfound, open_file, resource_in};
+use crate::opened::{Unfound, open_file};
 use cli_lines::Printer;
 use opening::View;
 use resources::{Directory, TableId, location_of};
@@ -64,14 +64,14 @@ pub fn print_resources<W: Write>(file: &[u8], out: &mut Printer<'_, W>) -> Resul
     ensures printed { OnOk result ((header : Header) (model : Metadata) → IsModelOfFile file.now header model
         → (locations : ℕ → Where) → AreLocations file.now header model locations → Prints out.old out.new (resource_lines model locations)) }
 {
-    let opened = match open_file(file) {
+    let (directory, view) = match open_file(file) {
         Ok(opened) => opened,
         Err(fault) => return Err(Unfound::Fault(fault)),
     };
-    match first_outside(opened.directory, &opened.view) {
-        Some(row) => Err(Unfound::Outside(resource_in(row))),
+    match first_outside(directory, &view) {
+        Some(row) => Err(Unfound::Outside(row)),
         None => {
-            print_rows(opened.directory, &opened.view, out);
+            print_rows(directory, &view, out);
             Ok(())
         }
     }

@@ -1,5 +1,5 @@
 -- What `clim compare` does with the bytes of two files.
-use Rattle.std.specs.Prelude.{◌≡◌, ◌<◌, ℕ, false, List, [], ◌⊎◌, IfErr, IsErrAnd, MatchOption, OnOk, Option}
+use Rattle.std.specs.Prelude.{◌≡◌, ◌<◌, ℕ, false, List, [], ◌⊎◌, IfErr, MatchOption, OnOk, Option}
 use Rattle.std.specs.Io.KnownBytes.{Appends}
 use Rattle.packed.specs.declared.fault.Fault.{Fault}
 use Rattle.packed.specs.Rule.{FirstBroken}
@@ -81,10 +81,18 @@ module _ {W : Type 0} (contents : W → Option (List ℕ)) (before after : W) (o
       pub stopped : IfErr outcome (λ stopped. IsDifferent stopped ⊎ IsCut stopped)
 
   module _ (input : Input) (left right : List ℕ) where
+    -- both have models
+    abbrev pub AreWhole : Type 0
+    AreWhole = IsWhole input left × IsWhole input right
+
     -- one of the files breaks a rule, and nothing was printed
     abbrev pub IsRefusedFile : List ℕ → List ℕ → Stopped → Type 0
     IsRefusedFile file other stopped = (IsRefusal file input left stopped ⊎ (IsWhole input left × IsRefusal other input right stopped)) × (after ≡ before)
 
-    -- the two files are compared: both have models, and the comparison of these was printed; or one of the files breaks a rule
+    -- The two files are compared. If it succeeds, their models are the same but for ignored columns, and that was printed.
+    -- If it stopped, something else differs, or one of the files breaks a rule, or the output failed.
     pub record IsComparing (file other : List ℕ) (outcome : Outcome) : Type 0 where
-      pub compared : (IsWhole input left × IsWhole input right × IsShown (IsModelOf input left) (IsModelOf input right) outcome) ⊎ IsErrAnd outcome (IsRefusedFile file other)
+      pub met : OnOk outcome AreWhole
+      pub same : OnOk outcome (IsSame (IsModelOf input left) (IsModelOf input right))
+      pub stopped : IfErr outcome (λ stopped. IsRefusedFile file other stopped
+          ⊎ (AreWhole × (IsDifferent (IsModelOf input left) (IsModelOf input right) stopped ⊎ IsCut (IsModelOf input left) (IsModelOf input right) stopped)))

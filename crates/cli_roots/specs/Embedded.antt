@@ -1,5 +1,5 @@
 -- What `clim embed` writes: a copy of a file with its canonical root, or with another (ECMA-335 II.25).
-use Rattle.std.specs.Prelude.{◌≡◌, ◌⊎◌, ℕ, List, [], ◌∷◌, codes, length, Option, None, Some, IfErr, OnOk}
+use Rattle.std.specs.Prelude.{◌≡◌, ◌⊎◌, ℕ, Bool, true, false, List, [], ◌∷◌, ◌++◌, codes, length, Option, None, Some, IfErr, OnOk}
 use Rattle.std.specs.Io.KnownBytes.{Appends}
 use Rattle.packed.specs.Offsets.{part}
 use Rattle.packed.specs.Rule.{FirstBroken}
@@ -52,9 +52,13 @@ IsMisfit file root failure =
     (why : EmbedError) × (failure ≡ failure_of why) × MatchFault (FirstBroken (rules_of_file file)) (FirstBroken (rules_of_metadata 0 root)) why
     × IsReason file root why
 
--- nothing is warned of unless a strong name or a certificate of the file is no longer right
+-- a strong name or a certificate of the file is no longer right
+abbrev pub HasStaleSignature : StrongName → List ℕ → Type 0
+HasStaleSignature strong_name file = HasStaleName strong_name file ⊎ HasCertificate file
+
+-- nothing is warned of if no signature is stale
 abbrev pub WarnsOf : {E : Type 0} → StrongName → List ℕ → E → E → Type 0
-WarnsOf strong_name file errors_before errors_after = (¬ (HasStaleName strong_name file ⊎ HasCertificate file)) → errors_after ≡ errors_before
+WarnsOf strong_name file errors_before errors_after = (¬ HasStaleSignature strong_name file) → errors_after ≡ errors_before
 
 -- the line of `clim embed`: the length of what was written, and in JSON where the root is in it
 unfoldable pub embed_line : ℕ → ℕ → ℕ → List Part
@@ -62,25 +66,44 @@ embed_line count offset size =
     word (codes "wrote ") ∷ field name.Length (number count) ∷ word (codes " bytes")
     ∷ member name.Offset (number offset) ∷ member name.Size (number size) ∷ []
 
+-- a line, or nothing if it is not meant
+abbrev pub line_if : Bool → List ℕ → List ℕ
+line_if true line = line
+line_if false line = []
+
+-- what standard error gets, by whether a strong name and a certificate no longer fit
+abbrev pub warnings : Bool → Bool → List ℕ
+warnings stale_name certificate =
+    line_if stale_name (codes "warning: the strong name no longer fits; sign OUT again, or clear it by '--unsigned'" ++ 10 ∷ [])
+    ++ line_if certificate (codes "warning: the certificate no longer fits; OUT has none" ++ 10 ∷ [])
+
 -- the line for what was planned: its length, and an offset that has the root
 abbrev pub IsLineOf : Planned → Form → (List ℕ → Type 0) → Type 0
 IsLineOf plan form P =
     (offset : ℕ) × (part (result_of plan) offset (length plan.root) ≡ plan.root)
     × P (report_text form (embed_line (length (result_of plan)) offset (length plan.root) ∷ []))
 
--- a file was given the copy with this root, all of it; and this holds of the line that says so
-abbrev pub IsPut : {F : Type 0} → (F → Option (List ℕ)) → Form → StrongName → List ℕ → List ℕ → (List ℕ → Type 0) → Type 0
-IsPut file_contents form strong_name file root P =
-    (result : List ℕ) × (offset : ℕ) × IsEmbedded strong_name file root result × (part result offset (length root) ≡ root)
-    × IsGiven file_contents result × P (report_text form (embed_line (length result) offset (length root) ∷ []))
+-- a file was given what was planned, and this holds of the line that says so
+abbrev pub IsSent : {F : Type 0} → (F → Option (List ℕ)) → Planned → Form → (List ℕ → Type 0) → Type 0
+IsSent file_contents plan form P = IsGiven file_contents (result_of plan) × IsLineOf plan form P
 
 module _ {W F : Type 0} (contents : W → Option (List ℕ)) (file_contents : F → Option (List ℕ)) (before after : W) (form : Form) (strong_name : StrongName) (file : List ℕ) where
+  -- a file was given the copy with this root, all of it; and this holds of the line that says so
+  abbrev pub IsPut : List ℕ → (List ℕ → Type 0) → Type 0
+  IsPut root P =
+      (result : List ℕ) × (offset : ℕ) × IsEmbedded strong_name file root result × (part result offset (length root) ≡ root)
+      × IsGiven file_contents result × P (report_text form (embed_line (length result) offset (length root) ∷ []))
+
+  -- the copy was written, and the line was printed
+  abbrev pub IsPutDone : List ℕ → Type 0
+  IsPutDone root = IsPut root (λ text. Appends (contents before) (contents after) text)
+
   -- The first broken rule or the reason is reported, or that the file could not be written, and nothing is printed. Or the
   -- output failed after a prefix of the line.
   abbrev pub IsPutUndone : List ℕ → List ℕ → Failure → Type 0
   IsPutUndone path root failure =
       ((IsMisfit file root failure ⊎ IsUnwritten path failure) × (after ≡ before))
-      ⊎ (IsOutput failure × IsPut file_contents form strong_name file root (λ text. SendsPrefix (contents before) (contents after) text))
+      ⊎ (IsOutput failure × IsPut root (λ text. SendsPrefix (contents before) (contents after) text))
 
   -- the root is there, and this holds of it
   abbrev pub OfRoot : Option (List ℕ) → (List ℕ → Type 0) → Type 0
@@ -88,7 +111,7 @@ module _ {W F : Type 0} (contents : W → Option (List ℕ)) (file_contents : F 
 
   -- a file was given the copy of the file with this root, and its length was printed; or it stopped
   pub record IsEmbedding (path : List ℕ) (given : Option (List ℕ)) (outcome : Outcome) : Type 0 where
-    pub done : OnOk outcome (OfRoot given (λ root. IsPut file_contents form strong_name file root (λ text. Appends (contents before) (contents after) text)))
+    pub done : OnOk outcome (OfRoot given IsPutDone)
     pub stopped : IfErr outcome (λ stopped. (failure : Failure) × StopsBy failure stopped
         × ((HasNoRoot file given failure × (after ≡ before)) ⊎ OfRoot given (λ root. IsPutUndone path root failure)))
 

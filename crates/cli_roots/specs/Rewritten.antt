@@ -16,7 +16,7 @@ use Rattle.cli_output.specs.Written.{IsGiven}
 use Rattle.cli_input.specs.Checked.{IsOpened, IsWhole, rules_of}
 use Rattle.cli_input.specs.declared.opened.Input.{Input}
 use Rattle.cli_lines.specs.declared.parts.Form.TheVariants.{Text}
-use Rattle.cli_lines.specs.Lines.{word, note, number, report_text}
+use Rattle.cli_lines.specs.Lines.{Part, word, note, number, report_text}
 use Rattle.cli_sending.specs.Sent.{SendsPrefix}
 
 -- the bytes have a model with this property
@@ -38,9 +38,12 @@ ReportsUnwritten input bytes (failed.Fault found) = FirstBroken (rules_of input 
 ReportsUnwritten input bytes failed.OutOfMemory = IsWhole input bytes
 ReportsUnwritten input bytes _ = ⊥
 
--- what `clim rewrite` prints
-unfoldable pub wrote_text : ℕ → List ℕ
-wrote_text count = report_text Text ((word (codes "wrote ") ∷ note (number count) ∷ word (codes " bytes") ∷ []) ∷ [])
+-- the line of `clim rewrite`
+unfoldable pub wrote_line : ℕ → List Part
+wrote_line count = word (codes "wrote ") ∷ note (number count) ∷ word (codes " bytes") ∷ []
+
+abbrev pub wrote_text : ℕ → List ℕ
+wrote_text count = report_text Text (wrote_line count ∷ [])
 
 module _ {W F : Type 0} (contents : W → Option (List ℕ)) (file_contents : F → Option (List ℕ)) (before after : W) (input : Input) (bytes : List ℕ) where
   -- a file was given the canonical root of the bytes' model, all of it, and this holds of its length

@@ -16,11 +16,15 @@ pub fn check_within(bytes: &[u8], input: Input, budget: Option<u64>) -> Result<(
     ensures first_error { IfErr result (StopsWithin budget input bytes.now) }
 {
     let Some(budget) = budget else {
-        open(bytes, input)?;
-        return Ok(());
+        return match open(bytes, input) {
+            Ok(_) => Ok(()),
+            Err(fault) => Err(BoundedError::Fault(fault)),
+        };
     };
-    open_within(bytes, input, budget)?;
-    Ok(())
+    match open_within(bytes, input, budget) {
+        Ok(_) => Ok(()),
+        Err(error) => Err(error),
+    }
 }
 
 /// Whether a budget, if there is one, is spent before all rules for the bytes are checked. Without one they are not read.

@@ -1,8 +1,10 @@
 //! `clim embed`: a copy of a file with its canonical root, or with another.
-ghost use Rattle.std.specs.Prelude.{◌≡◌, ◌⊎◌, ℕ, List, Option, IfErr, option_map};
-ghost use Rattle.cli_faults.specs.Status.{IsOutput};
-ghost use Rattle.cli_sending.specs.Sent.{Sent};
-ghost use Rattle.cli_roots.specs.Embedded.{IsEmbedding, IsLineOf, IsRootFor, IsRootRun, WarnsOf, failure_of};
+ghost use Rattle.std.specs.Prelude.{◌≡◌, ◌⊎◌, IfErr, OnOk, Some, option_map};
+ghost use Rattle.std.specs.Io.KnownBytes.{Appends};
+ghost use Rattle.cli_faults.specs.Status.{IsOutput, IsUnwritten};
+ghost use Rattle.cli_faults.specs.declared.failure.Failure.{Failure as Why};
+ghost use Rattle.cli_sending.specs.Sent.{SendsPrefix, Sent};
+ghost use Rattle.cli_roots.specs.Embedded.{IsEmbedding, IsLineOf, IsPutDone, IsPutUndone, IsRootRun, IsSent, WarnsOf, failure_of, line_if, warnings};
 ghost use Rattle.cli_roots.specs.Runs.{IsFileRun, IsMixed, StopsBy};
 
 use crate::canonical::canonical_root;
@@ -15,17 +17,12 @@ use cli_lines::Part::{Field, Member, Word};
 use cli_lines::Value::Number;
 use cli_lines::{Form, Name};
 use cli_output::{check_path, write_file};
+use cli_sending::send_message;
 use embedding::{EmbedError, EmbedPlan, StrongName, plan_embedding};
 use std::alloc::Global;
+use std::fmt;
 use std::io::Write;
 use std::rt::Files;
-
-/// The warning for a strong name that is no longer right.
-const STALE_NAME: &str =
-    "warning: the strong name no longer fits; sign OUT again, or clear it by '--unsigned'\n";
-
-/// The warning for a certificate that is left out.
-const STALE_CERTIFICATE: &str = "warning: the certificate no longer fits; OUT has none\n";
 
 /// What `clim embed` writes, and how.
 #[derive(Clone, Copy)]
@@ -66,13 +63,32 @@ pub fn embed_file<'a, R: Files + Input + AllocGlobal, W: Write, E: Write>(
         bytes: &bytes,
     };
     match options.root {
+        None => embed(rt, file, None, options, out, err),
+        Some(path) => {
+            let root = read_file(rt, path)?;
+            embed(rt, file, Some(&root), options, out, err)
+        }
+    }
+}
+
+/// Writes a copy of a file with a root, or with its canonical root if there is none, and prints its length.
+fn embed<'a, R: Files + AllocGlobal, W: Write, E: Write>(
+    rt: &R,
+    file: ReadFile<'a, '_>,
+    given: Option<&[u8]>,
+    options: &EmbedOptions<'a>,
+    out: &mut W,
+    err: &mut E,
+) -> Result<(), Stopped<'a>>
+    ensures run { IsEmbedding W.contents R.File.contents out.old out.new options.now.form options.now.strong_name file.entry.bytes.now
+        options.now.path.now (option_map (λ root. root.now) given.entry) result }
+    ensures quiet { WarnsOf options.now.strong_name file.entry.bytes.now err.old err.new }
+{
+    match given {
+        Some(root) => put(rt, file, root, options, out, err),
         None => {
             let root = canonical_root(rt.alloc(), file.bytes, Given::File)?;
             put(rt, file, root.bytes(), options, out, err)
-        }
-        Some(path) => {
-            let root = read_file(rt, path)?;
-            put(rt, file, &root, options, out, err)
         }
     }
 }
@@ -86,22 +102,41 @@ fn put<'a, R: Files + AllocGlobal, W: Write, E: Write>(
     out: &mut W,
     err: &mut E,
 ) -> Result<(), Stopped<'a>>
-    ensures run { (given : Option (List ℕ)) → IsRootFor file.entry.bytes.now given root.now
-        → IsEmbedding W.contents R.File.contents out.old out.new options.now.form options.now.strong_name file.entry.bytes.now options.now.path.now given result }
+    ensures done { OnOk result (IsPutDone W.contents R.File.contents out.old out.new options.now.form options.now.strong_name file.entry.bytes.now root.now) }
+    ensures stopped { IfErr result (λ stopped. (failure : Why) × StopsBy failure stopped
+        × IsPutUndone W.contents R.File.contents out.old out.new options.now.form options.now.strong_name file.entry.bytes.now options.now.path.now root.now failure) }
     ensures quiet { WarnsOf options.now.strong_name file.entry.bytes.now err.old err.new }
 {
-    let plan = match plan_embedding(file.bytes, root, options.strong_name) {
-        Ok(plan) => plan,
-        Err(error) => return Err(refused(error, file.path, options.root)),
-    };
+    match plan_embedding(file.bytes, root, options.strong_name) {
+        Ok(plan) => match write(rt, &plan, file.path, options, out, err) {
+            Ok(()) => Ok(()),
+            Err(failure) => Err(Stopped::from(failure)),
+        },
+        Err(error) => Err(refused(error, file.path, options.root)),
+    }
+}
+
+/// Writes what was planned for a file, and prints its length.
+fn write<'a, R: Files + AllocGlobal, W: Write, E: Write>(
+    rt: &R,
+    plan: &EmbedPlan<'_>,
+    file: &str,
+    options: &EmbedOptions<'a>,
+    out: &mut W,
+    err: &mut E,
+) -> Result<(), Failure<'a>>
+    ensures done { OnOk result (IsSent R.File.contents plan.now options.now.form (λ text. Appends (W.contents out.old) (W.contents out.new) text)) }
+    ensures stopped { IfErr result (λ failure. (IsUnwritten options.now.path.now failure × (out.new ≡ out.old))
+        ⊎ (IsOutput failure × IsSent R.File.contents plan.now options.now.form (λ text. SendsPrefix (W.contents out.old) (W.contents out.new) text))) }
+    ensures quiet { WarnsOf plan.now.strong_name plan.now.file err.old err.new }
+{
     let Ok(bytes) = plan.make(rt.alloc()) else {
-        return Err(Stopped::from(Failure::OutOfMemory));
+        return Err(Failure::OutOfMemory);
     };
-    let read = [file.path, options.root.unwrap_or(file.path)];
+    let read = [file, options.root.unwrap_or(file)];
     write_file(rt, &bytes, &read, options.path)?;
-    warn(&plan, err);
-    print_length(rt.alloc(), &plan, options.form, out)?;
-    Ok(())
+    warn(rt.alloc(), plan, err);
+    print_length(rt.alloc(), plan, options.form, out)
 }
 
 /// Prints the length of what was written, and in JSON where the root is in it.
@@ -129,15 +164,47 @@ fn print_length<'a, W: Write>(
     print_one(alloc, form, &line, out)
 }
 
-/// Warns of each signature of a file that no longer fits. A warning that cannot be written changes nothing.
-fn warn<E: Write>(plan: &EmbedPlan<'_>, err: &mut E)
+/// The signatures of a file that no longer fit. `Display` gives a line for each.
+#[derive(Clone, Copy)]
+struct Stale {
+    name: bool,
+    certificate: bool,
+}
+
+impl fmt::Display for Stale {
+    ghost output = { λ stale. Some (warnings stale.name stale.certificate) };
+
+    fn fmt<W: fmt::Write>(&self, f: &mut fmt::Formatter<W>) -> fmt::Result {
+        let name = line_if(
+            self.name,
+            "warning: the strong name no longer fits; sign OUT again, or clear it by '--unsigned'\n",
+        );
+        let certificate = line_if(
+            self.certificate,
+            "warning: the certificate no longer fits; OUT has none\n",
+        );
+        write!(f, "{name}{certificate}")
+    }
+}
+
+/// A line, or nothing if it is not meant.
+fn line_if<'a>(is_meant: bool, line: &'a str) -> &'a str
+    ensures { result.now ≡ line_if is_meant line.now }
+{
+    if is_meant { line } else { "" }
+}
+
+/// Reports the signatures of a file that no longer fit.
+fn warn<E: Write>(alloc: Global, plan: &EmbedPlan<'_>, err: &mut E)
     ensures { WarnsOf plan.now.strong_name plan.now.file err.old err.new }
 {
-    if plan.has_stale_name() {
-        let _ = err.write_all(STALE_NAME.as_bytes());
-    }
-    if plan.has_certificate() {
-        let _ = err.write_all(STALE_CERTIFICATE.as_bytes());
+    let stale = Stale {
+        name: plan.has_stale_name(),
+        certificate: plan.has_certificate(),
+    };
+    if stale.name || stale.certificate {
+        // A warning that cannot be written changes nothing.
+        let _ = send_message(alloc, &stale, err);
     }
 }
 

@@ -1,6 +1,8 @@
 //! `clim rewrite`: the canonical root of a file.
 ghost use Rattle.std.specs.Prelude.{◌⊎◌, IfErr, OnOk};
-ghost use Rattle.cli_roots.specs.Rewritten.{IsDone, IsRewriting, IsUndone};
+ghost use Rattle.cli_faults.specs.Status.{IsOutput};
+ghost use Rattle.cli_sending.specs.Sent.{Sent};
+ghost use Rattle.cli_roots.specs.Rewritten.{IsDone, IsRewriting, IsUndone, wrote_text};
 ghost use Rattle.cli_roots.specs.Runs.{IsFileRun, IsMixed, IsWithin};
 
 use crate::budget::is_spent;
@@ -13,6 +15,7 @@ use cli_lines::Form;
 use cli_lines::Part::{Note, Word};
 use cli_lines::Value::Number;
 use cli_output::{check_path, write_file};
+use std::alloc::Global;
 use std::io::Write;
 use std::rt::Files;
 
@@ -61,12 +64,20 @@ fn rewrite<'a, R: Files + AllocGlobal, W: Write>(
 {
     let root = canonical_root(rt.alloc(), bytes, input)?;
     write_file(rt, root.bytes(), &[file], path)?;
-    let length = Number(root.len() as u64);
+    print_length(rt.alloc(), root.len(), out)
+}
+
+/// Prints the length of the root that was written.
+#[tactic(auto, unfolding(crate::specs::Rewritten::wrote_line))]
+fn print_length<'a, W: Write>(alloc: Global, count: u32, out: &mut W) -> Result<(), Failure<'a>>
+    ensures sent { Sent (W.contents out.old) (W.contents out.new) result (wrote_text count) }
+    ensures failed { IfErr result IsOutput }
+{
+    let length = Number(count as u64);
     print_one(
-        rt.alloc(),
+        alloc,
         Form::Text,
         &[Word("wrote "), Note(length), Word(" bytes")],
         out,
-    )?;
-    Ok(())
+    )
 }

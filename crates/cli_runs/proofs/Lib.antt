@@ -1,3 +1,4 @@
+pub mod NamesListed
 pub mod Prelude
 pub mod Printings
 pub mod Reporting

@@ -1,8 +1,8 @@
 -- What several proofs of this crate name of std, of the crates below, and of its own definitions.
 pub use Rattle.std.proofs.Common.{◌≡◌, ◌∙◌, ℕ, List, [], ◌∷◌, ◌++◌, map, length, get_or, drop, ap, sym, subst, arith, inl, inr, Option, None, Some, Result, Ok, Err, ◌≢◌, append-nil, refl, ◌≤◌, ◌<◌, ◌+◌, ◌&&◌, ◌||◌, ◌⊎◌, Bool, true, false, max, rules}
-pub use Rattle.std.proofs.lemmas.List.{drop_all, drop_more}
+pub use Rattle.std.proofs.lemmas.List.{length_push, map-append, nil_from_length, drop_all, drop_more}
 pub use Rattle.std.specs.Borrow.{Bor}
-pub use Rattle.std.specs.Prelude.{IfErr, IsSome, OnOk}
+pub use Rattle.std.specs.Prelude.{◌==◌, IfErr, IsSome, OnErr, OnOk, MatchResult}
 pub use Rattle.packed.specs.declared.fault.Fault.{Fault}
 pub use Rattle.table_schema.specs.declared.token.Token.{Token}
 pub use Rattle.metadata.specs.Metadata.{Metadata}
@@ -17,8 +17,8 @@ unfoldable pub use Rattle.cli_lines.specs.Lines.{styled_text}
 pub use Rattle.cli_lines.specs.Printed.{Printed, Prints, Asked}
 pub use Rattle.cli_outline.specs.declared.source.OutlineOptions.{OutlineOptions}
 pub use Rattle.cli_regions.specs.Kept.{seen}
-pub use Rattle.cli_runs.specs.Printing.{HasPrinted, UnlessFailed}
-pub use Rattle.cli_runs.specs.Reports.{AreDeclared, AreSomeDeclared, IsListed, OfModel, AreNamed, HasEnded, IsFaultOut, IsPrinted, IsStopped, everything, lead_of, style_of}
-pub use Rattle.cli_runs.specs.Runs.{AreCut, AreSent, IsReported, AreRun, AreRunAll, AreVisited, EndsAs, IsCutAmong, IsCutIn, IsNext, IsRun, is_input, IsCutAt}
+pub use Rattle.cli_runs.specs.Printing.{Hands, HasPrinted}
+pub use Rattle.cli_runs.specs.Reports.{AreDeclared, AreSomeDeclared, IsListed, OfModel, AreNamed, AreOut, HasEnded, IsFaultOut, IsPrinted, IsStopped, everything, lead_of, style_of, verdict_lines, label}
+pub use Rattle.cli_runs.specs.Runs.{AreListed, AreCut, AreSent, IsReported, AreRun, AreRunAll, AreVisited, EndsAs, IsCutIn, IsNext, IsRun, IsVisited, is_input, IsCutAt}
 pub use Rattle.cli_runs.specs.declared.report.Listing.{Listing}
 pub use Rattle.cli_runs.specs.declared.report.Request.{Request}

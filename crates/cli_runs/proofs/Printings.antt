@@ -1,5 +1,5 @@
 -- What each report handed to a printer.
-use Rattle.cli_runs.proofs.Prelude.{ℕ, List, Option, inl, inr, Metadata, Token, Printed, Prints, OutlineOptions, UnlessFailed, AreDeclared, AreSomeDeclared, Input, BareRoot, File, Request}
+use Rattle.cli_runs.proofs.Prelude.{◌≡◌, ℕ, List, Option, None, Some, inl, inr, IsSome, Metadata, Token, Printed, OutlineOptions, Hands, AreDeclared, AreSomeDeclared, Input, BareRoot, File, Request}
 use Rattle.cli_header.specs.declared.header.CliHeader.{CliHeader}
 use Rattle.cli_info.specs.InfoLines.{AreFacts}
 use Rattle.cli_input.specs.Checked.{IsModelOf}
@@ -23,11 +23,15 @@ model_of_facts BareRoot bytes header model are = are.1
 model_of_facts File bytes header model are = (are.0, are.2)
 
 -- the rows of an outline were handed to a printer
-pub declared : {W : Type 0} (options : OutlineOptions) (old new : Printed W) (model : Metadata) (rows : List Token) → PrintsRows options model old new rows → AreDeclared (Prints old new) (UnlessFailed new) options model rows
-declared options old new model rows out = (out.first, out.later, out.whole, out.lines, out.are, out.printed, out.all)
+pub declared : {W : Type 0} (options : OutlineOptions) (old new : Printed W) (model : Metadata) (rows : List Token) → PrintsRows options model old new rows → AreDeclared (Hands old new) options model rows
+declared options old new model rows out = (out.first, out.later, out.whole, out.lines, out.are, (out.printed, out.all))
+
+nothing_waits : (waiting : Option (List ℕ)) → waiting ≡ None → IsSome waiting → ⊥
+nothing_waits None none some = cc
+nothing_waits (Some bytes) none some = cc
 
 -- some of these were, or printing failed
 pub some_declared : {W : Type 0} (options : OutlineOptions) (old new : Printed W) (model : Metadata) (Are : List Token → Type 0) → PrintsSome options model Are old new
-    → AreSomeDeclared (Prints old new) (UnlessFailed new) options model Are
+    → AreSomeDeclared (Hands old new) options model Are
 some_declared options old new model Are (inl out) = inl (out.0, out.1, declared options old new model _ out.2)
-some_declared options old new model Are (inr out) = inr (out.1, (λ live. let none = rw out.0 at live in cc))
+some_declared options old new model Are (inr out) = inr (out.1, (λ live. nothing_waits new.waiting out.0 live))

@@ -1,6 +1,5 @@
 -- Runs on several files, one after another.
-use Rattle.cli_runs.proofs.Prelude.{◌≡◌, ◌<◌, ◌+◌, ◌&&◌, ◌||◌, ◌⊎◌, ℕ, Bool, true, false, Result, Ok, Err, List, [], ◌∷◌, ◌++◌, map, drop, get_or, length, max, Option, refl, arith, inl, inr, Bor, drop_more, Failure, NotUtf8, IsUnread, AreRun, AreRunAll, AreVisited, EndsAs, IsCutAmong, IsCutIn, IsNext, IsRun, is_input, Request}
-use Rattle.cli_faults.specs.Status.{status_of}
+use Rattle.cli_runs.proofs.Prelude.{◌≡◌, ◌≤◌, ◌<◌, ◌+◌, ◌&&◌, ◌||◌, ◌⊎◌, ℕ, Bool, true, false, Result, Ok, Err, List, [], ◌∷◌, map, drop, get_or, length, max, Option, refl, arith, inl, inr, Bor, drop_all, drop_more, Failure, NotUtf8, IsUnread, AreRun, AreRunAll, AreVisited, EndsAs, IsCutIn, IsNext, IsRun, IsVisited, is_input, Request}
 use Rattle.cli_files.specs.Read.{IsRefused}
 use Rattle.cli_runs.specs.declared.report.Directories.TheVariants.{Walked}
 
@@ -26,39 +25,36 @@ module _ (request : Request) {W : Type 0} (contents : W → Option (List ℕ)) w
   next_run true before after name status first run = cc
   next_run false before after name status first run = run
 
-  -- the run on one file of a directory ended
-  pub one_visited : (before after : W) (name : List ℕ) (status : ℕ) → IsRun request contents before after name status → AreVisited request contents before after status
-  one_visited before after name status run = (name ∷ [], (after, status, 0, run, (refl, refl), omega arith))
+  -- what is visited from here on completes a walk, if the greatest exit code so far is this
+  abbrev pub Walks : W → W → ℕ → Type 0
+  Walks before between greatest =
+      (after : W) (left : List (List ℕ)) (later status : ℕ) → AreRunAll request contents between after left later → status ≡ max greatest later
+      → AreVisited request contents before after status
 
-  -- a file of a directory was not read
-  pub unread_visited : (here : W) (name : List ℕ) (failure : Failure) (status : ℕ) → IsRefused name failure → status ≡ status_of failure
-      → AreVisited request contents here here status
-  unread_visited here name failure status refused is = one_visited here here name status (Err failure, (refused, is, refl))
+  pub walk_started : (before : W) → Walks before before 0
+  walk_started before after left later status runs is = let same : status ≡ later = omega (arith, is) in (left, rw same runs)
 
-  all_more : (before between after : W) (found more : List (List ℕ)) (first later status : ℕ) → status ≡ max first later
-      → AreRunAll request contents before between found first → AreRunAll request contents between after more later
-      → AreRunAll request contents before after (found ++ more) status
-  all_more before between after [] more first later status is ran runs =
-      let same : status ≡ later = omega (arith, is, ran.1) in
-      rw same (rw ran.0 at runs)
-  all_more before between after (name ∷ found) more first later status is ran runs =
-      (ran.0, ran.1, max ran.2 later, ran.3, all_more ran.0 between after found more ran.2 later (max ran.2 later) refl ran.4 runs, omega (arith, is, ran.5))
+  -- the next step of a walk ended
+  pub visit_ended : (before between next : W) (greatest first more : ℕ) → more ≡ max greatest first → Walks before between greatest → IsVisited request contents between next first
+      → Walks before next more
+  visit_ended before between next greatest first more is whole (inl none) after left later status runs status_is =
+      whole after left later status (rw none.0 at runs) (omega (arith, is, none.1, status_is))
+  visit_ended before between next greatest first more is whole (inr one) after left later status runs status_is =
+      whole after (one.0 ∷ left) (max first later) status (next, first, later, one.1, runs, refl) (omega (arith, is, status_is))
 
-  -- the runs on more files of a directory ended
-  pub visited_more : (before between after : W) (first later status : ℕ) → status ≡ max first later → AreVisited request contents before between first
-      → AreVisited request contents between after later → AreVisited request contents before after status
-  visited_more before between after first later status is ran runs = (ran.0 ++ runs.0, all_more before between after ran.0 runs.0 first later status is ran.1 runs.1)
-
-  -- the output failed at one of more files of a directory
-  pub cut_more : (before between after : W) (first : ℕ) → AreVisited request contents before between first → IsCutAmong request contents between after
-      → IsCutAmong request contents before after
-  cut_more before between after first ran cut = (cut.0, max first cut.1, visited_more before between cut.0 first cut.1 (max first cut.1) refl ran cut.2, cut.3)
+  pub walk_ended : (before after : W) (greatest : ℕ) → Walks before after greatest → AreVisited request contents before after greatest
+  walk_ended before after greatest whole = whole after [] 0 greatest (refl, refl) (omega arith)
 
   -- the runs on these files complete the runs on all of them, if the greatest exit code so far is this; of the flags one says
   -- whether the standard input was read before the first of all, and one before the first of these
   abbrev pub Completes : Bool → W → Bool → W → List (List ℕ) → ℕ → List (List ℕ) → Type 0
   Completes was before is_read between left greatest all =
-      (after : W) (status : ℕ) → AreRun request contents greatest is_read between after left status → AreRun request contents 0 was before after all status
+      (after : W) (later status : ℕ) → AreRun request contents is_read between after left later → status ≡ max greatest later → AreRun request contents was before after all status
+
+  pub started : (was : Bool) (before : W) (all : List (List ℕ)) → Completes was before was before all 0 all
+  started was before all after later status run is =
+      let same : status ≡ later = omega (arith, is) in
+      rw same run
 
   -- the run on the next file ended
   pub next_ended : (was : Bool) (before : W) (is_read : Bool) (between next : W) (names : List (Bor (List ℕ))) (k : ℕ) (d : Bor (List ℕ)) (greatest first more : ℕ)
@@ -66,11 +62,18 @@ module _ (request : Request) {W : Type 0} (contents : W → Option (List ℕ)) w
       → Completes was before is_read between (names_of (drop k names)) greatest all
       → IsNext request contents (is_read && is_input (get_or names k d).now) between next (get_or names k d).now first
       → Completes was before then_read next (names_of (drop (k + 1) names)) more all
-  next_ended was before is_read between next names k d greatest first more all then_read lt is read_is whole run after status runs =
-      whole after status (rw (drop_more names k d lt) (inl (next, first, run, rw (is, read_is) at runs)))
+  next_ended was before is_read between next names k d greatest first more all then_read lt is read_is whole run after later status runs status_is =
+      whole after (max first later) status (rw (drop_more names k d lt) (inl (next, first, later, run, rw read_is at runs, refl))) (omega (arith, is, status_is))
 
   -- the output failed at the next file
   pub next_cut : (was : Bool) (before : W) (is_read : Bool) (between after : W) (names : List (Bor (List ℕ))) (k : ℕ) (d : Bor (List ℕ)) (greatest : ℕ)
-      (all : List (List ℕ)) → k < length names → Completes was before is_read between (names_of (drop k names)) greatest all
-      → IsCutIn request contents between after (get_or names k d).now → AreRun request contents 0 was before after all 3
-  next_cut was before is_read between after names k d greatest all lt whole cut = whole after 3 (rw (drop_more names k d lt) (inr (cut, refl)))
+      (all : List (List ℕ)) → k < length names → greatest ≤ 3 → Completes was before is_read between (names_of (drop k names)) greatest all
+      → IsCutIn request contents between after (get_or names k d).now → AreRun request contents was before after all 3
+  next_cut was before is_read between after names k d greatest all lt within whole cut =
+      whole after 3 3 (rw (drop_more names k d lt) (inr (cut, refl))) (omega (arith, within))
+
+  -- no file is left
+  pub all_ended : (was : Bool) (before : W) (is_read : Bool) (after : W) (names : List (Bor (List ℕ))) (k greatest : ℕ) (all : List (List ℕ)) → length names ≤ k
+      → Completes was before is_read after (names_of (drop k names)) greatest all → AreRun request contents was before after all greatest
+  all_ended was before is_read after names k greatest all le whole =
+      whole after 0 greatest (rw (drop_all k names le) (refl, refl)) (omega arith)

@@ -152,25 +152,33 @@ IsRefused request bytes of stop = ⊥
 abbrev pub everything : OutlineOptions
 everything = record { tokens = Shown; rows = rows_of.All; sorting = ByRow; entry = None }
 
--- `Out lines`: these lines went out. `UnlessFailed P`: P is true unless the output failed
-module _ (Out : List (List Part) → Type 0) (UnlessFailed : Type 0 → Type 0) where
+-- `Out All lines`: these lines went out, and they are all lines of the report if `All` holds
+module _ (Out : Type 0 → List (List Part) → Type 0) where
+  -- these lines went out, and they are all
+  abbrev pub AreOut : List (List Part) → Type 0
+  AreOut lines = Out (Unit {0}) lines
+
   -- of these rows the declarations of the first that are shown went out, and they are all if no other is shown
   abbrev pub AreDeclared : OutlineOptions → Metadata → List Token → Type 0
   AreDeclared options model rows =
-      (first later : List Token) × (shown_rows options model rows ≡ first ++ later) × (lines : List (List Part)) × AreLines options model first lines × Out lines × UnlessFailed (later ≡ [])
+      (first later : List Token) × (shown_rows options model rows ≡ first ++ later) × (lines : List (List Part)) × AreLines options model first lines × Out (later ≡ []) lines
 
   -- so did those of rows that this is true of; or none, and more are missing
   abbrev pub AreSomeDeclared : OutlineOptions → Metadata → (List Token → Type 0) → Type 0
-  AreSomeDeclared options model Are = ((rows : List Token) × Are rows × AreDeclared options model rows) ⊎ (Out [] × UnlessFailed ⊥)
+  AreSomeDeclared options model Are = ((rows : List Token) × Are rows × AreDeclared options model rows) ⊎ Out ⊥ []
+
+  -- with these options
+  abbrev pub IsDeclaredBy : Metadata → OutlineOptions → (OutlineOptions → List Token → Type 0) → Type 0
+  IsDeclaredBy model options Are = AreSomeDeclared options model (Are options)
 
   -- what numbers name in a model went out
   abbrev pub AreNamed : List ℕ → Metadata → Type 0
-  AreNamed numbers model = (lines : List (List Part)) × AreTokenLines model numbers lines × Out lines
+  AreNamed numbers model = (lines : List (List Part)) × AreTokenLines model numbers lines × AreOut lines
 
   -- what a listing has of a model went out
   abbrev pub IsListed : Listing → Metadata → Type 0
-  IsListed (listing.Show table names) model = Out (show_lines names model (tables_of table))
-  IsListed listing.Types model = Out (types_lines model)
+  IsListed (listing.Show table names) model = AreOut (show_lines names model (tables_of table))
+  IsListed listing.Types model = AreOut (types_lines model)
   IsListed listing.Refs model = AreDeclared everything model (refs_rows model)
 
   -- this fault went out, with what is asked about it
@@ -178,21 +186,21 @@ module _ (Out : List (List Part) → Type 0) (UnlessFailed : Type 0 → Type 0) 
   IsFaultOut Explained input bytes file found =
       (structures : List Region) × AreStructuresAt input Cells bytes found.offset structures
       × ((more : List (List Part)) × AreSaid input bytes structures found more
-      × Out (verdict_line file (Some found) ∷ (map structure_line structures ++ more)))
-  IsFaultOut verdict input bytes file found = Out (verdict_lines verdict file (Some found))
+      × AreOut (verdict_line file (Some found) ∷ (map structure_line structures ++ more)))
+  IsFaultOut verdict input bytes file found = AreOut (verdict_lines verdict file (Some found))
 
   module _ (request : Request) (name bytes : List ℕ) where
     -- the lines of the structures that contain the byte at an offset went out, and those of contents; there are some structures or none
     abbrev pub IsLocated : ℕ → FoundAt → Type 0
     IsLocated offset found =
         (structures : List Region) × AreStructuresAt request.input Entries bytes offset structures × (found ≡ found_of structures)
-        × HasContents structures request.input bytes offset (λ contents. Out (where_lines structures ++ contents))
+        × HasContents structures request.input bytes offset (λ contents. AreOut (where_lines structures ++ contents))
 
     -- the lines of the headers went out
     abbrev pub AreHeadsOut : Type 0
     AreHeadsOut =
         HasHeads request.input bytes
-        × ((header : Option CliHeader) (root : RootRead) → AreHeads request.input bytes header root → Out (heads_lines header root))
+        × ((header : Option CliHeader) (root : RootRead) → AreHeads request.input bytes header root → AreOut (heads_lines header root))
 
     -- all lines of a report went out
     abbrev pub IsPrinted : Report → Type 0
@@ -200,20 +208,20 @@ module _ (Out : List (List Part) → Type 0) (UnlessFailed : Type 0 → Type 0) 
     IsPrinted report.RootUntilFault = AreHeadsOut
     IsPrinted report.Info =
         IsWhole request.input bytes
-        × ((header : Option CliHeader) (model : Metadata) → AreFacts request.input bytes header model → Out (info_lines bytes header model))
+        × ((header : Option CliHeader) (model : Metadata) → AreFacts request.input bytes header model → AreOut (info_lines bytes header model))
     IsPrinted report.Strings =
-        OfModel request.input bytes (λ model. (entries : List Entry) × AreEntries model.user 1 entries × Out (flat_map entry_lines entries))
+        OfModel request.input bytes (λ model. (entries : List Entry) × AreEntries model.user 1 entries × AreOut (flat_map entry_lines entries))
     IsPrinted report.Resources =
         IsWhole File bytes
         × ((header : CliHeader) (model : Metadata) → IsModelOfFile bytes header model → AreAllLocated bytes header model
-        × ((locations : ℕ → Where) → AreLocations bytes header model locations → Out (resource_lines model locations)))
+        × ((locations : ℕ → Where) → AreLocations bytes header model locations → AreOut (resource_lines model locations)))
     IsPrinted (report.Listing listing) = OfModel request.input bytes (IsListed listing)
-    IsPrinted (report.Check verdict) = IsWhole request.input bytes × Out (verdict_lines verdict (label request.naming name) None)
+    IsPrinted (report.Check verdict) = IsWhole request.input bytes × AreOut (verdict_lines verdict (label request.naming name) None)
     IsPrinted (report.ShowUntilFault table names) = OfModel request.input bytes (IsListed (listing.Show table names))
-    IsPrinted (report.Outline options) = OfEntered request.input bytes (λ entry model. AreSomeDeclared (entered options entry) model (AreOutlineRows (entered options entry) model))
+    IsPrinted (report.Outline options) = OfEntered request.input bytes (λ entry model. IsDeclaredBy model (entered options entry) (λ by. AreOutlineRows by model))
     IsPrinted (report.OutlineOf subject options) =
         OfEntered request.input bytes
-        (λ entry model. (of : Token) × IsSubject model subject of × (is_declared model of ≡ true) × AreSomeDeclared (entered options entry) model (AreSubjectRows (entered options entry) model of))
+        (λ entry model. (of : Token) × IsSubject model subject of × (is_declared model of ≡ true) × IsDeclaredBy model (entered options entry) (λ by. AreSubjectRows by model of))
     IsPrinted (report.RefsOf subject) =
         OfModel request.input bytes
         (λ model. HasSome model (IsMeantRef model subject) × ((found : List Token) × AreRefsOf model subject found × AreDeclared everything model found))
@@ -221,7 +229,7 @@ module _ (Out : List (List Part) → Type 0) (UnlessFailed : Type 0 → Type 0) 
         (root : List ℕ) × IsOpened request.input bytes root × All (IsNamed root) numbers.items × OfModel request.input bytes (AreNamed numbers.items)
     IsPrinted (report.Where offset) = IsWhole request.input bytes × IsLocated offset Something
     IsPrinted report.Digest =
-        (root : List ℕ) × IsRewritten request.input bytes root × Out (digest_line (encode_lower (sha256 root)) name ∷ [])
+        (root : List ℕ) × IsRewritten request.input bytes root × AreOut (digest_line (encode_lower (sha256 root)) name ∷ [])
 
     -- the first lines of a report went out, and then it stopped for this reason
     abbrev pub IsStopped : Report → Stop → Type 0
@@ -230,10 +238,10 @@ module _ (Out : List (List Part) → Type 0) (UnlessFailed : Type 0 → Type 0) 
         × ((found : Found) × FirstBroken (rules_of request.input bytes) found × IsFaultOut verdict request.input bytes (label request.naming name) found)
     IsStopped report.RootUntilFault why =
         (found : Found) × (why ≡ Failed (Fault found)) × FirstBroken (rules_of_heads request.input bytes) found
-        × ((lines : List (List Part)) × AreReadable request.input bytes lines × Out lines)
+        × ((lines : List (List Part)) × AreReadable request.input bytes lines × AreOut lines)
     IsStopped (report.ShowUntilFault table names) why =
         (found : Found) × (why ≡ Failed (Fault found)) × FirstBroken (rules_of request.input bytes) found
-        × ((lines : List (List Part)) × AreLinesBefore names request.input bytes (tables_of table) lines × Out lines)
+        × ((lines : List (List Part)) × AreLinesBefore names request.input bytes (tables_of table) lines × AreOut lines)
     IsStopped (report.Tokens numbers) why =
         (why ≡ Failed NoSuchRow) × (root : List ℕ) × IsOpened request.input bytes root
         × (earlier later : List ℕ) × (number : ℕ) × (numbers.items ≡ earlier ++ number ∷ later)
@@ -241,7 +249,7 @@ module _ (Out : List (List Part) → Type 0) (UnlessFailed : Type 0 → Type 0) 
     IsStopped (report.Where offset) why =
         ((why ≡ NothingAt offset) × IsWhole request.input bytes × IsLocated offset Nothing)
         ⊎ ((found : Found) × (why ≡ Failed (Fault found)) × FirstBroken (rules_of request.input bytes) found
-        × ((structures : List Region) × AreStructuresAt request.input Cells bytes offset structures × Out (map structure_line structures)))
+        × ((structures : List Region) × AreStructuresAt request.input Cells bytes offset structures × AreOut (map structure_line structures)))
     IsStopped of why = ⊥
 
     -- a report on the file with this name ended in this way

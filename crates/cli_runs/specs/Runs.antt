@@ -1,5 +1,5 @@
 -- What a run prints of the bytes of one file, and of several files.
-use Rattle.std.specs.Prelude.{◌≡◌, ◌≤◌, ℕ, ◌-◌, ◌==◌, ◌⊎◌, ◌&&◌, ◌||◌, Bool, true, false, List, [], ◌∷◌, codes, drop, length, take, max, if◌then◌else◌, Option, Result, Ok, Err, IfErr, MatchResult}
+use Rattle.std.specs.Prelude.{◌≡◌, ◌≢◌, ◌≤◌, ℕ, ◌==◌, ◌⊎◌, ◌&&◌, ◌||◌, Bool, true, false, List, [], ◌∷◌, ◌++◌, codes, max, Option, Result, Ok, Err, IfErr, MatchResult}
 use Rattle.std.specs.Io.KnownBytes.{Appends}
 use Rattle.std.specs.List.{slice_split}
 use Rattle.std.specs.Str.{bytes_eq}
@@ -35,14 +35,12 @@ abbrev pub byte_of : Separator → ℕ
 byte_of LineFeed = 10
 byte_of Nul = 0
 
--- the bytes without this byte at their end, if it is there
-abbrev pub trimmed : ℕ → List ℕ → List ℕ
-trimmed separator given = if bytes_eq (drop (length given - 1) given) (separator ∷ []) then take (length given - 1) given else given
-
--- The names in a list: each ends with this byte, which the last one may lack. What is between two of them, or after the last
--- one, is a name; but nothing after the last one is none.
-abbrev pub names_in : ℕ → List ℕ → List (List ℕ)
-names_in separator given = if length given == 0 then [] else slice_split (λ byte. byte == separator) (trimmed separator given)
+-- These bytes list the names: each ends with this byte, which the last one may lack. What is between two of them, or after the
+-- last one, is a name; but nothing after the last one is none.
+abbrev pub AreListed : ℕ → List ℕ → List (List ℕ) → Type 0
+AreListed separator given names =
+    (slice_split (λ byte. byte == separator) given ≡ names ++ [] ∷ [])
+    ⊎ ((slice_split (λ byte. byte == separator) given ≡ names) × ((more : List (List ℕ)) → names ≢ more ++ [] ∷ []))
 
 -- the name stands for the standard input
 abbrev pub is_input : List ℕ → Bool
@@ -56,30 +54,42 @@ IsExplained form rules before after result =
 
 module _ (request : Request) {W : Type 0} (contents : W → Option (List ℕ)) where
   -- these lines of a report on the file with this name went out
-  abbrev pub AreSent : W → W → List ℕ → List (List Part) → Type 0
-  AreSent before after name lines = Appends (contents before) (contents after) (styled_text (style_of request name) lines)
+  abbrev pub AreSent : W → W → List ℕ → Type 0 → List (List Part) → Type 0
+  AreSent before after name all lines = all × Appends (contents before) (contents after) (styled_text (style_of request name) lines)
 
   -- a prefix of these lines went out
-  abbrev pub AreCut : W → W → List ℕ → List (List Part) → Type 0
-  AreCut before after name lines = SendsPrefix (contents before) (contents after) (styled_text (style_of request name) lines)
+  abbrev pub AreCut : W → W → List ℕ → Type 0 → List (List Part) → Type 0
+  AreCut before after name all lines = SendsPrefix (contents before) (contents after) (styled_text (style_of request name) lines)
 
   -- A report on the bytes of the file with this name ended, and its lines went out. Nothing is written if it was refused. Or
   -- the output could not be written or memory ran out, after a prefix of the lines.
   abbrev pub IsReported : W → W → List ℕ → List ℕ → Result Ended Failure → Type 0
-  IsReported before after name bytes (Ok (ended.Refused stop)) = HasEnded (AreSent before after name) (λ all. all) request name bytes request.report (ended.Refused stop) × (after ≡ before)
-  IsReported before after name bytes (Ok ended) = HasEnded (AreSent before after name) (λ all. all) request name bytes request.report ended
-  IsReported before after name bytes (Err failure) = IsOutput failure × ((ended : Ended) × HasEnded (AreCut before after name) (λ all. Unit {0}) request name bytes request.report ended)
+  IsReported before after name bytes (Ok (ended.Refused stop)) = HasEnded (AreSent before after name) request name bytes request.report (ended.Refused stop) × (after ≡ before)
+  IsReported before after name bytes (Ok ended) = HasEnded (AreSent before after name) request name bytes request.report ended
+  IsReported before after name bytes (Err failure) = IsOutput failure × ((ended : Ended) × HasEnded (AreCut before after name) request name bytes request.report ended)
+
+  -- the report on bytes that were read ended, with this exit code
+  abbrev pub IsReportedAs : W → W → List ℕ → List ℕ → ℕ → Type 0
+  IsReportedAs before after name bytes status = (ended : Ended) × IsReported before after name bytes (Ok ended) × (status ≡ status_of_ended ended)
 
   -- the run on the file with this name ended with this exit code, with what reading it gave
   abbrev pub IsRun : W → W → List ℕ → ℕ → Type 0
   IsRun before after name status =
       (read : Result (List ℕ) Failure)
-      × MatchResult read (λ bytes. (ended : Ended) × IsReported before after name bytes (Ok ended) × (status ≡ status_of_ended ended))
+      × MatchResult read (λ bytes. IsReportedAs before after name bytes status)
       (λ failure. IsRefused name failure × (status ≡ status_of failure) × (after ≡ before))
 
   -- the output failed at the file with this name
   abbrev pub IsCutAt : W → W → List ℕ → Type 0
   IsCutAt before after name = (bytes : List ℕ) × (failure : Failure) × IsReported before after name bytes (Err failure)
+
+  -- the output failed at some file; for private clauses
+  abbrev pub IsCutAtOne : W → W → Type 0
+  IsCutAtOne before after = (name : List ℕ) × IsCutAt before after name
+
+  -- nothing was reported on, or the run on a file ended with this exit code; for private clauses
+  abbrev pub IsVisited : W → W → ℕ → Type 0
+  IsVisited before after status = ((after ≡ before) × (status ≡ 0)) ⊎ ((name : List ℕ) × IsRun before after name status)
 
   -- the runs on these files ended, one after another, and the exit code is the greatest of theirs
   abbrev pub AreRunAll : W → W → List (List ℕ) → ℕ → Type 0
@@ -93,7 +103,7 @@ module _ (request : Request) {W : Type 0} (contents : W → Option (List ℕ)) w
 
   -- the runs on some files ended, and the output failed at the next one
   abbrev pub IsCutAmong : W → W → Type 0
-  IsCutAmong before after = (between : W) × (status : ℕ) × AreVisited before between status × ((name : List ℕ) × IsCutAt between after name)
+  IsCutAmong before after = (between : W) × (status : ℕ) × AreVisited before between status × IsCutAtOne between after
 
   -- The run on the next argument ended: on the file; or, if directories are walked, on files that were found in the directory.
   -- The standard input is refused if it was read before; the first argument is whether it is that.
@@ -106,23 +116,23 @@ module _ (request : Request) {W : Type 0} (contents : W → Option (List ℕ)) w
   abbrev pub IsCutIn : W → W → List ℕ → Type 0
   IsCutIn before after name = IsCutAt before after name ⊎ ((request.directories ≡ Walked) × IsCutAmong before after)
 
-  -- The runs on these arguments ended, one after another, and the exit code is the greatest of theirs and of the earlier ones, which
-  -- is given. Or the output failed at one of them: then no file after that was read. The standard input is read once; the flag is
-  -- whether it was read before.
-  abbrev pub AreRun : ℕ → Bool → W → W → List (List ℕ) → ℕ → Type 0
-  AreRun greatest is_read before after [] status = (after ≡ before) × (status ≡ greatest)
-  AreRun greatest is_read before after (name ∷ names) status =
-      ((between : W) × (next : ℕ) × IsNext (is_read && is_input name) before between name next
-      × AreRun (max greatest next) (is_read || is_input name) between after names status)
+  -- The runs on these arguments ended, one after another, and the exit code is the greatest of theirs. Or the output failed at
+  -- one of them: then no file after that was read. The standard input is read once; the first argument is whether it was
+  -- read before.
+  abbrev pub AreRun : Bool → W → W → List (List ℕ) → ℕ → Type 0
+  AreRun is_read before after [] status = (after ≡ before) × (status ≡ 0)
+  AreRun is_read before after (name ∷ names) status =
+      ((between : W) × (first later : ℕ) × IsNext (is_read && is_input name) before between name first
+      × AreRun (is_read || is_input name) between after names later × (status ≡ max first later))
       ⊎ (IsCutIn before after name × (status ≡ 3))
 
   -- the same; or memory ran out before a file was read
   abbrev pub IsRunOn : Bool → W → W → List (List ℕ) → ℕ → Type 0
-  IsRunOn is_read before after names status = AreRun 0 is_read before after names status ⊎ ((after ≡ before) × (status ≡ 3))
+  IsRunOn is_read before after names status = AreRun is_read before after names status ⊎ ((after ≡ before) × (status ≡ 3))
 
   -- the same for the files of the list with this path, with this byte after each name, with what reading it gave
   abbrev pub IsRunOnList : List ℕ → ℕ → W → W → ℕ → Type 0
   IsRunOnList list separator before after status =
       (read : Result (List ℕ) Failure)
-      × MatchResult read (λ given. IsRunOn (is_input list) before after (names_in separator given) status)
+      × MatchResult read (λ given. (names : List (List ℕ)) × AreListed separator given names × IsRunOn (is_input list) before after names status)
       (λ failure. IsRefused list failure × (status ≡ status_of failure) × (after ≡ before))

@@ -1,4 +1,8 @@
 //! `clim explain`: what rules say.
+ghost use Rattle.std.specs.Prelude.{List};
+ghost use Rattle.cli_lines.specs.Lines.{Part, report_text};
+ghost use Rattle.cli_sending.specs.Sent.{Sent};
+ghost use Rattle.cli_print.specs.Explanations.{AreExplanations};
 ghost use Rattle.cli_runs.specs.Runs.{IsExplained};
 
 use cli_faults::Failure;

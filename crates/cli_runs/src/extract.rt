@@ -29,7 +29,10 @@ pub fn extract_file<'a, R: Files + Input + AllocGlobal, W: Write>(
     ensures { IsFileRun out.old out.new file.now
         (λ bytes. IsWithin out.old out.new budget File bytes (IsExtracting W.contents out.old out.new bytes name.now)) result }
 {
-    let bytes = read_file(rt, file)?;
+    let bytes = match read_file(rt, file) {
+        Ok(bytes) => bytes,
+        Err(failure) => return Err(Stopped::from(failure)),
+    };
     let bytes = bytes.as_slice();
     if is_spent(bytes, Given::File, budget) {
         return Err(Stopped::from(Stop::BudgetSpent));

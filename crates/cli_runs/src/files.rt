@@ -73,7 +73,7 @@ pub(crate) fn run_each<R: Files + Input + AllocGlobal, W: Write, E: Write>(
     err: &mut E,
 ) -> u8
     ensures limit { result ≤ 3 }
-    ensures run { AreRun request.now W.contents 0 is_read out.old out.new (map (λ name. name.now) names.now) result }
+    ensures run { AreRun request.now W.contents is_read out.old out.new (map (λ name. name.now) names.now) result }
     ensures quiet { result ≡ 0 → (err.new ≡ err.old) ⊎ (request.now.directories ≡ Walked) }
 {
     let mut room = Room {

@@ -2,7 +2,7 @@
 ghost use Rattle.std.specs.Prelude.{◌≡◌, ◌≤◌, ◌==◌, ◌⊎◌, IfErr, IfOk, map};
 ghost use Rattle.std.specs.List.{slice_split};
 ghost use Rattle.cli_files.specs.Read.{IsRefused};
-ghost use Rattle.cli_runs.specs.Runs.{IsRunOnList, byte_of, names_in, trimmed};
+ghost use Rattle.cli_runs.specs.Runs.{AreListed, IsRunOnList, byte_of};
 ghost use Rattle.cli_runs.specs.declared.report.Directories.TheVariants.{Walked};
 
 use crate::files::{is_input, run_each};
@@ -79,22 +79,18 @@ fn read_list<'a, R: Files + Input + AllocGlobal>(
 
 /// The names in a list. Each ends with the separator, which the last one may lack.
 fn names_in(alloc: Global, list: &[u8], separator: u8) -> Result<Vec<&[u8]>, AllocError>
-    ensures { IfOk result (λ names. map (λ name. name.now) names.items ≡ names_in separator list.now) }
+    ensures { IfOk result (λ names. AreListed separator list.now (map (λ name. name.now) names.items)) }
 {
-    if list.is_empty() {
+    let mut names = pieces_of(alloc, list, separator)?;
+    let Some(last) = names.pop() else {
         return Ok(Vec::new(alloc));
+    };
+    // Nothing after the last separator is no name.
+    if last.is_empty() {
+        return Ok(names);
     }
-    pieces_of(alloc, trimmed(list, separator), separator)
-}
-
-/// A list without the separator at its end, if it is there: nothing after that is no name.
-fn trimmed(list: &[u8], separator: u8) -> &[u8]
-    ensures { result.now ≡ trimmed separator list.now }
-{
-    match list.strip_suffix(&[separator]) {
-        Some(names) => names,
-        None => list,
-    }
+    names.push(last)?;
+    Ok(names)
 }
 
 /// What is before the first separator, between two of them, and after the last one.

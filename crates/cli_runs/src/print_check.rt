@@ -108,7 +108,7 @@ fn end_at_fault<'a, W: Write>(
                 Err(_) => Ended::Refused(Stop::Failed(Failure::OutOfMemory)),
             }
         }
-        Verdict::Quiet | Verdict::Line => {
+        _ => {
             print_line(job, verdict, Some(fault), out);
             Ended::Stopped(Stop::Broken)
         }

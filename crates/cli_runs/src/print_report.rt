@@ -1,7 +1,6 @@
 //! The lines of each report.
 ghost use Rattle.std.specs.Prelude.{◌≡◌};
-ghost use Rattle.cli_lines.specs.Printed.{Prints};
-ghost use Rattle.cli_runs.specs.Printing.{HasPrinted, UnlessFailed};
+ghost use Rattle.cli_runs.specs.Printing.{HasPrinted, Hands};
 ghost use Rattle.cli_runs.specs.Reports.{IsListed, tables_of};
 ghost use Rattle.cli_runs.specs.declared.report.Report.TheVariants as report;
 ghost use Rattle.metadata.specs.Metadata.{Metadata};
@@ -21,7 +20,7 @@ use cli_outline::{
 };
 use cli_print::{print_digest, print_root, print_root_until_fault, print_types};
 use cli_resources::print_resources;
-use cli_roots::canonical_root;
+use cli_roots::{canonical_root, is_spent};
 use cli_where::{Found, print_strings, print_where};
 use comparison::digest;
 use opening::View;
@@ -38,11 +37,15 @@ const EVERYTHING: OutlineOptions = OutlineOptions {
     entry: None,
 };
 
-/// Prints a report on the bytes of the file with this name.
+/// Prints a report on the bytes of the file with this name, after a check within the budget if there is one.
 pub(crate) fn print_report<'a, W: Write>(job: &Job<'_>, out: &mut Printer<'_, W>) -> Ended<'a>
     ensures { HasPrinted job.now out.old out.new job.now.request.now.report result }
 {
     let (request, bytes, input) = (job.request, job.bytes, job.request.input);
+    // A check looks at the budget by itself.
+    if !matches!(&request.report, Report::Check(_)) && is_spent(bytes, input, request.budget) {
+        return Ended::Refused(Stop::BudgetSpent);
+    }
     match &request.report {
         Report::Root => match print_root(bytes, input, out) {
             Ok(()) => Ended::Printed,
@@ -92,7 +95,7 @@ fn print_listing<'a, W: Write>(
 
 /// Prints the lines of a listing of a view.
 fn print_view<W: Write>(alloc: Global, listing: Listing, view: &View<'_>, out: &mut Printer<'_, W>)
-    ensures { (model : Metadata) → IsModel view.now model → IsListed (Prints out.old out.new) (UnlessFailed out.new) listing model }
+    ensures { (model : Metadata) → IsModel view.now model → IsListed (Hands out.old out.new) listing model }
 {
     match listing {
         Listing::Show(table, names) => print_show(alloc, view, tables_of(&table), names, out),
@@ -139,7 +142,6 @@ fn print_first_rows<'a, W: Write>(
 }
 
 /// Prints the declarations.
-#[tactic(auto, using(crate::proofs::Printings::model_of_facts, crate::proofs::Printings::some_declared))]
 fn print_all<'a, W: Write>(
     job: &Job<'_>,
     options: OutlineOptions,
@@ -179,7 +181,6 @@ fn print_row<'a, W: Write>(
 }
 
 /// Prints what is referred to of one type of other modules.
-#[tactic(auto, using(crate::proofs::Printings::declared))]
 fn print_type_refs<'a, W: Write>(
     job: &Job<'_>,
     subject: Subject<'_>,

@@ -9,7 +9,7 @@ use crate::print_report::print_report;
 use crate::report::{Ended, Job, Report, Request, Verdict};
 use cli_faults::{Failure, Stop};
 use cli_lines::Printer;
-use cli_roots::{check_within, is_spent};
+use cli_roots::check_within;
 use opening::BoundedError;
 use std::alloc::Global;
 use std::io::Write;
@@ -28,12 +28,6 @@ pub fn report_on<'a, W: Write>(
 ) -> Result<Ended<'a>, Failure<'a>>
     ensures { IsReported request.now W.contents out.old out.new name.now bytes.now result }
 {
-    let job = Job {
-        alloc,
-        request,
-        name,
-        bytes,
-    };
     match &request.report {
         Report::Check(Verdict::Quiet) => {
             match check_within(bytes, request.input, request.budget) {
@@ -42,17 +36,19 @@ pub fn report_on<'a, W: Write>(
                 Err(BoundedError::Fault(_)) => Ok(Ended::Stopped(Stop::Broken)),
             }
         }
-        // A check looks at the budget by itself.
-        Report::Check(_) => send_report(&job, out),
-        _ if is_spent(bytes, request.input, request.budget) => {
-            Ok(Ended::Refused(Stop::BudgetSpent))
-        }
-        _ => send_report(&job, out),
+        _ => send_report(
+            &Job {
+                alloc,
+                request,
+                name,
+                bytes,
+            },
+            out,
+        ),
     }
 }
 
 /// The name that each line of a report begins with, if there is one. The lines of a check and a digest have it already.
-#[tactic(auto, using(crate::proofs::Reporting::other_lead))]
 fn lead_of<'a>(request: &Request<'_>, name: &'a str) -> Option<&'a str>
     ensures { option_map (λ file. file.now) result ≡ lead_of request.now.report (label request.now.naming name.now) }
 {

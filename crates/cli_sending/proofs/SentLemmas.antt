@@ -1,6 +1,6 @@
 -- What goes out to a writer, one part after another.
-use Rattle.std.proofs.Common.{◌≡◌, ◌∙◌, ℕ, List, [], ◌++◌, Option, None, Some, Result, Ok, Err, refl, ap, sym, subst, append_assoc, append-nil}
-use Rattle.std.specs.Prelude.{IsOk, ◌↔◌}
+use Rattle.std.proofs.Common.{◌≡◌, ◌∙◌, ℕ, true, List, [], ◌∷◌, ◌++◌, length, Option, None, Some, Result, Ok, Err, refl, ap, sym, subst, append_assoc, append-nil, arith, eqb-true}
+use Rattle.std.specs.Prelude.{IsErr, IsOk, ◌==◌, ◌↔◌}
 use Rattle.std.specs.Io.KnownBytes.{Appends, Keeps}
 use Rattle.cli_sending.specs.Sent.{Sends, SendsPrefix, Sent}
 
@@ -54,6 +54,10 @@ pub tail_sent : (before between after : Option (List ℕ)) (bytes left : List �
 tail_sent before between after bytes left first last =
     subst (λ (xs : List ℕ). Appends before after xs) (sym first.1) (appends_more before between after first.0 left first.2 last)
 
+pub nothing_left : (left : List ℕ) → true ≡ (length left == 0) → left ≡ []
+nothing_left [] is = refl
+nothing_left (byte ∷ bytes) is = let none = eqb-true (length (byte ∷ bytes)) 0 (sym is) in absurd (omega arith)
+
 -- some of what is left is sent
 pub some_sent : (before between after : Option (List ℕ)) (bytes left some tail : List ℕ) → Sends before between bytes left → Appends between after some → left ≡ some ++ tail
     → Sends before after bytes tail
@@ -69,6 +73,10 @@ pub cut_here : (before between after : Option (List ℕ)) (bytes left : List ℕ
 cut_here before between after bytes left first kept = (left, (first.0, first.1, appends_kept before between after first.0 first.2 kept))
 
 module _ {T E : Type 0} where
+  pub cut_printed : (result : Result T E) (before after : Option (List ℕ)) (bytes : List ℕ) → IsErr result → SendsPrefix before after bytes → Sent before after result bytes
+  cut_printed (Ok done) before after bytes is cut = cc
+  cut_printed (Err error) before after bytes is cut = cut
+
   pub tail_printed : (result : Result T E) (before between after : Option (List ℕ)) (bytes left : List ℕ) → Sends before between bytes left
       → Sent between after result left → Sent before after result bytes
   tail_printed (Ok done) before between after bytes left first last = tail_sent before between after bytes left first last

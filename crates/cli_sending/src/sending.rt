@@ -12,8 +12,14 @@ fn send_some<W: Write>(bytes: &[u8], out: &mut W) -> io::Result<usize>
 {
     match out.write(bytes) {
         Ok(0) => Err(io::Error::from(ErrorKind::WriteZero)),
-        Err(error) if error.kind() == ErrorKind::Interrupted => Ok(0),
-        written => written,
+        Ok(count) => Ok(count),
+        Err(error) => {
+            if error.kind() == ErrorKind::Interrupted {
+                Ok(0)
+            } else {
+                Err(error)
+            }
+        }
     }
 }
 

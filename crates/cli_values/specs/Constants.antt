@@ -4,7 +4,7 @@ use Rattle.std.specs.List.{flat_map}
 use Rattle.packed.specs.Number.{little_endian}
 use Rattle.table_schema.specs.Tokens.{hexadecimal}
 use Rattle.sig_grammar.specs.declared.element.Element.{Element}
-use Rattle.sig_grammar.specs.declared.element.Element.TheVariants.{Boolean, Char, I1, U1, I2, U2, I4, U4, I8, U8, R4, R8, String}
+use Rattle.sig_grammar.specs.declared.element.Element.TheVariants.{Boolean, Char, I1, U1, I2, U2, I4, U4, I8, U8, R4, R8, String, I, U, Object}
 use Rattle.sig_grammar.specs.ElementTypes.{CLASS}
 use Rattle.sig_grammar.specs.Reading.{element_of}
 use Rattle.sig_text.specs.SignatureText.{element_text}
@@ -53,7 +53,10 @@ size_of I8 = 8
 size_of U8 = 8
 size_of R4 = 4
 size_of R8 = 8
-size_of _ = 0
+size_of String = 0
+size_of I = 0
+size_of U = 0
+size_of Object = 0
 
 -- a truth value: any number but 0 is true (III.1.1.2)
 abbrev pub truth_text : ℕ → List ℕ

@@ -2,17 +2,16 @@
 ghost use Rattle.std.specs.Prelude.{◌≡◌, ◌++◌, OnOk, length, string_bytes};
 ghost use Rattle.packed.specs.Number.{little_endian};
 ghost use Rattle.sig_grammar.specs.Reading.{element_of};
-ghost use Rattle.cli_values.specs.Constants.{bytearray_text, constant_text, is_null, number_text, size_of, sized_text, truth_text, typed_text};
+ghost use Rattle.cli_values.specs.Constants.{bits_text, bytearray_text, constant_text, is_null, number_text, size_of, sized_text, text_or_bytes, truth_text, typed_text};
 
 use crate::bytes::push_value_bytes;
-use crate::numbers::{push_decimal, push_signed};
+use crate::numbers::{push_decimal, push_eight_digits, push_signed, push_sixteen_digits};
 use crate::units::push_string;
 use packed::{u16_at, u32_at, u64_at};
 use sig_grammar::Element;
 use sig_grammar::element_type::CLASS;
 use sig_text::element_name;
 use std::alloc::AllocError;
-use std::fmt::Write;
 
 /// The type that a number encodes (II.23.1.16).
 #[tactic(auto, unfolding(sig_grammar::specs::Reading::element_of))]
@@ -64,6 +63,22 @@ fn truth(number: u64) -> &'static str
     "true"
 }
 
+/// Appends the bits of a floating-point number of four bytes.
+fn push_single(number: u64, text: &mut String) -> Result<(), AllocError>
+    ensures { OnOk result (string_bytes text.new ≡ string_bytes text.old ++ bits_text 8 number) }
+{
+    text.push_str("0x")?;
+    push_eight_digits(number, text)
+}
+
+/// Appends the bits of a floating-point number of eight bytes.
+fn push_double(number: u64, text: &mut String) -> Result<(), AllocError>
+    ensures { OnOk result (string_bytes text.new ≡ string_bytes text.old ++ bits_text 16 number) }
+{
+    text.push_str("0x")?;
+    push_sixteen_digits(number, text)
+}
+
 /// Appends a value of a type, by the number in its bytes.
 fn push_number(of: Element, number: u64, text: &mut String) -> Result<(), AllocError>
     ensures { OnOk result (string_bytes text.new ≡ string_bytes text.old ++ number_text of number) }
@@ -74,8 +89,8 @@ fn push_number(of: Element, number: u64, text: &mut String) -> Result<(), AllocE
         Element::I2 => push_signed(number, 1 << 15, text),
         Element::I4 => push_signed(number, 1 << 31, text),
         Element::I8 => push_signed(number, 1 << 63, text),
-        Element::R4 => write!(text, "0x{number:08x}").map_err(|_| AllocError),
-        Element::R8 => write!(text, "0x{number:016x}").map_err(|_| AllocError),
+        Element::R4 => push_single(number, text),
+        Element::R8 => push_double(number, text),
         _ => push_decimal(number, text),
     }
 }
@@ -103,15 +118,24 @@ fn push_sized(of: Element, bytes: &[u8], text: &mut String) -> Result<(), AllocE
     text.push_str(")")
 }
 
-/// Appends a value of a type that one byte encodes, or the bytes of a value of no such type, or of a text whose last unit has
-/// one byte.
+/// Appends a text, unless its last unit has one byte.
+fn push_text(bytes: &[u8], text: &mut String) -> Result<(), AllocError>
+    ensures { OnOk result (string_bytes text.new ≡ string_bytes text.old ++ text_or_bytes bytes.now) }
+{
+    if bytes.len() % 2 == 0 {
+        return push_string(bytes, text);
+    }
+    push_bytearray(bytes, text)
+}
+
+/// Appends a value of a type that one byte encodes, or the bytes of a value of no such type.
 fn push_typed(of: Option<Element>, bytes: &[u8], text: &mut String) -> Result<(), AllocError>
     ensures { OnOk result (string_bytes text.new ≡ string_bytes text.old ++ typed_text of bytes.now) }
 {
     match of {
-        Some(Element::String) if bytes.len() % 2 == 0 => push_string(bytes, text),
-        Some(Element::String) | None => push_bytearray(bytes, text),
+        Some(Element::String) => push_text(bytes, text),
         Some(of) => push_sized(of, bytes, text),
+        None => push_bytearray(bytes, text),
     }
 }
 

@@ -38,3 +38,10 @@ pub fn push_eight_digits(number: u64, text: &mut String) -> Result<(), AllocErro
 {
     write!(text, "{number:08x}").map_err(|_| AllocError)
 }
+
+/// Appends the sixteen hexadecimal digits of a number.
+pub(crate) fn push_sixteen_digits(number: u64, text: &mut String) -> Result<(), AllocError>
+    ensures { OnOk result (string_bytes text.new ≡ string_bytes text.old ++ hexadecimal 16 number) }
+{
+    write!(text, "{number:016x}").map_err(|_| AllocError)
+}

@@ -1,13 +1,16 @@
 -- Whether a file begins like one of a kind, by the bytes that are read of it first, within a limit.
-use Rattle.std.proofs.Common.{◌≡◌, ◌∙◌, ◌≤◌, ◌+◌, ◌^◌, ℕ, Bool, false, List, ◌++◌, Option, None, Some, IfSome, length, take, take-take, option_map, bytes_eq, ap, sym, arith}
+use Rattle.std.proofs.Common.{◌≡◌, ◌∙◌, ◌≤◌, ◌+◌, ◌^◌, ℕ, Bool, false, List, ◌++◌, Option, None, Some, IfSome, length, take, take-take, option_map, bytes_eq, ap, sym, subst, arith}
 use Rattle.std.proofs.lemmas.List.{take-append-le}
 use Rattle.std.specs.Io.KnownBytes.{Consumes}
 use Rattle.std.specs.Io.Take.{take_remaining}
 use Rattle.std.specs.declared.io.traits.Take.{Take}
-use Rattle.cli_files.specs.Hints.{begin_with, signature_of}
+use Rattle.cli_files.specs.Hints.{begin_with}
 use Rattle.cli_input.specs.declared.opened.Input.{Input}
 use Rattle.cli_input.specs.declared.opened.Input.TheVariants.{BareRoot, File}
-use Rattle.cli_walk.specs.Walks.{IsReadIfLike}
+use Rattle.cli_walk.specs.Walks.{BeginsLike, IsReadIfLike, signature_of}
+
+same : (input : Input) (known : Option (List ℕ)) (sign : List ℕ) (begins : Bool) → sign ≡ signature_of input → IfSome known (λ all. begins ≡ begin_with sign all) → BeginsLike known input begins
+same input known sign begins is = subst (λ (s : List ℕ). IfSome known (λ all. begins ≡ begin_with s all)) is
 
 short : (input : Input) (sign : List ℕ) (most : ℕ) → sign ≡ signature_of input → most ≡ 2 ^ 30 + 1 → length sign ≤ most
 short File sign most is limit = omega (arith, ap length is, limit)
@@ -36,7 +39,8 @@ module _ {F : Type 0} (remaining : F → Option (List ℕ)) (before after : Take
   -- the first bytes are not those of this kind
   pub passed : (begins : Bool) (bytes : List ℕ) → length sign ≤ length first → begins ≡ begin_with sign first → begins ≡ false → IsReadIfLike remaining before.inner input false bytes
   passed begins bytes long is none = (
-    rw (sym sign_is) (differs (remaining before.inner) (take_remaining remaining after) before.limit sign first false (short input sign before.limit sign_is limit) long begun (sym none ∙ is)),
+    same input (remaining before.inner) sign false sign_is
+        (differs (remaining before.inner) (take_remaining remaining after) before.limit sign first false (short input sign before.limit sign_is limit) long begun (sym none ∙ is)),
     λ wrong. cc,
   )
 
@@ -45,6 +49,6 @@ module _ {F : Type 0} (remaining : F → Option (List ℕ)) (before after : Take
       → IsReadIfLike remaining before.inner input begins bytes
   read begins start bytes start_is more is =
       let are : IfSome (remaining before.inner) (λ all. bytes ≡ take before.limit all) = whole (remaining before.inner) (take_remaining remaining after) before.limit first start bytes begun start_is more in (
-        rw (sym sign_is) (begins_by (remaining before.inner) before.limit sign bytes begins (short input sign before.limit sign_is limit) are is),
-        λ so. rw limit at are,
+        same input (remaining before.inner) sign begins sign_is (begins_by (remaining before.inner) before.limit sign bytes begins (short input sign before.limit sign_is limit) are is),
+        λ so. subst (λ (most : ℕ). IfSome (remaining before.inner) (λ all. bytes ≡ take most all)) limit are,
       )

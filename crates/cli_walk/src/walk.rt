@@ -1,11 +1,11 @@
 //! Walks a directory, and the directories in it.
-ghost use Rattle.std.specs.Prelude.{IfErr, IfOk, IfSome, OnOk};
+ghost use Rattle.std.specs.Prelude.{◌≡◌, IfErr, IfOk, IfSome, OnOk};
 ghost use Rattle.std.specs.Io.KnownBytes.{Consumes};
 ghost use Rattle.cli_files.specs.Read.{IsRefused};
-ghost use Rattle.cli_walk.specs.Walks.{IsReadIfLike, IsVisit};
+ghost use Rattle.cli_walk.specs.Walks.{IsReadIfLike, IsVisit, signature_of};
 
 use cli_faults::Failure;
-use cli_files::{LIMIT, signature_of};
+use cli_files::LIMIT;
 use cli_input::Input;
 use std::alloc::AllocError;
 use std::fs::Metadata;
@@ -57,7 +57,10 @@ impl Walk {
     pub fn over<'a, R: Files + AllocGlobal>(rt: &R, root: &'a str) -> Result<Walk, Failure<'a>>
         ensures { IfErr result (IsRefused root.now) }
     {
-        start(rt, root).map_err(|error| Failure::of_reading(&error, root))
+        match start(rt, root) {
+            Ok(walk) => Ok(walk),
+            Err(error) => Err(Failure::of_reading(&error, root)),
+        }
     }
 
     /// Visits what comes next, if anything is left.
@@ -158,6 +161,16 @@ fn add_name(name: Vec<u8>, names: &mut Vec<Vec<u8>>) -> Result<(), AllocError> {
     Ok(())
 }
 
+/// The first bytes of a file of this kind (II.25.2.1, II.24.2.1).
+fn signature_of(input: Input) -> &'static [u8]
+    ensures { result.now ≡ signature_of input }
+{
+    match input {
+        Input::File => b"MZ".as_slice(),
+        Input::BareRoot => b"BSJB".as_slice(),
+    }
+}
+
 /// Reads a file into a buffer, or its first 2^30 + 1 bytes if it has more, if it begins like one of this kind. Otherwise the
 /// buffer holds anything. Returns whether it begins so. It is opened once, and expected to have `reported` bytes.
 ///
@@ -192,7 +205,10 @@ fn read_once<F: Read>(reader: &mut F, bytes: &mut Vec<u8>) -> Result<(), AllocEr
     ensures { OnOk result (Consumes (F.remaining reader.old) (F.remaining reader.new) bytes.new.items) }
 {
     bytes.resize(FIRST, 0)?;
-    let count = reader.read(bytes.as_mut_slice()).unwrap_or(0);
+    let count = match reader.read(bytes.as_mut_slice()) {
+        Ok(count) => count,
+        Err(_) => 0,
+    };
     bytes.truncate(count);
     Ok(())
 }

@@ -20,18 +20,21 @@ abbrev pub column_name : TableCell → List ℕ
 column_name of = slice_index_or (column_names_of of.table) of.column []
 
 -- the table, the row from 1, and what is in the row
-abbrev pub row_parts : TableCell → List Part → List Part
-row_parts of parts =
-    note (byte (table_number of.table)) ∷ word (codes " ") ∷ field name.Table (plain (table_name of.table)) ∷ word (codes " row ") ∷ field name.Row (number of.row) ∷ parts
+abbrev pub parts_of_row : ℕ → List ℕ → ℕ → List Part → List Part
+parts_of_row table table_name row parts =
+    note (byte table) ∷ word (codes " ") ∷ field name.Table (plain table_name) ∷ word (codes " row ") ∷ field name.Row (number row) ∷ parts
 
 -- a column by its number and its name
 abbrev pub cell_parts : TableCell → List Part
 cell_parts of =
-    row_parts of (word (codes " column ") ∷ note (number (column_number of)) ∷ word (codes " ") ∷ field name.Column (plain (column_name of)) ∷ [])
+    parts_of_row (table_number of.table) (table_name of.table) of.row
+    (word (codes " column ") ∷ note (number (column_number of)) ∷ word (codes " ") ∷ field name.Column (plain (column_name of)) ∷ [])
 
 -- a cell, or the padding of a row, which has no number
 abbrev pub cell_or_padding : Bool → TableCell → List Part
-cell_or_padding true of = member name.Structure (plain (codes "padding")) ∷ word (codes "table ") ∷ row_parts of (word (codes " padding") ∷ [])
+cell_or_padding true of =
+    member name.Structure (plain (codes "padding")) ∷ word (codes "table ")
+    ∷ parts_of_row (table_number of.table) (table_name of.table) of.row (word (codes " padding") ∷ [])
 cell_or_padding false of = member name.Structure (plain (codes "cell")) ∷ word (codes "table ") ∷ cell_parts of
 
 -- what an entry is, by its heap

@@ -63,7 +63,10 @@ fn stream_in<'a>(root: &Root<'a>, kind: Kind) -> &'a [u8]
     ensures stream { result.now ≡ unwrap_or (stream_of root.now kind) [] }
     ensures within { length result.now ≤ length root.now.bytes }
 {
-    root.stream(kind).unwrap_or(&[])
+    match root.stream(kind) {
+        Some(stream) => stream,
+        None => &[],
+    }
 }
 
 /// The offset of a stream in a root; 0 if no header refers to it.
@@ -71,7 +74,10 @@ fn stream_offset(root: &Root, kind: Kind) -> usize
     ensures offset { result ≡ unwrap_or (option_map (λ range. range.0) (range_of root.now kind)) 0 }
     ensures within { result ≤ length root.now.bytes }
 {
-    root.stream_place(kind).map_or(0, |range| range.start)
+    match root.stream_place(kind) {
+        Some(range) => range.start,
+        None => 0,
+    }
 }
 
 /// A stream of a root that is at offset `start` of the file. It has no bytes if no header refers to it.
@@ -109,7 +115,10 @@ pub(crate) fn run_of(texts: Heap<'_>, offset: u64) -> Option<Run>
     requires { IsLow texts }
     ensures { IsRunOf (heap_of texts.entry) offset result }
 {
-    let byte = offset.checked_sub(texts.start)?;
+    if offset < texts.start {
+        return None;
+    }
+    let byte = offset - texts.start;
     if byte >= texts.bytes.len() as u64 {
         return None;
     }
@@ -199,7 +208,13 @@ pub(crate) fn entry_at(target: &Target<'_>, kind: ColumnKind, index: u32) -> Opt
         ColumnKind::Text => string_at(target, index),
         ColumnKind::Guid => guid_at(target, index),
         ColumnKind::Blob | ColumnKind::Signature(_) => blob_at(target, index),
-        _ => None,
+        ColumnKind::U8
+        | ColumnKind::U16
+        | ColumnKind::U32
+        | ColumnKind::Padding
+        | ColumnKind::Row(_)
+        | ColumnKind::Coded(_)
+        | ColumnKind::List(_) => None,
     }
 }
 

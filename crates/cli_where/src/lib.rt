@@ -16,6 +16,7 @@
 //! ```
 #![tactic(auto)]
 
+mod cells;
 mod entries;
 mod named_entries;
 mod report;

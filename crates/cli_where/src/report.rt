@@ -110,8 +110,11 @@ fn print_found<W: Write>(
     cli_lines::laws::lines_follow::<W>();
     print_structures(alloc, structures, out);
     print_value(alloc, bytes, view, structures, out);
-    if let Input::File = input {
-        print_contents(alloc, bytes, view, offset, out);
-        print_resource(bytes, view, offset, out);
+    match input {
+        Input::BareRoot => {}
+        Input::File => {
+            print_contents(alloc, bytes, view, offset, out);
+            print_resource(bytes, view, offset, out);
+        }
     }
 }

@@ -30,12 +30,16 @@ pub fn print_strings<W: Write>(
 ) -> Result<(), Failure<'static>>
     ensures { AreListed input bytes.now out.old out.new result }
 {
-    let view = open(bytes, input)?;
-    let Ok(heap) = padded_copy(alloc, view.user()) else {
-        return Err(Failure::OutOfMemory);
-    };
-    print_entries(&heap, out);
-    Ok(())
+    match open(bytes, input) {
+        Ok(view) => match padded_copy(alloc, view.user()) {
+            Ok(heap) => {
+                print_entries(&heap, out);
+                Ok(())
+            }
+            Err(_) => Err(Failure::OutOfMemory),
+        },
+        Err(fault) => Err(Failure::Fault(fault)),
+    }
 }
 
 /// Prints a line for each entry of a heap that has bytes, up to the first offset without an entry or a token.
@@ -45,11 +49,13 @@ fn print_entries<W: Write>(heap: &[u8], out: &mut Printer<'_, W>)
     cli_lines::laws::lines_follow::<W>();
     let mut index = 1;
     for _turn in 0..heap.len() {
-        let Some(entry) = user_entry(heap, index) else {
-            return;
-        };
-        print_entry(index as u32, &entry.string, out);
-        index = entry.next;
+        match user_entry(heap, index) {
+            Some(entry) => {
+                print_entry(index as u32, &entry.string, out);
+                index = entry.next;
+            }
+            None => return,
+        }
     }
 }
 

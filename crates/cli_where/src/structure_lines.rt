@@ -2,7 +2,7 @@
 ghost use Rattle.std.specs.Prelude.{◌≡◌, ◌∷◌, [], map};
 ghost use Rattle.cli_lines.specs.Printed.{Prints};
 ghost use Rattle.cli_regions.specs.Kept.{seen, words_text};
-ghost use Rattle.cli_regions.specs.Regions.{cell as a_cell, words as some_words};
+ghost use Rattle.cli_regions.specs.Regions.{cell as a_cell, entry, user_string, words as some_words};
 ghost use Rattle.table_schema.specs.CellColumns.{is_padding};
 ghost use Rattle.cli_found.specs.Found.{kind_of};
 ghost use Rattle.cli_where.specs.Lines.{column_name, entry_word, line_with, structure_line, what_parts};
@@ -113,36 +113,52 @@ fn print_cell<W: Write>(of: Structure<'_>, cell: TableCell, out: &mut Printer<'_
     }
 }
 
-/// Prints the line of a structure.
+/// Prints the line of an entry of a heap.
 #[tactic(auto, unfolding(crate::specs::Lines::line_with))]
+fn print_entry<W: Write>(of: Structure<'_>, heap: Kind, cell: TableCell, out: &mut Printer<'_, W>)
+    ensures { Prints out.old out.new (line_with of.entry.start of.entry.size (what_parts (entry heap cell)) ∷ []) }
+{
+    out.line(line![
+        of;
+        Field(Name::Structure, Plain(entry_word(heap))),
+        Member(Name::Stream, Plain(heap.name())),
+        Word(" of table "),
+        Note(Byte(cell.table.number())),
+        Word(" "),
+        Field(Name::Table, Plain(cell.table.name())),
+        Word(" row "),
+        Field(Name::Row, Number(cell.row as u64)),
+        Word(" column "),
+        Note(Number(column_number(cell) as u64)),
+        Word(" "),
+        Field(Name::Column, Plain(column_name(cell)))
+    ]);
+}
+
+/// Prints the line of a user string.
+#[tactic(auto, unfolding(crate::specs::Lines::line_with))]
+fn print_user_string<W: Write>(of: Structure<'_>, token: u32, out: &mut Printer<'_, W>)
+    ensures { Prints out.old out.new (line_with of.entry.start of.entry.size (what_parts (user_string token)) ∷ []) }
+{
+    out.line(line![
+        of;
+        Field(Name::Structure, Plain("user string")),
+        Member(Name::Stream, Plain(Kind::UserStrings.name())),
+        Word(" "),
+        Field(Name::Token, Hex(token))
+    ]);
+}
+
+/// Prints the line of a structure.
 fn print_structure<W: Write>(alloc: Global, of: Structure<'_>, out: &mut Printer<'_, W>)
     ensures { Prints out.old out.new (structure_line (seen of.entry) ∷ []) }
 {
     match of.what {
-        What::Words(words) | What::Scalar(words) => print_words(alloc, of, words, out),
+        What::Words(words) => print_words(alloc, of, words, out),
+        What::Scalar(words) => print_words(alloc, of, words, out),
         What::Cell(cell) => print_cell(of, cell, out),
-        What::Entry(heap, cell) => out.line(line![
-            of;
-            Field(Name::Structure, Plain(entry_word(heap))),
-            Member(Name::Stream, Plain(heap.name())),
-            Word(" of table "),
-            Note(Byte(cell.table.number())),
-            Word(" "),
-            Field(Name::Table, Plain(cell.table.name())),
-            Word(" row "),
-            Field(Name::Row, Number(cell.row as u64)),
-            Word(" column "),
-            Note(Number(column_number(cell) as u64)),
-            Word(" "),
-            Field(Name::Column, Plain(column_name(cell)))
-        ]),
-        What::UserString(token) => out.line(line![
-            of;
-            Field(Name::Structure, Plain("user string")),
-            Member(Name::Stream, Plain(Kind::UserStrings.name())),
-            Word(" "),
-            Field(Name::Token, Hex(token))
-        ]),
+        What::Entry(heap, cell) => print_entry(of, heap, cell, out),
+        What::UserString(token) => print_user_string(of, token, out),
     }
 }
 

@@ -69,15 +69,18 @@ fn find_in_padded(heap: &Heap<'_>, padded: &[u8], found: &mut Search<'_>)
 {
     let mut index = 1;
     for _turn in 0..padded.len() {
-        let Some(entry) = user_entry(padded, index) else {
-            return;
-        };
-        let end = entry.next.min(heap.bytes.len());
-        found.look_at(Structure {
-            start: heap.start + index as u64,
-            size: end.saturating_sub(index) as u64,
-            what: What::UserString(USER_STRINGS + index as u32),
-        });
-        index = entry.next;
+        match user_entry(padded, index) {
+            Some(entry) => {
+                let end = entry.next.min(heap.bytes.len());
+                let size = end.saturating_sub(index) as u64;
+                found.look_at(Structure {
+                    start: heap.start + index as u64,
+                    size,
+                    what: What::UserString(USER_STRINGS + index as u32),
+                });
+                index = entry.next;
+            }
+            None => return,
+        }
     }
 }

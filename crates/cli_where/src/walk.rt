@@ -2,21 +2,20 @@
 ghost use Rattle.std.specs.Prelude.{◌≤◌, IfOk, length, map};
 ghost use Rattle.cli_regions.specs.Kept.{Finds, seen};
 ghost use Rattle.root.specs.declared.kind.Kind.TheVariants.{Tables};
-ghost use Rattle.schema.specs.Offsets.{tables_end};
-ghost use Rattle.cli_where.specs.Cells.{AreCellsAt};
 ghost use Rattle.cli_where.specs.Entries.{heap_at};
 ghost use Rattle.cli_where.specs.Where.{AreInFile, AreInHeaps, AreInImage, AreInRoot, AreInStream, AreStructuresAt};
 
+use crate::cells::find_cell;
 use crate::entries::{Target, heap_in, run_of};
 use crate::named_entries::find_entries;
 use crate::user_strings::find_user_strings;
 use cli_header::read_cli;
 use cli_input::{Input, root_of};
-use cli_regions::{Search, Structure, What, find_cli, find_pe, find_root, find_table_stream};
+use cli_regions::{Search, Structure, find_cli, find_pe, find_root, find_table_stream};
 use pe::{Pe, read_pe};
 use root::{Kind, Root, read_root};
 use rows::Rows;
-use schema::{Layout, cell_at};
+use schema::Layout;
 use std::alloc::{AllocError, Global};
 
 /// How far a walk goes.
@@ -26,25 +25,6 @@ pub enum Reach {
     Cells,
     /// Down to the entries of the heaps.
     Entries,
-}
-
-/// Keeps the cell that contains the byte, if there is one. The table stream is at offset `start` of the file.
-pub(crate) fn find_cell(layout: &Layout, start: u64, found: &mut Search<'_>)
-    requires start { start ≤ 0x80000000 }
-    requires small { tables_end layout.now ≤ 0x40000000 }
-    ensures { Finds (AreCellsAt layout.now start) found.old found.new }
-{
-    let offset = found.offset();
-    if offset < start {
-        return;
-    }
-    if let Some(cell) = cell_at(layout, (offset - start) as usize) {
-        found.keep(Structure {
-            start: start + layout.cell_start(cell.table, cell.row, cell.column) as u64,
-            size: layout.cell_width(cell.table, cell.column) as u64,
-            what: What::Cell(cell),
-        });
-    }
 }
 
 /// Keeps the entries of the heaps of a root, if the walk goes so far. The root is at offset `start` of the file.

@@ -1,6 +1,7 @@
 -- A cell that was reported can be given.
-use Rattle.clim_c.proofs.Prelude.{Body, ◌≡◌, ℕ, ◌<◌, List, Some, None, IsUtf8, refl, sym, ap, ◌∙◌, subst, TableId, SigKind, ColumnKind, cell_count, Cell, CellRef, Shows, ShowsSignature, ClimCell, Reports}
+use Rattle.clim_c.proofs.Prelude.{◌≡◌, ℕ, ◌<◌, List, Some, None, IsUtf8, refl, sym, ap, ◌∙◌, subst, TableId, SigKind, ColumnKind, cell_count, Cell, CellRef, Shows, ShowsSignature, ClimCell, Reports}
 use Rattle.table_schema.specs.declared.column.ColumnKind.TheVariants as kind
+use Rattle.sig_grammar.specs.Syntax.{Body}
 use Rattle.sig_grammar.specs.Encodes.{Encodes}
 use Rattle.metadata.specs.Cell as says
 use Rattle.metadata.specs.Kinds.{IsStorable}
@@ -10,7 +11,7 @@ use Rattle.c_values.specs.declared.cell_kind.CellKind.TheVariants as of
 use Rattle.c_values.specs.Cells.{HasSignatures, IsCell}
 
 -- a text that a heap can store is UTF-8
-pub utf8_of : (cell : Cell) (text : List ℕ) → cell ≡ says.Text text → IsStorable cell → IsUtf8 text
+utf8_of : (cell : Cell) (text : List ℕ) → cell ≡ says.Text text → IsStorable cell → IsUtf8 text
 utf8_of cell text is held = let there = subst IsStorable is held in there.1
 
 -- only a column of signatures shows one

@@ -4,4 +4,6 @@ pub mod HeaderLemmas
 pub mod Prelude
 pub mod RootLemmas
 pub mod SignatureLemmas
+pub mod Texts
 pub mod Written
+pub mod EmbedLemmas

@@ -1,6 +1,6 @@
 -- The stream header that a C caller receives (II.24.2.2).
 use Rattle.root.specs.Streams.{Header}
-use Rattle.clim_c.specs.declared.view_parts.ClimStreamHeader.{ClimStreamHeader}
+use Rattle.clim_c.specs.declared.streams.ClimStreamHeader.{ClimStreamHeader}
 
 -- the stream header with these fields
 abbrev pub stream_of : ClimStreamHeader → Header

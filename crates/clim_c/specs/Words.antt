@@ -26,7 +26,7 @@ pub use Rattle.attribute_values.specs.Values.{AttributeValue}
 pub use Rattle.metadata.specs.Cell.{Sig}
 pub use Rattle.metadata.specs.Lookups.{HasNames, HasRow, IsFirstType}
 pub use Rattle.metadata.specs.Metadata.{Metadata, cell_in, count_in}
-pub use Rattle.metadata.specs.Model.{IsModel, IsModelOfFile}
+pub use Rattle.metadata.specs.Model.{IsModel}
 pub use Rattle.metadata.specs.Rules.{rules_of_file, rules_of_metadata}
 pub use Rattle.metadata.specs.Streams.{root_in}
 pub use Rattle.metadata.specs.Valid.{IsValid}
@@ -38,7 +38,6 @@ pub use Rattle.full_names.specs.RowNames.{IsRowName}
 pub use Rattle.cli_faults.specs.declared.explained.Explanation.{Explanation as Explained}
 pub use Rattle.root_writer.specs.Canonical.{canonical}
 pub use Rattle.embedding.specs.declared.strong_name.StrongName.{StrongName}
-pub use Rattle.comparison.specs.Differences.{first_differences}
 pub use Rattle.c_attributes.specs.Items.{AreItems}
 pub use Rattle.c_attributes.specs.Values.{IsValueAt}
 pub use Rattle.c_values.specs.Cells.{IsCell}

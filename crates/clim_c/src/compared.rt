@@ -1,7 +1,7 @@
 //! Whether two views have the same model.
 ghost use Rattle.std.specs.Prelude.{◌≡◌, ◌≢◌, ◌↔◌, ◌⊎◌, ◌-◌, ◌^◌, ◌<◌, ◌≤◌, IfOk, true};
-ghost use Rattle.clim_c.specs.Compared.{IsFirst, ReportsFirst};
-ghost use Rattle.clim_c.specs.Words.{IsModel, Metadata, first_differences};
+ghost use Rattle.clim_c.specs.Compared.{IsFirst, ReportsFirst, all_differences};
+ghost use Rattle.clim_c.specs.Words.{IsModel, Metadata};
 
 use crate::opened::seen;
 use crate::view::ClimView;
@@ -25,7 +25,7 @@ fn first_difference(
     right: &View<'_>,
 ) -> Result<Option<Difference>, AllocError>
     ensures { (first second : Metadata) → IsModel left.now first → IsModel right.now second
-        → IfOk result (λ found. IsFirst found (first_differences first second 1)) }
+        → IfOk result (λ found. IsFirst found (all_differences first second)) }
 {
     if let Some(difference) = outline_difference(left, right) {
         return Ok(Some(difference));

@@ -1,6 +1,6 @@
-ghost use Rattle.std.specs.Prelude.{◌≡◌, ◌≢◌, ◌⊎◌, ◌-◌, ◌^◌, ◌<◌, ◌≤◌, None, Some};
+ghost use Rattle.std.specs.Prelude.{◌≡◌, ◌≢◌, ◌⊎◌, ◌-◌, ◌^◌, ◌<◌, ◌≤◌};
 ghost use Rattle.embedding.specs.declared.error.EmbedError.{EmbedError as Reason};
-ghost use Rattle.c_values.specs.Copies.{IsAsked, IsCopied, IsFaultOfRoot, IsNoCopy, number_of_reason, strong_name_by};
+ghost use Rattle.c_values.specs.Copies.{IsAsked, IsCopied, IsFaultOfRoot, IsNoCopy, IsStrongName, number_of_reason};
 ghost use Rattle.clim_c.specs.Faults.{fault_of};
 ghost use Rattle.clim_c.specs.Words.{FirstBroken, StrongName, rules_of_file};
 
@@ -28,8 +28,8 @@ pub extern "C" fn clim_embed(
     buffer: &mut [u8],
     fault: &mut ClimFault,
 ) -> usize
-    ensures copy { (name : StrongName) → strong_name_by strong_name ≡ Some name → result ≤ 2 ^ 30 → IsCopied (IsAsked file.now root.now) name file.now result buffer.old buffer.new }
-    ensures unknown { strong_name_by strong_name ≡ None → (result ≡ 0) × (buffer.new ≡ buffer.old) }
+    ensures copy { (name : StrongName) → IsStrongName strong_name name → result ≤ 2 ^ 30 → IsCopied (IsAsked file.now root.now) name file.now result buffer.old buffer.new }
+    ensures unknown { ((name : StrongName) → ¬ IsStrongName strong_name name) → (result ≡ 0) × (buffer.new ≡ buffer.old) }
     ensures bad_file { result ≡ 2 ^ 64 - 3 → FirstBroken (rules_of_file file.now) (fault_of fault.new) }
     ensures bad_root { result ≡ 2 ^ 64 - 4 → IsFaultOfRoot (IsAsked file.now root.now) (fault_of fault.new) }
     // Any other reason, by its number, is true of the file and the root.

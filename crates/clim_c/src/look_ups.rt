@@ -18,17 +18,14 @@ pub extern "C" fn clim_find_type(view: &ClimView, namespace: &[u8], name: &[u8])
         → (row : ℕ) → HasRow model TypeDef row → ¬ HasNames model namespace.now name.now row }
     ensures closed { view.now.is_open ≡ false → result ≡ 0 }
 {
-    metadata::laws::models_of_roots_are_valid();
+    metadata::laws::models_are_read();
     let (Ok(namespace), Ok(name)) = (str::from_utf8(namespace), str::from_utf8(name)) else {
         return 0;
     };
     let Some(seen) = seen(view) else {
         return 0;
     };
-    match seen.find_type(namespace, name) {
-        Some(row) => row,
-        None => 0,
-    }
+    seen.find_type(namespace, name).unwrap_or(0)
 }
 
 /// The run of rows of `member` that a row of `owner` owns; `None` if the owner table does not own rows of that table.

@@ -1,6 +1,6 @@
 ghost use Rattle.std.specs.Prelude.{◌≡◌, ◌≤◌, ◌<◌, IsTrue, IfSome, IfNone, true, false};
 ghost use Rattle.clim_c.specs.Faults.{fault_of, IsWhole};
-ghost use Rattle.clim_c.specs.Words.{CliHeader, FirstBroken, HasImage, HasModel, IsModel, IsModelOfFile, IsSpentIn, IsSpentInFile, Left, Metadata, OnFalse, OnTrue, named_bytes_in, named_bytes_in_file, root_in, rules_of_file, rules_of_metadata};
+ghost use Rattle.clim_c.specs.Words.{CliHeader, FirstBroken, HasImage, HasModel, IsSpentIn, IsSpentInFile, Left, OnFalse, OnTrue, named_bytes_in, named_bytes_in_file, root_in, rules_of_file, rules_of_metadata};
 
 use crate::fault::ClimFault;
 use crate::view::ClimView;
@@ -12,7 +12,7 @@ use opening::{
 #[unsafe(no_mangle)]
 pub extern "C" fn clim_check(file: &[u8], fault: &mut ClimFault) -> bool
     ensures sound { OnTrue result (IsWhole file.now) }
-    ensures complete { (header : CliHeader) (model : Metadata) → IsModelOfFile file.now header model → IsTrue result }
+    ensures complete { IsWhole file.now → IsTrue result }
     ensures first_error { OnFalse result (FirstBroken (rules_of_file file.now) (fault_of fault.new)) }
     ensures same { OnTrue result (fault.new ≡ fault.old) }
 {
@@ -26,7 +26,7 @@ pub extern "C" fn clim_check(file: &[u8], fault: &mut ClimFault) -> bool
 #[unsafe(no_mangle)]
 pub extern "C" fn clim_check_root(root: &[u8], fault: &mut ClimFault) -> bool
     ensures sound { OnTrue result (HasModel root.now) }
-    ensures complete { (model : Metadata) → IsModel root.now model → IsTrue result }
+    ensures complete { HasModel root.now → IsTrue result }
     ensures first_error { OnFalse result (FirstBroken (rules_of_metadata 0 root.now) (fault_of fault.new)) }
     ensures same { OnTrue result (fault.new ≡ fault.old) }
 {
@@ -69,7 +69,7 @@ pub extern "C" fn clim_open_root<'a>(
     fault: &mut ClimFault,
 ) -> bool
     ensures sound { OnTrue result (HasModel root.now × (view.new.is_open ≡ true) × (view.new.root.now ≡ root.now)) }
-    ensures complete { (model : Metadata) → IsModel root.now model → IsTrue result }
+    ensures complete { HasModel root.now → IsTrue result }
     ensures first_error { OnFalse result (FirstBroken (rules_of_metadata 0 root.now) (fault_of fault.new)) }
     ensures same { OnFalse result (view.new ≡ view.old) }
     ensures quiet { OnTrue result (fault.new ≡ fault.old) }
@@ -92,7 +92,7 @@ pub extern "C" fn clim_open<'a>(
 ) -> bool
     ensures sound { OnTrue result (view.new.is_open ≡ true) }
     ensures header { OnTrue result (∥ ((header : CliHeader) × HasImage file.now header × (view.new.root.now ≡ root_in file.now header)) ∥₁) }
-    ensures complete { (header : CliHeader) (model : Metadata) → IsModelOfFile file.now header model → IsTrue result }
+    ensures complete { IsWhole file.now → IsTrue result }
     ensures first_error { OnFalse result (FirstBroken (rules_of_file file.now) (fault_of fault.new)) }
     ensures same { OnFalse result (view.new ≡ view.old) }
     ensures quiet { OnTrue result (fault.new ≡ fault.old) }
@@ -119,7 +119,7 @@ pub extern "C" fn clim_check_within(
     spent: &mut bool,
 ) -> bool
     ensures sound { OnTrue result (IsWhole file.now) }
-    ensures complete { (header : CliHeader) (model : Metadata) → IsModelOfFile file.now header model → named_bytes_in_file file.now ≤ budget → IsTrue result }
+    ensures complete { IsWhole file.now → named_bytes_in_file file.now ≤ budget → IsTrue result }
     ensures first_error { OnFalse result (OnFalse spent.new (FirstBroken (rules_of_file file.now) (fault_of fault.new))) }
     ensures spent { OnTrue spent.new ((result ≡ false) × IsSpentInFile (Left budget) file.now) }
     ensures same { OnTrue result (fault.new ≡ fault.old) }
@@ -145,7 +145,7 @@ pub extern "C" fn clim_check_root_within(
     spent: &mut bool,
 ) -> bool
     ensures sound { OnTrue result (HasModel root.now) }
-    ensures complete { (model : Metadata) → IsModel root.now model → named_bytes_in root.now ≤ budget → IsTrue result }
+    ensures complete { HasModel root.now → named_bytes_in root.now ≤ budget → IsTrue result }
     ensures first_error { OnFalse result (OnFalse spent.new (FirstBroken (rules_of_metadata 0 root.now) (fault_of fault.new))) }
     ensures spent { OnTrue spent.new ((result ≡ false) × IsSpentIn (Left budget) 0 root.now) }
     ensures same { OnTrue result (fault.new ≡ fault.old) }
@@ -173,7 +173,7 @@ pub extern "C" fn clim_open_root_within<'a>(
     spent: &mut bool,
 ) -> bool
     ensures sound { OnTrue result (HasModel root.now × (view.new.is_open ≡ true) × (view.new.root.now ≡ root.now)) }
-    ensures complete { (model : Metadata) → IsModel root.now model → named_bytes_in root.now ≤ budget → IsTrue result }
+    ensures complete { HasModel root.now → named_bytes_in root.now ≤ budget → IsTrue result }
     ensures first_error { OnFalse result (OnFalse spent.new (FirstBroken (rules_of_metadata 0 root.now) (fault_of fault.new))) }
     ensures spent { OnTrue spent.new ((result ≡ false) × IsSpentIn (Left budget) 0 root.now) }
     ensures same { OnFalse result (view.new ≡ view.old) }
@@ -206,7 +206,7 @@ pub extern "C" fn clim_open_within<'a>(
 ) -> bool
     ensures sound { OnTrue result (view.new.is_open ≡ true) }
     ensures header { OnTrue result (∥ ((header : CliHeader) × HasImage file.now header × (view.new.root.now ≡ root_in file.now header)) ∥₁) }
-    ensures complete { (header : CliHeader) (model : Metadata) → IsModelOfFile file.now header model → named_bytes_in_file file.now ≤ budget → IsTrue result }
+    ensures complete { IsWhole file.now → named_bytes_in_file file.now ≤ budget → IsTrue result }
     ensures first_error { OnFalse result (OnFalse spent.new (FirstBroken (rules_of_file file.now) (fault_of fault.new))) }
     ensures spent { OnTrue spent.new ((result ≡ false) × IsSpentInFile (Left budget) file.now) }
     ensures same { OnFalse result (view.new ≡ view.old) }

@@ -1,14 +1,23 @@
 -- Rows of the same bytes have the same numbers, and equal numbers that are read alike stand for equal cells.
-use Rattle.comparison.proofs.Prelude.{◌≡◌, ◌≢◌, ◌↔◌, ◌∙◌, ◌<◌, ◌≤◌, inl, inr, ℕ, zero, suc, ◌+◌, ◌-◌, Bool, IsTrue, List, [], ◌∷◌, length, take, refl, ap, ap₂, sym, subst, cond, arith, sum_by, Cell, Start, AllByRecursion, ne_eqb, TableId, Token, Column, ColumnKind, column_at, columns_of, cell_count, column_of, IsText, IsBlob, IsGuid, tokens, Sizes, SameCounts, width_of, Metadata, cell_in, count_in, start_from, start_of, Refers, StandsFor, IsCell, IgnoredColumns, AreAlike, AreSameParts, HaveSameHeap, HaveSameNumbers, has_same_heap, row_differences, table_differences, is_same_cell}
+use Rattle.std.proofs.Common.{◌≡◌, ◌≢◌, ◌↔◌, ◌∙◌, ◌<◌, ◌≤◌, inl, inr, ℕ, zero, suc, ◌+◌, ◌-◌, ◌*◌, ◌==◌, Bool, true, false, IsTrue, List, [], ◌∷◌, length, take, refl, ap, ap₂, sym, subst, cond, arith}
+use Rattle.comparison.proofs.Prelude.{Decides, AllByRecursion, ne_eqb, TableId, Token, Column, ColumnKind, column_at, columns_of, cell_count, column_of, IsText, IsBlob, IsGuid, tokens, Sizes, SameCounts, width_of, Metadata, cell_in, count_in, start_from, start_of, Refers, StandsFor, IsCell, IgnoredColumns, AreAlike, AreSameParts, HaveSameHeap, HaveSameNumbers, has_same_heap, row_differences, table_differences, is_same_cell}
 use Rattle.std.proofs.Math.Path.{fun_ext}
+use Rattle.std.specs.Prelude.{sum_by}
+use Rattle.packed.specs.Number.{little_endian}
+use Rattle.packed.specs.Offsets.{part}
 use Rattle.table_schema.specs.declared.column.ColumnKind.TheVariants as kind
 use Rattle.schema.specs.Offsets.{columns_width, offset_in_row, row_width}
 use Rattle.schema.specs.Cells.{cell_width}
 use Rattle.rows.specs.Cells.{number_in_rows}
+use Rattle.metadata.specs.Cell.{Cell, Start}
 use Rattle.metadata.specs.Source.{Source, IsThere, number_of, rows_in}
 use Rattle.reading.specs.RowBytes.{AreRowBytes}
 use Rattle.comparison.specs.declared.same_bytes.SameParts.{SameParts}
 use Rattle.comparison.proofs.EqualLemmas.{row_nothing, table_nothing}
+
+-- a test of two values is one of what they are equal to
+pub compared : (xs ys left right : List ℕ) (test : Bool) → Decides test (xs ≡ ys) → xs ≡ left → ys ≡ right → IsTrue test ↔ (left ≡ right)
+compared xs ys left right test decides here there = ((λ is. sym here ∙ decides.0 is ∙ there), (λ same. decides.1 (here ∙ same ∙ sym there)))
 
 -- ---- heaps
 
@@ -19,6 +28,12 @@ module _ (same : SameParts) (left right : Source) (parts : AreSameParts left rig
   heap_tested kind.Blob = parts.blobs
   heap_tested (kind.Signature encoded) = parts.blobs
   heap_tested _ = ((λ is. tt), (λ is. refl))
+
+  pub heap_same : (column : ColumnKind) (test : Bool) → test ≡ has_same_heap same column → test ≡ true → HaveSameHeap left right column
+  heap_same column test is holds = (heap_tested column).0 (sym is ∙ holds)
+
+  pub heap_differs : (column : ColumnKind) (test : Bool) → test ≡ has_same_heap same column → test ≡ false → HaveSameHeap left right column → ⊥
+  heap_differs column test is differs alike = let same = is ∙ (heap_tested column).1 alike in cc
 
 -- ---- numbers
 
@@ -32,10 +47,13 @@ same_sum sizes others same columns = ap (λ (width : Column → ℕ). sum_by wid
 same_read : (sizes others : Sizes) → ((column : Column) → width_of sizes column ≡ width_of others column) → (bytes more : List ℕ) → bytes ≡ more
     → (table : TableId) (row column : ℕ) → number_in_rows bytes sizes table row column ≡ number_in_rows more others table row column
 same_read sizes others same bytes more is table row column =
-    let wide : row_width sizes table ≡ row_width others table = same_sum sizes others same (columns_of table) in
-    let before : offset_in_row sizes table column ≡ offset_in_row others table column = same_sum sizes others same (take column (columns_of table)) in
-    let width : cell_width sizes table column ≡ cell_width others table column = same (column_at table column) in
-    rw (is, wide, before, width) refl
+    let columns = columns_of table in
+    let wide : row_width sizes table ≡ row_width others table = same_sum sizes others same columns in
+    let before : offset_in_row sizes table column ≡ offset_in_row others table column = same_sum sizes others same (take column columns) in
+    let offset : row * row_width sizes table + offset_in_row sizes table column ≡ row * row_width others table + offset_in_row others table column =
+    ap₂ (λ (w o : ℕ). row * w + o) wide before in
+    ap little_endian (ap (λ (l : List ℕ). part l (row * row_width sizes table + offset_in_row sizes table column) (cell_width sizes table column)) is
+    ∙ ap₂ (λ (o w : ℕ). part more o w) offset (same (column_at table column)))
 
 pub same_numbers : (left right : Source) (table : TableId) (first past : ℕ) (bytes more : List ℕ)
     → ((column : Column) → width_of left.sizes column ≡ width_of right.sizes column)
@@ -54,7 +72,8 @@ same_starts values others end row zero same = refl
 same_starts values others end row (suc left) same =
     let here = same row (omega arith) (omega arith) in
     let next = same_starts values others end (row + 1) left (λ later from before. same later (omega (arith, from)) (omega (arith, before))) in
-    rw (here, next) refl
+    ap (λ (n : ℕ). cond (n == 0) (start_from values end (row + 1) left) n) here
+    ∙ ap (λ (n : ℕ). cond (others row == 0) n (others row)) next
 
 -- a value that is not null is the start
 known_start : (values : ℕ → ℕ) (end row left : ℕ) → 1 ≤ left → values row ≢ 0 → start_from values end row left ≡ values row
@@ -102,6 +121,10 @@ module _ (left right : Source) (layout : SameCounts left.sizes right.sizes) wher
   stands_alike : (column : ColumnKind) (nullable : Bool) (start other : TableId → ℕ) (number : ℕ) (cell : Cell) → HaveSameHeap left right column
       → ((member : TableId) → column ≡ kind.List member → start member ≡ other member)
       → StandsFor right column nullable other number cell → StandsFor left column nullable start number cell
+  stands_alike kind.U8 nullable start other number cell same starts stands = stands
+  stands_alike kind.U16 nullable start other number cell same starts stands = stands
+  stands_alike kind.U32 nullable start other number cell same starts stands = stands
+  stands_alike kind.Padding nullable start other number cell same starts stands = absurd stands
   stands_alike kind.Text nullable start other number cell same starts stands = (stands.0, subst (λ (heap : List ℕ). IsText heap number stands.0) (sym same) stands.1, stands.2)
   stands_alike kind.Guid nullable start other number cell same starts stands = (stands.0, subst (λ (heap : List ℕ). IsGuid heap number stands.0) (sym same) stands.1, stands.2)
   stands_alike kind.Blob nullable start other number cell same starts stands = (stands.0, subst (λ (heap : List ℕ). IsBlob heap number stands.0) (sym same) stands.1, stands.2)
@@ -111,7 +134,6 @@ module _ (left right : Source) (layout : SameCounts left.sizes right.sizes) wher
   stands_alike (kind.Coded coded) nullable start other number cell same starts stands = (stands.0, stands.1, refers_alike nullable stands.0 cell stands.2)
   stands_alike (kind.List member) nullable start other number cell same starts stands =
       (subst (λ (n : ℕ). number ≤ n + 1) (sym (layout.counts member)) stands.0, stands.1 ∙ ap Start (sym (starts member refl)))
-  stands_alike _ nullable start other number cell same starts stands = stands
 
   pub cell_alike : (table : TableId) (row cell_index : ℕ) (cell : Cell) → HaveSameHeap left right (column_at table (column_of table cell_index)).kind
       → number_of left table row (column_of table cell_index) ≡ number_of right table row (column_of table cell_index)

@@ -1,5 +1,8 @@
 -- What a part of a comparison adds to the cells that were found.
-use Rattle.comparison.proofs.Prelude.{◌≡◌, ◌||◌, ◌∙◌, ◌≤◌, ℕ, ◌+◌, Bool, true, false, List, [], ◌∷◌, ◌++◌, All, length, length-append, take, min, ◌≢◌, ap, sym, subst, cond, arith, All-push, IsThere, flat_map, range_with_len, take_all, TableId, tables, cell_count, Metadata, cell_in, count_in, IsModel, Difference, IgnoredColumns, is_ignored, is_same_cell, Comparison, Progress, Extends, IsProgress, cell_difference, cell_differences_but, row_differences, table_differences}
+use Rattle.std.proofs.Common.{◌≡◌, ◌||◌, ◌∙◌, ◌≤◌, ℕ, ◌+◌, Bool, true, false, List, [], ◌∷◌, ◌++◌, All, length, length-append, take, min, ◌≢◌, ap, sym, subst, cond, arith}
+use Rattle.comparison.proofs.Prelude.{flat_map, range_with_len, take_all, TableId, tables, cell_count, Metadata, cell_in, count_in, IsModel, Difference, IgnoredColumns, is_ignored, is_same_cell, Comparison, Progress, Extends, IsProgress, Grows, cell_difference, cell_differences_but, row_differences, table_differences}
+use Rattle.std.proofs.lemmas.List.Elements.{All-push}
+use Rattle.comparison.specs.Differences.{IsThere}
 use Rattle.comparison.specs.declared.difference.Difference.TheVariants.{Cell}
 use Rattle.comparison.proofs.GrowthLemmas.{grows_full, grows_more, grows_nothing}
 
@@ -10,7 +13,9 @@ module _ (comparison : Comparison) where
       → Extends comparison progress.found.items progress more
   nothing_found progress more is none = record {
     progress = is;
-    found = λ first second one other. rw (none first second one other) (grows_nothing comparison.limit progress.found.items is.few);
+    found = λ first second one other.
+        subst (λ (xs : List Difference). Grows comparison.limit progress.found.items progress.found.items xs) (sym (none first second one other))
+        (grows_nothing comparison.limit progress.found.items is.few);
   }
 
   -- there is no room for more
@@ -37,7 +42,9 @@ module _ (comparison : Comparison) where
           few = rw grown fits;
           there = subst (All (IsThere comparison.left.now comparison.right.now)) (sym grown) (All-push (IsThere comparison.left.now comparison.right.now) progress.found.items one is.there there);
         };
-        found = λ first second model other. rw (differs first second model other) (grown ∙ sym (take_all comparison.limit (progress.found.items ++ one ∷ []) fits));
+        found = λ first second model other.
+            subst (λ (xs : List Difference). Grows comparison.limit progress.found.items after.found.items xs) (sym (differs first second model other))
+            (grown ∙ sym (take_all comparison.limit (progress.found.items ++ one ∷ []) fits));
       }
 
   -- one part after another
@@ -47,7 +54,8 @@ module _ (comparison : Comparison) where
   found_more before between after some more all is also parts = record {
     progress = also.progress;
     found = λ first second one other.
-        rw (parts first second) (grows_more comparison.limit before between.found.items after.found.items (some first second) (more first second)
+        subst (λ (xs : List Difference). Grows comparison.limit before after.found.items xs) (sym (parts first second))
+        (grows_more comparison.limit before between.found.items after.found.items (some first second) (more first second)
         (is.found first second one other) (also.found first second one other));
   }
 
@@ -57,7 +65,8 @@ module _ (comparison : Comparison) where
       → Extends comparison before after all
   found_as before after some all is same = record {
     progress = is.progress;
-    found = λ first second one other. rw (← same first second one other) (is.found first second one other);
+    found = λ first second one other.
+        subst (λ (xs : List Difference). Grows comparison.limit before after.found.items xs) (same first second one other) (is.found first second one other);
   }
 
 -- a cell that is not ignored differs, or is the same

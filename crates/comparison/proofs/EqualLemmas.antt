@@ -1,5 +1,9 @@
 -- Two valid models are equal if and only if nothing differs.
-use Rattle.comparison.proofs.Prelude.{◌≡◌, ◌↔◌, ◌∙◌, ◌<◌, ◌≤◌, ℕ, zero, suc, ◌+◌, ◌-◌, ◌||◌, Bool, true, false, IsTrue, List, [], ◌∷◌, ◌++◌, length, length-append, take, get_or, min, refl, ap, sym, subst, cond, arith, ◌==◌, nil_from_length, Cell, bytes_eq, take_all, flat_map, range_with_len, Decides-eqb, bytes_eq-Decides, TableId, Module, tables, table_index_of, cell_count, Metadata, cell_in, count_in, IsValid, Difference, IgnoredColumns, is_ignored, is_same_cell, cell_difference, cell_differences_but, count_difference, first_differences_but, outline_differences, row_differences, table_differences, user_difference, version_difference, cond-true, get_or-range_with_len, length-range_with_len}
+use Rattle.std.proofs.Common.{◌≡◌, ◌↔◌, ◌∙◌, ◌<◌, ◌≤◌, ℕ, zero, suc, ◌+◌, ◌-◌, ◌||◌, Bool, true, false, IsTrue, List, [], ◌∷◌, ◌++◌, length, length-append, take, get_or, min, refl, ap, sym, subst, cond, arith, ◌==◌, Option, Some, None, is_some}
+use Rattle.comparison.proofs.Prelude.{bytes_eq, take_all, IfNone, IfSome, flat_map, range_with_len, Decides-eqb, bytes_eq-Decides, TableId, Module, tables, table_index_of, cell_count, Metadata, cell_in, count_in, IsValid, Difference, IgnoredColumns, is_ignored, is_same_cell, cell_difference, cell_differences_but, count_difference, first_differences_but, outline_differences, row_differences, table_differences, user_difference, version_difference}
+use Rattle.std.proofs.lemmas.List.{nil_from_length}
+use Rattle.std.proofs.lemmas.List.FromFn.{get_or-range_with_len, length-range_with_len}
+use Rattle.metadata.specs.Cell.{Cell}
 use Rattle.metadata.specs.Lookups.{HasRow}
 use Rattle.metadata.specs.Same.{SaysSame}
 use Rattle.comparison.specs.declared.difference.Difference.TheVariants as difference
@@ -43,6 +47,10 @@ all_nothing_in f a (suc n) none =
     ap (λ xs. xs ++ flat_map f (range_with_len (a + 1) n)) (none a (omega arith) (omega arith))
     ∙ all_nothing_in f (a + 1) n (λ m low high. none m (omega (arith, low)) (omega (arith, high)))
 
+-- a test that holds adds nothing
+pub adds_nothing : {X : Type 0} (test : Bool) (x : X) → test ≡ true → cond test [] (x ∷ []) ≡ []
+adds_nothing test x is = ap (λ t. cond t [] (x ∷ [])) is
+
 -- a column is ignored, or its cells are the same
 pub either_holds : (ignored same : Bool) → (ignored ≡ false → same ≡ true) → (ignored || same) ≡ true
 either_holds true same holds = refl
@@ -63,7 +71,7 @@ module _ (tested : (a b : Cell) → IsTrue (is_same_cell a b) ↔ (a ≡ b)) (ig
       all_nothing_in (cell_difference ignored first second table row) 0 (cell_count table) (λ cell_index low high.
       let left = cell_in first table row cell_index in
       let right = cell_in second table row cell_index in
-      cond-true (is_ignored ignored table cell_index || is_same_cell left right) [] (difference.Cell table row cell_index ∷ [])
+      adds_nothing (is_ignored ignored table cell_index || is_same_cell left right) (difference.Cell table row cell_index)
       (either_holds (is_ignored ignored table cell_index) (is_same_cell left right) (λ kept. (tested left right).1 (same cell_index (omega (arith, high)) kept))))
 
   pub table_nothing : (table : TableId)
@@ -176,8 +184,19 @@ module _ (ignored : IgnoredColumns) (none : (table : TableId) (cell_index : ℕ)
         alike.cells table row cell_index has within (none table cell_index within);
   }
 
+itself_alike : (ignored : IgnoredColumns) (model : Metadata) → AreEqualBut ignored model model
+itself_alike ignored model = record { version = refl; user = refl; counts = λ table. refl; cells = λ table row cell_index has lt kept. refl }
+
 pub same_alike : (ignored : IgnoredColumns) (first second : Metadata) → first ≡ second → AreEqualBut ignored first second
-same_alike ignored first second is = rw is (record { version = refl; user = refl; counts = λ table. refl; cells = λ table row cell_index has lt kept. refl })
+same_alike ignored first second is = subst (λ (other : Metadata). AreEqualBut ignored first other) is (itself_alike ignored first)
+
+pub outline_some : (o : Option Difference) (xs : List Difference) → IfSome o (λ one. take 1 xs ≡ one ∷ []) → is_some o ≡ true → xs ≡ [] → ⊥
+outline_some None xs found test none = cc
+outline_some (Some one) xs found test none = let nothing = take_of_nothing 1 xs none in cc
+
+pub outline_none : (o : Option Difference) (xs : List Difference) → IfNone o (xs ≡ []) → is_some o ≡ false → xs ≡ []
+outline_none None xs found test = found
+outline_none (Some one) xs found test = cc
 
 pub first_differs : (ignored : IgnoredColumns) (first second : Metadata) (limit : ℕ) → first_differences_but ignored first second limit ≡ []
     → (outline_differences first second ≡ []) × (take limit (cell_differences_but ignored first second) ≡ [])
@@ -192,3 +211,13 @@ pub first_nothing_differs : (ignored : IgnoredColumns) (first second : Metadata)
 unfolding first_differences_but
 first_nothing_differs ignored first second limit none also =
     ap (λ (xs : List Difference). take 1 xs ++ take limit (cell_differences_but ignored first second)) none ∙ also
+
+-- the differences, by the first one besides cells
+pub first_is : (ignored : IgnoredColumns) (first second : Metadata) (limit : ℕ) (one : Difference) → take 1 (outline_differences first second) ≡ one ∷ []
+    → one ∷ take limit (cell_differences_but ignored first second) ≡ first_differences_but ignored first second limit
+unfolding first_differences_but
+first_is ignored first second limit one is = ap (λ (xs : List Difference). xs ++ take limit (cell_differences_but ignored first second)) (sym is)
+
+pub none_is : (ignored : IgnoredColumns) (first second : Metadata) (limit : ℕ) → outline_differences first second ≡ [] → take limit (cell_differences_but ignored first second) ≡ first_differences_but ignored first second limit
+unfolding first_differences_but
+none_is ignored first second limit none = ap (λ (xs : List Difference). take 1 xs ++ take limit (cell_differences_but ignored first second)) (sym none)

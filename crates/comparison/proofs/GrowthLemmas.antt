@@ -1,5 +1,6 @@
 -- Lists that grow up to a limit.
-use Rattle.comparison.proofs.Prelude.{◌≡◌, ◌∙◌, ◌<◌, ◌≤◌, ℕ, zero, suc, ◌+◌, List, [], ◌∷◌, ◌++◌, length, take, get_or, refl, ap, sym, append_assoc, append-nil, arith, flat_map, range_with_len, take_all, take-append-le, take_more, flat_map_more, map-id, map-range_with_len_more}
+use Rattle.std.proofs.Common.{◌≡◌, ◌∙◌, ◌<◌, ◌≤◌, ℕ, zero, suc, ◌+◌, List, [], ◌∷◌, ◌++◌, length, take, get_or, refl, ap, sym, append_assoc, append-nil, arith}
+use Rattle.comparison.proofs.Prelude.{flat_map, range_with_len, flat_map-append, take_all, take-append-le, take-suc}
 
 module _ {X : Type 0} where
   pub take_again : (n : ℕ) (xs ys : List X) → take n (take n xs ++ ys) ≡ take n (xs ++ ys)
@@ -21,10 +22,19 @@ module _ {X : Type 0} where
   grows_more limit before between after more later first second =
       second ∙ ap (λ xs. take limit (xs ++ later)) first ∙ take_again limit (before ++ more) later ∙ ap (λ xs. take limit xs) (append_assoc before more later)
 
+range_last : (a n : ℕ) → range_with_len a (suc n) ≡ range_with_len a n ++ (a + n) ∷ []
+range_last a zero = let same : a ≡ a + 0 = omega arith in ap (λ (k : ℕ). k ∷ []) same
+range_last a (suc n) = let same : a + 1 + n ≡ a + suc n = omega arith in ap (λ xs. a ∷ xs) (range_last (a + 1) n ∙ ap (λ k. range_with_len (a + 1) n ++ k ∷ []) same)
+
+module _ {X : Type 0} where
   pub number_more : (f : ℕ → List X) (a n m : ℕ) → a + n ≡ m → flat_map f (range_with_len a (n + 1)) ≡ flat_map f (range_with_len a n) ++ f m
   number_more f a n m is =
-      ap (λ ks. flat_map f ks) (sym (map-id (range_with_len a (n + 1))) ∙ map-range_with_len_more (λ (k : ℕ). k) a n m is ∙ ap (λ ks. ks ++ m ∷ []) (map-id (range_with_len a n)))
-      ∙ sym (flat_map_more f [] (range_with_len a n) m)
+      let next : n + 1 ≡ suc n = omega arith in
+      ap (λ k. flat_map f (range_with_len a k)) next ∙ ap (λ xs. flat_map f xs) (range_last a n) ∙ flat_map-append f (range_with_len a n) ((a + n) ∷ [])
+      ∙ ap (λ xs. flat_map f (range_with_len a n) ++ xs) (append-nil (f (a + n))) ∙ ap (λ k. flat_map f (range_with_len a n) ++ f k) is
 
   pub item_more : {Y : Type 0} (f : Y → List X) (ys : List Y) (i : ℕ) (d : Y) → i < length ys → flat_map f (take (i + 1) ys) ≡ flat_map f (take i ys) ++ f (get_or ys i d)
-  item_more f ys i d lt = ap (λ zs. flat_map f zs) (take_more ys i d lt) ∙ sym (flat_map_more f [] (take i ys) (get_or ys i d))
+  item_more f ys i d lt =
+      let next : i + 1 ≡ suc i = omega arith in
+      ap (λ n. flat_map f (take n ys)) next ∙ ap (λ zs. flat_map f zs) (take-suc ys i d lt) ∙ flat_map-append f (take i ys) (get_or ys i d ∷ [])
+      ∙ ap (λ zs. flat_map f (take i ys) ++ zs) (append-nil (f (get_or ys i d)))

@@ -1,10 +1,23 @@
 -- The marks of ignored columns.
-use Rattle.comparison.proofs.Prelude.{◌≡◌, ◌≢◌, ◌∙◌, ◌<◌, ◌≤◌, ◌⊎◌, inl, inr, ℕ, zero, suc, ◌+◌, ◌*◌, true, false, lit≤, get_or, set, replicate, refl, ap, sym, arith, get_or-set_other, cases_eq, cases_lt, TableId, Module, cell_columns, cell_count, table_index_of, table_number, tables, IgnoredColumns, AreOthersSame, is_ignored, no_columns}
+use Rattle.std.proofs.Common.{◌≡◌, ◌≢◌, ◌∙◌, ◌<◌, ◌≤◌, ◌⊎◌, inl, inr, ℕ, zero, suc, ◌+◌, ◌*◌, Bool, true, false, List, length, lit≤, get_or, set, replicate, refl, ap, sym, arith}
+use Rattle.comparison.proofs.Prelude.{get_or-set_same, get_or-set_other, cases_eq, cases_lt, TableId, Module, cell_columns, cell_count, table_index_of, table_number, tables, IgnoredColumns, AreOthersSame, is_ignored, no_columns}
+use Rattle.std.specs.Prelude.{slice_index_or}
 
 pub few_cells : (table : TableId) → cell_count table ≤ 9
 unfolding cell_columns
 few_cells Module = lit≤ tt
 few_cells _ = lit≤ tt
+
+pub marked : (marks : List Bool) (mark cell_index : ℕ) (table : TableId) → mark ≡ 9 * table_number table + cell_index → mark < length marks
+    → is_ignored (record { marks = set marks mark true }) table cell_index ≡ true
+unfolding is_ignored
+marked marks mark cell_index table is lt =
+    ap (λ n. get_or (set marks mark true) n false) (sym is) ∙ get_or-set_same marks mark true false lt
+
+pub asked : (ignored : IgnoredColumns) (mark cell_index : ℕ) (table : TableId) → mark ≡ 9 * table_number table + cell_index
+    → slice_index_or ignored.marks mark false ≡ is_ignored ignored table cell_index
+unfolding is_ignored
+asked ignored mark cell_index table is = ap (λ n. get_or ignored.marks n false) is
 
 module _ (stand : (table : TableId) → get_or tables (table_index_of table) Module ≡ table)
     (rise : (lower higher : TableId) → table_index_of lower < table_index_of higher → table_number lower < table_number higher) where

@@ -1,7 +1,10 @@
 -- Blobs of two heaps that are joined, and their windows (ECMA-335 II.24.2.4).
-use Rattle.comparison.proofs.Prelude.{◌≡◌, ◌∙◌, ◌↔◌, ◌+◌, ◌<◌, ◌≤◌, ◌++◌, ℕ, true, IsTrue, List, length, take, drop, sym, ap, subst, arith, append_assoc, length-append, take_at, drop_at, blob_counted, Cell, Bytes, TableId, ColumnKind, column_at, cell_count, column_of, IsBlob, IsCounted, Metadata, cell_in, IsModel, IsCell, Source, number_of, rows_in, source_of, StandsFor, start_of, kind_at, row_count, AreSameBlobs, IsOutcome, is_same_cell}
+use Rattle.std.proofs.Common.{◌≡◌, ◌∙◌, ◌↔◌, ◌+◌, ◌<◌, ◌≤◌, ◌++◌, ℕ, true, IsTrue, List, length, take, drop, sym, ap, subst, arith, append_assoc, length-append, take_at, drop_at}
+use Rattle.comparison.proofs.Prelude.{TableId, ColumnKind, column_at, cell_count, column_of, IsBlob, IsCounted, Metadata, cell_in, IsModel, IsCell, Source, number_of, rows_in, source_of, StandsFor, start_of, kind_at, row_count, AreSameBlobs, IsOutcome, is_same_cell}
+use Rattle.heap_entries.proofs.BlobLemmas.{blob_counted}
 use Rattle.table_schema.specs.declared.column.ColumnKind.TheVariants as kind
 use Rattle.heaps.specs.Windows.{window}
+use Rattle.metadata.specs.Cell.{Cell, Bytes}
 
 -- ---- heaps that are joined
 

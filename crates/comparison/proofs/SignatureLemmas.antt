@@ -1,5 +1,6 @@
 -- Two signatures in columns of one kind are equal if and only if their canonical encodings are.
-use Rattle.comparison.proofs.Prelude.{◌≡◌, List, ℕ, sym, subst, SigKind, Body, Holds, Encodes, IsEncodable, short}
+use Rattle.std.proofs.Common.{◌≡◌, List, ℕ, sym, subst}
+use Rattle.comparison.proofs.Prelude.{SigKind, Body, Holds, Encodes, IsEncodable, short}
 
 module _ (one : (kind : SigKind) (first second : Body) (bytes : List ℕ) → Encodes kind first bytes → Encodes kind second bytes → first ≡ second)
     (encodable : (kind : SigKind) (signature : Body) (bytes : List ℕ) → Encodes kind signature bytes → IsEncodable signature)

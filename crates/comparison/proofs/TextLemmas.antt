@@ -1,8 +1,10 @@
 -- Texts that are equal because the bytes up to a NUL are (ECMA-335 II.24.2.3).
-use Rattle.comparison.proofs.Prelude.{◌≡◌, ◌∙◌, ◌↔◌, ◌+◌, ◌-◌, ◌<◌, ◌≤◌, ℕ, zero, suc, List, [], ◌∷◌, Option, Some, None, IsTrue, length, take, drop, slice_index, cond, eqb, sym, ap, ap₂, subst, arith, length-drop, Cell, Text, drop-drop, drop-take, get_or-drop, IfSome, TableId, ColumnKind, column_at, cell_count, column_of, IsText, Metadata, cell_in, IsModel, IsCell, Source, number_of, rows_in, source_of, StandsFor, start_of, kind_at, row_count, Outcome, IsNoted, is_same_cell}
+use Rattle.std.proofs.Common.{◌≡◌, ◌∙◌, ◌↔◌, ◌+◌, ◌-◌, ◌<◌, ◌≤◌, ℕ, zero, suc, List, [], ◌∷◌, Option, Some, None, IsTrue, length, take, drop, slice_index, cond, eqb, sym, ap, ap₂, subst, arith, length-drop}
+use Rattle.comparison.proofs.Prelude.{drop-drop, drop-take, get_or-drop, IfSome, TableId, ColumnKind, column_at, cell_count, column_of, IsText, Metadata, cell_in, IsModel, IsCell, Source, number_of, rows_in, source_of, StandsFor, start_of, kind_at, row_count, Outcome, IsNoted, is_same_cell}
 use Rattle.table_schema.specs.declared.column.ColumnKind.TheVariants as kind
 use Rattle.heap_pools.specs.HeapTexts.{before_nul, heap_text}
 use Rattle.heap_pools.proofs.HeapTextLemmas.{heap_text_some}
+use Rattle.metadata.specs.Cell.{Cell, Text}
 use Rattle.comparison.specs.SameTexts.{AreSameTexts}
 
 -- bytes that are the same up to a NUL have the same bytes before their first NUL
@@ -60,4 +62,6 @@ module _ (tested : (first second : Cell) → IsTrue (is_same_cell first second) 
       → IfSome found (λ noted. AreSameTexts heap other noted.left noted.right noted.count) → IfSome found (IsNoted left right table)
   any_noted left right heap other cell_index None lt is_text heap_is other_is same texts = tt
   any_noted left right heap other cell_index (Some noted) lt is_text heap_is other_is same texts =
-      texts_noted left right noted (rw same.0 lt) (rw same.0 is_text) same.1 (rw (← heap_is, ← other_is) texts)
+      texts_noted left right noted (subst (λ (i : ℕ). i < cell_count table) (sym same.0) lt) (ap (kind_at table) same.0 ∙ is_text) same.1
+      (subst (λ (l : List ℕ). AreSameTexts l (source_of right).texts noted.left noted.right noted.count) heap_is
+      (subst (λ (l : List ℕ). AreSameTexts heap l noted.left noted.right noted.count) other_is texts))

@@ -24,7 +24,6 @@ impl IgnoredColumns {
     ghost use Rattle.comparison.specs.Ignored.{AreOthersSame, is_ignored, no_columns};
 
     /// The empty set.
-    #[tactic(auto, unfolding(crate::specs::Ignored::no_columns))]
     pub fn none() -> IgnoredColumns
         ensures { result ≡ no_columns }
     {
@@ -34,7 +33,6 @@ impl IgnoredColumns {
     }
 
     /// Adds the column of a cell. `cell_index` is the index of the cell in a row, from 0.
-    #[tactic(auto, unfolding(crate::specs::Ignored::is_ignored))]
     pub fn insert(&mut self, table: TableId, cell_index: usize)
         requires { cell_index < cell_count table }
         ensures added { is_ignored self.new table cell_index ≡ true }
@@ -45,7 +43,6 @@ impl IgnoredColumns {
     }
 
     /// Whether the column of a cell is in the set. `cell_index` is the index of the cell in a row, from 0.
-    #[tactic(auto, unfolding(crate::specs::Ignored::is_ignored))]
     pub fn contains(&self, table: TableId, cell_index: usize) -> bool
         requires { cell_index < cell_count table }
         ensures { result ≡ is_ignored self.now table cell_index }

@@ -23,8 +23,10 @@ mod ignored;
 pub mod laws;
 mod root_digest;
 mod same_bytes;
+mod same_cells;
 mod same_in_row;
 mod same_texts;
+mod user_strings;
 
 pub use all::{differences, differences_but, is_equal, outline_difference};
 pub use cells::{differing_cells, differing_cells_but};

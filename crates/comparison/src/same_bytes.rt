@@ -6,7 +6,7 @@ ghost use Rattle.table_schema.specs.Columns.{column_at, columns_of};
 ghost use Rattle.schema.specs.Sizes.{SameCounts};
 ghost use Rattle.metadata.specs.Metadata.{Metadata};
 ghost use Rattle.metadata.specs.Model.{IsModel};
-ghost use Rattle.metadata.specs.Source.{Source as TheSource, number_of};
+ghost use Rattle.metadata.specs.Source.{Source as TheSource, number_of, rows_in};
 ghost use Rattle.metadata.specs.SourceAt.{source_of};
 ghost use Rattle.opening.specs.Views.{row_count};
 ghost use Rattle.comparison.specs.declared.ignored.IgnoredColumns.{IgnoredColumns as TheColumns};
@@ -98,15 +98,21 @@ fn have_same_layout(left: &Source<'_>, right: &Source<'_>) -> bool
 
 /// Whether the rows of a table from `first` up to but not including `past` have the same bytes. Then they have the same
 /// numbers.
-fn have_same_bytes(left: &View<'_>, right: &View<'_>, table: TableId, first: u32, past: u32) -> bool
-    requires layout { SameCounts (source_of left.now).sizes (source_of right.now).sizes }
+fn have_same_bytes(
+    left: &Source<'_>,
+    right: &Source<'_>,
+    table: TableId,
+    first: u32,
+    past: u32,
+) -> bool
+    requires layout { SameCounts left.now.source.sizes right.now.source.sizes }
     requires first { 1 ≤ first }
     requires order { first ≤ past }
-    requires last { past ≤ row_count left.now table + 1 }
-    ensures { IsTrue result → HaveSameNumbers (source_of left.now) (source_of right.now) table first past }
+    requires last { past ≤ rows_in left.now.source table + 1 }
+    ensures { IsTrue result → HaveSameNumbers left.now.source right.now.source table first past }
 {
     schema::laws::widths_follow_from_counts();
-    left.source().row_bytes(table, first, past) == right.source().row_bytes(table, first, past)
+    left.row_bytes(table, first, past) == right.row_bytes(table, first, past)
 }
 
 /// Whether the bytes of the rows of a table show that none of its cells differs. `alike` says whether equal numbers stand
@@ -124,7 +130,7 @@ pub(crate) fn is_same_table(left: &View<'_>, right: &View<'_>, table: TableId, a
         return false;
     }
     let past = left.count(table) + 1;
-    have_same_bytes(left, right, table, 1, past)
+    have_same_bytes(left.source(), right.source(), table, 1, past)
 }
 
 /// Whether the bytes of a row show that none of its cells differs. A null start does not: it is that of a later row.
@@ -149,23 +155,23 @@ pub(crate) fn is_same_row(
     if !alike {
         return false;
     }
-    if has_null_start(left, table, row) {
+    if has_null_start(left.source(), table, row) {
         return false;
     }
     // A count of rows has a limit, so the number of the next row fits.
     let _count = left.count(table);
-    have_same_bytes(left, right, table, row, row + 1)
+    have_same_bytes(left.source(), right.source(), table, row, row + 1)
 }
 
 /// Whether a row has a null value in a column that lists members.
-fn has_null_start(view: &View<'_>, table: TableId, row: u32) -> bool
+fn has_null_start(source: &Source<'_>, table: TableId, row: u32) -> bool
     requires first { 1 ≤ row }
-    requires last { row ≤ row_count view.now table }
+    requires last { row ≤ rows_in source.now.source table }
     ensures { result ≡ false → (column : ℕ) (member : Table) → column < length (columns_of table)
-        → (column_at table column).kind ≡ List member → number_of (source_of view.now) table row column ≢ 0 }
+        → (column_at table column).kind ≡ List member → number_of source.now.source table row column ≢ 0 }
 {
     for column in 0..columns(table).len() {
-        if is_null_start(view, table, row, column) {
+        if is_null_start(source, table, row, column) {
             return true;
         }
     }
@@ -173,15 +179,15 @@ fn has_null_start(view: &View<'_>, table: TableId, row: u32) -> bool
 }
 
 /// Whether a column lists members and has a null value in a row.
-fn is_null_start(view: &View<'_>, table: TableId, row: u32, column: usize) -> bool
+fn is_null_start(source: &Source<'_>, table: TableId, row: u32, column: usize) -> bool
     requires first { 1 ≤ row }
-    requires last { row ≤ row_count view.now table }
+    requires last { row ≤ rows_in source.now.source table }
     requires column { column < length (columns_of table) }
     ensures { result ≡ false → (member : Table) → (column_at table column).kind ≡ List member
-        → number_of (source_of view.now) table row column ≢ 0 }
+        → number_of source.now.source table row column ≢ 0 }
 {
     match column_at(table, column).kind {
-        ColumnKind::List(_) => view.source().number(table, row, column) == 0,
+        ColumnKind::List(_) => source.number(table, row, column) == 0,
         _ => false,
     }
 }

@@ -27,14 +27,21 @@ pub(crate) fn same_texts(
         count: before.saturating_add(len).saturating_add(1),
         same: true,
     };
-    have_same_texts(left_heap, right_heap, noted.left, noted.right, noted.count).then_some(noted)
+    if have_same_texts(left_heap, right_heap, noted.left, noted.right, noted.count) {
+        Some(noted)
+    } else {
+        None
+    }
 }
 
 /// Whether this number of bytes at two indexes are the same and end with a NUL. Then the texts there are equal.
 fn have_same_texts(left_heap: &[u8], right_heap: &[u8], left: u32, right: u32, count: u32) -> bool
     ensures { IsTrue result → AreSameTexts left_heap.now right_heap.now left right count }
 {
-    if left == 0 || right == 0 {
+    if left == 0 {
+        return false;
+    }
+    if right == 0 {
         return false;
     }
     let Some(bytes) = common_bytes(left_heap, right_heap, left, right, count) else {
@@ -57,7 +64,11 @@ fn common_bytes<'a>(
 {
     let left_bytes = bytes_at(left_heap, left, count)?;
     let right_bytes = bytes_at(right_heap, right, count)?;
-    (left_bytes == right_bytes).then_some(left_bytes)
+    if left_bytes == right_bytes {
+        Some(left_bytes)
+    } else {
+        None
+    }
 }
 
 /// This number of bytes at an index.
@@ -104,7 +115,8 @@ fn common_before(left_heap: &[u8], right_heap: &[u8], left: u32, right: u32, mos
 
 /// Whether this number of bytes at two indexes are the same and no NUL.
 fn is_same_part(left_heap: &[u8], right_heap: &[u8], left: u32, right: u32, count: u32) -> bool {
-    common_bytes(left_heap, right_heap, left, right, count).is_some_and(|bytes| memchr(
-        0, bytes,
-    ).is_none())
+    match common_bytes(left_heap, right_heap, left, right, count) {
+        Some(bytes) => memchr(0, bytes).is_none(),
+        None => false,
+    }
 }

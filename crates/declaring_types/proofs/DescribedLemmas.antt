@@ -1,13 +1,11 @@
 -- Rows of tables that describe nothing, and of tables that are no parts of types.
-use Rattle.declaring_types.proofs.Prelude.{◌≡◌, ℕ, Option, None, refl, TableId, Token, IsMemberOf, IsPartOf, subject_of}
+use Rattle.std.proofs.Common.{◌≡◌, ℕ, Option, None, refl}
+use Rattle.table_schema.specs.declared.table.TableId.{TableId}
 use Rattle.table_schema.specs.declared.table.TableId.TheVariants.{TypeDef, Param, InterfaceImpl, GenericParam, GenericParamConstraint, MethodImpl, ImplMap, DeclSecurity, CustomAttribute}
+use Rattle.table_schema.specs.declared.token.Token.{Token}
 use Rattle.metadata.specs.Metadata.{Metadata}
-use Rattle.metadata.specs.Cell.{Cell, Ref}
-use Rattle.navigation.specs.Cells.{reference_in}
-
--- the row that a cell refers to
-pub referred : (cell : Cell) (row : Option Token) → cell ≡ Ref row → row ≡ reference_in cell
-referred cell row is = rw is refl
+use Rattle.full_names.specs.RowNames.{IsMemberOf}
+use Rattle.declaring_types.specs.Declaring.{IsPartOf, subject_of}
 
 pub no_subject : (model : Metadata) (table : TableId) (row : ℕ) → (table ≡ InterfaceImpl → ⊥) → (table ≡ GenericParam → ⊥) → (table ≡ GenericParamConstraint → ⊥)
     → (table ≡ MethodImpl → ⊥) → (table ≡ ImplMap → ⊥) → (table ≡ DeclSecurity → ⊥) → (table ≡ CustomAttribute → ⊥) → None ≡ subject_of model table row

@@ -1,2 +1,1 @@
 mod DescribedLemmas
-mod Prelude

@@ -10,6 +10,8 @@
 //! ```
 #![tactic(auto)]
 
-mod declaring;
+mod described;
+mod part;
 
-pub use declaring::{declaring_type, described_last};
+pub use described::described_last;
+pub use part::declaring_type;

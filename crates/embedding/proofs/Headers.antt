@@ -104,4 +104,11 @@ pub image_same : (file result : List ℕ) → SameHeaders file result
     → image_of result ≡ record { bytes = result; cli_directory = (image_of file).cli_directory; cli_directory_offset = (image_of file).cli_directory_offset; sections = sections_from result (sections_offset file) (section_count result) }
 image_same file result h =
     let v = same_values file result h in
-    rw (v.directory, v.sections, h.rva, h.bytes) refl
+    let rva : little_endian (part result (directory_offset result) 4) ≡ little_endian (part file (directory_offset file) 4) =
+    ap (λ (n : ℕ). little_endian (part result n 4)) v.directory ∙ ap little_endian h.rva in
+    let bytes : little_endian (part result (directory_offset result + 4) 4) ≡ little_endian (part file (directory_offset file + 4) 4) =
+    ap (λ (n : ℕ). little_endian (part result (n + 4) 4)) v.directory ∙ ap little_endian h.bytes in
+    let sections : sections_from result (sections_offset result) (section_count result) ≡ sections_from result (sections_offset file) (section_count result) =
+    ap (λ (n : ℕ). sections_from result n (section_count result)) v.sections in
+    let directory = v.directory in
+    cc

@@ -1,5 +1,6 @@
 -- What is in the result: bytes of the file that no change and no root takes the place of.
-use Rattle.embedding.proofs.Prelude.{length-append, length-replicate, ◌≡◌, ℕ, ◌+◌, ◌-◌, ◌≤◌, ◌<◌, ◌==◌, true, false, cond, List, length, take, replicate, refl, ◌∙◌, arith, part, number_bytes, Checksum, field_offset, field_of, Target, Change, changed, with_bytes, checksum, copied, with_checksum}
+use Rattle.embedding.proofs.Prelude.{◌≡◌, ℕ, ◌+◌, ◌-◌, ◌≤◌, ◌<◌, ◌==◌, true, false, cond, List, length, take, replicate, refl, ◌∙◌, arith, part, number_bytes, Checksum, field_offset, field_of, Target, Change, changed, with_bytes, checksum, copied, with_checksum}
+use Rattle.std.proofs.lemmas.List.{length-append, length-replicate}
 use Rattle.embedding.proofs.Parts.{length-prefix, part_prefix, length-with_bytes, beside, here, AllWithin, AllApart, Sets, length-changed, changed_apart, changed_there}
 
 -- the copy of the file has the length of the result

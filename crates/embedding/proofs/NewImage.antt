@@ -1,5 +1,5 @@
 -- A result is an image. Its sections have the CLI header where it was, and the root where it was put.
-use Rattle.embedding.proofs.Prelude.{◌≡◌, ℕ, suc, ◌+◌, ◌*◌, ◌<◌, ◌≤◌, inl, inr, max, List, [], ◌∷◌, ◌++◌, Some, length, take, drop, refl, sym, ap, ◌∙◌, arith, append-nil, little_endian, part, AllHold, SectionHeader, lfanew, section_count, sections_offset, sections_from, section_at, image_of, Image, rules_of_image, CliHeader, Source, number_bytes, IsBytes, part_fits, FileAlignment, SectionAlignment, ImageSize, field_of, last, headers_end, full_size, Slot, Reused, Appended, Extended, StrongName, IsHeaderOf, AreHeadersApart, embedded, target_of, address_before, machine, FitsAt}
+use Rattle.embedding.proofs.Prelude.{◌≡◌, ℕ, suc, ◌+◌, ◌*◌, ◌<◌, ◌≤◌, inl, inr, max, List, [], ◌∷◌, ◌++◌, Some, length, take, drop, refl, sym, ap, subst, ◌∙◌, arith, append-nil, little_endian, part, AllHold, SectionHeader, lfanew, section_count, sections_offset, sections_from, section_at, image_of, Image, rules_of_image, CliHeader, Source, number_bytes, IsBytes, part_fits, FileAlignment, SectionAlignment, ImageSize, field_of, last, headers_end, full_size, Slot, Reused, Appended, Extended, StrongName, IsHeaderOf, AreHeadersApart, embedded, target_of, address_before, machine, FitsAt}
 use Rattle.embedding.proofs.Headers.{SameHeaders, part_of, same_sections, same_values, rules_same, image_same}
 use Rattle.embedding.proofs.Room.{room, above}
 use Rattle.embedding.proofs.Sections.{offset_in, found_after, found_longer, found_new, has, has_longer, sections_more, none_each, ends_before}
@@ -26,7 +26,8 @@ image_with file root header slot result count sections all same counted within a
     let image = image_same file result same in
     record {
       rules = rules_same file result all same (omega (arith, count_is));
-      parts = rw (v.sections, count_is, are) parts;
+      parts = subst (HasParts file root header slot)
+          (sym (ap (λ (n : ℕ). sections_from result n (section_count result)) v.sections ∙ ap (sections_from result (sections_offset file)) count_is ∙ are)) parts;
       rva = ap (λ (i : Image). i.cli_directory.0) image;
       size = ap (λ (i : Image). i.cli_directory.1) image;
     }

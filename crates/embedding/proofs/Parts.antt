@@ -1,5 +1,6 @@
 -- What is in a whole after some of its bytes were replaced.
-use Rattle.embedding.proofs.Prelude.{length-append, length-replicate, length-take, length-drop, take-append-le, take-take, drop-take, drop-drop, drop_at, take_at, ◌≡◌, ℕ, ◌+◌, ◌-◌, ◌≤◌, ◌<◌, ◌⊎◌, inl, inr, List, [], ◌∷◌, ◌++◌, length, take, drop, replicate, refl, sym, ap, ◌∙◌, arith, append_assoc, cases_lt, drop-append-add, part, number_bytes, Change, changed, with_bytes}
+use Rattle.embedding.proofs.Prelude.{◌≡◌, ℕ, ◌+◌, ◌-◌, ◌≤◌, ◌<◌, ◌⊎◌, inl, inr, List, [], ◌∷◌, ◌++◌, length, take, drop, replicate, refl, sym, ap, ◌∙◌, arith, append_assoc, cases_lt, drop-append-add, part, number_bytes, Change, changed, with_bytes}
+use Rattle.std.proofs.lemmas.List.{length-append, length-replicate, length-take, length-drop, take-append-le, take-take, drop-take, drop-drop, drop_at, take_at}
 use Rattle.std.proofs.lemmas.Slice.{drop-put_mid}
 use borrow.Rule.Slice.PartMut.{put_mid}
 

@@ -1,5 +1,6 @@
 -- Where the parts of a result are: the headers, the root, and the end.
-use Rattle.embedding.proofs.Prelude.{length-append, length-replicate, ◌≡◌, ℕ, ◌+◌, ◌-◌, ◌<◌, ◌≤◌, ◌⊎◌, ◌==◌, inl, inr, cond, List, ◌++◌, length, replicate, ap, ◌∙◌, arith, byte_limit, AllHold, lfanew, wider, optional_header_size, sections_offset, rules_of_image, CliHeader, Source, FileAlignment, aligned, field_of, full_size, raw_size, raw_end, section_offset, last, headers_end, Slot, Reused, Appended, Extended, StrongName, Keep, Clear, IsHeaderOf, AreHeadersApart, header_changes, target_of, root_bytes, FitsAt}
+use Rattle.embedding.proofs.Prelude.{◌≡◌, ℕ, ◌+◌, ◌-◌, ◌<◌, ◌≤◌, ◌⊎◌, ◌==◌, inl, inr, cond, List, ◌++◌, length, replicate, ap, ◌∙◌, arith, byte_limit, AllHold, lfanew, wider, optional_header_size, sections_offset, rules_of_image, CliHeader, Source, FileAlignment, aligned, field_of, full_size, raw_size, raw_end, section_offset, last, headers_end, Slot, Reused, Appended, Extended, StrongName, Keep, Clear, IsHeaderOf, AreHeadersApart, header_changes, target_of, root_bytes, FitsAt}
+use Rattle.std.proofs.lemmas.List.{length-append, length-replicate}
 use Rattle.embedding.proofs.Parts.{AllWithin, AllApart}
 
 pub above : (alignment number : ℕ) → 0 < alignment → number ≤ aligned alignment number

@@ -1,7 +1,7 @@
 -- The file offset of bytes, by lists of sections that differ at their end.
 use Rattle.embedding.proofs.Prelude.{◌≡◌, ℕ, zero, suc, ◌+◌, ◌-◌, ◌*◌, ◌≤◌, ◌<◌, Bool, true, false, cond, List, [], ◌∷◌, ◌++◌, Option, Some, None, inl, inr, refl, sym, ap, ◌∙◌, arith, cases_lt, nat_tests, SectionHeader, section_at, sections_from, sections_offset, has_bytes, address_end, address_before}
 use Rattle.std.specs.List.{find}
-use Rattle.std.specs.Option.{option_map}
+use Rattle.std.specs.Option.{option_map, option_or}
 use Rattle.std.proofs.lemmas.List.Folds.{find-append}
 
 -- the file offset of bytes by these sections
@@ -37,7 +37,9 @@ found_longer rva count offset last longer has same found =
 found_last : (rva count : ℕ) (sections : List SectionHeader) (section : SectionHeader) (b : Bool) → find (has_bytes rva count) sections ≡ None → has_bytes rva count section ≡ b
     → find (has_bytes rva count) (sections ++ section ∷ []) ≡ cond b (Some section) None
 found_last rva count sections section b none has =
-    rw (find-append (has_bytes rva count) sections (section ∷ []), none, has) refl
+    find-append (has_bytes rva count) sections (section ∷ [])
+    ∙ ap (λ (o : Option SectionHeader). option_or o (find (has_bytes rva count) (section ∷ []))) none
+    ∙ ap (λ (b : Bool). cond b (Some section) None) has
 
 pub found_new : (rva count : ℕ) (sections : List SectionHeader) (new : SectionHeader) → find (has_bytes rva count) sections ≡ None → has_bytes rva count new ≡ true
     → offset_in rva count (sections ++ new ∷ []) ≡ Some (start_in rva new)

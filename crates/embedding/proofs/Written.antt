@@ -1,5 +1,6 @@
 -- What is in a result: the root, what was there before, or what a change wrote.
-use Rattle.embedding.proofs.Prelude.{length-append, take-take, take_at, take_all, ◌≡◌, ℕ, ◌+◌, ◌-◌, ◌*◌, ◌^◌, ◌<◌, ◌≤◌, inl, inr, List, ◌++◌, length, take, drop, replicate, refl, sym, ap, ◌∙◌, arith, little_endian, part, lfanew, wider, section_count, CliHeader, Source, source_of, root_in, number_bytes, number_bytes-encode, section_offset, last, headers_end, Slot, Reused, Appended, Extended, StrongName, Keep, Clear, changed, IsHeaderOf, AreHeadersApart, header_changes, strong_name_changes, certificate_changes, unsigned_flags, embedded, Planned, IsPlanned, target_in, result_of, target_of, root_bytes, slot_changes, metadata_changes, machine, FitsAt}
+use Rattle.embedding.proofs.Prelude.{◌≡◌, ℕ, ◌+◌, ◌-◌, ◌*◌, ◌^◌, ◌<◌, ◌≤◌, inl, inr, List, ◌++◌, length, take, drop, replicate, refl, sym, ap, subst, ◌∙◌, arith, little_endian, part, lfanew, wider, section_count, CliHeader, Source, source_of, root_in, number_bytes, number_bytes-encode, section_offset, last, headers_end, Slot, Reused, Appended, Extended, StrongName, Keep, Clear, changed, IsHeaderOf, AreHeadersApart, header_changes, strong_name_changes, certificate_changes, unsigned_flags, embedded, Planned, IsPlanned, target_in, result_of, target_of, root_bytes, slot_changes, metadata_changes, machine, FitsAt}
+use Rattle.std.proofs.lemmas.List.{length-append, take-take, take_at, take_all}
 use Rattle.embedding.proofs.Headers.{SameHeaders}
 use Rattle.embedding.proofs.Parts.{Sets, sets_after, changed_append}
 use Rattle.embedding.proofs.Kept.{length-result, kept_part, put_part, root_part}

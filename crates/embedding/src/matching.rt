@@ -1,5 +1,5 @@
 //! Whether a root leads to the code and the data of a file.
-ghost use Rattle.std.specs.Prelude.{◌≡◌, ◌≤◌, ◌⊎◌, ◌↔◌, IsTrue, length, replicate};
+ghost use Rattle.std.specs.Prelude.{◌≡◌, ◌⊎◌, ◌↔◌, IsTrue, length, replicate};
 ghost use Rattle.table_schema.specs.declared.table.TableId.TheVariants.{MethodDef, FieldRVA};
 ghost use Rattle.heap_entries.specs.Padding.{zero_padded};
 ghost use Rattle.embedding.specs.Matching.{HaveSameAddresses, LeadsAlike};
@@ -36,25 +36,19 @@ fn have_same_addresses(root: &View, other: &View, table: TableId) -> bool
 fn are_padded_alike(left: &[u8], right: &[u8]) -> bool
     ensures { IsTrue result ↔ zero_padded left.now ≡ zero_padded right.now }
 {
-    if left.len() < right.len() {
-        return has_more_zeros(right, left);
-    }
-    has_more_zeros(left, right)
-}
-
-/// Whether a longer heap is the shorter one with zeros after it, no more than that is padded with.
-fn has_more_zeros(longer: &[u8], shorter: &[u8]) -> bool
-    requires { length shorter.now ≤ length longer.now }
-    ensures { IsTrue result ↔ zero_padded longer.now ≡ zero_padded shorter.now }
-{
-    if longer.len().div_ceil(4) != shorter.len().div_ceil(4) {
+    if left.len().div_ceil(4) != right.len().div_ceil(4) {
         return false;
     }
-    let (prefix, tail) = longer.split_at(shorter.len());
-    if prefix != shorter {
+    let count = left.len().min(right.len());
+    let (left, left_tail) = left.split_at(count);
+    let (right, right_tail) = right.split_at(count);
+    if left != right {
         return false;
     }
-    are_zeros(tail)
+    if !are_zeros(left_tail) {
+        return false;
+    }
+    are_zeros(right_tail)
 }
 
 /// Whether all bytes are 0.

@@ -118,9 +118,18 @@ pub(crate) fn open_file(file: &[u8]) -> Result<Opened<'_>, Fault>
 {
     pe::laws::images_are_read();
     cli_header::laws::headers_are_read();
-    let (_, view) = open_image(file)?;
-    let image = read_pe(file)?;
-    let header = read_cli(&image)?;
+    let view = match open_image(file) {
+        Ok((_, view)) => view,
+        Err(fault) => return Err(fault),
+    };
+    let image = match read_pe(file) {
+        Ok(image) => image,
+        Err(fault) => return Err(fault),
+    };
+    let header = match read_cli(&image) {
+        Ok(header) => header,
+        Err(fault) => return Err(fault),
+    };
     Ok(Opened {
         image,
         headers: Headers::read(file),

@@ -54,10 +54,20 @@ any_size source row (suc size) none most some = record {
       inr (is.0, record { first = is.1; last = is.2; type = inr none }, is.3);
 }
 
--- a row with a lower Parent is before
-pub rows_by_parents : (source : Source) (lower higher : ℕ) → AreParentsRising source → lower ≤ rows_in source ClassLayout → 1 ≤ higher
-    → parent source lower < parent source higher → lower < higher
-rows_by_parents source lower higher rising last first less =
-    let not_same : ¬ (lower ≡ higher) = λ e. let same : parent source lower ≡ parent source higher = ap (parent source) e in omega arith in
-    let not_after : ¬ (higher < lower) = λ below. let more = parents_rise source higher lower rising first below last in omega arith in
+-- a type with a row after one of a lower Parent has its row after that
+pub after_lower : (source : Source) (row layout middle : ℕ) → AreParentsRising source → MayHaveLayout source row layout → middle ≤ rows_in source ClassLayout
+    → parent source middle < row → middle + 1 ≤ layout
+after_lower source row layout middle rising may last lower =
+    let is = own_parent source row layout rising may in
+    let not_same : ¬ (layout ≡ middle) = λ e. let same : parent source layout ≡ parent source middle = ap (parent source) e in omega arith in
+    let not_before : ¬ (layout < middle) = λ below. let more = parents_rise source layout middle rising may.first below last in omega arith in
+    omega (arith, not_same, not_before)
+
+-- and before one of a higher Parent it has its row before that
+pub before_higher : (source : Source) (row layout middle : ℕ) → AreParentsRising source → MayHaveLayout source row layout → 1 ≤ middle
+    → row < parent source middle → layout < middle
+before_higher source row layout middle rising may first higher =
+    let is = own_parent source row layout rising may in
+    let not_same : ¬ (layout ≡ middle) = λ e. let same : parent source layout ≡ parent source middle = ap (parent source) e in omega arith in
+    let not_after : ¬ (middle < layout) = λ below. let more = parents_rise source middle layout rising first below may.last in omega arith in
     omega (arith, not_same, not_after)

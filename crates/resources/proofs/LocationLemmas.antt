@@ -1,5 +1,5 @@
 -- Where a resource is, by what was found of the directory and of its row.
-use Rattle.resources.proofs.Prelude.{◌≡◌, ◌≤◌, ℕ, ◌+◌, List, Option, Some, None, length, arith, Field, StandAt, AllSay, widths, image_of, Image, IsImage, CliHeader, ManifestResource, Metadata, cell_in, IsContent, IsDirectory, IsLocation, IsStored, Where, here, elsewhere, Directory}
+use Rattle.resources.proofs.Prelude.{◌≡◌, ◌≤◌, ℕ, ◌+◌, List, Option, Some, None, Bool, length, arith, subst, Field, StandAt, AllSay, widths, image_of, Image, IsImage, CliHeader, ManifestResource, Metadata, cell_in, IsContent, IsDirectory, IsLocation, IsStored, Where, here, elsewhere, Directory}
 use Rattle.std.specs.Prelude.{IfSome, IsSomeAnd}
 use Rattle.table_schema.specs.declared.token.Token.{Token}
 use Rattle.metadata.specs.Cell.{Number, Ref}
@@ -24,7 +24,9 @@ module _ (file : List ℕ) (header : CliHeader) (relative : ℕ) (of : Directory
       (said : (whole : List ℕ) (offset : ℕ) (fields : List Field) → StandAt whole offset fields → AllSay whole offset fields × (offset + widths fields ≤ length whole))
       (offset : ℕ) (content : List ℕ) (stored : IsStored file header relative offset content) where
     content_there : IsContent of.bytes.now relative content
-    content_there = rw (bytes_one file header is_one said _ _ _ _ stored.is_directory is) at stored.is_content
+    content_there =
+        let In : List ℕ → Type 0 = λ directory. IsContent directory relative content in
+        subst In (bytes_one file header is_one said _ _ _ _ stored.is_directory is) stored.is_content
 
     pub stored_only : (r : Option Content) → ((content : List ℕ) → IsContent of.bytes.now relative content → IsSomeAnd r (λ found. found.bytes.now ≡ content))
         → IfSome r (λ found. found.offset ≡ of.start + relative + 4) → IsSomeAnd r (λ found. (found.offset ≡ offset) × (found.bytes.now ≡ content))
@@ -48,7 +50,8 @@ module _ (file : List ℕ) (header : CliHeader) (model : Metadata) (row : ℕ) w
     only_here offset content only (here at other) is =
         let cell = is.2 in
         let same : is.1 ≡ relative = cc in
-        let both = only at other (rw same at is.3) in
+        let P : ℕ → Type 0 = λ r. IsStored file header r at other in
+        let both = only at other (subst P same is.3) in
         (λ i. here (both.0 i) (both.1 i))
     only_here offset content only (elsewhere of) is = absurd cc
 
@@ -56,5 +59,6 @@ module _ (file : List ℕ) (header : CliHeader) (model : Metadata) (row : ℕ) w
     nowhere none (here at other) is =
         let cell = is.2 in
         let same : is.1 ≡ relative = cc in
-        none at other (rw same at is.3)
+        let P : ℕ → Type 0 = λ r. IsStored file header r at other in
+        none at other (subst P same is.3)
     nowhere none (elsewhere of) is = absurd cc

@@ -62,7 +62,9 @@ pub fn directory_of<'a>(file: &'a [u8], header: &CliHeader) -> Option<Directory<
     let Ok(pe) = read_pe(file) else {
         return None;
     };
-    let range = pe.range(header.resources.rva, header.resources.size)?;
+    let Some(range) = pe.range(header.resources.rva, header.resources.size) else {
+        return None;
+    };
     let (_, tail) = file.split_at(range.start);
     let (bytes, _) = tail.split_at(header.resources.size as usize);
     Some(Directory {

@@ -14,11 +14,13 @@
 //! ```
 #![tactic(auto)]
 
+mod containing;
 mod directory;
 mod location;
-mod look_ups;
+mod names;
 
+pub use containing::resource_at;
 pub use directory::{Content, Directory, directory_of};
 pub use location::{Location, NotWithin, location_of};
-pub use look_ups::{find_resource, resource_at};
+pub use names::find_resource;
 pub use opening::{CliHeader, TableId, Token, View};

@@ -1,5 +1,5 @@
 -- Types that enclose others, and how deep they are.
-use Rattle.visible_rows.proofs.Prelude.{◌≡◌, ◌∙◌, ◌==◌, ◌&&◌, ◌||◌, ◌≤◌, ◌<◌, ◌+◌, ℕ, zero, suc, List, Bool, true, false, cond, ap, get_or, map, refl, arith, range_with_len, eqb-true, get_or-map-range_with_len, NestedClass, TypeDef, Metadata, cell_in, count_in, IsValid, row_in, access_in, is_open_nested, is_public_type, is_visible_type, is_visible_within, outer_among, outer_of}
+use Rattle.visible_rows.proofs.Prelude.{◌≡◌, ◌∙◌, ◌==◌, ◌&&◌, ◌||◌, ◌≤◌, ◌<◌, ◌+◌, ℕ, zero, suc, List, Bool, true, false, cond, ap, get_or, map, refl, sym, arith, range_with_len, eqb-true, get_or-map-range_with_len, NestedClass, TypeDef, Metadata, cell_in, count_in, IsValid, row_in, access_in, is_open_nested, is_public_type, is_visible_type, is_visible_within, outer_among, outer_of}
 
 module _ (model : Metadata) (valid : IsValid model) where
   -- the test of a row, and what is found by it
@@ -47,13 +47,29 @@ module _ (model : Metadata) (valid : IsValid model) where
       let access = access_in (cell_in model TypeDef (suc before) 0) in
       ap (λ (visible : Bool). is_public_type access || (is_open_nested access && visible)) (same_within outer before outer (omega arith) (omega (arith, less)))
 
-  -- the test of a type, by what is known of the rows before
-  pub by_outer : (class access outer : ℕ) (earlier : List Bool) (known : Bool) → 1 ≤ class → access ≡ access_in (cell_in model TypeDef class 0) → outer ≡ outer_of model class
-      → earlier ≡ map (is_visible_type model) (range_with_len 0 class) → known ≡ get_or earlier outer false
-      → (is_public_type access || (is_open_nested access && known)) ≡ is_visible_type model class
-  by_outer class access outer earlier known some flags is_outer are is_known =
-      let before = outer_before class some in
-      let at : get_or earlier outer false ≡ is_visible_type model outer =
-      ap (λ (results : List Bool). get_or results outer false) are
-      ∙ get_or-map-range_with_len (is_visible_type model) 0 class outer outer false (omega (arith, before, is_outer)) (omega arith) in
-      (λ i. is_public_type (flags i) || (is_open_nested (flags i) && (is_known ∙ at ∙ ap (is_visible_type model) is_outer) i)) ∙ visible_type class some
+  -- the three ways in which the test of a type ends
+  module _ (class access : ℕ) (some : 1 ≤ class) (flags : access ≡ access_in (cell_in model TypeDef class 0)) (public : Bool) (is_public : public ≡ is_public_type access) where
+    rule : (is_public_type access || (is_open_nested access && is_visible_type model (outer_of model class))) ≡ is_visible_type model class
+    rule = ap (λ a. is_public_type a || (is_open_nested a && is_visible_type model (outer_of model class))) flags ∙ visible_type class some
+
+    pub by_public : public ≡ true → public ≡ is_visible_type model class
+    by_public yes_public =
+        yes_public ∙ sym (ap (λ (p : Bool). p || (is_open_nested access && is_visible_type model (outer_of model class))) (sym is_public ∙ yes_public)) ∙ rule
+
+    module _ (not_public : public ≡ false) (nested : Bool) (is_nested : nested ≡ is_open_nested access) where
+      nested_rule : (nested && is_visible_type model (outer_of model class)) ≡ is_visible_type model class
+      nested_rule =
+          ap (λ (n : Bool). n && is_visible_type model (outer_of model class)) is_nested
+          ∙ sym (ap (λ (p : Bool). p || (is_open_nested access && is_visible_type model (outer_of model class))) (sym is_public ∙ not_public)) ∙ rule
+
+      pub by_closed : nested ≡ false → nested ≡ is_visible_type model class
+      by_closed closed = closed ∙ sym (ap (λ (n : Bool). n && is_visible_type model (outer_of model class)) closed) ∙ nested_rule
+
+      pub by_outer : nested ≡ true → (outer : ℕ) (earlier : List Bool) (known : Bool) → outer ≡ outer_of model class
+          → earlier ≡ map (is_visible_type model) (range_with_len 0 class) → known ≡ get_or earlier outer false → known ≡ is_visible_type model class
+      by_outer opens outer earlier known is_outer are is_known =
+          let before = outer_before class some in
+          let at : get_or earlier outer false ≡ is_visible_type model outer =
+          ap (λ (results : List Bool). get_or results outer false) are
+          ∙ get_or-map-range_with_len (is_visible_type model) 0 class outer outer false (omega (arith, before, is_outer)) (omega arith) in
+          is_known ∙ at ∙ ap (is_visible_type model) is_outer ∙ sym (ap (λ (n : Bool). n && is_visible_type model (outer_of model class)) opens) ∙ nested_rule

@@ -1,5 +1,5 @@
 //! Who can refer to a row (II.23.1.5, II.23.1.9, II.23.1.10, II.23.1.15).
-ghost use Rattle.std.specs.Prelude.{◌≡◌, ◌≤◌, ◌<◌, ◌&&◌, ◌||◌};
+ghost use Rattle.std.specs.Prelude.{◌≡◌, ◌≤◌, ◌<◌};
 ghost use Rattle.table_schema.specs.CellColumns.{cell_count};
 ghost use Rattle.metadata.specs.Cell.{Number};
 ghost use Rattle.metadata.specs.Kinds.{IsOfKind};
@@ -51,17 +51,10 @@ pub(crate) fn is_public(access: u32) -> bool
 }
 
 /// Whether a nested type is as visible as the type that encloses it.
-fn is_open_nested(access: u32) -> bool
+pub(crate) fn is_open_nested(access: u32) -> bool
     ensures { result ≡ is_open_nested access }
 {
     access == NESTED_PUBLIC || access == NESTED_FAMILY || access == NESTED_FAMILY_OR_ASSEMBLY
-}
-
-/// Whether a type is visible, by whether the type that encloses it is.
-pub(crate) fn is_visible_by(access: u32, is_outer_visible: bool) -> bool
-    ensures { result ≡ (is_public_type access || (is_open_nested access && is_outer_visible)) }
-{
-    is_public(access) || is_open_nested(access) && is_outer_visible
 }
 
 /// Whether a field or a method is as visible as its type.

@@ -11,7 +11,9 @@
 #![tactic(auto)]
 
 mod access;
+mod accessors;
 mod members;
+mod outers;
 mod types;
 mod visible;
 

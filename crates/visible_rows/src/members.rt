@@ -1,17 +1,15 @@
-//! The visible fields, methods and accessors (II.22.28, II.23.1.5, II.23.1.10), and the events and properties that have one
-//! (II.22.13, II.22.34).
-ghost use Rattle.std.specs.Prelude.{◌≡◌, ◌≤◌, IfOk};
+//! The visible fields and methods (II.23.1.5, II.23.1.10), and the accessors whose methods are visible (II.22.28).
+ghost use Rattle.std.specs.Prelude.{◌≡◌, ◌≤◌};
 ghost use Rattle.table_schema.specs.declared.table.TableId.TheVariants.{Field, MethodDef, MethodSemantics};
 ghost use Rattle.metadata.specs.Metadata.{Metadata};
 ghost use Rattle.metadata.specs.Model.{IsModel};
 ghost use Rattle.opening.specs.Views.{row_count};
-ghost use Rattle.visible_rows.specs.Visible.{AreVisibleTypes, is_visible_accessor, is_visible_field, is_visible_method, HaveVisibleAccessors, has_visible_accessor};
+ghost use Rattle.visible_rows.specs.Visible.{AreVisibleTypes, is_visible_accessor, is_visible_field, is_visible_method};
 
 use crate::access::{access, is_open_member};
 use navigation::cells::target;
-use navigation::{Link, Neighbours, ReadMetadata, type_of_field, type_of_method};
-use opening::{TableId, Token};
-use std::alloc::{AllocError, Global};
+use navigation::{Neighbours, ReadMetadata, type_of_field, type_of_method};
+use opening::TableId;
 
 /// The cells of the flags of a field and of a method (II.22.15, II.22.26).
 const FIELD_FLAGS: usize = 0;
@@ -63,44 +61,4 @@ pub(crate) fn is_visible_accessor(source: &Neighbours<'_, '_>, types: &[bool], r
         METHOD,
     );
     is_visible_method(source, types, method)
-}
-
-/// Whether one of the accessors of an event or a property is visible.
-fn has_visible_accessor(source: &Neighbours<'_, '_>, types: &[bool], of: Token) -> bool
-    requires limit { of.row ≤ 0xFFFFFF }
-    requires types { AreVisibleTypes source.now.view.now types.now }
-    ensures { (model : Metadata) → IsModel source.now.view.now model → result ≡ has_visible_accessor of.table model of.row }
-{
-    for accessor in source.linked(Link::Accessors, Link::Accessors.number_to(of)) {
-        if is_visible_accessor(source, types, accessor.row) {
-            return true;
-        }
-    }
-    false
-}
-
-/// Whether each event or each property has a visible accessor. Each accessor belongs to one of them, and is looked at once.
-///
-/// # Errors
-///
-/// Out of memory.
-pub(crate) fn visible_accessors(
-    alloc: Global,
-    source: &Neighbours<'_, '_>,
-    types: &[bool],
-    table: TableId,
-) -> Result<Vec<bool>, AllocError>
-    requires { AreVisibleTypes source.now.view.now types.now }
-    ensures { IfOk result (λ results. HaveVisibleAccessors source.now.view.now table results.items) }
-{
-    let count = source.view.count(table);
-    let mut results = Vec::with_capacity(alloc, count as usize)?;
-    for earlier in 0..count {
-        let of = Token {
-            table,
-            row: earlier + 1,
-        };
-        results.push(has_visible_accessor(source, types, of))?;
-    }
-    Ok(results)
 }

@@ -3,7 +3,8 @@ ghost use Rattle.table_schema.specs.declared.table.TableId.TheVariants.{Event, P
 ghost use Rattle.visible_rows.specs.Visible.{AreVisibleTypes, HaveVisibleAccessors};
 
 use crate::access::{access, is_public};
-use crate::members::{is_visible_accessor, is_visible_field, is_visible_method, visible_accessors};
+use crate::accessors::visible_accessors;
+use crate::members::{is_visible_accessor, is_visible_field, is_visible_method};
 use crate::types::visible_types;
 use declaring_types::described_last;
 use navigation::{Neighbours, cells, method_of_param};

@@ -1,21 +1,6 @@
 //! `clim check`: checks files against the rules of the standard.
-use crate::subcommands::{BARE, BUDGET, FILES, FILES_FROM, JSON, NULL, RECURSIVE, Usage};
 
-pub(crate) const USAGE: Usage<'static> = Usage {
-    name: "check",
-    about: "Check files against the rules of the standard",
-    arguments: &[
-        FILES,
-        BARE,
-        BUDGET,
-        FILES_FROM,
-        NULL,
-        RECURSIVE,
-        argument!["quiet" EitherFlag('q') "Print no faults; only the exit status reports them"],
-        JSON,
-        argument!["where" Flag "Print what contains the byte at a fault; explain it"],
-    ],
-    output: "\
+pub(crate) const OUTPUT: &str = "\
 Prints 'ok' if FILE breaks no rule. Otherwise prints only the first fault, to
 standard error. The rules are those that 'clim explain' lists from 101 to 801,
 except 508 to 510. OFFSET is an offset in FILE. LAYER is one of these, with the
@@ -77,5 +62,4 @@ Examples:
   ok
   $ clim check one_module.dll one_module.dll
   one_module.dll: ok
-  one_module.dll: ok",
-};
+  one_module.dll: ok";

@@ -1,19 +1,6 @@
 //! `clim compare`: whether two files have the same metadata.
-use crate::subcommands::{BARE, BUDGET, FILE, JSON, Usage};
 
-pub(crate) const USAGE: Usage<'static> = Usage {
-    name: "compare",
-    about: "Compare the metadata of two files",
-    arguments: &[
-        FILE,
-        BARE,
-        BUDGET,
-        argument!["quiet" EitherFlag('q') "Print nothing; the exit status is the answer"],
-        JSON,
-        argument!["second" Required("OTHER") "The file to compare it with"],
-        argument!["ignore" Repeated("TABLE.COLUMN") "Do not compare the cells of this column"],
-    ],
-    output: "\
+pub(crate) const OUTPUT: &str = "\
 Prints 'equal' if both files have the same metadata. 'clim rewrite' then writes
 the same bytes for both. Otherwise the exit status is 1, and the lines say what
 differs, each as 'WHAT: A | B' with A of FILE and B of OTHER. The first line is
@@ -47,5 +34,4 @@ Examples:
   $ clim compare --bare --ignore Module.Mvid one_module.root one_module.root
   equal
   $ clim compare --json --bare one_module.root one_module.root
-  {\"equal\":true}",
-};
+  {\"equal\":true}";

@@ -1,11 +1,6 @@
 //! `clim digest`: the SHA-256 digests of the canonical roots of files.
-use crate::subcommands::{BARE, BUDGET, FILES, FILES_FROM, JSON, NULL, RECURSIVE, Usage};
 
-pub(crate) const USAGE: Usage<'static> = Usage {
-    name: "digest",
-    about: "Print the SHA-256 digest of the canonical root of each file",
-    arguments: &[FILES, BARE, BUDGET, FILES_FROM, NULL, RECURSIVE, JSON],
-    output: "\
+pub(crate) const OUTPUT: &str = "\
 Prints the 64 hexadecimal digits of the digest, two spaces and FILE, like
 sha256sum. The digest is that of the bytes that 'clim rewrite' writes:
 'sha256sum OUT' prints the same digits. Files with the same rows in the same
@@ -24,5 +19,4 @@ prints the digests of all assemblies of a folder. 'clim check --help' says what
 
 Examples:
   $ clim digest --bare out.root
-  40bf7100a055088dec71a67475f684ac5c72c04f6e4d9fb17cd8f99e053ead9e  out.root",
-};
+  40bf7100a055088dec71a67475f684ac5c72c04f6e4d9fb17cd8f99e053ead9e  out.root";

@@ -1,17 +1,6 @@
 //! `clim embed`: a copy of a file with its canonical root, or with another.
-use crate::subcommands::{FILE, JSON, Usage};
 
-pub(crate) const USAGE: Usage<'static> = Usage {
-    name: "embed",
-    about: "Write a copy of a file with its canonical root, or with another",
-    arguments: &[
-        FILE,
-        JSON,
-        argument!["second" Required("OUT") "The file to write"],
-        argument!["root" Option("ROOT") "A metadata root to take instead of the canonical one"],
-        argument!["unsigned" Flag "Clear the strong name: its flag and its directory"],
-    ],
-    output: "\
+pub(crate) const OUTPUT: &str = "\
 OUT becomes a PE file like FILE whose metadata is FILE's canonical root, as
 'clim rewrite' writes it, or the root in the file ROOT. All else stays
 unchanged, except for the headers that have to follow (ECMA-335, II.25).
@@ -38,5 +27,4 @@ Examples:
   $ clim embed one_module.dll out.dll
   wrote 1024 bytes
   $ clim embed --unsigned --root out.root one_module.dll out.dll
-  wrote 1024 bytes",
-};
+  wrote 1024 bytes";

@@ -1,14 +1,6 @@
 //! `clim explain`: what faults mean.
-use crate::subcommands::{JSON, Usage};
 
-pub(crate) const USAGE: Usage<'static> = Usage {
-    name: "explain",
-    about: "Explain faults, or list all",
-    arguments: &[
-        argument!["CODE" AnyNumber "The number or the name of a fault; without it, list all faults"],
-        JSON,
-    ],
-    output: "\
+pub(crate) const OUTPUT: &str = "\
 The first line has the number of the fault, its name and what is wrong. Then
 come the rule, the section of ECMA-335, what OFFSET points to, and the usual
 cause if it is known. An empty line separates two faults. Without CODE it prints
@@ -25,5 +17,4 @@ Examples:
   - Rule: The bytes from an index into '#Strings' to the next NUL are UTF-8.
   - Section: II.24.2.3
   - Offset: The cell with the index.
-  - Usual cause: An obfuscator that uses names which are not text.",
-};
+  - Usual cause: An obfuscator that uses names which are not text.";

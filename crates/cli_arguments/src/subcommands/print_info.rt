@@ -1,11 +1,6 @@
 //! `clim info`: what one wants to know first of an assembly.
-use crate::subcommands::{BARE, BUDGET, FILES, FILES_FROM, JSON, NULL, RECURSIVE, Usage};
 
-pub(crate) const USAGE: Usage<'static> = Usage {
-    name: "info",
-    about: "Print what an assembly is: its identity, headers and references",
-    arguments: &[FILES, BARE, BUDGET, FILES_FROM, NULL, RECURSIVE, JSON],
-    output: "\
+pub(crate) const OUTPUT: &str = of_several!["\
 Each line begins with a word for what follows it:
   assembly   the identity of the assembly, as .NET writes it; a module alone has
              none
@@ -33,12 +28,7 @@ than 2,080 bytes. FILE is checked first, as by 'clim check'.
 
 In a UTF-8 locale (LC_ALL, LC_CTYPE or LANG), visible characters beyond ASCII
 are printed as they are; all else that is not printable ASCII is escaped.
-
-For several FILEs each line begins with 'FILE: '. A FILE that breaks a rule or
-cannot be read is reported to standard error with its name, and the next one
-follows. The exit status is the greatest. 'clim check --help' says what '-r',
-'-0' and '--files-from' read.
-
+" "\
 With '--json' each line is a JSON object (RFC 8259) with the same values, the
 parts of an identity apart. Of an attribute it has the first argument. For
 several FILEs the 'file' comes first.
@@ -54,5 +44,4 @@ Examples:
   types 0 methods 0 fields 0 resources 0
   $ clim info --json --bare two_types.root
   {\"version\":\"v4.0.30319\"}
-  {\"types\":2,\"methods\":1,\"fields\":2,\"resources\":0}",
-};
+  {\"types\":2,\"methods\":1,\"fields\":2,\"resources\":0}"];

@@ -1,16 +1,6 @@
 //! `clim outline`: the declarations of an assembly, or of one type.
-use crate::subcommands::Usage;
 
-pub(crate) const USAGE: Usage<'static> = Usage {
-    name: "outline",
-    about: "Print the declarations of the assembly, or of one type",
-    arguments: reports![
-        argument!["FILE" AnyNumber "The files to read, then the type or the row to print alone, if any"],
-        argument!["no-tokens" Flag "Leave the comment with the token away"],
-        argument!["public" Flag "Print only what is visible outside of the assembly"],
-        argument!["sorted" Flag "Print in the order of names, not of rows"]
-    ],
-    output: "\
+pub(crate) const OUTPUT: &str = "\
 Prints a line for each declaration, in a notation close to ILAsm (ECMA-335, II.5
 to II.22). A line ends with the token of its row in a comment. First come the
 assembly, what it refers to, the module, files, resources and exported types.
@@ -101,5 +91,4 @@ Examples:
   $ clim outline --bare two_types.root 02000001
   .class private auto ansi '<Module>'  // 02000001
   $ clim outline --bare two_types.root 04000002
-    .field private int32 N.C::b  // 04000002",
-};
+    .field private int32 N.C::b  // 04000002";

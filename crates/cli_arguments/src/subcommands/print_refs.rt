@@ -1,13 +1,6 @@
 //! `clim refs`: what an assembly refers to in other modules.
-use crate::subcommands::Usage;
 
-pub(crate) const USAGE: Usage<'static> = Usage {
-    name: "refs",
-    about: "Print what the assembly refers to in other modules",
-    arguments: reports![
-        argument!["FILE" AnyNumber "The files to read, then the type to print alone, if it is one"]
-    ],
-    output: "\
+pub(crate) const OUTPUT: &str = "\
 Prints a line for each module, type, method and field that the assembly refers
 to, in the order of the rows of ModuleRef, TypeRef and MemberRef (ECMA-335,
 II.22.31, II.22.38, II.22.25). A line ends with the token of its row in a
@@ -37,5 +30,4 @@ Examples:
   .typeref [mscorlib]System.Object  // 01000001
   $ clim refs shapes.dll System.Object
   .typeref [mscorlib]System.Object  // 01000001
-  .memberref instance void [mscorlib]System.Object::.ctor()  // 0a000001",
-};
+  .memberref instance void [mscorlib]System.Object::.ctor()  // 0a000001";

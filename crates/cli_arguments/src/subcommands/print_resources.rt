@@ -1,19 +1,6 @@
 //! `clim resources`: where the resources of a file are, and the content of one.
-use crate::subcommands::{BUDGET, FILES, FILES_FROM, JSON, NULL, RECURSIVE, Usage};
 
-pub(crate) const USAGE: Usage<'static> = Usage {
-    name: "resources",
-    about: "Print where the resources are, or write the content of one",
-    arguments: &[
-        FILES,
-        BUDGET,
-        FILES_FROM,
-        NULL,
-        RECURSIVE,
-        JSON,
-        argument!["extract" Option("NAME") "Write the content of this resource alone"],
-    ],
-    output: "\
+pub(crate) const OUTPUT: &str = of_several!["\
 Prints a line for each row of ManifestResource (ECMA-335, II.22.24), in their
 order: 'resource OFFSET SIZE VISIBILITY NAME', with the offset and the size of
 its content in FILE, or 'resource in HOLDER VISIBILITY NAME' if another file or
@@ -25,12 +12,7 @@ status is 1.
 '--extract NAME' writes the content of the first resource with this name to
 standard output, and nothing else. It takes one FILE, and no '--json'. If there
 is no such resource in FILE, the exit status is 1.
-
-For several FILEs each line begins with 'FILE: '. A FILE that breaks a rule or
-cannot be read is reported to standard error with its name, and the next one
-follows. The exit status is the greatest. 'clim check --help' says what '-r',
-'-0' and '--files-from' read.
-
+" "\
 '--json' prints a JSON object (RFC 8259) on each line. Its member 'resource' is
 an object with the 'token', the 'offset' and the 'size', or what has it, the
 'visibility' and the 'name'. For several FILEs the 'file' comes first.
@@ -39,5 +21,4 @@ Examples:
   $ clim resources shapes.dll
   resource 2364 7 public notes.txt
   $ clim resources --extract notes.txt shapes.dll
-  a note",
-};
+  a note"];

@@ -1,31 +1,13 @@
 //! `clim root`: the CLI header of a PE file, and the version and the stream headers of its metadata root.
-use crate::subcommands::{BARE, FILES, FILES_FROM, JSON, NULL, RECURSIVE, Usage};
 
-pub(crate) const USAGE: Usage<'static> = Usage {
-    name: "root",
-    about: "Print the CLI header, the version and the stream headers",
-    arguments: &[
-        FILES,
-        BARE,
-        FILES_FROM,
-        NULL,
-        RECURSIVE,
-        JSON,
-        argument!["until-fault" Flag "Print what can be read before a fault, then the fault"],
-    ],
-    output: "\
+pub(crate) const OUTPUT: &str = of_several!["\
 For a PE file the first line is 'cli MAJOR.MINOR flags F entry E root OFFSET
 SIZE' (ECMA-335, II.25.3.3). F and E are hexadecimal, and OFFSET is an offset in
 the file. Then it prints 'version TEXT', and for each stream header 'stream
 OFFSET SIZE NAME' (II.24.2.1 and II.24.2.2), with an OFFSET in the root. In TEXT
 and NAME, a quote, a backslash and a byte that is not printable ASCII become \\x
 and two hexadecimal digits. Tables, heaps and signatures are not checked.
-
-For several FILEs each line begins with 'FILE: '. A FILE that breaks a rule or
-cannot be read is reported to standard error with its name, and the next one
-follows. The exit status is the greatest. 'clim check --help' says what '-r',
-'-0' and '--files-from' read.
-
+" "\
 '--until-fault' also prints the lines of a broken FILE, as far as its headers
 can be read: that of the CLI header if layers 1 and 2 of 'clim check --help'
 break no rule, then the version, and the stream headers before the first that
@@ -52,5 +34,4 @@ Examples:
   {\"version\":\"v4.0.30319\"}
   {\"stream\":{\"offset\":80,\"size\":40,\"name\":\"#~\"}}
   {\"stream\":{\"offset\":120,\"size\":8,\"name\":\"#Strings\"}}
-  {\"stream\":{\"offset\":128,\"size\":16,\"name\":\"#GUID\"}}",
-};
+  {\"stream\":{\"offset\":128,\"size\":16,\"name\":\"#GUID\"}}"];

@@ -1,17 +1,6 @@
 //! `clim token`: the rows or the user strings of tokens.
-use crate::subcommands::{BARE, BUDGET, FILE, JSON, Usage};
 
-pub(crate) const USAGE: Usage<'static> = Usage {
-    name: "token",
-    about: "Print the row or the user string of each token",
-    arguments: &[
-        FILE,
-        BARE,
-        BUDGET,
-        JSON,
-        argument!["HEX" Several "The tokens: one to eight hexadecimal digits each"],
-    ],
-    output: "\
+pub(crate) const OUTPUT: &str = "\
 The high byte of HEX is the number of a table, and the other bytes are a row
 (ECMA-335, III.1.9). It prints the line of that row in 'clim show'. If the high
 byte is 70, the other bytes are an offset in the user strings (II.24.2.4). It
@@ -36,5 +25,4 @@ Examples:
   user
   1: 0 \"a.dll\" {03020100-0504-0706-0809-0a0b0c0d0e0f} null null
   $ clim token --json --bare one_module.root 70000000
-  {\"token\":\"70000000\",\"text\":\"\",\"flag\":null}",
-};
+  {\"token\":\"70000000\",\"text\":\"\",\"flag\":null}";

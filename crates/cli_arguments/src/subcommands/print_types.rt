@@ -1,22 +1,12 @@
 //! `clim types`: the types of a file.
-use crate::subcommands::{BARE, BUDGET, FILES, FILES_FROM, JSON, NULL, RECURSIVE, Usage};
 
-pub(crate) const USAGE: Usage<'static> = Usage {
-    name: "types",
-    about: "Print the types, with the number of their fields and methods",
-    arguments: &[FILES, BARE, BUDGET, FILES_FROM, NULL, RECURSIVE, JSON],
-    output: "\
+pub(crate) const OUTPUT: &str = of_several!["\
 Prints a line 'TOKEN NAME FIELDS METHODS' for each row of TypeDef (ECMA-335,
 II.22.37). NAME begins with the namespace and a dot, if there is a namespace,
 and is escaped like the texts of 'clim show', but not quoted: it may have
 spaces, and ends before the last two numbers. FILE is checked first, as by 'clim
 check'.
-
-For several FILEs each line begins with 'FILE: '. A FILE that breaks a rule or
-cannot be read is reported to standard error with its name, and the next one
-follows. The exit status is the greatest. 'clim check --help' says what '-r',
-'-0' and '--files-from' read.
-
+" "\
 '--json' prints a JSON object (RFC 8259) on each line with the same values, the
 namespace apart. For several FILEs the 'file' comes first. A fault is printed to
 standard error as without the option.
@@ -30,5 +20,4 @@ Examples:
   {\"token\":\"02000002\",\"namespace\":\"N\",\"name\":\"C\",\"fields\":2,\"methods\":1}
   $ clim types --bare one_module.root two_types.root
   two_types.root: 02000001 <Module> 0 0
-  two_types.root: 02000002 N.C 2 1",
-};
+  two_types.root: 02000002 N.C 2 1"];

@@ -1,11 +1,6 @@
 //! `clim where`: what contains the byte at an offset of a file.
-use crate::subcommands::Usage;
 
-pub(crate) const USAGE: Usage<'static> = Usage {
-    name: "where",
-    about: "Print which header, stream or cell contains the byte at an offset",
-    arguments: reports![argument!["FILE" AnyNumber "The files to read, then the OFFSET of a byte"]],
-    output: "\
+pub(crate) const OUTPUT: &str = "\
 Prints a line 'START SIZE WHAT' for each structure that contains the byte, the
 outermost first. START is its offset in FILE. OFFSET counts from the first byte
 of FILE, like the OFFSET of a fault. If nothing contains the byte, it prints the
@@ -61,5 +56,4 @@ Examples:
   $ clim where --bare one_module.root 128
   0 144 root
   128 16 stream #GUID
-  128 16 guid of table 00 Module row 1 column 2 Mvid",
-};
+  128 16 guid of table 00 Module row 1 column 2 Mvid";

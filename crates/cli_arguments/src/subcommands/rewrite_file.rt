@@ -1,16 +1,6 @@
 //! `clim rewrite`: the canonical root of a file.
-use crate::subcommands::{BARE, BUDGET, FILE, Usage};
 
-pub(crate) const USAGE: Usage<'static> = Usage {
-    name: "rewrite",
-    about: "Write the canonical metadata root of a file",
-    arguments: &[
-        FILE,
-        BARE,
-        BUDGET,
-        argument!["second" Required("OUT") "The file to write"],
-    ],
-    output: "\
+pub(crate) const OUTPUT: &str = "\
 OUT becomes a metadata root without a PE file, which '--bare' reads. The
 canonical root is the one encoding of FILE's metadata with the heaps in order of
 first use, each text, blob and GUID once, and the narrowest indexes (ECMA-335,
@@ -29,5 +19,4 @@ Examples:
   $ clim rewrite one_module.dll out.root
   wrote 144 bytes
   $ clim check --bare out.root
-  ok",
-};
+  ok";

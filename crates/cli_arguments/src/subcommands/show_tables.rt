@@ -1,15 +1,6 @@
 //! `clim show`: the rows of all tables, or of one.
-use crate::subcommands::Usage;
 
-pub(crate) const USAGE: Usage<'static> = Usage {
-    name: "show",
-    about: "Print the rows of all tables, or of one",
-    arguments: reports![
-        argument!["FILE" AnyNumber "The files to read, then the TABLE to print alone, if it is one"],
-        argument!["names" Flag "Print the name of each column before its cell"],
-        argument!["until-fault" Flag "Print the rows before the first fault, then the fault"]
-    ],
-    output: "\
+pub(crate) const OUTPUT: &str = of_several!["\
 Prints for each table that has rows (ECMA-335, II.22) a line 'table NN NAME
 COUNT', with the number NN of the table in hexadecimal. Then it prints a line
 for each row: its number and its cells. A cell is one of these:
@@ -22,12 +13,7 @@ for each row: its number and its cells. A cell is one of these:
   a decimal number, or the token of a row in eight hexadecimal digits
 FILE is checked first, as by 'clim check'. If it breaks a rule, only the fault
 is printed.
-
-For several FILEs each line begins with 'FILE: '. A FILE that breaks a rule or
-cannot be read is reported to standard error with its name, and the next one
-follows. The exit status is the greatest. 'clim check --help' says what '-r',
-'-0' and '--files-from' read.
-
+" "\
 TABLE is the name or the number of a table. Only its rows are printed. The last
 argument after a FILE is TABLE if it has no dash, dot or slash; a FILE with such
 a name can be given as ./NAME. The tables and their columns are:
@@ -100,5 +86,4 @@ Examples:
   $ clim show --names --bare two_types.root Field
   table 04 Field 2
   04000001 Flags=1 Name=\"a\" Signature=<0608>
-  04000002 Flags=1 Name=\"b\" Signature=<0608>",
-};
+  04000002 Flags=1 Name=\"b\" Signature=<0608>"];

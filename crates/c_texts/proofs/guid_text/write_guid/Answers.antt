@@ -1,4 +1,5 @@
-use Rattle.c_texts.proofs.Prelude.{append-nil, ◌≡◌, length, ◌∙◌, ap, arith, with_text}
+use Rattle.c_texts.proofs.Prelude.{◌≡◌, length, ◌∙◌, ap, arith, with_text}
+use Rattle.std.proofs.lemmas.List.{append-nil}
 use Rattle.uuid.specs.Text.{braced_text, lower}
 use Rattle.heap_entries.proofs.GuidTextLemmas.{swapped_is}
 use Rattle.c_texts.proofs.guid_text.write_guid.Goals as goal

@@ -1,4 +1,4 @@
-use Rattle.c_texts.proofs.Prelude.{length-append, ◌∙◌, arith}
+use Rattle.std.proofs.Common.{length-append, ◌∙◌, arith}
 use Rattle.c_texts.proofs.Buffers.{written}
 use Rattle.c_texts.proofs.parts.append.Goals as goal
 

@@ -1,5 +1,3 @@
-use Rattle.c_texts.proofs.Prelude.{arith, subst, MethodDef, Property, cell_columns, HasRow, cell_in, row_count, Scopes, method_in, on_wrote, property_in, IsDeclarationBy, IsPropertyDeclarationBy, IsMethodDeclaration, IsDeclaredProperty}
-use Rattle.sig_text.specs.Declares.{as_method}
 use Rattle.c_texts.proofs.RowTextLemmas.{no_declaration}
 use Rattle.c_texts.proofs.row_text.write_declaration.Goals as goal
 
@@ -10,29 +8,10 @@ pub returns-in-Field : goal.returns-in-Field
 returns-in-Field g c = λ model is. rw c.in-Field.is (c.write_field.ensures model is)
 
 pub returns-in-MethodDef : goal.returns-in-MethodDef
-unfolding row_count cell_columns
-returns-in-MethodDef g c = λ model is.
-    let row = c.args.token.row in
-    let count = c.models_are_read.ensures.count c.args.view.now model is MethodDef in
-    let last = rw c.in-MethodDef.is at c.requires.last in
-    let there : HasRow model MethodDef row = (c.requires.first, omega (arith, count, last)) in
-    let valid = (c.models_of_roots_are_valid.ensures c.args.view.now model is).cells MethodDef row 4 there (omega arith) in
-    let method = method_in (cell_in model MethodDef row 4) valid.of_kind valid.held in
-    rw c.in-MethodDef.is (on_wrote g.W.Write.write_str_gives (IsDeclarationBy g.L.Limit.scopes model row method.0) (IsMethodDeclaration model row) _ _ c.write_method_within.result
-    (c.write_method_within.ensures.text model is method.0 method.1) (λ text declared. (method.0, method.1, subst (λ (s : Scopes). IsDeclarationBy s model row method.0 text) c.requires.omitted declared)))
+returns-in-MethodDef g c = λ model is. rw c.in-MethodDef.is (c.write_method.ensures model is)
 
 pub returns-in-Property : goal.returns-in-Property
-unfolding row_count cell_columns
-returns-in-Property g c = λ model is.
-    let row = c.args.token.row in
-    let count = c.models_are_read.ensures.count c.args.view.now model is Property in
-    let last = rw c.in-Property.is at c.requires.last in
-    let there : HasRow model Property row = (c.requires.first, omega (arith, count, last)) in
-    let valid = (c.models_of_roots_are_valid.ensures c.args.view.now model is).cells Property row 2 there (omega arith) in
-    let of = property_in (cell_in model Property row 2) valid.of_kind valid.held in
-    rw c.in-Property.is (on_wrote g.W.Write.write_str_gives (IsPropertyDeclarationBy g.L.Limit.scopes model row (as_method of.0 of.1 of.2)) (IsDeclaredProperty model row) _ _
-    c.write_property_within.result (c.write_property_within.ensures.text model is of.0 of.1 of.2 of.3) (λ text declared.
-    (of.0, of.1, of.2, of.3, subst (λ (s : Scopes). IsPropertyDeclarationBy s model row (as_method of.0 of.1 of.2) text) c.requires.omitted declared)))
+returns-in-Property g c = λ model is. rw c.in-Property.is (c.write_property.ensures model is)
 
 pub returns-in_ok-write_type_def_within-in-TypeDef : goal.returns-in_ok-write_type_def_within-in-TypeDef
 returns-in_ok-write_type_def_within-in-TypeDef g c = λ model is. rw c.in-TypeDef.is (c.in_ok-write_type_def_within-in-TypeDef.ensures model is)

@@ -1,4 +1,5 @@
-use Rattle.c_texts.proofs.Prelude.{same_Some, ◌≡◌, arith}
+use Rattle.c_texts.proofs.Prelude.{◌≡◌, arith}
+use Rattle.std.proofs.lemmas.Option.{same_Some}
 use Rattle.c_texts.proofs.Buffers.{first_written}
 use Rattle.c_texts.proofs.row_text.write_row_text.Goals as goal
 

@@ -1,4 +1,5 @@
-use Rattle.c_texts.proofs.Prelude.{length-set, ◌-◌, ◌∙◌, arith}
+use Rattle.c_texts.proofs.Prelude.{◌-◌, ◌∙◌, arith}
+use Rattle.std.proofs.lemmas.List.{length-set}
 use Rattle.c_texts.proofs.HexLemmas.{all_left, next_left, none_left, some_room}
 use Rattle.c_texts.proofs.signature_text.digits.Goals as goal
 

@@ -1,4 +1,5 @@
-use Rattle.c_texts.proofs.Prelude.{length-set, ◌≡◌, ◌+◌, ◌*◌, ◌<◌, length, min, get_or, refl, ◌∙◌, arith, zero_padded, units_in}
+use Rattle.c_texts.proofs.Prelude.{◌≡◌, ◌+◌, ◌*◌, ◌<◌, length, min, get_or, refl, ◌∙◌, arith, zero_padded, units_in}
+use Rattle.std.proofs.lemmas.List.{length-set}
 use Rattle.c_texts.proofs.UserLemmas.{part, part_at, part_long, unit_at, units_long, unit_written, units_written}
 use Rattle.c_texts.proofs.user_strings.write_units.Goals as goal
 

@@ -32,15 +32,3 @@ returns-in-Embed-clause-run g c =
     (λ bytes given outcome. WarnsOf options.strong_name bytes c.args.err.now c.embed_file-outcome.new.err)
     c.in-Embed.file.now options.path.now (option_map (λ path. path.now) options.root) c.embed_file-outcome.ensures in
     rw c.in-Embed.is (c.embed_file-outcome.result, run, c.status-in-Embed.ensures.status)
-
-pub returns-in-OnFiles-clause-run : goal.returns-in-OnFiles-clause-run
-returns-in-OnFiles-clause-run g c = rw c.in-OnFiles.is (rw (c.request_on-request.ensures, c.as_slice.ensures.value) at c.run_files.ensures.run)
-
-pub returns-in-OnList-clause-run : goal.returns-in-OnList-clause-run
-returns-in-OnList-clause-run g c = rw c.in-OnList.is (rw (c.request_on-request-in-OnList.ensures, c.path_of.ensures) at c.run_listed.ensures.run)
-
-pub returns-in-Extract-clause-run : goal.returns-in-Extract-clause-run
-returns-in-Extract-clause-run g c = rw c.in-Extract.is (c.extract_file.result, c.extract_file.ensures, c.status-in-Extract.ensures.status)
-
-pub returns-in-Compare-clause-run : goal.returns-in-Compare-clause-run
-returns-in-Compare-clause-run g c = rw c.in-Compare.is (c.compare_files.result, c.compare_files.ensures, c.status-in-Compare.ensures.status)

@@ -1,9 +1,14 @@
-use Rattle.cli_arguments.proofs.Prelude.{◌∙◌, ap, ap₂, sym, take_all, with_subcommand, clim}
+use Rattle.cli_arguments.proofs.Prelude.{◌∙◌, ap, ap₂, sym, true, take_all, on_top, with_subcommand, clim}
 use Rattle.std.specs.List.{fold}
 use Rattle.std.proofs.lemmas.List.Sums.{fold_more}
 use Rattle.cli_arguments.specs.CommandLine as line
 use Rattle.cli_arguments.proofs.arguments.command.Invariants.{with_one}
 use Rattle.cli_arguments.proofs.arguments.command.Goals as goal
+
+pub loop-subcommand-init : goal.loop-subcommand-init
+loop-subcommand-init c =
+    rw (c.subcommand_required-program.ensures, c.override_help.ensures, c.long_version.ensures, c.version.ensures)
+    (ap (on_top (λ s. record s { has_version = true; has_long_version = true; subcommand_required = true })) c.new.ensures.app)
 
 pub loop-subcommand-preserved : goal.loop-subcommand-preserved
 loop-subcommand-preserved c =

@@ -1,4 +1,4 @@
-use Rattle.cli_cells.proofs.Prelude.{◌≡◌, ◌≢◌, ◌∙◌, ◌+◌, ◌≤◌, arith, refl, sym, eq-eqb, ne_eqb, first_lines, heading_line, row_line}
+use Rattle.cli_cells.proofs.Prelude.{◌≡◌, ◌≢◌, ◌∙◌, ◌+◌, ◌≤◌, arith, refl, sym, eq-eqb, ne_eqb, first_lines, row_line}
 use Rattle.std.proofs.lemmas.List.FromFn.{map-range_with_len_more}
 use Rattle.cli_cells.proofs.table_lines.print_table.Goals as goal
 
@@ -27,10 +27,10 @@ loop-earlier-preserved g c = record {
 }
 
 pub returns-clause-lines : goal.returns-clause-lines
-unfolding first_lines heading_line
+unfolding first_lines
 returns-clause-lines g c = λ content shows.
     let rows = g.R.ShownRows.ready_rows c.args.rows.now c.args.table in
     let some : rows ≢ 0 = λ none. c.if-ready-eq0.false (c.ready-ready.ensures ∙ none) in
     let all : c.ready-ready.result ≡ c.loop-earlier.earlier = omega arith in
-    rw (ne_eqb rows 0 some, ← c.ready-ready.ensures, ← c.count.ensures content shows, ← c.number.ensures.value, ← c.name.ensures, all)
-    (c.lines_follow.ensures.more _ _ _ _ _ c.line.ensures (c.loop-earlier.invariant.lines content shows))
+    rw (ne_eqb rows 0 some, ← c.ready-ready.ensures, ← c.count.ensures content shows, all)
+    (c.lines_follow.ensures.more _ _ _ _ _ c.print_heading.ensures (c.loop-earlier.invariant.lines content shows))

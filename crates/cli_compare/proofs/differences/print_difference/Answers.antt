@@ -1,28 +1,26 @@
-use Rattle.cli_compare.proofs.Prelude.{difference_line}
+use Rattle.cli_compare.proofs.Prelude.{◌∙◌, List, ℕ, Difference, Version, UserStrings, RowCount, Cell, IsThere, HasColumn, HasRows}
 use Rattle.cli_compare.proofs.differences.print_difference.Goals as goal
 
-pub returns-in-Version-clause-line : goal.returns-in-Version-clause-line
-returns-in-Version-clause-line g c = λ model another is also.
-    let left = c.version.ensures model (rw (← c.view-one.ensures.view) at is) in
-    let right = c.version-in-Version.ensures another (rw (← c.view-other.ensures.view) at also) in
-    rw c.in-Version.is (c.print_versions.ensures model another left right)
+-- a cell that differs is in both
+in_both : (left right : List ℕ) (difference : Difference) → IsThere left right difference → HasRows left difference × HasRows right difference × HasColumn difference
+in_both left right Version there = (tt, tt, tt)
+in_both left right UserStrings there = (tt, tt, tt)
+in_both left right (RowCount table m n) there = (tt, tt, tt)
+in_both left right (Cell table row cell_index) there = ((there.0, there.1, there.3), (there.0, there.2, there.3), there.3)
 
-pub returns-in-UserStrings-clause-line : goal.returns-in-UserStrings-clause-line
-unfolding difference_line
-returns-in-UserStrings-clause-line g c = λ model another is also.
-    let left = c.user-ours.ensures.model model (rw (← c.view-one.ensures.view) at is) in
-    let right = c.user-theirs.ensures.model another (rw (← c.view-other.ensures.view) at also) in
-    rw (c.in-UserStrings.is, ← left, ← right, ← c.padded_len.ensures, ← c.padded_len-in-UserStrings.ensures, ← c.same_bytes.ensures) c.line.ensures
+pub begin_label-requires : goal.begin_label-requires
+begin_label-requires g c = (in_both c.args.left.now c.args.right.now c.args.difference c.requires).2
 
-pub returns-in-RowCount-clause-line : goal.returns-in-RowCount-clause-line
-unfolding difference_line
-returns-in-RowCount-clause-line g c = λ model another is also.
-    let left = c.count.ensures.model model (rw (← c.view-one.ensures.view) at is) in
-    let right = c.count-in-RowCount.ensures.model another (rw (← c.view-other.ensures.view) at also) in
-    rw (c.in-RowCount.is, ← c.number.ensures.value, ← c.name.ensures, ← left, ← right) c.line-in-RowCount.ensures
+pub print_value-requires : goal.print_value-requires
+print_value-requires g c = (in_both c.args.left.now c.args.right.now c.args.difference c.requires).0
 
-pub print_cells-requires : goal.print_cells-requires
-print_cells-requires g c = rw c.in-Cell.is at c.requires
+pub print_value-requires-2 : goal.print_value-requires-2
+print_value-requires-2 g c = (in_both c.args.left.now c.args.right.now c.args.difference c.requires).1
 
-pub returns-in-Cell-clause-line : goal.returns-in-Cell-clause-line
-returns-in-Cell-clause-line g c = λ model another is also. rw c.in-Cell.is (c.print_cells.ensures.line model another is also)
+pub returns-clause-line : goal.returns-clause-line
+returns-clause-line g c = λ model other is also.
+    let more = c.parts_follow.ensures.more in
+    c.parts_follow.ensures.line _ _ _ _ _ _ c.begin_label.ensures
+    (more _ _ _ _ _ c.part.ensures (more _ _ _ _ _ (c.print_value.ensures.part model is)
+    (more _ _ _ _ _ c.part-2.ensures (more _ _ _ _ _ (c.print_value-2.ensures.part other also)
+    (c.print_offset.ensures model other (rw (← (c.view.ensures.view ∙ c.print_value.ensures.same)) at is) (rw (← (c.view-2.ensures.view ∙ c.print_value-2.ensures.same)) at also)))))) c.end.ensures

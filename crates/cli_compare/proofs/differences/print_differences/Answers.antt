@@ -1,6 +1,11 @@
-use Rattle.cli_compare.proofs.Prelude.{◌∷◌, [], ◌∙◌, ◌+◌, drop, get_or, map, sym, drop_all, drop_more, IsThere, Version, difference_line}
+use Rattle.cli_compare.proofs.Prelude.{◌∷◌, [], ◌∙◌, ◌+◌, drop, get_or, map, sym, drop_all, drop_more, IsThere, Version, difference_line, ◌≡◌, ◌==◌, List, true, false, length, refl, Metadata, Difference, compared_lines}
 use Rattle.std.proofs.lemmas.List.Elements.{All-get_or}
 use Rattle.cli_compare.proofs.differences.print_differences.Goals as goal
+
+-- the lines of what differs, if something does
+compared_some : (left right : Metadata) (found : List Difference) → (length found == 0) ≡ false → compared_lines left right found ≡ map (difference_line left right) found
+compared_some left right [] some = let bad : true ≡ false = some in cc
+compared_some left right (difference ∷ differences) some = refl
 
 pub loop-difference-init : goal.loop-difference-init
 loop-difference-init g c = record {
@@ -29,5 +34,5 @@ loop-difference-preserved g c = record {
 
 pub returns : goal.returns
 returns g c = λ model other is also.
-    rw (sym c.is_empty.ensures ∙ c.if-is_empty.false)
+    rw (compared_some model other c.args.found.now (sym c.is_empty.ensures ∙ c.if-is_empty.false))
     (c.reports_are_completed.ensures.all _ _ _ (rw (drop_all c.loop-difference.difference-index c.args.found.now c.loop-difference-test.false) at (c.loop-difference.invariant.lines model other is also)))

@@ -8,8 +8,8 @@ other_table model _ token out not of = of
 
 pub returns-in-Param : goal.returns-in-Param
 returns-in-Param c = λ model is.
-    on_ok c.push_param.result (c.push_param.ensures model is)
-    (λ gains. subst (λ (t : TableId). Gains (IsReferenceIn model t c.args.token) (string_bytes c.args.declared.now.text) (string_bytes c.push_param.new.declared.text)) (sym c.in-Param.is) gains)
+    on_ok c.push_param_or_token.result (c.push_param_or_token.ensures model is)
+    (λ gains. subst (λ (t : TableId). Gains (IsReferenceIn model t c.args.token) (string_bytes c.args.declared.now.text) (string_bytes c.push_param_or_token.new.declared.text)) (sym c.in-Param.is) gains)
 
 pub returns-in_default : goal.returns-in_default
 returns-in_default c = λ model is.

@@ -1,5 +1,5 @@
 use Rattle.cli_escapes.proofs.Prelude.{◌≡◌, List, ℕ, subst, as_is}
-use Rattle.cli_escapes.proofs.LetterLemmas.{plain_as_is}
+use Rattle.cli_escapes.proofs.AsIsLemmas.{plain_as_is}
 use Rattle.cli_escapes.proofs.as_is.text_as_is.Goals as goal
 
 pub returns-in-None : goal.returns-in-None

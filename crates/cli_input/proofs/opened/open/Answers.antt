@@ -5,6 +5,8 @@ use Rattle.std.proofs.Math.Logic.{∥∥₁_map}
 use Rattle.metadata.specs.Model.{IsModel}
 use Rattle.metadata.specs.Streams.{root_in}
 use Rattle.opening.specs.Views.{HasModel}
+use Rattle.cli_input.specs.declared.opened.Input.{Input}
+use Rattle.cli_input.specs.Checked.{IsModelOf, IsWhole}
 use Rattle.cli_input.proofs.opened.open.Goals as goal
 
 ok_unless_not : {T E : Type 0} (r : Result T E) → ¬ (¬ IsOk r) → IsOk r
@@ -17,11 +19,14 @@ returns-in-BareRoot-clause-model c =
 
 pub returns-in-BareRoot-clause-complete : goal.returns-in-BareRoot-clause-complete
 returns-in-BareRoot-clause-complete c = λ whole.
-    ok_unless_not c.open_root.result (λ not. not_there (rw c.in-BareRoot.is at whole) (λ some. not (c.open_root.ensures.complete some.0 some.1)))
+    let P : Input → Type 0 = λ input. IsWhole input c.args.bytes.now in
+    ok_unless_not c.open_root.result (λ not. not_there (subst P c.in-BareRoot.is whole) (λ some. not (c.open_root.ensures.complete some.0 some.1)))
 
 pub returns-in_err-view-in-File-clause-complete : goal.returns-in_err-view-in-File-clause-complete
 returns-in_err-view-in-File-clause-complete c = λ whole.
-    absurd (not_there (rw c.in-File.is at whole) (λ file. not_there file.1 (λ some. c.in_err-view-in-File.ensures.complete file.0 some.0 some.1)))
+    let P : Input → Type 0 = λ input. IsWhole input c.args.bytes.now in
+    absurd (not_there (subst P c.in-File.is whole) (λ file. not_there file.1
+    (λ some. c.in_err-view-in-File.ensures.complete file.0 some.0 some.1)))
 
 pub returns-in_ok-view-in-File-clause-model : goal.returns-in_ok-view-in-File-clause-model
 returns-in_ok-view-in-File-clause-model c =
@@ -31,5 +36,7 @@ returns-in_ok-view-in-File-clause-model c =
 pub returns-in_ok-view-in-File-clause-models : goal.returns-in_ok-view-in-File-clause-models
 returns-in_ok-view-in-File-clause-models c = λ model is.
     let it = c.in_ok-view-in-File in
-    let file = rw c.in-File.is at is in
-    rw (it.ensures.view ∙ ap (root_in c.args.bytes.now) (it.ensures.complete file.0 model file.1)) file.1.root
+    let P : Input → Type 0 = λ input. IsModelOf input c.args.bytes.now model in
+    let file = subst P c.in-File.is is in
+    let same = it.ensures.complete file.0 model file.1 in
+    subst (λ (root : List ℕ). IsModel root model) (sym (it.ensures.view ∙ ap (root_in c.args.bytes.now) same)) file.1.root

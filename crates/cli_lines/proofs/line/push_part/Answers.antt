@@ -15,4 +15,4 @@ returns-in_ok-push_letters_part-in-Letters c = λ more.
 pub returns-in-JsonLines : goal.returns-in-JsonLines
 unfolding line_from
 returns-in-JsonLines c =
-    rw c.in-JsonLines.is (IfOk-weaker c.push_json_part.result _ _ (λ now is more. is (flat_map part_tokens more)) c.push_json_part.ensures)
+    rw c.in-JsonLines.is (IfOk-weaker c.push_named_part.result _ _ (λ now is more. is (flat_map part_tokens more)) c.push_named_part.ensures)

@@ -1,4 +1,4 @@
-use Rattle.cli_outline.proofs.Prelude.{◌+◌, drop, drop_all, drop_more, flat_map, Module, order_in, all_rows}
+use Rattle.cli_outline.proofs.Prelude.{◌+◌, drop, drop_all, drop_more, flat_map, Module, row_in, all_rows}
 use Rattle.cli_outline.proofs.ChosenLemmas.{chosen_more, chosen_nothing}
 use Rattle.cli_outline.proofs.chosen.print_chosen.Goals as goal
 
@@ -6,7 +6,7 @@ pub loop-table-preserved : goal.loop-table-preserved
 loop-table-preserved g c = λ model later is printed.
     let tables = c.args.tables.now in
     let index = c.loop-table.table-index in
-    let rows = all_rows (order_in c.args.source.now.orders.items) model in
+    let rows = all_rows (row_in c.args.source.now.orders.items) model in
     c.loop-table.invariant model later is
     (rw (drop_more tables index Module c.loop-table-test.true)
     (chosen_more c.args.source.now.options model c.args.choice c.lines_follow.ensures.more _ _ _ _ (flat_map rows (drop (index + 1) tables))

@@ -1,5 +1,5 @@
-use Rattle.cli_outline.proofs.Prelude.{◌≡◌, ◌∙◌, ◌∷◌, [], inl, inr, refl, sym, string_bytes, Text, Letters, JsonLines, has_directive, text_line}
-use Rattle.cli_outline.proofs.DeclarationLemmas.{line_printed, same_text}
+use Rattle.cli_outline.proofs.Prelude.{◌≡◌, ◌∙◌, ◌∷◌, [], inl, inr, refl, sym, string_bytes, Text, Letters, JsonLines, has_directive}
+use Rattle.cli_outline.proofs.DeclarationLemmas.{text_printed}
 use Rattle.cli_outline.proofs.PrintedLemmas.{row_hidden, row_printed, rows_failed}
 use Rattle.cli_outline.proofs.line.print_row.Goals as goal
 
@@ -14,12 +14,11 @@ returns-in-Text g c = λ model is.
     let class = c.type_of_member-class.result in
     let text = string_bytes c.declare_row.new.declared.text in
     row_printed options model c.args.out.now c.print_text.new.out of _ (sym (c.shows.ensures model is) ∙ c.if-not-shows.false) (text, c.in-Ok.ensures model is, class, c.type_of_member-class.ensures.member model is, refl)
-    (line_printed c.args.out.now c.print_text.new.out _ (text_line options.tokens of text) c.args.out.now.style.form refl
-    (same_text c.args.out.now.style.form c.args.out.now.style.file options.tokens of class (has_directive model of) text
+    (text_printed c.args.out.now c.print_text.new.out options.tokens of class (has_directive model of) text
     (λ json. elim c.in-Text.is [
       | inl form ↦ let f : Text ≡ JsonLines = sym form ∙ c.form.ensures ∙ json in absurd cc
       | inr form ↦ let f : Letters ≡ JsonLines = sym form ∙ c.form.ensures ∙ json in absurd cc
-    ]))
+    ])
     (rw c.deref.ensures at c.print_text.ensures))
 
 pub returns-in-JsonLines : goal.returns-in-JsonLines

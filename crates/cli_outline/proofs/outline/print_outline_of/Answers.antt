@@ -1,5 +1,5 @@
-use Rattle.cli_outline.proofs.Prelude.{◌∷◌, [], ◌∙◌, ⊎_elim, inl, inr, refl, sym, IsModel}
-use Rattle.cli_outline.proofs.SubjectLemmas.{one_subject}
+use Rattle.cli_outline.proofs.Prelude.{◌∷◌, [], ◌∙◌, inl, inr, refl, sym, IsModel}
+use Rattle.cli_outline.proofs.SubjectLemmas.{declared_type, one_subject, type_printed}
 use Rattle.cli_outline.proofs.outline.print_outline_of.Goals as goal
 
 pub returns-in-TypeDef-clause-printed : goal.returns-in-TypeDef-clause-printed
@@ -7,8 +7,8 @@ returns-in-TypeDef-clause-printed g c = λ model is.
     let of = c.in-Ok-Some.token in (
       of,
       rw c.in-Ok-Some.field-0-is at (c.in-Ok-Some.ensures.sound model is),
-      rw c.in-TypeDef.is refl,
-      ⊎_elim (λ out. inl (out.0, inl (c.in-TypeDef.is, out.1), out.2)) inr (c.print_type.ensures model is),
+      declared_type model of c.in-TypeDef.is,
+      type_printed c.args.options model of c.args.out.now c.print_type.new.out c.in-TypeDef.is (c.print_type.ensures model is),
     )
 
 pub returns-then-not-declares-clause-printed : goal.returns-then-not-declares-clause-printed

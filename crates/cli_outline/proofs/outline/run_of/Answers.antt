@@ -1,16 +1,14 @@
-use Rattle.cli_outline.proofs.Prelude.{arith, le-leb, cell_of, count_in, member_of, owner_of, row_count}
+use Rattle.cli_outline.proofs.Prelude.{arith, member_of, owner_of, row_count}
 use Rattle.std.proofs.Math.Logic.{∥∥₁_elim}
 use Rattle.std.specs.Coded.{le_prop}
-use Rattle.cli_outline.proofs.RunLemmas.{owners, run_ends, run_to, start_from}
+use Rattle.cli_outline.proofs.RunLemmas.{run_begins, run_ends, run_from, run_to}
 use Rattle.cli_outline.proofs.outline.run_of.Goals as goal
 
 pub returns-clause-first : goal.returns-clause-first
 unfolding row_count
 returns-clause-first c = ∥∥₁_elim c.view-view.ensures.model le_prop (λ some.
     let count = c.models_are_read.ensures.count c.args.cells.now some.0 some.1 (owner_of c.args.list) in
-    rw (c.run.ensures.run some.0 some.1).start at
-    (start_from some.0 (owner_of c.args.list) (cell_of c.args.list) (member_of c.args.list) (owners some.0 (c.models_of_roots_are_valid.ensures c.args.cells.now some.0 some.1) c.args.list)
-    c.args.row c.requires.first (omega (arith, count, c.requires.last))))
+    run_from some.0 c.args.list c.args.row _ _ c.requires.first (omega (arith, count, c.requires.last)) (c.run.ensures.run some.0 some.1) (c.models_of_roots_are_valid.ensures c.args.cells.now some.0 some.1))
 
 pub returns-clause-last : goal.returns-clause-last
 unfolding row_count
@@ -24,7 +22,7 @@ pub returns-clause-begin : goal.returns-clause-begin
 unfolding row_count
 returns-clause-begin c = λ model is.
     let count = c.models_are_read.ensures.count c.args.cells.now model is (owner_of c.args.list) in
-    rw (le-leb c.args.row (count_in model (owner_of c.args.list)) (omega (arith, count, c.requires.last)), (c.run.ensures.run model is).start)
+    run_begins model c.args.list c.args.row _ _ c.requires.first (omega (arith, count, c.requires.last)) (c.run.ensures.run model is)
 
 pub returns-clause-past : goal.returns-clause-past
 unfolding row_count

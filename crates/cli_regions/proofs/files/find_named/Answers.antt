@@ -19,6 +19,6 @@ returns-in-Some c =
     let is = c.in-Some.ensures.sound.0 in
     rw (is.first, le-leb (c.in-Some.range.start + c.args.directory.size) (length c.args.pe.now.bytes) is.within) (rw (append-nil c.args.what.now) at c.look.ensures)
 
-pub returns-in_default : goal.returns-in_default
+pub returns-in-None : goal.returns-in-None
 unfolding named_regions
-returns-in_default c = said_as (adds_none c.args.found.now) (sym (missing c.args.pe.now c.args.what.now c.args.directory _ refl c.in_default.ensures.complete))
+returns-in-None c = said_as (adds_none c.args.found.now) (sym (missing c.args.pe.now c.args.what.now c.args.directory _ refl c.in-None.ensures.complete))

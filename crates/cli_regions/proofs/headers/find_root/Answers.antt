@@ -1,26 +1,22 @@
-use Rattle.cli_regions.specs.Headers.{root_header_regions}
+use Rattle.root.specs.Fields.{root_read}
 use Rattle.cli_regions.proofs.HeaderLemmas.{root_headers_end}
 use Rattle.cli_regions.proofs.Prelude.{and_then}
 use Rattle.cli_regions.proofs.headers.find_root.Goals as goal
 
-pub u32_at-version_size-requires : goal.u32_at-version_size-requires
-u32_at-version_size-requires c = c.requires.rules.1.0.0
+pub find_root_header-requires-clause-room : goal.find_root_header-requires-clause-room
+find_root_header-requires-clause-room c = c.requires.rules.1.0.0
 
-pub find_stream_parts-requires-clause-small : goal.find_stream_parts-requires-clause-small
-find_stream_parts-requires-clause-small c =
-    rw (c.headers.ensures, c.requires.directory) (root_headers_end c.args.root.now (c.roots_are_read.ensures.sound c.args.root.now c.requires.rules))
-
-pub find_stream_parts-requires-2-clause-small : goal.find_stream_parts-requires-2-clause-small
-find_stream_parts-requires-2-clause-small c =
-    rw (c.headers-2.ensures, c.requires.directory) (root_headers_end c.args.root.now (c.roots_are_read.ensures.sound c.args.root.now c.requires.rules))
+pub find_stream_headers-requires-clause-small : goal.find_stream_headers-requires-clause-small
+find_stream_headers-requires-clause-small c =
+    let root = c.args.root.now in
+    let is = c.roots_are_read.ensures.sound root c.requires.rules in
+    rw (c.headers.ensures, c.requires.directory) (root_headers_end root (root_read root).version (root_read root).headers is.0 is.1)
 
 pub find_streams-requires-clause-small : goal.find_streams-requires-clause-small
 find_streams-requires-clause-small c = let is = c.roots_are_read.ensures.sound c.args.root.now c.requires.rules in rw c.requires.directory is.0
 
 pub returns : goal.returns
-unfolding root_header_regions
 returns c =
-    let header = rw c.u32_at-version_size.ensures.value at (and_then c.look.ensures (and_then c.find_fields.ensures (and_then c.look-2.ensures c.find_fields-2.ensures))) in
-    and_then (and_then (and_then header (rw (c.headers.ensures, c.requires.directory) at c.find_stream_parts.ensures))
-    (rw (c.headers-2.ensures, c.requires.directory) at c.find_stream_parts-2.ensures))
+    and_then (and_then (and_then c.find_root_header.ensures (rw (c.headers.ensures, c.requires.directory) at c.find_stream_headers.ensures))
+    (rw (c.headers-2.ensures, c.requires.directory) at c.find_other_streams.ensures))
     (rw c.requires.directory at c.find_streams.ensures)

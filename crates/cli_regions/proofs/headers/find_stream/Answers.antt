@@ -6,6 +6,6 @@ pub returns-in-Some : goal.returns-in-Some
 unfolding stream_regions
 returns-in-Some c = rw (← c.in-Some.ensures.place, ← c.name.ensures) c.look.ensures
 
-pub returns-in_default : goal.returns-in_default
+pub returns-in-None : goal.returns-in-None
 unfolding stream_regions
-returns-in_default c = rw (← c.in_default.ensures.place) (adds_none c.args.found.now)
+returns-in-None c = rw (← c.in-None.ensures.place) (adds_none c.args.found.now)

@@ -9,10 +9,10 @@ pub returns : goal.returns
 unfolding directories_regions
 returns c =
     let file = c.args.file.now in
-    let start = c.args.start in
+    let start = c.args.offsets.directories in
     let at : start - 4 ≡ lfanew file + 116 + wider file = omega (arith, c.requires.directories) in
     let counted : c.u32_at-counted.result ≡ directory_count file = c.u32_at-counted.ensures.value ∙ ap (λ n. little_endian (part file n 4)) at in
-    let room : (c.args.sections - start) / 8 ≡ (sections_offset file - directories_offset file) / 8 =
+    let room : (c.args.offsets.sections - start) / 8 ≡ (sections_offset file - directories_offset file) / 8 =
     (λ i. (c.requires.sections i - c.requires.directories i) / 8) in
     let few : c.min-named.result ≡ min (whole_directories file) 16 = omega (arith, c.min-whole.ensures, c.min-named.ensures, counted, room) in
     let directories = ap (map seen_field) c.split_at.ensures.front ∙ sym (take-map seen_field c.min-named.result _) ∙ take_few (map (λ of. (of.0.now, of.1)) DIRECTORIES) c.min-named.result (whole_directories file) few in

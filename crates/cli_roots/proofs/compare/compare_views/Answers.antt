@@ -10,7 +10,12 @@ prefix_of_none (Some bytes) text = (text, ([], refl, sym (append-nil bytes)))
 pub returns-in_default : goal.returns-in_default
 returns-in_default g c = record {
   same = tt;
-  stopped = inr (OutOfMemory, c.from.ensures.0, tt, λ model another is also. prefix_of_none _ _);
+  stopped = inr (
+    OutOfMemory,
+    c.from.ensures.0,
+    tt,
+    λ model another is also. prefix_of_none (g.W.Write.contents c.args.out.now) (compare_text c.args.options.now.output c.args.options.now.ignored model another),
+  );
 }
 
 pub print_found-requires : goal.print_found-requires
@@ -53,8 +58,9 @@ returns g c = record {
     c.from-in-Ok-2.ensures.0,
     λ model another is also.
         let found = c.in-Ok.ensures.sound model another is also in
-        let valid = c.models_of_roots_are_valid.ensures in
-        let law = c.models_without_other_differences_are_equal_but.ensures c.args.options.now.ignored model another (valid _ model is) (valid _ another also) 20 (omega arith) in (
+        let valid = c.models_of_roots_are_valid.ensures c.args.left.now model is in
+        let also_valid = c.models_of_roots_are_valid.ensures c.args.right.now another also in
+        let law = c.models_without_other_differences_are_equal_but.ensures c.args.options.now.ignored model another valid also_valid 20 (omega arith) in (
           (λ same.
               let none = ap length (found ∙ law.1 same) in
               let test = sym c.if-is_empty.false ∙ c.is_empty.ensures ∙ (Decides-eqb c.in-Ok.found.len 0).1 (c.in-Ok.found.ok.0 ∙ none) in cc),

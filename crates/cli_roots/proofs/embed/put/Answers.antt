@@ -1,53 +1,28 @@
-use Rattle.cli_roots.proofs.Prelude.{◌≡◌, ℕ, List, Option, inl, inr, refl, err_from_is_err_and, failure_of, result_of, SendsPrefix}
-use Rattle.std.specs.Io.KnownBytes.{Appends}
-use Rattle.embedding.specs.declared.strong_name.StrongName.{StrongName}
-use Rattle.embedding.specs.Embedded.{IsEmbedded}
-use Rattle.embedding.specs.Planned.{Planned}
-use Rattle.cli_faults.specs.declared.failure.Failure.TheVariants.{OutOfMemory}
-use Rattle.cli_lines.specs.declared.parts.Form.{Form}
-use Rattle.cli_output.specs.Written.{WasGiven}
-use Rattle.cli_roots.specs.Embedded.{IsLineOf, IsPut}
+use Rattle.cli_roots.proofs.Prelude.{inl, inr, refl, failure_of, result_of}
 use Rattle.cli_roots.proofs.embed.put.Goals as goal
 
--- what was planned is put into a file that was given its bytes
-planned_put : {F : Type 0} (contents : F → Option (List ℕ)) (form : Form) (strong_name : StrongName) (old root bytes : List ℕ) (plan : Planned) (file : F) (P : List ℕ → Type 0) → plan.root ≡ root
-    → IsEmbedded strong_name old root (result_of plan) → bytes ≡ result_of plan → WasGiven contents bytes file → IsLineOf plan form P → IsPut contents form strong_name old root P
-planned_put contents form strong_name old root bytes plan file P same sound whole given line =
-    rw (← same) (result_of plan, line.0, rw (← same) at sound, line.1, (file, rw whole at given), line.2)
+pub returns-in-Ok-write-clause-done : goal.returns-in-Ok-write-clause-done
+returns-in-Ok-write-clause-done g c =
+    let plan = c.in-Ok.ensures in
+    let sent = c.in-Ok-write.ensures.done in
+    rw (← plan.given.2) (result_of c.in-Ok.plan, sent.1.0, rw (← plan.given.2) at plan.sound, sent.1.1, sent.0, sent.1.2)
 
-pub returns-in-Err-clause-run : goal.returns-in-Err-clause-run
-returns-in-Err-clause-run g c = λ given is.
-    let failure = failure_of c.in-Err.error in
-    record { done = tt; stopped = (failure, c.refused.ensures, inr (c.args.root.now, is, inl (inl (c.in-Err.error, refl, c.in-Err.ensures.first_error, c.in-Err.ensures.refused), refl))) }
+pub returns-in-Ok-write-clause-quiet : goal.returns-in-Ok-write-clause-quiet
+returns-in-Ok-write-clause-quiet g c = rw (c.in-Ok.ensures.given.0, c.in-Ok.ensures.given.1) at c.write.ensures.quiet
 
-pub returns-in_default-clause-run : goal.returns-in_default-clause-run
-returns-in_default-clause-run g c = λ given is.
-    record { done = tt; stopped = (OutOfMemory, c.from.ensures, inr (c.args.root.now, is, inl (inr tt, refl))) }
+pub returns-in-Err-write-clause-stopped : goal.returns-in-Err-write-clause-stopped
+returns-in-Err-write-clause-stopped g c =
+    let plan = c.in-Ok.ensures in (
+      c.in-Err-write.failure,
+      c.from.ensures,
+      elim c.in-Err-write.ensures.stopped [
+        | inl unwritten ↦ inl (inr unwritten.0, unwritten.1)
+        | inr cut ↦ inr (cut.0, rw (← plan.given.2) (result_of c.in-Ok.plan, cut.1.1.0, rw (← plan.given.2) at plan.sound, cut.1.1.1, cut.1.0, cut.1.1.2))
+      ],
+    )
 
-pub returns-in_err-write_file-clause-run : goal.returns-in_err-write_file-clause-run
-returns-in_err-write_file-clause-run g c = λ given is.
-    let p = err_from_is_err_and c.from_residual.result c.from_residual.ensures.1 in
-    let it = c.in_err-write_file in
-    rw p.1 (record { done = tt; stopped = (it.field-0.0, p.2, inr (c.args.root.now, is, inl (inr it.ensures.unwritten, refl))) })
+pub returns-in-Err-write-clause-quiet : goal.returns-in-Err-write-clause-quiet
+returns-in-Err-write-clause-quiet g c = rw (c.in-Ok.ensures.given.0, c.in-Ok.ensures.given.1) at c.write.ensures.quiet
 
-pub returns-in_err-print_length-clause-run : goal.returns-in_err-print_length-clause-run
-returns-in_err-print_length-clause-run g c = λ given is.
-    let p = err_from_is_err_and c.from_residual-in_err-print_length.result c.from_residual-in_err-print_length.ensures.1 in
-    let it = c.in_err-print_length in
-    let put = planned_put g.R.File.Write.contents c.args.options.now.form c.args.options.now.strong_name c.args.file.bytes.now c.args.root.now c.deref.result.now c.in-Ok.plan
-    c.in_ok-write_file.field-0 (λ text. SendsPrefix (g.W.Write.contents c.args.out.now) (g.W.Write.contents c.print_length.new.out) text) c.in-Ok.ensures.given.2 c.in-Ok.ensures.sound
-    (cc (c.deref.ensures.value, c.in-Ok-make.ensures)) c.in_ok-write_file.ensures.given it.ensures.sent in
-    rw p.1 (record { done = tt; stopped = (it.field-0.0, p.2, inr (c.args.root.now, is, inr (it.ensures.failed, put))) })
-
-pub returns-in_err-print_length-clause-quiet : goal.returns-in_err-print_length-clause-quiet
-returns-in_err-print_length-clause-quiet g c = rw (c.in-Ok.ensures.given.0, c.in-Ok.ensures.given.1) at c.warn.ensures
-
-pub returns-clause-run : goal.returns-clause-run
-returns-clause-run g c = λ given is.
-    let put = planned_put g.R.File.Write.contents c.args.options.now.form c.args.options.now.strong_name c.args.file.bytes.now c.args.root.now c.deref.result.now c.in-Ok.plan
-    c.in_ok-write_file.field-0 (λ text. Appends (g.W.Write.contents c.args.out.now) (g.W.Write.contents c.print_length.new.out) text) c.in-Ok.ensures.given.2 c.in-Ok.ensures.sound
-    (cc (c.deref.ensures.value, c.in-Ok-make.ensures)) c.in_ok-write_file.ensures.given c.in_ok-print_length.ensures.sent in
-    record { done = (c.args.root.now, is, put); stopped = tt }
-
-pub returns-clause-quiet : goal.returns-clause-quiet
-returns-clause-quiet g c = rw (c.in-Ok.ensures.given.0, c.in-Ok.ensures.given.1) at c.warn.ensures
+pub returns-in-Err-clause-stopped : goal.returns-in-Err-clause-stopped
+returns-in-Err-clause-stopped g c = (failure_of c.in-Err.error, c.refused.ensures, inl (inl (c.in-Err.error, refl, c.in-Err.ensures.first_error, c.in-Err.ensures.refused), refl))

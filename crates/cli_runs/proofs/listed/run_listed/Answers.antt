@@ -1,4 +1,4 @@
-use Rattle.cli_runs.proofs.Prelude.{◌∙◌, Ok, Err, ap, inl, refl, OutOfMemory}
+use Rattle.cli_runs.proofs.Prelude.{◌∙◌, Ok, Err, ap, inl, map, refl, OutOfMemory}
 use Rattle.cli_faults.specs.Stops.{status_of_stop}
 use Rattle.cli_runs.proofs.listed.run_listed.Goals as goal
 
@@ -8,7 +8,11 @@ returns-in-Err-clause-run g c = (Err c.in-Err.failure, (c.in-Err.ensures, c.stat
 pub returns-in-Ok-names_in-clause-run : goal.returns-in-Ok-names_in-clause-run
 returns-in-Ok-names_in-clause-run g c = (
   Ok c.as_slice.result.now,
-  inl (rw (c.deref.ensures.value, c.in-Ok-names_in.ensures, c.byte_of.ensures, c.is_input.ensures, c.as_bytes.ensures.value) at c.run_each.ensures.run),
+  (
+    map (λ name. name.now) c.in-Ok-names_in.names.items,
+    rw c.byte_of.ensures at c.in-Ok-names_in.ensures,
+    inl (rw (c.deref.ensures.value, c.is_input.ensures, c.as_bytes.ensures.value) at c.run_each.ensures.run),
+  ),
 )
 
 pub returns-clause-run : goal.returns-clause-run

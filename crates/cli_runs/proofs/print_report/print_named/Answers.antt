@@ -9,7 +9,7 @@ returns-in-Ok-print_tokens g c =
       c.in-Ok.view,
       c.in-Ok.ensures.root,
       there,
-      (c.in-Ok.ensures.sound, (λ model is. printed model (c.in-Ok.ensures.models model is))),
+      (c.in-Ok.ensures.sound, (λ model is. let out = printed model (c.in-Ok.ensures.models model is) in (out.0, out.1, (out.2, (λ live. tt))))),
     )
 
 pub returns-in-Err-NoSuchRow : goal.returns-in-Err-NoSuchRow
@@ -25,5 +25,5 @@ returns-in-Err-NoSuchRow g c =
       here,
       at.4,
       at.5,
-      (c.in-Ok.ensures.sound, (λ model is. at.6 model (c.in-Ok.ensures.models model is))),
+      (c.in-Ok.ensures.sound, (λ model is. let out = at.6 model (c.in-Ok.ensures.models model is) in (out.0, out.1, (out.2, (λ live. tt))))),
     )

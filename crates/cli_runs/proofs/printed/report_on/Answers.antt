@@ -7,10 +7,10 @@ use Rattle.cli_runs.proofs.printed.report_on.Goals as goal
 pub returns-in-Ok : goal.returns-in-Ok
 returns-in-Ok g c =
     let quiet : c.args.request.now.report ≡ report.Check verdict.Quiet = search (rules, c.in-Check-Quiet.is) in
-    rw quiet (c.in-Ok.ensures.sound, appends_none _ _)
+    rw quiet (c.in-Ok.ensures.sound, (tt, appends_none _ _))
 
 pub returns-in-Err-Fault : goal.returns-in-Err-Fault
 returns-in-Err-Fault g c =
     let quiet : c.args.request.now.report ≡ report.Check verdict.Quiet = search (rules, c.in-Check-Quiet.is) in
     let first = rw c.in-Err-Fault.field-0-is at c.in-Err-Fault.ensures.first_error in
-    rw quiet (refl, refl, (_, first, appends_none _ _))
+    rw quiet (refl, refl, (_, first, (tt, appends_none _ _)))

@@ -1,36 +1,37 @@
-use Rattle.cli_runs.proofs.Prelude.{[], arith, refl, subst, OutOfMemory}
+use Rattle.cli_runs.proofs.Prelude.{Err, arith, inl, inr, refl, subst, OutOfMemory}
 use Rattle.cli_walk.specs.Walks.{IsVisit}
-use Rattle.cli_runs.proofs.Running.{ends_weaker, one_visited, unread_refused, unread_visited}
+use Rattle.cli_runs.proofs.Running.{ends_weaker, unread_refused}
 use Rattle.cli_runs.proofs.tree.run_visit.Goals as goal
 
 pub returns-in-Passed : goal.returns-in-Passed
-returns-in-Passed g c = (omega arith, (λ is. refl), ([], (refl, refl)))
+returns-in-Passed g c = (omega arith, (λ is. refl), inl (refl, refl))
 
 pub returns-in-Ok-true : goal.returns-in-Ok-true
-returns-in-Ok-true g c =
-    let path = c.in-File.path.now in
-    ends_weaker _ _ _ _ _ _ c.run_on_bytes.result (λ next ran. one_visited c.args.request.now g.W.Write.contents c.args.out.now c.run_on_bytes.new.out path next ran)
-    (λ cut. (c.args.out.now, 0, ([], (refl, refl)), (path, cut))) c.run_on_bytes.ensures
+returns-in-Ok-true g c = ends_weaker _ _ _ _ _ _ c.run_on_bytes.result (λ next ran. inr (c.in-File.path.now, ran)) (λ cut. (c.in-File.path.now, cut)) c.run_on_bytes.ensures
 
 pub returns-in-Ok-false : goal.returns-in-Ok-false
-returns-in-Ok-false g c = (omega arith, (λ is. refl), ([], (refl, refl)))
+returns-in-Ok-false g c = (omega arith, (λ is. refl), inl (refl, refl))
 
 pub returns-in-Err : goal.returns-in-Err
-returns-in-Err g c =
-    let unread = c.report_unread-in-Err.ensures in
-    let path = c.in-File.path.now in
-    let failure = c.of_reading-failure.result in
-    let refused = unread_refused path failure c.of_reading-failure.ensures.reported in
-    (unread.limit, unread.quiet, unread_visited c.args.request.now g.W.Write.contents c.args.out.now path failure c.report_unread-in-Err.result refused unread.status)
+returns-in-Err g c = (
+  c.report_unread-in-Err.ensures.limit,
+  c.report_unread-in-Err.ensures.quiet,
+  inr (
+    c.in-File.path.now,
+    (Err c.of_reading-failure.result, (unread_refused c.in-File.path.now c.of_reading-failure.result c.of_reading-failure.ensures.reported, c.report_unread-in-Err.ensures.status, refl)),
+  ),
+)
 
 pub returns-in-Special : goal.returns-in-Special
 returns-in-Special g c = (
   omega (arith, c.refuse.ensures),
   (λ is. absurd (omega (arith, c.refuse.ensures, is))),
-  unread_visited c.args.request.now g.W.Write.contents c.args.out.now c.in-Special.path.now OutOfMemory c.refuse.result tt c.refuse.ensures,
+  inr (c.in-Special.path.now, (Err OutOfMemory, (tt, c.refuse.ensures, refl))),
 )
 
 pub returns-in-Unread : goal.returns-in-Unread
-returns-in-Unread g c =
-    let unread = c.report_unread.ensures in
-    (unread.limit, unread.quiet, unread_visited c.args.request.now g.W.Write.contents c.args.out.now c.in-Unread.path.now c.in-Unread.failure c.report_unread.result (subst IsVisit c.in-Unread.is c.requires) unread.status)
+returns-in-Unread g c = (
+  c.report_unread.ensures.limit,
+  c.report_unread.ensures.quiet,
+  inr (c.in-Unread.path.now, (Err c.in-Unread.failure, (subst IsVisit c.in-Unread.is c.requires, c.report_unread.ensures.status, refl))),
+)

@@ -1,11 +1,11 @@
 use Rattle.cli_where.proofs.Prelude.{first_of}
 use Rattle.cli_where.proofs.report.print_found.Goals as goal
 
-pub returns-in_default : goal.returns-in_default
-returns-in_default g c =
+pub returns-in-BareRoot : goal.returns-in-BareRoot
+returns-in-BareRoot g c =
     let some = first_of c.args.structures.now c.requires.some in
-    rw (c.in_default.is, some.2) (λ model is.
-    c.lines_follow.ensures.more _ _ _ _ _ (rw some.2 at c.print_structures.ensures) (rw some.2 at (c.print_value.ensures model (c.requires.model model (rw c.in_default.is is)))))
+    rw (c.in-BareRoot.is, some.2) (λ model is.
+    c.lines_follow.ensures.more _ _ _ _ _ (rw some.2 at c.print_structures.ensures) (rw some.2 at (c.print_value.ensures model (c.requires.model model (rw c.in-BareRoot.is is)))))
 
 pub returns-in-File : goal.returns-in-File
 returns-in-File g c =

@@ -13,8 +13,8 @@ loop-turn-preserved g c =
           (c.lines_follow.ensures.more _ _ _ _ _ c.print_entry.ensures printed);
     }
 
-pub returns-in_default : goal.returns-in_default
-returns-in_default g c = c.loop-turn.invariant.left c.loop-turn.out [] c.in_default.ensures.none (c.lines_follow.ensures.nothing c.loop-turn.out)
+pub returns-in-None : goal.returns-in-None
+returns-in-None g c = c.loop-turn.invariant.left c.loop-turn.out [] c.in-None.ensures.none (c.lines_follow.ensures.nothing c.loop-turn.out)
 
 pub returns : goal.returns
 returns g c =

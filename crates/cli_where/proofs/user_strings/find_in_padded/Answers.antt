@@ -10,11 +10,11 @@ loop-turn-preserved c =
       turns = omega (arith, c.loop-turn.invariant.turns, found.later);
       left = λ later remainder are adds.
           c.loop-turn.invariant.left later (record { offset = c.loop-turn.index; string = entry.string; next = entry.next } ∷ remainder) (found.token, refl, found.sound, are)
-          (and_then (rw (c.saturating_sub.ensures, c.min-end.ensures) at c.look_at.ensures) adds);
+          (and_then (rw (c.saturating_sub-size.ensures, c.min-end.ensures) at c.look_at.ensures) adds);
     }
 
-pub returns-in_default : goal.returns-in_default
-returns-in_default c = c.loop-turn.invariant.left c.loop-turn.found [] c.in_default.ensures.none (adds_none c.loop-turn.found)
+pub returns-in-None : goal.returns-in-None
+returns-in-None c = c.loop-turn.invariant.left c.loop-turn.found [] c.in-None.ensures.none (adds_none c.loop-turn.found)
 
 pub returns : goal.returns
 returns c =

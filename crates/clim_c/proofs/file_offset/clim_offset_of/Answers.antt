@@ -1,4 +1,4 @@
-use Rattle.clim_c.proofs.Prelude.{refl, subst, sym}
+use Rattle.std.proofs.Common.{refl, subst, sym}
 use Rattle.pe.specs.Image.{Image}
 use Rattle.pe.specs.Offset.{IsFileOffset}
 use Rattle.clim_c.proofs.file_offset.clim_offset_of.Goals as goal

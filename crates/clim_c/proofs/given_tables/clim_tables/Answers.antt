@@ -1,4 +1,4 @@
-use Rattle.clim_c.proofs.Prelude.{◌<◌, ◌≤◌, ◌^◌, length, refl, ap, arith}
+use Rattle.std.proofs.Common.{◌<◌, ◌≤◌, ◌^◌, length, refl, ap, arith}
 use Rattle.clim_c.proofs.RootLemmas.{has_bytes, says_root}
 use Rattle.clim_c.proofs.given_tables.clim_tables.Goals as goal
 

@@ -1,4 +1,4 @@
-use Rattle.clim_c.proofs.Prelude.{cell_in}
+use Rattle.metadata.specs.Metadata.{cell_in}
 use Rattle.clim_c.proofs.GivenLemmas.{given_again}
 use Rattle.clim_c.proofs.laws.reported_cells_are_given.Goals as goal
 

@@ -1,28 +1,31 @@
-use Rattle.clim_c.proofs.Prelude.{arith, TypeDef, cell_columns, cell_in}
-use Rattle.clim_c.proofs.GivenLemmas.{utf8_of}
+use Rattle.clim_c.proofs.Prelude.{◌≤◌, sym, ◌∙◌, arith, TypeDef, cell_in, source_of, rows_in}
+use Rattle.metadata.specs.Lookups.{IsFirstType}
+use Rattle.clim_c.proofs.Texts.{name_is, namespace_is, has_name, has_namespace, some_of, none_of}
 use Rattle.clim_c.proofs.look_ups.clim_find_type.Goals as goal
 
 pub returns-in_default-clause-none : goal.returns-in_default-clause-none
-unfolding cell_columns
 returns-in_default-clause-none c = λ is_open zero model is row there names.
-    let valid = c.models_of_roots_are_valid.ensures c.args.view.now.root.now model is in
-    c.in_default.ensures'.cases.0 (utf8_of (cell_in model TypeDef row 1) c.args.name.now names.0 (valid.cells TypeDef row 1 there (omega arith)).storable)
+    let root = c.args.view.now.root.now in
+    let count = c.models_are_read.ensures.count root model is TypeDef in
+    let last : row ≤ rows_in (source_of root) TypeDef = omega (arith, count, there.1) in
+    let cell = c.models_are_read.ensures.cells root model is TypeDef row 1 there.0 last has_name in
+    c.in_default.ensures'.cases.0 (name_is (source_of root) row (cell_in model TypeDef row 1) c.args.name.now cell names.0)
 
 pub returns-in_default-2-clause-none : goal.returns-in_default-2-clause-none
-unfolding cell_columns
 returns-in_default-2-clause-none c = λ is_open zero model is row there names.
-    let valid = c.models_of_roots_are_valid.ensures c.args.view.now.root.now model is in
-    c.in_default.ensures.cases.0 (utf8_of (cell_in model TypeDef row 2) c.args.namespace.now names.1 (valid.cells TypeDef row 2 there (omega arith)).storable)
+    let root = c.args.view.now.root.now in
+    let count = c.models_are_read.ensures.count root model is TypeDef in
+    let last : row ≤ rows_in (source_of root) TypeDef = omega (arith, count, there.1) in
+    let cell = c.models_are_read.ensures.cells root model is TypeDef row 2 there.0 last has_namespace in
+    c.in_default.ensures.cases.0 (namespace_is (source_of root) row (cell_in model TypeDef row 2) c.args.namespace.now cell names.1)
 
-pub returns-in-Some-find_type-clause-sound : goal.returns-in-Some-find_type-clause-sound
-returns-in-Some-find_type-clause-sound c = λ above model is.
-    (rw (c.in-Some.ensures.sound.0, c.in-Ok-Ok.ensures.cases.0, c.in-Ok-Ok.ensures'.cases.0) at c.in-Some-find_type.ensures.sound) model is
+pub returns-clause-sound : goal.returns-clause-sound
+returns-clause-sound c = λ above model is.
+    let found = (rw (c.in-Some.ensures.sound.0, c.in-Ok-Ok.ensures.cases.0, c.in-Ok-Ok.ensures'.cases.0) at c.find_type.ensures.sound) model is in
+    rw c.unwrap_or.ensures (some_of c.find_type.result (IsFirstType model c.args.namespace.now c.args.name.now) found (rw c.unwrap_or.ensures at above))
 
-pub returns-in-Some-find_type-clause-none : goal.returns-in-Some-find_type-clause-none
-returns-in-Some-find_type-clause-none c = λ is_open zero model is.
-    let found = (rw (c.in-Some.ensures.sound.0, c.in-Ok-Ok.ensures.cases.0, c.in-Ok-Ok.ensures'.cases.0) at c.in-Some-find_type.ensures.sound) model is in
-    absurd (omega (arith, found.there.0, zero))
-
-pub returns-in-None-clause-none : goal.returns-in-None-clause-none
-returns-in-None-clause-none c = λ is_open zero model is.
-    (rw (c.in-Some.ensures.sound.0, c.in-Ok-Ok.ensures.cases.0, c.in-Ok-Ok.ensures'.cases.0) at c.in-None.ensures.none) model is
+pub returns-clause-none : goal.returns-clause-none
+returns-clause-none c = λ is_open zero model is.
+    let found = (rw (c.in-Some.ensures.sound.0, c.in-Ok-Ok.ensures.cases.0, c.in-Ok-Ok.ensures'.cases.0) at c.find_type.ensures.sound) model is in
+    let none = (rw (c.in-Some.ensures.sound.0, c.in-Ok-Ok.ensures.cases.0, c.in-Ok-Ok.ensures'.cases.0) at c.find_type.ensures.none) model is in
+    none_of c.find_type.result (IsFirstType model c.args.namespace.now c.args.name.now) _ found (λ row first. omega (arith, first.there.0)) none (sym c.unwrap_or.ensures ∙ zero)

@@ -1,4 +1,4 @@
-use Rattle.clim_c.proofs.Prelude.{◌∙◌}
+use Rattle.std.proofs.Common.{◌∙◌}
 use Rattle.clim_c.proofs.read_header.clim_read_header.Goals as goal
 
 pub returns-in-Ok-clause-sound : goal.returns-in-Ok-clause-sound

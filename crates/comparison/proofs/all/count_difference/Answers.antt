@@ -1,4 +1,5 @@
-use Rattle.comparison.proofs.Prelude.{◌≡◌, ◌∙◌, ◌<◌, ◌≤◌, List, ap, length, get_or, sym, arith, flat_map, take_all, TableId, Module, tables, RowCount, count_difference}
+use Rattle.std.proofs.Common.{◌≡◌, ◌∙◌, ◌<◌, ◌≤◌, List, ap, length, get_or, sym, arith}
+use Rattle.comparison.proofs.Prelude.{flat_map, take_all, TableId, Module, tables, RowCount, count_difference}
 use Rattle.comparison.proofs.OutlineLemmas.{count_differs, count_same, first_found, none_more}
 use Rattle.comparison.proofs.all.count_difference.Goals as goal
 

@@ -1,4 +1,5 @@
-use Rattle.comparison.proofs.Prelude.{◌≡◌, [], take, flat_map, tables, Metadata, IsModel, count_difference}
+use Rattle.std.proofs.Common.{◌≡◌, [], take}
+use Rattle.comparison.proofs.Prelude.{flat_map, tables, Metadata, IsModel, count_difference}
 use Rattle.comparison.proofs.all.count_difference.Given as goal
 
 abbrev pub invariant-loop-table : goal.invariant-loop-table

@@ -1,6 +1,7 @@
-use Rattle.comparison.proofs.Prelude.{both_ways, ◌∙◌, sym}
+use Rattle.std.proofs.Common.{◌≡◌, ◌∙◌, List, [], ◌∷◌, take, subst, sym}
+use Rattle.comparison.proofs.Prelude.{IfSome, IfNone, Difference}
 use Rattle.comparison.proofs.OutlineLemmas.{outline_counts, outline_user, outline_version}
-use Rattle.comparison.proofs.PaddingLemmas.{parts_differ, parts_same}
+use Rattle.comparison.proofs.PaddingLemmas.{parts_differ, parts_same, unzero}
 use Rattle.comparison.proofs.all.outline_difference.Goals as goal
 
 pub returns-then-ne-clause-first : goal.returns-then-ne-clause-first
@@ -12,16 +13,18 @@ pub returns-then-not-same_padded-clause-first : goal.returns-then-not-same_padde
 returns-then-not-same_padded-clause-first c = λ first second is also.
     let versions = sym (c.version.ensures first is) ∙ parts_same c.version.result.now c.version-2.result.now c.ne.result c.ne.ensures c.if-ne.false ∙ c.version-2.ensures second also in
     outline_user first second versions
-    (λ same. both_ways _ c.if-not-same_padded.true (c.same_padded.ensures.1 (c.user.ensures.model first is ∙ same ∙ sym (c.user-2.ensures.model second also))))
+    (λ same. unzero (c.same_padded.ensures.1 (c.user.ensures.model first is ∙ same ∙ sym (c.user-2.ensures.model second also))) c.if-not-same_padded.true)
 
 pub returns-clause-first : goal.returns-clause-first
 returns-clause-first c = λ first second is also.
     let versions = sym (c.version.ensures first is) ∙ parts_same c.version.result.now c.version-2.result.now c.ne.result c.ne.ensures c.if-ne.false ∙ c.version-2.ensures second also in
     let users = sym (c.user.ensures.model first is) ∙ c.same_padded.ensures.0 c.if-not-same_padded.false ∙ c.user-2.ensures.model second also in
-    rw (outline_counts first second versions users) (c.count_difference.ensures.first first second is also)
+    subst (λ (xs : List Difference). IfSome c.count_difference.result (λ difference. take 1 xs ≡ difference ∷ [])) (sym (outline_counts first second versions users))
+    (c.count_difference.ensures.first first second is also)
 
 pub returns-clause-none : goal.returns-clause-none
 returns-clause-none c = λ first second is also.
     let versions = sym (c.version.ensures first is) ∙ parts_same c.version.result.now c.version-2.result.now c.ne.result c.ne.ensures c.if-ne.false ∙ c.version-2.ensures second also in
     let users = sym (c.user.ensures.model first is) ∙ c.same_padded.ensures.0 c.if-not-same_padded.false ∙ c.user-2.ensures.model second also in
-    rw (outline_counts first second versions users) (c.count_difference.ensures.none first second is also)
+    subst (λ (xs : List Difference). IfNone c.count_difference.result (xs ≡ [])) (sym (outline_counts first second versions users))
+    (c.count_difference.ensures.none first second is also)

@@ -1,4 +1,5 @@
-use Rattle.comparison.proofs.Prelude.{◌++◌, ◌+◌, ◌∙◌, ap, length, counted_behind}
+use Rattle.std.proofs.Common.{◌++◌, ◌+◌, ◌∙◌, ap, length}
+use Rattle.heap_entries.proofs.BlobLemmas.{counted_behind}
 use Rattle.comparison.proofs.blob_names.span_of.Goals as goal
 
 pub returns-clause-at : goal.returns-clause-at

@@ -1,4 +1,6 @@
-use Rattle.comparison.proofs.Prelude.{◌≡◌, ◌∙◌, ◌<◌, ◌≤◌, List, [], ◌++◌, All, ap, length, take, get_or, refl, sym, subst, arith, IsThere, flat_map, TableId, Module, tables, Source, source_of, AreSameParts, Difference, cell_differences_but, table_differences}
+use Rattle.std.proofs.Common.{◌≡◌, ◌∙◌, ◌<◌, ◌≤◌, List, [], ◌++◌, All, ap, length, take, get_or, refl, sym, subst, arith}
+use Rattle.comparison.proofs.Prelude.{flat_map, TableId, Module, tables, Source, source_of, AreSameParts, Difference, cell_differences_but, table_differences}
+use Rattle.comparison.specs.Differences.{IsThere}
 use Rattle.comparison.proofs.GrowthLemmas.{item_more}
 use Rattle.comparison.proofs.CellSteps.{found_more, tables_are}
 use Rattle.comparison.proofs.EqualLemmas.{take_of_nothing}

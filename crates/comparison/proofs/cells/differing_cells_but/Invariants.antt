@@ -1,4 +1,5 @@
-use Rattle.comparison.proofs.Prelude.{[], flat_map, take, tables, Extends, table_differences}
+use Rattle.std.proofs.Common.{[]}
+use Rattle.comparison.proofs.Prelude.{flat_map, take, tables, Extends, table_differences}
 use Rattle.comparison.proofs.cells.differing_cells_but.Given as goal
 
 abbrev pub invariant-loop-table : goal.invariant-loop-table

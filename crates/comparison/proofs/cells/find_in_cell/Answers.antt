@@ -1,4 +1,5 @@
-use Rattle.comparison.proofs.Prelude.{◌≢◌, ◌∙◌, [], ◌∷◌, length, refl, sym, ap, cond, arith, Progress, IsProgress}
+use Rattle.std.proofs.Common.{◌≢◌, ◌∙◌, [], ◌∷◌, length, refl, sym, ap, cond, arith}
+use Rattle.comparison.proofs.Prelude.{Progress, IsProgress}
 use Rattle.comparison.specs.declared.difference.Difference.TheVariants.{Cell}
 use Rattle.comparison.proofs.CellSteps.{cell_ignored, cell_is, no_room, nothing_found, one_found}
 use Rattle.comparison.proofs.cells.find_in_cell.Goals as goal

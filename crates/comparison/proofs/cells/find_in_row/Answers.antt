@@ -1,4 +1,5 @@
-use Rattle.comparison.proofs.Prelude.{◌≡◌, refl, arith, cell_count, cell_difference}
+use Rattle.std.proofs.Common.{◌≡◌, refl, arith}
+use Rattle.comparison.proofs.Prelude.{cell_count, cell_difference}
 use Rattle.comparison.proofs.GrowthLemmas.{number_more}
 use Rattle.comparison.proofs.CellSteps.{found_as, found_more, no_room, nothing_found, row_is}
 use Rattle.comparison.proofs.cells.find_in_row.Goals as goal

@@ -1,4 +1,5 @@
-use Rattle.comparison.proofs.Prelude.{◌≡◌, ◌∙◌, ◌+◌, refl, ap₂, min, arith, row_differences}
+use Rattle.std.proofs.Common.{◌≡◌, ◌∙◌, ◌+◌, refl, ap₂, min, arith}
+use Rattle.comparison.proofs.Prelude.{row_differences}
 use Rattle.comparison.proofs.GrowthLemmas.{number_more}
 use Rattle.comparison.proofs.CellSteps.{found_as, found_more, nothing_found, table_is}
 use Rattle.comparison.proofs.cells.find_in_table.Goals as goal

@@ -1,4 +1,4 @@
-use Rattle.comparison.proofs.Prelude.{no_columns}
+use Rattle.comparison.specs.Ignored.{no_columns}
 use Rattle.comparison.proofs.EqualLemmas.{first_differs, first_nothing_differs, nothing_else_differs}
 use Rattle.comparison.proofs.laws.models_without_differences_are_equal.Goals as goal
 

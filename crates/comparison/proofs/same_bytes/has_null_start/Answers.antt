@@ -1,10 +1,11 @@
-use Rattle.comparison.proofs.Prelude.{◌≡◌, ◌≢◌, ℕ, List, ap, length, arith, below_more, Column, TableId, column_at, number_of, source_of}
+use Rattle.std.proofs.Common.{◌≡◌, ◌≢◌, ℕ, List, ap, length, arith, below_more}
+use Rattle.comparison.proofs.Prelude.{Column, TableId, column_at, number_of}
 use Rattle.table_schema.specs.declared.column.ColumnKind.TheVariants as kind
 use Rattle.comparison.proofs.same_bytes.has_null_start.Goals as goal
 
 pub loop-column-preserved : goal.loop-column-preserved
 loop-column-preserved c =
-    below_more (λ (k : ℕ). (member : TableId) → (column_at c.args.table k).kind ≡ kind.List member → number_of (source_of c.args.view.now) c.args.table c.args.row k ≢ 0)
+    below_more (λ (k : ℕ). (member : TableId) → (column_at c.args.table k).kind ≡ kind.List member → number_of c.args.source.now.source c.args.table c.args.row k ≢ 0)
     c.loop-column.column c.loop-column.invariant (c.is_null_start.ensures c.if-is_null_start.false)
 
 pub returns : goal.returns

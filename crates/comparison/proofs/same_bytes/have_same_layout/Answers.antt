@@ -1,4 +1,5 @@
-use Rattle.comparison.proofs.Prelude.{◌≡◌, ◌∙◌, ◌<◌, ℕ, List, ap, length, get_or, refl, sym, subst, arith, below_more, TableId, Module, table_index_of, tables, rows_in}
+use Rattle.std.proofs.Common.{◌≡◌, ◌∙◌, ◌<◌, ℕ, List, ap, length, get_or, refl, sym, subst, arith, below_more}
+use Rattle.comparison.proofs.Prelude.{TableId, Module, table_index_of, tables, rows_in}
 use Rattle.comparison.proofs.same_bytes.have_same_layout.Goals as goal
 
 pub returns-then-heap_sizes : goal.returns-then-heap_sizes

@@ -1,10 +1,13 @@
-use Rattle.comparison.proofs.Prelude.{ℕ, List, sym, subst, Decides-eqb, slice_eq-Decides, IsModel}
+use Rattle.std.proofs.Common.{ℕ, List, sym, subst}
+use Rattle.comparison.proofs.Prelude.{Decides-eqb, slice_eq-Decides, IsModel}
+use Rattle.comparison.proofs.AlikeLemmas.{compared}
 use Rattle.comparison.proofs.EqualLemmas.{cells_alike, same_alike}
 use Rattle.comparison.proofs.same_bytes.have_same_root.Goals as goal
 
 pub returns-clause-root : goal.returns-clause-root
 returns-clause-root c =
-    rw (c.root.ensures.bytes, c.root-2.ensures.bytes) at (slice_eq-Decides Decides-eqb c.root.result.now c.root-2.result.now c.eq.result c.eq.ensures)
+    compared c.root.result.now c.root-2.result.now c.args.left.now c.args.right.now c.eq.result
+    (slice_eq-Decides Decides-eqb c.root.result.now c.root-2.result.now c.eq.result c.eq.ensures) c.root.ensures.bytes c.root-2.ensures.bytes
 
 pub returns-clause-cells : goal.returns-clause-cells
 returns-clause-cells c = λ same ignored first second is also.

@@ -1,4 +1,4 @@
-use Rattle.comparison.proofs.Prelude.{◌∙◌, sym}
+use Rattle.std.proofs.Common.{◌∙◌, sym}
 use Rattle.comparison.proofs.NameLemmas.{named_outcome}
 use Rattle.comparison.proofs.same_in_row.is_named_same.Goals as goal
 

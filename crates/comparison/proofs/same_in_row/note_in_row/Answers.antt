@@ -1,5 +1,4 @@
-use Rattle.comparison.proofs.Prelude.{◌≡◌, ◌+◌, arith}
-use Rattle.comparison.proofs.ComparedLemmas.{outcome_is}
+use Rattle.comparison.proofs.ComparedLemmas.{one_noted, outcome_is}
 use Rattle.comparison.proofs.same_in_row.note_in_row.Goals as goal
 
 pub returns-in-Some : goal.returns-in-Some
@@ -9,8 +8,7 @@ pub returns : goal.returns
 returns c =
     let numbers = c.numbers_of-numbers in
     let cell = c.args.cell in
-    c.note-2.ensures c.args.left.now c.args.right.now cell.table c.requires.compared (λ k h.
-    let first : numbers.result.0 + k ≡ numbers.result.0 = omega (arith, h) in
-    let second : numbers.result.1 + k ≡ numbers.result.1 = omega (arith, h) in
-    rw (first, second) (outcome_is c.cells_are_one.ensures cell.table cell.index c.requires.in_heap c.models_are_read.ensures.cells c.args.left.now c.args.right.now cell.row
+    c.note-2.ensures c.args.left.now c.args.right.now cell.table c.requires.compared
+    (one_noted c.args.left.now c.args.right.now cell.table cell.index numbers.result.0 numbers.result.1 c.args.same
+    (outcome_is c.cells_are_one.ensures cell.table cell.index c.requires.in_heap c.models_are_read.ensures.cells c.args.left.now c.args.right.now cell.row
     numbers.result.0 numbers.result.1 c.args.same c.requires.index c.requires.row numbers.ensures.left numbers.ensures.right c.requires.same))

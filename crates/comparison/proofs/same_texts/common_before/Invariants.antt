@@ -1,4 +1,4 @@
-use Rattle.comparison.proofs.Prelude.{◌≤◌}
+use Rattle.std.proofs.Common.{◌≤◌}
 use Rattle.comparison.proofs.same_texts.common_before.Given as goal
 
 abbrev pub invariant-loop-step : goal.invariant-loop-step

@@ -1,4 +1,4 @@
-use Rattle.comparison.proofs.Prelude.{◌<◌, arith}
+use Rattle.std.proofs.Common.{◌<◌, arith}
 use Rattle.comparison.proofs.TextLemmas.{texts_same}
 use Rattle.comparison.proofs.same_texts.have_same_texts.Goals as goal
 

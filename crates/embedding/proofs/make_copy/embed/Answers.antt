@@ -1,4 +1,4 @@
-use Rattle.embedding.proofs.Prelude.{arith}
+use Rattle.std.proofs.Common.{arith}
 use Rattle.embedding.proofs.make_copy.embed.Goals as goal
 
 pub returns-clause-model : goal.returns-clause-model

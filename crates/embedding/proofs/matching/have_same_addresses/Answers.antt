@@ -1,4 +1,5 @@
-use Rattle.embedding.proofs.Prelude.{below_more, ◌≡◌, ◌≤◌, ℕ, arith, false≢true, number_of, source_of, row_count}
+use Rattle.embedding.proofs.Prelude.{◌≡◌, ◌≤◌, ℕ, arith, false≢true, number_of, source_of, row_count}
+use borrow.Author.Count.{below_more}
 use Rattle.embedding.proofs.matching.have_same_addresses.Goals as goal
 
 pub loop-row-preserved : goal.loop-row-preserved

@@ -1,4 +1,5 @@
-use Rattle.embedding.proofs.Prelude.{below_more, ◌≡◌, ◌≤◌, ◌⊎◌, inl, inr, ℕ, refl, arith, raw_size, raw_offset}
+use Rattle.embedding.proofs.Prelude.{◌≡◌, ◌≤◌, ◌⊎◌, inl, inr, ℕ, refl, arith, raw_size, raw_offset}
+use borrow.Author.Count.{below_more}
 use Rattle.embedding.proofs.slots.are_after.Goals as goal
 use Rattle.embedding.proofs.slots.are_after.Goals.{else-section-ne0-via-then-section-ne0+else-section-offset, else-section-ne0-via-else-section-ne0}
 

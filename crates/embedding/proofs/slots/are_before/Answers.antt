@@ -1,4 +1,5 @@
-use Rattle.embedding.proofs.Prelude.{below_more, ◌≤◌, ℕ, arith, address_end, raw_end, virtual_address}
+use Rattle.embedding.proofs.Prelude.{◌≤◌, ℕ, arith, address_end, raw_end, virtual_address}
+use borrow.Author.Count.{below_more}
 use Rattle.embedding.proofs.slots.are_before.Goals as goal
 
 pub loop-other-preserved : goal.loop-other-preserved

@@ -1,4 +1,5 @@
-use Rattle.embedding.proofs.Prelude.{image_size, ◌≡◌, ap, arith, source_of, Target, target_of}
+use Rattle.embedding.proofs.Prelude.{◌≡◌, ap, arith, source_of, Target, target_of}
+use Rattle.embedding.specs.Slots.{image_size}
 use Rattle.embedding.proofs.Misfits.{out_of_range}
 use Rattle.embedding.proofs.slots.in_range.Goals as goal
 use Rattle.embedding.proofs.slots.in_range.Goals.{then-memory-via-then-memory, then-memory-via-else-memory+then-initialized}

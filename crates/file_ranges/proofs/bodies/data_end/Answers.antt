@@ -1,5 +1,5 @@
-use Rattle.file_ranges.proofs.Prelude.{◌+◌, ◌-◌, ◌/◌, length, byte_at, sym, ◌∙◌, arith, refl, cond-true, cond-false, eq-eqb, le-ltb, lt-ltb, ne_eqb}
-use Rattle.file_ranges.proofs.BodyLemmas.{next, none_left}
+use Rattle.file_ranges.proofs.Prelude.{◌≡◌, ℕ, ◌+◌, ◌-◌, Some, ap, sym, ◌∙◌, arith, data_end}
+use Rattle.file_ranges.proofs.BodyLemmas.{none_left, past_end, too_short, ends_here, goes_on}
 use Rattle.file_ranges.proofs.bodies.data_end.Goals as goal
 
 pub returns : goal.returns
@@ -7,23 +7,29 @@ returns c = sym (none_left c.args.bytes.now (64 - c.loop-number.number) c.loop-n
 
 pub returns-then-bytes-start : goal.returns-then-bytes-start
 returns-then-bytes-start c =
-    sym (next c.args.bytes.now (64 - c.loop-number.number) (64 - (c.loop-number.number + 1)) c.loop-number.end _ _ (omega arith) c.section_start-start.ensures refl ∙ cond-true _ _ _ (lt-ltb (length c.args.bytes.now) (c.section_start-start.result + 4) (omega arith))) ∙ c.loop-number.invariant.1
+    sym (past_end c.args.bytes.now (64 - c.loop-number.number) c.loop-number.end c.section_start-start.result c.section_start-start.ensures (omega arith) (omega arith))
+    ∙ c.loop-number.invariant.1
 
 pub returns-then-size-lt-DATA_HEADER : goal.returns-then-size-lt-DATA_HEADER
 returns-then-size-lt-DATA_HEADER c =
-    sym (next c.args.bytes.now (64 - c.loop-number.number) (64 - (c.loop-number.number + 1)) c.loop-number.end _ _ (omega arith) c.section_start-start.ensures c.data_size-size.ensures.size
-    ∙ cond-false _ _ _ (le-ltb (length c.args.bytes.now) (c.section_start-start.result + 4) (omega arith)) ∙ cond-true _ _ _ (lt-ltb c.data_size-size.result 4 (omega arith))) ∙ c.loop-number.invariant.1
+    sym (too_short c.args.bytes.now (64 - c.loop-number.number) c.loop-number.end c.section_start-start.result c.section_start-start.ensures (omega arith) (omega arith)
+    (omega (arith, c.data_size-size.ensures.size)))
+    ∙ c.loop-number.invariant.1
 
 pub returns-then-kind-eq0 : goal.returns-then-kind-eq0
 returns-then-kind-eq0 c =
-    sym (next c.args.bytes.now (64 - c.loop-number.number) (64 - (c.loop-number.number + 1)) c.loop-number.end _ _ (omega arith) c.section_start-start.ensures c.data_size-size.ensures.size
-    ∙ cond-false _ _ _ (le-ltb (length c.args.bytes.now) (c.section_start-start.result + 4) (omega arith)) ∙ cond-false _ _ _ (le-ltb c.data_size-size.result 4 (omega arith)) ∙ cond-true _ _ _ (eq-eqb (byte_at c.args.bytes.now c.section_start-start.result / 0x80) 0 (omega (arith, c.byte_at-kind.ensures))))
+    ap (λ (n : ℕ). Some (c.section_start-start.result + n)) c.data_size-size.ensures.size
+    ∙ sym (ends_here c.args.bytes.now (64 - c.loop-number.number) c.loop-number.end c.section_start-start.result c.section_start-start.ensures (omega arith) (omega arith)
+    (omega (arith, c.data_size-size.ensures.size)) (omega (arith, c.byte_at-kind.ensures)))
     ∙ c.loop-number.invariant.1
 
 pub loop-number-preserved : goal.loop-number-preserved
-loop-number-preserved c = (
-  omega arith,
-  sym (next c.args.bytes.now (64 - c.loop-number.number) (64 - (c.loop-number.number + 1)) c.loop-number.end _ _ (omega arith) c.section_start-start.ensures c.data_size-size.ensures.size
-      ∙ cond-false _ _ _ (le-ltb (length c.args.bytes.now) (c.section_start-start.result + 4) (omega arith)) ∙ cond-false _ _ _ (le-ltb c.data_size-size.result 4 (omega arith)) ∙ cond-false _ _ _ (ne_eqb (byte_at c.args.bytes.now c.section_start-start.result / 0x80) 0 (λ last. omega (arith, c.byte_at-kind.ensures, last))))
-      ∙ c.loop-number.invariant.1,
-)
+loop-number-preserved c =
+    let left : 64 - (c.loop-number.number + 1) ≡ 64 - c.loop-number.number - 1 = omega arith in (
+      omega arith,
+      ap (λ (n : ℕ). data_end c.args.bytes.now n (c.section_start-start.result + c.data_size-size.result)) left
+          ∙ ap (λ (n : ℕ). data_end c.args.bytes.now (64 - c.loop-number.number - 1) (c.section_start-start.result + n)) c.data_size-size.ensures.size
+          ∙ sym (goes_on c.args.bytes.now (64 - c.loop-number.number) c.loop-number.end c.section_start-start.result c.section_start-start.ensures (omega arith) (omega arith)
+          (omega (arith, c.data_size-size.ensures.size)) (omega (arith, c.byte_at-kind.ensures)))
+          ∙ c.loop-number.invariant.1,
+    )

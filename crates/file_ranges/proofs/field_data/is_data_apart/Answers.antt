@@ -1,4 +1,5 @@
-use Rattle.file_ranges.proofs.Prelude.{below_more, rules, ◌≤◌, ℕ, refl, arith, IsRowApart}
+use Rattle.file_ranges.proofs.Prelude.{rules, ◌≤◌, ℕ, refl, arith, IsRowApart}
+use borrow.Author.Count.{below_more}
 use Rattle.file_ranges.proofs.field_data.is_data_apart.Goals as goal
 
 pub loop-row-preserved : goal.loop-row-preserved

@@ -1,25 +1,21 @@
 use Rattle.file_ranges.proofs.Prelude.{arith, false≢true}
+use Rattle.file_ranges.proofs.FieldLemmas.{no_blob, row_apart, value_apart}
 use Rattle.file_ranges.proofs.field_data.is_row_apart.Goals as goal
 
 pub returns-in-Ok : goal.returns-in-Ok
 returns-in-Ok c =
-    let rva = c.number-rva.ensures.value in
-    let field = c.number-field.ensures.value in
-    let index = c.number-index.ensures.value in (
-      λ yes. record {
-        first = omega (arith, field);
-        last = omega (arith, field, c.count.ensures.value);
-        signature = c.in-Ok.signature.now;
-        is_signature = rw (c.blobs.ensures, index, field) at c.in-Ok.ensures.sound;
-        apart = rw rva at (c.is_value_apart.ensures.0 yes);
-      },
-      λ apart.
-          let same = c.in-Ok.ensures.complete apart.signature (rw (c.blobs.ensures, index, field) apart.is_signature) in
-          c.is_value_apart.ensures.1 (rw (rva, same) apart.apart),
+    let source = c.args.source.now.source in
+    let header = c.args.header.now in (
+      λ yes. row_apart header source c.args.row c.number-rva.result c.number-field.result c.number-index.result c.blobs.result.now c.in-Ok.signature.now
+          c.number-rva.ensures.value c.number-field.ensures.value c.number-index.ensures.value c.blobs.ensures (omega arith) (omega (arith, c.count.ensures.value))
+          c.in-Ok.ensures.sound (c.is_value_apart.ensures.0 yes),
+      λ apart. c.is_value_apart.ensures.1 (value_apart header source c.args.row c.number-rva.result c.number-field.result c.number-index.result c.blobs.result.now
+          c.in-Ok.signature.now c.number-rva.ensures.value c.number-field.ensures.value c.number-index.ensures.value c.blobs.ensures c.in-Ok.ensures.complete apart),
     )
 
 pub returns-in-Err : goal.returns-in-Err
 returns-in-Err c = (
   λ yes. absurd (false≢true yes),
-  λ apart. absurd (c.in-Err.ensures.complete apart.signature (rw (c.blobs.ensures, c.number-index.ensures.value, c.number-field.ensures.value) apart.is_signature)),
+  λ apart. absurd (no_blob c.args.header.now c.args.source.now.source c.args.row c.number-field.result c.number-index.result c.blobs.result.now
+      c.number-field.ensures.value c.number-index.ensures.value c.blobs.ensures c.in-Err.ensures.complete apart),
 )

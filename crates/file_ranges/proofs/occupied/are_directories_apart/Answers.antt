@@ -1,4 +1,5 @@
-use Rattle.file_ranges.proofs.Prelude.{below_more, rules, refl, ℕ, arith, IsDirectoryApart}
+use Rattle.file_ranges.proofs.Prelude.{rules, refl, ℕ, arith, IsDirectoryApart}
+use borrow.Author.Count.{below_more}
 use Rattle.file_ranges.proofs.occupied.are_directories_apart.Goals as goal
 
 pub loop-index-preserved : goal.loop-index-preserved

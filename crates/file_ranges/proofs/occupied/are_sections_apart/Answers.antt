@@ -1,4 +1,5 @@
-use Rattle.file_ranges.proofs.Prelude.{below_more, rules, ℕ, IsSectionApart}
+use Rattle.file_ranges.proofs.Prelude.{rules, ℕ, IsSectionApart}
+use borrow.Author.Count.{below_more}
 use Rattle.file_ranges.proofs.occupied.are_sections_apart.Goals as goal
 
 pub loop-index-preserved : goal.loop-index-preserved

@@ -1,4 +1,5 @@
-use Rattle.file_ranges.proofs.Prelude.{below_more, ℕ, sym, ◌∙◌, arith, false≢true, HasMetadata}
+use Rattle.file_ranges.proofs.Prelude.{ℕ, sym, ◌∙◌, arith, false≢true, HasMetadata}
+use borrow.Author.Count.{below_more}
 use Rattle.file_ranges.proofs.occupied.lowest_address.Goals as goal
 
 pub loop-index-preserved : goal.loop-index-preserved

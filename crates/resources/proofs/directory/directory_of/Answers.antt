@@ -1,21 +1,22 @@
-use Rattle.resources.proofs.Prelude.{◌≡◌, ◌∙◌, [], ◌∷◌, length, take, ap, arith, sym, literal, part}
+use Rattle.resources.proofs.Prelude.{◌≡◌, ◌∙◌, [], ◌∷◌, length, take, ap, arith, subst, sym, literal, part, Image, IsFileOffset}
 use Rattle.resources.proofs.directory.directory_of.Goals as goal
 
 pub returns-in_default : goal.returns-in_default
 returns-in_default c = λ start bytes is. c.in_default.ensures.complete is.image is.is_image
 
-pub returns-in_err-range : goal.returns-in_err-range
-returns-in_err-range c =
-    rw c.from_residual.ensures (λ start bytes is. c.in_err-range.ensures.complete start (rw (c.in-Ok.ensures.complete is.image is.is_image) is.named))
+pub returns-in_default-range : goal.returns-in_default-range
+returns-in_default-range c = λ start bytes is.
+    let At : Image → Type 0 = λ image. IsFileOffset image c.args.header.now.resources.rva c.args.header.now.resources.size start in
+    c.in_default-range.ensures.complete start (subst At (sym (c.in-Ok.ensures.complete is.image is.is_image)) is.named)
 
 pub returns : goal.returns
 returns c =
     let file = c.args.file.now in
     let size = c.args.header.now.resources.size in
-    let start = c.in_ok-range.range.start in
+    let start = c.in-Some.range.start in
     let bytes = c.split_at-2.result.0.now in
     let sound = c.in-Ok.ensures.sound in
-    let named = c.in_ok-range.ensures.sound.0 in
+    let named = c.in-Some.ensures.sound.0 in
     let whole = ap length sound.bytes_are in
     let within = named.within in
     let prefix = c.split_at-2.ensures.front_len in

@@ -1,4 +1,4 @@
-use Rattle.comparison.proofs.Prelude.{◌++◌, ◌∙◌}
+use Rattle.std.proofs.Common.{◌++◌, ◌∙◌}
 use Rattle.comparison.proofs.NameLemmas.{same_windows}
 use Rattle.comparison.proofs.blob_names.BlobNames.are_equal.Goals as goal
 

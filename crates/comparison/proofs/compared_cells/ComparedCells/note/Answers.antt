@@ -1,4 +1,4 @@
-use Rattle.comparison.proofs.Prelude.{refl}
+use Rattle.std.proofs.Common.{refl}
 use Rattle.comparison.proofs.ComparedLemmas.{outcomes_after}
 use Rattle.comparison.proofs.compared_cells.ComparedCells.note.Goals as goal
 

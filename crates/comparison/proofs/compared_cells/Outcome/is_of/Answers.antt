@@ -1,4 +1,4 @@
-use Rattle.comparison.proofs.Prelude.{◌-◌, arith}
+use Rattle.std.proofs.Common.{◌-◌, arith}
 use Rattle.comparison.proofs.compared_cells.Outcome.is_of.Goals as goal
 
 pub returns : goal.returns

@@ -1,5 +1,9 @@
-use Rattle.comparison.proofs.IgnoredLemmas.{others_kept}
+use Rattle.comparison.proofs.IgnoredLemmas.{marked, others_kept}
+use Rattle.std.proofs.Common.{arith}
 use Rattle.comparison.proofs.ignored.IgnoredColumns.insert.Goals as goal
+
+pub returns-clause-added : goal.returns-clause-added
+returns-clause-added c = marked c.args.self.now.marks c.mark_of.result c.args.cell_index c.args.table c.mark_of.ensures.value (omega (arith, c.mark_of.ensures.limit, c.well_formed))
 
 pub returns-clause-others : goal.returns-clause-others
 returns-clause-others c =
