@@ -12,6 +12,8 @@ pub use Rattle.table_schema.specs.Tables.{table_number, table_index_of}
 pub use Rattle.table_schema.specs.declared.table.TableId.{TableId}
 pub use Rattle.table_schema.specs.declared.table.TableId.TheVariants.{Module}
 pub use Rattle.metadata.specs.RowRules.{IsInOrder}
+pub use Rattle.metadata.specs.declared.member_lists.MemberList.{MemberList}
+pub use Rattle.metadata.specs.MemberLists.{owner_of, cell_of, member_of}
 unfoldable pub use Rattle.metadata.specs.LinkRules.{rules_of_start, rules_of_nesting_in}
 pub use Rattle.metadata.specs.Rules.{in_place, rules_of_order_by}
 unfoldable pub use Rattle.metadata.specs.Rules.{rules_of_key_in, rules_of_order_at}
