@@ -808,8 +808,8 @@ size_t clim_compare(const clim_view *left, const clim_view *right, clim_differen
  *     CLIM_ROW whose table does not exist, or a CLIM_SIGNATURE in a column that has none; 701 for a CLIM_SIGNATURE
  *     whose bytes are no signature of that column.
  *   - That of the first rule that the tables break: 302 and 510, for the version and the user strings; 406, for the
- *     number of rows of a table; 509, 506 and 507, for a cell; 602 and 603, for runs of members; 604, for nested
- *     types; and 702, for the rows that a signature refers to. clim_explain explains each.
+ *     number of rows of a table; 509, 506 and 507, for a cell; those from 602 to 699, for the links between rows, such
+ *     as runs of members; and 702, for the rows that a signature refers to. clim_explain explains each.
  *
  * Returns CLIM_TOO_LONG for a root of more than 2^30 bytes, and CLIM_NO_MEMORY if memory runs out. Then, and if it
  * returns 0, the buffer is unchanged; if it returns another number, *refusal is. Call it with a room that usually

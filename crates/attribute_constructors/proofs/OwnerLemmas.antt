@@ -1,6 +1,6 @@
 -- The type that has a method.
 use Rattle.attribute_constructors.proofs.Prelude.{◌≡◌, ◌∙◌, ◌≤◌, ◌<◌, ◌+◌, ◌-◌, ℕ, zero, suc, None, cond, ap, arith, refl, le-leb, lt-leb, TableId, MemberRef, MethodDef, TypeDef, Metadata, cell_in, count_in, IsValid, start_in, owner_among, type_of}
-use Rattle.metadata_source.specs.declared.member_lists.MemberList.TheVariants as list
+use Rattle.metadata.specs.declared.member_lists.MemberList.TheVariants as list
 use Rattle.navigation.specs.Owners.{Owns}
 
 module _ (model : Metadata) (valid : IsValid model) (method owner : ℕ) (owns : Owns model list.Methods owner method) where
@@ -18,7 +18,7 @@ module _ (model : Metadata) (valid : IsValid model) (method owner : ℕ) (owns :
       omega (arith, e, to)
   later (suc k) row is within =
       let before = later k (row - 1) (omega (arith, is)) (omega (arith, is, within)) in
-      let rises = valid.methods.rising row (omega (arith, is)) within in
+      let rises = (valid.linked.owned list.Methods).rising row (omega (arith, is)) within in
       omega (arith, before, rises)
 
   among : (k count : ℕ) → count ≡ owner + k → count ≤ count_in model TypeDef → owner_among model method count ≡ owner

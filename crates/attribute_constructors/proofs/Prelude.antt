@@ -8,11 +8,10 @@ pub use Rattle.table_schema.specs.declared.table.TableId.{TableId}
 pub use Rattle.table_schema.specs.declared.table.TableId.TheVariants.{MemberRef, MethodDef, TypeDef, Field, TypeRef}
 pub use Rattle.sig_items.specs.ItemsOf.{items_of}
 pub use Rattle.sig_items.specs.declared.item.Item.{Item}
-pub use Rattle.metadata.specs.Cell.{Cell, Ref, Text}
+pub use Rattle.metadata.specs.Cell.{Cell, Ref, Text, reference_in, start_in}
 pub use Rattle.metadata.specs.Metadata.{Metadata, cell_in, count_in}
-pub use Rattle.metadata.specs.Valid.{IsValid, start_in, kind_at}
+pub use Rattle.metadata.specs.Valid.{IsValid, kind_at}
 pub use Rattle.reading.specs.Shown.{Shows, ShowsSignature}
-pub use Rattle.navigation.specs.Cells.{reference_in}
 pub use Rattle.attribute_constructors.specs.Constructors.{type_of}
 unfoldable pub use Rattle.attribute_constructors.specs.Constructors.{owner_among}
 pub use Rattle.attribute_constructors.specs.Params.{argument_type, begins_vector, element_type, if_few, is_vector, params_in, params_of_constructor, preceded}

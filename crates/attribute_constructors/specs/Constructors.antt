@@ -3,9 +3,8 @@ use Rattle.std.specs.Prelude.{ℕ, zero, suc, nat_le, if◌then◌else◌, Optio
 use Rattle.table_schema.specs.declared.table.TableId.{TableId}
 use Rattle.table_schema.specs.declared.table.TableId.TheVariants.{MemberRef, MethodDef, TypeDef}
 use Rattle.table_schema.specs.declared.token.Token.{Token}
+use Rattle.metadata.specs.Cell.{reference_in, start_in}
 use Rattle.metadata.specs.Metadata.{Metadata, cell_in, count_in}
-use Rattle.metadata.specs.Valid.{start_in}
-use Rattle.navigation.specs.Cells.{reference_in}
 use Rattle.navigation.specs.Nesting.{type_token}
 
 -- of the first types, this many, the last one whose methods begin at a method or before it: the type that has the method (II.22.37)

@@ -8,10 +8,8 @@ use Rattle.sig_grammar.specs.declared.element.Element.{Element}
 use Rattle.sig_grammar.specs.declared.element.Element.TheVariants.{Boolean, Char, I1, U1, I2, U2, I4, U4, I8, U8}
 use Rattle.sig_items.specs.declared.item.Item.{Item}
 use Rattle.sig_items.specs.declared.item.Item.TheVariants as item
-use Rattle.metadata.specs.Cell.{Cell, Number, Text}
+use Rattle.metadata.specs.Cell.{Cell, Text, number_in, reference_in, start_in}
 use Rattle.metadata.specs.Metadata.{Metadata, cell_in, count_in}
-use Rattle.metadata.specs.Valid.{start_in}
-use Rattle.navigation.specs.Cells.{reference_in}
 use Rattle.attribute_constructors.specs.Signatures.{items_in}
 
 -- the row of a table exists
@@ -47,8 +45,7 @@ is_enum model (Some base) = is_system_type model (codes "Enum") base
 
 -- Static (II.23.1.5)
 abbrev pub is_static : Cell → Bool
-is_static (Number flags) = flags / 16 % 2 == 1
-is_static _ = false
+is_static cell = number_in cell / 16 % 2 == 1
 
 -- the types that an enum may have, but for native integers, of which there are no values
 abbrev pub is_underlying : Element → Bool

@@ -1,9 +1,9 @@
 //! The constructors of custom attributes (II.22.10), and the types that have them.
 ghost use Rattle.std.specs.Prelude.{◌≡◌, ◌≤◌, IfSome};
 ghost use Rattle.table_schema.specs.declared.table.TableId.TheVariants.{CustomAttribute};
+ghost use Rattle.metadata.specs.Cell.{reference_in};
 ghost use Rattle.metadata.specs.Metadata.{Metadata, cell_in};
 ghost use Rattle.metadata.specs.Model.{IsModel};
-ghost use Rattle.navigation.specs.Cells.{reference_in};
 ghost use Rattle.opening.specs.Views.{row_count};
 ghost use Rattle.attribute_constructors.specs.Constructors.{type_of};
 

@@ -13,7 +13,7 @@ ghost use Rattle.attribute_constructors.specs.Types.{enum_at, enum_type, field_t
 
 use crate::read_view::ReadView;
 use crate::system_types::{has_row, is_system_type};
-use metadata_source::fields_of;
+use metadata_source::{MemberList, members_of};
 use navigation::cells;
 use opening::{CellRef, TableId, Token, View};
 use sig_grammar::Element;
@@ -86,7 +86,7 @@ fn field_type(mut items: Items<'_>) -> Option<Element>
 fn type_in(blob: &[u8]) -> Option<Element>
     ensures { (signature : Body) → Encodes column.Field signature blob.now → result ≡ field_type (items_of signature) }
 {
-    sig_values::laws::encoded_is_encodable();
+    sig_grammar::laws::encoded_is_encodable();
     sig_items::laws::items_are_encoded();
     if blob.len() > LONGEST {
         return None;
@@ -149,7 +149,7 @@ fn underlying_type<S: ReadView>(source: &S, row: u32) -> Option<Element>
     if !is_enum(source, base) {
         return None;
     }
-    let fields = fields_of(source, row);
+    let fields = members_of(source, MemberList::Fields, row);
     instance_type(source, fields.start, fields.end)
 }
 

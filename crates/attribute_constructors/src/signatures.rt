@@ -136,7 +136,7 @@ fn params_in_blob<S: ReadView>(source: &S, blob: &[u8], kind: SigKind) -> Option
     ensures { (model : Metadata) → S.shows source.now model → (signature : Body) → Encodes kind signature blob.now
         → result ≡ params_in model (items_of signature) }
 {
-    sig_values::laws::encoded_is_encodable();
+    sig_grammar::laws::encoded_is_encodable();
     sig_items::laws::items_are_encoded();
     if blob.len() > LONGEST {
         return None;

@@ -1,8 +1,9 @@
 pub mod CellLemmas
-pub mod Prelude
-pub mod RowLemmas
-pub mod OneLemmas
-pub mod RefusedLemmas
-pub mod ReasonLemmas
-pub mod StepLemmas
 pub mod CopyLemmas
+mod ItemLemmas
+pub mod OneLemmas
+pub mod Prelude
+pub mod ReasonLemmas
+pub mod RefusedLemmas
+pub mod RowLemmas
+pub mod StepLemmas

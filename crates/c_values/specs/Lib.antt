@@ -1,7 +1,9 @@
 pub mod Cells
-pub mod Given
-pub mod Refused
-pub mod Differences
 pub mod Copies
+pub mod Differences
+pub mod Given
 pub mod Headers
+pub mod Items
 pub mod Locations
+pub mod Refused
+pub mod Values

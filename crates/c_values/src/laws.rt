@@ -12,7 +12,7 @@ pub fn given_metadata_is_one()
         → IsGiven version user rows model → IsGiven version user rows other → model ≡ other }
 {
     table_schema::laws::tables_stand();
-    sig_values::laws::signatures_are_read();
+    sig_grammar::laws::signatures_are_read();
     metadata::laws::models_of_same_parts_are_one();
 }
 

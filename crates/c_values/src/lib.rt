@@ -10,6 +10,18 @@
 //! let root = root_of(alloc, b"v4.0.30319", &[], &rows)?;
 //! root_of(alloc, &[0xFF], &[], &rows) // Err(NoRoot::Refused(Refusal { code: 302, table: 0, row: 0, column: 0 }))
 //! ```
+//!
+//! The values of custom attributes for a C caller (ECMA-335 II.22.10 and II.23.3).
+//!
+//! [`write_value`] reads the value of an attribute by the types of its constructor's parameters, and writes its items into
+//! the caller's array, in the order of the blob: a [`ClimAttributeItem`] for each item of `attribute_values`. Texts are
+//! borrowed from the view. Nothing here allocates. The time is linear in the blob; `attribute_constructors` says what finding
+//! the types takes.
+//!
+//! ```text
+//! // [assembly: Foo("hi", Count = 5)]
+//! write_value(&view, row, &mut items) == Some(3) // a fixed string, the number of named arguments, and a property
+//! ```
 #![tactic(auto)]
 
 mod cell;
@@ -17,6 +29,7 @@ mod cell_kind;
 mod copies;
 mod difference;
 mod header;
+mod item;
 pub mod laws;
 mod located;
 mod made_root;
@@ -24,7 +37,9 @@ mod no_root;
 mod read_cell;
 mod read_rows;
 mod refusal;
+mod reported;
 mod row;
+mod values;
 
 pub use cell::ClimCell;
 pub use copies::{
@@ -33,10 +48,12 @@ pub use copies::{
 pub use difference::{ClimDifference, reported_difference};
 pub use embedding::{EmbedError, StrongName};
 pub use header::{ClimDirectory, ClimHeader, reported_header};
+pub use item::ClimAttributeItem;
 pub use located::{ClimLocation, location_at};
 pub use made_root::root_of;
 pub use metadata::Refusal;
 pub use no_root::NoRoot;
 pub use refusal::ClimRefusal;
 pub use row::ClimRow;
+pub use values::{NOT_DECODED, write_value};
 pub use writer::Prepared;

@@ -2,7 +2,7 @@
 use Rattle.std.proofs.Common.{◌≡◌, ℕ, ◌<◌, Bool, true, false, List, [], ◌∷◌, Option, Some, length, bytes_eq, true≢false, sym, ap, subst, ◌∙◌, refl}
 use Rattle.std.proofs.lemmas.Slice.Eq.{bytes_eq-Decides}
 use Rattle.cell_numbering.proofs.Prelude.{IsBlob, IsSameBlob, Metadata, CellId, blobs_of, BlobUse, IsUseIn}
-use Rattle.metadata_source.specs.BlobsIn.{AreBlobsIn}
+use Rattle.metadata_source.specs.HeapCells.{AreBlobsIn}
 use Rattle.cell_numbering.specs.EqualUses.{IsPlainAt, IsSameUse}
 
 -- lists that cannot differ are equal
@@ -26,7 +26,7 @@ module _ (index_of : CellId → Option ℕ) (model : Metadata) (heap : List ℕ)
       let cell = is.indexed index plain.at in
       let here = are cell.id cell.there (cell.kind ∙ plain.kind) in
       let at = same_some here.index index (sym here.at ∙ cell.at) in
-      let has = same_head here.blob blob (sym (ap blobs_of here.is) ∙ cell.has) in
+      let has = same_head here.content blob (sym (ap blobs_of here.is) ∙ cell.has) in
       subst (λ i. IsBlob heap i blob) at (subst (IsBlob heap here.index) has here.stands)
 
   pub same_blobs : ((h : List ℕ) (i : ℕ) (blob other : List ℕ) → IsBlob h i blob → IsBlob h i other → blob ≡ other)

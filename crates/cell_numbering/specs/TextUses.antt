@@ -4,7 +4,7 @@ use Rattle.heap_pools.specs.HeapTexts.{texts_at}
 use Rattle.heap_pools.specs.Uses.{bytes_of}
 use Rattle.metadata.specs.Metadata.{Metadata}
 use Rattle.metadata_source.specs.SharedBlobs.{CellId}
-use Rattle.metadata_source.specs.TextsIn.{AreTextsIn}
+use Rattle.metadata_source.specs.HeapCells.{AreTextsIn}
 use Rattle.cell_numbering.specs.declared.text_uses.TextUses.{TextUses}
 use Rattle.cell_numbering.specs.declared.text_uses.TextUses.TheVariants.{Indexed, Read}
 

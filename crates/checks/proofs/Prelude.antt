@@ -2,8 +2,8 @@
 pub use Rattle.std.proofs.Common.{◌≡◌, ◌≢◌, ℕ, zero, suc, ◌-◌, ◌<◌, ◌≤◌, List, [], ◌∷◌, ◌++◌, length, take, drop, slice_index, Option, Some, None, inl, inr, refl, sym, ap, subst, ◌∙◌, arith, length-drop, ◌+◌, get_or, false, true, Result, Ok, Err, is_err, ◌*◌, ◌/◌, ◌%◌, ◌^◌, Bool, replicate, slice_set, ◌⊎◌, cond, nat_eq, nat_lt, add-one, eq-eqb, rules}
 pub use Rattle.std.proofs.lemmas.Bool.{cases_eq, eqb-true, false≢true, cases_lt}
 pub use Rattle.std.proofs.lemmas.Bool.Decides.{nat_tests}
-pub use Rattle.std.proofs.lemmas.List.{get_or-drop, take-append-drop, length-take-le, drop_more, get_or-take, drop_at, take_at, get_or_append_left, get_or_at, get_or-replicate, get_or-set_other, get_or_past, length-replicate, drop-drop, length-set, take_min}
-pub use Rattle.std.proofs.lemmas.List.Elements.{All-cons, All-append, All-drop, All-from_get_or}
+pub use Rattle.std.proofs.lemmas.List.{get_or-drop, take-append-drop, length-take-le, drop_more, get_or-take, take_at, get_or_append_left, get_or-replicate, get_or-set_other, get_or_past, length-replicate, drop-drop, length-set, take_min}
+pub use Rattle.std.proofs.lemmas.List.Elements.{All-append, All-drop, All-from_get_or}
 pub use Rattle.std.proofs.lemmas.Nat.{div-add-mod', mod_below, mul-le}
 pub use Rattle.std.proofs.lemmas.Option.{same_Some, slice_get-get_or}
 pub use Rattle.std.proofs.lemmas.Result.{err_from_is_err_and}

@@ -1,6 +1,6 @@
 -- The bytes of texts that are counted.
 use Rattle.checks.proofs.Prelude.{◌≡◌, ◌≢◌, ℕ, zero, suc, ◌+◌, ◌-◌, ◌%◌, ◌/◌, ◌<◌, ◌≤◌, false, List, [], ◌∷◌, length, take, drop, slice_index, nat_eq, Option, Some, None, sym, ap, ◌∙◌, cond, eq-eqb, arith, length-drop, unwrap_or, eqb-true, nat_tests, get_or-take, length-take-le, IsFirstByte, is_byte, bytes_before_nul, text_length, Reaches}
-use Rattle.checks.proofs.Ended.{ended_length, none_in}
+use Rattle.heap_entries.proofs.TextLemmas.{ended_length, none_in}
 use Rattle.checks.proofs.TextLemmas.{ending_ended}
 
 -- the number of bytes before the first NUL, by what is known of each byte

@@ -3,7 +3,8 @@ use Rattle.std.proofs.Common.{◌≡◌, ◌≢◌, ℕ, ◌+◌, ◌-◌, ◌*�
 use Rattle.checks.proofs.Prelude.{take-append-drop, take_at, drop-drop, length-take-le, All-append, All-drop, All-from_get_or, IsUtf8-drop, IsUtf8-take, IsCharBoundary-from_drop, IsCharBoundary-at_seam, false≢true, div-add-mod', mul-le, IsFirstByte, is_byte, AllHold, Reports, at_offset, rules_of_text, HeapFault, IsEnded, HasNoNul, AreStarts, Reaches}
 use Rattle.heap_entries.specs.declared.fault.HeapFault.TheVariants.{BadUtf8}
 use Rattle.checks.proofs.PassedLemmas.{slots_more}
-use Rattle.checks.proofs.Ended.{tail_is, ended_length, byte_is, no_text}
+use Rattle.heap_entries.proofs.TextLemmas.{tail_is, ended_length}
+use Rattle.checks.proofs.Ended.{byte_is, no_text}
 
 -- what is reported of ended bytes
 pub text_answers : (heap : List ℕ) (start : ℕ) (bytes : List ℕ) → 0 < start → IsEnded heap start bytes → IsUtf8 bytes

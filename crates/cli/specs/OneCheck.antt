@@ -1,6 +1,6 @@
 -- What `clim check FILE` asks of FILE: one line of text, without its name.
 use Rattle.std.specs.Prelude.{None}
-use Rattle.cli_input.specs.declared.opened.Input.TheVariants.{File}
+use Rattle.cli_files.specs.declared.opened.Input.TheVariants.{File}
 use Rattle.cli_lines.specs.declared.parts.Form.TheVariants.{Text}
 use Rattle.cli_runs.specs.declared.report.Directories.TheVariants.{Refused}
 use Rattle.cli_runs.specs.declared.report.Naming.TheVariants.{Alone}

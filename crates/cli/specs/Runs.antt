@@ -19,7 +19,7 @@ use Rattle.cli_roots.specs.Compared.{IsComparing}
 use Rattle.cli_roots.specs.Embedded.{IsEmbedding, IsRootRun}
 use Rattle.cli_roots.specs.Rewritten.{IsRewriting}
 use Rattle.cli_roots.specs.Runs.{IsFileRun, IsMixed, IsWithin}
-use Rattle.cli_input.specs.declared.opened.Input.TheVariants.{File}
+use Rattle.cli_files.specs.declared.opened.Input.TheVariants.{File}
 use Rattle.cli_runs.specs.Extracted.{IsExtracting}
 use Rattle.cli_runs.specs.Runs.{IsExplained, IsRunOn, IsRunOnList, byte_of}
 use Rattle.cli_runs.specs.declared.report.Directories.TheVariants.{Walked}

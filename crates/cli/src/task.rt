@@ -6,7 +6,7 @@ use crate::columns::columns_of;
 use cli_arguments::{Ask, Subcommand};
 use cli_cells::Names;
 use cli_faults::{Failure, UsageError};
-use cli_input::Input;
+use cli_files::Input;
 use cli_lines::Form;
 use cli_names::{code_of, offset_of, row_of, table_of, token_of};
 use cli_nearest::{nearest_code, nearest_column, nearest_table};

@@ -25,7 +25,7 @@ unfoldable pub use Rattle.metadata.specs.Starts.{start_of}
 pub use Rattle.checks.specs.Broken.{IsBroken, IsBrokenRow, IsFirstBroken}
 pub use Rattle.checks.specs.declared.cell_checks.BrokenRow.{BrokenRow}
 unfoldable pub use Rattle.opening.specs.Views.{row_count, user_of}
-pub use Rattle.cli_input.specs.Checked.{source_in, rules_before}
+pub use Rattle.cli_files.specs.Checked.{source_in, rules_before}
 pub use Rattle.cli_lines.specs.Lines.{Part, form_from, line_feed, part_letters, part_text}
 unfoldable pub use Rattle.cli_lines.specs.Lines.{line_from}
 pub use Rattle.cli_lines.specs.Printed.{Adds, AwaitsOrFails, Printed, Prints}

@@ -5,8 +5,8 @@ use Rattle.table_schema.specs.declared.table.TableId.{TableId}
 use Rattle.metadata.specs.Source.{Source}
 use Rattle.checks.specs.Broken.{IsFirstBroken}
 use Rattle.checks.specs.declared.cell_checks.BrokenRow.{BrokenRow}
-use Rattle.cli_input.specs.Checked.{rules_before, source_in}
-use Rattle.cli_input.specs.declared.opened.Input.{Input}
+use Rattle.cli_files.specs.Checked.{rules_before, source_in}
+use Rattle.cli_files.specs.declared.opened.Input.{Input}
 use Rattle.cli_lines.specs.Lines.{Part}
 use Rattle.cli_cells.specs.MetRows.{rows_before}
 use Rattle.cli_cells.specs.RowLines.{first_lines}

@@ -106,7 +106,7 @@ fn blob_cell(kind: SigKind, blob: &[u8]) -> CellRef<'_>
     requires { length blob.now < 2 ^ 29 }
     ensures { Shows (Signature kind) result (signature_at kind blob.now) }
 {
-    sig_values::laws::signatures_are_read();
+    sig_grammar::laws::signatures_are_read();
     if recognise(blob, kind) {
         CellRef::Sig(blob)
     } else {

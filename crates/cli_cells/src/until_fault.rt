@@ -2,7 +2,7 @@
 ghost use Rattle.std.specs.Prelude.{List, IfErr, OnErr, OnOk};
 ghost use Rattle.packed.specs.Rule.{FirstBroken};
 ghost use Rattle.metadata.specs.Metadata.{Metadata};
-ghost use Rattle.cli_input.specs.Checked.{IsModelOf, IsWhole, rules_of};
+ghost use Rattle.cli_files.specs.Checked.{IsModelOf, IsWhole, rules_of};
 ghost use Rattle.cli_lines.specs.Lines.{Part};
 ghost use Rattle.cli_lines.specs.Printed.{Prints};
 ghost use Rattle.cli_cells.specs.Before.{AreLinesBefore};
@@ -11,7 +11,7 @@ ghost use Rattle.cli_cells.specs.RowLines.{show_lines};
 use crate::met_rows::MetRows;
 use crate::row_lines::Names;
 use crate::table_lines::{print_show, print_tables};
-use cli_input::{Input, open, rows_of};
+use cli_files::{Input, open, rows_of};
 use cli_lines::Printer;
 use packed::Fault;
 use std::alloc::Global;

@@ -6,8 +6,8 @@ use Rattle.packed.specs.Rule.{FirstBroken}
 use Rattle.cli_faults.specs.Texts.{ok_text}
 use Rattle.cli_faults.specs.declared.failure.Failure.{Failure}
 use Rattle.cli_files.specs.Read.{IsRead, IsRefused}
-use Rattle.cli_input.specs.Checked.{IsWhole, rules_of}
-use Rattle.cli_input.specs.declared.opened.Input.TheVariants.{File}
+use Rattle.cli_files.specs.Checked.{IsWhole, rules_of}
+use Rattle.cli_files.specs.declared.opened.Input.TheVariants.{File}
 use Rattle.cli_sending.specs.Sent.{SendsPrefix}
 
 -- the line of a file that breaks no rule

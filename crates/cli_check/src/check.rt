@@ -7,7 +7,7 @@ ghost use Rattle.cli_sending.specs.Sent.{Sent};
 
 use cli_faults::{Failure, OK, Stop, printed};
 use cli_files::{Stopped, read_into, status};
-use cli_input::{Input as Given, open};
+use cli_files::{Input as Given, open};
 use cli_sending::finish;
 use std::alloc::{AllocError, Global};
 use std::io::Write;

@@ -8,7 +8,7 @@ pub use Rattle.pe.specs.Image.{Image}
 pub use Rattle.table_schema.specs.declared.table.TableId.TheVariants.{Field}
 pub use Rattle.metadata.specs.Metadata.{Metadata, cell_in}
 pub use Rattle.metadata.specs.Model.{IsModel}
-pub use Rattle.resources.specs.Resources.{here}
+pub use Rattle.file_ranges.specs.Resources.{here}
 pub use Rattle.cli_lines.specs.Printed.{Printed, Prints}
 pub use Rattle.cli_contents.specs.Contents.{content_with, contents_at}
 unfoldable pub use Rattle.cli_contents.specs.Contents.{contents_from}

@@ -3,9 +3,9 @@ use Rattle.std.specs.Prelude.{ℕ, ◌%◌, ◌==◌, if◌then◌else◌, List,
 use Rattle.table_schema.specs.declared.table.TableId.TheVariants.{MethodDef}
 use Rattle.pe.specs.Image.{Image}
 use Rattle.pe.specs.Offset.{offset_at}
+use Rattle.metadata.specs.Cell.{number_in}
 use Rattle.metadata.specs.Metadata.{Metadata, cell_in}
 use Rattle.file_ranges.specs.Bodies.{body_end}
-use Rattle.cli_declarations.specs.Parts.{number_of}
 use Rattle.cli_contents.specs.declared.bodies.Body.{Body}
 
 -- the body of a method that begins at an offset of a file (II.25.4)
@@ -19,4 +19,4 @@ body_at image row rva flags =
     if rva == 0 then None else (if flags % 4 == 0 then option_and_then (body_from image.bytes row) (offset_at image rva 1) else None)
 
 abbrev pub body_of : Image → Metadata → ℕ → Option Body
-body_of image model row = body_at image row (number_of (cell_in model MethodDef row 0)) (number_of (cell_in model MethodDef row 1))
+body_of image model row = body_at image row (number_in (cell_in model MethodDef row 0)) (number_in (cell_in model MethodDef row 1))

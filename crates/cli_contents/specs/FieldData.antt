@@ -2,22 +2,23 @@
 use Rattle.std.specs.Prelude.{ℕ, ◌+◌, nat_le, if◌then◌else◌, List, [], ◌∷◌, Option, None, Some, length, option_and_then}
 use Rattle.table_schema.specs.declared.table.TableId.{TableId}
 use Rattle.table_schema.specs.declared.table.TableId.TheVariants.{ClassLayout, Field, FieldRVA, TypeDef}
+use Rattle.table_schema.specs.Tokens.{token_at}
 use Rattle.sig_items.specs.declared.item.Item.{Item}
 use Rattle.sig_items.specs.declared.item.Item.TheVariants as item
 use Rattle.pe.specs.Image.{Image}
 use Rattle.pe.specs.Offset.{offset_at}
+use Rattle.metadata.specs.Cell.{number_in}
 use Rattle.metadata.specs.Metadata.{Metadata, cell_in, count_in}
 use Rattle.navigation.specs.Linked.{first_linked}
 use Rattle.navigation.specs.declared.links.Link.TheVariants as link_of
 use Rattle.attribute_constructors.specs.Signatures.{items_in}
 use Rattle.cli_values.specs.Constants.{size_of}
-use Rattle.cli_declarations.specs.Parts.{number_of, token_at}
 use Rattle.cli_contents.specs.declared.bodies.Body.{Body}
 
 -- ClassSize in a row of ClassLayout (II.22.8); 0 if there is no row
 abbrev pub layout_size : Metadata → Option ℕ → ℕ
 layout_size model None = 0
-layout_size model (Some row) = number_of (cell_in model ClassLayout row 1)
+layout_size model (Some row) = number_in (cell_in model ClassLayout row 1)
 
 -- that of a type of this file
 abbrev pub class_size : Metadata → TableId → ℕ → ℕ
@@ -51,7 +52,7 @@ data_in image field rva size = option_and_then (data_from image field size) (off
 -- the data of a field by its first row of FieldRVA, if there is one
 abbrev pub data_by : Image → Metadata → ℕ → Option ℕ → Option Body
 data_by image model field None = None
-data_by image model field (Some row) = data_in image field (number_of (cell_in model FieldRVA row 0)) (data_size model field)
+data_by image model field (Some row) = data_in image field (number_in (cell_in model FieldRVA row 0)) (data_size model field)
 
 abbrev pub data_of : Image → Metadata → ℕ → Option Body
 data_of image model field = data_by image model field (first_linked model link_of.FieldData (token_at Field field))

@@ -3,14 +3,15 @@ use Rattle.std.specs.Prelude.{◌≡◌, ℕ, nat_le, if◌then◌else◌, List,
 use Rattle.cli_header.specs.declared.header.CliHeader.{CliHeader}
 use Rattle.table_schema.specs.declared.table.TableId.TheVariants.{ManifestResource}
 use Rattle.table_schema.specs.declared.token.Token.{Token}
+use Rattle.table_schema.specs.Tokens.{token_at}
 use Rattle.pe.specs.Headers.{section_count}
 use Rattle.pe.specs.Image.{Image}
+use Rattle.metadata.specs.Cell.{text_in}
 use Rattle.metadata.specs.Lookups.{HasRow}
 use Rattle.metadata.specs.Metadata.{Metadata, cell_in}
-use Rattle.resources.specs.Resources.{HasByte, IsFirstWithByte}
+use Rattle.file_ranges.specs.Resources.{HasByte, IsFirstWithByte}
 use Rattle.cli_lines.specs.Lines.{Part, field, number, plain, text, token, word}
 use Rattle.cli_lines.specs.declared.names.Name.TheVariants as name
-use Rattle.cli_declarations.specs.Parts.{text_of, token_at}
 use Rattle.cli_contents.specs.Contents.{contents_at, name_in, table_of, word_for}
 use Rattle.cli_contents.specs.declared.bodies.Body.{Body}
 use Rattle.cli_contents.specs.declared.lines.Kind.{Kind}
@@ -25,7 +26,7 @@ content_line start size structure of named =
 
 -- what a row refers to, with the name of the row
 abbrev pub row_line : Kind → Metadata → Body → List Part
-row_line kind model of = content_line of.start of.size (word_for kind) (token_at (table_of kind) of.row) (text_of (cell_in model (table_of kind) of.row (name_in kind)))
+row_line kind model of = content_line of.start of.size (word_for kind) (token_at (table_of kind) of.row) (text_in (cell_in model (table_of kind) of.row (name_in kind)))
 
 -- the number of methods that are printed, and that of fields
 abbrev pub content_limit : ℕ
@@ -48,7 +49,7 @@ content_lines image model offset =
 
 abbrev pub resource_line : Metadata → ℕ → ℕ → List ℕ → List Part
 resource_line model row offset content =
-    content_line offset (length content) (codes "resource") (token_at ManifestResource row) (text_of (cell_in model ManifestResource row 2))
+    content_line offset (length content) (codes "resource") (token_at ManifestResource row) (text_in (cell_in model ManifestResource row 2))
 
 -- the line of the first resource whose content is in the file and has the byte at an offset of it; no line if there is none
 abbrev pub AreOfResources : List ℕ → CliHeader → Metadata → ℕ → List (List Part) → Type 0

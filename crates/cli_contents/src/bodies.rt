@@ -6,9 +6,8 @@ ghost use Rattle.opening.specs.Views.{row_count};
 ghost use Rattle.table_schema.specs.declared.table.TableId.TheVariants.{MethodDef};
 ghost use Rattle.cli_contents.specs.Bodies.{body_at, body_from, body_of};
 
-use cli_declarations::number;
 use file_ranges::body_end;
-use opening::{TableId, View};
+use opening::{TableId, View, number_or_zero};
 use pe::Pe;
 
 /// The cells of a method: its address, an RVA, and its ImplFlags (II.22.26).
@@ -65,7 +64,7 @@ pub(crate) fn body_of(pe: &Pe<'_>, view: &View<'_>, row: u32) -> Option<Body>
     ensures body { (model : Metadata) → IsModel view.now model → result ≡ body_of pe.now model row }
     ensures row { IfSome result (λ body. body.row ≡ row) }
 {
-    let rva = number(view, TableId::MethodDef, row, RVA);
-    let flags = number(view, TableId::MethodDef, row, IMPL_FLAGS);
+    let rva = number_or_zero(view, TableId::MethodDef, row, RVA);
+    let flags = number_or_zero(view, TableId::MethodDef, row, IMPL_FLAGS);
     body_at(pe, row, rva, flags)
 }

@@ -9,9 +9,8 @@ ghost use Rattle.cli_values.specs.Constants.{size_of};
 ghost use Rattle.cli_contents.specs.FieldData.{class_size, data_in, data_of, data_size, field_type, layout_size, type_size};
 
 use crate::bodies::Body;
-use cli_declarations::number;
 use navigation::{Link, Neighbours};
-use opening::{CellRef, TableId, Token, View};
+use opening::{CellRef, TableId, Token, View, number_or_zero};
 use pe::Pe;
 use sig_grammar::Element;
 use sig_items::{Item, Items};
@@ -49,7 +48,7 @@ fn layout_size(view: &View<'_>, layout: Option<u32>) -> u32
     ensures { (model : Metadata) → IsModel view.now model → result ≡ layout_size model layout }
 {
     match layout {
-        Some(row) => number(view, TableId::ClassLayout, row, CLASS_SIZE),
+        Some(row) => number_or_zero(view, TableId::ClassLayout, row, CLASS_SIZE),
         None => 0,
     }
 }
@@ -90,7 +89,7 @@ fn type_of_field(view: &View<'_>, field: u32) -> Option<Item>
     requires last { field ≤ row_count view.now Field }
     ensures { (model : Metadata) → IsModel view.now model → result ≡ field_type (items_in (cell_in model Field field 2)) }
 {
-    sig_values::laws::encoded_is_encodable();
+    sig_grammar::laws::encoded_is_encodable();
     sig_items::laws::items_are_encoded();
     match view.cell(TableId::Field, field, SIGNATURE) {
         CellRef::Sig(blob) => {
@@ -152,6 +151,6 @@ pub(crate) fn data_of(pe: &Pe<'_>, source: &Neighbours<'_, '_>, field: u32) -> O
     // The table has at most 0xFFFFFF rows.
     let _count = source.view.count(table);
     let row = source.first_linked(Link::FieldData, Token { table, row: field })?;
-    let rva = number(source.view, TableId::FieldRVA, row, RVA);
+    let rva = number_or_zero(source.view, TableId::FieldRVA, row, RVA);
     data_in(pe, field, rva, data_size(source, field))
 }

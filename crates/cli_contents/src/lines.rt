@@ -12,13 +12,12 @@ ghost use Rattle.cli_contents.specs.Lines.{content_line, content_lines, content_
 
 use crate::bodies::{Body, body_of};
 use crate::field_data::data_of;
-use cli_declarations::text;
 use cli_lines::Part::{Field, Word};
 use cli_lines::Value::{self, Number, Plain, Text};
 use cli_lines::{Name, Printer};
 use file_ranges::Headers;
 use navigation::Neighbours;
-use opening::{TableId, Token, View};
+use opening::{TableId, Token, View, text_or_empty};
 use pe::{Pe, read_pe};
 use std::alloc::Global;
 use std::io::Write;
@@ -121,7 +120,7 @@ fn print_row<W: Write>(view: &View<'_>, kind: Kind, of: Body, out: &mut Printer<
 {
     let (table, cell, word) = shape(kind);
     let row = of.row;
-    let name = text(view, table, row, cell);
+    let name = text_or_empty(view, table, row, cell);
     let (start, size) = (of.start as u64, of.size as u64);
     print_content(start, size, word, Token { table, row }, name, out);
 }

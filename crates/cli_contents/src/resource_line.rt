@@ -7,16 +7,15 @@ ghost use Rattle.cli_contents.specs.Lines.{AreOfResources, resource_line};
 ghost use Rattle.metadata.specs.Metadata.{Metadata};
 ghost use Rattle.metadata.specs.Model.{IsModel, IsModelOfFile};
 ghost use Rattle.opening.specs.Views.{row_count};
-ghost use Rattle.resources.specs.Resources.{IsDirectoryOf, IsLocation, here};
+ghost use Rattle.file_ranges.specs.Resources.{IsDirectoryOf, IsLocation, here};
 ghost use Rattle.table_schema.specs.declared.table.TableId.TheVariants.{ManifestResource};
 
 use crate::lines::print_content;
-use cli_declarations::text;
 use cli_header::read_cli;
 use cli_lines::Printer;
-use opening::{TableId, Token, View};
+use opening::{TableId, Token, View, text_or_empty};
 use pe::read_pe;
-use resources::{Directory, Location, NotWithin, directory_of, location_of, resource_at};
+use file_ranges::{Directory, Location, NotWithin, directory_of, location_of, resource_at};
 use std::io::Write;
 
 /// The index of the cell with the name of a resource (II.22.24).
@@ -42,7 +41,7 @@ fn print_located<W: Write>(
                 table: TableId::ManifestResource,
                 row,
             };
-            let name = text(view, resource.table, resource.row, NAME);
+            let name = text_or_empty(view, resource.table, resource.row, NAME);
             let size = content.bytes.len() as u64;
             print_content(content.offset, size, "resource", resource, name, out);
         }

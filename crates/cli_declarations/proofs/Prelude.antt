@@ -10,14 +10,14 @@ pub use Rattle.table_schema.specs.declared.column.ColumnKind.{ColumnKind}
 pub use Rattle.table_schema.specs.declared.table.TableId.{TableId}
 pub use Rattle.table_schema.specs.declared.table.TableId.TheVariants.{CustomAttribute, MethodDef, Property, Param}
 pub use Rattle.table_schema.specs.declared.token.Token.{Token}
-pub use Rattle.metadata.specs.Cell.{Cell}
+pub use Rattle.metadata.specs.Cell.{Cell, number_in}
 pub use Rattle.metadata.specs.Lookups.{HasRow}
 pub use Rattle.metadata.specs.Metadata.{Metadata, cell_in, count_in}
 pub use Rattle.reading.specs.Shown.{ShowsSignature, Shows}
 unfoldable pub use Rattle.opening.specs.Views.{row_count}
 pub use Rattle.full_names.proofs.PieceLemmas.{method_in, property_in}
 pub use Rattle.type_heads.specs.FlagWords.{shown_word, word_text, words_text, words_of}
-pub use Rattle.cli_declarations.specs.Parts.{Part, IsPartText, cut_mark, text_limit, bytes_value, decoded_value, number_of, bytes_text, guid_text_in_comment, key_text, quoted_text, IsReferenceIn, IsReferred, has_reference, IsDeclarationAt, IsSignatureOf}
+pub use Rattle.cli_declarations.specs.Parts.{Part, IsPartText, cut_mark, text_limit, bytes_value, decoded_value, bytes_text, guid_text_in_comment, key_text, quoted_text, IsReferenceIn, IsReferred, has_reference, IsDeclarationAt, IsSignatureOf}
 unfoldable pub use Rattle.cli_declarations.specs.Parts.{cut_text}
 pub use Rattle.cli_declarations.specs.Shown.{AreWithin, IsWithin, shown}
 pub use Rattle.cli_declarations.specs.Texts.{AreTexts, Begins, Ends, Gains}

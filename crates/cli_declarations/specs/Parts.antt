@@ -3,16 +3,15 @@ use Rattle.std.specs.Prelude.{◌≡◌, ℕ, ◌%◌, ◌==◌, Bool, true, fal
 use Rattle.table_schema.specs.declared.table.TableId.{TableId}
 use Rattle.table_schema.specs.declared.table.TableId.TheVariants.{MethodDef, Property, Constant, ClassLayout, FieldLayout, FieldRVA, FieldMarshal, Event, Field, MemberRef, Param, TypeDef, CustomAttribute}
 use Rattle.table_schema.specs.declared.token.Token.{Token}
-use Rattle.table_schema.specs.Tokens.{hexadecimal, token_text}
+use Rattle.table_schema.specs.Tokens.{hexadecimal, token_at, token_text}
 use Rattle.sig_grammar.specs.Syntax.{Method, Slot, method_body, property}
 use Rattle.sig_text.specs.Declares.{as_method}
 use Rattle.sig_text.specs.SignatureText.{text_of as pieces_of_signature}
-use Rattle.metadata.specs.Cell.{Cell, Number, Text, Bytes, Guid, Sig}
+use Rattle.metadata.specs.Cell.{Cell, Sig, number_in, text_in, bytes_in, guid_in, reference_in}
 use Rattle.attribute_values.specs.declared.types.ArgumentType.{ArgumentType}
 use Rattle.attribute_values.specs.Values.{AttributeValue}
 use Rattle.attribute_values.specs.Parts.{IsAttributeValue}
-use Rattle.metadata_source.specs.declared.member_lists.MemberList.TheVariants as list
-use Rattle.navigation.specs.Cells.{reference_in}
+use Rattle.metadata.specs.declared.member_lists.MemberList.TheVariants as list
 use Rattle.navigation.specs.Owners.{Owns}
 use Rattle.attribute_constructors.specs.Params.{params_of_constructor}
 use Rattle.attribute_text.specs.Texts.{value_text as attribute_value_text}
@@ -75,27 +74,6 @@ pub data Part : Type 0 where
   linked_by : Link → Part
   -- unless no row refers to the row: a word, what the rows that refer to it are in its head, with commas between them, and a word
   listed : Link → List ℕ → List ℕ → Part
-
--- the token of a row
-abbrev pub token_at : TableId → ℕ → Token
-token_at table row = record { table = table; row = row }
-
--- the values of cells
-abbrev pub number_of : Cell → ℕ
-number_of (Number n) = n
-number_of _ = 0
-
-abbrev pub text_of : Cell → List ℕ
-text_of (Text bytes) = bytes
-text_of _ = []
-
-abbrev pub bytes_of : Cell → List ℕ
-bytes_of (Bytes bytes) = bytes
-bytes_of _ = []
-
-abbrev pub guid_of : Cell → Option (List ℕ)
-guid_of (Guid guid) = guid
-guid_of _ = None
 
 -- the number of bytes of a name, a signature or another text of the file that are printed
 abbrev pub text_limit : ℕ
@@ -167,7 +145,7 @@ IsReferred model false token out = out ≡ token_text token
 abbrev pub IsParamText : Metadata → ℕ → List ℕ → Type 0
 IsParamText model row out =
     (method : ℕ) × Owns model list.Params method row × (reference : List ℕ) × IsReferred model true (token_at MethodDef method) reference
-    × (out ≡ codes "param [" ++ (digits (number_of (cell_in model Param row 1)) ++ (codes "] of " ++ reference)))
+    × (out ≡ codes "param [" ++ (digits (number_in (cell_in model Param row 1)) ++ (codes "] of " ++ reference)))
 
 -- the reference to a row by its table: to a parameter if there is one, or to any other row
 abbrev pub IsReferenceIn : Metadata → TableId → Token → List ℕ → Type 0
@@ -211,7 +189,7 @@ IsValueText (Some params) blob out =
 -- the text of the value of the attribute in a row
 abbrev pub IsAttributeText : Metadata → ℕ → List ℕ → Type 0
 IsAttributeText model row out =
-    let blob = bytes_of (cell_in model CustomAttribute row 2) in
+    let blob = bytes_in (cell_in model CustomAttribute row 2) in
     IsValueText (params_for model row blob) blob out
 
 -- what a row is: a method, a property or an attribute; any other has no text
@@ -247,11 +225,11 @@ marshal_text blob = codes " marshal(" ++ marshal_content (descriptor_in blob) bl
 
 -- what a row of a table adds to the row that it refers to
 abbrev pub referring_text : Metadata → TableId → ℕ → List ℕ
-referring_text model Constant row = value_text (number_of (cell_in model Constant row 0)) (bytes_of (cell_in model Constant row 2))
-referring_text model ClassLayout row = layout_text (number_of (cell_in model ClassLayout row 0)) (number_of (cell_in model ClassLayout row 1))
-referring_text model FieldLayout row = offset_text (number_of (cell_in model FieldLayout row 0))
-referring_text model FieldRVA row = address_text (number_of (cell_in model FieldRVA row 0))
-referring_text model FieldMarshal row = marshal_text (bytes_of (cell_in model FieldMarshal row 1))
+referring_text model Constant row = value_text (number_in (cell_in model Constant row 0)) (bytes_in (cell_in model Constant row 2))
+referring_text model ClassLayout row = layout_text (number_in (cell_in model ClassLayout row 0)) (number_in (cell_in model ClassLayout row 1))
+referring_text model FieldLayout row = offset_text (number_in (cell_in model FieldLayout row 0))
+referring_text model FieldRVA row = address_text (number_in (cell_in model FieldRVA row 0))
+referring_text model FieldMarshal row = marshal_text (bytes_in (cell_in model FieldMarshal row 1))
 referring_text model _ row = []
 
 -- that of the first row that refers to a row, if there is one: if there are several, the others have no text
@@ -273,19 +251,19 @@ guid_text_in_comment (Some guid) = codes " /* {" ++ guid_text guid ++ codes "} *
 -- the text of a part of the line of a row
 abbrev pub IsPartText : Metadata → TableId → ℕ → Part → List ℕ → Type 0
 IsPartText model table row (word of) out = out ≡ of
-IsPartText model table row (flags of cell) out = out ≡ words_text (number_of (cell_in model table row cell)) (words_of of)
-IsPartText model table row (text cell) out = out ≡ cut_text (name_text Dotted (text_of (cell_in model table row cell)))
-IsPartText model table row (number cell) out = out ≡ digits (number_of (cell_in model table row cell))
-IsPartText model table row (quoted_after before cell) out = out ≡ quoted_text before (text_of (cell_in model table row cell))
-IsPartText model table row (bytes_after before cell) out = out ≡ bytes_text before (bytes_of (cell_in model table row cell))
-IsPartText model table row (key of cell) out = out ≡ key_text (number_of (cell_in model table row of)) (bytes_of (cell_in model table row cell))
-IsPartText model table row (first_bytes cell) out = out ≡ value_bytes_text (bytes_of (cell_in model table row cell))
+IsPartText model table row (flags of cell) out = out ≡ words_text (number_in (cell_in model table row cell)) (words_of of)
+IsPartText model table row (text cell) out = out ≡ cut_text (name_text Dotted (text_in (cell_in model table row cell)))
+IsPartText model table row (number cell) out = out ≡ digits (number_in (cell_in model table row cell))
+IsPartText model table row (quoted_after before cell) out = out ≡ quoted_text before (text_in (cell_in model table row cell))
+IsPartText model table row (bytes_after before cell) out = out ≡ bytes_text before (bytes_in (cell_in model table row cell))
+IsPartText model table row (key of cell) out = out ≡ key_text (number_in (cell_in model table row of)) (bytes_in (cell_in model table row cell))
+IsPartText model table row (first_bytes cell) out = out ≡ value_bytes_text (bytes_in (cell_in model table row cell))
 IsPartText model table row (signature cell) out = IsSignatureOf model (cell_in model table row cell) out
 IsPartText model table row declaration out = IsDeclarationAt model table row out
 IsPartText model table row (own how) out = IsNaming how model (token_at table row) out
 IsPartText model table row (row_after before how cell) out = IsAfter model before how (reference_in (cell_in model table row cell)) out
-IsPartText model table row (eight_digits cell) out = out ≡ hexadecimal 8 (number_of (cell_in model table row cell))
-IsPartText model table row (guid_comment cell) out = out ≡ guid_text_in_comment (guid_of (cell_in model table row cell))
-IsPartText model table row (action cell) out = out ≡ action_text (number_of (cell_in model table row cell))
+IsPartText model table row (eight_digits cell) out = out ≡ hexadecimal 8 (number_in (cell_in model table row cell))
+IsPartText model table row (guid_comment cell) out = out ≡ guid_text_in_comment (guid_in (cell_in model table row cell))
+IsPartText model table row (action cell) out = out ≡ action_text (number_in (cell_in model table row cell))
 IsPartText model table row (linked_by of) out = out ≡ linked_text model of (first_linked model of (token_at table row))
 IsPartText model table row (listed of before after) out = IsHeadList model of before after (linked model of (token_at table row)) out

@@ -11,7 +11,6 @@ ghost use Rattle.opening.specs.Views.{row_count};
 ghost use Rattle.cli_declarations.specs.Parts.{IsAttributeText, IsDeclarationAt, IsSignatureOf, IsValueText, bytes_value, decoded_value, params_for};
 ghost use Rattle.cli_declarations.specs.Texts.{Gains};
 
-use crate::cell_values::bytes;
 use crate::declared::{Declared, TextLimit, begin_text, end_text, push_plain};
 use attribute_constructors::{Params, constructor, params_of};
 use attribute_text::write_value;
@@ -20,7 +19,7 @@ use cli_values::push_value_bytes;
 use declarations::{write_method_of, write_property_within, write_signature_text};
 use metadata_source::kind_of;
 use navigation::Neighbours;
-use opening::{CellRef, TableId, View};
+use opening::{CellRef, TableId, View, bytes_or_empty};
 use std::alloc::AllocError;
 use table_schema::ColumnKind;
 
@@ -116,7 +115,7 @@ fn push_attribute(
     ensures { (model : Metadata) → IsModel source.now.view.now model
         → OnOk result (Gains (IsAttributeText model row) (string_bytes declared.old.text) (string_bytes declared.new.text)) }
 {
-    let blob = bytes(source.view, TableId::CustomAttribute, row, VALUE);
+    let blob = bytes_or_empty(source.view, TableId::CustomAttribute, row, VALUE);
     match params_for(source, row, blob) {
         Some(params) => push_value(params.as_slice(), blob, declared),
         None => push_bytes_value(blob, declared),

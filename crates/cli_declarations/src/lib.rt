@@ -1,8 +1,7 @@
 //! The declaration of a row of an assembly, in the notation of ILAsm (ECMA-335 II.5 to II.22).
 //!
 //! [`declare`] makes a text the declaration of a row, [`name_row`] its name, and [`name_and_declare`] both. `specs/Layouts.antt` says what the
-//! declaration of a row is, as a list of parts, and `specs/Parts.antt` what the text of a part is. [`number`], [`text`],
-//! [`bytes`] and [`guid`] are the values of cells.
+//! declaration of a row is, as a list of parts, and `specs/Parts.antt` what the text of a part is.
 //!
 //! ```text
 //! .assembly Hello { .hash algorithm 0x00008004 .ver 1:0:0:0 }
@@ -12,13 +11,11 @@
 #![tactic(auto)]
 
 mod blob_sink;
-mod cell_values;
 mod declaration;
 mod declared;
 mod layouts;
 mod linked;
 mod pieces;
 
-pub use cell_values::{bytes, guid, number, text};
 pub use declaration::{declare, is_declared_in, name_and_declare, name_row};
 pub use declared::Declared;

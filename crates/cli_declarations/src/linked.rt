@@ -9,13 +9,12 @@ ghost use Rattle.opening.specs.Views.{row_count};
 ghost use Rattle.cli_declarations.specs.Parts.{IsHeadList, address_text, cut_text, layout_text, linked_text, marshal_content, marshal_text, offset_text, referring_text, value_text};
 ghost use Rattle.cli_declarations.specs.Texts.{Gains};
 
-use crate::cell_values::{bytes, number};
 use crate::declared::{Declared, TextLimit, begin_text, end_text, push_plain};
 use cli_values::{push_constant, push_decimal, push_eight_digits, push_value_bytes};
 use declarations::{descriptor_in, write_descriptor};
 use marshal_descriptors::Descriptor;
 use navigation::{Link, Neighbours};
-use opening::{TableId, Token, View};
+use opening::{TableId, Token, View, bytes_or_empty, number_or_zero};
 use std::alloc::AllocError;
 use type_heads::write_items;
 
@@ -99,17 +98,27 @@ fn push_referring(
 {
     match table {
         TableId::Constant => {
-            let code = number(view, TableId::Constant, row, 0);
-            push_value(code, bytes(view, TableId::Constant, row, 2), declared)
+            let code = number_or_zero(view, TableId::Constant, row, 0);
+            let value = bytes_or_empty(view, TableId::Constant, row, 2);
+            push_value(code, value, declared)
         }
         TableId::ClassLayout => {
-            let packing = number(view, TableId::ClassLayout, row, 0);
-            let size = number(view, TableId::ClassLayout, row, 1);
+            let packing = number_or_zero(view, TableId::ClassLayout, row, 0);
+            let size = number_or_zero(view, TableId::ClassLayout, row, 1);
             push_layout(packing, size, declared)
         }
-        TableId::FieldLayout => push_offset(number(view, TableId::FieldLayout, row, 0), declared),
-        TableId::FieldRVA => push_address(number(view, TableId::FieldRVA, row, 0), declared),
-        TableId::FieldMarshal => push_marshal(bytes(view, TableId::FieldMarshal, row, 1), declared),
+        TableId::FieldLayout => {
+            let offset = number_or_zero(view, TableId::FieldLayout, row, 0);
+            push_offset(offset, declared)
+        }
+        TableId::FieldRVA => {
+            let address = number_or_zero(view, TableId::FieldRVA, row, 0);
+            push_address(address, declared)
+        }
+        TableId::FieldMarshal => {
+            let blob = bytes_or_empty(view, TableId::FieldMarshal, row, 1);
+            push_marshal(blob, declared)
+        }
         _ => Ok(()),
     }
 }

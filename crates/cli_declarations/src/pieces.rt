@@ -11,7 +11,6 @@ ghost use Rattle.cli_declarations.specs.Shown.{IsWithin, shown};
 ghost use Rattle.cli_declarations.specs.Texts.{Gains};
 
 use crate::blob_sink::{push_declaration, push_signature};
-use crate::cell_values::{bytes, guid, number, reference, text};
 use crate::declared::{
     Declared, TextLimit, begin_text, end_text, push_plain, push_string, push_text,
 };
@@ -24,7 +23,9 @@ use declarations::write_reference;
 use full_names::write_row_name;
 use heap_entries::guid_text;
 use navigation::{Neighbours, method_of_param};
-use opening::{TableId, Token};
+use opening::{
+    TableId, Token, bytes_or_empty, guid_or_null, number_or_zero, reference_or_null, text_or_empty,
+};
 use std::alloc::AllocError;
 use std::fmt::Write;
 use type_heads::{FlagTable, FlagWord, words_of};
@@ -157,7 +158,7 @@ fn push_param(
         table: TableId::MethodDef,
         row: method_of_param(source, token.row),
     };
-    let position = number(source.view, TableId::Param, token.row, SEQUENCE);
+    let position = number_or_zero(source.view, TableId::Param, token.row, SEQUENCE);
     push_plain("param [", declared)?;
     push_decimal(position as u64, &mut declared.text)?;
     push_plain("] of ", declared)?;
@@ -248,35 +249,41 @@ pub(crate) fn push_piece(
     let (view, token) = (source.view, Token { table, row });
     match piece {
         Piece::Word(word) => push_plain(word, declared),
-        Piece::Flags(of, cell) => push_words(number(view, table, row, cell), of, declared),
-        Piece::Text(cell) => push_text(text(view, table, row, cell), declared),
+        Piece::Flags(of, cell) => push_words(number_or_zero(view, table, row, cell), of, declared),
+        Piece::Text(cell) => push_text(text_or_empty(view, table, row, cell), declared),
         Piece::Number(cell) => {
-            let number = number(view, table, row, cell);
+            let number = number_or_zero(view, table, row, cell);
             push_decimal(number as u64, &mut declared.text)
         }
-        Piece::QuotedAfter(word, cell) => push_quoted(word, text(view, table, row, cell), declared),
-        Piece::BytesAfter(word, cell) => push_bytes(word, bytes(view, table, row, cell), declared),
+        Piece::QuotedAfter(word, cell) => {
+            push_quoted(word, text_or_empty(view, table, row, cell), declared)
+        }
+        Piece::BytesAfter(word, cell) => {
+            push_bytes(word, bytes_or_empty(view, table, row, cell), declared)
+        }
         Piece::Key(flags, cell) => {
-            let flags = number(view, table, row, flags);
-            push_key(flags, bytes(view, table, row, cell), declared)
+            let flags = number_or_zero(view, table, row, flags);
+            push_key(flags, bytes_or_empty(view, table, row, cell), declared)
         }
         Piece::FirstBytes(cell) => {
-            push_value_bytes(bytes(view, table, row, cell), &mut declared.text)
+            push_value_bytes(bytes_or_empty(view, table, row, cell), &mut declared.text)
         }
         Piece::Signature(cell) => push_signature(view, table, row, cell, declared),
         Piece::Declaration => push_declaration(source, table, row, declared),
         Piece::Own(how) => push_row(source, how, token, declared),
         Piece::After(word, how, cell) => {
-            let of = reference(view, table, row, cell);
+            let of = reference_or_null(view, table, row, cell);
             push_after(source, word, how, of, declared)
         }
         Piece::EightDigits(cell) => {
-            let number = number(view, table, row, cell);
+            let number = number_or_zero(view, table, row, cell);
             push_eight_digits(number as u64, &mut declared.text)
         }
-        Piece::GuidComment(cell) => push_guid_comment(guid(view, table, row, cell), declared),
+        Piece::GuidComment(cell) => {
+            push_guid_comment(guid_or_null(view, table, row, cell), declared)
+        }
         Piece::Action(cell) => {
-            let action = number(view, table, row, cell);
+            let action = number_or_zero(view, table, row, cell);
             push_action(action, &mut declared.text)
         }
         Piece::Linked(link) => push_linked(source, link, token, declared),

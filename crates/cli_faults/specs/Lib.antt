@@ -1,4 +1,3 @@
-pub mod Codes
 pub mod Escaped
 pub mod FileErrors
 pub mod Hexadecimal

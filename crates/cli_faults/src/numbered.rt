@@ -1,7 +1,6 @@
 ghost use Rattle.std.specs.Prelude.{◌≡◌, IfSome, Some, length};
-ghost use Rattle.packed.specs.Codes.{number_of_code};
+ghost use Rattle.packed.specs.Codes.{codes_in_order, number_of_code};
 ghost use Rattle.packed.specs.declared.code.FaultCode.{FaultCode as RuleCode};
-ghost use Rattle.cli_faults.specs.Codes.{codes_in_order};
 
 use crate::rules::each_rule;
 use packed::FaultCode;

@@ -3,8 +3,8 @@ use Rattle.std.specs.Prelude.{◌==◌, ◌&&◌, ℕ, Bool, List, ◌++◌, nat
 use Rattle.std.specs.Str.{bytes_eq}
 use Rattle.packed.specs.Codes.{number_of_code}
 use Rattle.packed.specs.declared.code.FaultCode.TheVariants.{DosHeader, RootSignature}
-use Rattle.cli_input.specs.declared.opened.Input.{Input}
-use Rattle.cli_input.specs.declared.opened.Input.TheVariants.{BareRoot, File}
+use Rattle.cli_files.specs.declared.opened.Input.{Input}
+use Rattle.cli_files.specs.declared.opened.Input.TheVariants.{BareRoot, File}
 use Rattle.cli_faults.specs.declared.failure.Failure.TheVariants.{Fault}
 use Rattle.cli_faults.specs.declared.stop.Stop.{Stop}
 use Rattle.cli_faults.specs.declared.stop.Stop.TheVariants.{Failed, NothingAt}

@@ -1,3 +1,6 @@
+pub mod Checked
+pub mod Heads
 pub mod Hints
 pub mod Read
 pub mod Stopped
+pub mod Walks

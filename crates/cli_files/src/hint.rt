@@ -3,7 +3,7 @@ ghost use Rattle.std.specs.Prelude.{◌≡◌, Some};
 ghost use Rattle.cli_files.specs.Hints.{hint_for, hint_for_fault, hint_for_offset, hint_text, signature_of};
 
 use cli_faults::{Failure, Stop};
-use cli_input::Input;
+use crate::Input;
 use packed::{Fault, FaultCode};
 use std::fmt;
 

@@ -1,4 +1,4 @@
-//! Reads the files of a run of `clim`, and reports why it stopped.
+//! The files of a run of `clim`: they are read and opened, directories are walked, and it is reported why a run stopped.
 //!
 //! [`read_file`] reads a file of at most 2^30 bytes, and [`read_into`] reads it into a buffer. A [`Stopped`] says why a run
 //! stopped, with a [`Hint`] if there is one; [`status`] reports it and returns the exit code.
@@ -7,14 +7,40 @@
 //! let bytes = read_file(&rt, "one_module.dll")?;
 //! status(rt.alloc(), Err(Stopped::at(stop, None, Input::File, &bytes)), &mut err) // 1 if `stop` is a fault, which `err` then has
 //! ```
+//!
+//! A [`Walk`] goes over what is in a directory and in the directories in it, and says of each what it is, as a [`Visit`].
+//! [`read_if_like`] reads a file, if its first bytes are those of the kind that is asked for. [`refuse`] reports what is [`Unread`].
+//!
+//! ```text
+//! let mut walk = Walk::over(&rt, "lib")?;
+//! walk.next(&rt) // Some(Visit::File("lib/one_module.dll", 1024))
+//! ```
+//!
+//! [`open`] opens the bytes of a file, or of a metadata root alone, if they break no rule. [`heads_of`] reads only their headers. [`rows_of`] reads the rows of bytes
+//! that break a rule for cells or a later one. None of them allocates.
+//!
+//! ```text
+//! let view = open(&bytes, Input::File)?;
+//! let (header, root) = heads_of(&bytes, Input::BareRoot)?; // no CLI header
+//! ```
 #![tactic(auto)]
 
+mod heads;
 mod hint;
 mod input;
+mod opened;
+mod source;
 mod stopped;
+mod unread;
+mod walk;
 mod words;
 
+pub use heads::{heads_of, root_of};
 pub use hint::{Hint, signature_of};
 pub use input::{LIMIT, STANDARD_INPUT, read_file, read_into};
+pub use opened::{Input, open, open_within};
+pub use source::rows_of;
 pub use stopped::{Stopped, out_of_memory, status};
+pub use unread::{Unread, refuse};
+pub use walk::{Visit, Walk, read_if_like};
 pub use words::refuse_words;

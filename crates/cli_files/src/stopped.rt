@@ -8,7 +8,7 @@ ghost use Rattle.cli_faults.specs.declared.stop.Stop.TheVariants.{Failed};
 
 use crate::hint::{Hint, hint_of};
 use cli_faults::{Escaped, Failure, Reason, Stop};
-use cli_input::Input;
+use crate::Input;
 use cli_sending::send_message;
 use std::alloc::Global;
 use std::io::Write;

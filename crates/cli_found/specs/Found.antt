@@ -21,8 +21,8 @@ use Rattle.table_schema.specs.Tables.{table_name}
 use Rattle.table_schema.specs.Tokens.{hexadecimal}
 use Rattle.schema.specs.declared.located_cells.TableCell.{TableCell}
 use Rattle.metadata.specs.Source.{Source, number_of, rows_in}
-use Rattle.cli_input.specs.Checked.{rules_before, source_in}
-use Rattle.cli_input.specs.declared.opened.Input.{Input}
+use Rattle.cli_files.specs.Checked.{rules_before, source_in}
+use Rattle.cli_files.specs.declared.opened.Input.{Input}
 use Rattle.cli_lines.specs.declared.names.Name.{Name}
 use Rattle.cli_lines.specs.declared.names.Name.TheVariants as name
 use Rattle.cli_lines.specs.Lines.{Part, Value, field, member, number, plain, word}

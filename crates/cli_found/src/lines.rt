@@ -11,7 +11,7 @@ ghost use Rattle.cli_found.specs.Kept.{IsFieldSize, lead_of, lead_text, shown_fo
 
 use crate::limits::{Limit, coded_of, kind_of, limit_of, number_in, row_of, tag_of};
 use cli_faults::FaultCode;
-use cli_input::{Input, rows_of};
+use cli_files::{Input, rows_of};
 use cli_lines::Part::{Field, Member, Word};
 use cli_lines::Value::Number;
 use cli_lines::{Name, Printer};

@@ -8,9 +8,8 @@ use Rattle.table_schema.specs.Tables.{table_number}
 use Rattle.attribute_values.specs.Items.{Item, fixed, entry, named_count, named}
 use Rattle.attribute_constructors.specs.Constructors.{type_of}
 use Rattle.attribute_constructors.specs.Params.{params_of_constructor}
+use Rattle.metadata.specs.Cell.{reference_in, text_in, bytes_in}
 use Rattle.metadata.specs.Metadata.{Metadata, cell_in, count_in}
-use Rattle.navigation.specs.Cells.{reference_in}
-use Rattle.cli_declarations.specs.Parts.{bytes_of, text_of}
 use Rattle.cli_lines.specs.declared.names.Name.TheVariants as name
 use Rattle.cli_lines.specs.Lines as line
 use Rattle.cli_lines.specs.Lines.{Part, Value, word, field, note, member, plain}
@@ -56,7 +55,7 @@ has_types _ = false
 
 abbrev pub lines_of_type : Metadata → TableId → ℕ → List Item → List (List Part)
 lines_of_type model table row items =
-    if has_types table then attribute_line (text_of (cell_in model table row 2)) (text_of (cell_in model table row 1)) items ∷ [] else []
+    if has_types table then attribute_line (text_in (cell_in model table row 2)) (text_in (cell_in model table row 1)) items ∷ [] else []
 
 abbrev pub lines_of_items : Metadata → Option Token → Option (List Item) → List (List Part)
 lines_of_items model (Some class) (Some items) = lines_of_type model class.table class.row items
@@ -78,7 +77,7 @@ is_own model row = is_assembly (reference_in (cell_in model CustomAttribute row 
 -- The line of an attribute. Left out are those whose constructor takes no arguments or has no types here, those whose type is no
 -- row of TypeDef or TypeRef, and those whose value is too long, does not fit the constructor, or has an argument that is no string.
 unfoldable pub attribute_lines : Metadata → ℕ → List (List Part)
-attribute_lines model row = lines_of_value model (reference_in (cell_in model CustomAttribute row 1)) (bytes_of (cell_in model CustomAttribute row 2))
+attribute_lines model row = lines_of_value model (reference_in (cell_in model CustomAttribute row 1)) (bytes_in (cell_in model CustomAttribute row 2))
 
 -- the attributes of the assembly in the rows after the first ones, in order
 unfoldable pub own_after : Metadata → ℕ → ℕ → List ℕ

@@ -5,11 +5,11 @@ use Rattle.packed.specs.Offsets.{part}
 use Rattle.pe.specs.Headers.{lfanew, magic, wider}
 use Rattle.cli_header.specs.declared.header.CliHeader.{CliHeader}
 use Rattle.table_schema.specs.declared.table.TableId.TheVariants.{MethodDef}
+use Rattle.metadata.specs.Cell.{text_in}
 use Rattle.metadata.specs.Metadata.{Metadata, cell_in, count_in}
 use Rattle.metadata.specs.Model.{has_native_entry_point}
 use Rattle.cli_lines.specs.declared.names.Name.TheVariants as name
 use Rattle.cli_lines.specs.Lines.{Part, word, field, number, hex, plain, text}
-use Rattle.cli_declarations.specs.Parts.{text_of}
 
 -- the MS-DOS header, the PE signature, the PE file header and fifteen data directories are in the file; for private clauses
 abbrev pub HasRoom : List ℕ → Type 0
@@ -55,7 +55,7 @@ flags_line flags =
 -- the name of a method (II.22.26), and nothing if there is no such row
 unfoldable pub method_name : ℕ → Metadata → List ℕ
 method_name row model =
-    if nat_le 1 row && nat_le row (count_in model MethodDef) then text_of (cell_in model MethodDef row 3) else []
+    if nat_le 1 row && nat_le row (count_in model MethodDef) then text_in (cell_in model MethodDef row 3) else []
 
 -- the name of the method that is the entry point, unless this is native, or the token of a file
 abbrev pub entry_name : CliHeader → Metadata → List ℕ

@@ -5,12 +5,11 @@ use Rattle.hex.specs.Hex.{encode_lower}
 use Rattle.sha1.specs.Sha1.{sha1}
 use Rattle.table_schema.specs.declared.table.TableId.{TableId}
 use Rattle.table_schema.specs.declared.table.TableId.TheVariants as table
-use Rattle.metadata.specs.Cell.{Cell}
+use Rattle.metadata.specs.Cell.{Cell, number_in, text_in, bytes_in}
 use Rattle.metadata.specs.Metadata.{Metadata, cell_in, count_in}
 use Rattle.cli_lines.specs.declared.names.Name.{Name}
 use Rattle.cli_lines.specs.declared.names.Name.TheVariants as name
 use Rattle.cli_lines.specs.Lines.{Part, word, field, member, note, number, plain, text}
-use Rattle.cli_declarations.specs.Parts.{bytes_of, number_of, text_of}
 use Rattle.cli_info.specs.DisplayNames.{display_name}
 use Rattle.cli_info.specs.declared.identities.Kind.{Kind}
 use Rattle.cli_info.specs.declared.identities.Kind.TheVariants.{Assembly, Reference}
@@ -62,11 +61,11 @@ shown_part of = note (plain (display_name of))
 -- the identity in these cells of a row, in this order: four numbers of the version, flags, key, name and culture
 abbrev pub identity_in : Kind → (ℕ → Cell) → List Part
 identity_in kind cell =
-    word (word_of kind) ∷ member (name_of kind) (text (text_of (cell 6))) ∷ shown_part (text_of (cell 6))
-    ∷ word (codes ", Version=") ∷ field name.Major (number (number_of (cell 0))) ∷ word (codes ".") ∷ field name.Minor (number (number_of (cell 1)))
-    ∷ word (codes ".") ∷ field name.Build (number (number_of (cell 2))) ∷ word (codes ".") ∷ field name.Revision (number (number_of (cell 3)))
-    ∷ word (codes ", Culture=") ∷ member name.Culture (text (culture_text (text_of (cell 7)))) ∷ shown_part (culture_text (text_of (cell 7)))
-    ∷ word (codes ", PublicKeyToken=") ∷ field name.Token (plain (token_text kind (number_of (cell 4)) (bytes_of (cell 5)))) ∷ []
+    word (word_of kind) ∷ member (name_of kind) (text (text_in (cell 6))) ∷ shown_part (text_in (cell 6))
+    ∷ word (codes ", Version=") ∷ field name.Major (number (number_in (cell 0))) ∷ word (codes ".") ∷ field name.Minor (number (number_in (cell 1)))
+    ∷ word (codes ".") ∷ field name.Build (number (number_in (cell 2))) ∷ word (codes ".") ∷ field name.Revision (number (number_in (cell 3)))
+    ∷ word (codes ", Culture=") ∷ member name.Culture (text (culture_text (text_in (cell 7)))) ∷ shown_part (culture_text (text_in (cell 7)))
+    ∷ word (codes ", PublicKeyToken=") ∷ field name.Token (plain (token_text kind (number_in (cell 4)) (bytes_in (cell 5)))) ∷ []
 
 unfoldable pub identity_line : Kind → Metadata → ℕ → List Part
 identity_line kind model row = identity_in kind (λ index. cell_in model (table_of kind) row (first_cell kind + index))

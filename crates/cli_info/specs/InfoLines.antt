@@ -2,13 +2,13 @@
 use Rattle.std.specs.Prelude.{◌≡◌, ℕ, nat_lt, if◌then◌else◌, List, [], ◌∷◌, ◌++◌, codes, Option, None, Some}
 use Rattle.cli_header.specs.declared.header.CliHeader.{CliHeader}
 use Rattle.table_schema.specs.declared.table.TableId.TheVariants as table
+use Rattle.metadata.specs.Cell.{text_in, guid_in}
 use Rattle.metadata.specs.Metadata.{Metadata, cell_in, count_in}
 use Rattle.metadata.specs.Model.{IsModel, IsModelOfFile}
-use Rattle.cli_input.specs.declared.opened.Input.{Input}
-use Rattle.cli_input.specs.declared.opened.Input.TheVariants.{BareRoot, File}
+use Rattle.cli_files.specs.declared.opened.Input.{Input}
+use Rattle.cli_files.specs.declared.opened.Input.TheVariants.{BareRoot, File}
 use Rattle.cli_lines.specs.declared.names.Name.TheVariants as name
 use Rattle.cli_lines.specs.Lines.{Part, word, field, number, text, guid}
-use Rattle.cli_declarations.specs.Parts.{guid_of, text_of}
 use Rattle.cli_print.specs.RootLines.{version_line}
 use Rattle.cli_info.specs.Attributes.{attributes_lines}
 use Rattle.cli_info.specs.HeaderLines.{header_lines}
@@ -28,7 +28,7 @@ module_line of mvid = word (codes "module ") ∷ field name.Module (text of) ∷
 abbrev pub module_lines : Metadata → List (List Part)
 module_lines model =
     if nat_lt 0 (count_in model table.Module)
-    then module_line (text_of (cell_in model table.Module 1 1)) (guid_of (cell_in model table.Module 1 2)) ∷ [] else []
+    then module_line (text_in (cell_in model table.Module 1 1)) (guid_in (cell_in model table.Module 1 2)) ∷ [] else []
 
 -- the numbers of types, methods, fields and resources
 unfoldable pub counts_line : Metadata → List Part

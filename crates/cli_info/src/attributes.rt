@@ -14,13 +14,12 @@ ghost use Rattle.cli_info.specs.Texts.{string_in};
 use crate::texts::{string_in, texts_in};
 use attribute_constructors::{constructor, params_of, type_of};
 use attribute_values::{Argument, Item, Items};
-use cli_declarations::{bytes, text};
 use cli_lines::Part::{Field, Member, Note, Word};
 use cli_lines::Value::{Number, Plain, Text};
 use cli_lines::{Name, Printer};
 use cli_print::{NAME, NAMESPACE};
 use navigation::{Neighbours, cells};
-use opening::{TableId, Token, View};
+use opening::{TableId, Token, View, bytes_or_empty, text_or_empty};
 use std::alloc::Global;
 use std::io::Write;
 
@@ -123,8 +122,8 @@ fn print_typed<W: Write>(
     if !has_types(class.table) {
         return;
     }
-    let namespace = text(view, class.table, class.row, NAMESPACE);
-    let name = text(view, class.table, class.row, NAME);
+    let namespace = text_or_empty(view, class.table, class.row, NAMESPACE);
+    let name = text_or_empty(view, class.table, class.row, NAME);
     out.begin(&[
         Member(Name::Directive, Plain("attribute")),
         Word("attribute "),
@@ -170,7 +169,7 @@ fn print_attribute<W: Write>(source: &Neighbours<'_, '_>, row: u32, out: &mut Pr
     let Some(params) = params_of(source, of) else {
         return;
     };
-    let value = bytes(source.view, TableId::CustomAttribute, row, VALUE);
+    let value = bytes_or_empty(source.view, TableId::CustomAttribute, row, VALUE);
     let Some(items) = texts_in(value, params.as_slice()) else {
         return;
     };

@@ -7,12 +7,11 @@ ghost use Rattle.metadata.specs.Metadata.{Metadata};
 ghost use Rattle.metadata.specs.Model.{IsModel};
 ghost use Rattle.pe.specs.Headers.{magic};
 
-use cli_declarations::text;
 use cli_header::CliHeader;
 use cli_lines::Part::{Field, Word};
 use cli_lines::Value::{Hex, Number, Plain, Text};
 use cli_lines::{Name, Printer};
-use opening::{TableId, View};
+use opening::{TableId, View, text_or_empty};
 use packed::{u16_at, u32_at};
 use std::io::Write;
 
@@ -121,7 +120,7 @@ fn method_name<'a>(row: u32, view: &View<'a>) -> &'a str
     if row == 0 || row > view.count(TableId::MethodDef) {
         return "";
     }
-    text(view, TableId::MethodDef, row, METHOD_NAME)
+    text_or_empty(view, TableId::MethodDef, row, METHOD_NAME)
 }
 
 /// The name of the method that is the entry point, if it is one.

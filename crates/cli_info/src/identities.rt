@@ -8,11 +8,10 @@ ghost use Rattle.opening.specs.Views.{row_count};
 ghost use Rattle.sha1.specs.Sha1.{sha1};
 
 use crate::display_names::display_name;
-use cli_declarations::{bytes, number, text};
 use cli_lines::Part::{Field, Member, Note, Word};
 use cli_lines::Value::{Number, Plain, Text};
 use cli_lines::{Name, Printer};
-use opening::{TableId, View};
+use opening::{TableId, View, bytes_or_empty, number_or_zero, text_or_empty};
 use sha1::Sha1;
 use std::alloc::{AllocError, Global};
 use std::io::Write;
@@ -165,14 +164,14 @@ fn print_identity<W: Write>(
     ensures { (model : Metadata) → IsModel view.now model → Prints out.old out.new (identity_line kind model row ∷ []) }
 {
     let (table, first, word, name) = kind.shape();
-    let major = number(view, table, row, first);
-    let minor = number(view, table, row, first + 1);
-    let build = number(view, table, row, first + 2);
-    let revision = number(view, table, row, first + 3);
-    let flags = number(view, table, row, first + 4);
-    let key = bytes(view, table, row, first + 5);
-    let own_name = text(view, table, row, first + 6);
-    let culture = culture_text(text(view, table, row, first + 7));
+    let major = number_or_zero(view, table, row, first);
+    let minor = number_or_zero(view, table, row, first + 1);
+    let build = number_or_zero(view, table, row, first + 2);
+    let revision = number_or_zero(view, table, row, first + 3);
+    let flags = number_or_zero(view, table, row, first + 4);
+    let key = bytes_or_empty(view, table, row, first + 5);
+    let own_name = text_or_empty(view, table, row, first + 6);
+    let culture = culture_text(text_or_empty(view, table, row, first + 7));
     let (Ok(shown_name), Ok(shown_culture), Ok(token)) = (
         display_name(alloc, own_name),
         display_name(alloc, culture),

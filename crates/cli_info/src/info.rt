@@ -3,7 +3,7 @@ ghost use Rattle.std.specs.Prelude.{◌≡◌, ◌∷◌, [], IfErr, IfOk, OnErr
 ghost use Rattle.cli_header.specs.declared.header.CliHeader.{CliHeader as Header};
 ghost use Rattle.cli_info.specs.HeaderLines.{HasRoom};
 ghost use Rattle.cli_info.specs.InfoLines.{AreFacts, counts_line, info_lines, module_lines};
-ghost use Rattle.cli_input.specs.Checked.{IsWhole, rules_of};
+ghost use Rattle.cli_files.specs.Checked.{IsWhole, rules_of};
 ghost use Rattle.cli_lines.specs.Printed.{Prints};
 ghost use Rattle.metadata.specs.Metadata.{Metadata};
 ghost use Rattle.metadata.specs.Model.{IsModel};
@@ -12,14 +12,13 @@ ghost use Rattle.packed.specs.Rule.{FirstBroken};
 use crate::attributes::print_attributes;
 use crate::headers::print_headers;
 use crate::identities::{Kind, print_identities};
-use cli_declarations::{guid, text};
 use cli_header::CliHeader;
-use cli_input::Input;
+use cli_files::Input;
 use cli_lines::Part::{Field, Word};
 use cli_lines::Value::{Guid, Number, Text};
 use cli_lines::{Name, Printer};
 use cli_print::print_version;
-use opening::{TableId, View, open_image, open_root};
+use opening::{TableId, View, guid_or_null, open_image, open_root, text_or_empty};
 use packed::Fault;
 use std::alloc::Global;
 use std::io::Write;
@@ -89,8 +88,8 @@ fn print_module<W: Write>(view: &View<'_>, out: &mut Printer<'_, W>)
 {
     cli_lines::laws::lines_follow::<W>();
     if view.count(TableId::Module) > 0 {
-        let name = text(view, TableId::Module, 1, MODULE_NAME);
-        let mvid = guid(view, TableId::Module, 1, MVID);
+        let name = text_or_empty(view, TableId::Module, 1, MODULE_NAME);
+        let mvid = guid_or_null(view, TableId::Module, 1, MVID);
         out.line(&[
             Word("module "),
             Field(Name::Module, Text(name)),

@@ -10,13 +10,31 @@
 //! format PE32 machine 0000014c i386 debug 28
 //! flags 00000009 ILONLY STRONGNAMESIGNED
 //! ```
+//!
+//! The managed resources of a file (ECMA-335 II.22.24): where each is, one per line, and the content of one.
+//!
+//! `specs/ResourceLines.antt` defines the lines as a function of the model and of where each resource is, which
+//! `specs/Resources.antt` of crate `file_ranges` defines. They go to a [`cli_lines::Printer`].
+//!
+//! ```text
+//! resource 2364 7 public notes.txt
+//! resource in parts.netmodule private Parts.resources
+//! {"resource":{"token":"28000001","offset":2364,"size":7,"visibility":"public","name":"notes.txt"}}
+//! ```
 #![tactic(auto)]
 
 mod attributes;
+mod content;
 mod display_names;
 mod headers;
 mod identities;
 mod info;
+mod lines;
+mod opened;
+mod report;
 mod texts;
 
+pub use content::resource_named;
 pub use info::print_info;
+pub use opened::Unfound;
+pub use report::print_resources;

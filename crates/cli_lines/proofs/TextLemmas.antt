@@ -3,7 +3,7 @@ use Rattle.cli_lines.proofs.Prelude.{◌≡◌, ◌∙◌, ℕ, zero, suc, ◌+�
 use lib.Ieee.Fits.{and_l, and_r}
 use Rattle.std.specs.Prelude.{Result, Ok, Err, OnOk, is_ok}
 use Rattle.std.proofs.Math.Seq.{drop-append_seam, take-append_seam}
-use Rattle.cli_escapes.specs.Letters.{readable}
+use Rattle.cli_sending.specs.Letters.{readable}
 use Rattle.cli_lines.specs.declared.texts.TheConstants.{PAIRS}
 
 -- one more item of a list that is printed item by item

@@ -11,7 +11,7 @@ use Rattle.table_schema.specs.declared.token.Token.{Token}
 use Rattle.table_schema.specs.Tables.{table_name}
 use Rattle.table_schema.specs.Tokens.{hexadecimal, token_text}
 use Rattle.cli_faults.specs.Escaped.{escaped_text, escaped_unit}
-use Rattle.cli_escapes.specs.Letters.{readable}
+use Rattle.cli_sending.specs.Letters.{readable}
 use Rattle.cli_lines.specs.Names.{name_text}
 use Rattle.cli_faults.specs.Hexadecimal.{upper_hexadecimal}
 use Rattle.cli_lines.specs.Texts.{escaped_bytes}

@@ -9,7 +9,7 @@ use crate::texts::{
     push_between, push_byte_digits, push_decimal, push_escaped, push_plain, push_token, push_units,
     push_word,
 };
-use cli_escapes::show_letters;
+use cli_sending::show_letters;
 use heap_entries::guid_text;
 use std::alloc::{AllocError, Global};
 

@@ -1,3 +1,6 @@
 pub mod NumbersRead
+mod PathLemmas
 pub mod Prelude
+mod Prelude
+mod RefLemmas
 pub mod TypeNames

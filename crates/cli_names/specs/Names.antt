@@ -4,10 +4,9 @@ use Rattle.std.specs.List.{All}
 use Rattle.std.specs.Str.{str_eq_ignore_ascii_case}
 use Rattle.std.specs.Str.Parse.{digits_value}
 use Rattle.packed.specs.declared.code.FaultCode.{FaultCode}
-use Rattle.packed.specs.Codes.{name_of, number_of_code}
+use Rattle.packed.specs.Codes.{codes_in_order, name_of, number_of_code}
 use Rattle.table_schema.specs.declared.table.TableId.{TableId}
 use Rattle.table_schema.specs.Tables.{table_name, table_number, tables}
-use Rattle.cli_faults.specs.Codes.{codes_in_order}
 use Rattle.cli_names.specs.Numbers.{IsCodeNumber, IsTableNumber}
 
 -- the rule with this name, in any case; some rules have none

@@ -1,10 +1,9 @@
 //! Finds the fault and the table that an argument names.
 ghost use Rattle.std.specs.Prelude.{◌≡◌, IfSome, Some, find};
 ghost use Rattle.std.specs.Str.{str_eq_ignore_ascii_case};
-ghost use Rattle.packed.specs.Codes.{name_of, number_of_code};
+ghost use Rattle.packed.specs.Codes.{codes_in_order, name_of, number_of_code};
 ghost use Rattle.packed.specs.declared.code.FaultCode.{FaultCode as RuleCode};
 ghost use Rattle.table_schema.specs.declared.table.TableId.{TableId as Table};
-ghost use Rattle.cli_faults.specs.Codes.{codes_in_order};
 ghost use Rattle.cli_names.specs.Names.{IsFullName, NamesCode, NamesTable, code_named, table_named};
 
 use crate::numbers::{code_number_of, table_number_of};

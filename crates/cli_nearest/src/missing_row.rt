@@ -1,6 +1,6 @@
 //! How many rows a table has that does not have the row of a token.
 use cli_faults::{Failure, Stop};
-use cli_input::{Input, open};
+use cli_files::{Input, open};
 use cli_sending::send_message;
 use opening::{TableId, Token, View};
 use std::alloc::Global;

@@ -5,12 +5,11 @@ ghost use Rattle.opening.specs.Views.{HasModel, row_count};
 
 use crate::nearest::{LONGEST_NAME, edits_below, is_far, limit_of};
 use crate::several_types::several_types;
-use cli_declarations::text;
 use cli_faults::{Escaped, Stop};
-use cli_input::{Input, open};
+use cli_files::{Input, open};
 use cli_names::names_of_type;
 use cli_sending::send_message;
-use opening::{ReadCells, TableId, View};
+use opening::{ReadCells, TableId, View, text_or_empty};
 use std::alloc::Global;
 use std::fmt;
 use std::io::Write;
@@ -103,8 +102,8 @@ fn names_at<'a>(view: &View<'a>, table: TableId, row: u32) -> Option<TypeName<'a
         return None;
     }
     Some(TypeName {
-        namespace: text(view, table, row, NAMESPACE),
-        name: text(view, table, row, NAME),
+        namespace: text_or_empty(view, table, row, NAMESPACE),
+        name: text_or_empty(view, table, row, NAME),
     })
 }
 

@@ -6,7 +6,7 @@ use denote.Enum.Bare.{same_true, true_same}
 use Rattle.table_schema.specs.contracts.table.TableId as table
 use Rattle.table_schema.specs.contracts.table.TableIdPartialEq.TheImpl as tables
 use Rattle.table_schema.specs.contracts.token.TokenPartialEq.TheImpl as tokens
-use Rattle.declaring_types.specs.Declaring.{IsDeclaring}
+use Rattle.visible_rows.specs.Declaring.{IsDeclaring}
 use Rattle.cli_lines.specs.Printed.{Printed}
 use Rattle.cli_outline.specs.declared.chosen.Choice.{Choice}
 use Rattle.cli_outline.specs.declared.chosen.Choice.TheVariants as choice

@@ -9,26 +9,25 @@ pub use Rattle.std.proofs.lemmas.List.Sorted.{All-permutation, IsPermutation-map
 pub use Rattle.std.specs.List.{position, position_or_len, range_with_len, flat_map}
 pub use Rattle.std.specs.List.Sorted.{IsPermutation}
 pub use Rattle.std.specs.Prelude.{slice_get, unwrap_or, IsSome, ◌↔◌, IsTrue, string_bytes, slice_index_or}
-unfoldable pub use Rattle.table_schema.specs.CellColumns.{cell_columns}
 pub use Rattle.table_schema.specs.Tables.{table_index_of}
 unfoldable pub use Rattle.table_schema.specs.Tables.{tables}
 pub use Rattle.table_schema.specs.declared.table.TableId.{TableId}
-pub use Rattle.table_schema.specs.declared.table.TableId.TheVariants.{MethodDef, TypeDef, Module, MethodSemantics}
+pub use Rattle.table_schema.specs.declared.table.TableId.TheVariants.{TypeDef, Module, MethodSemantics}
 pub use Rattle.table_schema.specs.declared.token.Token.{Token}
+pub use Rattle.table_schema.specs.Tokens.{token_at}
 pub use Rattle.metadata.specs.Lookups.{HasRow, IsRun}
 pub use Rattle.metadata.specs.Metadata.{Metadata, cell_in, count_in}
 pub use Rattle.metadata.specs.Model.{IsModel}
-pub use Rattle.metadata_source.specs.MemberLists.{cell_of, member_of, owner_of}
-pub use Rattle.metadata_source.specs.declared.member_lists.MemberList.{MemberList}
+pub use Rattle.metadata.specs.MemberLists.{cell_of, member_of, owner_of}
+pub use Rattle.metadata.specs.declared.member_lists.MemberList.{MemberList}
 unfoldable pub use Rattle.opening.specs.Views.{row_count}
-pub use Rattle.cli_escapes.specs.AsIs.{as_is}
+pub use Rattle.cli_sending.specs.AsIs.{as_is}
 pub use Rattle.cli_lines.specs.Lines.{Part, style}
 unfoldable pub use Rattle.cli_lines.specs.Lines.{line_from, styled_text}
 pub use Rattle.cli_lines.specs.Printed.{Prints}
 pub use Rattle.cli_lines.specs.declared.parts.Form.TheVariants.{Text, Letters, JsonLines}
-pub use Rattle.cli_declarations.specs.Parts.{token_at}
-pub use Rattle.cli_paths.specs.Refs.{BelongsTo, IsMeantRef, IsWantedRef, Wants}
-pub use Rattle.cli_paths.specs.declared.refs.Wanted.{Wanted}
+pub use Rattle.cli_names.specs.Refs.{BelongsTo, IsMeantRef, IsWantedRef, Wants}
+pub use Rattle.cli_names.specs.declared.refs.Wanted.{Wanted}
 pub use Rattle.cli_outline.specs.Declarations.{ends_word, json_line, text_line, unindented, has_directive}
 unfoldable pub use Rattle.cli_outline.specs.Declarations.{declaration_line}
 pub use Rattle.cli_outline.specs.Orders.{AreInOrder, AreMembers, keyed_cmp, rows_of, order_in, IsKeyed, key_limit, row_of_keyed, IsRowIn, AreGrouped, grouping_of}

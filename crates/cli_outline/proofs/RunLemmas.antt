@@ -1,38 +1,27 @@
 -- The run of an owner's members (ECMA-335 II.22.12, II.22.26, II.22.35 and II.22.37).
-use Rattle.cli_outline.proofs.Prelude.{◌≡◌, ℕ, zero, suc, ◌+◌, ◌-◌, ◌<◌, ◌≤◌, arith, ⊎_elim, cases_lt, le-leb, lt-leb, subst, TableId, TypeDef, MethodDef, cell_columns, HasRow, IsRun, Metadata, cell_in, count_in, MemberList, cell_of, member_of, owner_of, run_start}
+use Rattle.cli_outline.proofs.Prelude.{◌≡◌, ℕ, zero, suc, ◌+◌, ◌-◌, ◌<◌, ◌≤◌, arith, ⊎_elim, cases_lt, le-leb, lt-leb, subst, HasRow, IsRun, Metadata, cell_in, count_in, MemberList, cell_of, member_of, owner_of, run_start}
 use Rattle.table_schema.specs.declared.column.ColumnKind.TheVariants as kind
-use Rattle.metadata.specs.Valid.{HasOwners, IsValid, IsWithinMembers, start_in}
-use Rattle.table_schema.specs.declared.table.TableId.TheVariants.{EventMap, PropertyMap}
-use Rattle.metadata_source.specs.declared.member_lists.MemberList.TheVariants as list
-
--- what is valid of each list
-pub owners : (model : Metadata) → IsValid model → (of : MemberList) → HasOwners model (owner_of of) (cell_of of) (member_of of)
-owners model valid list.Fields = valid.fields
-owners model valid list.Methods = valid.methods
-owners model valid list.Params = valid.params
-owners model valid list.Events = valid.events
-owners model valid list.Properties = valid.properties
+use Rattle.metadata.specs.Cell.{start_in}
+use Rattle.metadata.specs.Links.{IsOwned}
+use Rattle.metadata.specs.Valid.{IsValid, IsWithinMembers, links_of}
+use Rattle.metadata.proofs.ListLemmas.{list_within, list_kind}
 
 -- a start is at most one past the last member
 starts_within : (model : Metadata) → IsValid model → (of : MemberList) (row : ℕ) → HasRow model (owner_of of) row
     → IsWithinMembers model (kind.List (member_of of)) (cell_in model (owner_of of) row (cell_of of))
-unfolding cell_columns
-starts_within model valid list.Fields row there = (valid.cells TypeDef row 4 there (omega arith)).within
-starts_within model valid list.Methods row there = (valid.cells TypeDef row 5 there (omega arith)).within
-starts_within model valid list.Params row there = (valid.cells MethodDef row 5 there (omega arith)).within
-starts_within model valid list.Events row there = (valid.cells EventMap row 1 there (omega arith)).within
-starts_within model valid list.Properties row there = (valid.cells PropertyMap row 1 there (omega arith)).within
+starts_within model valid of row there =
+    subst (λ k. IsWithinMembers model k (cell_in model (owner_of of) row (cell_of of))) (list_kind of) (valid.cells (owner_of of) row (cell_of of) there (list_within of)).within
 
 -- starts are at least 1
-module _ (model : Metadata) (owner : TableId) (cell : ℕ) (member : TableId) (owned : HasOwners model owner cell member) where
-  pub start_from : (row : ℕ) → 1 ≤ row → row ≤ count_in model owner → 1 ≤ start_in (cell_in model owner row cell)
+module _ (model : Metadata) (of : MemberList) (owned : IsOwned (links_of model) of) where
+  pub start_from : (row : ℕ) → 1 ≤ row → row ≤ count_in model (owner_of of) → 1 ≤ start_in (cell_in model (owner_of of) row (cell_of of))
   start_from zero from to = absurd (omega (arith, from))
   start_from (suc zero) from to =
-      let one : start_in (cell_in model owner (suc zero) cell) ≡ 1 = owned.first (λ none. let no : count_in model owner ≡ 0 = none in absurd (omega (arith, no, to))) in omega (arith, one)
+      let one : start_in (cell_in model (owner_of of) (suc zero) (cell_of of)) ≡ 1 = owned.first (λ none. let no : count_in model (owner_of of) ≡ 0 = none in absurd (omega (arith, no, to))) in omega (arith, one)
   start_from (suc (suc n)) from to =
       let before = start_from (suc n) (omega arith) (omega (arith, to)) in
       let same : suc (suc n) - 1 ≡ suc n = omega arith in
-      let up = subst (λ (r : ℕ). start_in (cell_in model owner r cell) ≤ start_in (cell_in model owner (suc (suc n)) cell)) same (owned.rising (suc (suc n)) (omega arith) to) in
+      let up = subst (λ (r : ℕ). start_in (cell_in model (owner_of of) r (cell_of of)) ≤ start_in (cell_in model (owner_of of) (suc (suc n)) (cell_of of))) same (owned.rising (suc (suc n)) (omega arith) to) in
       omega (arith, before, up)
 
 -- a run is within the table of members, and is from the start of its owner to that of the next one

@@ -1,8 +1,8 @@
 -- What is printed of the row or of the types of other modules that are asked for.
 use Rattle.cli_outline.proofs.Prelude.{◌≡◌, ◌≢◌, ◌∙◌, List, [], ◌∷◌, ⊎_elim, inl, inr, sym, TypeDef, Token, Metadata, Wanted, BelongsTo, IsMeantRef, IsWantedRef, Wants, AreChosenBy}
-use Rattle.cli_paths.specs.declared.subject.Subject.{Subject}
-use Rattle.cli_paths.specs.declared.subject.Subject.TheVariants.{Path, Row}
-use Rattle.cli_paths.specs.Subjects.{IsSubject}
+use Rattle.cli_names.specs.declared.subject.Subject.{Subject}
+use Rattle.cli_names.specs.declared.subject.Subject.TheVariants.{Path, Row}
+use Rattle.cli_names.specs.Subjects.{IsSubject}
 
 -- another row than a type is the only subject
 pub one_subject : (model : Metadata) (subject : Subject) (of other : Token) → IsSubject model subject of → of.table ≢ TypeDef → IsSubject model subject other → other ≡ of

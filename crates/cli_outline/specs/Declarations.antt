@@ -5,11 +5,11 @@ use Rattle.std.specs.List.{before_first, prefix_len}
 use Rattle.table_schema.specs.declared.table.TableId.{TableId}
 use Rattle.table_schema.specs.declared.table.TableId.TheVariants.{MethodSemantics}
 use Rattle.table_schema.specs.declared.token.Token.{Token}
+use Rattle.metadata.specs.Cell.{number_in}
 use Rattle.metadata.specs.Metadata.{Metadata, cell_in}
 use Rattle.cli_lines.specs.Lines.{Part, member, note, plain, text, token, word}
 use Rattle.cli_lines.specs.declared.names.Name.TheVariants as name
-use Rattle.cli_escapes.specs.AsIs.{as_is}
-use Rattle.cli_declarations.specs.Parts.{number_of}
+use Rattle.cli_sending.specs.AsIs.{as_is}
 use Rattle.cli_outline.specs.declared.source.Tokens.{Tokens}
 use Rattle.cli_outline.specs.declared.source.Tokens.TheVariants.{Shown, Hidden}
 
@@ -36,7 +36,7 @@ is_directive MethodSemantics flags = not (bit_and flags 0x3F == 0)
 is_directive _ flags = true
 
 abbrev pub has_directive : Metadata → Token → Bool
-has_directive model of = is_directive of.table (number_of (cell_in model of.table of.row 0))
+has_directive model of = is_directive of.table (number_in (cell_in model of.table of.row 0))
 
 -- the member of the first word, if it is a directive
 abbrev pub directive_part : Bool → List ℕ → Part

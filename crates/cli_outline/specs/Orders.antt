@@ -9,13 +9,14 @@ use Rattle.table_schema.specs.declared.table.TableId.{TableId}
 use Rattle.table_schema.specs.declared.table.TableId.TheVariants.{Field, MethodDef, Event, Property, MethodSemantics, TypeRef, MemberRef}
 use Rattle.table_schema.specs.declared.token.Token.{Token}
 use Rattle.table_schema.specs.Tables.{table_index_of}
+use Rattle.table_schema.specs.Tokens.{token_at}
 use Rattle.metadata.specs.Metadata.{Metadata, count_in}
-use Rattle.metadata_source.specs.declared.member_lists.MemberList.TheVariants as list
-use Rattle.metadata_source.specs.declared.member_lists.MemberList.{MemberList}
-use Rattle.metadata_source.specs.MemberLists.{member_of, owner_of}
+use Rattle.metadata.specs.declared.member_lists.MemberList.TheVariants as list
+use Rattle.metadata.specs.declared.member_lists.MemberList.{MemberList}
+use Rattle.metadata.specs.MemberLists.{member_of, owner_of}
 use Rattle.opening.specs.Views.{row_count}
 use Rattle.cli_declarations.specs.Layouts.{IsDeclared, is_declared_in}
-use Rattle.cli_declarations.specs.Parts.{IsNameText, token_at}
+use Rattle.cli_declarations.specs.Parts.{IsNameText}
 use Rattle.cli_outline.specs.declared.orders.Grouping.{Grouping}
 use Rattle.cli_outline.specs.declared.orders.Grouping.TheVariants.{Members, Nothing, Table}
 use Rattle.cli_outline.specs.declared.orders.Keyed.{Keyed}

@@ -5,8 +5,8 @@ use Rattle.table_schema.specs.declared.table.TableId.TheVariants.{MemberRef, Typ
 use Rattle.table_schema.specs.declared.token.Token.{Token}
 use Rattle.metadata.specs.Metadata.{Metadata}
 use Rattle.cli_lines.specs.Printed.{Printed as Printer}
-use Rattle.cli_paths.specs.declared.subject.Subject.{Subject}
-use Rattle.cli_paths.specs.Refs.{BelongsTo, HasSome, IsMeantRef}
+use Rattle.cli_names.specs.declared.subject.Subject.{Subject}
+use Rattle.cli_names.specs.Refs.{BelongsTo, HasSome, IsMeantRef}
 use Rattle.cli_outline.specs.declared.outline.Outcome.{Outcome}
 use Rattle.cli_outline.specs.declared.outline.Outcome.TheVariants.{Printed, NoSuchType, OutOfMemory}
 use Rattle.cli_outline.specs.declared.source.OutlineOptions.{OutlineOptions}

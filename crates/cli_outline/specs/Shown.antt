@@ -4,12 +4,12 @@ use Rattle.std.specs.List.{filter}
 use Rattle.table_schema.specs.declared.table.TableId.{TableId}
 use Rattle.table_schema.specs.declared.table.TableId.TheVariants.{Param}
 use Rattle.table_schema.specs.declared.token.Token.{Token}
+use Rattle.table_schema.specs.Tokens.{token_at}
 use Rattle.metadata.specs.Metadata.{Metadata}
 use Rattle.navigation.specs.declared.links.Link.TheVariants as linked_by
 use Rattle.navigation.specs.Linked.{first_linked}
 use Rattle.visible_rows.specs.Visible.{is_visible}
 use Rattle.visible_rows.specs.declared.visible.VisibleRows.{VisibleRows}
-use Rattle.cli_declarations.specs.Parts.{token_at}
 use Rattle.cli_outline.specs.declared.source.OutlineOptions.{OutlineOptions}
 use Rattle.cli_outline.specs.declared.source.Rows.{Rows}
 use Rattle.cli_outline.specs.declared.source.Rows.TheVariants.{All, Visible}

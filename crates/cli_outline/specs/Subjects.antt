@@ -6,12 +6,12 @@ use Rattle.table_schema.specs.declared.table.TableId.TheVariants.{TypeDef}
 use Rattle.table_schema.specs.declared.token.Token.{Token}
 use Rattle.metadata.specs.Metadata.{Metadata}
 use Rattle.navigation.specs.Nesting.{type_token}
-use Rattle.declaring_types.specs.Declaring.{IsDeclaring}
+use Rattle.visible_rows.specs.Declaring.{IsDeclaring}
 use Rattle.cli_lines.specs.Printed.{Printed as Printer}
 use Rattle.cli_declarations.specs.Layouts.{is_declared_in}
-use Rattle.cli_paths.specs.Refs.{BelongsTo, IsWantedRef}
-use Rattle.cli_paths.specs.declared.subject.Subject.{Subject}
-use Rattle.cli_paths.specs.Subjects.{IsSubject}
+use Rattle.cli_names.specs.Refs.{BelongsTo, IsWantedRef}
+use Rattle.cli_names.specs.declared.subject.Subject.{Subject}
+use Rattle.cli_names.specs.Subjects.{IsSubject}
 use Rattle.cli_outline.specs.declared.chosen.Choice.{Choice}
 use Rattle.cli_outline.specs.declared.chosen.Choice.TheVariants as choice
 use Rattle.cli_outline.specs.declared.outline.Outcome.{Outcome}

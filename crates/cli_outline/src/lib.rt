@@ -21,6 +21,6 @@ mod orders;
 mod outline;
 mod source;
 
-pub use cli_paths::Subject;
+pub use cli_names::Subject;
 pub use outline::{Outcome, print_outline, print_outline_of, print_refs, print_refs_of};
 pub use source::{OutlineOptions, Rows, Sorting, Tokens};

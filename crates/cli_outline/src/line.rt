@@ -13,13 +13,13 @@ ghost use Rattle.cli_outline.specs.Printed.{IsRowText, PrintsRows};
 ghost use Rattle.cli_outline.specs.declared.source.Tokens.{Tokens as TheTokens};
 
 use crate::source::{Source, Tokens};
-use cli_declarations::{Declared, declare, number};
-use cli_escapes::text_as_is;
+use cli_declarations::{Declared, declare};
+use cli_sending::text_as_is;
 use cli_lines::Part::{Member, Note, Word};
 use cli_lines::Value::{self, Plain, Text};
 use cli_lines::{Form, Name, Part, Printer};
 use full_names::type_of_member;
-use opening::{TableId, Token, View};
+use opening::{TableId, Token, View, number_or_zero};
 use std::alloc::AllocError;
 use std::io::Write;
 
@@ -56,7 +56,8 @@ fn has_directive(view: &View<'_>, token: Token) -> bool
 {
     match token.table {
         TableId::MethodSemantics => {
-            number(view, TableId::MethodSemantics, token.row, SEMANTICS) & KNOWN_SEMANTICS != 0
+            let flags = number_or_zero(view, TableId::MethodSemantics, token.row, SEMANTICS);
+            flags & KNOWN_SEMANTICS != 0
         }
         _ => true,
     }

@@ -3,8 +3,8 @@ ghost use Rattle.std.specs.Prelude.{◌≡◌, ◌≤◌, ◌+◌, ◌-◌, ◌+
 ghost use Rattle.std.specs.List.{range_with_len};
 ghost use Rattle.metadata.specs.Metadata.{Metadata};
 ghost use Rattle.metadata.specs.Model.{IsModel};
-ghost use Rattle.metadata_source.specs.declared.member_lists.MemberList.{MemberList as TheList};
-ghost use Rattle.metadata_source.specs.MemberLists.{member_of};
+ghost use Rattle.metadata.specs.declared.member_lists.MemberList.{MemberList as TheList};
+ghost use Rattle.metadata.specs.MemberLists.{member_of};
 ghost use Rattle.opening.specs.Views.{row_count};
 ghost use Rattle.cli_outline.specs.declared.orders.Grouping.TheVariants.{Members};
 ghost use Rattle.cli_outline.specs.declared.source.Sorting.TheVariants.{ByName};

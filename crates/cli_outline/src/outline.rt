@@ -1,12 +1,12 @@
 //! Prints the outline of a view.
 ghost use Rattle.std.specs.Prelude.{◌≡◌, ◌≤◌, ◌+◌};
 ghost use Rattle.table_schema.specs.declared.table.TableId.TheVariants.{TypeDef};
+ghost use Rattle.table_schema.specs.Tokens.{token_at};
 ghost use Rattle.metadata.specs.Metadata.{Metadata, count_in};
 ghost use Rattle.metadata.specs.Model.{IsModel};
-ghost use Rattle.metadata_source.specs.MemberLists.{member_of, owner_of};
+ghost use Rattle.metadata.specs.MemberLists.{member_of, owner_of};
 ghost use Rattle.navigation.specs.Linked.{number_to, table_of};
 ghost use Rattle.opening.specs.Views.{row_count};
-ghost use Rattle.cli_declarations.specs.Parts.{token_at};
 ghost use Rattle.cli_outline.specs.Outline.{accessed_rows, class_rows, each_from, mapped_rows, members, outline_rows, refs_rows, run_start, type_rows};
 ghost use Rattle.cli_outline.specs.Orders.{AreOutlineRows, order_in};
 ghost use Rattle.cli_outline.specs.Printed.{PrintsRows, PrintsSome};
@@ -18,7 +18,7 @@ use crate::line::print_row;
 use crate::source::{OutlineOptions, Source};
 use cli_declarations::Declared;
 use cli_lines::Printer;
-use cli_paths::{Subject, finds, found_row, wanted_types};
+use cli_names::{Subject, finds, found_row, wanted_types};
 use navigation::Link;
 use opening::{CellCursor, MemberList, TableId, Token, View};
 use std::alloc::Global;

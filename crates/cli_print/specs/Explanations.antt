@@ -2,9 +2,8 @@
 use Rattle.std.specs.Prelude.{◌≡◌, ℕ, Bool, true, false, List, [], ◌∷◌, ◌++◌, codes, Option, None, Some}
 use Rattle.std.specs.List.{list_all}
 use Rattle.std.specs.Borrow.{Bor}
-use Rattle.packed.specs.Codes.{name_of, number_of_code}
+use Rattle.packed.specs.Codes.{codes_in_order, name_of, number_of_code}
 use Rattle.packed.specs.declared.code.FaultCode.{FaultCode}
-use Rattle.cli_faults.specs.Codes.{codes_in_order}
 use Rattle.cli_faults.specs.declared.explained.Explanation.{Explanation}
 use Rattle.cli_lines.specs.declared.names.Name.{Name}
 use Rattle.cli_lines.specs.declared.names.Name.TheVariants as name

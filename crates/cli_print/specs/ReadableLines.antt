@@ -12,8 +12,8 @@ use Rattle.root.specs.Fields.{headers_before, version_of}
 use Rattle.root.specs.Readable.{IsReadableCount}
 use Rattle.root.specs.Rules.{rules_of_root_header}
 use Rattle.metadata.specs.Streams.{root_in}
-use Rattle.cli_input.specs.declared.opened.Input.{Input}
-use Rattle.cli_input.specs.declared.opened.Input.TheVariants.{BareRoot, File}
+use Rattle.cli_files.specs.declared.opened.Input.{Input}
+use Rattle.cli_files.specs.declared.opened.Input.TheVariants.{BareRoot, File}
 use Rattle.cli_lines.specs.Lines.{Part}
 use Rattle.cli_print.specs.RootLines.{cli_line, stream_line, version_line}
 

@@ -4,26 +4,16 @@ use Rattle.std.specs.List.{range_with_len}
 use Rattle.table_schema.specs.declared.table.TableId.{TableId}
 use Rattle.table_schema.specs.declared.table.TableId.TheVariants.{TypeDef, Field, MethodDef}
 use Rattle.table_schema.specs.declared.token.Token.{Token}
-use Rattle.metadata.specs.Cell.{Cell, Text, Start}
+use Rattle.metadata.specs.Cell.{start_in, text_in}
 use Rattle.metadata.specs.Metadata.{Metadata, cell_in, count_in}
 use Rattle.cli_lines.specs.declared.names.Name.TheVariants as name
 use Rattle.cli_lines.specs.Lines.{Part, word, field, number, text, token}
 
--- the bytes of a text
-abbrev pub text_of : Cell → List ℕ
-text_of (Text of) = of
-text_of _ = []
-
--- the row of a start
-abbrev pub start_of : Cell → ℕ
-start_of (Start row) = row
-start_of _ = 0
-
 -- the number of a type's members: they begin at its cell with their start, and end before those of the next type
 unfoldable pub member_count : Metadata → ℕ → TableId → ℕ → ℕ
 member_count model cell_index member row =
-    (if nat_lt row (count_in model TypeDef) then start_of (cell_in model TypeDef (row + 1) cell_index) else count_in model member + 1)
-    - start_of (cell_in model TypeDef row cell_index)
+    (if nat_lt row (count_in model TypeDef) then start_in (cell_in model TypeDef (row + 1) cell_index) else count_in model member + 1)
+    - start_in (cell_in model TypeDef row cell_index)
 
 -- a dot after a namespace
 abbrev pub dot_after : List ℕ → List ℕ
@@ -38,7 +28,7 @@ parts_of_type row namespace own fields methods =
 
 abbrev pub type_line : Metadata → ℕ → List Part
 type_line model row =
-    parts_of_type (record { table = TypeDef; row = row }) (text_of (cell_in model TypeDef row 2)) (text_of (cell_in model TypeDef row 1))
+    parts_of_type (record { table = TypeDef; row = row }) (text_in (cell_in model TypeDef row 2)) (text_in (cell_in model TypeDef row 1))
     (member_count model 4 Field row) (member_count model 5 MethodDef row)
 
 -- all types, in the order of their rows

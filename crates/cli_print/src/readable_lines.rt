@@ -1,7 +1,7 @@
 //! `clim root --until-fault`: the headers of a file that breaks a rule, as far as they can be read.
 ghost use Rattle.std.specs.Prelude.{◌≡◌, IfErr, List, OnErr, OnOk, Option};
 ghost use Rattle.cli_header.specs.declared.header.CliHeader.{CliHeader as Header};
-ghost use Rattle.cli_input.specs.Heads.{AreHeads, HasHeads, rules_of_heads};
+ghost use Rattle.cli_files.specs.Heads.{AreHeads, HasHeads, rules_of_heads};
 ghost use Rattle.cli_lines.specs.Lines.{Part};
 ghost use Rattle.cli_lines.specs.Printed.{Prints};
 ghost use Rattle.cli_print.specs.ReadableLines.{AreOfImage, AreOfRoot, AreReadable};
@@ -11,7 +11,7 @@ ghost use Rattle.root.specs.Streams.{RootRead};
 
 use crate::root_lines::{print_cli_header, print_root, print_streams, print_version};
 use cli_header::read_cli;
-use cli_input::{Input, root_of};
+use cli_files::{Input, root_of};
 use cli_lines::Printer;
 use packed::Fault;
 use pe::{Pe, read_pe};

@@ -1,7 +1,7 @@
 //! `clim root`: the CLI header of a file, and the version and the stream headers of its metadata root.
 ghost use Rattle.std.specs.Prelude.{◌≡◌, ◌∷◌, [], IfErr, OnErr, OnOk, Option, map};
 ghost use Rattle.cli_header.specs.declared.header.CliHeader.{CliHeader as Header};
-ghost use Rattle.cli_input.specs.Heads.{AreHeads, HasHeads, rules_of_heads};
+ghost use Rattle.cli_files.specs.Heads.{AreHeads, HasHeads, rules_of_heads};
 ghost use Rattle.cli_lines.specs.Printed.{Prints};
 ghost use Rattle.cli_print.specs.RootLines.{cli_line, header_lines, heads_lines, stream_line, version_line};
 ghost use Rattle.packed.specs.Rule.{FirstBroken};
@@ -9,7 +9,7 @@ ghost use Rattle.root.specs.Streams.{RootRead};
 ghost use Rattle.root.specs.Views.{view};
 
 use cli_header::CliHeader;
-use cli_input::{Input, heads_of};
+use cli_files::{Input, heads_of};
 use cli_lines::Part::{Close, Field, Open, Word};
 use cli_lines::Value::{Hex, Number, Text};
 use cli_lines::{Name, Printer};

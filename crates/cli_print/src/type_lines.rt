@@ -1,17 +1,16 @@
 //! `clim types`: the types of a file.
-ghost use Rattle.std.specs.Prelude.{◌≡◌, ◌≤◌, ◌<◌, ◌-◌, ◌∷◌, []};
+ghost use Rattle.std.specs.Prelude.{◌≡◌, ◌≤◌, ◌-◌, ◌∷◌, []};
 ghost use Rattle.cli_lines.specs.Printed.{Prints};
-ghost use Rattle.cli_print.specs.TypeLines.{dot_after, text_of, type_line, types_lines};
-ghost use Rattle.metadata.specs.Metadata.{Metadata, cell_in};
+ghost use Rattle.cli_print.specs.TypeLines.{dot_after, type_line, types_lines};
+ghost use Rattle.metadata.specs.Metadata.{Metadata};
 ghost use Rattle.metadata.specs.Model.{IsModel};
 ghost use Rattle.opening.specs.Views.{row_count};
-ghost use Rattle.table_schema.specs.CellColumns.{cell_count};
 ghost use Rattle.table_schema.specs.declared.table.TableId.TheVariants.{TypeDef};
 
 use cli_lines::Part::{Field, Word};
 use cli_lines::Value::{self, Number, Text};
 use cli_lines::{Name, Printer};
-use opening::{CellCursor, CellRef, MemberList, TableId, Token, View};
+use opening::{CellCursor, MemberList, TableId, Token, View, text_or_empty};
 use std::io::Write;
 use std::ops::Range;
 
@@ -43,8 +42,8 @@ fn print_type<W: Write>(cells: &mut CellCursor<'_, '_>, row: u32, out: &mut Prin
 {
     let view = cells.view();
     metadata::laws::models_are_read();
-    let namespace = text_of(view, row, NAMESPACE);
-    let name = text_of(view, row, NAME);
+    let namespace = text_or_empty(view, TableId::TypeDef, row, NAMESPACE);
+    let name = text_or_empty(view, TableId::TypeDef, row, NAME);
     let fields = count_of(cells.run(MemberList::Fields, row));
     let methods = count_of(cells.run(MemberList::Methods, row));
     let token = Token {
@@ -62,19 +61,6 @@ fn print_type<W: Write>(cells: &mut CellCursor<'_, '_>, row: u32, out: &mut Prin
         Word(" "),
         Field(Name::Methods, Number(methods as u64)),
     ]);
-}
-
-/// The text in a cell of a type (II.22.37).
-fn text_of<'a>(view: &View<'a>, row: u32, cell_index: usize) -> &'a str
-    requires first { 1 ≤ row }
-    requires last { row ≤ row_count view.now TypeDef }
-    requires cell_index { cell_index < cell_count TypeDef }
-    ensures { (model : Metadata) → IsModel view.now model → result.now ≡ text_of (cell_in model TypeDef row cell_index) }
-{
-    match view.cell(TableId::TypeDef, row, cell_index) {
-        CellRef::Text(text) => text,
-        _ => "",
-    }
 }
 
 /// The number of rows in a range.

@@ -3,8 +3,8 @@ use Rattle.std.specs.Prelude.{ℕ, List, Option, None, Some}
 use Rattle.packed.specs.Rule.{FirstBroken}
 use Rattle.checks.specs.declared.budget.BoundedError.{BoundedError}
 use Rattle.checks.specs.declared.budget.BoundedError.TheVariants.{BudgetSpent, Fault}
-use Rattle.cli_input.specs.Checked.{IsSpentOf, rules_of}
-use Rattle.cli_input.specs.declared.opened.Input.{Input}
+use Rattle.cli_files.specs.Checked.{IsSpentOf, rules_of}
+use Rattle.cli_files.specs.declared.opened.Input.{Input}
 
 -- texts or signatures spend the budget
 abbrev pub IsSpent : Option ℕ → Input → List ℕ → Type 0

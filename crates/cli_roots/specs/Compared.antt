@@ -15,12 +15,12 @@ use Rattle.cli_faults.specs.declared.failure.Failure.{Failure}
 use Rattle.cli_faults.specs.declared.failure.Failure.TheVariants as failed
 use Rattle.cli_faults.specs.Status.{IsOutput}
 use Rattle.cli_faults.specs.declared.stop.Stop.TheVariants.{Different, Failed}
-use Rattle.cli_compare.specs.ComparedLines.{compared_lines}
+use Rattle.cli_roots.specs.ComparedLines.{compared_lines}
 use Rattle.cli_files.specs.Hints.{hint_for}
 use Rattle.cli_files.specs.Stopped.{Outcome}
 use Rattle.cli_files.specs.declared.stopped.Stopped.{Stopped}
-use Rattle.cli_input.specs.Checked.{IsModelOf, IsWhole, rules_of}
-use Rattle.cli_input.specs.declared.opened.Input.{Input}
+use Rattle.cli_files.specs.Checked.{IsModelOf, IsWhole, rules_of}
+use Rattle.cli_files.specs.declared.opened.Input.{Input}
 use Rattle.cli_lines.specs.Lines.{report_text}
 use Rattle.cli_roots.specs.declared.compare.Output.{Output}
 use Rattle.cli_roots.specs.declared.compare.Output.TheVariants.{Lines, Quiet}

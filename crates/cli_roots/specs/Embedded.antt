@@ -15,8 +15,8 @@ use Rattle.cli_faults.specs.declared.failure.Failure.TheVariants as failed
 use Rattle.cli_faults.specs.declared.misfit.Misfit.TheVariants as misfit
 use Rattle.cli_faults.specs.Status.{IsOutput, IsUnwritten}
 use Rattle.cli_files.specs.Stopped.{Outcome}
-use Rattle.cli_output.specs.Written.{IsGiven}
-use Rattle.cli_input.specs.declared.opened.Input.TheVariants.{File}
+use Rattle.cli_roots.specs.Written.{IsGiven}
+use Rattle.cli_files.specs.declared.opened.Input.TheVariants.{File}
 use Rattle.cli_lines.specs.declared.names.Name.TheVariants as name
 use Rattle.cli_lines.specs.declared.parts.Form.{Form}
 use Rattle.cli_lines.specs.Lines.{Part, field, member, number, report_text, word}

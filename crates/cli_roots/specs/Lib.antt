@@ -1,5 +1,7 @@
 pub mod Budget
 pub mod Compared
-pub mod Rewritten
+pub mod ComparedLines
 pub mod Embedded
+pub mod Rewritten
 pub mod Runs
+pub mod Written

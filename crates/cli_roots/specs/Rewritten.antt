@@ -12,9 +12,9 @@ use Rattle.cli_faults.specs.Status.{IsOutput, IsUnwritten}
 use Rattle.cli_faults.specs.declared.stop.Stop.TheVariants.{Failed}
 use Rattle.cli_files.specs.Hints.{hint_for}
 use Rattle.cli_files.specs.Stopped.{Outcome}
-use Rattle.cli_output.specs.Written.{IsGiven}
-use Rattle.cli_input.specs.Checked.{IsOpened, IsWhole, rules_of}
-use Rattle.cli_input.specs.declared.opened.Input.{Input}
+use Rattle.cli_roots.specs.Written.{IsGiven}
+use Rattle.cli_files.specs.Checked.{IsOpened, IsWhole, rules_of}
+use Rattle.cli_files.specs.declared.opened.Input.{Input}
 use Rattle.cli_lines.specs.declared.parts.Form.TheVariants.{Text}
 use Rattle.cli_lines.specs.Lines.{word, note, number, report_text}
 use Rattle.cli_sending.specs.Sent.{SendsPrefix}

@@ -6,7 +6,7 @@ use Rattle.cli_faults.specs.declared.stop.Stop.TheVariants.{BudgetSpent, Failed}
 use Rattle.cli_files.specs.declared.stopped.Stopped.{Stopped}
 use Rattle.cli_files.specs.Read.{IsRefused}
 use Rattle.cli_files.specs.Stopped.{Outcome}
-use Rattle.cli_input.specs.declared.opened.Input.{Input}
+use Rattle.cli_files.specs.declared.opened.Input.{Input}
 use Rattle.cli_roots.specs.Budget.{IsSpent}
 
 -- it stopped by this failure, without a hint

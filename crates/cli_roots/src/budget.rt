@@ -1,9 +1,9 @@
 //! The budget of a check.
 ghost use Rattle.std.specs.Prelude.{IfErr, IsTrue, OnOk};
-ghost use Rattle.cli_input.specs.Checked.{IsWhole};
+ghost use Rattle.cli_files.specs.Checked.{IsWhole};
 ghost use Rattle.cli_roots.specs.Budget.{IsSpent, StopsWithin};
 
-use cli_input::{Input, open, open_within};
+use cli_files::{Input, open, open_within};
 use opening::BoundedError;
 
 /// Checks bytes against the rules, within a budget if there is one.

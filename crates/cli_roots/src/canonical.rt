@@ -3,7 +3,7 @@ ghost use Rattle.std.specs.Prelude.{IfErr, IfOk};
 ghost use Rattle.cli_roots.specs.Rewritten.{IsRewritten, ReportsUnwritten};
 
 use cli_faults::Failure;
-use cli_input::{Input, open};
+use cli_files::{Input, open};
 use packed::{Fault, FaultCode};
 use std::alloc::Global;
 use writer::{Prepared, WriteError, prepare};

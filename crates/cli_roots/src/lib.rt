@@ -7,13 +7,26 @@
 //! ```text
 //! rewrite_file(&rt, "out.root", "one_module.dll", Input::File, None, &mut out)?; // `out` holds "wrote 144 bytes\n"
 //! ```
+//!
+//! `compare` prints a line for each difference (II.22 and II.24.2):
+//!
+//! ```text
+//! version: v2.0.50727 | v4.0.30319         {"difference":"Version","left":"v2.0.50727","right":"v4.0.30319"}
+//! user strings: 16 | 16 at 5               {"difference":"UserStrings","offset":5}
+//! rows 06 MethodDef: 5 | 6                 {"difference":"RowCount","table":"MethodDef","left":5,"right":6}
+//! 02000001 Flags: 1048577 | 1048576        {"difference":"Cell","token":"02000001","column":"Flags","left":1048577,"right":1048576}
+//! ```
+//!
+//! `rewrite` and `embed` create, truncate or replace the file that they write, and refuse the path of the standard output.
 #![tactic(auto)]
 
 mod budget;
 mod canonical;
 mod compare;
+mod differences;
 mod embed;
 mod one_line;
+mod output_file;
 mod rewrite;
 
 pub use budget::{check_within, is_spent};

@@ -8,11 +8,11 @@ use crate::canonical::canonical_root;
 use crate::one_line::print_one;
 use cli_faults::{Failure, Stop};
 use cli_files::{Stopped, read_file};
-use cli_input::Input as Given;
+use cli_files::Input as Given;
 use cli_lines::Form;
 use cli_lines::Part::{Note, Word};
 use cli_lines::Value::Number;
-use cli_output::{check_path, write_file};
+use crate::output_file::{check_path, write_file};
 use std::io::Write;
 use std::rt::Files;
 

@@ -10,8 +10,8 @@ pub use Rattle.cli_faults.specs.Status.{IsOutput, IsUnread}
 pub use Rattle.cli_faults.specs.declared.failure.Failure.{Failure}
 pub use Rattle.cli_faults.specs.declared.failure.Failure.TheVariants.{NotUtf8, OutOfMemory}
 pub use Rattle.cli_sending.specs.Sent.{Sent}
-pub use Rattle.cli_input.specs.declared.opened.Input.{Input}
-pub use Rattle.cli_input.specs.declared.opened.Input.TheVariants.{BareRoot, File}
+pub use Rattle.cli_files.specs.declared.opened.Input.{Input}
+pub use Rattle.cli_files.specs.declared.opened.Input.TheVariants.{BareRoot, File}
 pub use Rattle.cli_lines.specs.Lines.{Part, Style, report_text, style}
 unfoldable pub use Rattle.cli_lines.specs.Lines.{styled_text}
 pub use Rattle.cli_lines.specs.Printed.{Printed, Prints, Asked}

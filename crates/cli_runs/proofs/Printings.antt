@@ -2,11 +2,11 @@
 use Rattle.cli_runs.proofs.Prelude.{ℕ, List, Option, inl, inr, Metadata, Token, Printed, Prints, OutlineOptions, UnlessFailed, AreDeclared, AreSomeDeclared, Input, BareRoot, File, Request}
 use Rattle.cli_header.specs.declared.header.CliHeader.{CliHeader}
 use Rattle.cli_info.specs.InfoLines.{AreFacts}
-use Rattle.cli_input.specs.Checked.{IsModelOf}
+use Rattle.cli_files.specs.Checked.{IsModelOf}
 use Rattle.cli_outline.specs.Printed.{PrintsRows, PrintsSome}
-use Rattle.cli_resources.specs.Unfound.{IsUnlisted}
-use Rattle.cli_resources.specs.declared.opened.Unfound.{Unfound}
-use Rattle.cli_resources.specs.declared.opened.Unfound.TheVariants as unfound
+use Rattle.cli_info.specs.Unfound.{IsUnlisted}
+use Rattle.cli_info.specs.declared.opened.Unfound.{Unfound}
+use Rattle.cli_info.specs.declared.opened.Unfound.TheVariants as unfound
 use Rattle.cli_runs.specs.Reports.{IsRefused, stop_of}
 use Rattle.cli_runs.specs.declared.report.Report.TheVariants as report
 

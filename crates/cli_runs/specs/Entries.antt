@@ -6,8 +6,8 @@ use Rattle.cli_header.specs.declared.header.CliHeader.{CliHeader}
 use Rattle.metadata.specs.Metadata.{Metadata}
 use Rattle.metadata.specs.Model.{has_native_entry_point}
 use Rattle.cli_info.specs.InfoLines.{AreFacts}
-use Rattle.cli_input.specs.Checked.{IsWhole}
-use Rattle.cli_input.specs.declared.opened.Input.{Input}
+use Rattle.cli_files.specs.Checked.{IsWhole}
+use Rattle.cli_files.specs.declared.opened.Input.{Input}
 use Rattle.cli_outline.specs.declared.source.OutlineOptions.{OutlineOptions}
 
 -- the token with this number; a native entry point has none (II.25.3.3.1)

@@ -7,9 +7,9 @@ use Rattle.cli_faults.specs.declared.stop.Stop.{Stop}
 use Rattle.cli_faults.specs.declared.stop.Stop.TheVariants.{Failed}
 use Rattle.cli_files.specs.Hints.{hint_for}
 use Rattle.cli_files.specs.Stopped.{Outcome}
-use Rattle.cli_input.specs.declared.opened.Input.TheVariants.{File}
-use Rattle.cli_resources.specs.Unfound.{IsContentOf, IsUnfound}
-use Rattle.cli_resources.specs.declared.opened.Unfound.{Unfound}
+use Rattle.cli_files.specs.declared.opened.Input.TheVariants.{File}
+use Rattle.cli_info.specs.Unfound.{IsContentOf, IsUnfound}
+use Rattle.cli_info.specs.declared.opened.Unfound.{Unfound}
 use Rattle.cli_sending.specs.Sent.{SendsPrefix}
 use Rattle.cli_runs.specs.Reports.{stop_of}
 

@@ -15,21 +15,21 @@ use Rattle.root.specs.Streams.{RootRead}
 use Rattle.metadata.specs.Metadata.{Metadata}
 use Rattle.metadata.specs.Model.{IsModelOfFile}
 use Rattle.metadata.specs.Rules.{rules_of_file}
-use Rattle.resources.specs.Resources.{Where}
-use Rattle.cli_resources.specs.ResourceLines.{AreLocations, resource_lines}
-use Rattle.cli_resources.specs.Unfound.{AreAllLocated, IsUnlisted}
-use Rattle.cli_resources.specs.declared.opened.Unfound.{Unfound}
-use Rattle.cli_resources.specs.declared.opened.Unfound.TheVariants as unfound
+use Rattle.file_ranges.specs.Resources.{Where}
+use Rattle.cli_info.specs.ResourceLines.{AreLocations, resource_lines}
+use Rattle.cli_info.specs.Unfound.{AreAllLocated, IsUnlisted}
+use Rattle.cli_info.specs.declared.opened.Unfound.{Unfound}
+use Rattle.cli_info.specs.declared.opened.Unfound.TheVariants as unfound
 use Rattle.cli_faults.specs.declared.failure.Failure.TheVariants.{Fault, NoSuchRow, OutOfMemory}
 use Rattle.cli_faults.specs.declared.stop.Stop.{Stop}
 use Rattle.cli_faults.specs.declared.stop.Stop.TheVariants.{Broken, BudgetSpent, Failed, NoSuchResource, NoSuchType, NothingAt, ResourceElsewhere, ResourceOutside}
 use Rattle.cli_lines.specs.declared.parts.Form.{Form}
 use Rattle.cli_lines.specs.declared.parts.Form.TheVariants.{Text}
 use Rattle.cli_lines.specs.Lines.{Part, Style, style}
-use Rattle.cli_input.specs.Checked.{IsModelOf, IsOpened, IsWhole, rules_of}
-use Rattle.cli_input.specs.declared.opened.Input.{Input}
-use Rattle.cli_input.specs.declared.opened.Input.TheVariants.{File}
-use Rattle.cli_input.specs.Heads.{AreHeads, HasHeads, rules_of_heads}
+use Rattle.cli_files.specs.Checked.{IsModelOf, IsOpened, IsWhole, rules_of}
+use Rattle.cli_files.specs.declared.opened.Input.{Input}
+use Rattle.cli_files.specs.declared.opened.Input.TheVariants.{File}
+use Rattle.cli_files.specs.Heads.{AreHeads, HasHeads, rules_of_heads}
 use Rattle.cli_cells.specs.Before.{AreLinesBefore}
 use Rattle.cli_cells.specs.RowLines.{show_lines}
 use Rattle.cli_cells.specs.TokenLines.{AreTokenLines, IsNamed}
@@ -40,8 +40,8 @@ use Rattle.cli_outline.specs.Printed.{AreLines}
 use Rattle.cli_outline.specs.References.{AreRefsOf}
 use Rattle.cli_outline.specs.Shown.{shown_rows}
 use Rattle.cli_outline.specs.Subjects.{AreSubjectRows, is_declared}
-use Rattle.cli_paths.specs.Refs.{HasSome, IsMeantRef}
-use Rattle.cli_paths.specs.Subjects.{IsSubject}
+use Rattle.cli_names.specs.Refs.{HasSome, IsMeantRef}
+use Rattle.cli_names.specs.Subjects.{IsSubject}
 use Rattle.cli_outline.specs.declared.source.OutlineOptions.{OutlineOptions}
 use Rattle.cli_outline.specs.declared.source.Rows.TheVariants as rows_of
 use Rattle.cli_outline.specs.declared.source.Sorting.TheVariants.{ByRow}

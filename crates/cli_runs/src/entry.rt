@@ -2,14 +2,14 @@
 ghost use Rattle.std.specs.Prelude.{IfErr, IfOk, Option, Some};
 ghost use Rattle.cli_header.specs.declared.header.CliHeader.{CliHeader as Header};
 ghost use Rattle.cli_info.specs.InfoLines.{AreFacts};
-ghost use Rattle.cli_input.specs.Checked.{IsModelOf, IsWhole, rules_of};
+ghost use Rattle.cli_files.specs.Checked.{IsModelOf, IsWhole, rules_of};
 ghost use Rattle.cli_runs.specs.Entries.{IsEntryOf};
 ghost use Rattle.metadata.specs.Metadata.{Metadata};
 ghost use Rattle.metadata.specs.Model.{IsModel};
 ghost use Rattle.packed.specs.Rule.{FirstBroken};
 
 use cli_header::CliHeader;
-use cli_input::Input;
+use cli_files::Input;
 use opening::{Token, View, open_image, open_root};
 use packed::Fault;
 

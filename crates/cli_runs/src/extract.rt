@@ -1,13 +1,13 @@
 //! `clim resources --extract`: the content of a resource.
-ghost use Rattle.cli_input.specs.declared.opened.Input.TheVariants.{File};
+ghost use Rattle.cli_files.specs.declared.opened.Input.TheVariants.{File};
 ghost use Rattle.cli_roots.specs.Runs.{IsFileRun, IsWithin};
 ghost use Rattle.cli_runs.specs.Extracted.{IsExtracting};
 
 use crate::report::stop_of;
 use cli_faults::{Failure, Stop};
 use cli_files::{Stopped, read_file};
-use cli_input::Input as Given;
-use cli_resources::resource_named;
+use cli_files::Input as Given;
+use cli_info::resource_named;
 use cli_roots::is_spent;
 use cli_sending::finish;
 use std::io::Write;

@@ -12,7 +12,7 @@ use cli_faults::{Failure, Stop};
 use cli_files::{STANDARD_INPUT, Stopped, out_of_memory, read_into, status};
 use cli_nearest::{Types, report_missing_row, report_missing_type};
 use cli_outline::Subject;
-use cli_walk::{Unread, refuse};
+use cli_files::{Unread, refuse};
 use std::alloc::{AllocError, Global};
 use std::fs;
 use std::io::Write;

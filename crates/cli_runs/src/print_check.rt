@@ -1,7 +1,7 @@
 //! `clim check`: whether the bytes of a file break a rule.
 ghost use Rattle.std.specs.Prelude.{◌≡◌, ◌∷◌, ◌++◌, List, Some, map};
 ghost use Rattle.std.specs.Option.{option_map};
-ghost use Rattle.cli_input.specs.Checked.{rules_of};
+ghost use Rattle.cli_files.specs.Checked.{rules_of};
 ghost use Rattle.cli_lines.specs.Lines.{Part};
 ghost use Rattle.cli_lines.specs.Printed.{Prints};
 ghost use Rattle.cli_print.specs.Verdicts.{verdict_line};

@@ -2,13 +2,13 @@
 ghost use Rattle.std.specs.Prelude.{◌≡◌, ◌⊎◌};
 ghost use Rattle.cli_runs.specs.Runs.{AreVisited, EndsAs, IsCutAmong};
 ghost use Rattle.cli_runs.specs.declared.report.Directories.TheVariants.{Walked};
-ghost use Rattle.cli_walk.specs.Walks.{IsVisit};
+ghost use Rattle.cli_files.specs.Walks.{IsVisit};
 
 use crate::files::{OutputFailed, Room, report_unread, run_on_bytes};
 use crate::report::{Directories, Report, Request, Verdict};
 use cli_faults::Failure;
 use cli_sending::send_message;
-use cli_walk::{Unread, Visit, Walk, read_if_like, refuse};
+use cli_files::{Unread, Visit, Walk, read_if_like, refuse};
 use std::alloc::Global;
 use std::io::Write;
 use std::rt::Files;

@@ -1,1 +1,3 @@
+pub mod LetterLemmas
+pub mod Prelude
 pub mod SentLemmas

@@ -7,9 +7,9 @@ use Rattle.cli_faults.specs.declared.failure.Failure.{Failure}
 use Rattle.cli_faults.specs.declared.failure.Failure.TheVariants.{Fault, OutOfMemory}
 use Rattle.metadata.specs.Metadata.{Metadata}
 use Rattle.metadata.specs.Model.{IsModelOfFile}
-use Rattle.cli_input.specs.Checked.{IsModelOf, IsWhole, rules_of}
-use Rattle.cli_input.specs.declared.opened.Input.{Input}
-use Rattle.cli_input.specs.declared.opened.Input.TheVariants.{BareRoot, File}
+use Rattle.cli_files.specs.Checked.{IsModelOf, IsWhole, rules_of}
+use Rattle.cli_files.specs.declared.opened.Input.{Input}
+use Rattle.cli_files.specs.declared.opened.Input.TheVariants.{BareRoot, File}
 use Rattle.cli_header.specs.declared.header.CliHeader.{CliHeader}
 use Rattle.cli_contents.specs.Lines.{AreOfResources, content_lines}
 use Rattle.cli_lines.specs.Lines.{Part, word}

@@ -16,8 +16,8 @@ use Rattle.schema.specs.Header.{sizes_of}
 use Rattle.schema.specs.Rules.{rules_of_stream}
 use Rattle.rows.specs.Cells.{Stream}
 use Rattle.metadata.specs.Streams.{root_in}
-use Rattle.cli_input.specs.declared.opened.Input.{Input}
-use Rattle.cli_input.specs.declared.opened.Input.TheVariants.{BareRoot, File}
+use Rattle.cli_files.specs.declared.opened.Input.{Input}
+use Rattle.cli_files.specs.declared.opened.Input.TheVariants.{BareRoot, File}
 use Rattle.cli_regions.specs.Files.{cli_regions}
 use Rattle.cli_regions.specs.Headers.{root_regions, table_stream_regions}
 use Rattle.cli_regions.specs.PeHeaders.{image_regions}

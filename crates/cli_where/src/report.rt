@@ -2,7 +2,7 @@
 ghost use Rattle.std.specs.Prelude.{◌≡◌, ◌==◌, ◌++◌, false, length, map};
 ghost use Rattle.cli_lines.specs.Printed.{Prints};
 ghost use Rattle.cli_regions.specs.Kept.{seen};
-ghost use Rattle.cli_input.specs.Checked.{IsModelOf};
+ghost use Rattle.cli_files.specs.Checked.{IsModelOf};
 ghost use Rattle.metadata.specs.Metadata.{Metadata};
 ghost use Rattle.metadata.specs.Model.{IsModel};
 ghost use Rattle.cli_where.specs.Located.{HasContents, IsLocated, where_lines};
@@ -12,7 +12,7 @@ use crate::walk::{Reach, structures_at};
 use cli_contents::{print_contents, print_resource};
 use cli_faults::Failure;
 use cli_found::print_value;
-use cli_input::{Input, open};
+use cli_files::{Input, open};
 use cli_lines::Part::Word;
 use cli_lines::Printer;
 use cli_regions::Structure;

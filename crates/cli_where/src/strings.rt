@@ -8,7 +8,7 @@ ghost use Rattle.cli_where.specs.UserStrings.{AreEntries, Entry};
 use crate::user_strings::{USER_STRINGS, user_entry};
 use cli_cells::padded_copy;
 use cli_faults::Failure;
-use cli_input::{Input, open};
+use cli_files::{Input, open};
 use cli_lines::Part::{Field, Units, Word};
 use cli_lines::Value::Hex;
 use cli_lines::{Name, Printer};

@@ -3,7 +3,7 @@
 #![tactic(auto)]
 
 use cli::{Terminal, go_on};
-use cli_escapes::is_utf8_locale;
+use cli_sending::is_utf8_locale;
 use cli_files::refuse_words;
 use std::process::ExitCode;
 use std::{env, io};

@@ -39,8 +39,8 @@ pub use Rattle.cli_faults.specs.declared.explained.Explanation.{Explanation as E
 pub use Rattle.root_writer.specs.Canonical.{canonical}
 pub use Rattle.embedding.specs.declared.strong_name.StrongName.{StrongName}
 pub use Rattle.comparison.specs.Differences.{first_differences}
-pub use Rattle.c_attributes.specs.Items.{AreItems}
-pub use Rattle.c_attributes.specs.Values.{IsValueAt}
+pub use Rattle.c_values.specs.Items.{AreItems}
+pub use Rattle.c_values.specs.Values.{IsValueAt}
 pub use Rattle.c_values.specs.Cells.{IsCell}
 pub use Rattle.c_values.specs.Given.{IsGiven}
 pub use Rattle.c_values.specs.Refused.{IsGivenValid, IsRefused, refusal_of}

@@ -4,7 +4,7 @@ ghost use Rattle.clim_c.specs.Attributes.{IsOpenAttribute};
 
 use crate::opened::seen;
 use crate::view::ClimView;
-use c_attributes::{ClimAttributeItem, NOT_DECODED, write_value};
+use c_values::{ClimAttributeItem, NOT_DECODED, write_value};
 use opening::TableId;
 
 /// Writes the items of the value of the attribute in a row of CustomAttribute, up to the length of `items`, and returns the

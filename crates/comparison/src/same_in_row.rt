@@ -49,9 +49,9 @@ fn same_signature(
     ensures { (first second : Body) → Encodes kind first left.now → Encodes kind second right.now
         → IfOk result (λ same. IsTrue same ↔ (first ≡ second)) }
 {
-    sig_values::laws::signatures_are_read();
-    sig_values::laws::encoded_is_encodable();
-    sig_values::laws::shortest_encodes();
+    sig_grammar::laws::signatures_are_read();
+    sig_grammar::laws::encoded_is_encodable();
+    sig_grammar::laws::shortest_encodes();
     if left == right {
         return Ok(true);
     }

@@ -1,20 +1,20 @@
 -- Each parameter has a name and flags, and each piece of a declaration has a text.
-use Rattle.declarations.proofs.Prelude.{◌≡◌, ℕ, ◌<◌, ◌≤◌, List, [], ◌∷◌, ◌++◌, ◌⊎◌, inl, inr, Option, Some, None, refl, ap, ◌∙◌, arith, codes, decimal, signed_decimal, cases_eq, cases_lt, Param, cell_columns, Token, Cell, Number, Text, IsOfKind, HasRow, Metadata, cell_in, count_in, IsValid, Scopes, Member, name_text, IsRowNameBy, ArePiecesText, HasText, any_name, first_row, is_text, first_linked, leading_words, words_of, generics_text, IsDeclaredPiece, IsFlagsOf, IsGenerics, IsMarshalOf, IsNameOf, IsParamAt, IsParamRow, IsParamText, after_space, arity_text, before_space, marshal_by, param_token, position_in, position_of, spaced}
+use Rattle.declarations.proofs.Prelude.{◌≡◌, ℕ, ◌<◌, ◌≤◌, List, [], ◌∷◌, ◌++◌, ◌⊎◌, inl, inr, Option, Some, None, refl, ap, ◌∙◌, arith, codes, decimal, signed_decimal, cases_eq, cases_lt, Param, cell_columns, Token, Cell, Number, Text, IsOfKind, HasRow, Metadata, cell_in, count_in, IsValid, Scopes, Member, name_text, IsRowNameBy, ArePiecesText, HasText, any_name, first_row, is_text, first_linked, leading_words, words_of, generics_text, IsDeclaredPiece, IsFlagsOf, IsGenerics, IsMarshalOf, IsNameOf, IsParamAt, IsParamRow, IsParamText, after_space, arity_text, before_space, marshal_by, param_token, position_in, number_in, spaced}
 use Rattle.table_schema.specs.declared.column.ColumnKind.TheVariants as kind
 use Rattle.sig_text.specs.SignatureText.{Piece, word, number, signed, name, method_name, generic_params, param_flags, param_name}
 use Rattle.navigation.specs.declared.links.Link.TheVariants as link
 use Rattle.type_heads.specs.declared.flag_words.FlagTable.TheVariants as flag_table
 
-is_number : (cell : Cell) → IsOfKind kind.U16 cell → cell ≡ Number (position_of cell)
+is_number : (cell : Cell) → IsOfKind kind.U16 cell → cell ≡ Number (number_in cell)
 is_number (Number value) of = refl
 is_number _ of = absurd of
 
 module _ (model : Metadata) (valid : IsValid model) (first past position : ℕ) where
-  param_number : (row : ℕ) → HasRow model Param row → cell_in model Param row 1 ≡ Number (position_of (cell_in model Param row 1))
+  param_number : (row : ℕ) → HasRow model Param row → cell_in model Param row 1 ≡ Number (number_in (cell_in model Param row 1))
   unfolding cell_columns
   param_number row there = is_number (cell_in model Param row 1) (valid.cells Param row 1 there (omega arith)).of_kind
 
-  param_flags_of : (row : ℕ) → HasRow model Param row → cell_in model Param row 0 ≡ Number (position_of (cell_in model Param row 0))
+  param_flags_of : (row : ℕ) → HasRow model Param row → cell_in model Param row 0 ≡ Number (number_in (cell_in model Param row 0))
   unfolding cell_columns
   param_flags_of row there = is_number (cell_in model Param row 0) (valid.cells Param row 0 there (omega arith)).of_kind
 
@@ -44,13 +44,13 @@ module _ (model : Metadata) (valid : IsValid model) (first past position : ℕ) 
     to = at.1;
     sequence = param_number row there ∙ ap (λ (n : ℕ). Number n) at.2;
     before = λ earlier before from same. elim (cases_lt earlier row) [
-      | inl less ↦ let to = at.1 in absurd (none earlier before less (from, omega (arith, less, to), ap position_of same))
+      | inl less ↦ let to = at.1 in absurd (none earlier before less (from, omega (arith, less, to), ap number_in same))
       | inr least ↦ least
     ];
   }
 
   pub no_param : ((row : ℕ) → HasRow model Param row → ¬ is_at row) → IsParamRow model first past position None
-  no_param none row at = none row at.there (at.from, at.to, ap position_of at.sequence)
+  no_param none row at = none row at.there (at.from, at.to, ap number_in at.sequence)
 
   param_row : (row : Option ℕ) × IsParamRow model first past position row
   param_row = elim (first_row is_at at_or_not (count_in model Param)) [
@@ -64,7 +64,7 @@ module _ (model : Metadata) (valid : IsValid model) (first past position : ℕ) 
 
   flags_in : (row : Option ℕ) → IsParamRow model first past position row → HasText (IsParamText IsFlagsOf model first past position)
   flags_in None none = ([], (None, none, refl))
-  flags_in (Some row) at = (leading_words (position_of (cell_in model Param row 0)) (words_of flag_table.Param), (Some row, at, (position_of (cell_in model Param row 0), param_flags_of row at.there, refl)))
+  flags_in (Some row) at = (leading_words (number_in (cell_in model Param row 0)) (words_of flag_table.Param), (Some row, at, (number_in (cell_in model Param row 0), param_flags_of row at.there, refl)))
 
   marshal_of : (space : List ℕ → List ℕ) (row : Option ℕ) → IsParamRow model first past position row → HasText (IsParamText (IsMarshalOf space) model first past position)
   marshal_of space None none = ([], (None, none, refl))

@@ -13,7 +13,7 @@ pub use Rattle.table_schema.specs.declared.token.Token.{Token}
 pub use Rattle.sig_grammar.specs.Encodes.{Encodes}
 pub use Rattle.sig_grammar.specs.Syntax.{method_body, property}
 pub use Rattle.sig_text.specs.Declares.{member_text, as_method}
-pub use Rattle.metadata.specs.Cell.{Cell, Ref, Number, Text}
+pub use Rattle.metadata.specs.Cell.{Cell, Ref, Number, Text, number_in}
 pub use Rattle.metadata.specs.Kinds.{IsOfKind}
 pub use Rattle.metadata.specs.Lookups.{HasRow, HasKey, IsKeyCell}
 pub use Rattle.metadata.specs.Metadata.{Metadata, cell_in, count_in}
@@ -34,6 +34,6 @@ pub use Rattle.full_names.specs.declared.limit.Scopes.{Scopes}
 pub use Rattle.full_names.specs.declared.quoted.NameKind.TheVariants.{Dotted, Member, Identifier}
 pub use Rattle.type_heads.proofs.HeadLemmas.{generics_text, is_none, is_some}
 pub use Rattle.type_heads.specs.FlagWords.{leading_words, words_of}
-pub use Rattle.declarations.specs.Declarations.{IsClassUnder, IsGenerics, arity_text, param_token, IsDeclaredPiece, IsFlagsOf, IsMarshalOf, IsNameOf, IsParamAt, IsParamRow, IsParamText, after_space, before_space, marshal_by, position_in, position_of, spaced, AreParams, IsReference, IsReferenceBy, marshalled, AreLinksOf, generic_rows, IsDeclarationWith, IsPropertyDeclarationBy}
+pub use Rattle.declarations.specs.Declarations.{IsClassUnder, IsGenerics, arity_text, param_token, IsDeclaredPiece, IsFlagsOf, IsMarshalOf, IsNameOf, IsParamAt, IsParamRow, IsParamText, after_space, before_space, marshal_by, position_in, spaced, AreParams, IsReference, IsReferenceBy, marshalled, AreLinksOf, generic_rows, IsDeclarationWith, IsPropertyDeclarationBy}
 pub use Rattle.declarations.specs.Descriptors.{library_text, quoted_text, type_after, marshal_text, bytes_text, content_text, descriptor_in, variant_text}
 pub use Rattle.declarations.specs.declared.method_text.Declared.{Declared}

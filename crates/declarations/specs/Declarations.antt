@@ -8,11 +8,11 @@ use Rattle.table_schema.specs.declared.token.Token.{Token}
 use Rattle.sig_grammar.specs.Syntax.{Body, Method}
 use Rattle.sig_text.specs.Declares.{member_text}
 use Rattle.sig_text.specs.SignatureText.{Piece, method_name, generic_params, param_flags, param_name, declared_text}
-use Rattle.metadata.specs.Cell.{Cell, Text, Number, Bytes, Sig}
+use Rattle.metadata.specs.Cell.{Text, Number, Sig, number_in, bytes_in}
 use Rattle.metadata.specs.Metadata.{Metadata, cell_in}
 use Rattle.metadata.specs.Model.{IsModel}
 use Rattle.metadata.specs.Lookups.{HasRow, IsRun}
-use Rattle.metadata_source.specs.declared.member_lists.MemberList.TheVariants as list
+use Rattle.metadata.specs.declared.member_lists.MemberList.TheVariants as list
 use Rattle.navigation.specs.declared.links.Link.TheVariants as link
 use Rattle.navigation.specs.Linked.{first_linked, linked}
 use Rattle.navigation.specs.Keyed.{has_key, keyed_rows, row_of}
@@ -30,13 +30,9 @@ use Rattle.type_heads.specs.Heads.{AreListed, IsInHead}
 use Rattle.declarations.specs.declared.links.Links.{Links}
 use Rattle.declarations.specs.Descriptors.{marshal_text}
 
--- the position in a cell, and that of a row of Param (II.22.33)
-abbrev pub position_of : Cell → ℕ
-position_of (Number position) = position
-position_of _ = 0
-
+-- the position in a row of Param (II.22.33)
 abbrev pub position_in : Metadata → ℕ → ℕ
-position_in model row = position_of (cell_in model Param row 1)
+position_in model row = number_in (cell_in model Param row 1)
 
 -- among the rows of Param from one on to before another, which may be in any order, this is the first one that has the position
 pub record IsParamAt (model : Metadata) (first past position row : ℕ) : Type 0 where
@@ -74,13 +70,9 @@ IsFlagsOf model (Some row) text = (flags : ℕ) × (cell_in model Param row 0 �
 
 -- how the parameter in a row of Param is marshalled, by the first row of FieldMarshal that refers to it (II.22.17), and a space
 -- before or after it; empty without such a row
-abbrev pub bytes_of : Cell → List ℕ
-bytes_of (Bytes blob) = blob
-bytes_of _ = []
-
 abbrev pub marshal_by : (List ℕ → List ℕ) → Metadata → Option ℕ → List ℕ
 marshal_by spaced model None = []
-marshal_by spaced model (Some row) = spaced (marshal_text (bytes_of (cell_in model FieldMarshal row 1)))
+marshal_by spaced model (Some row) = spaced (marshal_text (bytes_in (cell_in model FieldMarshal row 1)))
 
 abbrev pub param_token : ℕ → Token
 param_token row = record { table = Param; row = row }

@@ -15,7 +15,7 @@ use crate::links::Links;
 use crate::method_text::{Declared, MethodText, put_declaration};
 use crate::params::Params;
 use full_names::{Limit, NoLimit, TextError, bytes_of, result_of};
-use metadata_source::params_of;
+use metadata_source::{MemberList, members_of};
 use navigation::{Neighbours, ReadCells, cells, type_of_method, type_of_property};
 use std::alloc::Global;
 use std::fmt;
@@ -140,11 +140,11 @@ fn write_method_by<S: ReadCells, W: fmt::Write, L: Limit<W>>(
     ensures text { (model : Metadata) → S.shows source.now model → AreLinksOf model links.entry → (method : Method) → cell_in model MethodDef row 4 ≡ Sig (method_body method)
         → OnOk result (Wrote W.write_str_gives out.old (IsDeclarationWith (generic_rows links.entry) L.scopes model row method) out.new) }
 {
-    sig_values::laws::shortest_encodes();
+    sig_grammar::laws::shortest_encodes();
     source.holds_one();
     let kind = SigKind::MethodDef;
     let bytes = source.signature(alloc, kind, TableId::MethodDef, row, METHOD_SIGNATURE)?;
-    let rows = params_of(source, row);
+    let rows = members_of(source, MemberList::Params, row);
     let of = Declared {
         class: Token {
             table: TableId::TypeDef,
@@ -178,7 +178,7 @@ pub fn write_property_within<S: ReadCells, W: fmt::Write, L: Limit<W>>(
     ensures text { (model : Metadata) → S.shows source.now model → (this : Bool) (of : Slot) (params : List Slot) → cell_in model Property row 2 ≡ Sig (property this of params)
         → OnOk result (Wrote W.write_str_gives out.old (IsPropertyDeclarationBy L.scopes model row (as_method this of params)) out.new) }
 {
-    sig_values::laws::shortest_encodes();
+    sig_grammar::laws::shortest_encodes();
     source.holds_one();
     let kind = SigKind::Property;
     let bytes = source.signature(alloc, kind, TableId::Property, row, PROPERTY_SIGNATURE)?;

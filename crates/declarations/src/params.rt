@@ -4,11 +4,12 @@ ghost use Rattle.std.specs.Fmt.{WritesInCalls};
 ghost use Rattle.std.specs.List.{filter};
 ghost use Rattle.std.specs.List.Sorted.{IsNonDecreasingBy};
 ghost use Rattle.table_schema.specs.declared.table.TableId.TheVariants.{FieldMarshal, Param};
+ghost use Rattle.metadata.specs.Cell.{bytes_in};
 ghost use Rattle.metadata.specs.Metadata.{Metadata, cell_in};
 ghost use Rattle.navigation.specs.declared.links.Link.TheVariants as link;
 ghost use Rattle.navigation.specs.Linked.{first_linked};
 ghost use Rattle.navigation.specs.Keyed.{has_key, key_of, keyed_rows};
-ghost use Rattle.declarations.specs.Declarations.{AreLinksOf, bytes_of, param_token, position_in, spaced};
+ghost use Rattle.declarations.specs.Declarations.{AreLinksOf, param_token, position_in, spaced};
 
 use crate::links::Links;
 use full_names::{Limit, NameKind, write_name, write_text};
@@ -74,7 +75,7 @@ fn marshal_row<S: ReadCells>(source: &S, links: Option<Links<'_>>, param: u32) -
 fn blob<S: ReadCells>(source: &S, row: u32) -> &[u8]
     requires first { 1 ≤ row }
     requires last { row ≤ S.row_count source.now FieldMarshal }
-    ensures { (model : Metadata) → S.shows source.now model → result.now ≡ bytes_of (cell_in model FieldMarshal row 1) }
+    ensures { (model : Metadata) → S.shows source.now model → result.now ≡ bytes_in (cell_in model FieldMarshal row 1) }
 {
     match source.cell(TableId::FieldMarshal, row, DESCRIPTOR) {
         CellRef::Bytes(blob) => blob,

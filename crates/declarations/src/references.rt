@@ -52,7 +52,7 @@ fn write_method_reference<S: ReadCells, W: fmt::Write, L: Limit<W>>(
     requires last { row ≤ S.row_count source.now MethodDef }
     ensures { (model : Metadata) → S.shows source.now model → OnOk result (Wrote W.write_str_gives out.old (IsReferenceBy L.scopes model MethodDef row 3 4) out.new) }
 {
-    sig_values::laws::shortest_encodes();
+    sig_grammar::laws::shortest_encodes();
     source.holds_one();
     let kind = SigKind::MethodDef;
     let bytes = source.signature(alloc, kind, TableId::MethodDef, row, METHOD_SIGNATURE)?;
@@ -81,7 +81,7 @@ fn write_member_reference<S: ReadCells, W: fmt::Write, L: Limit<W>>(
     requires last { row ≤ S.row_count source.now MemberRef }
     ensures { (model : Metadata) → S.shows source.now model → OnOk result (Wrote W.write_str_gives out.old (IsReferenceBy L.scopes model MemberRef row 1 2) out.new) }
 {
-    sig_values::laws::shortest_encodes();
+    sig_grammar::laws::shortest_encodes();
     source.holds_one();
     let kind = SigKind::MemberRef;
     let bytes = source.signature(alloc, kind, TableId::MemberRef, row, MEMBER_SIGNATURE)?;

@@ -1,4 +1,6 @@
 pub mod BodyLemmas
+pub mod DirectoryLemmas
+pub mod LocationLemmas
 pub mod Lowest
 pub mod Prelude
 pub mod SizeLemmas

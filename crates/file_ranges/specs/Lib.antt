@@ -1,6 +1,7 @@
-pub mod Fields
-pub mod Read
 pub mod Bodies
-pub mod FieldData
 pub mod ClassSizes
+pub mod FieldData
+pub mod Fields
 pub mod Occupied
+pub mod Read
+pub mod Resources

@@ -6,7 +6,7 @@ use Rattle.table_schema.specs.declared.token.Token.{Token}
 use Rattle.metadata.specs.Cell.{Text, Ref}
 use Rattle.metadata.specs.Metadata.{Metadata, cell_in}
 use Rattle.metadata.specs.Lookups.{HasRow}
-use Rattle.metadata_source.specs.declared.member_lists.MemberList.TheVariants as list
+use Rattle.metadata.specs.declared.member_lists.MemberList.TheVariants as list
 use Rattle.navigation.specs.Maps.{IsMapOf}
 use Rattle.navigation.specs.Nesting.{type_token}
 use Rattle.navigation.specs.Owners.{Owns}

@@ -123,7 +123,7 @@ fn write_type_spec<S: ReadCells, W: fmt::Write, L: Limit<W>>(
     ensures { (model : Metadata) → S.shows source.now model → (signature : Body) → cell_in model TypeSpec row 0 ≡ Sig signature
         → OnOk result (Wrote W.write_str_gives out.old (IsTypeSpecText L.scopes model signature) out.new) }
 {
-    sig_values::laws::shortest_encodes();
+    sig_grammar::laws::shortest_encodes();
     source.holds_one();
     let kind = SigKind::TypeSpec;
     let bytes = source.signature(alloc, kind, TableId::TypeSpec, row, TYPE_SIGNATURE)?;

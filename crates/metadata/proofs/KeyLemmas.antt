@@ -87,6 +87,12 @@ no_padding : (table : TableId) (column : ℕ) → IsReference (column_at table c
 no_padding table column (inl row) = ap is_padding row.1
 no_padding table column (inr coded) = ap is_padding coded.1
 
+-- a key has a cell
+pub key_cell : (table : TableId) (key : ℕ) → key_of table ≡ Some key → (cell_index : ℕ) × IsKeyCell table cell_index
+key_cell table key is =
+    let there = column_cell table key (key_within table key is) (no_padding table key (key_reference table key is)) in
+    (there.0, record { within = there.1; key = is ∙ ap (λ (c : ℕ). Some c) (sym there.2) })
+
 module _ (source : Source) (model : Metadata)
     (counts : (table : TableId) → count_in model table ≡ rows_in source table)
     (cells : (table : TableId) (row cell_index : ℕ) → 1 ≤ row → row ≤ rows_in source table → cell_index < cell_count table
@@ -113,9 +119,8 @@ module _ (source : Source) (model : Metadata)
 
   pub order_in_root : (table : TableId) (key : ℕ) → key_of table ≡ Some key → IsKeyOrdered model table → IsInOrder source table key
   order_in_root table key is ordered = λ row second last.
-      let there = column_cell table key (key_within table key is) (no_padding table key (key_reference table key is)) in
-      let at : IsKeyCell table there.0 = record { within = there.1; key = is ∙ ap (λ (c : ℕ). Some c) (sym there.2) } in
-      let low = key_is table key there.0 (row - 1) is at (omega arith) (omega arith) in
-      let high = key_is table key there.0 row is at (omega arith) last in
-      let up = ordered there.0 row at second (omega (arith, counts table, last)) in
+      let there = key_cell table key is in
+      let low = key_is table key there.0 (row - 1) is there.1 (omega arith) (omega arith) in
+      let high = key_is table key there.0 row is there.1 (omega arith) last in
+      let up = ordered there.0 row there.1 second (omega (arith, counts table, last)) in
       omega (arith, low, high, up)

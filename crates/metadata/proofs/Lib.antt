@@ -3,6 +3,8 @@ pub mod FileLemmas
 pub mod ItemLemmas
 pub mod ModelLemmas
 pub mod Prelude
+pub mod ListLemmas
+pub mod LinkLemmas
 pub mod RowRuleLemmas
 pub mod Sample
 pub mod StandsLemmas

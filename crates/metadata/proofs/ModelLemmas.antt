@@ -190,6 +190,4 @@ model_one read one root model other is also =
     let versions = version_read read root model is ∙ sym (version_read read root other also) in
     let users = user_read read root model is ∙ sym (user_read read root other also) in
     let same = tables_one one (source_of root) model.tables other.tables (cells_read read root model is) (cells_read read root other also) in
-    ap (λ (v : List ℕ). let m : Metadata = record { version = v; user = model.user; tables = model.tables } in m) versions
-    ∙ ap (λ (u : List ℕ). let m : Metadata = record { version = other.version; user = u; tables = model.tables } in m) users
-    ∙ ap (λ (t : List (List (List Cell))). let m : Metadata = record { version = other.version; user = other.user; tables = t } in m) same
+    λ i. record { version = versions i; user = users i; tables = same i }

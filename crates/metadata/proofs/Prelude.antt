@@ -22,7 +22,7 @@ pub use Rattle.table_schema.specs.declared.coded.Coded.{Coded}
 pub use Rattle.table_schema.specs.declared.column.ColumnKind.{ColumnKind}
 pub use Rattle.table_schema.specs.declared.column.SigKind.{SigKind}
 pub use Rattle.table_schema.specs.declared.table.TableId.{TableId}
-pub use Rattle.table_schema.specs.declared.table.TableId.TheVariants.{Module, TypeDef, Field, MethodDef, Param, EventMap, Event, PropertyMap, Property, NestedClass, Constant}
+pub use Rattle.table_schema.specs.declared.table.TableId.TheVariants.{Module, TypeDef, Field, NestedClass, Constant}
 pub use Rattle.table_schema.specs.declared.token.Token.{Token}
 pub use Rattle.schema.specs.Cells.{HoldsCell}
 unfoldable pub use Rattle.schema.specs.Cells.{numbers_at}
@@ -31,13 +31,16 @@ pub use Rattle.schema.specs.Sizes.{Sizes, count_of, kind_width, width_of}
 pub use Rattle.sig_grammar.specs.Encodes.{Encodes, IsEncodable, tokens}
 pub use Rattle.sig_grammar.specs.Parts.{is_table}
 pub use Rattle.sig_grammar.specs.Syntax.{Body}
-pub use Rattle.metadata.specs.Cell.{Cell, Number, Text, Bytes, Guid, Ref, Start, Sig}
+pub use Rattle.metadata.specs.Cell.{Cell, Number, Text, Bytes, Guid, Ref, Start, Sig, start_in}
 pub use Rattle.metadata.specs.KeyOrder.{key_number, key_in, IsKeyOrdered, row_number}
 pub use Rattle.metadata.specs.Kinds.{IsOfKind, IsTo, IsHeld}
 pub use Rattle.metadata.specs.Lookups.{IsKeyCell, HasRow}
 pub use Rattle.metadata.specs.Metadata.{Metadata, count_in, cell_in, rows_of, row_of}
 pub use Rattle.metadata.specs.Model.{IsModel, IsEntryPoint, has_native_entry_point, IsModelOfFile}
-pub use Rattle.metadata.specs.RowRules.{IsInOrder, AreByKey, is_said_sorted, IsByKey, links_in, IsOwned, IsNested, AreLinked}
+pub use Rattle.metadata.specs.RowRules.{IsInOrder, AreByKey, is_said_sorted, IsByKey}
+pub use Rattle.metadata.specs.declared.member_lists.MemberList.{MemberList}
+pub use Rattle.metadata.specs.MemberLists.{owner_of, cell_of, member_of}
+pub use Rattle.metadata.specs.Links.{Links, links_in, IsOwned, IsNested, AreLinked}
 pub use Rattle.metadata.specs.LinkRules.{Checked}
 unfoldable pub use Rattle.metadata.specs.LinkRules.{rules_of_start, rules_of_run, rules_of_runs, rules_of_nesting_in, rules_of_nesting, rules_of_links}
 pub use Rattle.metadata.specs.Rows.{AreFrom, IsCell, AreTables, table_at, StandsIn}
@@ -52,4 +55,4 @@ pub use Rattle.metadata.specs.Stands.{StandsFor, Refers}
 pub use Rattle.metadata.specs.Starts.{start_from}
 unfoldable pub use Rattle.metadata.specs.Starts.{start_of}
 pub use Rattle.metadata.specs.Streams.{root_in, stream_in, source_in}
-pub use Rattle.metadata.specs.Valid.{kind_at, IsValidAt, links_of, HasOwners, IsValid, Names, IsWithinMembers, IsValidCell, start_in, row_in}
+pub use Rattle.metadata.specs.Valid.{kind_at, IsValidAt, links_of, IsValid, Names, IsWithinMembers, IsValidCell, row_in}

@@ -1,9 +1,9 @@
 -- All rules for tables hold if and only if they are those of a valid model.
-use Rattle.metadata.proofs.Prelude.{◌≡◌, ℕ, ◌<◌, ◌≤◌, ◌++◌, List, length, subst, arith, Rule, AllHold, all_append, all_prefix, all_back, each_holds, all_of_each, TableId, tables, table_index_of, cell_count, Metadata, count_in, cell_in, HasRow, table_at, AreLinked, rules_of_links, IsValidAt, links_of, IsValid}
+use Rattle.metadata.proofs.Prelude.{◌≡◌, ℕ, ◌<◌, ◌≤◌, ◌++◌, List, length, subst, arith, Rule, AllHold, all_append, all_prefix, all_back, each_holds, all_of_each, TableId, tables, table_index_of, cell_count, Metadata, count_in, cell_in, HasRow, table_at, rules_of_links, IsValidAt, IsValid}
 use Rattle.table_schema.proofs.TableFacts.{table_at_index, table_index_below}
 use Rattle.metadata.specs.Refusals.{refusals_of_count, refusals_of_counts, refusals_of_cell, refusals_of_row, refusals_by_row_at, refusals_by_row, in_memory, refusals_of_signature, refusals_of_signatures_in, refusals_of}
 use Rattle.metadata.specs.declared.refusal.Refusal.{Refusal}
-use Rattle.metadata.proofs.RowRuleLemmas.{links_found, links_met}
+use Rattle.metadata.proofs.LinkLemmas.{links_found, links_met}
 
 each_table : (P : TableId → Type 0) → ((j : ℕ) → j < 38 → P (table_at j)) → (table : TableId) → P table
 each_table P each table = subst P (table_at_index table) (each (table_index_of table) (table_index_below table))
@@ -58,7 +58,6 @@ module _ (model : Metadata) where
       let behind_cells = all_back cells (links ++ signatures) behind_counts in
       let row = row_holds (refusals_of_row model) (all_prefix cells (links ++ signatures) behind_counts) in
       let signed = row_holds (refusals_of_signatures_in model) (all_back links signatures behind_cells) in
-      let linked = links_found (in_memory model) (all_prefix links signatures behind_cells) in
       record {
         version = all.0;
         user = all.1.0;
@@ -69,12 +68,7 @@ module _ (model : Metadata) where
           each_holds (refusals_of_cell model table r) 0 (cell_count table) (row table r there).1 cell_index (omega arith) (omega arith),
           each_holds (refusals_of_signature model table r) 0 (cell_count table) (signed table r there) cell_index (omega arith) (omega arith),
         );
-        fields = linked.fields;
-        methods = linked.methods;
-        params = linked.params;
-        events = linked.events;
-        properties = linked.properties;
-        nested = λ r there. linked.nested r there.0 there.1;
+        linked = links_found (in_memory model) (all_prefix links signatures behind_cells);
       }
 
   pub valid_met : IsValid model → AllHold (refusals_of model)
@@ -84,15 +78,7 @@ module _ (model : Metadata) where
       let links = rules_of_links (in_memory model) in
       let signatures = refusals_by_row model (refusals_of_signatures_in model) in
       let cell = λ (table : TableId) (row cell_index : ℕ) (there : HasRow model table row) (below : cell_index < cell_count table).
-      cell_met model table row cell_index (valid.cells table row cell_index there below) in
-      let linked : AreLinked (links_of model) = record {
-        fields = valid.fields;
-        methods = valid.methods;
-        params = valid.params;
-        events = valid.events;
-        properties = valid.properties;
-        nested = λ row low high. valid.nested row (low, high);
-      } in (
+      cell_met model table row cell_index (valid.cells table row cell_index there below) in (
         valid.version,
         (
           valid.user,
@@ -101,7 +87,7 @@ module _ (model : Metadata) where
                 valid.long table row there,
                 all_of_each (refusals_of_cell model table row) 0 (cell_count table) (λ cell_index low below. (cell table row cell_index there (omega arith)).0),
               )))
-              (all_append links signatures (links_met (in_memory model) linked)
+              (all_append links signatures (links_met (in_memory model) valid.linked)
               (rows_hold (refusals_of_signatures_in model) (λ table row there.
               all_of_each (refusals_of_signature model table row) 0 (cell_count table) (λ cell_index low below. (cell table row cell_index there (omega arith)).1))))),
         ),

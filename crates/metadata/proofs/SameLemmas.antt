@@ -1,5 +1,5 @@
 -- Models with the same parts are equal.
-use Rattle.metadata.proofs.Prelude.{◌≡◌, ℕ, suc, ◌+◌, ◌-◌, ◌<◌, List, [], ◌∷◌, length, get_or, refl, sym, ap, subst, ◌∙◌, arith, TableId, tables, Cell, Number, Metadata, rows_of, row_of, HasRow, table_at}
+use Rattle.metadata.proofs.Prelude.{◌≡◌, ℕ, suc, ◌+◌, ◌-◌, ◌<◌, List, [], ◌∷◌, length, get_or, refl, sym, subst, ◌∙◌, arith, TableId, tables, Number, Metadata, rows_of, row_of, HasRow, table_at}
 use Rattle.table_schema.proofs.TableFacts.{table_index_at}
 use Rattle.metadata.specs.Same.{SaysSame}
 
@@ -32,7 +32,4 @@ module _ (model other : Metadata) (same : SaysSame model other) where
       subst (λ (i : ℕ). get_or model.tables i [] ≡ get_or other.tables i []) (table_index_at j (omega (arith, same.tables))) (rows_one (table_at j)))
 
   pub models_one : model ≡ other
-  models_one =
-      ap (λ (v : List ℕ). let m : Metadata = record { version = v; user = model.user; tables = model.tables } in m) same.version
-      ∙ ap (λ (u : List ℕ). let m : Metadata = record { version = other.version; user = u; tables = model.tables } in m) same.user
-      ∙ ap (λ (t : List (List (List Cell))). let m : Metadata = record { version = other.version; user = other.user; tables = t } in m) tables_one
+  models_one = λ i. record { version = same.version i; user = same.user i; tables = tables_one i }

@@ -61,18 +61,9 @@ number_met source _ nullable start number offset cell is = tt
 
 pub encoding_met : (source : Source) (kind : ColumnKind) (nullable : Bool) (start : TableId → ℕ) (number offset : ℕ) (cell : Cell)
     → StandsFor source kind nullable start number cell → AllHold (rules_of_encoding source kind number offset)
-encoding_met source kind.U8 nullable start number offset cell is = tt
-encoding_met source kind.U16 nullable start number offset cell is = tt
-encoding_met source kind.U32 nullable start number offset cell is = tt
-encoding_met source kind.Padding nullable start number offset cell is = tt
-encoding_met source kind.Text nullable start number offset cell is = tt
-encoding_met source kind.Guid nullable start number offset cell is = tt
-encoding_met source kind.Blob nullable start number offset cell is = tt
 encoding_met source (kind.Signature column) nullable start number offset cell is =
     ((is.0, is.1, is.2, is.3, tt), ((is.0, is.1, is.2, is.3, is.4), tt))
-encoding_met source (kind.Row table) nullable start number offset cell is = tt
-encoding_met source (kind.Coded coded) nullable start number offset cell is = tt
-encoding_met source (kind.List member) nullable start number offset cell is = tt
+encoding_met source _ nullable start number offset cell is = tt
 
 -- padding has no rules
 pub padding_met : (source : Source) (kind : ColumnKind) (nullable : Bool) (number offset other : ℕ) → is_padding kind ≡ true

@@ -1,5 +1,6 @@
 -- The tokens of a signature whose rows exist.
-use Rattle.std.proofs.Common.{◌≡◌, ◌≤◌, ◌⊎◌, ℕ, Bool, true, false, List, [], ◌∷◌, Some, None, slice_index, refl, inl, inr, arith}
+use Rattle.std.proofs.Common.{◌≡◌, ◌≤◌, ℕ, true, List, [], ◌∷◌, Some, None, slice_index, refl, inl, inr, arith}
+use Rattle.std.proofs.lemmas.Bool.{cases_Bool}
 use Rattle.std.proofs.lemmas.Bool.Decides.{nat_tests}
 use Rattle.std.specs.List.{AllByRecursion}
 use Rattle.table_schema.specs.Tables.{table_number}
@@ -11,10 +12,6 @@ module _ (count : TableId → ℕ) (counts : List ℕ) (counted : (table : Table
   abbrev pub IsCounted : Token → Type 0
   IsCounted token = (1 ≤ token.row) × (token.row ≤ count token.table)
 
-  cases : (b : Bool) → (b ≡ true) ⊎ (b ≡ false)
-  cases true = inl refl
-  cases false = inr refl
-
   there : (token : Token) → has_row counts token ≡ true → IsCounted token
   there token e = grind (arith, nat_tests, counted token.table)
 
@@ -24,7 +21,7 @@ module _ (count : TableId → ℕ) (counts : List ℕ) (counted : (table : Table
   -- each token has a row if and only if none is the first without one
   pub all_there : (tokens : List Token) → first_bad counts tokens ≡ None → AllByRecursion IsCounted tokens
   all_there [] e = tt
-  all_there (token ∷ tokens) e = elim (cases (has_row counts token)) [
+  all_there (token ∷ tokens) e = elim (cases_Bool (has_row counts token)) [
     | inl has_one ↦ (there token has_one, all_there tokens (rw has_one at e))
     | inr has_none ↦ absurd (let bad : first_bad counts (token ∷ tokens) ≡ Some token = rw has_none refl in cc)
   ]

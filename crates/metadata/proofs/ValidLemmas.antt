@@ -1,9 +1,11 @@
 -- The model of a root is valid.
-use Rattle.metadata.proofs.Prelude.{◌≡◌, ℕ, zero, suc, ◌+◌, ◌-◌, ◌%◌, ◌^◌, ◌<◌, ◌≤◌, Bool, eqb, List, [], ◌∷◌, take, drop, length, Contains, IsUtf8, refl, sym, ap, subst, ◌∙◌, inl, inr, Option, Some, None, IfSome, lit<, arith, length-append, option_map, cond_both, length-take, length-drop, length-replicate, Tables, UserStrings, Header, named, stream_name, HasNoNul, IsText, IsBlob, IsGuid, zero_padded, TableId, TypeDef, Field, MethodDef, Param, EventMap, Event, PropertyMap, Property, NestedClass, Token, SigKind, ColumnKind, tables, table_index_of, columns_of, column_at, tables_of, Sizes, count_of, kind_width, width_of, IsLaidOut, HoldsCell, Body, Encodes, IsEncodable, tokens, Cell, Number, Ref, Start, Metadata, rows_of, row_of, count_in, cell_in, Source, rows_in, number_of, IsThere, start_from, start_of, StandsFor, Refers, stream_in, source_in, cell_columns, cell_count, column_of, IsCell, IsRow, IsTable, IsTableAt, links_in, IsOwned, IsModel, IsTo, IsOfKind, IsHeld, Names, IsWithinMembers, IsValidCell, IsValidAt, start_in, row_in, HasOwners, IsValid}
+use Rattle.metadata.proofs.Prelude.{◌≡◌, ℕ, zero, suc, ◌+◌, ◌-◌, ◌%◌, ◌^◌, ◌<◌, ◌≤◌, Bool, eqb, List, [], ◌∷◌, take, drop, length, Contains, IsUtf8, refl, sym, ap, subst, ◌∙◌, inl, inr, Option, Some, None, IfSome, lit<, arith, length-append, option_map, cond_both, length-take, length-drop, length-replicate, Tables, UserStrings, Header, named, stream_name, HasNoNul, IsText, IsBlob, IsGuid, zero_padded, TableId, Token, SigKind, ColumnKind, tables, table_index_of, columns_of, column_at, tables_of, Sizes, count_of, kind_width, width_of, IsLaidOut, HoldsCell, Body, Encodes, IsEncodable, tokens, Cell, Number, Ref, Start, Metadata, rows_of, row_of, count_in, cell_in, Source, rows_in, number_of, IsThere, start_from, start_of, StandsFor, Refers, stream_in, source_in, cell_count, column_of, StandsIn, IsCell, IsRow, IsTable, IsTableAt, owner_of, cell_of, member_of, links_in, IsModel, IsTo, IsOfKind, IsHeld, Names, IsWithinMembers, IsValidCell, IsValidAt, start_in, row_in, links_of, IsValid}
 use Rattle.std.specs.Prelude.{slice_get, unwrap_or, replicate}
 use Rattle.std.proofs.lemmas.Str.{IsUtf8-nil}
 use Rattle.packed.specs.Packed.{IsPacked}
 use Rattle.table_schema.specs.declared.column.ColumnKind.TheVariants as kind
+use Rattle.metadata.proofs.LinkLemmas.{AreAlike, links_alike}
+use Rattle.metadata.proofs.ListLemmas.{list_within, list_kind, list_column}
 use Rattle.metadata.proofs.ItemLemmas.{all_weaker, items_length, from_at}
 use Rattle.table_schema.proofs.CellColumnLemmas.{cell_column}
 use Rattle.table_schema.proofs.TableFacts.{table_at_index, table_index_below}
@@ -203,27 +205,28 @@ module _ (known : Known) (root : List ℕ) (model : Metadata) (is : IsModel root
       (λ member lists. start_within table row cell_index member first last below lists)
       (cell_is table row cell_index first last below)
 
-  has_owners : (table : TableId) (cell_index : ℕ) (member : TableId) → cell_index < cell_count table → (column_at table (column_of table cell_index)).kind ≡ kind.List member
-      → IsOwned (links_in source) table (column_of table cell_index) member → HasOwners model table cell_index member
-  has_owners table cell_index member below lists owned =
-      let count = counts table in
-      let start : (row : ℕ) → 1 ≤ row → row ≤ rows_in source table → start_in (cell_in model table row cell_index)
-      ≡ start_of source table row (column_of table cell_index) member =
-      λ row first last. ap start_in (list_is table row cell_index member first last below lists).1 in
-      record {
-        ownerless = λ none. counts member ∙ owned.ownerless (sym count ∙ none);
-        first = λ some. start 1 (omega arith) (omega (arith, count, some)) ∙ owned.first (λ e. some (count ∙ e));
-        rising = λ row second last. rw (start (row - 1) (omega arith) (omega (arith, count)), start row (omega arith) (omega (arith, count)))
-            (owned.rising row second (omega (arith, count)));
-      }
-
   referred : (nullable : Bool) (table : TableId) (number : ℕ) (cell : Cell) → Refers source nullable (record { table = table; row = number }) cell
       → row_in cell ≡ number
   referred nullable table number cell (inl null) = ap row_in null.2 ∙ sym null.0
   referred nullable table number cell (inr there) = ap row_in there.1
 
+  -- the links of the root have the numbers of those of the model
+  alike : AreAlike (links_in source) (links_of model)
+  alike = record {
+    counts = λ table. sym (counts table);
+    starts = λ list row first last.
+        sym (ap start_in (list_is (owner_of list) row (cell_of list) (member_of list) first last (list_within list) (list_kind list)).1
+        ∙ ap (λ (column : ℕ). start_of source (owner_of list) row column (member_of list)) (list_column list));
+    references = λ table target row column first last to.
+        let cell = cell_in model table row column in
+        let at = subst (λ (c : ℕ). StandsIn source table row c cell) to.cell (cell_is table row column first last to.within) in
+        let stands = subst (λ (k : ColumnKind). StandsFor source k (column_at table column).nullable (start_of source table row column) (number_of source table row column) cell)
+        to.refers at in
+        sym (referred (column_at table column).nullable target (number_of source table row column) cell stands);
+  }
+
   pub is_valid : IsValid model
-  unfolding source cell_columns
+  unfolding source
   is_valid = record {
     version = is.is_root.version_is;
     user = record {
@@ -235,14 +238,5 @@ module _ (known : Known) (root : List ℕ) (model : Metadata) (is : IsModel root
     few = λ table. rw (counts table) (is.laid_out.few table);
     long = λ table row there. row_long table row there.0 (omega (arith, counts table, there.1));
     cells = λ table row cell_index there below. cell_valid table row cell_index there.0 (omega (arith, counts table, there.1)) below;
-    fields = has_owners TypeDef 4 Field (lit< tt) refl is.linked.fields;
-    methods = has_owners TypeDef 5 MethodDef (lit< tt) refl is.linked.methods;
-    params = has_owners MethodDef 5 Param (lit< tt) refl is.linked.params;
-    events = has_owners EventMap 1 Event (lit< tt) refl is.linked.events;
-    properties = has_owners PropertyMap 1 Property (lit< tt) refl is.linked.properties;
-    nested = λ row there.
-        let here : row ≤ rows_in source NestedClass = omega (arith, counts NestedClass, there.1) in
-        let low = referred _ TypeDef _ _ (cell_is NestedClass row 1 there.0 here (lit< tt)) in
-        let high = referred _ TypeDef _ _ (cell_is NestedClass row 0 there.0 here (lit< tt)) in
-        omega (arith, is.linked.nested row there.0 here, low, high);
+    linked = links_alike (links_in source) (links_of model) alike is.linked;
   }

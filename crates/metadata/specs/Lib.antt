@@ -8,6 +8,8 @@ pub mod Starts
 pub mod Stands
 pub mod Rows
 pub mod RowRules
+pub mod MemberLists
+pub mod Links
 pub mod LinkRules
 pub mod Model
 pub mod SourceAt

@@ -16,7 +16,8 @@ use Rattle.schema.specs.LaidOut.{IsLaidOut}
 use Rattle.table_schema.specs.Tokens.{IsToken}
 use Rattle.metadata.specs.Metadata.{Metadata, count_in}
 use Rattle.metadata.specs.Rows.{AreTables}
-use Rattle.metadata.specs.RowRules.{AreByKey, AreLinked, links_in}
+use Rattle.metadata.specs.RowRules.{AreByKey}
+use Rattle.metadata.specs.Links.{links_in, AreLinked}
 use Rattle.metadata.specs.Streams.{stream_in, source_in, root_in}
 
 -- The root has this model: it is a root with the model's version; its `#~` stream encodes numbers that represent the

@@ -27,7 +27,8 @@ use Rattle.metadata.specs.Source.{Source, rows_in, number_of, IsThere}
 use Rattle.metadata.specs.Streams.{root_in}
 use Rattle.metadata.specs.Stands.{HasRows}
 use Rattle.metadata.specs.Rows.{table_at}
-use Rattle.metadata.specs.RowRules.{is_said_sorted, links_in}
+use Rattle.metadata.specs.RowRules.{is_said_sorted}
+use Rattle.metadata.specs.Links.{links_in}
 use Rattle.metadata.specs.LinkRules.{Checked, rules_of_links}
 use Rattle.metadata.specs.Model.{IsEntryPoint, has_native_entry_point}
 use Rattle.metadata.specs.SourceAt.{SourceAt, cell_offset, tables_in, tables_offset, source_of, source_at}

@@ -3,18 +3,18 @@ use Rattle.std.specs.Prelude.{◌≡◌, ℕ, ◌+◌, ◌^◌, ◌%◌, ◌<◌
 use Rattle.std.specs.List.{AllByRecursion}
 use Rattle.root.specs.Root.{IsVersion}
 use Rattle.table_schema.specs.declared.table.TableId.{TableId}
-use Rattle.table_schema.specs.declared.table.TableId.TheVariants.{TypeDef, Field, MethodDef, Param, EventMap, Event, PropertyMap, Property, NestedClass}
 use Rattle.table_schema.specs.declared.token.Token.{Token}
 use Rattle.table_schema.specs.declared.column.ColumnKind.{ColumnKind}
 use Rattle.table_schema.specs.declared.column.ColumnKind.TheVariants as kind
 use Rattle.table_schema.specs.Columns.{column_at}
 use Rattle.table_schema.specs.CellColumns.{cell_count, column_of}
 use Rattle.sig_grammar.specs.Encodes.{tokens}
-use Rattle.metadata.specs.Cell.{Cell, Ref, Start, Sig}
+use Rattle.metadata.specs.Cell.{Cell, Ref, Start, Sig, start_in}
 use Rattle.metadata.specs.Kinds.{IsOfKind, IsStorable, IsHeld}
 use Rattle.metadata.specs.Metadata.{Metadata, row_of, count_in, cell_in}
 use Rattle.metadata.specs.Lookups.{HasRow}
-use Rattle.metadata.specs.RowRules.{Links, IsOwned, IsNested}
+use Rattle.metadata.specs.MemberLists.{owner_of, cell_of}
+use Rattle.metadata.specs.Links.{Links, AreLinked}
 
 -- ---- cells
 
@@ -60,27 +60,18 @@ IsValidAt model table cell_index cell = IsValidCell model (kind_at table cell_in
 
 -- ---- the links between rows
 
--- the number of a start
-abbrev pub start_in : Cell → ℕ
-start_in (Start start) = start
-start_in _ = 0
-
 -- the row of a reference; null is 0
 abbrev pub row_in : Cell → ℕ
 row_in (Ref (Some token)) = token.row
 row_in _ = 0
 
--- the links of a model: in its cells (`RowRules.antt`)
+-- the links of a model: in its cells (`Links.antt`)
 abbrev pub links_of : Metadata → Links
 links_of model = record {
   count = count_in model;
-  start = λ owner row cell_index member. start_in (cell_in model owner row cell_index);
+  start = λ list row. start_in (cell_in model (owner_of list) row (cell_of list));
   reference = λ table row cell_index. row_in (cell_in model table row cell_index);
 }
-
--- each member has one owner, by the starts in the owners' rows
-abbrev pub HasOwners : Metadata → TableId → ℕ → TableId → Type 0
-HasOwners model owner cell_index member = IsOwned (links_of model) owner cell_index member
 
 -- ---- the whole
 
@@ -100,9 +91,4 @@ pub record IsValid (model : Metadata) : Type 0 where
   pub long : (table : TableId) (row : ℕ) → HasRow model table row → length (row_of model table row) ≡ cell_count table
   pub cells : (table : TableId) (row cell_index : ℕ) → HasRow model table row → cell_index < cell_count table
       → IsValidAt model table cell_index (cell_in model table row cell_index)
-  pub fields : HasOwners model TypeDef 4 Field
-  pub methods : HasOwners model TypeDef 5 MethodDef
-  pub params : HasOwners model MethodDef 5 Param
-  pub events : HasOwners model EventMap 1 Event
-  pub properties : HasOwners model PropertyMap 1 Property
-  pub nested : (row : ℕ) → HasRow model NestedClass row → IsNested (links_of model) row
+  pub linked : AreLinked (links_of model)

@@ -19,7 +19,8 @@ ghost use Rattle.metadata.specs.Source.{Source, rows_in, number_of};
 ghost use Rattle.metadata.specs.Streams.{stream_in};
 ghost use Rattle.table_schema.specs.CellColumns.{cell_count, column_of};
 ghost use Rattle.metadata.specs.Rows.{IsCell};
-ghost use Rattle.metadata.specs.RowRules.{IsInOrder, AreByKey, AreLinked, links_in};
+ghost use Rattle.metadata.specs.RowRules.{IsInOrder, AreByKey};
+ghost use Rattle.metadata.specs.Links.{links_in, AreLinked};
 ghost use Rattle.metadata.specs.Model.{IsModel, IsModelOfFile};
 ghost use Rattle.metadata.specs.SourceAt.{tables_in, source_of};
 ghost use Rattle.metadata.specs.Valid.{IsValid, kind_at};
@@ -39,7 +40,7 @@ pub fn roots_have_models()
     schema::laws::streams_are_read();
     schema::laws::numbers_are_read();
     heap_entries::laws::entries_are_one();
-    sig_values::laws::signatures_are_read();
+    sig_grammar::laws::signatures_are_read();
 }
 
 /// A list of bytes satisfies all rules for a file if and only if it has a CLI header and a model. It has at
@@ -83,7 +84,7 @@ pub fn cells_are_one()
         → IsCell source table row cell_index other → cell ≡ other }
 {
     heap_entries::laws::entries_are_one();
-    sig_values::laws::signatures_are_read();
+    sig_grammar::laws::signatures_are_read();
 }
 
 /// The model of a root is valid, so a model that is built from its parts is never refused.
@@ -91,7 +92,7 @@ pub fn models_of_roots_are_valid()
     ensures { (root : List ℕ) (model : Metadata) → IsModel root model → IsValid model }
 {
     schema::laws::cells_stand();
-    sig_values::laws::encoded_is_encodable();
+    sig_grammar::laws::encoded_is_encodable();
 }
 
 /// All rules for a model with 38 tables hold if and only if it is valid.

@@ -1,36 +1,23 @@
 -- The key numbers of a table, and the rows with a key.
-use Rattle.metadata_source.proofs.Prelude.{◌≡◌, ◌≢◌, ℕ, zero, suc, ◌+◌, ◌-◌, ◌≤◌, ◌<◌, ◌==◌, ◌↔◌, List, length, slice_index_or, Option, Some, None, IfSome, IfNone, refl, sym, ◌∙◌, ap, subst, arith, IsNonDecreasing, eq-eqb, eqb-true, TableId, Metadata, count_in, cell_in, HasRow, HasKey, IsKeyCell, IsOfKind, row_number, key_number, key_in, IsKeyOrdered, key_at, rows_with}
+use Rattle.metadata_source.proofs.Prelude.{◌≡◌, ◌≢◌, ℕ, zero, suc, ◌+◌, ◌-◌, ◌≤◌, ◌==◌, ◌↔◌, List, length, slice_index_or, Option, Some, None, IfSome, IfNone, sym, ◌∙◌, ap, subst, arith, IsNonDecreasing, eq-eqb, eqb-true, TableId, Metadata, count_in, cell_in, HasRow, HasKey, IsKeyCell, IsOfKind, row_number, key_number, key_in, IsKeyOrdered, key_at, rows_with}
 use Rattle.std.specs.List.{Contains}
 use Rattle.table_schema.specs.declared.token.Token.{Token}
 use Rattle.metadata.specs.Cell as says
 use Rattle.metadata.specs.Valid.{IsValid, MayRefer, kind_at, nullable_at}
-use Rattle.metadata_source.specs.Keys.{numbers_from, all_numbers}
+use Rattle.metadata_source.specs.Keys.{all_numbers}
+use Rattle.std.proofs.lemmas.List.FromFn.{length-map-range_with_len, get_or-map-range_with_len}
 use Rattle.metadata_source.proofs.CellLemmas.{key_is_one}
 use Rattle.metadata_source.proofs.RowLemmas.{that_passes, passes_that}
-
-module _ (f : ℕ → ℕ) where
-  numbers_long : (row left : ℕ) → length (numbers_from f row left) ≡ left
-  numbers_long row zero = refl
-  numbers_long row (suc left) = let tail = numbers_long (row + 1) left in omega arith
-
-  number_at : (row left k d : ℕ) → k < left → slice_index_or (numbers_from f row left) k d ≡ f (row + k)
-  number_at row zero k d within = absurd (omega arith)
-  number_at row (suc left) zero d within = let same : row ≡ row + 0 = omega arith in ap f same
-  number_at row (suc left) (suc k) d within =
-      let same : row + 1 + k ≡ row + suc k = omega arith in
-      number_at (row + 1) left k d (omega arith) ∙ ap f same
 
 module _ (f : ℕ → ℕ) (n : ℕ) where
   -- there is one number a row
   pub numbers_count : length (all_numbers f n) ≡ n
   unfolding all_numbers
-  numbers_count = numbers_long f 1 n
+  numbers_count = length-map-range_with_len f 1 n
 
   pub number_is : (row d : ℕ) → 1 ≤ row → row ≤ n → slice_index_or (all_numbers f n) (row - 1) d ≡ f row
   unfolding all_numbers
-  number_is row d first last =
-      let same : 1 + (row - 1) ≡ row = omega arith in
-      number_at f 1 n (row - 1) d (omega arith) ∙ ap f same
+  number_is row d first last = get_or-map-range_with_len f 1 n (row - 1) row d (omega arith) (omega arith)
 
   -- numbers of rows none of which is lower than that of the row before
   rising : ((row : ℕ) → 2 ≤ row → row ≤ n → f (row - 1) ≤ f row) → (row gap : ℕ) → 1 ≤ row → row + gap ≤ n → f row ≤ f (row + gap)
@@ -127,7 +114,7 @@ module _ (model : Metadata) (table : TableId) (cell : ℕ) (at : IsKeyCell table
         let test = λ (r : ℕ). key_at (all_numbers f n) r == number in
         let P : List ℕ → Type 0 = λ l. Contains l row in (
           (λ has.
-              let passes = that_passes test 1 (length (all_numbers f n) + 1 - 1) row (subst P is has) in
+              let passes = that_passes 1 (length (all_numbers f n) + 1 - 1) test row (subst P is has) in
               let first = passes.0 in
               let past = passes.1 in
               let last : row ≤ n = omega arith in
@@ -139,6 +126,6 @@ module _ (model : Metadata) (table : TableId) (cell : ℕ) (at : IsKeyCell table
               let there = both.0.1 in
               let last : row ≤ n = omega arith in
               let equal = number_is f n row 0 first last ∙ keys row first last ∙ (reports row both.0).0 (key_here row both.1) in
-              subst P (sym is) (passes_that test 1 (length (all_numbers f n) + 1 - 1) row
+              subst P (sym is) (passes_that 1 (length (all_numbers f n) + 1 - 1) test row
               (first, omega arith, eq-eqb (key_at (all_numbers f n) row) number equal))),
         )

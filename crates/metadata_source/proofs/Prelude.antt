@@ -1,8 +1,8 @@
 -- What several proofs of this crate name of std, of the crates below, and of its own definitions.
-pub use Rattle.std.proofs.Common.{◌≡◌, ℕ, zero, suc, ◌+◌, ◌<◌, ◌≤◌, inl, inr, true, false, List, [], ◌∷◌, length, slice_index, refl, sym, ◌∙◌, ap, subst, arith, ◌≢◌, ◌-◌, ◌==◌, ◌↔◌, slice_index_or, Option, Some, None, IfSome, IfNone, ◌⊎◌, Bool, add-one, ◌*◌, ⊎_elim, IsTrue}
-pub use Rattle.std.proofs.lemmas.Bool.{cases_Bool, eq-eqb, eqb-true, cases_eq, cases_lt}
+pub use Rattle.std.proofs.Common.{◌≡◌, ℕ, zero, suc, ◌+◌, ◌<◌, ◌≤◌, inl, inr, true, List, [], ◌∷◌, length, refl, sym, ◌∙◌, ap, subst, arith, ◌≢◌, ◌-◌, ◌==◌, ◌↔◌, slice_index_or, Option, Some, None, IfSome, IfNone, Bool, ◌*◌, IsTrue}
+pub use Rattle.std.proofs.lemmas.Bool.{cases_Bool, eq-eqb, eqb-true}
 pub use Rattle.std.specs.List.Sorted.{IsNonDecreasing, IsStrictlyIncreasing}
-pub use Rattle.table_schema.specs.CellColumns.{is_padding, indexes_from, column_of}
+pub use Rattle.table_schema.specs.CellColumns.{cell_count, column_of}
 unfoldable pub use Rattle.table_schema.specs.CellColumns.{cell_columns}
 pub use Rattle.table_schema.specs.declared.column.ColumnKind.{ColumnKind}
 pub use Rattle.table_schema.specs.declared.table.TableId.{TableId}

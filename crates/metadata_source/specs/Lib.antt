@@ -1,7 +1,5 @@
-pub mod BlobsIn
 pub mod ColumnNumbers
+pub mod HeapCells
 pub mod Keys
-pub mod MemberLists
 pub mod SharedBlobs
 pub mod SignatureBytes
-pub mod TextsIn

@@ -15,11 +15,10 @@ pub trait ReadCells: ReadMetadata {
     ghost use Rattle.metadata.specs.Valid.{kind_at};
     ghost use Rattle.reading.specs.Shown.{Shows};
     ghost use Rattle.reading.specs.declared.run_cursors.RunCursors.{RunCursors as Cursors};
-    ghost use Rattle.metadata_source.specs.BlobsIn.{AreBlobsIn};
     ghost use Rattle.metadata_source.specs.ColumnNumbers.{AreIndexesIn, AreNumbersIn};
+    ghost use Rattle.metadata_source.specs.HeapCells.{AreTextsIn, AreBlobsIn};
     ghost use Rattle.metadata_source.specs.SharedBlobs.{CellId, HasCell, ShareBlob, cell_by_id};
     ghost use Rattle.metadata_source.specs.SignatureBytes.{AreBytesOf};
-    ghost use Rattle.metadata_source.specs.TextsIn.{AreTextsIn};
 
     // The index of a cell's value in the heap that it is read from, if it is read from one.
     ghost heap_index: { Self → CellId → Option ℕ };

@@ -5,7 +5,7 @@
 //!
 //! ```text
 //! let class = find_type(&source, "System", "Object")?;
-//! for method in methods_of(&source, class) { .. }
+//! for method in members_of(&source, MemberList::Methods, class) { .. }
 //! for row in rows_by_key(&source, TableId::CustomAttribute, token) { .. }
 //! ```
 #![tactic(auto)]
@@ -14,7 +14,6 @@ mod by_key;
 mod cells;
 mod key_cells;
 mod keys_of;
-mod member_lists;
 mod row_numbers;
 mod runs_of;
 mod signature_bytes;
@@ -25,8 +24,8 @@ pub use by_key::rows_by_key;
 pub use cells::ReadCells;
 pub use key_cells::kind_of;
 pub use keys_of::KeysOf;
-pub use member_lists::MemberList;
-pub use runs_of::{events_of, fields_of, methods_of, params_of, properties_of};
+pub use metadata::MemberList;
+pub use runs_of::members_of;
 pub use signature_bytes::SignatureBytes;
 pub use source::ReadMetadata;
 pub use type_names::find_type;

@@ -1,4 +1,4 @@
-use crate::member_lists::MemberList;
+use metadata::MemberList;
 use table_schema::TableId;
 
 /// A value that holds one metadata, which reading does not change.
@@ -16,7 +16,7 @@ pub trait ReadMetadata {
     ghost use Rattle.metadata.specs.Lookups.{IsKeyCell};
     ghost use Rattle.metadata.specs.KeyOrder.{key_in, IsKeyOrdered};
     ghost use Rattle.metadata.specs.Valid.{IsValid, kind_at};
-    ghost use Rattle.metadata_source.specs.MemberLists.{owner_of, cell_of};
+    ghost use Rattle.metadata.specs.MemberLists.{owner_of, cell_of};
 
     // It holds this metadata.
     ghost shows: { Self → Metadata → Type 0 };

@@ -1,20 +1,10 @@
 -- The owner of a member is the last row whose run begins at the member or before it.
-use Rattle.navigation.proofs.Prelude.{◌≡◌, ℕ, zero, suc, ◌+◌, ◌-◌, ◌<◌, ◌≤◌, inl, inr, refl, ap, subst, arith, cases_lt, cases_eq, TableId, ColumnKind, cell_columns, cell_count, Cell, Start, IsOfKind, Metadata, count_in, cell_in, HasRow, IsValid, HasOwners, start_in, kind_at}
+use Rattle.navigation.proofs.Prelude.{◌≡◌, ℕ, zero, suc, ◌+◌, ◌-◌, ◌<◌, ◌≤◌, inl, inr, refl, ap, subst, arith, cases_lt, cases_eq, ColumnKind, TableId, Cell, Start, IsOfKind, Metadata, count_in, cell_in, HasRow, IsValid, IsOwned, links_of, start_in}
 use Rattle.table_schema.specs.declared.column.ColumnKind.TheVariants as kind
-use Rattle.metadata_source.specs.declared.member_lists.MemberList.{MemberList}
-use Rattle.metadata_source.specs.declared.member_lists.MemberList.TheVariants as list_of
-use Rattle.metadata_source.specs.MemberLists.{owner_of, cell_of, member_of}
+use Rattle.metadata.specs.declared.member_lists.MemberList.{MemberList}
+use Rattle.metadata.specs.MemberLists.{owner_of, cell_of, member_of}
+use Rattle.metadata.proofs.ListLemmas.{list_within, list_kind}
 use Rattle.navigation.specs.Owners.{Owns}
-
-kind_of_list : (list : MemberList) → kind_at (owner_of list) (cell_of list) ≡ kind.List (member_of list)
-unfolding cell_columns
-kind_of_list list_of.Fields = refl
-kind_of_list _ = refl
-
-cell_of_list : (list : MemberList) → cell_of list < cell_count (owner_of list)
-unfolding cell_columns
-cell_of_list list_of.Fields = omega arith
-cell_of_list _ = omega arith
 
 -- a cell of a list column is a start
 starts : (member : TableId) (cell : Cell) → IsOfKind (kind.List member) cell → cell ≡ Start (start_in cell)
@@ -26,20 +16,16 @@ abbrev pub start_of : Metadata → MemberList → ℕ → ℕ
 start_of model list row = start_in (cell_in model (owner_of list) row (cell_of list))
 
 module _ (model : Metadata) (valid : IsValid model) where
-  owned : (list : MemberList) → HasOwners model (owner_of list) (cell_of list) (member_of list)
-  owned list_of.Fields = valid.fields
-  owned list_of.Methods = valid.methods
-  owned list_of.Params = valid.params
-  owned list_of.Events = valid.events
-  owned list_of.Properties = valid.properties
+  owned : (list : MemberList) → IsOwned (links_of model) list
+  owned list = valid.linked.owned list
 
   module _ (list : MemberList) where
     pub is_start : (row : ℕ) → HasRow model (owner_of list) row → cell_in model (owner_of list) row (cell_of list) ≡ Start (start_of model list row)
     is_start row there =
-        let held = valid.cells (owner_of list) row (cell_of list) there (cell_of_list list) in
+        let held = valid.cells (owner_of list) row (cell_of list) there (list_within list) in
         let cell = cell_in model (owner_of list) row (cell_of list) in
         let P : ColumnKind → Type 0 = λ k. IsOfKind k cell in
-        starts (member_of list) cell (subst P (kind_of_list list) held.of_kind)
+        starts (member_of list) cell (subst P (list_kind list) held.of_kind)
 
     -- starts never decrease
     rising : (row gap : ℕ) → 1 ≤ row → row + gap ≤ count_in model (owner_of list) → start_of model list row ≤ start_of model list (row + gap)

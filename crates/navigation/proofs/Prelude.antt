@@ -15,17 +15,18 @@ pub use Rattle.table_schema.specs.declared.column.ColumnKind.{ColumnKind}
 pub use Rattle.table_schema.specs.declared.table.TableId.{TableId}
 pub use Rattle.table_schema.specs.declared.table.TableId.TheVariants.{TypeDef, EventMap, PropertyMap, NestedClass, TypeRef}
 pub use Rattle.table_schema.specs.declared.token.Token.{Token}
-pub use Rattle.metadata.specs.Cell.{Cell, Number, Text, Ref, Sig, Start}
+pub use Rattle.metadata.specs.Cell.{Cell, Number, Text, Ref, Sig, Start, start_in}
 pub use Rattle.metadata.specs.Kinds.{IsOfKind}
 pub use Rattle.metadata.specs.Lookups.{HasRow, IsKeyCell, HasKey}
 pub use Rattle.metadata.specs.Metadata.{Metadata, cell_in, count_in}
 pub use Rattle.metadata.specs.Source.{Source, rows_in}
 unfoldable pub use Rattle.metadata.specs.Source.{number_of}
 pub use Rattle.metadata.specs.SourceAt.{source_of}
-pub use Rattle.metadata.specs.Valid.{IsValid, MayRefer, kind_at, nullable_at, HasOwners, start_in, row_in}
+pub use Rattle.metadata.specs.Valid.{IsValid, MayRefer, kind_at, nullable_at, links_of, row_in}
+pub use Rattle.metadata.specs.Links.{IsOwned}
 pub use Rattle.reading.specs.KeyRows.{rows_that}
 pub use Rattle.reading.specs.Shown.{Shows}
-pub use Rattle.metadata_source.specs.MemberLists.{owner_of, member_of}
+pub use Rattle.metadata.specs.MemberLists.{owner_of, member_of}
 unfoldable pub use Rattle.opening.specs.Views.{row_count}
 pub use Rattle.navigation.specs.Keyed.{AreByKey, has_key, key_of, keyed_row, keyed_rows, row_of}
 pub use Rattle.navigation.specs.Linked.{number_in, table_of}

@@ -1,4 +1,3 @@
-pub mod Cells
 pub mod Keyed
 pub mod Linked
 pub mod Maps

@@ -2,8 +2,8 @@
 use Rattle.std.specs.Prelude.{ℕ, ◌<◌, ◌≤◌}
 use Rattle.metadata.specs.Metadata.{Metadata}
 use Rattle.metadata.specs.Lookups.{HasRow, IsRun}
-use Rattle.metadata_source.specs.declared.member_lists.MemberList.{MemberList}
-use Rattle.metadata_source.specs.MemberLists.{owner_of, cell_of, member_of}
+use Rattle.metadata.specs.declared.member_lists.MemberList.{MemberList}
+use Rattle.metadata.specs.MemberLists.{owner_of, cell_of, member_of}
 
 -- a row owns a member: the member is in the run of the row
 pub record Owns (model : Metadata) (list : MemberList) (row member : ℕ) : Type 0 where

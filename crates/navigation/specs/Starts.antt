@@ -3,13 +3,13 @@
 use Rattle.std.specs.Prelude.{◌≡◌, ℕ, ◌+◌, ◌<◌, List, length, slice_index}
 use Rattle.table_schema.specs.declared.table.TableId.TheVariants.{NestedClass}
 use Rattle.table_schema.specs.CellColumns.{column_of}
+use Rattle.metadata.specs.Cell.{start_in}
 use Rattle.metadata.specs.Metadata.{Metadata, cell_in}
 use Rattle.metadata.specs.Model.{IsModel}
 use Rattle.metadata.specs.Source.{number_of}
 use Rattle.metadata.specs.SourceAt.{source_of}
-use Rattle.metadata.specs.Valid.{start_in}
-use Rattle.metadata_source.specs.declared.member_lists.MemberList.{MemberList}
-use Rattle.metadata_source.specs.MemberLists.{cell_of, owner_of}
+use Rattle.metadata.specs.declared.member_lists.MemberList.{MemberList}
+use Rattle.metadata.specs.MemberLists.{cell_of, owner_of}
 
 -- these are the starts of the first owners in a list
 abbrev pub AreStarts : List ℕ → MemberList → List ℕ → Type 0

@@ -2,7 +2,7 @@ ghost use Rattle.std.specs.Prelude.{◌≡◌, ◌≤◌, ◌<◌, ℕ, IfSome, 
 ghost use Rattle.table_schema.specs.declared.column.ColumnKind.TheVariants as kind;
 ghost use Rattle.table_schema.specs.CellColumns.{cell_count};
 ghost use Rattle.table_schema.specs.declared.table.TableId.TheVariants.{TypeDef, EventMap, PropertyMap, Event, Property};
-ghost use Rattle.metadata_source.specs.declared.member_lists.MemberList.TheVariants as list_of;
+ghost use Rattle.metadata.specs.declared.member_lists.MemberList.TheVariants as list_of;
 ghost use Rattle.metadata.specs.Metadata.{Metadata};
 ghost use Rattle.metadata.specs.Lookups.{IsRun};
 ghost use Rattle.metadata.specs.Valid.{kind_at, nullable_at};
@@ -11,7 +11,7 @@ ghost use Rattle.navigation.specs.Maps.{IsMapOf, IsFirstMap};
 
 use crate::cells;
 use crate::owners::{event_map_of_event, property_map_of_property};
-use metadata_source::{ReadCells, events_of, properties_of};
+use metadata_source::{MemberList, ReadCells, members_of};
 use std::ops::Range;
 use table_schema::{TableId, Token};
 
@@ -64,7 +64,7 @@ pub fn events_of_type<S: ReadCells>(source: &S, row: u32) -> Range<u32>
         → result.start ≡ result.end }
 {
     match map_of_type(source, TableId::EventMap, row) {
-        Some(map) => events_of(source, map),
+        Some(map) => members_of(source, MemberList::Events, map),
         None => 1..1,
     }
 }
@@ -83,7 +83,7 @@ pub fn properties_of_type<S: ReadCells>(source: &S, row: u32) -> Range<u32>
         → result.start ≡ result.end }
 {
     match map_of_type(source, TableId::PropertyMap, row) {
-        Some(map) => properties_of(source, map),
+        Some(map) => members_of(source, MemberList::Properties, map),
         None => 1..1,
     }
 }

@@ -1,7 +1,7 @@
 //! A view, with what finds the neighbours of its rows in any order.
 ghost use Rattle.std.specs.Prelude.{◌≡◌, ◌≤◌, All, IfOk, IfSome, map};
 ghost use Rattle.table_schema.specs.declared.token.Token.{Token as TheToken};
-ghost use Rattle.metadata_source.specs.declared.member_lists.MemberList.TheVariants as list_of;
+ghost use Rattle.metadata.specs.declared.member_lists.MemberList.TheVariants as list_of;
 ghost use Rattle.metadata.specs.Metadata.{Metadata};
 ghost use Rattle.metadata.specs.Model.{IsModel};
 ghost use Rattle.opening.specs.Views.{row_count};

@@ -1,8 +1,8 @@
 ghost use Rattle.std.specs.Prelude.{◌≡◌, ◌≤◌, ◌<◌, ℕ};
 ghost use Rattle.table_schema.specs.declared.table.TableId.TheVariants.{TypeDef, MethodDef, Field, Param, Event, Property};
-ghost use Rattle.metadata_source.specs.declared.member_lists.MemberList.TheVariants as list_of;
+ghost use Rattle.metadata.specs.declared.member_lists.MemberList.TheVariants as list_of;
 ghost use Rattle.metadata.specs.Metadata.{Metadata};
-ghost use Rattle.metadata_source.specs.MemberLists.{owner_of, member_of};
+ghost use Rattle.metadata.specs.MemberLists.{owner_of, member_of};
 ghost use Rattle.navigation.specs.Owners.{Owns};
 
 use metadata_source::{MemberList, ReadMetadata};

@@ -37,11 +37,6 @@ pub number_is : CodedKnown → (source : Source) (k : ColumnKind) (nullable : Bo
 number_is known source kind.U8 nullable start number cell stands = stands
 number_is known source kind.U16 nullable start number cell stands = stands
 number_is known source kind.U32 nullable start number cell stands = stands
-number_is known source kind.Padding nullable start number cell stands = tt
-number_is known source kind.Text nullable start number cell stands = tt
-number_is known source kind.Guid nullable start number cell stands = tt
-number_is known source kind.Blob nullable start number cell stands = tt
-number_is known source (kind.Signature column) nullable start number cell stands = tt
 number_is known source (kind.Row table) nullable start number cell stands = row_is source nullable table number cell stands
 number_is known source (kind.Coded coded) nullable start number cell stands = coded_is known source nullable coded number stands.0 cell stands.1 stands.2
-number_is known source (kind.List member) nullable start number cell stands = tt
+number_is known source _ nullable start number cell stands = tt

@@ -19,7 +19,7 @@ pub use Rattle.table_schema.specs.declared.table.TableId.{TableId}
 unfoldable pub use Rattle.schema.specs.Cells.{numbers_at}
 pub use Rattle.schema.specs.Rules.{rules_of_stream}
 pub use Rattle.schema.specs.Sizes.{Sizes, count_of}
-pub use Rattle.metadata.specs.Cell.{Cell, Bytes, Text, Start}
+pub use Rattle.metadata.specs.Cell.{Cell, Start}
 pub use Rattle.metadata.specs.KeyOrder.{row_number, IsKeyOrdered}
 pub use Rattle.metadata.specs.Metadata.{Metadata, count_in, cell_in}
 pub use Rattle.metadata.specs.Model.{IsModel, IsModelOfFile}
@@ -36,7 +36,6 @@ pub use Rattle.reading.specs.KnownStarts.{AreKnown}
 pub use Rattle.reading.specs.Shown.{Shows, ShowsBlob}
 pub use Rattle.reading.specs.declared.cell_ref.CellRef.{CellRef}
 pub use Rattle.metadata_source.specs.ColumnNumbers.{IsCodedNumber, IsNumberOf}
-pub use Rattle.metadata_source.specs.MemberLists.{owner_of}
 pub use Rattle.metadata_source.specs.SharedBlobs.{CellId, IsBlobKind, ShareBlob, kind_by_id, cell_by_id}
 pub use Rattle.row_order.specs.Orders.{ReportsOrder}
 pub use Rattle.checks.specs.Budgets.{IsBelow}

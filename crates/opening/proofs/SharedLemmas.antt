@@ -1,21 +1,13 @@
 -- Two cells whose blobs are at one index of the blob heap are equal, and each text and each blob is at the index of its cell.
-use Rattle.opening.proofs.Prelude.{◌≡◌, ℕ, Bool, List, Some, sym, subst, TableId, ColumnKind, column_of, IsBlob, IsText, Bytes, Cell, Text, IsCell, Source, number_of, StandsFor, start_of, nullable_at, CellId, IsBlobKind, ShareBlob, kind_by_id}
+use Rattle.opening.proofs.Prelude.{◌≡◌, ℕ, Bool, Some, sym, subst, TableId, ColumnKind, column_of, Cell, IsCell, Source, number_of, StandsFor, start_of, nullable_at, CellId, IsBlobKind, ShareBlob, kind_by_id}
 use Rattle.table_schema.specs.declared.column.ColumnKind.TheVariants as kind
 
 -- what a number in a column of blobs or signatures represents does not depend on anything but the kind
 stands_alike : (source : Source) (column : ColumnKind) (nullable other : Bool) (start more : TableId → ℕ) (number : ℕ) (cell : Cell) → IsBlobKind column
     → StandsFor source column nullable start number cell → StandsFor source column other more number cell
-stands_alike source kind.U8 nullable other start more number cell blobs stands = absurd blobs
-stands_alike source kind.U16 nullable other start more number cell blobs stands = absurd blobs
-stands_alike source kind.U32 nullable other start more number cell blobs stands = absurd blobs
-stands_alike source kind.Padding nullable other start more number cell blobs stands = absurd blobs
-stands_alike source kind.Text nullable other start more number cell blobs stands = absurd blobs
-stands_alike source kind.Guid nullable other start more number cell blobs stands = absurd blobs
 stands_alike source kind.Blob nullable other start more number cell blobs stands = stands
 stands_alike source (kind.Signature signature) nullable other start more number cell blobs stands = stands
-stands_alike source (kind.Row table) nullable other start more number cell blobs stands = absurd blobs
-stands_alike source (kind.Coded coded) nullable other start more number cell blobs stands = absurd blobs
-stands_alike source (kind.List member) nullable other start more number cell blobs stands = absurd blobs
+stands_alike source _ nullable other start more number cell blobs stands = absurd blobs
 
 abbrev pub number_by_id : Source → CellId → ℕ
 number_by_id source id = number_of source id.table id.row (column_of id.table id.cell_index)
@@ -35,20 +27,9 @@ represented source first second share cell is =
     stands_alike source (kind_by_id first) nullable (nullable_at first.table first.cell_index) start (start_of source first.table first.row (column_of first.table first.cell_index))
     (number_by_id source first) cell share.blobs (subst Q (sym number) (subst P (sym share.kind) is))
 
--- the number in a column of texts represents the text at this index of the heap
-pub text_stands : (source : Source) (id : CellId) (cell : Cell) → kind_by_id id ≡ kind.Text → IsCell source id.table id.row id.cell_index cell
-    → (text : List ℕ) × IsText source.texts (number_by_id source id) text × (cell ≡ Text text)
-text_stands source id cell column is =
-    let nullable = nullable_at id.table id.cell_index in
+-- what the number of a cell represents, by the kind of its column
+pub stands_as : (source : Source) (id : CellId) (cell : Cell) (k : ColumnKind) → kind_by_id id ≡ k → IsCell source id.table id.row id.cell_index cell
+    → StandsFor source k (nullable_at id.table id.cell_index) (start_of source id.table id.row (column_of id.table id.cell_index)) (number_by_id source id) cell
+stands_as source id cell k column is =
     let start = start_of source id.table id.row (column_of id.table id.cell_index) in
-    let P : ColumnKind → Type 0 = λ k. StandsFor source k nullable start (number_by_id source id) cell in
-    subst P column is
-
--- the number in a column of blobs represents the blob at this index of the heap
-pub blob_stands : (source : Source) (id : CellId) (cell : Cell) → kind_by_id id ≡ kind.Blob → IsCell source id.table id.row id.cell_index cell
-    → (blob : List ℕ) × IsBlob source.blobs (number_by_id source id) blob × (cell ≡ Bytes blob)
-blob_stands source id cell column is =
-    let nullable = nullable_at id.table id.cell_index in
-    let start = start_of source id.table id.row (column_of id.table id.cell_index) in
-    let P : ColumnKind → Type 0 = λ k. StandsFor source k nullable start (number_by_id source id) cell in
-    subst P column is
+    subst (λ (j : ColumnKind). StandsFor source j (nullable_at id.table id.cell_index) start (number_by_id source id) cell) column is

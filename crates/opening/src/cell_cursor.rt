@@ -7,7 +7,7 @@ ghost use Rattle.metadata.specs.Metadata.{Metadata, cell_in};
 ghost use Rattle.metadata.specs.Model.{IsModel};
 ghost use Rattle.metadata.specs.Source.{number_of};
 ghost use Rattle.metadata.specs.SourceAt.{source_of};
-ghost use Rattle.metadata_source.specs.MemberLists.{owner_of, cell_of, member_of};
+ghost use Rattle.metadata.specs.MemberLists.{owner_of, cell_of, member_of};
 ghost use Rattle.reading.specs.Cursors.{AreCursors};
 ghost use Rattle.reading.specs.Shown.{ShowsCell, ShowsBlob};
 ghost use Rattle.opening.specs.Views.{row_count, HasModel};
@@ -101,14 +101,8 @@ impl<'v, 'a> CellCursor<'v, 'a> {
         ensures start { (model : Metadata) → IsModel self.old model → cell_in model (owner_of list) row (cell_of list) ≡ Start result }
     {
         let view = self.view;
-        self.cursors.start_at(
-            view.source(),
-            view.known(),
-            list.owner(),
-            row,
-            list.cell(),
-            list.member(),
-        )
+        self.cursors
+            .start_at(view.source(), view.known(), list, row)
     }
 }
 

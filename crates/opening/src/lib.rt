@@ -4,9 +4,10 @@
 //! the bytes have a model. Otherwise they return the fault of the first rule that fails. [`open_root_within`] and
 //! [`open_image_within`] do the same within a budget of bytes to check. A [`View`] reads the one model of the bytes:
 //! its version, its user strings, its cells, the runs of members, and rows by name and by key. It returns values and
-//! parts of the caller's bytes. A [`CellCursor`] reads the cells in a pass over the rows.
-//! [`read_heads`] reads only the headers before the streams of a file. [`read_source_of_root`] and
-//! [`read_source_of_image`] read the rows of bytes that break a rule for cells or a later one.
+//! parts of the caller's bytes. A [`CellCursor`] reads the cells in a pass over the rows. [`number_or_zero`],
+//! [`text_or_empty`] and others read a cell of one kind. [`read_heads`] reads only the headers before the streams of a
+//! file. [`read_source_of_root`] and [`read_source_of_image`] read the rows of bytes that break a rule for cells or a
+//! later one.
 //!
 //! ```text
 //! let (header, view) = open_image(&file)?;
@@ -16,6 +17,7 @@
 #![tactic(auto)]
 
 mod cell_cursor;
+mod cell_values;
 mod found;
 mod heads;
 mod image;
@@ -24,6 +26,9 @@ mod open;
 mod view;
 
 pub use cell_cursor::CellCursor;
+pub use cell_values::{
+    bytes_or_empty, guid_or_null, number_or_zero, reference_or_null, text_or_empty,
+};
 pub use checks::BoundedError;
 pub use cli_header::CliHeader;
 pub use found::Found;

@@ -42,14 +42,7 @@ impl ReadMetadata for View<'_> {
     }
 
     fn start(&self, list: MemberList, row: u32) -> u32 {
-        start_at(
-            self.source(),
-            self.known(),
-            list.owner(),
-            row,
-            list.cell(),
-            list.member(),
-        )
+        start_at(self.source(), self.known(), list, row)
     }
 
     fn is_text(&self, table: TableId, row: u32, cell: usize, sought: &str) -> bool {

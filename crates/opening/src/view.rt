@@ -24,7 +24,7 @@ ghost use Rattle.row_order.specs.Orders.{ReportsOrder};
 ghost use Rattle.opening.specs.Views.{HasModel, AreFound, row_count, user_of};
 
 use crate::found::Found;
-use metadata_source::KeysOf;
+use metadata_source::{KeysOf, MemberList, members_of};
 use reading::{CellRef, KeyRows, KnownRuns, Source, Starts, cell_of, cell_of_kind, starts_of};
 use std::alloc::AllocError;
 use std::marker::Model;
@@ -218,7 +218,7 @@ impl<'a> View<'a> {
         requires last { row ≤ row_count self.now TypeDef }
         ensures { (model : Metadata) → IsModel self.now model → IsRun model TypeDef 4 Field row result.start result.end }
     {
-        metadata_source::fields_of(self, row)
+        members_of(self, MemberList::Fields, row)
     }
 
     /// The methods of a type, as rows of MethodDef (II.22.37).
@@ -229,7 +229,7 @@ impl<'a> View<'a> {
         requires last { row ≤ row_count self.now TypeDef }
         ensures { (model : Metadata) → IsModel self.now model → IsRun model TypeDef 5 MethodDef row result.start result.end }
     {
-        metadata_source::methods_of(self, row)
+        members_of(self, MemberList::Methods, row)
     }
 
     /// The parameters of a method, as rows of Param (II.22.26).
@@ -240,7 +240,7 @@ impl<'a> View<'a> {
         requires last { row ≤ row_count self.now MethodDef }
         ensures { (model : Metadata) → IsModel self.now model → IsRun model MethodDef 5 Param row result.start result.end }
     {
-        metadata_source::params_of(self, row)
+        members_of(self, MemberList::Params, row)
     }
 
     /// The events of a row of EventMap, as rows of Event (II.22.12).
@@ -251,7 +251,7 @@ impl<'a> View<'a> {
         requires last { row ≤ row_count self.now EventMap }
         ensures { (model : Metadata) → IsModel self.now model → IsRun model EventMap 1 Event row result.start result.end }
     {
-        metadata_source::events_of(self, row)
+        members_of(self, MemberList::Events, row)
     }
 
     /// The properties of a row of PropertyMap, as rows of Property (II.22.35).
@@ -262,7 +262,7 @@ impl<'a> View<'a> {
         requires last { row ≤ row_count self.now PropertyMap }
         ensures { (model : Metadata) → IsModel self.now model → IsRun model PropertyMap 1 Property row result.start result.end }
     {
-        metadata_source::properties_of(self, row)
+        members_of(self, MemberList::Properties, row)
     }
 
     /// The first type with a namespace and a name, by its row; `None` if no type has them (II.22.37).

@@ -2,7 +2,7 @@
 pub use Rattle.std.proofs.Common.{◌≡◌, ℕ, ◌-◌, ◌%◌, ◌<◌, List, ◌++◌, length, replicate, slice_index_or, ap, refl, sym, ◌∙◌, zero, suc, ◌+◌, [], ◌∷◌, get_or, set, take, drop, add-one, arith, ◌≤◌, Bool, true, false, Option, Some, None, option_map, slice_get, slice_set, subst, Result, Ok, Err, IfErr, ◌⊎◌, ◌*◌, ◌^◌, ℤ, neg_ℤ, IfSome, Contains, IsUtf8, inl, inr, ◌↔◌, IsSome}
 pub use Rattle.std.proofs.Math.Logic.{∥∥₁_map}
 pub use Rattle.std.proofs.lemmas.Bool.{cases_eq, cases_lt, cases_Bool, both_ways}
-pub use Rattle.std.proofs.lemmas.Grind.{common_steps, not_there}
+pub use Rattle.std.proofs.lemmas.Grind.{not_there}
 pub use Rattle.std.proofs.lemmas.List.{append-nil, map-append, take_more, get_or-set_same, set-set, drop_more, take_all, length-set, length-map}
 pub use Rattle.heap_entries.specs.Padding.{zero_padded}
 pub use Rattle.table_schema.specs.Columns.{column_at, key_of}
@@ -11,14 +11,14 @@ unfoldable pub use Rattle.table_schema.specs.Tables.{tables}
 pub use Rattle.table_schema.specs.declared.column.ColumnKind.{ColumnKind}
 pub use Rattle.table_schema.specs.declared.column.SigKind.{SigKind}
 pub use Rattle.table_schema.specs.declared.table.TableId.{TableId}
-pub use Rattle.table_schema.specs.declared.table.TableId.TheVariants.{Module, TypeDef, Field, MethodDef, Param, EventMap, Event, PropertyMap, Property}
+pub use Rattle.table_schema.specs.declared.table.TableId.TheVariants.{Module}
 pub use Rattle.sig_grammar.specs.Encodes.{Encodes, Holds, IsEncodable, short, tokens}
 pub use Rattle.sig_grammar.specs.Syntax.{Body, locals}
 pub use Rattle.metadata.specs.Kinds.{IsOfKind, IsTo, IsStorable, IsHeld}
 pub use Rattle.metadata.specs.Metadata.{Metadata, rows_of, row_of, count_in, cell_in}
 pub use Rattle.metadata.specs.Model.{IsModel, IsModelOfFile}
 unfoldable pub use Rattle.metadata.specs.Rules.{rules_of_file, rules_of_metadata}
-pub use Rattle.metadata.specs.Valid.{Names, MayRefer, IsWithinMembers, NamesTypes, IsValidCell, HasOwners, IsValid, kind_at}
+pub use Rattle.metadata.specs.Valid.{Names, MayRefer, IsWithinMembers, NamesTypes, IsValidCell, links_of, IsValid, kind_at}
 pub use Rattle.reading.specs.Shown.{Shows, ShowsSignature}
 pub use Rattle.reading.specs.declared.cell_ref.CellRef.{CellRef}
 pub use Rattle.opening.specs.Views.{HasModel, AreFound}

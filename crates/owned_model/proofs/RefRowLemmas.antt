@@ -1,8 +1,9 @@
 -- The values of a row that is read in place are of their columns' kinds, and equal the cells of the model's row.
 use Rattle.std.proofs.Common.{lit≤}
-use Rattle.owned_model.proofs.Prelude.{◌≡◌, ℕ, zero, suc, ◌+◌, ◌<◌, ◌≤◌, Module, List, [], ◌∷◌, length, drop, Option, Some, None, option_map, get_or, slice_get, slice_set, refl, sym, ◌∙◌, ap, subst, arith, get_or-set_same, length-set, common_steps, TableId, SigKind, ColumnKind, column_at, Body, locals, Encodes, IsOfKind, CellRef, Shows, kinds_of, AreOfKinds, IsShown, IsRefOfShape, IsSaid, shape_at, HoldsAt, SaysAt}
+use Rattle.owned_model.proofs.Prelude.{◌≡◌, ℕ, zero, suc, ◌+◌, ◌<◌, ◌≤◌, Module, List, [], ◌∷◌, length, drop, Option, Some, None, option_map, get_or, slice_get, slice_set, refl, sym, ◌∙◌, ap, subst, arith, get_or-set_same, length-set, TableId, SigKind, ColumnKind, column_at, Body, locals, Encodes, IsOfKind, CellRef, Shows, kinds_of, AreOfKinds, IsShown, IsRefOfShape, IsSaid, shape_at, HoldsAt, SaysAt}
 use Rattle.std.proofs.lemmas.Option.{slice_get-get_or, slice_get_within, get_or_from_slice_get}
-use Rattle.std.proofs.lemmas.List.{drop-drop, get_or-set_other}
+use Rattle.std.proofs.lemmas.List.{get_or-set_other}
+use Rattle.type_records.proofs.RowLemmas.{get_at, drop_next}
 use borrow.Author.Count.{below_more}
 use Rattle.table_schema.specs.declared.column.ColumnKind.TheVariants as kind
 use Rattle.table_schema.specs.CellColumns.{cell_columns, cell_count, column_of}
@@ -12,16 +13,7 @@ use Rattle.type_records.specs.Shapes.{Shape, number, text, bytes, guid, referenc
 use Rattle.type_records.specs.Signatures.{encoded}
 use Rattle.owned_model.specs.declared.ref_row.RefRow.{RefRow}
 
--- ---- lists from an index on
-
-get_at : {A : Type 0} → (all : List A) (cell_index : ℕ) (c : A) (tail : List A) → drop cell_index all ≡ c ∷ tail → slice_get all cell_index ≡ Some c
-get_at [] zero c tail h = absurd cc
-get_at [] (suc p) c tail h = absurd cc
-get_at (x ∷ xs) zero c tail h = grind (arith, common_steps, h)
-get_at (x ∷ xs) (suc p) c tail h = get_at xs p c tail h
-
-drop_next : {A : Type 0} → (all : List A) (cell_index : ℕ) (c : A) (tail : List A) → drop cell_index all ≡ c ∷ tail → drop (cell_index + 1) all ≡ tail
-drop_next all cell_index c tail h = sym (drop-drop 1 cell_index all) ∙ ap (drop 1) h
+-- ---- a list with one item set
 
 get_set_here : {A : Type 0} → (xs : List A) (i : ℕ) (v : A) → i < length xs → slice_get (slice_set xs i v) i ≡ Some v
 get_set_here xs i v h = slice_get-get_or (slice_set xs i v) i v (omega (arith, h, length-set xs i v)) ∙ ap Some (get_or-set_same xs i v v h)

@@ -1,5 +1,5 @@
 -- A fact that is not impossible holds, if it can be tested. So a model that is not invalid is valid.
-use Rattle.owned_model.proofs.Prelude.{◌≡◌, ◌⊎◌, ℕ, ◌+◌, ◌*◌, ◌-◌, ◌^◌, ◌<◌, ◌≤◌, ℤ, neg_ℤ, Bool, true, false, List, [], ◌∷◌, length, Option, Some, None, slice_get, slice_index_or, IfSome, Contains, IsUtf8, zero, suc, inl, inr, refl, sym, ap, ◌∙◌, subst, arith, cases_eq, cases_lt, TableId, Module, TypeDef, Field, MethodDef, Param, EventMap, Event, PropertyMap, Property, ColumnKind, SigKind, tables, table_index_of, Holds, IsEncodable, short, tokens, IsTo, IsOfKind, IsStorable, IsHeld, Metadata, count_in, Names, MayRefer, IsWithinMembers, NamesTypes, IsValidCell, HasOwners, IsValid}
+use Rattle.owned_model.proofs.Prelude.{◌≡◌, ◌⊎◌, ℕ, ◌+◌, ◌*◌, ◌-◌, ◌^◌, ◌<◌, ◌≤◌, ℤ, neg_ℤ, Bool, true, false, List, [], ◌∷◌, length, Option, Some, None, slice_get, slice_index_or, IfSome, Contains, IsUtf8, zero, suc, inl, inr, refl, sym, ap, ◌∙◌, subst, arith, cases_eq, cases_lt, not_there, ∥∥₁_map, TableId, Module, ColumnKind, SigKind, tables, table_index_of, Holds, IsEncodable, short, tokens, IsTo, IsOfKind, IsStorable, IsHeld, Metadata, count_in, Names, MayRefer, IsWithinMembers, NamesTypes, IsValidCell, links_of, IsValid}
 use Rattle.std.specs.List.{AllByRecursion}
 use Rattle.std.specs.Str.{is_utf8}
 use Rattle.std.proofs.lemmas.Int.{ints, by_lt_z}
@@ -18,6 +18,7 @@ use Rattle.sig_grammar.specs.Parts.{Part, byte, number, signed, index, index_num
 use Rattle.sig_grammar.specs.Limits.{IsMethodKind, IsSentinel, HasOwnSentinel, IsArrayShape, IsCore, IsTyped, AreTypes, IsContent, IsSlot, AreSlots, IsRet, IsMethod, IsSlotWithin, IsTypedWithin, IsLocalWithin, IsBodyWithin, slot_depth, typed_depth, content_depth, method_depth, ret_depth}
 use Rattle.metadata.specs.Cell.{Cell}
 use Rattle.metadata.specs.Cell as cell
+use Rattle.metadata.proofs.LinkLemmas.{links_known}
 
 -- the fact holds if it is not impossible
 abbrev Stable : Type 0 → Type 0
@@ -203,13 +204,6 @@ stable_types_named : (model : Metadata) (c : Cell) → Stable (NamesTypes model 
 stable_types_named model (cell.Sig signature) = stable_all (Names model) (stable_names model) (tokens signature)
 stable_types_named model _ = λ h. tt
 
-stable_owners : (model : Metadata) (owner : TableId) (cell_index : ℕ) (member : TableId) → Stable (HasOwners model owner cell_index member)
-stable_owners model owner cell_index member h = record {
-  ownerless = λ none. stable_eq _ _ (so h (λ is. is.ownerless none));
-  first = λ some. stable_eq _ _ (so h (λ is. is.first some));
-  rising = λ row second last. stable_le _ _ (so h (λ is. is.rising row second last));
-}
-
 -- ---- coded indexes
 
 tag_is : (shifted tag n : ℕ) → n ≡ shifted + tag → tag ≡ n - shifted
@@ -313,8 +307,8 @@ module _ (stand : (table : TableId) → slice_index_or tables (table_index_of ta
 
   -- ---- the whole
 
-  pub stable_valid : (model : Metadata) → Stable (IsValid model)
-  stable_valid model h = record {
+  pub stable_valid : (model : Metadata) → ∥ IsValid model ∥₁ → IsValid model
+  stable_valid model known = let h : ¬ (¬ IsValid model) = λ none. not_there known none in record {
     version = record {
       short = stable_le _ _ (so h (λ is. is.version.short));
       text = stable_utf8 model.version (so h (λ is. is.version.text));
@@ -325,10 +319,5 @@ module _ (stand : (table : TableId) → slice_index_or tables (table_index_of ta
     few = λ table. stable_le _ _ (so h (λ is. is.few table));
     long = λ table row there. stable_eq _ _ (so h (λ is. is.long table row there));
     cells = λ table row cell_index there below. stable_cell model _ _ _ (so h (λ is. is.cells table row cell_index there below));
-    fields = stable_owners model TypeDef 4 Field (so h (λ is. is.fields));
-    methods = stable_owners model TypeDef 5 MethodDef (so h (λ is. is.methods));
-    params = stable_owners model MethodDef 5 Param (so h (λ is. is.params));
-    events = stable_owners model EventMap 1 Event (so h (λ is. is.events));
-    properties = stable_owners model PropertyMap 1 Property (so h (λ is. is.properties));
-    nested = λ row there. stable_lt _ _ (so h (λ is. is.nested row there));
+    linked = links_known (links_of model) (∥∥₁_map known (λ is. is.linked));
   }

@@ -1,5 +1,5 @@
 use crate::valid_model::Model;
-use metadata_source::KeysOf;
+use metadata_source::{KeysOf, MemberList, members_of};
 use reading::KeyRows;
 use std::ops::Range;
 use table_schema::{TableId, Token};
@@ -21,7 +21,7 @@ impl Model {
         requires last { row ≤ count_in self.now TypeDef }
         ensures { IsRun self.now TypeDef 4 Field row result.start result.end }
     {
-        metadata_source::fields_of(self, row)
+        members_of(self, MemberList::Fields, row)
     }
 
     /// The methods of a type, as rows of MethodDef (II.22.37), in constant time.
@@ -30,7 +30,7 @@ impl Model {
         requires last { row ≤ count_in self.now TypeDef }
         ensures { IsRun self.now TypeDef 5 MethodDef row result.start result.end }
     {
-        metadata_source::methods_of(self, row)
+        members_of(self, MemberList::Methods, row)
     }
 
     /// The parameters of a method, as rows of Param (II.22.26), in constant time.
@@ -39,7 +39,7 @@ impl Model {
         requires last { row ≤ count_in self.now MethodDef }
         ensures { IsRun self.now MethodDef 5 Param row result.start result.end }
     {
-        metadata_source::params_of(self, row)
+        members_of(self, MemberList::Params, row)
     }
 
     /// The events of a row of EventMap, as rows of Event (II.22.12), in constant time.
@@ -48,7 +48,7 @@ impl Model {
         requires last { row ≤ count_in self.now EventMap }
         ensures { IsRun self.now EventMap 1 Event row result.start result.end }
     {
-        metadata_source::events_of(self, row)
+        members_of(self, MemberList::Events, row)
     }
 
     /// The properties of a row of PropertyMap, as rows of Property (II.22.35), in constant time.
@@ -57,7 +57,7 @@ impl Model {
         requires last { row ≤ count_in self.now PropertyMap }
         ensures { IsRun self.now PropertyMap 1 Property row result.start result.end }
     {
-        metadata_source::properties_of(self, row)
+        members_of(self, MemberList::Properties, row)
     }
 
     /// The first type with a namespace and a name, by its row; `None` if no type has them (II.22.37).

@@ -1,4 +1,4 @@
--- The number and the name of each rule, and how a fault is printed. The hundreds of a number are the layer.
+-- The number and the name of each rule, their order, and how a fault is printed. The hundreds of a number are the layer.
 use Rattle.std.specs.Prelude.{ℕ, List, [], ◌∷◌, ◌++◌, codes, ◌==◌, if◌then◌else◌}
 use Rattle.std.specs.Fmt.{decimal}
 use Rattle.packed.specs.declared.fault.Fault.{Fault}
@@ -52,6 +52,19 @@ number_of_code BadSignature = 701
 number_of_code SignatureIndex = 702
 number_of_code EntryPoint = 801
 number_of_code TooLarge = 901
+
+-- all rules, lowest number first
+abbrev pub codes_in_order : List FaultCode
+codes_in_order =
+    TooLong ∷ DosHeader ∷ PeSignature ∷ OptionalHeader ∷ Pe32PlusSize ∷ Magic ∷ Directories ∷ Sections
+    ∷ NoCliHeader ∷ CliAddress ∷ CliSize ∷ MetadataAddress
+    ∷ RootSignature ∷ Version ∷ StreamCount ∷ StreamHeader ∷ StreamRange ∷ DuplicateStream ∷ Uncompressed ∷ NoTables
+    ∷ TablesHeader ∷ TablesVersion ∷ HeapSizes ∷ UnknownTable ∷ RowCounts ∷ RowCount ∷ TablesShort
+    ∷ BadString ∷ BadUtf8 ∷ BadBlob ∷ BadGuid ∷ BadTag ∷ BadIndex ∷ BadList ∷ BadUserString ∷ BadCell ∷ UserBytes
+    ∷ NotSorted ∷ BadRun ∷ NoOwner ∷ NestedOrder
+    ∷ BadSignature ∷ SignatureIndex
+    ∷ EntryPoint
+    ∷ TooLarge ∷ []
 
 -- each rule's number with its name
 abbrev pub names : List (ℕ × List ℕ)

@@ -2,9 +2,19 @@ ghost use Rattle.std.specs.Prelude.{◌≡◌, Some};
 ghost use Rattle.packed.specs.Rule.{fault};
 ghost use Rattle.packed.specs.Codes.{name_of, fault_text};
 
-use crate::code::FaultCode;
+use crate::code::{FaultCode, each_named};
 use std::error::Error;
 use std::fmt;
+
+/// The name of the rule with a number, which is that of its code.
+macro_rules! name_by {
+    ($by:ident $($code:ident)*) => {
+        match $by {
+            $(number if number == FaultCode::$code as u16 => stringify!($code),)*
+            _ => "",
+        }
+    };
+}
 
 /// The first rule that some bytes break, and the offset at which they break it.
 #[derive(Clone, Copy, Debug, PartialEq, Eq)]
@@ -48,52 +58,8 @@ impl Fault {
     pub fn name(&self) -> &'static str
         ensures { result.now ≡ name_of self.now.code }
     {
-        match self.code {
-            101 => "TooLong",
-            102 => "DosHeader",
-            103 => "PeSignature",
-            104 => "OptionalHeader",
-            105 => "Pe32PlusSize",
-            106 => "Magic",
-            107 => "Directories",
-            108 => "Sections",
-            201 => "NoCliHeader",
-            202 => "CliAddress",
-            203 => "CliSize",
-            204 => "MetadataAddress",
-            301 => "RootSignature",
-            302 => "Version",
-            303 => "StreamCount",
-            304 => "StreamHeader",
-            305 => "StreamRange",
-            306 => "DuplicateStream",
-            307 => "Uncompressed",
-            308 => "NoTables",
-            401 => "TablesHeader",
-            402 => "TablesVersion",
-            403 => "HeapSizes",
-            404 => "UnknownTable",
-            405 => "RowCounts",
-            406 => "RowCount",
-            407 => "TablesShort",
-            501 => "BadString",
-            502 => "BadUtf8",
-            503 => "BadBlob",
-            504 => "BadGuid",
-            505 => "BadTag",
-            506 => "BadIndex",
-            507 => "BadList",
-            508 => "BadUserString",
-            601 => "NotSorted",
-            602 => "BadRun",
-            603 => "NoOwner",
-            604 => "NestedOrder",
-            701 => "BadSignature",
-            702 => "SignatureIndex",
-            801 => "EntryPoint",
-            901 => "TooLarge",
-            _ => "",
-        }
+        let number = self.code;
+        each_named!(name_by number)
     }
 }
 

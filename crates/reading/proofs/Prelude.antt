@@ -5,7 +5,7 @@ pub use Rattle.std.proofs.lemmas.Bool.Decides.{nat_tests, Decides-eqb}
 pub use Rattle.std.proofs.lemmas.Nat.{mul-le, div-add-mod', mod_below}
 pub use Rattle.std.proofs.lemmas.Option.{same_Some}
 pub use Rattle.heap_entries.specs.Entries.{IsText, IsBlob, HasNoNul}
-pub use Rattle.table_schema.specs.CellColumns.{cell_count, column_of}
+pub use Rattle.table_schema.specs.CellColumns.{column_of}
 pub use Rattle.table_schema.specs.CodedIndexes.{IsCoded}
 pub use Rattle.table_schema.specs.Columns.{column_at}
 pub use Rattle.table_schema.specs.declared.coded.Coded.{Coded}
@@ -15,6 +15,8 @@ pub use Rattle.table_schema.specs.declared.table.TableId.{TableId}
 pub use Rattle.table_schema.specs.declared.token.Token.{Token}
 pub use Rattle.rows.specs.Keys.{key_at}
 pub use Rattle.metadata.specs.Cell.{Cell, Text, Bytes, Start, Sig, Ref}
+pub use Rattle.metadata.specs.declared.member_lists.MemberList.{MemberList}
+pub use Rattle.metadata.specs.MemberLists.{owner_of, cell_of, member_of}
 pub use Rattle.metadata.specs.Metadata.{Metadata, cell_in}
 pub use Rattle.metadata.specs.Source.{Source, rows_in}
 unfoldable pub use Rattle.metadata.specs.Source.{number_of}

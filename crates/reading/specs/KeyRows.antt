@@ -1,5 +1,6 @@
 -- The rows with a key, found one after another.
-use Rattle.std.specs.Prelude.{◌≡◌, ℕ, zero, suc, ◌+◌, ◌-◌, ◌≤◌, ◌<◌, ◌==◌, Bool, true, List, [], ◌∷◌, length, if◌then◌else◌}
+use Rattle.std.specs.Prelude.{◌≡◌, ℕ, ◌+◌, ◌-◌, ◌≤◌, ◌<◌, ◌==◌, Bool, true, List, length, filter}
+use Rattle.std.specs.List.{range_with_len}
 use Rattle.rows.specs.Keys.{key_at}
 
 -- the rows that remain, in order, and the number of keys that were read to find them
@@ -9,8 +10,7 @@ pub record RowsLeft : Type 0 where
 
 -- the rows that pass a test, from a row on; the second number counts the rows that are left
 abbrev pub rows_that : (ℕ → Bool) → ℕ → ℕ → List ℕ
-rows_that test row zero = []
-rows_that test row (suc left) = if test row then row ∷ rows_that test (row + 1) left else rows_that test (row + 1) left
+rows_that test row left = filter test (range_with_len row left)
 
 -- the rows with a key number, from the numbers of all rows
 abbrev pub rows_with : List ℕ → ℕ → ℕ → ℕ → List ℕ

@@ -1,8 +1,8 @@
 ghost use Rattle.std.specs.Prelude.{◌≡◌, ◌≤◌, ◌<◌, length};
 ghost use Rattle.table_schema.specs.declared.column.ColumnKind.TheVariants.{List};
 ghost use Rattle.table_schema.specs.Columns.{columns_of, column_at};
-ghost use Rattle.table_schema.specs.CellColumns.{cell_count, column_of};
 ghost use Rattle.metadata.specs.Cell.{Start};
+ghost use Rattle.metadata.specs.MemberLists.{owner_of, cell_of};
 ghost use Rattle.metadata.specs.Metadata.{Metadata, cell_in};
 ghost use Rattle.metadata.specs.Source.{Source as TheSource, rows_in};
 ghost use Rattle.metadata.specs.Starts.{start_of};
@@ -14,7 +14,8 @@ use crate::known_starts::KnownRuns;
 use crate::runs_of::start;
 use crate::source::Source;
 use crate::start_cursor::StartCursor;
-use table_schema::{TableId, column_of_cell};
+use metadata::MemberList;
+use table_schema::TableId;
 
 /// A cursor for each of the five runs of members (II.22.37, II.22.26, II.22.12 and II.22.35).
 ///
@@ -75,32 +76,21 @@ impl RunCursors {
         }
     }
 
-    /// Where the run of an owner begins, by the cell that lists its members.
+    /// Where the run of an owner begins.
     pub fn start_at(
         &mut self,
         source: &Source,
         known: &KnownRuns,
-        owner: TableId,
+        list: MemberList,
         row: u32,
-        cell: usize,
-        member: TableId,
     ) -> u32
         requires first { 1 ≤ row }
-        requires last { row ≤ rows_in source.now.source owner }
-        requires cell { cell < cell_count owner }
-        requires list { (column_at owner (column_of owner cell)).kind ≡ List member }
+        requires last { row ≤ rows_in source.now.source (owner_of list) }
         requires known { AreKnown source.now.source known.now }
         requires cursors { AreCursors source.now.source self.old }
-        ensures start { (model : Metadata) → IsReadFrom source.now.source model → cell_in model owner row cell ≡ Start result }
+        ensures start { (model : Metadata) → IsReadFrom source.now.source model → cell_in model (owner_of list) row (cell_of list) ≡ Start result }
         ensures cursors { AreCursors source.now.source self.new }
     {
-        self.start(
-            source,
-            known,
-            owner,
-            row,
-            column_of_cell(owner, cell),
-            member,
-        )
+        self.start(source, known, list.owner(), row, list.cell(), list.member())
     }
 }

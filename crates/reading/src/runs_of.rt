@@ -1,8 +1,8 @@
 ghost use Rattle.std.specs.Prelude.{◌≡◌, ◌≤◌, ◌<◌, ◌+◌, length};
 ghost use Rattle.table_schema.specs.declared.column.ColumnKind.TheVariants.{List};
 ghost use Rattle.table_schema.specs.Columns.{columns_of, column_at};
-ghost use Rattle.table_schema.specs.CellColumns.{cell_count, column_of};
 ghost use Rattle.metadata.specs.Cell.{Start};
+ghost use Rattle.metadata.specs.MemberLists.{owner_of, cell_of};
 ghost use Rattle.metadata.specs.Metadata.{Metadata, cell_in};
 ghost use Rattle.metadata.specs.Source.{rows_in};
 ghost use Rattle.metadata.specs.Starts.{start_of};
@@ -12,32 +12,17 @@ ghost use Rattle.reading.specs.KnownStarts.{AreKnown};
 use crate::known_starts::KnownRuns;
 use crate::source::Source;
 use crate::start_cursor::StartCursor;
-use table_schema::{TableId, column_of_cell};
+use metadata::MemberList;
+use table_schema::TableId;
 
-/// Where the run of an owner begins, by the cell that lists its members.
-pub fn start_at(
-    source: &Source,
-    known: &KnownRuns,
-    owner: TableId,
-    row: u32,
-    cell: usize,
-    member: TableId,
-) -> u32
+/// Where the run of an owner begins.
+pub fn start_at(source: &Source, known: &KnownRuns, list: MemberList, row: u32) -> u32
     requires known { AreKnown source.now.source known.now }
     requires first { 1 ≤ row }
-    requires last { row ≤ rows_in source.now.source owner }
-    requires cell { cell < cell_count owner }
-    requires list { (column_at owner (column_of owner cell)).kind ≡ List member }
-    ensures { (model : Metadata) → IsReadFrom source.now.source model → cell_in model owner row cell ≡ Start result }
+    requires last { row ≤ rows_in source.now.source (owner_of list) }
+    ensures { (model : Metadata) → IsReadFrom source.now.source model → cell_in model (owner_of list) row (cell_of list) ≡ Start result }
 {
-    start(
-        source,
-        known,
-        owner,
-        row,
-        column_of_cell(owner, cell),
-        member,
-    )
+    start(source, known, list.owner(), row, list.cell(), list.member())
 }
 
 /// The start of an owner's run: its list value, or the start of the next owner if the value is null. After the

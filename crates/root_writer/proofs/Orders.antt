@@ -1,5 +1,5 @@
 -- The tables whose Sorted bit is set are in order of their keys, and the links between rows are valid.
-use Rattle.root_writer.proofs.Prelude.{◌≡◌, ℕ, ◌+◌, ◌-◌, ◌%◌, ◌^◌, ◌<◌, ◌≤◌, Bool, true, false, lit<, List, [], map, length, get_or, Contains, refl, sym, ap, subst, ◌∙◌, inl, inr, Option, Some, None, arith, slice_index, position_or_len, length-map, get_or-map, mod-eq_of_lt, one-le-pow, TableId, TypeDef, Field, MethodDef, Param, EventMap, Event, PropertyMap, Property, NestedClass, Coded, Column, ColumnKind, columns_of, column_at, key_of, col, IsReference, tables_of, count_of, kind_width, row_index_width, coded_width, width_of, is_table, Cell, Number, Metadata, rows_of, count_in, cell_in, number_of, is_padding, cell_columns, cell_count, column_of, table_at, IsKeyCell, is_said_sorted, IsByKey, AreByKey, AreLinked, links_in, Pools, pools_of, cell_number, numbers_by, rises, is_by_key, table_keys, is_sorted, sizes_of, row_in, IsValid}
+use Rattle.root_writer.proofs.Prelude.{◌≡◌, ℕ, ◌+◌, ◌-◌, ◌%◌, ◌^◌, ◌<◌, ◌≤◌, Bool, true, List, [], map, length, get_or, Contains, refl, sym, ap, subst, ◌∙◌, inl, inr, Option, Some, None, arith, slice_index, position_or_len, length-map, get_or-map, mod-eq_of_lt, one-le-pow, TableId, Coded, Column, ColumnKind, columns_of, column_at, key_of, col, IsReference, tables_of, count_of, kind_width, row_index_width, coded_width, width_of, is_table, Cell, Number, Metadata, rows_of, count_in, cell_in, number_of, cell_columns, cell_count, column_of, table_at, IsKeyCell, is_said_sorted, IsByKey, AreByKey, AreLinked, links_in, links_of, start_of, owner_of, member_of, Pools, pools_of, cell_number, numbers_by, rises, is_by_key, table_keys, is_sorted, sizes_of, row_in, IsValid}
 use Rattle.schema.proofs.BitLemmas.{has_bit_of}
 use Rattle.table_schema.specs.declared.column.ColumnKind.TheVariants as kind
 use Rattle.metadata.specs.KeyOrder.{key_number, key_in, IsKeyOrdered}
@@ -7,12 +7,14 @@ use Rattle.root_writer.proofs.HeldRoots.{MayRefer, IsValidCell, row_long, cell_v
 use Rattle.root_writer.proofs.Facts.{Facts}
 use Rattle.root_writer.proofs.Widths.{count_is, row_fits, coded_fits}
 use Rattle.table_schema.proofs.CodedLemmas.{tag_below}
-use Rattle.table_schema.proofs.TableFacts.{key_within, key_reference}
-use Rattle.metadata.proofs.KeyLemmas.{tag_listed}
+use Rattle.table_schema.proofs.TableFacts.{key_reference}
+use Rattle.metadata.proofs.KeyLemmas.{tag_listed, key_cell}
+use Rattle.metadata.proofs.LinkLemmas.{links_alike}
+use Rattle.metadata.proofs.ListLemmas.{list_column}
 use Rattle.root_writer.proofs.Stands.{IsWithin}
 use Rattle.root_writer.proofs.Starts.{rises_at, rises_from}
-use Rattle.root_writer.proofs.Rows.{cells_of, located, has_cell_index}
-use Rattle.root_writer.proofs.Tables.{source_of, number_at, is_owned}
+use Rattle.root_writer.proofs.Rows.{cells_of, located}
+use Rattle.root_writer.proofs.Tables.{source_of, number_at, start_stands}
 
 -- ---- the number of a reference fits its column
 
@@ -46,10 +48,6 @@ module _ (model : Metadata) (within : IsWithin model) where
   reference_fits column cell (inr coded) valid =
       subst (λ k. cell_number (pools_of model) k cell < 256 ^ kind_width (sizes_of model) k) (sym coded.1)
       (coded_reference_fits column.nullable coded.0 cell (subst (λ k. IsValidCell model k column.nullable cell) coded.1 valid))
-
-not_padding : (column : Column) → IsReference column → is_padding column.kind ≡ false
-not_padding column (inl row) = ap is_padding row.1
-not_padding column (inr coded) = ap is_padding coded.1
 
 -- ---- keys
 
@@ -94,13 +92,6 @@ module _ (model : Metadata) (valid : IsValid model) where
       ∙ ap (λ (r : List ℕ). slice_index r key) row_is
       ∙ subst (λ i. get_or (numbers_by key_number (columns_of table) cells) i 0 ≡ key_in model table cell_index row) same number
 
-  key_cell : (table : TableId) (key : ℕ) → key_of table ≡ Some key → (cell_index : ℕ) × IsKeyCell table cell_index
-  unfolding cell_columns
-  key_cell table key is =
-      let reference = key_reference table key is in
-      let cell_index = has_cell_index (columns_of table) 0 key key (col kind.U8) (key_within table key is) (not_padding (column_at table key) reference) (omega arith) in
-      (cell_index.cell_index, record { within = cell_index.below; key = is ∙ ap (λ (c : ℕ). Some c) (sym cell_index.at) })
-
   -- the Sorted bit of a table is set if and only if its keys are in order
   pub order_reported : (table : TableId) (key : ℕ) → key_of table ≡ Some key → is_sorted model table ≡ true → IsKeyOrdered model table
   order_reported table key is sorted = λ cell_index row at second last.
@@ -133,7 +124,7 @@ module _ (model : Metadata) (valid : IsValid model) (within : IsWithin model) wh
       → number_of (source_of model) table row key ≡ get_or (keys_of model table key) (row - 1) 0
   unfolding cell_columns number_of
   key_value table key row is first last =
-      let cell_index = key_cell model valid table key is in
+      let cell_index = key_cell table key is in
       let same : column_of table cell_index.0 ≡ key = let e = cell_index.1.key in cc in
       let column = column_at table (column_of table cell_index.0) in
       let cell = cell_in model table row cell_index.0 in
@@ -170,32 +161,27 @@ module _ (model : Metadata) (valid : IsValid model) (within : IsWithin model) wh
   row_number_is nullable table cell (inl null) = rw (null.1) refl
   row_number_is nullable table cell (inr is) = rw (is.3) refl
 
-  nested_value : (row cell_index : ℕ) → 1 ≤ row → row ≤ count_in model NestedClass → cell_index < cell_count NestedClass
-      → (column_at NestedClass (column_of NestedClass cell_index)).kind ≡ kind.Row TypeDef
-      → number_of (source_of model) NestedClass row (column_of NestedClass cell_index) ≡ row_in (cell_in model NestedClass row cell_index)
-  nested_value row cell_index first last below is =
-      let column = column_at NestedClass (column_of NestedClass cell_index) in
-      let cell = cell_in model NestedClass row cell_index in
-      let good : IsValidCell model (kind.Row TypeDef) column.nullable cell =
-      subst (λ k. IsValidCell model k column.nullable cell) is (cell_valid model valid NestedClass row cell_index first last below) in
-      let fits = row_reference_fits model within column.nullable TypeDef cell good in
-      number_at model valid NestedClass row cell_index first last below
+  reference_value : (table target : TableId) (row cell_index : ℕ) → 1 ≤ row → row ≤ count_in model table → cell_index < cell_count table
+      → (column_at table (column_of table cell_index)).kind ≡ kind.Row target
+      → number_of (source_of model) table row (column_of table cell_index) ≡ row_in (cell_in model table row cell_index)
+  reference_value table target row cell_index first last below is =
+      let column = column_at table (column_of table cell_index) in
+      let cell = cell_in model table row cell_index in
+      let good : IsValidCell model (kind.Row target) column.nullable cell =
+      subst (λ k. IsValidCell model k column.nullable cell) is (cell_valid model valid table row cell_index first last below) in
+      let fits = row_reference_fits model within column.nullable target cell good in
+      number_at model valid table row cell_index first last below
       ∙ ap (λ k. cell_number (pools_of model) k cell % 256 ^ kind_width (sizes_of model) k) is
       ∙ mod-eq_of_lt fits
-      ∙ row_number_is column.nullable TypeDef cell good
+      ∙ row_number_is column.nullable target cell good
 
   pub are_linked : Facts → AreLinked (links_in (source_of model))
-  unfolding cell_columns
-  are_linked facts =
-      let owned = is_owned facts model valid within in
-      record {
-        fields = owned TypeDef 4 Field (lit< tt) refl valid.fields;
-        methods = owned TypeDef 5 MethodDef (lit< tt) refl valid.methods;
-        params = owned MethodDef 5 Param (lit< tt) refl valid.params;
-        events = owned EventMap 1 Event (lit< tt) refl valid.events;
-        properties = owned PropertyMap 1 Property (lit< tt) refl valid.properties;
-        nested = λ row first last.
-            let count = count_is model NestedClass in
-            rw (nested_value row 1 first (omega (arith, count)) (lit< tt) refl, nested_value row 0 first (omega (arith, count)) (lit< tt) refl)
-            (valid.nested row (first, omega (arith, count)));
-      }
+  are_linked facts = links_alike (links_of model) (links_in (source_of model)) (record {
+    counts = λ table. sym (count_is model table);
+    starts = λ list row first last.
+        sym (start_stands facts model valid within list row first last)
+        ∙ ap (λ (column : ℕ). start_of (source_of model) (owner_of list) row column (member_of list)) (list_column list);
+    references = λ table target row column first last to.
+        sym (subst (λ (c : ℕ). number_of (source_of model) table row c ≡ row_in (cell_in model table row column)) to.cell
+        (reference_value table target row column first last to.within (ap (λ (c : ℕ). (column_at table c).kind) to.cell ∙ to.refers)));
+  }) valid.linked

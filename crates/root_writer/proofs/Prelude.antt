@@ -1,5 +1,5 @@
 -- What several proofs of this crate name of std, of the crates below, and of the definitions that many proofs cite.
-pub use Rattle.std.proofs.Common.{◌≡◌, ℕ, ◌+◌, ◌<◌, ◌≤◌, Bool, List, [], ◌∷◌, ◌++◌, length, get_or, drop, cond, ltb, refl, ap, sym, ◌∙◌, arith, ◌-◌, ◌*◌, ◌^◌, true, All, Contains, IsUtf8, ◌⊎◌, Some, map, take, length-append, lit≤, filter, false, set, append_assoc, zero, suc, Option, None, IfSome, subst, inl, inr, ⊎_elim, ◌%◌, lit<, eqb, leb, ◌≢◌, not, ◌&&◌, true≢false, rules, codes, replicate, ◌/◌, length-drop}
+pub use Rattle.std.proofs.Common.{◌≡◌, ℕ, ◌+◌, ◌<◌, ◌≤◌, Bool, List, [], ◌∷◌, ◌++◌, length, get_or, drop, cond, ltb, refl, ap, sym, ◌∙◌, arith, ◌-◌, ◌*◌, ◌^◌, true, All, Contains, IsUtf8, ◌⊎◌, Some, map, take, length-append, lit≤, filter, false, set, append_assoc, zero, suc, Option, None, IfSome, subst, inl, inr, ⊎_elim, ◌%◌, eqb, leb, ◌≢◌, not, ◌&&◌, true≢false, rules, codes, replicate, ◌/◌, length-drop}
 pub use Rattle.std.proofs.Math.Nat.{mod-eq_of_lt, one-le-pow, mul-le-mul_left, mul-le-mul_right}
 pub use Rattle.std.proofs.Math.Path.{fun_ext}
 pub use Rattle.std.proofs.lemmas.Bool.{cond_both, cases_lt, ltb-true, and_parts, and_from, cases_Bool, false≢true, or_parts, not-true, not_from_false, leb-false}
@@ -18,11 +18,14 @@ pub use Rattle.heap_pools.specs.Distinct.{distinct, is_among, first_uses}
 pub use Rattle.heap_pools.specs.GuidHeap.{guid_index}
 unfoldable pub use Rattle.heap_pools.specs.TextHeap.{is_holder}
 pub use Rattle.heap_pools.specs.TextHeap.{text_index}
-pub use Rattle.metadata.specs.Cell.{Cell, Number, Text, Bytes, Guid, Ref, Start, Sig}
+pub use Rattle.metadata.specs.Cell.{Cell, Number, Text, Bytes, Guid, Ref, Start, Sig, start_in}
 pub use Rattle.metadata.specs.Lookups.{IsKeyCell, HasRow}
 pub use Rattle.metadata.specs.Metadata.{Metadata, count_in, rows_of, row_of, cell_in}
 pub use Rattle.metadata.specs.Model.{IsModel}
-pub use Rattle.metadata.specs.RowRules.{is_said_sorted, IsByKey, AreByKey, links_in, IsOwned, AreLinked}
+pub use Rattle.metadata.specs.RowRules.{is_said_sorted, IsByKey, AreByKey}
+pub use Rattle.metadata.specs.declared.member_lists.MemberList.{MemberList}
+pub use Rattle.metadata.specs.MemberLists.{owner_of, cell_of, member_of}
+pub use Rattle.metadata.specs.Links.{links_in, IsOwned, AreLinked}
 unfoldable pub use Rattle.metadata.specs.Rows.{IsRow, IsTable, IsTableAt}
 pub use Rattle.metadata.specs.Rows.{table_at, AreFrom, IsCell, AreTables}
 unfoldable pub use Rattle.metadata.specs.Source.{number_of}
@@ -30,7 +33,7 @@ pub use Rattle.metadata.specs.Source.{Source, IsThere, rows_in}
 pub use Rattle.metadata.specs.Stands.{StandsFor, Refers}
 unfoldable pub use Rattle.metadata.specs.Starts.{start_of}
 pub use Rattle.metadata.specs.Starts.{start_from}
-pub use Rattle.metadata.specs.Valid.{IsValid, row_in, IsValidCell, kind_at, nullable_at, start_in, HasOwners}
+pub use Rattle.metadata.specs.Valid.{IsValid, row_in, IsValidCell, kind_at, nullable_at, links_of}
 pub use Rattle.packed.specs.Number.{IsNumber}
 pub use Rattle.root.specs.Root.{IsStreamName, IsHeader, AreHeaders, AllMeet, signature, IsVersion, IsRoot}
 pub use Rattle.root.specs.Streams.{stream_name, Header, named}
@@ -62,5 +65,5 @@ pub use Rattle.table_schema.specs.declared.coded.Coded.{Coded}
 pub use Rattle.table_schema.specs.declared.column.Column.{Column}
 pub use Rattle.table_schema.specs.declared.column.ColumnKind.{ColumnKind}
 pub use Rattle.table_schema.specs.declared.table.TableId.{TableId}
-pub use Rattle.table_schema.specs.declared.table.TableId.TheVariants.{Module, NestedClass, TypeDef, TypeRef, Field, MethodDef, Constant, Assembly, PropertyMap, Param, EventMap, Event, Property}
+pub use Rattle.table_schema.specs.declared.table.TableId.TheVariants.{Module, TypeDef, TypeRef, Field, MethodDef, Constant, Assembly, PropertyMap, EventMap}
 pub use Rattle.table_schema.specs.declared.token.Token.{Token}

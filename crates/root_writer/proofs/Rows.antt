@@ -1,5 +1,5 @@
 -- The numbers of a row: one per column, one for each cell, each truncated to the width of its column.
-use Rattle.root_writer.proofs.Prelude.{◌≡◌, ℕ, zero, suc, ◌+◌, ◌-◌, ◌%◌, ◌^◌, ◌<◌, ◌≤◌, Bool, true, false, cond, List, [], ◌∷◌, ◌++◌, map, length, get_or, refl, sym, ap, subst, ◌∙◌, arith, length-map, get_or-map, TableId, Module, Column, ColumnKind, tables, table_index_of, columns_of, Sizes, width_of, row_bytes, rows_bytes, tables_bytes, FitRows, FitTables, fields_of, number_in, Cell, Metadata, rows_of, count_in, is_padding, indexes_from, Pools, pools_of, cell_number, with_next, numbers_by, numbers_of, table_numbers, numbers, sizes_of}
+use Rattle.root_writer.proofs.Prelude.{◌≡◌, ℕ, zero, suc, ◌+◌, ◌-◌, ◌%◌, ◌^◌, ◌<◌, ◌≤◌, Bool, true, false, cond, List, [], ◌∷◌, ◌++◌, map, length, get_or, refl, sym, ap, ◌∙◌, arith, length-map, get_or-map, TableId, Module, Column, ColumnKind, tables, table_index_of, columns_of, Sizes, width_of, row_bytes, rows_bytes, tables_bytes, FitRows, FitTables, fields_of, number_in, Cell, Metadata, rows_of, count_in, is_padding, indexes_from, Pools, pools_of, cell_number, with_next, numbers_by, numbers_of, table_numbers, numbers, sizes_of}
 use Rattle.schema.proofs.FieldLemmas.{field_at, fields_fit, low_row}
 use Rattle.table_schema.proofs.TableFacts.{length-tables, table_at_index, table_index_below}
 
@@ -133,24 +133,3 @@ located value [] cells from cell_index none no_cell below long = absurd (omega a
 located value (column ∷ columns) cells from cell_index none no_cell below long =
     cell_index_next value column columns from cell_index none no_cell (λ tail k l e. located value columns tail (from + 1) k none no_cell l e) (is_padding column.kind)
     cells below long
-
--- ---- a column that has a cell
-
-pub record HasCellIndex (indexes : List ℕ) (column : ℕ) : Type 0 where
-  pub cell_index : ℕ
-  pub below : cell_index < length indexes
-  pub at : get_or indexes cell_index 0 ≡ column
-
-has_cell_index_next : (indexes : List ℕ) (b : Bool) (from column : ℕ) → HasCellIndex indexes column → HasCellIndex (cond b indexes (from ∷ indexes)) column
-has_cell_index_next indexes true from column has = has
-has_cell_index_next indexes false from column has = record { cell_index = suc has.cell_index; below = omega (arith, has.below); at = has.at }
-
-pub has_cell_index : (columns : List Column) (from i j : ℕ) (none : Column) → i < length columns → is_padding (get_or columns i none).kind ≡ false → j ≡ from + i
-    → HasCellIndex (indexes_from from columns) j
-has_cell_index [] from i j none below plain e = absurd (omega arith)
-has_cell_index (column ∷ columns) from zero j none below plain e =
-    let same : from ≡ j = omega arith in
-    subst (λ b. HasCellIndex (cond b (indexes_from (from + 1) columns) (from ∷ indexes_from (from + 1) columns)) j) (sym plain)
-    (record { cell_index = 0; below = omega arith; at = same })
-has_cell_index (column ∷ columns) from (suc i) j none below plain e =
-    has_cell_index_next (indexes_from (from + 1) columns) (is_padding column.kind) from j (has_cell_index columns (from + 1) i j none (omega arith) plain (omega arith))

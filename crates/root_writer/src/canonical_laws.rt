@@ -15,7 +15,7 @@ fn valid_models_are_encoded()
         → (is_sorted model table ≡ true) ↔ IsKeyOrdered model table }
 {
     schema::laws::numbers_are_encoded();
-    sig_values::laws::shortest_encodes();
+    sig_grammar::laws::shortest_encodes();
 }
 
 /// The canonical root of a valid model has this model, if the root has at most 2^30 bytes.

@@ -26,10 +26,3 @@ unfolding rules_from
 verdict_prefix rules i j n m a b more next here tail =
     let behind : IsVerdict (rules_from rules (i + 1) m) b = rw next at tail in
     rw more (verdict_of (rules i) (rules_from rules (i + 1) m) a b here behind)
-
--- without numbers there is one verdict
-pub verdict_over : (rules : ℕ → List (Rule Fault)) (i n j m : ℕ) (a : Option Fault) → n ≡ 0 → m ≡ 0 → IsVerdict (rules_from rules i n) a
-    → IsVerdict (rules_from rules j m) a
-unfolding rules_from
-verdict_over rules i n j m a none over is =
-    let empty : IsVerdict (rules_from rules i 0) a = rw none at is in rw over empty

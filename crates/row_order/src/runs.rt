@@ -1,15 +1,15 @@
-ghost use Rattle.std.specs.Prelude.{◌≡◌, ◌≤◌, ◌<◌, ◌-◌, ◌+◌, ◌&&◌, length, IfSome, Some, ◌==◌, nat_lt, if◌then◌else◌};
+ghost use Rattle.std.specs.Prelude.{◌≡◌, ◌≤◌, ◌<◌, ◌-◌, ◌+◌, ℕ, IfSome, Some, ◌==◌, nat_lt, if◌then◌else◌};
 ghost use Rattle.packed.specs.Rule.{Reports, rules_from};
-ghost use Rattle.table_schema.specs.Columns.{columns_of};
 ghost use Rattle.metadata.specs.Source.{rows_in};
 ghost use Rattle.metadata.specs.Starts.{start_of};
 ghost use Rattle.metadata.specs.Rules.{in_place};
 ghost use Rattle.metadata.specs.LinkRules.{rules_of_start, rules_of_run, rules_of_runs};
+ghost use Rattle.metadata.specs.MemberLists.{owner_of, cell_of, member_of};
 ghost use Rattle.row_order.specs.Runs.{IsVerdict, fault_in_row};
 
+use metadata::MemberList;
 use packed::{Fault, FaultCode};
 use reading::Source;
-use table_schema::TableId;
 
 /// The results of a pass over owners: the start of the first run, and the first owner whose start is less than the
 /// start before.
@@ -24,27 +24,28 @@ struct Walk {
 pub fn check_runs(source: &Source) -> Result<(), Fault>
     ensures { Reports (rules_of_runs (in_place source.now)) result }
 {
-    check_run(source, TableId::TypeDef, 4, TableId::Field)?;
-    check_run(source, TableId::TypeDef, 5, TableId::MethodDef)?;
-    check_run(source, TableId::MethodDef, 5, TableId::Param)?;
-    check_run(source, TableId::EventMap, 1, TableId::Event)?;
-    check_run(source, TableId::PropertyMap, 1, TableId::Property)
+    check_run(source, MemberList::Fields)?;
+    check_run(source, MemberList::Methods)?;
+    check_run(source, MemberList::Params)?;
+    check_run(source, MemberList::Events)?;
+    check_run(source, MemberList::Properties)
 }
 
-/// Checks that each member has one owner, by a list column of the owners.
+/// Checks that each member of a list has one owner.
 #[tactic(auto, using(packed::proofs::RuleLemmas::none_from), unfolding(metadata::specs::LinkRules::rules_of_run))]
-fn check_run(source: &Source, owner: TableId, column: usize, member: TableId) -> Result<(), Fault>
-    requires column { column < length (columns_of owner) }
-    requires members { 0 < length (columns_of member) }
-    ensures { Reports (rules_of_run (in_place source.now) owner column member) result }
+fn check_run(source: &Source, list: MemberList) -> Result<(), Fault>
+    ensures { Reports (rules_of_run (in_place source.now) list) result }
 {
+    let owner = list.owner();
     if source.count(owner) == 0 {
+        let member = list.member();
         if source.count(member) == 0 {
             return Ok(());
         }
         return Err(source.fault(FaultCode::NoOwner, member, 1, 0));
     }
-    let walk = walk_owners(source, owner, column, member);
+    let walk = walk_owners(source, list);
+    let column = list.cell();
     if walk.first != 1 {
         return Err(source.fault(FaultCode::BadRun, owner, 1, column));
     }
@@ -55,21 +56,22 @@ fn check_run(source: &Source, owner: TableId, column: usize, member: TableId) ->
 }
 
 /// Goes from the last owner to the first, because the start of a null is that of the next owner.
-fn walk_owners(source: &Source, owner: TableId, column: usize, member: TableId) -> Walk
-    requires column { column < length (columns_of owner) }
-    ensures first { result.first ≡ start_of source.now.source owner 1 column member }
-    ensures within { IfSome result.falls (λ row. (1 ≤ row) × (row ≤ rows_in source.now.source owner)) }
-    ensures falls { IsVerdict (rules_from (rules_of_start (in_place source.now) owner column member) 2 (rows_in source.now.source owner - 1))
-        (fault_in_row source.now owner column result.falls) }
+fn walk_owners(source: &Source, list: MemberList) -> Walk
+    requires { 1 ≤ rows_in source.now.source (owner_of list) }
+    ensures first { result.first ≡ start_of source.now.source (owner_of list) 1 (cell_of list) (member_of list) }
+    ensures within { IfSome result.falls (λ row. (1 ≤ row) × (row ≤ rows_in source.now.source (owner_of list))) }
+    ensures falls { IsVerdict (rules_from (rules_of_start (in_place source.now) list) 2 (rows_in source.now.source (owner_of list) - 1))
+        (fault_in_row source.now (owner_of list) (cell_of list) result.falls) }
 {
+    let owner = list.owner();
     let count = source.count(owner);
-    let numbers = source.column(owner, column);
-    let mut first = source.count(member) + 1;
+    let numbers = source.column(owner, list.cell());
+    let mut first = start_by(numbers.number(count), source.count(list.member()) + 1);
     let mut falls = None;
-    let mut row = count;
+    let mut row = count - 1;
     while row > 0 {
         let start = start_by(numbers.number(row), first);
-        falls = fallen(falls, row, count, first, start);
+        falls = fallen(falls, row, first, start);
         first = start;
         row -= 1;
     }
@@ -85,14 +87,11 @@ fn start_by(number: u32, next: u32) -> u32
 }
 
 /// The first owner whose start decreases, after one more owner before it.
-fn fallen(falls: Option<u32>, row: u32, count: u32, next: u32, start: u32) -> Option<u32>
+#[inline]
+fn fallen(falls: Option<u32>, row: u32, next: u32, start: u32) -> Option<u32>
     requires { row ≤ 0xFFFFFF }
-    ensures value { result ≡ (if nat_lt row count && nat_lt next start then Some (row + 1) else falls) }
-    ensures within { IfSome falls (λ r. (1 ≤ r) × (r ≤ count)) → IfSome result (λ r. (1 ≤ r) × (r ≤ count)) }
+    ensures value { result ≡ (if nat_lt next start then Some (row + 1) else falls) }
+    ensures within { (count : ℕ) → row < count → IfSome falls (λ r. (1 ≤ r) × (r ≤ count)) → IfSome result (λ r. (1 ≤ r) × (r ≤ count)) }
 {
-    if row < count && next < start {
-        Some(row + 1)
-    } else {
-        falls
-    }
+    if next < start { Some(row + 1) } else { falls }
 }

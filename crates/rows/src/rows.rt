@@ -19,9 +19,9 @@ pub(crate) fn number_of(bytes: &[u8], offset: usize, width: usize) -> u32
     ensures fits { result < 256 ^ width }
 {
     match width {
-        1 => u32::from(bytes[offset]),
+        4 => u32_at(bytes, offset),
         2 => u32::from(u16_at(bytes, offset)),
-        _ => u32_at(bytes, offset),
+        _ => u32::from(bytes[offset]),
     }
 }
 

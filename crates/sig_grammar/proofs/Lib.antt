@@ -1,8 +1,17 @@
+pub mod Bodies
+pub mod Codes
+pub mod Cores
+pub mod Encoded
+pub mod FirstBad
 pub mod FromLists
 pub mod Indexes
 pub mod Items
+pub mod Leading
 pub mod Masks
+pub mod Methods
 pub mod OptionLemmas
+pub mod Prelude
+pub mod Readers
 pub mod Samples
 pub mod Tokens
 pub mod ViewLemmas

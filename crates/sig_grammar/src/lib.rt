@@ -4,8 +4,8 @@
 //! method, or a type. The definitions in `specs/` say which bytes encode which value in which kind of column, what its
 //! shortest encoding is, and which rows of type tables it names, in the order of the encoding. [`element_type`] and
 //! [`Element`] have the bytes of element types, [`method_byte`] and [`CallingConvention`] the first byte of a method,
-//! [`token_of_index`] the row that an index names, and [`names_row`] says whether there is one. The laws of the grammar
-//! are in the crate `sig_values`.
+//! [`token_of_index`] the row that an index names, and [`names_row`] says whether there is one. [`laws`] has the laws of the
+//! grammar, such as that no bytes encode two signatures.
 //!
 //! ```text
 //! // 06 08: a field of a 4-byte integer

@@ -69,7 +69,7 @@ impl<'a> Items<'a> {
         ensures sound { IfSome result (λ items. (signature : Body) × Encodes kind signature bytes.now × (items ≡ items_of signature)) }
         ensures complete { (signature : Body) → Encodes kind signature bytes.now → IsSomeAnd result (λ items. items ≡ items_of signature) }
     {
-        sig_values::laws::signatures_are_read();
+        sig_grammar::laws::signatures_are_read();
         if !recognise(bytes, kind) {
             return None;
         }

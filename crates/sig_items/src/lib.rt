@@ -3,7 +3,7 @@
 //! [`Items`] reads the bytes of a blob that encode a signature. It returns one [`Item`] at a time, in
 //! encoded order: heads with their counts, types, modifiers, shapes. Each step reads the bytes of one item
 //! and otherwise takes constant time. A fixed array holds what remains to be read, because types nest
-//! at most 128 deep. So it does not allocate. The grammar is that of `sig_values`.
+//! at most 128 deep. So it does not allocate. The grammar is that of `sig_grammar`.
 //!
 //! [`put_item`] writes the bytes of an item, each number and each type index in its shortest form. The items of a
 //! signature, one after another, are its canonical encoding.

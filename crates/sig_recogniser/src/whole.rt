@@ -21,7 +21,7 @@ pub fn recognise_first_bad(bytes: &[u8], kind: SigKind, counts: &[u32; 45]) -> O
     ensures sound { IfSome result (λ bad. (signature : Body) × Encodes kind signature bytes.now × (bad ≡ first_bad counts.now (tokens signature))) }
     ensures complete { (signature : Body) → Encodes kind signature bytes.now → result ≡ Some (first_bad counts.now (tokens signature)) }
 {
-    sig_values::laws::signatures_are_read();
+    sig_grammar::laws::signatures_are_read();
     if bytes.len() > BLOB_LIMIT {
         return None;
     }
@@ -42,7 +42,7 @@ pub fn recognise(bytes: &[u8], kind: SigKind) -> bool
     // No bytes encode two signatures.
     ensures one { (first second : Body) → Encodes kind first bytes.now → Encodes kind second bytes.now → first ≡ second }
 {
-    sig_values::laws::signatures_are_read();
+    sig_grammar::laws::signatures_are_read();
     recognise_first_bad(bytes, kind, &NO_ROWS).is_some()
 }
 

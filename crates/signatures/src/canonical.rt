@@ -40,8 +40,8 @@ pub fn canonical_encoding(alloc: Global, bytes: &[u8], kind: SigKind) -> Result<
     // The result is `Bad` if and only if they encode nothing.
     ensures bad { IsErrOf result Bad ↔ ¬ ((signature : Body) × Encodes kind signature bytes.now) }
 {
-    sig_values::laws::encoded_is_encodable();
-    sig_values::laws::canonical_is_shortest();
+    sig_grammar::laws::encoded_is_encodable();
+    sig_grammar::laws::canonical_is_shortest();
     sig_items::laws::items_are_encoded();
     let Some(items) = Items::of(bytes, kind) else {
         return Err(SigError::Bad);

@@ -13,8 +13,8 @@ pub fn encoded_is_decoded()
     ensures one { (kind : SigKind) (signature other : Body) → Holds kind signature → IsEncodable signature
         → Encodes kind other (short signature) → other ≡ signature }
 {
-    sig_values::laws::shortest_encodes();
-    sig_values::laws::signatures_are_read();
+    sig_grammar::laws::shortest_encodes();
+    sig_grammar::laws::signatures_are_read();
 }
 
 /// `==` is true of two signatures if and only if they are equal: if their content is the same.

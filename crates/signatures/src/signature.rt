@@ -91,7 +91,7 @@ impl Signature {
     pub fn copy(&self, alloc: Global) -> Result<Signature, AllocError>
         ensures { IfOk result (λ copy. copy ≡ self.now) }
     {
-        sig_values::laws::shortest_encodes();
+        sig_grammar::laws::shortest_encodes();
         let bytes = encode(alloc, self)?;
         match decode(alloc, &bytes, column_of(&self.body)) {
             Ok(copy) => Ok(copy),
@@ -147,7 +147,7 @@ pub fn decode(alloc: Global, bytes: &[u8], kind: SigKind) -> Result<Signature, S
     // The result is `Bad` if and only if they encode nothing.
     ensures bad { IsErrOf result Bad ↔ ¬ ((signature : Body) × Encodes kind signature bytes.now) }
 {
-    sig_values::laws::encoded_is_encodable();
+    sig_grammar::laws::encoded_is_encodable();
     let body = decode_body(alloc, bytes, kind)?;
     Ok(Signature { body })
 }

@@ -28,7 +28,7 @@ pub fn decode_body(alloc: Global, bytes: &[u8], kind: SigKind) -> Result<SigBody
     // The result is `Bad` if and only if they encode nothing.
     ensures bad { IsErrOf result Bad ↔ ¬ ((signature : Body) × Encodes kind signature bytes.now) }
 {
-    sig_values::laws::signatures_are_read();
+    sig_grammar::laws::signatures_are_read();
     if !recognise(bytes, kind) {
         return Err(SigError::Bad);
     }

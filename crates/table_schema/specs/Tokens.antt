@@ -1,8 +1,13 @@
 -- Tokens (ECMA-335 III.1.9): the number of a table in the high byte, and a row in the three bytes below.
 use Rattle.std.specs.Prelude.{◌≡◌, ℕ, false, ◌+◌, ◌-◌, ◌*◌, ◌^◌, ◌≤◌, List, [], ◌++◌}
 use Rattle.std.specs.Fmt.{digits, format_spec, padded_integral}
+use Rattle.table_schema.specs.declared.table.TableId.{TableId}
 use Rattle.table_schema.specs.declared.token.Token.{Token}
 use Rattle.table_schema.specs.Tables.{table_number}
+
+-- the token of a row
+abbrev pub token_at : TableId → ℕ → Token
+token_at table row = record { table = table; row = row }
 
 -- the four-byte number encodes the token
 pub record IsToken (number : ℕ) (token : Token) : Type 0 where

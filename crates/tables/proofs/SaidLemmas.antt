@@ -1,5 +1,5 @@
 -- The content of cells determines them.
-use Rattle.tables.proofs.Prelude.{◌≡◌, ℕ, List, [], ◌∷◌, map, refl, ap, sym, ◌∙◌, Decides, pointwise, pointwise_decides, Decides-like, Decides-and, Decides-eqb, Metadata, said, all_said}
+use Rattle.tables.proofs.Prelude.{◌≡◌, List, [], ◌∷◌, map, refl, ap, sym, ◌∙◌, Decides, pointwise, pointwise_decides, Decides-like, Decides-and, Decides-eqb, Metadata, said, all_said}
 use Rattle.metadata.specs.Cell as says
 use Rattle.tables.specs.declared.cell.Cell.{Cell}
 use Rattle.tables.specs.declared.cell.Cell.TheVariants.{Number, Text, Bytes, Guid, Ref, Start, Sig}
@@ -40,10 +40,7 @@ module _ (decides : (a b : Cell) → Decides (eq-value.it a b) (a ≡ b)) where
       Decides-like _ (λ same. sym (said_saying a) ∙ ap said same ∙ said_saying b) (λ same. ap saying same) (decides (saying a) (saying b))
 
   metadata_same : (a b : Metadata) → a.version ≡ b.version → a.user ≡ b.user → a.tables ≡ b.tables → a ≡ b
-  metadata_same a b version user tables =
-      ap (λ (v : List ℕ). record { version = v; user = a.user; tables = a.tables }) version
-      ∙ ap (λ (u : List ℕ). record { version = b.version; user = u; tables = a.tables }) user
-      ∙ ap (λ (t : List (List (List says.Cell))). record { version = b.version; user = b.user; tables = t }) tables
+  metadata_same a b version user tables = λ i. record { version = version i; user = user i; tables = tables i }
 
   pub metadata_decides : (a b : Metadata) → Decides (tables.eq-value.it a b) (a ≡ b)
   metadata_decides a b =

@@ -2,14 +2,14 @@ ghost use Rattle.std.specs.Prelude.{◌≡◌, unwrap_or, option_map};
 ghost use Rattle.std.specs.Option.{option_copied};
 ghost use Rattle.packed.specs.Rule.{Reports};
 ghost use Rattle.tables.specs.Said.{said};
-ghost use Rattle.metadata.specs.Cell.{Number as NumberCell};
-ghost use Rattle.metadata.specs.Valid.{start_in, row_in};
+ghost use Rattle.metadata.specs.Cell.{Number as NumberCell, start_in};
+ghost use Rattle.metadata.specs.Valid.{row_in};
 ghost use Rattle.metadata.specs.LinkRules.{rules_of_run, rules_of_runs, rules_of_nesting, rules_of_links};
 ghost use Rattle.metadata.specs.Refusals.{in_memory};
 
 use crate::Cell;
 use crate::counted::Counted;
-use metadata::Refusal;
+use metadata::{MemberList, Refusal};
 use packed::FaultCode;
 use table_schema::TableId;
 
@@ -32,25 +32,23 @@ pub fn check_links(counted: &Counted) -> Result<(), Refusal>
 fn check_runs(counted: &Counted) -> Result<(), Refusal>
     ensures { Reports (rules_of_runs (in_memory counted.now)) result }
 {
-    check_run(counted, TableId::TypeDef, 4, TableId::Field)?;
-    check_run(counted, TableId::TypeDef, 5, TableId::MethodDef)?;
-    check_run(counted, TableId::MethodDef, 5, TableId::Param)?;
-    check_run(counted, TableId::EventMap, 1, TableId::Event)?;
-    check_run(counted, TableId::PropertyMap, 1, TableId::Property)
+    check_run(counted, MemberList::Fields)?;
+    check_run(counted, MemberList::Methods)?;
+    check_run(counted, MemberList::Params)?;
+    check_run(counted, MemberList::Events)?;
+    check_run(counted, MemberList::Properties)
 }
 
-/// Checks that each member has one owner, by the starts in one cell of the owners' rows.
+/// Checks that each member of a list has one owner, by the starts in the owners' rows.
 #[tactic(auto, using(packed::proofs::RuleLemmas::none_from, packed::proofs::RuleLemmas::before_none, packed::proofs::RuleLemmas::before_more, packed::proofs::RuleLemmas::before_all, packed::proofs::RuleLemmas::before_fails), unfolding(metadata::specs::LinkRules::rules_of_run, metadata::specs::LinkRules::rules_of_start))]
-fn check_run(
-    counted: &Counted,
-    owner: TableId,
-    cell_index: usize,
-    member: TableId,
-) -> Result<(), Refusal>
-    ensures { Reports (rules_of_run (in_memory counted.now) owner cell_index member) result }
+fn check_run(counted: &Counted, list: MemberList) -> Result<(), Refusal>
+    ensures { Reports (rules_of_run (in_memory counted.now) list) result }
 {
+    let owner = list.owner();
+    let cell_index = list.cell();
     let count = counted.count(owner);
     if count == 0 {
+        let member = list.member();
         if counted.count(member) == 0 {
             return Ok(());
         }

@@ -1,5 +1,5 @@
 -- The lists in the head of a type.
-use Rattle.type_heads.proofs.Prelude.{◌≡◌, ◌∙◌, ◌+◌, ◌<◌, ◌≤◌, ◌==◌, ℕ, Bool, true, false, List, [], ◌∷◌, ◌++◌, Option, Some, None, add-one, ap, drop, drop-cons, get_or, length, map, refl, subst, sym, arith, drop_all, codes, WritesInCalls, cell_columns, cell_count, Token, Metadata, cell_in, Wrote, writes_append, writes_nothing, writes_once, KeyedRow, Link, reference_in, row_of, linked, table_of, leading_words, words_of, AreConstraints, AreListed, IsGenericParam, IsInHead, IsTypeName, IsTypeOf, enclosed, flags_in, name_in, param_token}
+use Rattle.type_heads.proofs.Prelude.{◌≡◌, ◌∙◌, ◌+◌, ◌<◌, ◌≤◌, ◌==◌, ℕ, Bool, true, false, List, [], ◌∷◌, ◌++◌, Option, Some, None, add-one, ap, drop, drop-cons, get_or, length, map, refl, subst, sym, arith, drop_all, codes, WritesInCalls, cell_columns, cell_count, Token, Metadata, cell_in, Wrote, writes_append, writes_nothing, writes_once, KeyedRow, Link, reference_in, row_of, linked, table_of, leading_words, words_of, AreConstraints, AreListed, IsGenericParam, IsInHead, IsTypeName, IsTypeOf, enclosed, number_in, text_in, param_token}
 use Rattle.std.proofs.lemmas.Bool.Decides.{nat_tests}
 use Rattle.table_schema.specs.declared.table.TableId.TheVariants.{GenericParam}
 use Rattle.metadata.specs.Valid.{IsValid}
@@ -38,8 +38,8 @@ module _ (scopes : Scopes) (model : Metadata) (valid : IsValid model) where
       let rows = linked model link_of.Constraints (param_token row) in
       let types = listed_texts (IsTypeOf scopes model link_of.Constraints) (type_text link_of.Constraints) [] rows in
       let constraints = enclosed (codes "(") (codes ") ") rows types.0 in
-      let words = leading_words (flags_in (cell_in model GenericParam row 1)) (words_of flags.Generic) in
-      let name = name_text Identifier (name_in (cell_in model GenericParam row 3)) in
+      let words = leading_words (number_in (cell_in model GenericParam row 1)) (words_of flags.Generic) in
+      let name = name_text Identifier (text_in (cell_in model GenericParam row 3)) in
       (words ++ (constraints ++ name), (constraints, (types.0, types.1, refl), refl))
 
 -- each list of generic parameters has a text
@@ -109,7 +109,7 @@ module _ {W : Type 0} (took : W → List ℕ → W → Type 0) (scopes : Scopes)
   )
 
   pub param_written : (row bits : ℕ) (own rows : List ℕ) (w u v x : W) → rows ≡ linked model link_of.Constraints (param_token row)
-      → bits ≡ flags_in (cell_in model GenericParam row 1) → own ≡ name_in (cell_in model GenericParam row 3)
+      → bits ≡ number_in (cell_in model GenericParam row 1) → own ≡ text_in (cell_in model GenericParam row 3)
       → WritesInCalls took w (leading_words bits (words_of flags.Generic)) u → Wrote took u (AreConstraints scopes model rows) v → WritesInCalls took v (name_text Identifier own) x
       → Wrote took w (IsGenericParam scopes model row) x
   param_written row bits own rows w u v x rows_are bits_are own_is words constraints name =
@@ -120,7 +120,7 @@ module _ {W : Type 0} (took : W → List ℕ → W → Type 0) (scopes : Scopes)
           constraints.0,
           subst (λ (r : List ℕ). AreConstraints scopes model r constraints.0) rows_are constraints.1,
           ap (λ (n : ℕ). leading_words n (words_of flags.Generic) ++ (constraints.0 ++ last)) bits_are
-              ∙ ap (λ (t : List ℕ). leading_words (flags_in (cell_in model GenericParam row 1)) (words_of flags.Generic) ++ (constraints.0 ++ name_text Identifier t)) own_is,
+              ∙ ap (λ (t : List ℕ). leading_words (number_in (cell_in model GenericParam row 1)) (words_of flags.Generic) ++ (constraints.0 ++ name_text Identifier t)) own_is,
         ),
         writes_append took w first u (constraints.0 ++ last) x words (writes_append took u constraints.0 v last x constraints.2 name),
       )

@@ -6,9 +6,9 @@ pub use Rattle.std.specs.Prelude.{codes, bit_and, All}
 pub use Rattle.table_schema.specs.CellColumns.{cell_count}
 unfoldable pub use Rattle.table_schema.specs.CellColumns.{cell_columns}
 pub use Rattle.table_schema.specs.declared.token.Token.{Token}
+pub use Rattle.metadata.specs.Cell.{number_in, reference_in, text_in}
 pub use Rattle.metadata.specs.Metadata.{Metadata, cell_in}
 pub use Rattle.metadata.specs.Model.{IsModel}
-pub use Rattle.navigation.specs.Cells.{reference_in}
 pub use Rattle.navigation.specs.Keyed.{row_of}
 pub use Rattle.navigation.specs.Linked.{table_of}
 unfoldable pub use Rattle.navigation.specs.Linked.{linked}
@@ -18,4 +18,4 @@ pub use Rattle.full_names.proofs.PieceLemmas.{on_wrote}
 pub use Rattle.full_names.proofs.TextLemmas.{writes_append, writes_nothing, writes_once, writes_last}
 pub use Rattle.full_names.specs.Names.{Wrote}
 pub use Rattle.type_heads.specs.FlagWords.{Word, leading_text, leading_words, shown_word, words_of}
-pub use Rattle.type_heads.specs.Heads.{AreConstraints, AreListed, IsGenericParam, IsInHead, IsTypeName, IsTypeOf, enclosed, flags_in, name_in, param_token}
+pub use Rattle.type_heads.specs.Heads.{AreConstraints, AreListed, IsGenericParam, IsInHead, IsTypeName, IsTypeOf, enclosed, param_token}

@@ -3,11 +3,10 @@
 use Rattle.std.specs.Prelude.{◌≡◌, ℕ, List, [], ◌∷◌, ◌++◌, codes, Option, None, Some}
 use Rattle.table_schema.specs.declared.table.TableId.TheVariants.{GenericParam}
 use Rattle.table_schema.specs.declared.token.Token.{Token}
-use Rattle.metadata.specs.Cell.{Cell, Number, Text}
+use Rattle.metadata.specs.Cell.{number_in, reference_in, text_in}
 use Rattle.metadata.specs.Metadata.{Metadata, cell_in}
 use Rattle.navigation.specs.declared.links.Link.{Link}
 use Rattle.navigation.specs.declared.links.Link.TheVariants as link_of
-use Rattle.navigation.specs.Cells.{reference_in}
 use Rattle.navigation.specs.Linked.{linked, table_of}
 use Rattle.full_names.specs.declared.limit.Scopes.{Scopes}
 use Rattle.full_names.specs.declared.quoted.NameKind.TheVariants.{Identifier}
@@ -40,15 +39,7 @@ abbrev pub AreConstraints : Scopes → Metadata → List ℕ → List ℕ → Ty
 AreConstraints scopes model rows out =
     (types : List ℕ) × AreListed (IsTypeOf scopes model link_of.Constraints) [] rows types × (out ≡ enclosed (codes "(") (codes ") ") rows types)
 
--- the flags and the name of a generic parameter, and its token
-abbrev pub flags_in : Cell → ℕ
-flags_in (Number flags) = flags
-flags_in _ = 0
-
-abbrev pub name_in : Cell → List ℕ
-name_in (Text name) = name
-name_in _ = []
-
+-- the token of a generic parameter
 abbrev pub param_token : ℕ → Token
 param_token row = record { table = GenericParam; row = row }
 
@@ -56,8 +47,8 @@ param_token row = record { table = GenericParam; row = row }
 abbrev pub IsGenericParam : Scopes → Metadata → ℕ → List ℕ → Type 0
 IsGenericParam scopes model row out =
     (constraints : List ℕ) × AreConstraints scopes model (linked model link_of.Constraints (param_token row)) constraints
-    × (out ≡ leading_words (flags_in (cell_in model GenericParam row 1)) (words_of flags.Generic)
-    ++ (constraints ++ name_text Identifier (name_in (cell_in model GenericParam row 3))))
+    × (out ≡ leading_words (number_in (cell_in model GenericParam row 1)) (words_of flags.Generic)
+    ++ (constraints ++ name_text Identifier (text_in (cell_in model GenericParam row 3))))
 
 -- what a row is in the head of the row that it refers to
 abbrev pub IsInHead : Scopes → Metadata → Link → ℕ → List ℕ → Type 0

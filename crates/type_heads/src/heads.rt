@@ -1,11 +1,11 @@
 ghost use Rattle.std.specs.Prelude.{◌≡◌, ◌≤◌, ◌<◌, [], All, map, OnOk};
 ghost use Rattle.table_schema.specs.CellColumns.{cell_count};
 ghost use Rattle.table_schema.specs.declared.table.TableId.TheVariants.{GenericParam};
+ghost use Rattle.metadata.specs.Cell.{reference_in};
 ghost use Rattle.metadata.specs.Metadata.{Metadata, cell_in};
 ghost use Rattle.metadata.specs.Model.{IsModel};
 ghost use Rattle.full_names.specs.Names.{Wrote};
 ghost use Rattle.navigation.specs.declared.links.Link.TheVariants as link_of;
-ghost use Rattle.navigation.specs.Cells.{reference_in};
 ghost use Rattle.navigation.specs.Keyed.{row_of};
 ghost use Rattle.navigation.specs.Linked.{table_of};
 ghost use Rattle.opening.specs.Views.{row_count};
@@ -13,8 +13,8 @@ ghost use Rattle.type_heads.specs.Heads.{AreConstraints, AreListed, IsGenericPar
 
 use crate::flag_words::{FlagTable, write_flags};
 use full_names::{Limit, NameKind, TextError, write_full_name_within, write_name, write_text};
-use navigation::{KeyedRow, Link, Neighbours, cells};
-use opening::{CellRef, TableId, Token};
+use navigation::{KeyedRow, Link, Neighbours};
+use opening::{TableId, Token, number_or_zero, reference_or_null, text_or_empty};
 use std::alloc::Global;
 use std::fmt;
 
@@ -36,10 +36,7 @@ fn reference(source: &Neighbours<'_, '_>, link: Link, row: u32) -> Option<Token>
     requires last { row ≤ row_count source.now.view.now (table_of link) }
     ensures { (model : Metadata) → IsModel source.now.view.now model → result ≡ reference_in (cell_in model (table_of link) row 1) }
 {
-    match source.view.cell(link.table(), row, TYPE) {
-        CellRef::Ref(token) => token,
-        _ => None,
-    }
+    reference_or_null(source.view, link.table(), row, TYPE)
 }
 
 /// Writes the full name of the type that a row refers to.
@@ -127,10 +124,10 @@ fn write_param<W: fmt::Write, L: Limit<W>>(
     let _count = source.view.count(table);
     let number_of_row = Link::Constraints.number_to(Token { table, row });
     let constraints = source.linked(Link::Constraints, number_of_row);
-    let flags = cells::number(source, table, row, FLAGS);
+    let flags = number_or_zero(source.view, table, row, FLAGS);
     write_flags(out, FlagTable::Generic, flags)?;
     write_constraints(alloc, source, constraints, limit, out)?;
-    let name = cells::text(source, table, row, NAME);
+    let name = text_or_empty(source.view, table, row, NAME);
     Ok(write_name(out, NameKind::Identifier, name, limit)?)
 }
 

@@ -1,6 +1,7 @@
 -- Owned cells of the kinds of columns have the shapes of these columns, and their contents are those of their record.
-use Rattle.std.proofs.Common.{◌≡◌, ℕ, zero, suc, ◌+◌, List, [], ◌∷◌, drop, Some, option_map, slice_get, sym, ◌∙◌, ap, refl, arith, add-one}
+use Rattle.std.proofs.Common.{◌≡◌, ℕ, zero, suc, ◌+◌, List, [], ◌∷◌, drop, Some, option_map, slice_get, sym, ◌∙◌, ap, refl, arith}
 use Rattle.std.proofs.lemmas.Grind.{common_steps}
+use Rattle.std.proofs.lemmas.List.{drop-drop}
 use Rattle.table_schema.specs.declared.column.ColumnKind.{ColumnKind}
 use Rattle.table_schema.specs.declared.column.ColumnKind.TheVariants as kind
 use Rattle.metadata.specs.Cell.{Cell}
@@ -12,18 +13,15 @@ use Rattle.type_records.specs.Kinds.{AreOfKinds}
 use Rattle.type_records.specs.Shapes.{shape_of, IsOfShape, AreHeld, AreSaid}
 
 -- the first item from an index on is the item with this index
-get_at : (all : List Owned) (cell_index : ℕ) (c : Owned) (tail : List Owned) → drop cell_index all ≡ c ∷ tail → slice_get all cell_index ≡ Some c
+pub get_at : {A : Type 0} (all : List A) (cell_index : ℕ) (c : A) (tail : List A) → drop cell_index all ≡ c ∷ tail → slice_get all cell_index ≡ Some c
 get_at [] zero c tail h = absurd cc
 get_at [] (suc p) c tail h = absurd cc
 get_at (x ∷ xs) zero c tail h = grind (arith, common_steps, h)
 get_at (x ∷ xs) (suc p) c tail h = get_at xs p c tail h
 
 -- the other items follow from the next index on
-drop_next : (all : List Owned) (cell_index : ℕ) (c : Owned) (tail : List Owned) → drop cell_index all ≡ c ∷ tail → drop (cell_index + 1) all ≡ tail
-drop_next [] zero c tail h = absurd cc
-drop_next [] (suc p) c tail h = absurd cc
-drop_next (x ∷ xs) zero c tail h = grind (arith, common_steps, h)
-drop_next (x ∷ xs) (suc p) c tail h = ap (λ n. drop n (x ∷ xs)) (add-one (suc p)) ∙ ap (λ n. drop n xs) (sym (add-one p)) ∙ drop_next xs p c tail h
+pub drop_next : {A : Type 0} (all : List A) (cell_index : ℕ) (c : A) (tail : List A) → drop cell_index all ≡ c ∷ tail → drop (cell_index + 1) all ≡ tail
+drop_next all cell_index c tail h = sym (drop-drop 1 cell_index all) ∙ ap (drop 1) h
 
 -- a cell of a column's kind has the shape of the column's cells
 kind_shape : (k : ColumnKind) (c : Owned) → IsOfKind k (said c) → IsOfShape (Some c) (shape_of k)

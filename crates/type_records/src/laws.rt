@@ -20,7 +20,7 @@ ghost use Rattle.type_records.specs.Signatures.{encoded};
 pub fn blobs_say_signatures()
     ensures { (column : Kind) (signature : Body) (blob : List ℕ) → Encodes column signature blob → encoded column blob ≡ signature }
 {
-    sig_values::laws::signatures_are_read();
+    sig_grammar::laws::signatures_are_read();
 }
 
 /// The kinds of a table's cells are the kinds of the columns that have a cell (II.22).

@@ -1,5 +1,7 @@
+mod DescribedLemmas
 pub mod OuterLemmas
 mod OwnerLemmas
 pub mod Prelude
+mod Prelude
 mod ResultLemmas
 mod TypeLemmas

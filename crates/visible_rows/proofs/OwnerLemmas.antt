@@ -1,10 +1,10 @@
 -- The owner of a member.
-use Rattle.visible_rows.proofs.Prelude.{◌≡◌, ◌∙◌, ◌≤◌, ◌<◌, ◌+◌, ◌-◌, ℕ, zero, suc, cond, ap, arith, le-leb, lt-leb, Metadata, cell_in, count_in, HasOwners, start_in, owner_among, owner_in}
-use Rattle.metadata_source.specs.declared.member_lists.MemberList.{MemberList}
-use Rattle.metadata_source.specs.MemberLists.{cell_of, member_of, owner_of}
+use Rattle.visible_rows.proofs.Prelude.{◌≡◌, ◌∙◌, ◌≤◌, ◌<◌, ◌+◌, ◌-◌, ℕ, zero, suc, cond, ap, arith, le-leb, lt-leb, Metadata, cell_in, count_in, IsOwned, links_of, start_in, owner_among, owner_in}
+use Rattle.metadata.specs.declared.member_lists.MemberList.{MemberList}
+use Rattle.metadata.specs.MemberLists.{cell_of, owner_of}
 use Rattle.navigation.specs.Owners.{Owns}
 
-module _ (model : Metadata) (list : MemberList) (has : HasOwners model (owner_of list) (cell_of list) (member_of list)) (member owner : ℕ) (owns : Owns model list owner member) where
+module _ (model : Metadata) (list : MemberList) (has : IsOwned (links_of model) list) (member owner : ℕ) (owns : Owns model list owner member) where
   abbrev start : ℕ → ℕ
   start row = start_in (cell_in model (owner_of list) row (cell_of list))
 

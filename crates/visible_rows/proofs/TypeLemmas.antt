@@ -13,7 +13,7 @@ module _ (model : Metadata) (valid : IsValid model) where
   among_before class some first (suc count) from within =
       let nested = row_in (cell_in model NestedClass first 0) in
       by_test (nested == class) nested (row_in (cell_in model NestedClass first 1)) class (outer_among model (range_with_len (first + 1) count) class)
-      (λ is. eqb-true nested class is) (valid.nested first (from, omega (arith, within)))
+      (λ is. eqb-true nested class is) (valid.linked.nested first from (omega (arith, within)))
       (among_before class some (first + 1) count (omega arith) (omega (arith, within)))
 
   -- a type comes after the one that encloses it

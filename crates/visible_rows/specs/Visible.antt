@@ -4,23 +4,21 @@ use Rattle.std.specs.List.{list_any, range_with_len}
 use Rattle.table_schema.specs.declared.table.TableId.{TableId}
 use Rattle.table_schema.specs.declared.table.TableId.TheVariants.{TypeDef, Field, MethodDef, Param, Event, Property, MethodSemantics, MethodImpl, ManifestResource, NestedClass}
 use Rattle.table_schema.specs.declared.token.Token.{Token}
-use Rattle.metadata.specs.Cell.{Cell, Number}
+use Rattle.metadata.specs.Cell.{Cell, number_in, reference_in, start_in}
 use Rattle.metadata.specs.Metadata.{Metadata, cell_in, count_in}
 use Rattle.metadata.specs.Model.{IsModel}
-use Rattle.metadata.specs.Valid.{row_in, start_in}
-use Rattle.metadata_source.specs.declared.member_lists.MemberList.{MemberList}
-use Rattle.metadata_source.specs.declared.member_lists.MemberList.TheVariants as list
-use Rattle.metadata_source.specs.MemberLists.{cell_of, owner_of}
+use Rattle.metadata.specs.Valid.{row_in}
+use Rattle.metadata.specs.declared.member_lists.MemberList.{MemberList}
+use Rattle.metadata.specs.declared.member_lists.MemberList.TheVariants as list
+use Rattle.metadata.specs.MemberLists.{cell_of, owner_of}
 use Rattle.navigation.specs.declared.links.Link.TheVariants as linked_by
-use Rattle.navigation.specs.Cells.{reference_in}
 use Rattle.navigation.specs.Linked.{linked}
 use Rattle.opening.specs.Views.{row_count}
-use Rattle.declaring_types.specs.Declaring.{described_last}
+use Rattle.visible_rows.specs.Declaring.{described_last}
 
 -- who can refer to a row: the lowest three bits of its flags
 abbrev pub access_in : Cell → ℕ
-access_in (Number flags) = bit_and flags 7
-access_in _ = 0
+access_in cell = bit_and (number_in cell) 7
 
 -- ---- types
 

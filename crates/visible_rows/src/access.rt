@@ -1,16 +1,12 @@
 //! Who can refer to a row (II.23.1.5, II.23.1.9, II.23.1.10, II.23.1.15).
 ghost use Rattle.std.specs.Prelude.{◌≡◌, ◌≤◌, ◌<◌, ◌&&◌, ◌||◌};
 ghost use Rattle.table_schema.specs.CellColumns.{cell_count};
-ghost use Rattle.metadata.specs.Cell.{Number};
-ghost use Rattle.metadata.specs.Kinds.{IsOfKind};
 ghost use Rattle.metadata.specs.Metadata.{Metadata, cell_in};
 ghost use Rattle.metadata.specs.Model.{IsModel};
-ghost use Rattle.metadata.specs.Valid.{kind_at};
 ghost use Rattle.opening.specs.Views.{row_count};
 ghost use Rattle.visible_rows.specs.Visible.{access_in, is_open_member, is_open_nested, is_public_type};
 
-use navigation::cells;
-use opening::{TableId, View};
+use opening::{TableId, View, number_or_zero};
 
 /// The bits of the flags that say who can refer to the row.
 const ACCESS: u32 = 7;
@@ -37,10 +33,9 @@ pub(crate) fn access(view: &View<'_>, table: TableId, row: u32, cell: usize) -> 
     requires first { 1 ≤ row }
     requires last { row ≤ row_count view.now table }
     requires cell { cell < cell_count table }
-    requires kind { IsOfKind (kind_at table cell) (Number 0) }
     ensures { (model : Metadata) → IsModel view.now model → result ≡ access_in (cell_in model table row cell) }
 {
-    cells::number(view, table, row, cell) & ACCESS
+    number_or_zero(view, table, row, cell) & ACCESS
 }
 
 /// Whether a type that is not nested, or a resource, is public.

@@ -5,7 +5,7 @@ ghost use Rattle.visible_rows.specs.Visible.{AreVisibleTypes, HaveVisibleAccesso
 use crate::access::{access, is_public};
 use crate::members::{is_visible_accessor, is_visible_field, is_visible_method, visible_accessors};
 use crate::types::visible_types;
-use declaring_types::described_last;
+use crate::declaring::described_last;
 use navigation::{Neighbours, cells, method_of_param};
 use opening::{TableId, Token, View};
 use std::alloc::{AllocError, Global};

@@ -1,7 +1,7 @@
 //! Tests of `cli_outline`: the lines that `clim outline` prints.
 
 use crate::runs::answer;
-use cli_input::{Input, open};
+use cli_files::{Input, open};
 use cli_lines::{Form, Printer};
 use cli_outline::{OutlineOptions, Rows, Sorting, Tokens, print_outline, print_refs};
 use sample_roots::{RootBuilder, TWO_TYPES, image, write_at};

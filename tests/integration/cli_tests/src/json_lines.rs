@@ -4,7 +4,7 @@
 use crate::samples::{TWO_STRINGS, USER_STRINGS};
 use cli_cells::Names;
 use cli_faults::code_of_number;
-use cli_input::Input;
+use cli_files::Input;
 use cli_lines::{Form, Printer};
 use cli_print::{print_explanation, print_verdict};
 use cli_runs::{Directories, Ended, Listing, Naming, Report, Request, Verdict, report_on};

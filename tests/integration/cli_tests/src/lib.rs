@@ -15,7 +15,7 @@ mod cli_cells;
 #[cfg(test)]
 mod cli_descriptors;
 #[cfg(test)]
-mod cli_escapes;
+mod cli_sending;
 #[cfg(test)]
 mod cli_faults;
 #[cfg(test)]

@@ -3,7 +3,7 @@
 use crate::runs::answer;
 use crate::where_files::plain_lines;
 use cli_faults::Failure;
-use cli_input::Input;
+use cli_files::Input;
 use cli_lines::{Form, Printer};
 use cli_where::{Found, print_where};
 use sample_roots::{NAMES_SHARED, ONE_MODULE, RootBuilder, TWO_TYPES, image, write_at};

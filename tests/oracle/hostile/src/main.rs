@@ -20,6 +20,7 @@ mod made_model;
 mod made_signatures;
 mod numbers;
 mod plain_image;
+mod plain_links;
 mod plain_model;
 mod plain_pools;
 mod plain_reader;

@@ -2,13 +2,12 @@
 //! time. It shares no code with the library.
 
 use crate::numbers::{zero_padded, packed_at};
+use crate::plain_links::bad_link;
 use crate::plain_model::{PlainCell, PlainModel};
 use crate::plain_root::{PlainRoot, Refused, read_plain_root};
 use crate::plain_signatures::{NotEncoded, reencoded};
 use crate::plain_tables::{PlainLayout, read_plain_layout};
-use crate::standard::{
-    Counts, Kind, NESTED_CLASS, RUNS, TABLES, Table, columns, key_column, listed, tag_bits,
-};
+use crate::standard::{Counts, Kind, RUNS, TABLES, Table, columns, key_column, listed, tag_bits};
 use model::{Coded, SigKind};
 use std::alloc::Global;
 use std::str;
@@ -26,8 +25,9 @@ pub fn read_plain(alloc: Global, bytes: &[u8]) -> Result<PlainModel, Refused> {
     };
     let mut model = reader.cells()?;
     reader.check_order()?;
-    reader.check_runs(&model)?;
-    reader.check_nesting()?;
+    if let Some((code, table, row, column)) = bad_link(&model) {
+        return reader.fault(code, table, row, column);
+    }
     reader.encode_signatures(&mut model)?;
     Ok(model)
 }
@@ -200,36 +200,6 @@ impl Reader<'_> {
                 if falls && self.layout.sorted[table as usize] {
                     return self.fault(601, table, row, column);
                 }
-            }
-        }
-        Ok(())
-    }
-
-    /// Each member has one owner.
-    fn check_runs(&self, model: &PlainModel) -> Result<(), Refused> {
-        for (owner, column, member) in RUNS {
-            if self.count(owner) == 0 && self.count(member) > 0 {
-                return Err(Refused::Fault(603, self.layout.first[member as usize]));
-            }
-            let mut before = 1;
-            for row in 1..self.count(owner) + 1 {
-                let PlainCell::Start(start) = model.cell(owner, row, column) else {
-                    continue;
-                };
-                if *start < before || row == 1 && *start != 1 {
-                    return self.fault(602, owner, row, column);
-                }
-                before = *start;
-            }
-        }
-        Ok(())
-    }
-
-    /// An enclosing type stands before the types inside it.
-    fn check_nesting(&self) -> Result<(), Refused> {
-        for row in 1..self.count(NESTED_CLASS) + 1 {
-            if self.number(NESTED_CLASS, row, 1) >= self.number(NESTED_CLASS, row, 0) {
-                return self.fault(604, NESTED_CLASS, row, 1);
             }
         }
         Ok(())

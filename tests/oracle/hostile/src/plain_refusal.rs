@@ -1,10 +1,11 @@
 //! What is wrong with tables, by the rules of a valid model, plainly. It shares no code with the library.
 
+use crate::plain_links::{At, bad_link};
 use crate::plain_model::{PlainCell, PlainModel};
 use crate::plain_reader::encoded_again;
 use crate::plain_root::Refused;
 use crate::plain_signatures::reencoded;
-use crate::standard::{CONSTANT, Counts, Kind, NESTED_CLASS, RUNS, TABLES, Table, columns, listed};
+use crate::standard::{CONSTANT, Counts, Kind, TABLES, Table, columns, listed};
 use model::{Coded, SigKind};
 use std::alloc::Global;
 
@@ -33,14 +34,10 @@ pub fn refusal_of(alloc: Global, model: &PlainModel) -> Option<PlainRefusal> {
     }
     let counts = model.counts();
     bad_cell(model, &counts)
-        .or_else(|| bad_run(model))
-        .or_else(|| bad_nesting(model))
+        .or_else(|| bad_link(model))
         .or_else(|| bad_signature(alloc, model, &counts))
         .map(at_cell)
 }
-
-/// A code, a table, a row and a column.
-type At = (u16, Table, u32, usize);
 
 /// The kinds of a table's cells.
 fn cell_kinds(table: Table) -> &'static [Kind] {
@@ -100,42 +97,6 @@ fn may_name(kind: Kind, table: Table) -> bool {
         Kind::Coded(coded) | Kind::CodedOrNull(coded) => lists(coded),
         _ => false,
     }
-}
-
-/// The first run that does not begin where it may, or the first members without owners.
-fn bad_run(model: &PlainModel) -> Option<At> {
-    for (owner, column, member) in RUNS {
-        if model.count(owner) == 0 && model.count(member) > 0 {
-            return Some((603, member, 1, 0));
-        }
-        let mut before = 1;
-        for row in 1..model.count(owner) + 1 {
-            let PlainCell::Start(start) = model.cell(owner, row, column) else {
-                continue;
-            };
-            if *start < before || row == 1 && *start != 1 {
-                return Some((602, owner, row, column));
-            }
-            before = *start;
-        }
-    }
-    None
-}
-
-/// The first type that does not follow the type around it.
-fn bad_nesting(model: &PlainModel) -> Option<At> {
-    for row in 1..model.count(NESTED_CLASS) + 1 {
-        let nested = model.cell(NESTED_CLASS, row, 0);
-        let around = model.cell(NESTED_CLASS, row, 1);
-        if let (PlainCell::Row(Some((_, nested))), PlainCell::Row(Some((_, around)))) = (
-            nested, around,
-        ) {
-            if around >= nested {
-                return Some((604, NESTED_CLASS, row, 1));
-            }
-        }
-    }
-    None
 }
 
 /// The first signature that its column does not take, or that names a type that is not there.

@@ -8,4 +8,4 @@ returns g c = λ model is.
     let last = c.requires.last in
     c.instance_type.ensures model is
     ∙ enum_run model c.args.row c.reference-base.result (c.reference-base.ensures.value model is) (sym (c.is_enum.ensures model is) ∙ c.if-not-is_enum.false)
-    c.fields_of-fields.result.start c.fields_of-fields.result.end (omega (arith, rows, last)) (c.fields_of-fields.ensures model is)
+    c.members_of-fields.result.start c.members_of-fields.result.end (omega (arith, rows, last)) (c.members_of-fields.ensures model is)

@@ -1,6 +1,6 @@
 use Rattle.cli_found.proofs.Prelude.{inl, inr, refl}
 use Rattle.packed.proofs.RuleLemmas.{none_fails}
-use Rattle.cli_input.specs.Checked.{rules_before}
+use Rattle.cli_files.specs.Checked.{rules_before}
 use Rattle.cli_found.proofs.lines.number_at_fault.Goals as goal
 
 pub returns-in_err-lead_at : goal.returns-in_err-lead_at

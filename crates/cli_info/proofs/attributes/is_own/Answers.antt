@@ -1,6 +1,5 @@
 use Rattle.cli_info.proofs.Prelude.{◌∙◌, ap, sym, is_assembly}
-use Rattle.metadata.specs.Cell.{Cell}
-use Rattle.navigation.specs.Cells.{reference_in}
+use Rattle.metadata.specs.Cell.{Cell, reference_in}
 use Rattle.cli_info.proofs.attributes.is_own.Goals as goal
 
 pub returns : goal.returns

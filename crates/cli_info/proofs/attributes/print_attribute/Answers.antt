@@ -14,7 +14,7 @@ returns-in_default-params_of g c = λ model is.
 pub returns-in_default-texts_in : goal.returns-in_default-texts_in
 unfolding attribute_lines
 returns-in_default-texts_in g c = λ model is.
-    rw (← c.in-Some.ensures.value model is, ← c.in-Some-params_of.ensures model is, ← c.as_slice.ensures, ← c.bytes-value.ensures model is, ← c.in_default-texts_in.ensures, no_items)
+    rw (← c.in-Some.ensures.value model is, ← c.in-Some-params_of.ensures model is, ← c.as_slice.ensures, ← c.bytes_or_empty-value.ensures model is, ← c.in_default-texts_in.ensures, no_items)
     (c.lines_follow.ensures.nothing _)
 
 pub returns-in_default-type_of : goal.returns-in_default-type_of

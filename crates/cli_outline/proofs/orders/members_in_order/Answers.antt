@@ -12,7 +12,7 @@ loop-owner-init c = record {
 pub loop-owner-preserved : goal.loop-owner-preserved
 loop-owner-preserved c =
     let before = c.loop-owner.order.items in
-    let out = rw c.member.ensures at c.in_ok-push_in_order.ensures in
+    let out = rw c.member.ensures.value at c.in_ok-push_in_order.ensures in
     record {
       same = c.run_of-rows.ensures.same ∙ c.loop-owner.invariant.same;
       within = rw out.1 (All-append (IsRowIn c.args.source.now.neighbours.view.now (member_of c.args.list)) before out.0 c.loop-owner.invariant.within out.2);

@@ -5,7 +5,7 @@ use Rattle.cli_outline.proofs.outline.print_map.Goals as goal
 pub loop-position-init : goal.loop-position-init
 loop-position-init g c = λ model later is.
     let here : IsModel c.args.cells.now model = rw c.requires.at is in
-    rw (← c.run_of-rows.ensures.begin model here, ← c.run_of-rows.ensures.past model here, ← c.member-table.ensures) (λ printed. printed)
+    rw (← c.run_of-rows.ensures.begin model here, ← c.run_of-rows.ensures.past model here, ← c.member-table.ensures.value) (λ printed. printed)
 
 pub loop-position-preserved : goal.loop-position-preserved
 loop-position-preserved g c = λ model later is printed.

@@ -1,7 +1,7 @@
-use Rattle.cli_outline.proofs.Prelude.{arith, le-leb, cell_of, count_in, member_of, owner_of, row_count}
+use Rattle.cli_outline.proofs.Prelude.{arith, le-leb, count_in, member_of, owner_of, row_count}
 use Rattle.std.proofs.Math.Logic.{∥∥₁_elim}
 use Rattle.std.specs.Coded.{le_prop}
-use Rattle.cli_outline.proofs.RunLemmas.{owners, run_ends, run_to, start_from}
+use Rattle.cli_outline.proofs.RunLemmas.{run_ends, run_to, start_from}
 use Rattle.cli_outline.proofs.outline.run_of.Goals as goal
 
 pub returns-clause-first : goal.returns-clause-first
@@ -9,7 +9,7 @@ unfolding row_count
 returns-clause-first c = ∥∥₁_elim c.view-view.ensures.model le_prop (λ some.
     let count = c.models_are_read.ensures.count c.args.cells.now some.0 some.1 (owner_of c.args.list) in
     rw (c.run.ensures.run some.0 some.1).start at
-    (start_from some.0 (owner_of c.args.list) (cell_of c.args.list) (member_of c.args.list) (owners some.0 (c.models_of_roots_are_valid.ensures c.args.cells.now some.0 some.1) c.args.list)
+    (start_from some.0 c.args.list ((c.models_of_roots_are_valid.ensures c.args.cells.now some.0 some.1).linked.owned c.args.list)
     c.args.row c.requires.first (omega (arith, count, c.requires.last))))
 
 pub returns-clause-last : goal.returns-clause-last

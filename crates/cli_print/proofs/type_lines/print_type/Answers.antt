@@ -13,4 +13,4 @@ returns-clause-line g c = λ model is.
     let again : IsModel c.run.new.self model = rw c.run.ensures.same is in
     let fields = c.count_of-fields.ensures ∙ run_counted model 4 Field row c.run.result.start c.run.result.«end» within (c.run.ensures.run model is) in
     let methods = c.count_of-methods.ensures ∙ run_counted model 5 MethodDef row c.run-2.result.start c.run-2.result.«end» within (c.run-2.ensures.run model again) in
-    rw (← c.text_of-namespace.ensures model here, ← c.text_of-name.ensures model here, ← fields, ← methods, ← c.dot_after.ensures) c.line.ensures
+    rw (← c.text_or_empty-namespace.ensures model here, ← c.text_or_empty-name.ensures model here, ← fields, ← methods, ← c.dot_after.ensures) c.line.ensures

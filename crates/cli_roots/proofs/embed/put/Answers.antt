@@ -5,7 +5,7 @@ use Rattle.embedding.specs.Embedded.{IsEmbedded}
 use Rattle.embedding.specs.Planned.{Planned}
 use Rattle.cli_faults.specs.declared.failure.Failure.TheVariants.{OutOfMemory}
 use Rattle.cli_lines.specs.declared.parts.Form.{Form}
-use Rattle.cli_output.specs.Written.{WasGiven}
+use Rattle.cli_roots.specs.Written.{WasGiven}
 use Rattle.cli_roots.specs.Embedded.{IsLineOf, IsPut}
 use Rattle.cli_roots.proofs.embed.put.Goals as goal
 

@@ -18,9 +18,9 @@ returns g c = record {
         owner = c.type_of_method.ensures.sound model shown;
         own = c.text.result.now;
         is_named = c.text.ensures model shown;
-        first = c.params_of-rows.result.start;
-        past = c.params_of-rows.result.end;
-        params = c.params_of-rows.ensures model shown;
+        first = c.members_of-rows.result.start;
+        past = c.members_of-rows.result.end;
+        params = c.members_of-rows.ensures model shown;
         pieces = pieces;
       });
 }

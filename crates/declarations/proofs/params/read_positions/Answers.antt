@@ -1,4 +1,4 @@
-use Rattle.declarations.proofs.Prelude.{◌≡◌, ◌∙◌, ℕ, ◌+◌, ◌-◌, ◌≤◌, ◌∷◌, [], ◌++◌, List, ap, arith, sym, All-cons, All-nil, All-same, All-append, Param, KeyedRow, keyed_row, keyed_rows, position_in, position_of}
+use Rattle.declarations.proofs.Prelude.{◌≡◌, ◌∙◌, ℕ, ◌+◌, ◌-◌, ◌≤◌, ◌∷◌, [], ◌++◌, List, ap, arith, sym, All-cons, All-nil, All-same, All-append, Param, KeyedRow, keyed_row, keyed_rows, position_in, number_in}
 use Rattle.std.proofs.lemmas.List.FromFn.{map-range_with_len_more}
 use Rattle.declarations.proofs.params.read_positions.Goals as goal
 
@@ -16,7 +16,7 @@ loop-row-preserved g c =
           (All-append within read _ c.loop-row.invariant.within (All-cons within _ [] (omega (arith, c.requires.first, from), omega (arith, c.loop-row-test.true, c.requires.last)) (All-nil within)));
       rows = λ model shown.
           let number = position_in model in
-          c.in_ok-push.ensures.items ∙ ap (λ (key : ℕ). read ++ record { key = key; row = row } ∷ []) (sym (ap position_of (c.number-key.ensures model shown)))
+          c.in_ok-push.ensures.items ∙ ap (λ (key : ℕ). read ++ record { key = key; row = row } ∷ []) (sym (ap number_in (c.number-key.ensures model shown)))
           ∙ ap (λ (rows : List KeyedRow). rows ++ keyed_row number row ∷ []) (c.loop-row.invariant.rows model shown)
           ∙ sym (map-range_with_len_more (keyed_row number) first (row - first) row next) ∙ ap (λ n. keyed_rows number first n) same;
     }

@@ -1,30 +1,24 @@
-use Rattle.metadata_source.proofs.Prelude.{◌≡◌, ℕ, ◌+◌, ◌-◌, ◌*◌, ◌<◌, ◌≤◌, ◌==◌, ◌↔◌, List, length, sym, ◌∙◌, subst, arith, ⊎_elim, cases_lt, IsStrictlyIncreasing, HasRow, HasKey, key_at, binary_digits, rows_with}
-use Rattle.std.proofs.lemmas.Grind.{not_there}
+use Rattle.metadata_source.proofs.Prelude.{◌≡◌, ℕ, ◌+◌, ◌-◌, ◌*◌, ◌≤◌, ◌==◌, ◌↔◌, List, length, sym, ◌∙◌, subst, arith, IsStrictlyIncreasing, HasRow, HasKey, key_at, binary_digits, rows_with}
+use Rattle.std.proofs.Math.Logic.{∥∥₁_elim}
+use Rattle.std.specs.Coded.{le_prop}
 use Rattle.std.specs.List.{Contains}
 use Rattle.metadata_source.proofs.KeyLemmas.{numbers_count, keys_rise, rows_are, none_has}
 use Rattle.metadata_source.proofs.RowLemmas.{that_rise}
 use Rattle.metadata_source.proofs.by_key.rows_by_key.Goals as goal
 
--- what cannot fail holds
-at_most : (a b : ℕ) → ¬ (¬ (a ≤ b)) → a ≤ b
-at_most a b h = ⊎_elim
-    (λ (l : b < a). absurd (h (λ (le : a ≤ b). omega arith)))
-    (λ (le : a ≤ b). le)
-    (cases_lt b a)
-
 rising : (numbers : List ℕ) (number : ℕ) (rows : List ℕ) → rows ≡ rows_with numbers number 1 (length numbers + 1) → IsStrictlyIncreasing rows
 rising numbers number rows found =
     let P : List ℕ → Type 0 = λ l. IsStrictlyIncreasing l in
-    subst P (sym found) (that_rise (λ row. key_at numbers row == number) 1 (length numbers + 1 - 1))
+    subst P (sym found) (that_rise 1 (length numbers + 1 - 1) (λ row. key_at numbers row == number))
 
 pub search-requires : goal.search-requires
 search-requires g c = λ i j d low high.
-    at_most _ _ (λ not. not_there c.holds_one.ensures.shown (λ some.
+    ∥∥₁_elim c.holds_one.ensures.shown le_prop (λ some.
     let model = some.0 in
     let keys = c.holds_one.ensures.keys model some.1 c.args.table c.key_cell-cell.result in
     let rise = keys_rise model c.args.table c.key_cell-cell.result c.key_cell-cell.ensures c.args.token _ _ (c.holds_one.ensures.rows model some.1 c.args.table)
     (λ row first last. keys row c.key_cell-cell.ensures first last) ((c.in_order.ensures model some.1).0 c.if-in_order.true) in
-    not (rise i j d low high)))
+    rise i j d low high)
 
 pub returns-then-in_order-clause-ascending : goal.returns-then-in_order-clause-ascending
 returns-then-in_order-clause-ascending g c = rising _ c.in-Some.number _ c.search.ensures.rows

@@ -1,6 +1,6 @@
 use Rattle.navigation.proofs.Prelude.{◌≡◌, ◌∙◌, ℕ, ◌+◌, ◌≤◌, List, length, ap, sym, subst, arith, TableId, length_push, cell_in, start_in, row_count, AreStarts}
 use Rattle.metadata.specs.Model.{IsModel}
-use Rattle.metadata_source.specs.MemberLists.{cell_of, owner_of}
+use Rattle.metadata.specs.MemberLists.{cell_of, owner_of}
 use Rattle.navigation.proofs.StartLemmas.{one_more}
 use Rattle.navigation.proofs.starts.starts_of.Goals as goal
 

@@ -1,6 +1,5 @@
-use Rattle.std.proofs.lemmas.Grind.{not_there}
 use Rattle.owned_model.proofs.StableLemmas.{stable_valid}
 use Rattle.owned_model.proofs.laws.known_models_are_valid.Goals as goal
 
 pub returns : goal.returns
-returns c = λ model known. stable_valid c.tables_stand.ensures.stand model (λ none. not_there known none)
+returns c = stable_valid c.tables_stand.ensures.stand

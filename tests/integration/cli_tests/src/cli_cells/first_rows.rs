@@ -1,7 +1,7 @@
 //! Tests of `print_until_fault`: the rows that are printed before the first fault of a root.
 
 use cli_cells::{Names, print_until_fault};
-use cli_input::Input;
+use cli_files::Input;
 use cli_lines::{Form, Printer};
 use sample_roots::{TWO_TYPES, changed};
 use std::alloc::Global;

@@ -2,7 +2,7 @@ use crate::sig_items::collected::{
     OPTIONAL_FIRST, REQUIRED_FIRST, REQUIRED_SECOND, reported, written,
 };
 use sig_items::{CallingConvention, Item, MethodHead, SigKind};
-use sig_values::Element;
+use sig_grammar::Element;
 use std::test::Fail;
 
 /// A column's kind, a signature in it, and its items.

@@ -1,6 +1,6 @@
 use schema::{TableId, Token};
 use sig_items::{Item, Items, SigKind, put_item};
-use sig_values::Modifier;
+use sig_grammar::Modifier;
 use std::alloc::Global;
 use std::test::Fail;
 

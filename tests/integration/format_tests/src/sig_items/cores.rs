@@ -3,7 +3,7 @@ use crate::sig_items::collected::{
 };
 use schema::{TableId, Token};
 use sig_items::{CallingConvention, Item, MethodHead, SigKind};
-use sig_values::Element;
+use sig_grammar::Element;
 use std::test::Fail;
 
 /// The head of a method without parameters.

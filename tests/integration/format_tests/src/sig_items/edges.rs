@@ -1,7 +1,7 @@
 use crate::nested::nested;
 use crate::sig_items::collected::reported;
 use sig_items::{Item, Items, SigKind};
-use sig_values::Element;
+use sig_grammar::Element;
 use std::alloc::Global;
 use std::test::Fail;
 

@@ -1,5 +1,6 @@
 use Rattle.opening.proofs.Prelude.{ℕ, List, refl, sym, ap, subst, ◌∙◌, arith, column_of, IsBlob, Source, number_of, source_of, cell_by_id}
-use Rattle.opening.proofs.SharedLemmas.{blob_stands}
+use Rattle.opening.proofs.SharedLemmas.{stands_as}
+use Rattle.table_schema.specs.declared.column.ColumnKind.TheVariants.{Blob}
 use Rattle.opening.proofs.metadata_held.ViewReadCells.blob_heap.Goals as goal
 
 pub returns : goal.returns
@@ -9,6 +10,6 @@ returns c = λ model is id here column.
     let laws = c.models_are_read.ensures in
     let number = number_of source id.table id.row (column_of id.table id.cell_index) in
     let cell = laws.cells root model is id.table id.row id.cell_index here.0.0 (omega (arith, here.0.1, laws.count root model is id.table)) here.1 in
-    let found = blob_stands source id (cell_by_id model id) column cell in
+    let found = stands_as source id (cell_by_id model id) Blob column cell in
     let heap = c.blobs.ensures ∙ ap (λ (s : Source). s.blobs) c.source.ensures.source in
-    record { index = number; at = refl; blob = found.0; stands = subst (λ (h : List ℕ). IsBlob h number found.0) (sym heap) found.1; is = found.2 }
+    record { index = number; at = refl; content = found.0; stands = subst (λ (h : List ℕ). IsBlob h number found.0) (sym heap) found.1; is = found.2 }

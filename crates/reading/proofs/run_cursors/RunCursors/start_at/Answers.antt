@@ -3,5 +3,5 @@ use Rattle.reading.proofs.run_cursors.RunCursors.start_at.Goals as goal
 
 pub returns-clause-start : goal.returns-clause-start
 returns-clause-start c =
-    start_in_cell c.args.source.now.source c.args.owner c.args.row c.args.cell c.args.member c.requires.first c.requires.last c.requires.cell
-    c.requires.list c.column_of_cell.result c.start.result c.column_of_cell.ensures.value c.start.ensures.start
+    start_in_cell c.args.source.now.source c.args.list c.args.row c.requires.first c.requires.last c.owner.result c.member.result c.cell.result c.start.result
+    c.owner.ensures c.cell.ensures.value c.member.ensures.value c.start.ensures.start

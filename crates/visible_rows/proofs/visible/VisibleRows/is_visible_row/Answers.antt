@@ -1,5 +1,5 @@
 use Rattle.visible_rows.proofs.Prelude.{◌∙◌, ◌≤◌, ℕ, List, ap, subst, sym, TableId, Event, Property, IsModel, row_count, is_visible_method, is_visible_row}
-use Rattle.metadata_source.specs.declared.member_lists.MemberList.TheVariants as list
+use Rattle.metadata.specs.declared.member_lists.MemberList.TheVariants as list
 use Rattle.visible_rows.proofs.OwnerLemmas.{owner_is}
 use Rattle.visible_rows.proofs.ResultLemmas.{read_accessed, read_type}
 use Rattle.visible_rows.proofs.visible.VisibleRows.is_visible_row.Goals as goal
@@ -14,7 +14,7 @@ pub returns-in-Param : goal.returns-in-Param
 returns-in-Param c = λ model is.
     let there = subst (λ (root : List ℕ). IsModel root model) (sym c.requires.same) is in
     let valid = c.models_of_roots_are_valid.ensures c.args.self.now.view.now model is in
-    let method = owner_is model list.Params valid.params c.args.of.row c.method_of_param.result (c.method_of_param.ensures.sound model there) in
+    let method = owner_is model list.Params (valid.linked.owned list.Params) c.args.of.row c.method_of_param.result (c.method_of_param.ensures.sound model there) in
     c.is_visible_method-in-Param.ensures model there ∙ ap (is_visible_method model) (sym method)
     ∙ sym (ap (λ (t : TableId). is_visible_row model t c.args.of.row) c.in-Param.is)
 

@@ -1,2 +1,0 @@
-pub mod OffsetLemmas
-pub mod Prelude

@@ -1,6 +1,0 @@
-use Rattle.cli_compare.proofs.Prelude.{difference_line}
-use Rattle.cli_compare.proofs.differences.print_versions.Goals as goal
-
-pub returns : goal.returns
-unfolding difference_line
-returns g c = λ model other is also. rw (← is, ← also) c.line.ensures

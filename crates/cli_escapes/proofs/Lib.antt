@@ -1,2 +1,0 @@
-pub mod LetterLemmas
-pub mod Prelude

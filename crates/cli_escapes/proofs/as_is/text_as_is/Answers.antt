@@ -1,6 +1,0 @@
-use Rattle.cli_escapes.proofs.Prelude.{◌≡◌, List, ℕ, subst, as_is}
-use Rattle.cli_escapes.proofs.LetterLemmas.{plain_as_is}
-use Rattle.cli_escapes.proofs.as_is.text_as_is.Goals as goal
-
-pub returns-in-None : goal.returns-in-None
-returns-in-None c = subst (λ (t : List ℕ). t ≡ as_is t) c.as_bytes.ensures.value (plain_as_is c.as_bytes.result.now c.in-None.ensures)

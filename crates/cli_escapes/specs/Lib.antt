@@ -1,4 +1,0 @@
-pub mod Escapes
-pub mod AsIs
-pub mod Letters
-pub mod Locale

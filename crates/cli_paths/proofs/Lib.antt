@@ -1,3 +1,0 @@
-mod PathLemmas
-mod Prelude
-mod RefLemmas

@@ -1,3 +1,0 @@
-pub mod Paths
-pub mod Refs
-pub mod Subjects

@@ -1,2 +1,0 @@
-pub mod ResourceLines
-pub mod Unfound

@@ -1,2 +1,0 @@
-mod DescribedLemmas
-mod Prelude

@@ -1,3 +1,0 @@
-pub mod DirectoryLemmas
-pub mod LocationLemmas
-pub mod Prelude

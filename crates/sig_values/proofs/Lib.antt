@@ -1,9 +1,0 @@
-pub mod Bodies
-pub mod Codes
-pub mod Cores
-pub mod FirstBad
-pub mod Leading
-pub mod Methods
-pub mod Prelude
-pub mod Readers
-pub mod Encoded
