@@ -10,16 +10,16 @@ loop-row-init c =
     let count = c.count-count.result in
     let starts : ℕ → ℕ = λ r. start_of source (owner_of list) r (cell_of list) (member_of list) in
     let owners : count ≡ rows_in source (owner_of list) = c.count-count.ensures.value ∙ ap (rows_in source) c.owner-owner.ensures in
-    let members : c.count-first.result ≡ rows_in source (member_of list) = c.count-first.ensures.value ∙ ap (rows_in source) c.member.ensures.value in
-    let past : c.count-first.result + 1 ≡ starts (count + 1) =
+    let members : c.count.result ≡ rows_in source (member_of list) = c.count.ensures.value ∙ ap (rows_in source) c.member.ensures.value in
+    let past : c.count.result + 1 ≡ starts (count + 1) =
     ap (λ n. n + 1) members ∙ sym (start_past source (owner_of list) (count + 1) (cell_of list) (member_of list) (omega (arith, owners))) in
-    let number : c.number-first.result ≡ number_of source (owner_of list) count (cell_of list) =
-    c.number-first.ensures ∙ c.column-numbers.ensures.numbers count (omega (arith, owners, c.requires)) (omega (arith, c.count-count.ensures.value))
+    let number : c.number.result ≡ number_of source (owner_of list) count (cell_of list) =
+    c.number.ensures ∙ c.column-numbers.ensures.numbers count (omega (arith, owners, c.requires)) (omega (arith, c.count-count.ensures.value))
     ∙ ap (λ t. number_of source t count c.cell.result) c.owner-owner.ensures ∙ ap (number_of source (owner_of list) count) c.cell.ensures.value in
     let back : count - 1 + 1 ≡ count = omega (arith, owners, c.requires) in
     record {
       row = omega (arith, owners, c.requires);
-      first = c.start_by-first.ensures ∙ start_by source list count c.number-first.result (c.count-first.result + 1) (omega (arith, owners)) number past ∙ ap starts (sym back);
+      first = c.start_by-first.ensures ∙ start_by source list count c.number.result (c.count.result + 1) (omega (arith, owners)) number past ∙ ap starts (sym back);
       falls = none_from (rules_of_start (in_place c.args.source.now) list) (count - 1 + 2) (count - (count - 1 + 1)) (omega arith);
       within = tt;
     }
@@ -32,11 +32,11 @@ loop-row-preserved c =
     let row = c.loop-row.row in
     let starts : ℕ → ℕ = λ r. start_of here.source (owner_of list) r (cell_of list) (member_of list) in
     let owners : c.count-count.result ≡ rows_in here.source (owner_of list) = c.count-count.ensures.value ∙ ap (rows_in here.source) c.owner-owner.ensures in
-    let number : c.number-start.result ≡ number_of here.source (owner_of list) row (cell_of list) =
-    c.number-start.ensures ∙ c.column-numbers.ensures.numbers row (omega arith) (omega (arith, before.row, c.count-count.ensures.value))
+    let number : c.number-in-loop-row.result ≡ number_of here.source (owner_of list) row (cell_of list) =
+    c.number-in-loop-row.ensures ∙ c.column-numbers.ensures.numbers row (omega arith) (omega (arith, before.row, c.count-count.ensures.value))
     ∙ ap (λ t. number_of here.source t row c.cell.result) c.owner-owner.ensures ∙ ap (number_of here.source (owner_of list) row) c.cell.ensures.value in
     let start : c.start_by-start.result ≡ starts row =
-    c.start_by-start.ensures ∙ start_by here.source list row c.number-start.result c.loop-row.first (omega (arith, before.row, owners)) number before.first in
+    c.start_by-start.ensures ∙ start_by here.source list row c.number-in-loop-row.result c.loop-row.first (omega (arith, before.row, owners)) number before.first in
     let again : row - 1 + 1 ≡ row = omega arith in
     record {
       row = omega (arith, before.row);
