@@ -1,6 +1,5 @@
-pub mod NumbersRead
+mod NumbersRead
 mod PathLemmas
 pub mod Prelude
-mod Prelude
 mod RefLemmas
-pub mod TypeNames
+mod TypeNames

@@ -2,6 +2,5 @@ mod DescribedLemmas
 pub mod OuterLemmas
 mod OwnerLemmas
 pub mod Prelude
-mod Prelude
 mod ResultLemmas
 mod TypeLemmas
