@@ -6,8 +6,7 @@ ghost use Rattle.cli_files.specs.Stopped.{status_of_outcome};
 ghost use Rattle.cli_sending.specs.Sent.{Sent};
 
 use cli_faults::{Failure, OK, Stop, printed};
-use cli_files::{Stopped, read_into, status};
-use cli_files::{Input as Given, open};
+use cli_files::{Input as Given, Stopped, open, read_into, status};
 use cli_sending::finish;
 use std::alloc::{AllocError, Global};
 use std::io::Write;

@@ -13,9 +13,9 @@ ghost use Rattle.table_schema.specs.declared.table.TableId.TheVariants.{Manifest
 use crate::lines::print_content;
 use cli_header::read_cli;
 use cli_lines::Printer;
+use file_ranges::{Directory, Location, NotWithin, directory_of, location_of, resource_at};
 use opening::{TableId, Token, View, text_or_empty};
 use pe::read_pe;
-use file_ranges::{Directory, Location, NotWithin, directory_of, location_of, resource_at};
 use std::io::Write;
 
 /// The index of the cell with the name of a resource (II.22.24).

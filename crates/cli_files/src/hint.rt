@@ -2,8 +2,8 @@
 ghost use Rattle.std.specs.Prelude.{◌≡◌, Some};
 ghost use Rattle.cli_files.specs.Hints.{hint_for, hint_for_fault, hint_for_offset, hint_text, signature_of};
 
-use cli_faults::{Failure, Stop};
 use crate::Input;
+use cli_faults::{Failure, Stop};
 use packed::{Fault, FaultCode};
 use std::fmt;
 

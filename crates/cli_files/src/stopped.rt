@@ -6,9 +6,9 @@ ghost use Rattle.cli_files.specs.Stopped.{file_line, hint_line, is_silent, statu
 ghost use Rattle.cli_faults.specs.Stops.{status_of_stop};
 ghost use Rattle.cli_faults.specs.declared.stop.Stop.TheVariants.{Failed};
 
+use crate::Input;
 use crate::hint::{Hint, hint_of};
 use cli_faults::{Escaped, Failure, Reason, Stop};
-use crate::Input;
 use cli_sending::send_message;
 use std::alloc::Global;
 use std::io::Write;

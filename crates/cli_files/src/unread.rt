@@ -1,8 +1,8 @@
 //! Reports what was not read, besides what the file system refused.
 ghost use Rattle.std.specs.Prelude.{◌≡◌};
 
-use cli_faults::Escaped;
 use crate::Input;
+use cli_faults::Escaped;
 use cli_sending::send_message;
 use std::alloc::Global;
 use std::fmt;

@@ -4,9 +4,8 @@ ghost use Rattle.std.specs.Io.KnownBytes.{Consumes};
 ghost use Rattle.cli_files.specs.Read.{IsRefused};
 ghost use Rattle.cli_files.specs.Walks.{IsReadIfLike, IsVisit};
 
+use crate::{Input, LIMIT, signature_of};
 use cli_faults::Failure;
-use crate::{LIMIT, signature_of};
-use crate::Input;
 use std::alloc::AllocError;
 use std::fs::Metadata;
 use std::io::{BufRead, BufReader, Read};

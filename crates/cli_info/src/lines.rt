@@ -14,8 +14,8 @@ use crate::opened::resource_in;
 use cli_lines::Part::{Close, Field, Member, Open, Word};
 use cli_lines::Value::{Hex, Number, Plain, Text};
 use cli_lines::{Name, Printer, Value};
-use opening::{View, number_or_zero, text_or_empty};
 use file_ranges::{Location, TableId, Token};
+use opening::{View, number_or_zero, text_or_empty};
 use std::io::Write;
 
 /// The indexes of the cells with the flags and the name of a resource (II.22.24).

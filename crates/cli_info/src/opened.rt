@@ -5,9 +5,9 @@ ghost use Rattle.cli_info.specs.Unfound.{IsOpened};
 ghost use Rattle.metadata.specs.Rules.{rules_of_file};
 ghost use Rattle.packed.specs.Rule.{FirstBroken};
 
+use file_ranges::{Directory, TableId, Token, directory_of};
 use opening::{View, open_image};
 use packed::Fault;
-use file_ranges::{Directory, TableId, Token, directory_of};
 
 /// Why a resource is not found in a file. A token is that of its row.
 #[derive(Clone, Copy, PartialEq, Eq)]

@@ -13,8 +13,8 @@ ghost use Rattle.file_ranges.specs.Resources.{IsDirectoryOf, Where};
 use crate::lines::print_resource;
 use crate::opened::{Unfound, open_file, resource_in};
 use cli_lines::Printer;
-use opening::View;
 use file_ranges::{Directory, TableId, location_of};
+use opening::View;
 use std::io::Write;
 
 /// The first row whose resource is in this file, and is not within the resources directory.

@@ -13,10 +13,10 @@ use crate::source::Source;
 use cli_declarations::Declared;
 use cli_lines::Printer;
 use cli_names::{Wanted, belongs};
-use visible_rows::declaring_type;
 use opening::{TableId, Token};
 use std::io::Write;
 use std::ops::Range;
+use visible_rows::declaring_type;
 
 /// Which rows are printed.
 #[derive(Clone, Copy)]

@@ -14,10 +14,10 @@ ghost use Rattle.cli_outline.specs.declared.source.Tokens.{Tokens as TheTokens};
 
 use crate::source::{Source, Tokens};
 use cli_declarations::{Declared, declare};
-use cli_sending::text_as_is;
 use cli_lines::Part::{Member, Note, Word};
 use cli_lines::Value::{self, Plain, Text};
 use cli_lines::{Form, Name, Part, Printer};
+use cli_sending::text_as_is;
 use full_names::type_of_member;
 use opening::{TableId, Token, View, number_or_zero};
 use std::alloc::AllocError;

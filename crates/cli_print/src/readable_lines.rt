@@ -10,8 +10,8 @@ ghost use Rattle.packed.specs.Rule.{FirstBroken};
 ghost use Rattle.root.specs.Streams.{RootRead};
 
 use crate::root_lines::{print_cli_header, print_root, print_streams, print_version};
-use cli_header::read_cli;
 use cli_files::{Input, root_of};
+use cli_header::read_cli;
 use cli_lines::Printer;
 use packed::Fault;
 use pe::{Pe, read_pe};

@@ -8,8 +8,8 @@ ghost use Rattle.packed.specs.Rule.{FirstBroken};
 ghost use Rattle.root.specs.Streams.{RootRead};
 ghost use Rattle.root.specs.Views.{view};
 
-use cli_header::CliHeader;
 use cli_files::{Input, heads_of};
+use cli_header::CliHeader;
 use cli_lines::Part::{Close, Field, Open, Word};
 use cli_lines::Value::{Hex, Number, Text};
 use cli_lines::{Name, Printer};

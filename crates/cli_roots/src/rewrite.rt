@@ -6,13 +6,12 @@ ghost use Rattle.cli_roots.specs.Runs.{IsFileRun, IsMixed, IsWithin};
 use crate::budget::is_spent;
 use crate::canonical::canonical_root;
 use crate::one_line::print_one;
+use crate::output_file::{check_path, write_file};
 use cli_faults::{Failure, Stop};
-use cli_files::{Stopped, read_file};
-use cli_files::Input as Given;
+use cli_files::{Input as Given, Stopped, read_file};
 use cli_lines::Form;
 use cli_lines::Part::{Note, Word};
 use cli_lines::Value::Number;
-use crate::output_file::{check_path, write_file};
 use std::io::Write;
 use std::rt::Files;
 

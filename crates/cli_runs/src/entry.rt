@@ -8,8 +8,8 @@ ghost use Rattle.metadata.specs.Metadata.{Metadata};
 ghost use Rattle.metadata.specs.Model.{IsModel};
 ghost use Rattle.packed.specs.Rule.{FirstBroken};
 
-use cli_header::CliHeader;
 use cli_files::Input;
+use cli_header::CliHeader;
 use opening::{Token, View, open_image, open_root};
 use packed::Fault;
 

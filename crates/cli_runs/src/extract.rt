@@ -5,8 +5,7 @@ ghost use Rattle.cli_runs.specs.Extracted.{IsExtracting};
 
 use crate::report::stop_of;
 use cli_faults::{Failure, Stop};
-use cli_files::{Stopped, read_file};
-use cli_files::Input as Given;
+use cli_files::{Input as Given, Stopped, read_file};
 use cli_info::resource_named;
 use cli_roots::is_spent;
 use cli_sending::finish;

@@ -12,15 +12,14 @@ use crate::print_check::print_check;
 use crate::report::{Ended, Job, Listing, Report, stop_of};
 use cli_cells::{Names, print_show, print_tokens, print_until_fault};
 use cli_faults::{Failure, Stop};
-use cli_info::print_info;
 use cli_files::open;
+use cli_info::{print_info, print_resources};
 use cli_lines::Printer;
 use cli_outline::{
     Outcome, OutlineOptions, Rows, Sorting, Subject, Tokens, print_outline, print_outline_of,
     print_refs, print_refs_of,
 };
 use cli_print::{print_digest, print_root, print_root_until_fault, print_types};
-use cli_info::print_resources;
 use cli_roots::canonical_root;
 use cli_where::{Found, print_strings, print_where};
 use comparison::digest;

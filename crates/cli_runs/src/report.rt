@@ -5,9 +5,9 @@ ghost use Rattle.cli_runs.specs.Reports.{stop_of};
 use cli_cells::Names;
 use cli_faults::{Failure, Stop};
 use cli_files::Input;
+use cli_info::Unfound;
 use cli_lines::Form;
 use cli_outline::{OutlineOptions, Subject};
-use cli_info::Unfound;
 use std::alloc::Global;
 use table_schema::TableId;
 

@@ -10,8 +10,8 @@ ghost use Rattle.cli_where.specs.Where.{AreInFile, AreInHeaps, AreInImage, AreIn
 use crate::entries::{Target, heap_in, run_of};
 use crate::named_entries::find_entries;
 use crate::user_strings::find_user_strings;
-use cli_header::read_cli;
 use cli_files::{Input, root_of};
+use cli_header::read_cli;
 use cli_regions::{Search, Structure, What, find_cli, find_pe, find_root, find_table_stream};
 use pe::{Pe, read_pe};
 use root::{Kind, Root, read_root};

@@ -3,8 +3,8 @@
 #![tactic(auto)]
 
 use cli::{Terminal, go_on};
-use cli_sending::is_utf8_locale;
 use cli_files::refuse_words;
+use cli_sending::is_utf8_locale;
 use std::process::ExitCode;
 use std::{env, io};
 

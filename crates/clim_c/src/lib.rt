@@ -23,7 +23,7 @@ pub mod texts;
 pub mod view;
 pub mod view_parts;
 
-pub use c_values::ClimAttributeItem;
 pub use c_values::{
-    ClimCell, ClimDifference, ClimDirectory, ClimHeader, ClimLocation, ClimRefusal, ClimRow,
+    ClimAttributeItem, ClimCell, ClimDifference, ClimDirectory, ClimHeader, ClimLocation,
+    ClimRefusal, ClimRow,
 };

@@ -3,9 +3,9 @@ ghost use Rattle.table_schema.specs.declared.table.TableId.TheVariants.{Event, P
 ghost use Rattle.visible_rows.specs.Visible.{AreVisibleTypes, HaveVisibleAccessors};
 
 use crate::access::{access, is_public};
+use crate::declaring::described_last;
 use crate::members::{is_visible_accessor, is_visible_field, is_visible_method, visible_accessors};
 use crate::types::visible_types;
-use crate::declaring::described_last;
 use navigation::{Neighbours, cells, method_of_param};
 use opening::{TableId, Token, View};
 use std::alloc::{AllocError, Global};
