@@ -3,20 +3,16 @@ use Rattle.std.specs.Prelude.{◌≡◌, ◌↔◌, ℕ, List}
 use Rattle.std.specs.declared.io.ErrorKind.{ErrorKind}
 use Rattle.std.specs.declared.io.ErrorKind.TheVariants as cause
 use Rattle.cli_faults.specs.declared.failure.Failure.{Failure}
-use Rattle.cli_faults.specs.declared.failure.Failure.TheVariants.{Fault, NoSuchRow, Usage, NotUtf8, CannotRead, CannotWriteOutput, CannotWriteFile, CannotEmbed, OutOfMemory}
+use Rattle.cli_faults.specs.declared.failure.Failure.TheVariants.{Fault, NoSuchRow, Usage, CannotRead, CannotWriteOutput, CannotWriteFile, CannotEmbed, OutOfMemory}
 use Rattle.cli_faults.specs.FileErrors.{reason_of}
 
 -- the exit code of a failure
 abbrev pub status_of : Failure → ℕ
 status_of (Fault found) = 1
 status_of NoSuchRow = 1
-status_of (Usage usage_error) = 2
-status_of (NotUtf8 name) = 3
-status_of (CannotRead error) = 3
-status_of (CannotWriteOutput reason) = 3
-status_of (CannotWriteFile error) = 3
 status_of (CannotEmbed misfit) = 1
-status_of OutOfMemory = 3
+status_of (Usage usage_error) = 2
+status_of _ = 3
 
 -- the output could not be written, or memory ran out
 abbrev pub IsOutput : Failure → Type 0

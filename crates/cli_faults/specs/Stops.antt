@@ -10,13 +10,7 @@ use Rattle.cli_faults.specs.declared.stop.Stop.TheVariants.{Failed, BudgetSpent,
 abbrev pub status_of_stop : Stop → ℕ
 status_of_stop (Failed failure) = status_of failure
 status_of_stop BudgetSpent = 3
-status_of_stop Different = 1
-status_of_stop (NothingAt offset) = 1
-status_of_stop Broken = 1
-status_of_stop NoSuchType = 1
-status_of_stop NoSuchResource = 1
-status_of_stop (ResourceElsewhere row) = 1
-status_of_stop (ResourceOutside row) = 1
+status_of_stop _ = 1
 
 -- the line that reports a stop, without its line feed
 abbrev pub stop_text : Stop → List ℕ

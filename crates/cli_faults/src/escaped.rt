@@ -1,5 +1,5 @@
 //! Texts of strangers, escaped as printable ASCII.
-ghost use Rattle.std.specs.Prelude.{◌≡◌, ◌<◌, IsTrue, Some, [], ◌∷◌};
+ghost use Rattle.std.specs.Prelude.{◌≡◌, ◌<◌, IsTrue, Some};
 ghost use Rattle.std.specs.Fmt.{WritesOnOk};
 ghost use Rattle.cli_faults.specs.Escaped.{escaped_byte, escaped_text, is_plain};
 
@@ -53,16 +53,8 @@ fn write_byte<W: fmt::Write>(byte: u8, f: &mut fmt::Formatter<W>) -> fmt::Result
     ensures { WritesOnOk W.write_str_gives f.old result (escaped_byte byte) f.new }
 {
     if is_plain(byte) {
-        write_ascii(byte, f)
+        f.write_char(char::from(byte))
     } else {
         write!(f, "\\x{byte:02x}")
     }
-}
-
-/// Writes an ASCII byte as it is.
-fn write_ascii<W: fmt::Write>(byte: u8, f: &mut fmt::Formatter<W>) -> fmt::Result
-    requires { byte < 128 }
-    ensures { WritesOnOk W.write_str_gives f.old result (byte ∷ []) f.new }
-{
-    f.write_char(char::from(byte))
 }

@@ -90,11 +90,7 @@ impl<'a> Failure<'a> {
         match self {
             Failure::Fault(_) | Failure::NoSuchRow | Failure::CannotEmbed(_) => 1,
             Failure::Usage(_) => 2,
-            Failure::NotUtf8(_)
-            | Failure::CannotRead(_)
-            | Failure::CannotWriteOutput(_)
-            | Failure::CannotWriteFile(_)
-            | Failure::OutOfMemory => 3,
+            _ => 3,
         }
     }
 }

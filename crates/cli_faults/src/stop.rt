@@ -42,9 +42,7 @@ impl Stop<'_> {
         match self {
             Stop::Failed(failure) => failure.status(),
             Stop::BudgetSpent => 3,
-            Stop::Different | Stop::NothingAt(_) | Stop::Broken => 1,
-            Stop::NoSuchType | Stop::NoSuchResource => 1,
-            Stop::ResourceElsewhere(_) | Stop::ResourceOutside(_) => 1,
+            _ => 1,
         }
     }
 }

@@ -1,7 +1,7 @@
 //! An argument that is wrong, and the line that reports it.
 ghost use Rattle.std.specs.Prelude.{Some};
 ghost use Rattle.std.specs.Fmt.{WritesOnOk};
-ghost use Rattle.cli_faults.specs.Texts.{nearest_text, usage_text, wrong_text};
+ghost use Rattle.cli_faults.specs.Texts.{hint_text, usage_text, wrong_text};
 
 use crate::escaped::Escaped;
 use packed::{Fault, FaultCode};
@@ -32,62 +32,26 @@ pub enum UsageError<'a> {
     NoColumn(&'a str, Option<(TableId, &'static str)>),
 }
 
-/// A name that an argument may have meant. `Display` gives a line feed and the line of a hint; nothing if there is none.
+/// The name that a wrong argument may have meant. `Display` gives a line feed and the line of a hint; nothing if there is none.
 #[derive(Clone, Copy)]
-enum Nearest {
-    /// There is none.
-    None,
-    /// This name.
-    Name(&'static str),
-    /// A name of two parts, with a dot between them.
-    Pair(&'static str, &'static str),
-}
+struct Hint<'a>(&'a UsageError<'a>);
 
-impl Nearest {
-    ghost use Rattle.std.specs.Prelude.{◌≡◌};
-    ghost use Rattle.cli_faults.specs.Texts.{hint_of_code, hint_of_column, hint_of_table, nearest_text};
-
-    /// The name of a rule.
-    fn of_code(code: Option<FaultCode>) -> Nearest
-        ensures { nearest_text result ≡ hint_of_code code }
-    {
-        match code {
-            Some(code) => Nearest::Name(Fault::new(code, 0).name()),
-            None => Nearest::None,
-        }
-    }
-
-    /// The name of a table.
-    fn of_table(table: Option<TableId>) -> Nearest
-        ensures { nearest_text result ≡ hint_of_table table }
-    {
-        match table {
-            Some(table) => Nearest::Name(table.name()),
-            None => Nearest::None,
-        }
-    }
-
-    /// The name of a table and of its column.
-    fn of_column(column: Option<(TableId, &'static str)>) -> Nearest
-        ensures { nearest_text result ≡ hint_of_column column.entry }
-    {
-        match column {
-            Some((table, column)) => Nearest::Pair(table.name(), column),
-            None => Nearest::None,
-        }
-    }
-}
-
-impl fmt::Display for Nearest {
-    ghost output = { λ nearest. Some (nearest_text nearest) };
+impl fmt::Display for Hint<'_> {
+    ghost output = { λ hint. Some (hint_text hint.0.now) };
 
     fn fmt<W: fmt::Write>(&self, f: &mut fmt::Formatter<W>) -> fmt::Result {
-        match self {
-            Nearest::None => Ok(()),
-            Nearest::Name(name) => write!(f, "\n  hint: the nearest name is '{name}'"),
-            Nearest::Pair(first, second) => {
-                write!(f, "\n  hint: the nearest name is '{first}.{second}'")
+        match self.0 {
+            UsageError::NoCode(_, Some(code)) => {
+                let name = Fault::new(*code, 0).name();
+                write!(f, "\n  hint: the nearest name is '{name}'")
             }
+            UsageError::NoTable(_, Some(table)) => {
+                write!(f, "\n  hint: the nearest name is '{table}'")
+            }
+            UsageError::NoColumn(_, Some((table, column))) => {
+                write!(f, "\n  hint: the nearest name is '{table}.{column}'")
+            }
+            _ => Ok(()),
         }
     }
 }
@@ -99,12 +63,12 @@ impl fmt::Display for UsageError<'_> {
         match self {
             UsageError::NoToken(word) => {
                 let wanted = "HEX is one to eight hexadecimal digits, as '06001d06'";
-                write_wrong(wanted, word, Nearest::None, f)
+                write_wrong(wanted, word, self, f)
             }
-            UsageError::NoCode(word, code) => {
+            UsageError::NoCode(word, _) => {
                 let wanted =
                     "CODE is the number or the name of a fault, which 'clim explain' lists";
-                write_wrong(wanted, word, Nearest::of_code(*code), f)
+                write_wrong(wanted, word, self, f)
             }
             UsageError::NoFile => f.write_str(
                 "error: no FILE given\n  hint: '-' reads standard input; 'clim <COMMAND> -h' shows the options",
@@ -118,18 +82,18 @@ impl fmt::Display for UsageError<'_> {
             UsageError::ExtractAlone => f.write_str(
                 "error: '--extract' takes one FILE, and no '--json', '-r' or list of files",
             ),
-            UsageError::NoTable(word, table) => {
+            UsageError::NoTable(word, _) => {
                 let wanted = "TABLE is a table, which 'clim show --help' lists";
-                write_wrong(wanted, word, Nearest::of_table(*table), f)
+                write_wrong(wanted, word, self, f)
             }
             UsageError::NoOffset(word) => {
                 let wanted = "OFFSET is a number, decimal or hexadecimal after '0x'";
-                write_wrong(wanted, word, Nearest::None, f)
+                write_wrong(wanted, word, self, f)
             }
-            UsageError::NoColumn(word, column) => {
+            UsageError::NoColumn(word, _) => {
                 let wanted =
                     "no such column: '--ignore' takes a table and one of its columns, as 'Module.Mvid'";
-                write_wrong(wanted, word, Nearest::of_column(*column), f)
+                write_wrong(wanted, word, self, f)
             }
         }
     }
@@ -139,10 +103,10 @@ impl fmt::Display for UsageError<'_> {
 fn write_wrong<W: fmt::Write>(
     wanted: &'static str,
     word: &str,
-    nearest: Nearest,
+    error: &UsageError<'_>,
     f: &mut fmt::Formatter<W>,
 ) -> fmt::Result
-    ensures { WritesOnOk W.write_str_gives f.old result (wrong_text wanted.now word.now (nearest_text nearest)) f.new }
+    ensures { WritesOnOk W.write_str_gives f.old result (wrong_text wanted.now word.now (hint_text error.now)) f.new }
 {
-    write!(f, "error: {wanted}, not '{}'{nearest}", Escaped(word))
+    write!(f, "error: {wanted}, not '{}'{}", Escaped(word), Hint(error))
 }
