@@ -6,8 +6,8 @@ ghost use Rattle.cli_lines.specs.Shown.{shown, shown_file, shown_value};
 use crate::json_line::push_json_part;
 use crate::parts::{Form, Part, Value};
 use crate::texts::{
-    push_between, push_byte_digits, push_decimal, push_escaped, push_plain, push_token, push_units,
-    push_word,
+    push_between, push_byte_digits, push_decimal, push_escaped, push_plain, push_quoted,
+    push_token, push_units, push_word,
 };
 use cli_sending::show_letters;
 use heap_entries::guid_text;
@@ -40,14 +40,10 @@ pub(crate) fn push_text_value(
         Value::Text(text) => push_escaped(text.as_bytes(), line),
         Value::Plain(text) => push_plain(text, line),
         Value::Token(token) | Value::Reference(Some(token)) => push_token(alloc, *token, line),
-        Value::Quoted(text) => {
-            line.push(b'"')?;
-            push_escaped(text.as_bytes(), line)?;
-            Ok(line.push(b'"')?)
-        }
+        Value::Quoted(text) => push_quoted(text.as_bytes(), line),
         Value::Bytes(bytes) | Value::Signature(bytes, _) => push_between(b'<', bytes, b'>', line),
         Value::Guid(Some(guid)) => {
-            let text = guid_text(alloc, guid)?;
+            let text = guid_text(alloc, &{ *guid })?;
             line.push(b'{')?;
             line.extend_from_slice(text.as_bytes())?;
             Ok(line.push(b'}')?)
@@ -112,11 +108,12 @@ pub(crate) fn push_part(
             push_text_part(alloc, part, line)?;
             Ok(at)
         }
+        // These take copies, so that a part of text needs no place in memory.
         Form::Letters => {
-            push_letters_part(alloc, part, line)?;
+            push_letters_part(alloc, &{ *part }, line)?;
             Ok(at)
         }
-        Form::JsonLines => push_json_part(alloc, file, at, part, line),
+        Form::JsonLines => push_json_part(alloc, file, at, &{ *part }, line),
     }
 }
 

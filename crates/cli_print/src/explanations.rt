@@ -132,8 +132,7 @@ fn add_word<W: Write>(word: &str, room: usize, out: &mut Printer<'_, W>) -> usiz
     cli_lines::laws::parts_follow::<W>();
     cli_lines::laws::lines_follow::<W>();
     if word.len() < room {
-        out.part(&Word(" "));
-        out.part(&Word(word));
+        out.parts(&[Word(" "), Word(word)]);
         return room - word.len() - 1;
     }
     out.end();

@@ -1,5 +1,5 @@
 //! `clim check`: whether a file breaks a rule.
-ghost use Rattle.std.specs.Prelude.{◌∷◌, [], None};
+ghost use Rattle.std.specs.Prelude.{◌∷◌, []};
 ghost use Rattle.std.specs.Option.{option_map};
 ghost use Rattle.cli_lines.specs.Printed.{Adds, Begins, Prints};
 ghost use Rattle.cli_print.specs.Verdicts.{fault_parts, file_parts, outcome_parts, verdict_line};
@@ -37,30 +37,22 @@ fn add_outcome<W: Write>(fault: Option<Fault>, out: &mut Printer<'_, W>)
 {
     match fault {
         Some(fault) => add_fault(fault, out),
-        None => add_ok(out),
+        None => out.parts(&[Word(OK), Member(Name::Ok, Yes)]),
     }
-}
-
-/// Adds that no rule is broken.
-fn add_ok<W: Write>(out: &mut Printer<'_, W>)
-    ensures { Adds out.old out.new (outcome_parts None) }
-{
-    cli_lines::laws::parts_follow::<W>();
-    out.part(&Word(OK));
-    out.part(&Member(Name::Ok, Yes));
 }
 
 /// Adds a fault: its layer, the number of its rule, its offset and the name of the rule.
 fn add_fault<W: Write>(fault: Fault, out: &mut Printer<'_, W>)
     ensures { Adds out.old out.new (fault_parts fault) }
 {
-    cli_lines::laws::parts_follow::<W>();
-    out.part(&Word("fault "));
-    out.part(&Field(Name::Layer, Number(fault.layer as u64)));
-    out.part(&Word(" "));
-    out.part(&Field(Name::Code, Number(fault.code as u64)));
-    out.part(&Word(" at "));
-    out.part(&Field(Name::Offset, Number(fault.offset)));
-    out.part(&Word(": "));
-    out.part(&Field(Name::Name, Plain(fault.name())));
+    out.parts(&[
+        Word("fault "),
+        Field(Name::Layer, Number(fault.layer as u64)),
+        Word(" "),
+        Field(Name::Code, Number(fault.code as u64)),
+        Word(" at "),
+        Field(Name::Offset, Number(fault.offset)),
+        Word(": "),
+        Field(Name::Name, Plain(fault.name())),
+    ]);
 }

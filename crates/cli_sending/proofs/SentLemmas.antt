@@ -1,34 +1,19 @@
 -- What goes out to a writer, one part after another.
 use Rattle.std.proofs.Common.{◌≡◌, ◌∙◌, ℕ, List, [], ◌++◌, Option, None, Some, Result, Ok, Err, refl, ap, sym, subst, append_assoc, append-nil}
+use Rattle.std.proofs.KnownBytes.{Appends-kept, Appends-nil, Appends-trans}
 use Rattle.std.specs.Prelude.{IsOk, ◌↔◌}
 use Rattle.std.specs.Io.KnownBytes.{Appends, Keeps}
 use Rattle.cli_sending.specs.Sent.{Sends, SendsPrefix, Sent}
 
-pub appends_nothing : (known : Option (List ℕ)) → Appends known known []
-appends_nothing None = tt
-appends_nothing (Some xs) = sym (append-nil xs)
-
-pub appends_more : (before between after : Option (List ℕ)) (xs ys : List ℕ) → Appends before between xs → Appends between after ys → Appends before after (xs ++ ys)
-appends_more None between after xs ys first second = tt
-appends_more (Some x) None after xs ys first second = absurd first
-appends_more (Some x) (Some y) None xs ys first second = absurd second
-appends_more (Some x) (Some y) (Some z) xs ys first second = second ∙ ap (λ bytes. bytes ++ ys) first ∙ append_assoc x xs ys
-
-pub appends_kept : (before between after : Option (List ℕ)) (xs : List ℕ) → Appends before between xs → Keeps between after → Appends before after xs
-appends_kept None between after xs first second = tt
-appends_kept (Some x) None after xs first second = absurd first
-appends_kept (Some x) (Some y) None xs first second = absurd second
-appends_kept (Some x) (Some y) (Some z) xs first second = second ∙ first
-
 pub sends_nothing : (known : Option (List ℕ)) (bytes : List ℕ) → Sends known known bytes bytes
-sends_nothing known bytes = ([], refl, appends_nothing known)
+sends_nothing known bytes = ([], refl, Appends-nil known)
 
 pub sends_more : (before between after : Option (List ℕ)) (bytes left more tail : List ℕ) → Sends before between bytes left → Sends between after (left ++ more) tail
     → Sends before after (bytes ++ more) tail
 sends_more before between after bytes left more tail first second = (
   first.0 ++ second.0,
   ap (λ xs. xs ++ more) first.1 ∙ append_assoc first.0 left more ∙ ap (λ xs. first.0 ++ xs) second.1 ∙ sym (append_assoc first.0 second.0 tail),
-  appends_more before between after first.0 second.0 first.2 second.2,
+  Appends-trans before between after first.0 second.0 first.2 second.2,
 )
 
 pub prefix_longer : (before after : Option (List ℕ)) (bytes more : List ℕ) → SendsPrefix before after bytes → SendsPrefix before after (bytes ++ more)
@@ -52,13 +37,13 @@ all_sent before after bytes left sends none =
 -- what is left is sent last
 pub tail_sent : (before between after : Option (List ℕ)) (bytes left : List ℕ) → Sends before between bytes left → Appends between after left → Appends before after bytes
 tail_sent before between after bytes left first last =
-    subst (λ (xs : List ℕ). Appends before after xs) (sym first.1) (appends_more before between after first.0 left first.2 last)
+    subst (λ (xs : List ℕ). Appends before after xs) (sym first.1) (Appends-trans before between after first.0 left first.2 last)
 
 -- some of what is left is sent
 pub some_sent : (before between after : Option (List ℕ)) (bytes left some tail : List ℕ) → Sends before between bytes left → Appends between after some → left ≡ some ++ tail
     → Sends before after bytes tail
 some_sent before between after bytes left some tail first more whole =
-    (first.0 ++ some, first.1 ∙ ap (λ xs. first.0 ++ xs) whole ∙ sym (append_assoc first.0 some tail), appends_more before between after first.0 some first.2 more)
+    (first.0 ++ some, first.1 ∙ ap (λ xs. first.0 ++ xs) whole ∙ sym (append_assoc first.0 some tail), Appends-trans before between after first.0 some first.2 more)
 
 -- a prefix of what is left is sent last
 pub tail_cut : (before between after : Option (List ℕ)) (bytes left : List ℕ) → Sends before between bytes left → SendsPrefix between after left → SendsPrefix before after bytes
@@ -66,7 +51,7 @@ tail_cut before between after bytes left first cut = (cut.0, some_sent before be
 
 -- nothing more is sent
 pub cut_here : (before between after : Option (List ℕ)) (bytes left : List ℕ) → Sends before between bytes left → Keeps between after → SendsPrefix before after bytes
-cut_here before between after bytes left first kept = (left, (first.0, first.1, appends_kept before between after first.0 first.2 kept))
+cut_here before between after bytes left first kept = (left, (first.0, first.1, Appends-kept before between after first.0 first.2 kept))
 
 module _ {T E : Type 0} where
   pub tail_printed : (result : Result T E) (before between after : Option (List ℕ)) (bytes left : List ℕ) → Sends before between bytes left
@@ -77,8 +62,8 @@ module _ {T E : Type 0} where
   -- a flush changes nothing of what went out
   pub flushed : (result : Result T E) (before between after : Option (List ℕ)) (bytes : List ℕ) → Appends before between bytes → Keeps between after
       → Sent before after result bytes
-  flushed (Ok done) before between after bytes first kept = appends_kept before between after bytes first kept
-  flushed (Err error) before between after bytes first kept = ([], (bytes, sym (append-nil bytes), appends_kept before between after bytes first kept))
+  flushed (Ok done) before between after bytes first kept = Appends-kept before between after bytes first kept
+  flushed (Err error) before between after bytes first kept = ([], (bytes, sym (append-nil bytes), Appends-kept before between after bytes first kept))
 
 -- another result that is `Ok` if and only if the first one is
 pub same_printed : {T E F : Type 0} (first : Result T E) (second : Result T F) (before after : Option (List ℕ)) (text : List ℕ) → IsOk second ↔ IsOk first

@@ -3,9 +3,7 @@ use Rattle.cli_print.proofs.ExplanationLemmas.{begins_more, words_ended}
 use Rattle.cli_print.proofs.explanations.add_word.Goals as goal
 
 pub returns-then-word-room : goal.returns-then-word-room
-returns-then-word-room g c = λ before begun.
-    let law = c.parts_follow.ensures.begun in
-    begins_more law before _ _ _ (begins_more law before _ _ _ begun refl c.part.ensures) refl c.part-then-word-room.ensures
+returns-then-word-room g c = λ before begun. begins_more c.parts_follow.ensures.begun before _ _ _ begun refl c.parts.ensures
 
 pub returns : goal.returns
 returns g c = λ before begun.

@@ -3,8 +3,4 @@ use Rattle.cli_print.proofs.verdicts.add_fault.Goals as goal
 
 pub returns : goal.returns
 unfolding fault_parts
-returns g c =
-    let more = c.parts_follow.ensures.more in
-    rw (← c.name.ensures)
-    (more _ _ _ _ _ c.part.ensures (more _ _ _ _ _ c.part-2.ensures (more _ _ _ _ _ c.part-3.ensures (more _ _ _ _ _ c.part-4.ensures
-    (more _ _ _ _ _ c.part-5.ensures (more _ _ _ _ _ c.part-6.ensures (more _ _ _ _ _ c.part-7.ensures c.part-8.ensures)))))))
+returns g c = rw (← c.name.ensures) c.parts.ensures
