@@ -1,34 +1,21 @@
 -- The offsets of stream headers (ECMA-335 II.24.2.2).
-use Rattle.cli_regions.proofs.Prelude.{◌≡◌, ℕ, ◌+◌, ◌*◌, ◌/◌, ◌%◌, ◌<◌, ◌≤◌, List, [], ◌∷◌, ◌++◌, length, ap, arith, length-append, All, All-cons, All-nil, header_length, Header}
-use Rattle.root.specs.Fields.{root_read}
-use Rattle.root.specs.Root.{AreHeaders, IsHeader, IsRoot}
+use Rattle.cli_regions.proofs.Prelude.{ℕ, ◌+◌, ◌≤◌, List, [], ◌∷◌, ◌++◌, length, ap, arith, length-append, All, All-cons, All-nil, Header, root_read}
+use Rattle.root.specs.Root.{AreHeaders, IsRoot}
 
--- the header ends at or before an offset
-abbrev pub EndsBy : ℕ → Header → Type 0
-EndsBy limit header = header.place + header_length header ≤ limit
+-- the header begins at or before an offset
+abbrev pub BeginsBy : ℕ → Header → Type 0
+BeginsBy limit header = header.place ≤ limit
 
-padded : (name padding : ℕ) → padding < 4 → (name + 1 + padding) % 4 ≡ 0 → 9 + name + padding ≡ 8 + (name + 4) / 4 * 4
-padded name padding fewer multiple = omega arith
-
--- the number of bytes of a header
-header_long : (bytes : List ℕ) (header : Header) → IsHeader bytes header → length bytes ≡ header_length header
-header_long bytes header is =
-    let whole = simp length-append at (ap length is.whole) in
-    omega (arith, whole, is.offset.long, is.size.long, padded (length header.name) (length is.padding) is.padded.fewer is.padded.multiple)
-
-headers_end : (limit position : ℕ) (bytes : List ℕ) (headers : List Header) → position + length bytes ≤ limit → AreHeaders position bytes headers → All (EndsBy limit) headers
-headers_end limit position bytes [] within are = All-nil (EndsBy limit)
-headers_end limit position bytes (header ∷ headers) within are =
-    let first = are.0 in
-    let long = header_long first header are.4 in
+headers_begin : (limit position : ℕ) (bytes : List ℕ) (headers : List Header) → position + length bytes ≤ limit → AreHeaders position bytes headers → All (BeginsBy limit) headers
+headers_begin limit position bytes [] within are = All-nil (BeginsBy limit)
+headers_begin limit position bytes (header ∷ headers) within are =
     let whole = simp length-append at (ap length are.2) in
-    All-cons (EndsBy limit) header headers (omega (arith, long, whole, are.3))
-    (headers_end limit (position + length first) are.1 headers (omega (arith, whole)) are.5)
+    All-cons (BeginsBy limit) header headers (omega (arith, are.3)) (headers_begin limit (position + length are.0) are.1 headers (omega (arith, whole)) are.5)
 
-pub root_headers_end : (root : List ℕ) → (length root ≤ 0x40000000) × IsRoot root (root_read root).version (root_read root).headers
-    → All (λ header. header.place + header_length header ≤ 0x40000000) (root_read root).headers
-root_headers_end root rooted =
+pub root_headers_begin : (root : List ℕ) → (length root ≤ 0x40000000) × IsRoot root (root_read root).version (root_read root).headers
+    → All (λ header. header.place ≤ 0x40000000) (root_read root).headers
+root_headers_begin root rooted =
     let is = rooted.1 in
     let whole = simp length-append at (ap length is.whole) in
-    headers_end 0x40000000 (20 + length ((root_read root).version ++ 0 ∷ is.padding)) is.directory (root_read root).headers
+    headers_begin 0x40000000 (20 + length ((root_read root).version ++ 0 ∷ is.padding)) is.directory (root_read root).headers
     (simp length-append (omega (arith, whole, rooted.0, is.ignored_long, is.version_long.long, is.flags_long, is.count.long))) is.headers_are

@@ -1,4 +1,3 @@
 pub mod Prelude
 pub mod SearchLemmas
-pub mod LoopLemmas
 pub mod HeaderLemmas

@@ -12,8 +12,7 @@ use Rattle.table_schema.specs.Tables.{tables, table_number, table_name}
 use Rattle.schema.specs.Header.{has_bit, valid_of}
 use Rattle.cli_faults.specs.Escaped.{escaped_text}
 use Rattle.cli_faults.specs.Hexadecimal.{upper_hexadecimal}
-use Rattle.cli_regions.specs.Regions.{Region, field_region, region}
-use Rattle.cli_regions.specs.Fields.{fields_from, header_regions}
+use Rattle.cli_regions.specs.Regions.{Region, field_region, fields_from, header_regions, region}
 use Rattle.cli_regions.specs.declared.fields.TheConstants.{AFTER_VERSION, BEFORE_NAME, BEFORE_VERSION, TABLE_STREAM}
 
 -- a stream header and its fields, the last of which is its name, with its NUL and padding (II.24.2.2)

@@ -4,7 +4,7 @@ use Rattle.root.specs.Streams.{Header}
 use Rattle.pe.specs.Headers.{lfanew, optional_header_size, section_count, sections_offset}
 use Rattle.cli_faults.specs.Escaped.{escaped_text}
 use Rattle.cli_regions.specs.Headers.{other_stream_regions, stream_header_regions, table_words}
-use Rattle.cli_regions.specs.PeHeaders.{numbered, section_header_regions, section_regions}
+use Rattle.cli_regions.specs.Files.{numbered, section_header_regions, section_regions}
 use Rattle.cli_regions.specs.Regions.{Region, What as TheWhat, cell, entry, regions_at, scalar, user_string, words}
 use Rattle.cli_regions.specs.declared.searches.Part.{Part}
 use Rattle.cli_regions.specs.declared.searches.Part.TheVariants as part

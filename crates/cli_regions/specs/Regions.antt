@@ -1,5 +1,7 @@
--- Structures as ranges of bytes of a file, and those that contain a byte.
-use Rattle.std.specs.Prelude.{ℕ, ◌-◌, ◌&&◌, Bool, nat_le, nat_lt, if◌then◌else◌, List, filter}
+-- Structures as ranges of bytes of a file, those that contain a byte, and the fields of headers. The names and sizes of fields are the
+-- tables of `src/fields.rt`.
+use Rattle.std.specs.Prelude.{ℕ, ◌+◌, ◌-◌, ◌&&◌, Bool, nat_le, nat_lt, if◌then◌else◌, List, [], ◌∷◌, ◌++◌, codes, filter}
+use Rattle.std.specs.Borrow.{Bor}
 use Rattle.root.specs.declared.kind.Kind.{Kind}
 use Rattle.schema.specs.declared.located_cells.TableCell.{TableCell}
 
@@ -34,3 +36,20 @@ has_byte start size offset = nat_le start offset && nat_lt (offset - start) size
 -- the structures that contain the byte, in the order of the list
 unfoldable pub regions_at : ℕ → List Region → List Region
 regions_at offset regions = filter (λ of. has_byte of.start of.size offset) regions
+
+-- a field: its name, and its number of bytes
+abbrev pub Field : Type 0
+Field = List ℕ × ℕ
+
+-- the field that a program keeps
+abbrev pub seen_field : Bor (List ℕ) × ℕ → Field
+seen_field of = (of.0.now, of.1)
+
+-- fields that follow one another, the first at an offset, as structures; each is called by a word and its name
+abbrev pub fields_from : List ℕ → ℕ → List Field → List Region
+fields_from word start [] = []
+fields_from word start (first ∷ fields) = field_region start first.1 (word ++ (codes " " ++ first.0)) ∷ fields_from word (start + first.1) fields
+
+-- a header, which a word and a name call, and its fields
+abbrev pub header_regions : List ℕ → List ℕ → ℕ → ℕ → List Field → List Region
+header_regions word name start size fields = region start size (word ++ name) ∷ fields_from word start fields

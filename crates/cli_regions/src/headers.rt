@@ -1,17 +1,20 @@
-//! Looks at the headers and the streams of a metadata root.
-ghost use Rattle.std.specs.Prelude.{◌≡◌, ◌≤◌, ◌+◌, length};
+//! Looks at the headers and the streams of a metadata root, and at the fields and row counts of its table stream.
+ghost use Rattle.std.specs.Prelude.{◌≡◌, ◌≤◌, length};
 ghost use Rattle.std.specs.List.{All, flat_map};
 ghost use Rattle.packed.specs.Rule.{AllHold};
-ghost use Rattle.root.specs.Fields.{header_length, root_read};
+ghost use Rattle.root.specs.Fields.{root_read};
 ghost use Rattle.root.specs.Rules.{rules_of_root};
 ghost use Rattle.root.specs.Views.{view};
-ghost use Rattle.cli_regions.specs.Headers.{is_standard, root_regions, stream_regions, streams};
+ghost use Rattle.cli_regions.specs.Headers.{count_size, is_standard, root_regions, stream_regions, streams, table_stream_regions};
 ghost use Rattle.cli_regions.specs.Kept.{Adds, stream_part_regions};
 
-use crate::fields::{AFTER_VERSION, BEFORE_NAME, BEFORE_VERSION, find_fields, find_header};
+use crate::fields::{
+    AFTER_VERSION, BEFORE_NAME, BEFORE_VERSION, TABLE_STREAM, find_fields, find_header,
+};
 use crate::searches::{Name, Part, Search};
-use packed::u32_at;
+use packed::{u32_at, u64_at};
 use root::{Headers, Kind, Root, StreamHeader};
+use table_schema::TableId;
 
 /// The offset of Length in a metadata root (II.24.2.1).
 const VERSION_SIZE: usize = 12;
@@ -21,6 +24,15 @@ const VERSION: u64 = 16;
 
 /// The offset of the name in a stream header (II.24.2.2).
 const STREAM_NAME: u64 = 8;
+
+/// The offset of Valid in a table stream (II.24.2.6).
+const VALID: usize = 8;
+
+/// The offset of the row counts in a table stream.
+const ROW_COUNTS: u64 = 24;
+
+/// The number of bytes of a row count.
+const ROW_COUNT_SIZE: u64 = 4;
 
 /// The streams of the standard, in the order of the lines: heaps, and then the tables.
 const STREAMS: [Kind; 5] = [
@@ -49,7 +61,7 @@ fn find_stream_part<'a>(
     found: &mut Search<'a>,
 )
     requires start { start ≤ 0x40000000 }
-    requires small { header.now.place + header_length (view header.now) ≤ 0x40000000 }
+    requires small { header.now.place ≤ 0x40000000 }
     ensures { Adds found.old found.new (stream_part_regions part start size (view header.now)) }
 {
     let name = Name::Text(header.name);
@@ -83,7 +95,7 @@ fn find_stream_parts<'a>(
     found: &mut Search<'a>,
 )
     requires start { start ≤ 0x40000000 }
-    requires small { All (λ header. header.place + header_length header ≤ 0x40000000) headers }
+    requires small { All (λ header. header.place ≤ 0x40000000) headers }
     ensures { Adds found.old found.new (flat_map (stream_part_regions part start size) headers.entry) }
 {
     for header in headers {
@@ -119,7 +131,6 @@ fn find_streams(root: &Root<'_>, start: u64, found: &mut Search<'_>)
 
 /// Looks at a metadata root, its fields, its stream headers and its streams. `root` is at offset `start` of the file, and
 /// `directory` was read from it.
-#[tactic(auto, unfolding(crate::specs::Headers::root_header_regions))]
 pub fn find_root<'a>(root: &[u8], directory: &Root<'a>, start: u64, found: &mut Search<'a>)
     requires start { start ≤ 0x40000000 }
     requires rules { AllHold (rules_of_root root.now) }
@@ -138,4 +149,33 @@ pub fn find_root<'a>(root: &[u8], directory: &Root<'a>, start: u64, found: &mut 
     find_stream_parts(directory.headers(), Part::Header, start, size, found);
     find_stream_parts(directory.headers(), Part::Bytes, start, size, found);
     find_streams(directory, start, found);
+}
+
+/// The number of bytes of the row count of a table: none if its bit is not set.
+fn count_size(bits: u64, table: TableId) -> u64
+    ensures value { result ≡ count_size bits table }
+    ensures few { result ≤ 4 }
+{
+    if bits >> table.number() & 1 == 1 {
+        ROW_COUNT_SIZE
+    } else {
+        0
+    }
+}
+
+/// Looks at the fields and row counts of a table stream.
+pub fn find_table_stream(stream: &[u8], start: u64, found: &mut Search<'_>)
+    requires start { start ≤ 0x80000000 }
+    requires room { 24 ≤ length stream.now }
+    ensures { Adds found.old found.new (table_stream_regions start stream.now) }
+{
+    find_fields("table stream", start, &TABLE_STREAM, found);
+    let valid = u64_at(stream, VALID);
+    let tables = TableId::all();
+    let mut next = start + ROW_COUNTS;
+    for table in tables {
+        let size = count_size(valid, *table);
+        found.look_field(next, size, "row count", Name::Table(*table));
+        next += size;
+    }
 }

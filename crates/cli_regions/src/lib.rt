@@ -14,13 +14,8 @@
 mod fields;
 mod files;
 mod headers;
-mod pe_headers;
 mod searches;
-mod sections;
-mod table_stream;
 
-pub use files::find_cli;
-pub use headers::find_root;
-pub use pe_headers::find_pe;
+pub use files::{find_cli, find_pe};
+pub use headers::{find_root, find_table_stream};
 pub use searches::{Name, Search, Structure, What, Words, has_byte};
-pub use table_stream::find_table_stream;

@@ -18,9 +18,8 @@ use Rattle.rows.specs.Cells.{Stream}
 use Rattle.metadata.specs.Streams.{root_in}
 use Rattle.cli_files.specs.declared.opened.Input.{Input}
 use Rattle.cli_files.specs.declared.opened.Input.TheVariants.{BareRoot, File}
-use Rattle.cli_regions.specs.Files.{cli_regions}
+use Rattle.cli_regions.specs.Files.{cli_regions, image_regions}
 use Rattle.cli_regions.specs.Headers.{root_regions, table_stream_regions}
-use Rattle.cli_regions.specs.PeHeaders.{image_regions}
 use Rattle.cli_regions.specs.Regions.{Region, regions_at}
 use Rattle.cli_where.specs.Cells.{AreCellsAt}
 use Rattle.cli_where.specs.Entries.{AreEntriesAt, Heap, heap_at, heaps_at}

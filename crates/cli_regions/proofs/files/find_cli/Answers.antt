@@ -1,5 +1,4 @@
-use Rattle.cli_regions.specs.Files.{cli_regions}
-use Rattle.cli_regions.proofs.Prelude.{and_then}
+use Rattle.cli_regions.proofs.Prelude.{and_then, cli_regions}
 use Rattle.cli_regions.proofs.files.find_cli.Goals as goal
 
 pub returns : goal.returns

@@ -1,8 +1,7 @@
-use Rattle.cli_regions.proofs.Prelude.{◌≡◌, ◌+◌, ℕ, Option, None, Some, List, [], append-nil, cond-false, false_from_ne_true, le-leb, leb-true, length, nat_le, refl, sym, adds_none, said_as}
+use Rattle.cli_regions.proofs.Prelude.{◌≡◌, ◌+◌, ℕ, Option, None, Some, List, [], append-nil, cond-false, false_from_ne_true, le-leb, leb-true, length, nat_le, refl, sym, adds_none, said_as, named_at, named_regions}
 use Rattle.pe.specs.Image.{Image}
 use Rattle.pe.specs.Offset.{IsFileOffset, offset_at}
 use Rattle.cli_header.specs.declared.header.DataDirectory.{DataDirectory}
-use Rattle.cli_regions.specs.Files.{named_at, named_regions}
 use Rattle.cli_regions.proofs.files.find_named.Goals as goal
 
 -- the file has not the bytes

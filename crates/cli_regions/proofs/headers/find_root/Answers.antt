@@ -1,6 +1,5 @@
-use Rattle.cli_regions.specs.Headers.{root_header_regions}
-use Rattle.cli_regions.proofs.HeaderLemmas.{root_headers_end}
-use Rattle.cli_regions.proofs.Prelude.{and_then}
+use Rattle.cli_regions.proofs.HeaderLemmas.{root_headers_begin}
+use Rattle.cli_regions.proofs.Prelude.{and_then, root_header_regions}
 use Rattle.cli_regions.proofs.headers.find_root.Goals as goal
 
 pub u32_at-version_size-requires : goal.u32_at-version_size-requires
@@ -8,11 +7,11 @@ u32_at-version_size-requires c = c.requires.rules.1.0.0
 
 pub find_stream_parts-requires-clause-small : goal.find_stream_parts-requires-clause-small
 find_stream_parts-requires-clause-small c =
-    rw (c.headers.ensures, c.requires.directory) (root_headers_end c.args.root.now (c.roots_are_read.ensures.sound c.args.root.now c.requires.rules))
+    rw (c.headers.ensures, c.requires.directory) (root_headers_begin c.args.root.now (c.roots_are_read.ensures.sound c.args.root.now c.requires.rules))
 
 pub find_stream_parts-requires-2-clause-small : goal.find_stream_parts-requires-2-clause-small
 find_stream_parts-requires-2-clause-small c =
-    rw (c.headers-2.ensures, c.requires.directory) (root_headers_end c.args.root.now (c.roots_are_read.ensures.sound c.args.root.now c.requires.rules))
+    rw (c.headers-2.ensures, c.requires.directory) (root_headers_begin c.args.root.now (c.roots_are_read.ensures.sound c.args.root.now c.requires.rules))
 
 pub find_streams-requires-clause-small : goal.find_streams-requires-clause-small
 find_streams-requires-clause-small c = let is = c.roots_are_read.ensures.sound c.args.root.now c.requires.rules in rw c.requires.directory is.0

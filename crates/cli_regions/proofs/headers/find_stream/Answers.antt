@@ -1,5 +1,4 @@
-use Rattle.cli_regions.specs.Headers.{stream_regions}
-use Rattle.cli_regions.proofs.Prelude.{adds_none}
+use Rattle.cli_regions.proofs.Prelude.{adds_none, stream_regions}
 use Rattle.cli_regions.proofs.headers.find_stream.Goals as goal
 
 pub returns-in-Some : goal.returns-in-Some

@@ -1,5 +1,5 @@
 use Rattle.cli_regions.proofs.Prelude.{◌≡◌, ◌∙◌, ◌+◌, ◌-◌, ap, arith, suc, flat_map, range_with_len, little_endian, part, section_count, part_regions, said_as, more_left, none_left}
-use Rattle.cli_regions.proofs.sections.find_sections.Goals as goal
+use Rattle.cli_regions.proofs.files.find_sections.Goals as goal
 
 pub loop-index-init : goal.loop-index-init
 loop-index-init c = λ later adds.

@@ -1,5 +1,5 @@
 use Rattle.cli_regions.proofs.Prelude.{◌-◌, flat_map, range_with_len, section_count, part_regions, Completes}
-use Rattle.cli_regions.proofs.sections.find_sections.Given as goal
+use Rattle.cli_regions.proofs.files.find_sections.Given as goal
 
 abbrev pub invariant-loop-index : goal.invariant-loop-index
 invariant-loop-index l =

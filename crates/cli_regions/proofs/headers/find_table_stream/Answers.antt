@@ -1,7 +1,6 @@
-use Rattle.cli_regions.specs.Headers.{table_stream_regions}
-use Rattle.cli_regions.proofs.Prelude.{◌∙◌, ◌+◌, ◌∷◌, ◌++◌, ap, arith, codes, drop, get_or, sym, drop_all, drop_more, counts_from, table_words, field_region, and_then, said_as, more_left, none_left}
+use Rattle.cli_regions.proofs.Prelude.{◌∙◌, ◌+◌, ◌∷◌, ◌++◌, ap, arith, codes, drop, get_or, sym, drop_all, drop_more, counts_from, table_words, field_region, and_then, said_as, more_left, none_left, table_stream_regions}
 use Rattle.table_schema.specs.declared.table.TableId.TheVariants.{Module}
-use Rattle.cli_regions.proofs.table_stream.find_table_stream.Goals as goal
+use Rattle.cli_regions.proofs.headers.find_table_stream.Goals as goal
 
 pub loop-table-preserved : goal.loop-table-preserved
 loop-table-preserved c =

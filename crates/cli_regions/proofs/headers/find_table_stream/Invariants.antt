@@ -1,5 +1,5 @@
 use Rattle.cli_regions.proofs.Prelude.{◌+◌, ◌*◌, ◌≤◌, drop, counts_from, Completes}
-use Rattle.cli_regions.proofs.table_stream.find_table_stream.Given as goal
+use Rattle.cli_regions.proofs.headers.find_table_stream.Given as goal
 
 abbrev pub invariant-loop-table : goal.invariant-loop-table
 invariant-loop-table l = record {

@@ -1,5 +1,5 @@
 use Rattle.cli_regions.proofs.Prelude.{◌≡◌, ◌∷◌, [], ◌++◌, ◌∙◌, ◌+◌, ap, arith, codes, drop, length, map, take, length-drop, length-take, before_nul, section_at, header_regions, numbered, section_bytes, section_header_regions, section_offset, section_regions, region, SECTION_HEADER, said_as}
-use Rattle.cli_regions.proofs.sections.find_part.Goals as goal
+use Rattle.cli_regions.proofs.files.find_part.Goals as goal
 
 pub returns-in-Header : goal.returns-in-Header
 unfolding section_header_regions

@@ -1,5 +1,5 @@
 use Rattle.cli_regions.proofs.Prelude.{◌≡◌, ◌∙◌, [], ◌+◌, ap, codes, little_endian, part, optional_header_size, header_regions, optional_fields, dos_header_regions, file_header_regions, image_regions, optional_header_regions, and_then, said_as}
-use Rattle.cli_regions.proofs.pe_headers.find_image.Goals as goal
+use Rattle.cli_regions.proofs.files.find_image.Goals as goal
 
 pub returns : goal.returns
 unfolding image_regions dos_header_regions file_header_regions optional_header_regions

@@ -1,4 +1,4 @@
-use Rattle.cli_regions.proofs.pe_headers.find_pe.Goals as goal
+use Rattle.cli_regions.proofs.files.find_pe.Goals as goal
 
 pub find_image-requires-clause-headers : goal.find_image-requires-clause-headers
 find_image-requires-clause-headers c =

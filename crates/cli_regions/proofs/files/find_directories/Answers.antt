@@ -1,5 +1,5 @@
 use Rattle.cli_regions.proofs.Prelude.{◌≡◌, ◌∙◌, ◌+◌, ◌-◌, ◌*◌, ◌/◌, ℕ, List, ap, arith, codes, length, map, min, sym, take, take-map, take_min, little_endian, part, directory_count, lfanew, sections_offset, wider, fields_from, seen_field, directories_offset, directories_regions, whole_directories, DIRECTORIES, DIRECTORY_FIELDS, and_then, said_as}
-use Rattle.cli_regions.proofs.pe_headers.find_directories.Goals as goal
+use Rattle.cli_regions.proofs.files.find_directories.Goals as goal
 
 -- a list has no more items than its length
 take_few : {X : Type 0} (items : List X) (count few : ℕ) → count ≡ min few (length items) → take count items ≡ take few items
