@@ -3,4 +3,3 @@ pub mod HexLemmas
 pub mod Prelude
 pub mod SinkLemmas
 pub mod UserLemmas
-pub mod RowTextLemmas

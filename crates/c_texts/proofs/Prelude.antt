@@ -10,16 +10,15 @@ pub use Rattle.heap_entries.proofs.UserLemmas.{AreBytes, blob_bytes, encodes_fro
 pub use Rattle.heap_entries.specs.Entries.{IsBlob, IsUserString, UserText}
 pub use Rattle.heap_entries.specs.Padding.{zero_padded}
 pub use Rattle.heap_entries.specs.UserView.{units_in, last_of, user_text}
-pub use Rattle.table_schema.specs.CellColumns.{column_of}
 unfoldable pub use Rattle.table_schema.specs.CellColumns.{cell_columns}
 pub use Rattle.table_schema.specs.Tokens.{hexadecimal, token_text}
 pub use Rattle.table_schema.specs.declared.table.TableId.{TableId}
 pub use Rattle.table_schema.specs.declared.table.TableId.TheVariants.{TypeDef, Field, MethodDef, Property}
+pub use Rattle.sig_grammar.specs.Encodes.{Encodes}
 pub use Rattle.sig_text.specs.SignatureText.{Piece}
 pub use Rattle.metadata.specs.Lookups.{HasRow}
 pub use Rattle.metadata.specs.Metadata.{cell_in}
-unfoldable pub use Rattle.opening.specs.Views.{row_count}
-pub use Rattle.full_names.proofs.PieceLemmas.{method_in, on_wrote, property_in}
+pub use Rattle.full_names.proofs.PieceLemmas.{encoded_by, method_in, on_wrote, property_in, signature_of}
 pub use Rattle.full_names.specs.declared.limit.Scopes.{Scopes}
 pub use Rattle.declarations.specs.Declarations.{IsDeclarationBy, IsPropertyDeclarationBy}
 pub use Rattle.c_texts.specs.RowTexts.{has_declaration, IsMethodDeclaration, IsDeclaredProperty}

@@ -1,28 +1,24 @@
 //! The name and the declaration of a row in a caller's buffer, in the notation of ILAsm.
 ghost use Rattle.std.specs.Prelude.{◌≡◌, ◌≢◌, ◌≤◌, ◌⊎◌, ◌^◌, ◌+◌, ◌-◌, List, ℕ, IfOk, OnOk, true, false, length};
-ghost use Rattle.table_schema.specs.declared.column.SigKind.TheVariants as kind;
 ghost use Rattle.table_schema.specs.declared.table.TableId.TheVariants.{Field};
 ghost use Rattle.table_schema.specs.declared.token.Token.{Token as TheToken};
-ghost use Rattle.sig_grammar.specs.Syntax.{Body};
-ghost use Rattle.sig_grammar.specs.Encodes.{Encodes};
-ghost use Rattle.metadata.specs.Cell.{Sig};
-ghost use Rattle.metadata.specs.Metadata.{Metadata, cell_in};
+ghost use Rattle.metadata.specs.Metadata.{Metadata};
 ghost use Rattle.metadata.specs.Model.{IsModel};
 ghost use Rattle.opening.specs.Views.{row_count};
 ghost use Rattle.full_names.specs.declared.limit.Scopes.TheVariants.{Omitted};
 ghost use Rattle.full_names.specs.Names.{Wrote};
-ghost use Rattle.c_texts.specs.RowTexts.{IsDeclared, IsFieldDeclaration, IsRowText, IsTextWithin, IsTokenIn, has_declaration, has_text};
+ghost use Rattle.c_texts.specs.RowTexts.{IsFieldDeclaration, IsRowText, IsTextWithin, IsTokenIn, has_text};
 ghost use Rattle.c_texts.specs.Texts.{HasText, text_limit};
 
 use crate::limited_text::{LimitedText, TEXT_LIMIT, TextLimit, len_within};
 use crate::parts::NO_MEMORY;
 use declarations::{write_method_within, write_property_within, write_signature_text};
 use full_names::{
-    DEPTH, Limit, NameKind, TextError, write_name, write_row_name, write_text,
-    write_type_def_within,
+    DEPTH, Limit, NameKind, ReadCells, ReadMetadata, TextError, bytes_of, write_name,
+    write_row_name, write_text, write_type_def_within,
 };
 use navigation::cells;
-use opening::{CellRef, View};
+use opening::View;
 use std::alloc::Global;
 use std::fmt;
 use table_schema::{SigKind, TableId, Token};
@@ -56,22 +52,6 @@ fn has_text(of: RowText, table: TableId) -> bool
     }
 }
 
-/// The bytes of the signature of a field.
-#[tactic(auto, unfolding(table_schema::specs::CellColumns::cell_columns))]
-fn field_signature<'a>(view: &View<'a>, row: u32) -> &'a [u8]
-    requires first { 1 ≤ row }
-    requires last { row ≤ row_count view.now Field }
-    ensures { (model : Metadata) → IsModel view.now model
-        → (signature : Body) × Encodes kind.Field signature result.now × (cell_in model Field row 2 ≡ Sig signature) }
-{
-    metadata::laws::models_are_read();
-    metadata::laws::models_of_roots_are_valid();
-    match view.cell(TableId::Field, row, FIELD_SIGNATURE) {
-        CellRef::Sig(blob) => blob,
-        _ => &[],
-    }
-}
-
 /// Writes the declaration of a field: its signature, a space, and its own name.
 #[tactic(auto, unfolding(table_schema::specs::CellColumns::cell_columns))]
 fn write_field<W: fmt::Write, L: Limit<W>>(
@@ -86,36 +66,14 @@ fn write_field<W: fmt::Write, L: Limit<W>>(
     requires omitted { L.scopes ≡ Omitted }
     ensures { (model : Metadata) → IsModel view.now model → OnOk result (Wrote W.write_str_gives out.old (IsFieldDeclaration model row) out.new) }
 {
-    let blob = field_signature(view, row);
-    write_signature_text(alloc, view, blob, SigKind::Field, limit, out)?;
+    sig_grammar::laws::shortest_encodes();
+    view.holds_one();
+    let kind = SigKind::Field;
+    let bytes = view.signature(alloc, kind, TableId::Field, row, FIELD_SIGNATURE)?;
+    write_signature_text(alloc, view, bytes_of(&bytes), kind, limit, out)?;
     write_text(out, " ")?;
     let name = cells::text(view, TableId::Field, row, FIELD_NAME);
     Ok(write_name(out, NameKind::Dotted, name, limit)?)
-}
-
-/// Writes the declaration of a row of a table whose rows have one.
-fn write_declaration<W: fmt::Write, L: Limit<W>>(
-    alloc: Global,
-    view: &View<'_>,
-    token: Token,
-    limit: &L,
-    out: &mut W,
-) -> Result<(), TextError>
-    requires first { 1 ≤ token.row }
-    requires last { token.row ≤ row_count view.now token.table }
-    requires declared { has_declaration token.table ≡ true }
-    requires omitted { L.scopes ≡ Omitted }
-    ensures { (model : Metadata) → IsModel view.now model → OnOk result (Wrote W.write_str_gives out.old (IsDeclared model token.table token.row) out.new) }
-{
-    metadata::laws::models_are_read();
-    metadata::laws::models_of_roots_are_valid();
-    match token.table {
-        TableId::TypeDef => Ok(write_type_def_within(view, token.row, limit, out, DEPTH)?),
-        TableId::Field => write_field(alloc, view, token.row, limit, out),
-        TableId::MethodDef => write_method_within(alloc, view, token.row, limit, out),
-        TableId::Property => write_property_within(alloc, view, token.row, limit, out),
-        _ => unreachable!(),
-    }
 }
 
 /// Writes a text of a row that has one.
@@ -133,9 +91,16 @@ fn write_whole<W: fmt::Write, L: Limit<W>>(
     requires omitted { L.scopes ≡ Omitted }
     ensures { (model : Metadata) → IsModel view.now model → OnOk result (Wrote W.write_str_gives out.old (IsRowText of model token) out.new) }
 {
+    view.holds_one();
     match of {
         RowText::Name => write_row_name(alloc, view, token, limit, out),
-        RowText::Declaration => write_declaration(alloc, view, token, limit, out),
+        RowText::Declaration => match token.table {
+            TableId::TypeDef => Ok(write_type_def_within(view, token.row, limit, out, DEPTH)?),
+            TableId::Field => write_field(alloc, view, token.row, limit, out),
+            TableId::MethodDef => write_method_within(alloc, view, token.row, limit, out),
+            TableId::Property => write_property_within(alloc, view, token.row, limit, out),
+            _ => unreachable!(),
+        },
     }
 }
 

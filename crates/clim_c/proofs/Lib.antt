@@ -1,5 +1,4 @@
 pub mod ComparedLemmas
-pub mod GivenLemmas
 pub mod HeaderLemmas
 pub mod Prelude
 pub mod RootLemmas

@@ -7,22 +7,20 @@ pub use Rattle.std.proofs.lemmas.Iterator.Consumers.{YieldsList-from_first, nth_
 pub use Rattle.std.proofs.lemmas.Grind.{not_there}
 pub use Rattle.root.specs.Streams.{Header}
 pub use Rattle.root.specs.Views.{view}
-pub use Rattle.table_schema.specs.CellColumns.{cell_count, column_of}
+pub use Rattle.table_schema.specs.CellColumns.{column_of}
 unfoldable pub use Rattle.table_schema.specs.CellColumns.{cell_columns}
 pub use Rattle.table_schema.specs.Columns.{column_at}
 pub use Rattle.table_schema.specs.declared.column.ColumnKind.{ColumnKind}
-pub use Rattle.table_schema.specs.declared.column.SigKind.{SigKind}
-pub use Rattle.table_schema.specs.declared.table.TableId.{TableId}
 pub use Rattle.table_schema.specs.declared.table.TableId.TheVariants.{TypeDef}
 pub use Rattle.sig_grammar.specs.Syntax.{Body}
 pub use Rattle.metadata.specs.Cell.{Cell, Sig}
 pub use Rattle.metadata.specs.Metadata.{Metadata, cell_in}
 pub use Rattle.metadata.specs.Model.{IsModel}
-pub use Rattle.reading.specs.Shown.{Shows, ShowsSignature}
+pub use Rattle.reading.specs.Shown.{Shows}
 pub use Rattle.reading.specs.declared.cell_ref.CellRef.{CellRef}
 unfoldable pub use Rattle.opening.specs.Views.{row_count}
 pub use Rattle.root_writer.specs.Canonical.{canonical}
 unfoldable pub use Rattle.root_writer.specs.Canonical.{root_of}
 pub use Rattle.comparison.specs.declared.difference.Difference.{Difference}
 pub use Rattle.c_values.specs.declared.cell.ClimCell.{ClimCell}
-pub use Rattle.clim_c.specs.Reported.{Reports, ReportsCell}
+pub use Rattle.clim_c.specs.Reported.{ReportsCell}

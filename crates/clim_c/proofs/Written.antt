@@ -1,20 +1,14 @@
 -- A loop that writes one element after another.
-use Rattle.clim_c.proofs.Prelude.{◌≡◌, ℕ, ◌+◌, ◌≤◌, ◌<◌, ◌⊎◌, inl, inr, List, [], ◌∷◌, ◌++◌, length, take, get_or, set, append_assoc, sym, ◌∙◌, ap, subst, arith, SameFrom, append-nil, length-take-le, take_all, take_at, take_more_set, get_or-set_same, get_or-set_other}
-use Rattle.std.proofs.lemmas.Bool.{cases_lt}
+use Rattle.clim_c.proofs.Prelude.{◌≡◌, ℕ, ◌+◌, ◌≤◌, ◌<◌, List, [], ◌∷◌, ◌++◌, length, take, get_or, set, append_assoc, sym, ◌∙◌, ap, subst, arith, SameFrom, append-nil, length-take-le, take_all, take_at, take_more_set, get_or-set_same, get_or-set_other}
+use borrow.Author.Count.{below_more}
 
 module _ {X : Type 0} where
   -- the first elements are right, and one more is written
-  module _ (P : ℕ → X → Type 0) (xs : List X) (k : ℕ) (x : X) (within : k < length xs) (here : P k x)
-      (before : (j : ℕ) (d : X) → j < k → P j (get_or xs j d)) where
-    by_index : (j : ℕ) (d : X) → j < k + 1 → (j < k) ⊎ (k ≤ j) → P j (get_or (set xs k x) j d)
-    by_index j d below (inl low) =
-        subst (λ y. P j y) (sym (get_or-set_other xs k j x d (λ e. omega (arith, low, e)))) (before j d low)
-    by_index j d below (inr high) =
-        let e : j ≡ k = omega (arith, below, high) in
-        subst (λ i. P i (get_or (set xs k x) i d)) (sym e) (subst (λ y. P k y) (sym (get_or-set_same xs k x d within)) here)
-
-    pub one_more : (j : ℕ) (d : X) → j < k + 1 → P j (get_or (set xs k x) j d)
-    one_more j d below = by_index j d below (cases_lt j k)
+  pub one_more : (P : ℕ → X → Type 0) (xs : List X) (k : ℕ) (x : X) → k < length xs → P k x → ((j : ℕ) (d : X) → j < k → P j (get_or xs j d))
+      → (j : ℕ) (d : X) → j < k + 1 → P j (get_or (set xs k x) j d)
+  one_more P xs k x within here before j d below = below_more (λ i. P i (get_or (set xs k x) i d)) k
+      (λ i low. subst (P i) (sym (get_or-set_other xs k i x d (λ e. omega (arith, low, e)))) (before i d low))
+      (subst (P k) (sym (get_or-set_same xs k x d within)) here) j below
 
   -- the elements after it do not change
   pub tail_stays : (old xs : List X) (k : ℕ) (x : X) → SameFrom old xs k → SameFrom old (set xs k x) (k + 1)

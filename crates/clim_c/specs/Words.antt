@@ -41,7 +41,6 @@ pub use Rattle.embedding.specs.declared.strong_name.StrongName.{StrongName}
 pub use Rattle.comparison.specs.Differences.{first_differences}
 pub use Rattle.c_values.specs.Items.{AreItems}
 pub use Rattle.c_values.specs.Values.{IsValueAt}
-pub use Rattle.c_values.specs.Cells.{IsCell}
 pub use Rattle.c_values.specs.Given.{IsGiven}
 pub use Rattle.c_values.specs.Refused.{IsGivenValid, IsRefused, refusal_of}
 pub use Rattle.sha2.specs.Sha256.{sha256}

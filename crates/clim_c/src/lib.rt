@@ -14,7 +14,6 @@ pub mod embedded;
 pub mod fault;
 pub mod file_offset;
 pub mod given_tables;
-pub mod laws;
 pub mod look_ups;
 pub mod names;
 pub mod opened;

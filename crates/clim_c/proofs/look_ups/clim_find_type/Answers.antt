@@ -1,6 +1,11 @@
-use Rattle.clim_c.proofs.Prelude.{arith, TypeDef, cell_columns, cell_in}
-use Rattle.clim_c.proofs.GivenLemmas.{utf8_of}
+use Rattle.clim_c.proofs.Prelude.{◌≡◌, ℕ, List, IsUtf8, subst, arith, TypeDef, cell_columns, Cell, cell_in}
+use Rattle.metadata.specs.Cell.{Text}
+use Rattle.metadata.specs.Kinds.{IsStorable}
 use Rattle.clim_c.proofs.look_ups.clim_find_type.Goals as goal
+
+-- a text that a heap can store is UTF-8
+utf8_of : (cell : Cell) (text : List ℕ) → cell ≡ Text text → IsStorable cell → IsUtf8 text
+utf8_of cell text is held = let there = subst IsStorable is held in there.1
 
 pub returns-in_default-clause-none : goal.returns-in_default-clause-none
 unfolding cell_columns
