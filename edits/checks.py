@@ -159,7 +159,8 @@ class Checker:
             words = [f"{kit}/bin/rattle", "check", *self.crate.words(kit, 1)]
             words += [word for it in dict.fromkeys(functions) for word in ("--only", it)]
             words += ["--incremental", kept] if kept else []
-            words += ["--crate-type", "staticlib"] if self.crate.is_static else []
+            # As a static library it reads all of the libraries below, which functions that are named do not need.
+            words += ["--crate-type", "staticlib"] if self.crate.is_static and not functions else []
             return self.run(words, room)
 
     def check_functions(self, texts, functions):
