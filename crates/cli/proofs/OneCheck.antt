@@ -12,7 +12,7 @@ use Rattle.cli_lines.specs.Lines.{report_text}
 use Rattle.cli_lines.specs.declared.parts.Form.TheVariants.{Text}
 use Rattle.cli_print.specs.Verdicts.{verdict_line}
 use Rattle.cli_sending.specs.Sent.{SendsPrefix}
-use Rattle.cli.specs.OneCheck.{check_of_one}
+use Rattle.cli.specs.Tasks.{check_of_one}
 use Rattle.cli_runs.specs.Runs.{AreRun, IsRunOn}
 use Rattle.cli_runs.specs.declared.report.Ended.TheVariants.{Printed, Refused}
 

@@ -1,4 +1,3 @@
 pub mod Columns
-pub mod OneCheck
 pub mod Runs
 pub mod Tasks

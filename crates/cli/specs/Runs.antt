@@ -20,8 +20,7 @@ use Rattle.cli_roots.specs.Embedded.{IsEmbedding, IsRootRun}
 use Rattle.cli_roots.specs.Rewritten.{IsRewriting}
 use Rattle.cli_roots.specs.Runs.{IsFileRun, IsMixed, IsWithin}
 use Rattle.cli_files.specs.declared.opened.Input.TheVariants.{File}
-use Rattle.cli_runs.specs.Extracted.{IsExtracting}
-use Rattle.cli_runs.specs.Runs.{IsExplained, IsRunOn, IsRunOnList, byte_of}
+use Rattle.cli_runs.specs.Runs.{IsExplained, IsExtracting, IsRunOn, IsRunOnList, byte_of}
 use Rattle.cli_runs.specs.declared.report.Directories.TheVariants.{Walked}
 use Rattle.cli_runs.specs.declared.report.Request.{Request}
 use Rattle.cli.specs.declared.program.Terminal.{Terminal}

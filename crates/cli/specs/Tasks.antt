@@ -70,6 +70,10 @@ request_of ask naming of = record {
   budget = ask.budget;
 }
 
+-- what `clim check FILE` asks of FILE: one line of text, without its name
+abbrev pub check_of_one : Request
+check_of_one = record { report = report.Check Line; form = Text; naming = Alone; directories = Refused; input = File; budget = None }
+
 -- The task is a report on these files, which the arguments name; or on those of a list, by whether there is one: then no file may
 -- be given, and NULs follow the names with `-0`
 abbrev pub files_task : Ask → Bool → List (Bor (List ℕ)) → Report → Result Task Failure

@@ -1,5 +1,5 @@
--- Whether a file begins like one of a kind, by the bytes that are read of it first, within a limit.
-use Rattle.std.proofs.Common.{◌≡◌, ◌∙◌, ◌≤◌, ◌+◌, ◌^◌, ℕ, Bool, false, List, ◌++◌, Option, None, Some, IfSome, length, take, take-take, option_map, bytes_eq, ap, sym, arith}
+-- What is read of a reader up to a limit, and whether a file begins like one of a kind, by the bytes that are read of it first.
+use Rattle.std.proofs.Common.{◌≡◌, ◌∙◌, ◌≤◌, ◌+◌, ◌^◌, ℕ, Bool, false, List, [], ◌++◌, Option, None, Some, IfSome, length, take, take-take, option_map, bytes_eq, ap, sym, arith}
 use Rattle.std.proofs.lemmas.List.{take-append-le}
 use Rattle.std.specs.Io.KnownBytes.{Consumes}
 use Rattle.std.specs.Io.Take.{take_remaining}
@@ -7,7 +7,17 @@ use Rattle.std.specs.declared.io.traits.Take.{Take}
 use Rattle.cli_files.specs.Hints.{begin_with, signature_of}
 use Rattle.cli_files.specs.declared.opened.Input.{Input}
 use Rattle.cli_files.specs.declared.opened.Input.TheVariants.{BareRoot, File}
-use Rattle.cli_files.specs.Walks.{IsReadIfLike}
+use Rattle.cli_files.specs.Read.{IsReadIfLike}
+
+all_read : (known : Option (List ℕ)) (most : ℕ) (start read : List ℕ) → start ≡ [] → IfSome (option_map (take most) known) (λ more. read ≡ start ++ more)
+    → IfSome known (λ all. read ≡ take most all)
+all_read None most start read none is = tt
+all_read (Some all) most start read none is = is ∙ ap (λ xs. xs ++ take most all) none
+
+-- the bytes of a reader with a limit are the first ones of the reader within it
+pub read_whole : {R : Type 0} (remaining : R → Option (List ℕ)) (reader inner : R) (limit most : ℕ) (start read : List ℕ) → inner ≡ reader → limit ≡ most → start ≡ []
+    → IfSome (option_map (take limit) (remaining inner)) (λ more. read ≡ start ++ more) → IfSome (remaining reader) (λ all. read ≡ take most all)
+read_whole remaining reader inner limit most start read inner_is limit_is none is = all_read (remaining reader) most start read none (rw (inner_is, limit_is) at is)
 
 short : (input : Input) (sign : List ℕ) (most : ℕ) → sign ≡ signature_of input → most ≡ 2 ^ 30 + 1 → length sign ≤ most
 short File sign most is limit = omega (arith, ap length is, limit)

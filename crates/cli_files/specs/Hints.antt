@@ -25,14 +25,10 @@ abbrev pub hint_for_fault : Input → List ℕ → ℕ → Option Hint
 hint_for_fault BareRoot bytes code = if (code == number_of_code RootSignature) && begin_with (signature_of File) bytes then Some DropBare else None
 hint_for_fault File bytes code = if (code == number_of_code DosHeader) && begin_with (signature_of BareRoot) bytes then Some AddBare else None
 
--- for an offset past the end of the file: the length of the file
-abbrev pub hint_for_offset : ℕ → List ℕ → Option Hint
-hint_for_offset offset bytes = if nat_le (length bytes) offset then Some (Length (length bytes)) else None
-
--- only a fault, and an offset at which there is nothing, can have a hint
+-- only a fault, and an offset at which there is nothing, can have a hint; that for an offset past the end of the file is its length
 abbrev pub hint_for : Input → List ℕ → Stop → Option Hint
 hint_for input bytes (Failed (Fault found)) = hint_for_fault input bytes found.code
-hint_for input bytes (NothingAt offset) = hint_for_offset offset bytes
+hint_for input bytes (NothingAt offset) = if nat_le (length bytes) offset then Some (Length (length bytes)) else None
 hint_for input bytes _ = None
 
 -- the line of a hint, without its line feed

@@ -3,4 +3,3 @@ pub mod Heads
 pub mod Hints
 pub mod Read
 pub mod Stopped
-pub mod Walks

@@ -1,8 +1,8 @@
 //! What the user may have meant.
 ghost use Rattle.std.specs.Prelude.{◌≡◌, Some};
-ghost use Rattle.cli_files.specs.Hints.{hint_for, hint_for_fault, hint_for_offset, hint_text, signature_of};
+ghost use Rattle.cli_files.specs.Hints.{hint_for, hint_for_fault, hint_text, signature_of};
 
-use crate::Input;
+use crate::opened::Input;
 use cli_faults::{Failure, Stop};
 use packed::{Fault, FaultCode};
 use std::fmt;
@@ -34,13 +34,15 @@ impl fmt::Display for Hint {
     }
 }
 
-/// The hint for a stop on some bytes, if there is one.
+/// The hint for a stop on some bytes, if there is one. For an offset past the end of the file it is the length of the file.
 pub(crate) fn hint_of(stop: &Stop<'_>, input: Input, bytes: &[u8]) -> Option<Hint>
     ensures { result ≡ hint_for input bytes.now stop.now }
 {
     match stop {
         Stop::Failed(Failure::Fault(fault)) => hint_of_fault(fault, input, bytes),
-        Stop::NothingAt(offset) => hint_of_offset(*offset, bytes),
+        Stop::NothingAt(offset) => {
+            (bytes.len() as u64 <= *offset).then_some(Hint::Length(bytes.len()))
+        }
         _ => None,
     }
 }
@@ -64,11 +66,4 @@ pub fn signature_of(input: Input) -> &'static [u8]
         Input::File => b"MZ".as_slice(),
         Input::BareRoot => b"BSJB".as_slice(),
     }
-}
-
-/// The hint for an offset at which there is nothing: the length of the file, if the offset is past its end.
-fn hint_of_offset(offset: u64, bytes: &[u8]) -> Option<Hint>
-    ensures { result ≡ hint_for_offset offset bytes.now }
-{
-    (bytes.len() as u64 <= offset).then_some(Hint::Length(bytes.len()))
 }

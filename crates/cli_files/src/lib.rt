@@ -25,22 +25,14 @@
 //! ```
 #![tactic(auto)]
 
-mod heads;
 mod hint;
 mod input;
 mod opened;
-mod source;
 mod stopped;
-mod unread;
 mod walk;
-mod words;
 
-pub use heads::{heads_of, root_of};
 pub use hint::{Hint, signature_of};
 pub use input::{LIMIT, STANDARD_INPUT, read_file, read_into};
-pub use opened::{Input, open, open_within};
-pub use source::rows_of;
-pub use stopped::{Stopped, out_of_memory, status};
-pub use unread::{Unread, refuse};
+pub use opened::{Input, heads_of, open, open_within, root_of, rows_of};
+pub use stopped::{Stopped, Unread, out_of_memory, refuse, refuse_words, status};
 pub use walk::{Visit, Walk, read_if_like};
-pub use words::refuse_words;

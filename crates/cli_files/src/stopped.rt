@@ -1,18 +1,19 @@
-//! Why a run stopped early, and what the user may have meant.
-ghost use Rattle.std.specs.Prelude.{◌≡◌, ◌≤◌, ◌++◌, ◌∷◌, [], IfErr, IfOk, None, OnOk, Some};
+//! Why a run stopped early, what the user may have meant, and what was not read.
+ghost use Rattle.std.specs.Prelude.{◌≡◌, ◌≢◌, ◌≤◌, IfErr, IfOk, None, Some};
 ghost use Rattle.std.specs.Fmt.{WritesOnOk};
-ghost use Rattle.std.specs.Io.KnownBytes.{Appends};
+ghost use Rattle.std.specs.IoError.{error_kind};
+ghost use Rattle.std.specs.declared.io.ErrorKind.TheVariants as cause;
 ghost use Rattle.cli_files.specs.Stopped.{file_line, hint_line, is_silent, status_of_outcome, stop_line, stopped_text};
 ghost use Rattle.cli_faults.specs.Stops.{status_of_stop};
 ghost use Rattle.cli_faults.specs.declared.stop.Stop.TheVariants.{Failed};
 
-use crate::Input;
 use crate::hint::{Hint, hint_of};
+use crate::opened::Input;
 use cli_faults::{Escaped, Failure, Reason, Stop};
 use cli_sending::send_message;
 use std::alloc::Global;
-use std::io::Write;
-use std::{fmt, io};
+use std::fmt;
+use std::io::{self, Write};
 
 /// Why a run stopped early, and what the user may have meant. `Display` gives the lines for standard error: that of the
 /// stop, unless standard output says why it stopped or nobody reads it, then that of the file, then that of the hint.
@@ -56,7 +57,7 @@ pub fn status<E: Write>(alloc: Global, outcome: Result<(), Stopped<'_>>, err: &m
         Ok(()) => 0,
         Err(stopped) => {
             // A report that cannot be written changes nothing.
-            let _ = report(alloc, &stopped, err);
+            let _ = send_message(alloc, &stopped, err);
             stopped.stop.status()
         }
     }
@@ -69,11 +70,17 @@ pub fn out_of_memory<E: Write>(alloc: Global, err: &mut E) -> u8
     status(alloc, Err(Stopped::from(Failure::OutOfMemory)), err)
 }
 
-/// Reports why a run stopped early.
-fn report<E: Write>(alloc: Global, stopped: &Stopped<'_>, err: &mut E) -> io::Result<()>
-    ensures { OnOk result (Appends (E.contents err.old) (E.contents err.new) (stopped_text stopped.now)) }
+/// Reports why the arguments could not be collected, and returns the exit code: 2 if one is not UTF-8, 3 if out of
+/// memory.
+pub fn refuse_words<E: Write>(alloc: Global, error: &io::Error, err: &mut E) -> u8
+    ensures memory { error_kind error.now ≡ cause.OutOfMemory → result ≡ 3 }
+    ensures words { error_kind error.now ≢ cause.OutOfMemory → result ≡ 2 }
 {
-    send_message(alloc, stopped, err)
+    if error.kind() == io::ErrorKind::OutOfMemory {
+        return out_of_memory(alloc, err);
+    }
+    let _ = err.write_all(b"error: an argument is not UTF-8\n");
+    2
 }
 
 /// Whether nothing is reported: the output says why the run stopped, or nobody reads it.
@@ -105,11 +112,7 @@ impl<'a> From<Failure<'a>> for Stopped<'a> {
     ghost from_gives = { λ failure stopped. (stopped.stop ≡ Failed failure) × (stopped.hint ≡ None) };
 
     fn from(failure: Failure<'a>) -> Self {
-        Stopped {
-            stop: Stop::Failed(failure),
-            file: None,
-            hint: None,
-        }
+        Stopped::from(Stop::Failed(failure))
     }
 }
 
@@ -151,4 +154,45 @@ fn write_hint<W: fmt::Write>(hint: Option<Hint>, f: &mut fmt::Formatter<W>) -> f
         Some(hint) => write!(f, "{hint}\n"),
         None => Ok(()),
     }
+}
+
+/// What was not read, and why. `Display` gives the lines for standard error.
+#[derive(Clone, Copy)]
+pub enum Unread<'a> {
+    /// The standard input, which was read before.
+    InputAgain,
+    /// What has this path in a directory is neither a file, a directory nor a link.
+    Special(&'a str),
+    /// This many files in directories, which do not begin like files of this kind.
+    Others(u64, Input),
+}
+
+impl fmt::Display for Unread<'_> {
+    fn fmt<W: fmt::Write>(&self, f: &mut fmt::Formatter<W>) -> fmt::Result {
+        match self {
+            Unread::InputAgain => {
+                f.write_str("error: cannot read -\n  reason: the standard input was read already\n")
+            }
+            Unread::Special(path) => write!(
+                f,
+                "error: cannot read {}\n  reason: neither a file nor a directory\n",
+                Escaped(path)
+            ),
+            Unread::Others(1, Input::File) => f.write_str("1 file was not a PE file\n"),
+            Unread::Others(count, Input::File) => write!(f, "{count} files were not PE files\n"),
+            Unread::Others(1, Input::BareRoot) => f.write_str("1 file was not a metadata root\n"),
+            Unread::Others(count, Input::BareRoot) => {
+                write!(f, "{count} files were not metadata roots\n")
+            }
+        }
+    }
+}
+
+/// Reports that something was not read, and returns the exit code for that.
+pub fn refuse<E: Write>(alloc: Global, what: Unread<'_>, err: &mut E) -> u8
+    ensures { result ≡ 3 }
+{
+    // A report that cannot be written changes nothing.
+    let _ = send_message(alloc, &what, err);
+    3
 }

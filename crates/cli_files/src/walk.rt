@@ -1,8 +1,7 @@
 //! Walks a directory, and the directories in it.
 ghost use Rattle.std.specs.Prelude.{IfErr, IfOk, IfSome, OnOk};
 ghost use Rattle.std.specs.Io.KnownBytes.{Consumes};
-ghost use Rattle.cli_files.specs.Read.{IsRefused};
-ghost use Rattle.cli_files.specs.Walks.{IsReadIfLike, IsVisit};
+ghost use Rattle.cli_files.specs.Read.{IsReadIfLike, IsRefused, IsVisit};
 
 use crate::{Input, LIMIT, signature_of};
 use cli_faults::Failure;
@@ -143,18 +142,14 @@ fn names_in<R: Files + AllocGlobal>(rt: &R, directory: &str) -> io::Result<Vec<V
     let mut names = Vec::new(rt.alloc());
     let listing = BufReader::new(rt.alloc(), rt.open_dir(directory)?)?;
     for name in listing.split(rt.alloc(), 0) {
-        add_name(name?, &mut names)?;
+        let name = name?;
+        // Neither the directory itself nor the one above it.
+        if !matches!(name.as_slice(), b"." | b"..") {
+            names.push(name)?;
+        }
     }
     names.sort_unstable_by(|left: &Vec<u8>, right: &Vec<u8>| right.cmp(left));
     Ok(names)
-}
-
-/// Adds a name in a directory, unless it leads to the directory itself or to the one above it.
-fn add_name(name: Vec<u8>, names: &mut Vec<Vec<u8>>) -> Result<(), AllocError> {
-    if !matches!(name.as_slice(), b"." | b"..") {
-        names.push(name)?;
-    }
-    Ok(())
 }
 
 /// Reads a file into a buffer, or its first 2^30 + 1 bytes if it has more, if it begins like one of this kind. Otherwise the

@@ -1,20 +1,49 @@
 -- The custom attributes of the assembly whose arguments are all strings (ECMA-335 II.22.10 and II.23.3).
-use Rattle.std.specs.Prelude.{ℕ, ◌+◌, ◌-◌, ◌==◌, ◌&&◌, Bool, true, false, if◌then◌else◌, List, [], ◌∷◌, ◌++◌, codes, filter, flat_map, length, take, Option, None, Some, option_and_then}
-use Rattle.std.specs.List.{range_with_len}
+use Rattle.std.specs.Prelude.{ℕ, ◌-◌, ◌==◌, ◌&&◌, nat_le, Bool, true, false, if◌then◌else◌, List, [], ◌∷◌, ◌++◌, codes, filter, flat_map, length, take, Option, None, Some, is_some, option_and_then}
+use Rattle.std.specs.List.{list_all, range_with_len}
 use Rattle.table_schema.specs.declared.table.TableId.{TableId}
 use Rattle.table_schema.specs.declared.table.TableId.TheVariants.{CustomAttribute, TypeDef, TypeRef}
 use Rattle.table_schema.specs.declared.token.Token.{Token}
 use Rattle.table_schema.specs.Tables.{table_number}
-use Rattle.attribute_values.specs.Items.{Item, fixed, entry, named_count, named}
+use Rattle.attribute_values.specs.declared.types.ArgumentType.{ArgumentType}
+use Rattle.attribute_values.specs.Items.{Head, element, Item, fixed, entry, named_count, named}
+use Rattle.attribute_values.specs.Steps.{value_items}
+use Rattle.attribute_values.specs.Values as value
 use Rattle.attribute_constructors.specs.Constructors.{type_of}
 use Rattle.attribute_constructors.specs.Params.{params_of_constructor}
 use Rattle.metadata.specs.Cell.{reference_in, text_in, bytes_in}
 use Rattle.metadata.specs.Metadata.{Metadata, cell_in, count_in}
 use Rattle.cli_lines.specs.declared.names.Name.TheVariants as name
 use Rattle.cli_lines.specs.Lines as line
-use Rattle.cli_lines.specs.Lines.{Part, Value, word, field, note, member, plain}
+use Rattle.cli_lines.specs.Lines.{Part, Value, word, field, note, member, null, plain, quoted}
 use Rattle.cli_print.specs.TypeLines.{dot_after}
-use Rattle.cli_info.specs.Texts.{string_in, texts_in}
+
+-- an argument that is a string, in quotes, or `null`
+abbrev pub string_in : Head → Option Value
+string_in (element (value.plain (value.text (Some of)))) = Some (quoted of)
+string_in (element (value.plain (value.text None))) = Some null
+string_in _ = None
+
+abbrev pub is_text : Item → Bool
+is_text (fixed head) = is_some (string_in head)
+is_text (entry e) = false
+is_text (named_count n) = true
+is_text (named of own head) = is_some (string_in head)
+
+-- the largest value that is printed, in bytes
+abbrev pub value_limit : ℕ
+value_limit = 1024
+
+-- a value, if it is one, has no argument but strings
+abbrev pub are_texts : Option (List Item) → Bool
+are_texts None = false
+are_texts (Some items) = list_all is_text items
+
+-- the items of a value for a constructor with these parameters, at least one, if all arguments are strings and it is not too long
+abbrev pub texts_in : List ArgumentType → List ℕ → Option (List Item)
+texts_in params value =
+    let read = value_items params value in
+    if length params == 0 then None else (if nat_le (length value) value_limit && are_texts read then read else None)
 
 -- an argument in a line of text, if it is a string
 abbrev pub argument_parts : List ℕ → Option Value → List Part
@@ -79,9 +108,9 @@ is_own model row = is_assembly (reference_in (cell_in model CustomAttribute row 
 unfoldable pub attribute_lines : Metadata → ℕ → List (List Part)
 attribute_lines model row = lines_of_value model (reference_in (cell_in model CustomAttribute row 1)) (bytes_in (cell_in model CustomAttribute row 2))
 
--- the attributes of the assembly in the rows after the first ones, in order
-unfoldable pub own_after : Metadata → ℕ → ℕ → List ℕ
-own_after model earlier count = filter (is_own model) (range_with_len (earlier + 1) (count - earlier))
+-- the rows with attributes of the assembly among the first rows, in order
+abbrev pub own_rows : Metadata → ℕ → List ℕ
+own_rows model count = filter (is_own model) (range_with_len 1 count)
 
 -- the largest number of attributes that are read
 abbrev pub attribute_limit : ℕ
@@ -93,10 +122,11 @@ more_lines others =
     if others == 0 then []
     else (member name.Directive (plain (codes "attributes")) ∷ word (codes "more attributes ") ∷ field name.Left (line.number others) ∷ []) ∷ []
 
--- the lines of the first of these attributes, and the number of the others
+-- the lines of the first of these attributes
 abbrev pub lines_of_rows : Metadata → List ℕ → List (List Part)
-lines_of_rows model rows = flat_map (attribute_lines model) (take attribute_limit rows) ++ more_lines (length rows - attribute_limit)
+lines_of_rows model rows = flat_map (attribute_lines model) (take attribute_limit rows)
 
--- those of all attributes of the assembly
+-- the lines of the first attributes of the assembly, and the number of the others
 abbrev pub attributes_lines : Metadata → List (List Part)
-attributes_lines model = lines_of_rows model (own_after model 0 (count_in model CustomAttribute))
+attributes_lines model =
+    let rows = own_rows model (count_in model CustomAttribute) in lines_of_rows model rows ++ more_lines (length rows - attribute_limit)

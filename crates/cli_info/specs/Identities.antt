@@ -1,16 +1,16 @@
 -- The identity of an assembly as .NET prints it: its name, version, culture and public key token (ECMA-335 II.22.2 and II.22.5).
-use Rattle.std.specs.Prelude.{ℕ, ◌+◌, ◌%◌, ◌==◌, nat_lt, Bool, false, if◌then◌else◌, List, [], ◌∷◌, codes, length, map, reverse, take}
-use Rattle.std.specs.List.{range_with_len}
+use Rattle.std.specs.Prelude.{ℕ, ◌+◌, ◌%◌, ◌==◌, ◌||◌, nat_eq, nat_lt, Bool, false, if◌then◌else◌, List, [], ◌∷◌, ◌++◌, codes, flat_map, length, map, reverse, take}
+use Rattle.std.specs.List.{ends_with, list_any, range_with_len, starts_with}
 use Rattle.hex.specs.Hex.{encode_lower}
 use Rattle.sha1.specs.Sha1.{sha1}
 use Rattle.table_schema.specs.declared.table.TableId.{TableId}
 use Rattle.table_schema.specs.declared.table.TableId.TheVariants as table
 use Rattle.metadata.specs.Cell.{Cell, number_in, text_in, bytes_in}
 use Rattle.metadata.specs.Metadata.{Metadata, cell_in, count_in}
+use Rattle.cli_faults.specs.Escaped.{escaped_byte}
 use Rattle.cli_lines.specs.declared.names.Name.{Name}
 use Rattle.cli_lines.specs.declared.names.Name.TheVariants as name
 use Rattle.cli_lines.specs.Lines.{Part, word, field, member, note, number, plain, text}
-use Rattle.cli_info.specs.DisplayNames.{display_name}
 use Rattle.cli_info.specs.declared.identities.Kind.{Kind}
 use Rattle.cli_info.specs.declared.identities.Kind.TheVariants.{Assembly, Reference}
 
@@ -53,6 +53,26 @@ token_text kind flags key =
 abbrev pub culture_text : List ℕ → List ℕ
 culture_text [] = codes "neutral"
 culture_text culture = culture
+
+-- a comma, an equals sign, a quote, an apostrophe or a backslash
+abbrev pub is_separator : ℕ → Bool
+is_separator byte = byte == 44 || byte == 61 || byte == 34 || byte == 39 || byte == 92
+
+-- a backslash is before a separator; any other byte is escaped as in each text
+abbrev pub display_byte : ℕ → List ℕ
+display_byte byte = if is_separator byte then 92 ∷ byte ∷ [] else escaped_byte byte
+
+abbrev pub display_bytes : List ℕ → List ℕ
+display_bytes name = flat_map display_byte name
+
+-- it begins or ends with a space, or contains a quote or an apostrophe
+abbrev pub needs_quotes : List ℕ → Bool
+needs_quotes name =
+    starts_with nat_eq name (codes " ") || ends_with nat_eq name (codes " ") || list_any (λ byte. byte == 34) name || list_any (λ byte. byte == 39) name
+
+-- a name or a culture in an identity, escaped as the display names of .NET
+unfoldable pub display_name : List ℕ → List ℕ
+display_name name = if needs_quotes name then codes "\"" ++ display_bytes name ++ codes "\"" else display_bytes name
 
 -- a name or a culture in a line of text; in JSON it is as it is
 abbrev pub shown_part : List ℕ → Part

@@ -1,22 +1,22 @@
 //! Prints the attributes of the assembly whose arguments are all strings (II.22.10 and II.23.3).
-ghost use Rattle.std.specs.Prelude.{◌≡◌, ◌≤◌, ◌<◌, ◌∷◌, [], IsTrue};
+ghost use Rattle.std.specs.Prelude.{◌≡◌, ◌≤◌, ◌<◌, ◌∷◌, [], IsTrue, option_map};
 ghost use Rattle.table_schema.specs.declared.table.TableId.TheVariants.{CustomAttribute};
 ghost use Rattle.table_schema.specs.CellColumns.{cell_count};
+ghost use Rattle.attribute_values.specs.Steps.{value_items};
 ghost use Rattle.attribute_values.specs.Views.{head_view, view};
 ghost use Rattle.metadata.specs.Metadata.{Metadata};
 ghost use Rattle.metadata.specs.Model.{IsModel};
 ghost use Rattle.opening.specs.Views.{row_count};
 ghost use Rattle.cli_print.specs.TypeLines.{dot_after};
 ghost use Rattle.cli_lines.specs.Printed.{Adds, Prints};
-ghost use Rattle.cli_info.specs.Attributes.{argument_parts, attribute_lines, attributes_lines, first_parts, has_types, is_assembly, is_own, item_parts, items_parts, lines_of_type, more_lines};
-ghost use Rattle.cli_info.specs.Texts.{string_in};
+ghost use Rattle.cli_lines.specs.Shown.{shown_value};
+ghost use Rattle.cli_info.specs.Attributes.{are_texts, argument_parts, attribute_lines, attributes_lines, first_parts, has_types, is_assembly, is_own, is_text, item_parts, items_parts, lines_of_type, more_lines, string_in, texts_in};
 
-use crate::texts::{string_in, texts_in};
 use attribute_constructors::{constructor, params_of, type_of};
-use attribute_values::{Argument, Item, Items};
+use attribute_values::{Argument, ArgumentType, Item, Items, Scalar, Value as Given};
 use cli_lines::Part::{Field, Member, Note, Word};
-use cli_lines::Value::{Number, Plain, Text};
-use cli_lines::{Name, Printer};
+use cli_lines::Value::{Null, Number, Plain, Quoted, Text};
+use cli_lines::{Name, Printer, Value};
 use cli_print::{NAME, NAMESPACE};
 use navigation::{Neighbours, cells};
 use opening::{TableId, Token, View, bytes_or_empty, text_or_empty};
@@ -33,6 +33,57 @@ const ASSEMBLY: u8 = 0x20;
 
 /// The largest number of attributes of the assembly that are read. Many rows can share a constructor and a value that take long.
 const ATTRIBUTE_LIMIT: u32 = 256;
+
+/// The largest value that is printed, in bytes.
+const VALUE_LIMIT: usize = 1024;
+
+/// An argument that is a string, in quotes, or `null`.
+fn string_in(argument: Argument<'_>) -> Option<Value<'_>>
+    ensures { option_map shown_value result ≡ string_in (head_view argument.entry) }
+{
+    match argument {
+        Argument::One(Given::Plain(Scalar::String(Some(text)))) => Some(Quoted(text)),
+        Argument::One(Given::Plain(Scalar::String(None))) => Some(Null),
+        _ => None,
+    }
+}
+
+/// Whether an item has no argument but a string.
+fn is_text(item: Item<'_>) -> bool
+    ensures { result ≡ is_text (view item.entry) }
+{
+    match item {
+        Item::Fixed(argument) | Item::Named(_, _, argument) => string_in(argument).is_some(),
+        Item::Element(_) => false,
+        Item::NamedCount(_) => true,
+    }
+}
+
+/// Whether a blob is a value whose arguments are all strings.
+fn are_texts(blob: &[u8], params: &[ArgumentType]) -> bool
+    ensures { result ≡ are_texts (value_items params.now blob.now) }
+{
+    let Some(items) = Items::of(blob, params) else {
+        return false;
+    };
+    for item in items {
+        if !is_text(item) {
+            return false;
+        }
+    }
+    true
+}
+
+/// The items of a value for a constructor with these parameters, at least one, if all arguments are strings. `None` of a
+/// longer value too.
+fn texts_in<'a, 'p>(value: &'a [u8], params: &'p [ArgumentType]) -> Option<Items<'a, 'p>>
+    ensures { result ≡ texts_in params.now value.now }
+{
+    if params.is_empty() || value.len() > VALUE_LIMIT || !are_texts(value, params) {
+        return None;
+    }
+    Items::of(value, params)
+}
 
 /// Adds an argument, if it is a string, after what is before it.
 fn print_argument<W: Write>(before: &str, argument: Argument<'_>, out: &mut Printer<'_, W>)

@@ -1,19 +1,21 @@
 //! Prints the identities of assemblies, as .NET prints them (II.22.2 and II.22.5).
-ghost use Rattle.std.specs.Prelude.{◌≡◌, ◌≤◌, ◌∷◌, [], IfOk, string_bytes};
-ghost use Rattle.cli_info.specs.Identities.{culture_text, identity_line, identity_lines, table_of, token_text};
+ghost use Rattle.std.specs.Prelude.{◌≡◌, ◌≤◌, ◌∷◌, [], IfOk, Some, string_bytes};
+ghost use Rattle.std.specs.Fmt.{WritesOnOk};
+ghost use Rattle.cli_info.specs.Identities.{culture_text, display_byte, display_bytes, display_name, identity_line, identity_lines, needs_quotes, table_of, token_text};
 ghost use Rattle.cli_lines.specs.Printed.{Prints};
 ghost use Rattle.metadata.specs.Metadata.{Metadata};
 ghost use Rattle.metadata.specs.Model.{IsModel};
 ghost use Rattle.opening.specs.Views.{row_count};
 ghost use Rattle.sha1.specs.Sha1.{sha1};
 
-use crate::display_names::display_name;
+use cli_faults::EscapedBytes;
 use cli_lines::Part::{Field, Member, Note, Word};
 use cli_lines::Value::{Number, Plain, Text};
 use cli_lines::{Name, Printer};
 use opening::{TableId, View, bytes_or_empty, number_or_zero, text_or_empty};
 use sha1::Sha1;
 use std::alloc::{AllocError, Global};
+use std::fmt;
 use std::io::Write;
 use std::marker::Model;
 
@@ -149,6 +151,65 @@ fn culture_text(culture: &str) -> &str
     }
 }
 
+/// A name or a culture in an identity. A backslash is before each comma, equals sign, quote, apostrophe and backslash, so no
+/// name can look like the rest of the identity. Any other byte is escaped as in each text that is printed. Quotes are around a
+/// name that begins or ends with a space, or contains a quote or an apostrophe.
+#[derive(Clone, Copy)]
+struct DisplayName<'a>(&'a str);
+
+impl fmt::Display for DisplayName<'_> {
+    ghost output = { λ name. Some (display_name name.0.now) };
+
+    #[tactic(auto, unfolding(crate::specs::Identities::display_name))]
+    fn fmt<W: fmt::Write>(&self, f: &mut fmt::Formatter<W>) -> fmt::Result {
+        let name = self.0.as_bytes();
+        if !needs_quotes(name) {
+            return write_bytes(name, f);
+        }
+        f.write_str("\"")?;
+        write_bytes(name, f)?;
+        f.write_str("\"")
+    }
+}
+
+/// The text of a name in an identity.
+fn display_name(alloc: Global, name: &str) -> Result<String, AllocError>
+    ensures { IfOk result (λ text. string_bytes text ≡ display_name name.now) }
+{
+    format!(in alloc; "{}", DisplayName(name))
+}
+
+/// Whether quotes are around a name.
+fn needs_quotes(name: &[u8]) -> bool
+    ensures { result ≡ needs_quotes name.now }
+{
+    name.starts_with(b" ") || name.ends_with(b" ") || name.contains(&b'"') || name.contains(&b'\'')
+}
+
+/// Writes the bytes of a name, each escaped if needed.
+fn write_bytes<W: fmt::Write>(name: &[u8], f: &mut fmt::Formatter<W>) -> fmt::Result
+    ensures { WritesOnOk W.write_str_gives f.old result (display_bytes name.now) f.new }
+{
+    for byte in name {
+        write_byte(*byte, f)?;
+    }
+    Ok(())
+}
+
+/// Writes a byte of a name, escaped if needed.
+fn write_byte<W: fmt::Write>(byte: u8, f: &mut fmt::Formatter<W>) -> fmt::Result
+    ensures { WritesOnOk W.write_str_gives f.old result (display_byte byte) f.new }
+{
+    match byte {
+        b',' => f.write_str("\\,"),
+        b'=' => f.write_str("\\="),
+        b'"' => f.write_str("\\\""),
+        b'\'' => f.write_str("\\'"),
+        b'\\' => f.write_str("\\\\"),
+        _ => write!(f, "{}", EscapedBytes(&[byte])),
+    }
+}
+
 /// Prints the identity in a row.
 #[tactic(auto, unfolding(crate::specs::Identities::identity_line))]
 fn print_identity<W: Write>(
@@ -209,11 +270,9 @@ pub(crate) fn print_identities<W: Write>(
     ensures { (model : Metadata) → IsModel view.now model → Prints out.old out.new (identity_lines kind model) }
 {
     cli_lines::laws::lines_follow::<W>();
-    cli_lines::laws::rows_follow::<W>();
     let (table, _, _, _) = kind.shape();
     let mut last = LastKey::new(alloc);
-    let count = view.count(table);
-    for earlier in 0..count {
+    for earlier in 0..view.count(table) {
         print_identity(alloc, view, kind, earlier + 1, &mut last, out);
     }
 }

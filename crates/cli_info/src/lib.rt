@@ -13,7 +13,7 @@
 //!
 //! The managed resources of a file (ECMA-335 II.22.24): where each is, one per line, and the content of one.
 //!
-//! `specs/ResourceLines.antt` defines the lines as a function of the model and of where each resource is, which
+//! `specs/Resources.antt` defines the lines as a function of the model and of where each resource is, which
 //! `specs/Resources.antt` of crate `file_ranges` defines. They go to a [`cli_lines::Printer`].
 //!
 //! ```text
@@ -24,17 +24,9 @@
 #![tactic(auto)]
 
 mod attributes;
-mod content;
-mod display_names;
-mod headers;
 mod identities;
 mod info;
-mod lines;
-mod opened;
-mod report;
-mod texts;
+mod resources;
 
-pub use content::resource_named;
-pub use info::print_info;
-pub use opened::Unfound;
-pub use report::print_resources;
+pub use info::{open_facts, print_info};
+pub use resources::{print_resources, resource_named};

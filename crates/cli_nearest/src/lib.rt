@@ -13,7 +13,6 @@
 mod missing_row;
 mod nearest;
 mod nearest_type;
-mod several_types;
 
 pub use missing_row::report_missing_row;
 pub use nearest::{nearest_code, nearest_column, nearest_command, nearest_table};

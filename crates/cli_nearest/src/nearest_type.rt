@@ -1,21 +1,22 @@
-//! The type whose name is nearest to one that no type has.
+//! The type whose name is nearest to one that no type has, and the types that share a name.
 ghost use Rattle.std.specs.Prelude.{◌≤◌, ◌<◌};
 ghost use Rattle.table_schema.specs.CellColumns.{cell_count};
 ghost use Rattle.opening.specs.Views.{HasModel, row_count};
 
 use crate::nearest::{LONGEST_NAME, edits_below, is_far, limit_of};
-use crate::several_types::several_types;
+use cli_declarations::{Declared, name_row};
 use cli_faults::{Escaped, Stop};
 use cli_files::{Input, open};
 use cli_names::names_of_type;
 use cli_sending::send_message;
-use opening::{ReadCells, TableId, View, text_or_empty};
-use std::alloc::Global;
+use navigation::Neighbours;
+use opening::{ReadCells, ReadMetadata, TableId, Token, View, text_or_empty};
+use std::alloc::{AllocError, Global};
 use std::fmt;
 use std::io::Write;
 
 /// The indexes of the cells with the name and the namespace of a type (II.22.37).
-pub(crate) const NAME: usize = 1;
+const NAME: usize = 1;
 
 const NAMESPACE: usize = 2;
 
@@ -172,6 +173,63 @@ fn wanted_names<'a>(path: &'a str) -> TypeName<'a> {
     let (_, own) = path.rsplit_once('/').unwrap_or(("", path));
     let (namespace, name) = names_of_type(own);
     TypeName { namespace, name }
+}
+
+/// The number of types that are listed.
+const LISTED: usize = 20;
+
+/// Types that have one name. `Display` gives the lines for standard error.
+#[derive(Drop)]
+struct SeveralTypes<'a> {
+    /// The name.
+    name: &'a str,
+    /// The full names of the first ones.
+    listed: Vec<Declared>,
+    /// The number of the others.
+    others: u32,
+}
+
+impl fmt::Display for SeveralTypes<'_> {
+    fn fmt<W: fmt::Write>(&self, f: &mut fmt::Formatter<W>) -> fmt::Result {
+        write!(f, "several types have the name '{}'\n", Escaped(self.name))?;
+        for name in &self.listed {
+            write!(f, "  {}\n", name.text)?;
+        }
+        match self.others {
+            0 => Ok(()),
+            others => write!(f, "  and {others} more\n"),
+        }
+    }
+}
+
+/// The types that have a name, whatever encloses them, if there are several.
+#[tactic(auto, unfolding(table_schema::specs::CellColumns::cell_columns))]
+fn several_types<'a>(
+    alloc: Global,
+    view: &View<'_>,
+    name: &'a str,
+) -> Result<Option<SeveralTypes<'a>>, AllocError> {
+    let source = Neighbours::new(alloc, view)?;
+    let mut types = SeveralTypes {
+        name,
+        listed: Vec::new(alloc),
+        others: 0,
+    };
+    for earlier in 0..view.count(TableId::TypeDef) {
+        let row = earlier + 1;
+        if !view.is_text(TableId::TypeDef, row, NAME, name) {
+            continue;
+        }
+        if types.listed.len() == LISTED {
+            types.others = types.others.saturating_add(1);
+            continue;
+        }
+        let mut full_name = Declared::new(alloc);
+        let table = TableId::TypeDef;
+        name_row(&source, Token { table, row }, &mut full_name)?;
+        types.listed.push(full_name)?;
+    }
+    Ok((types.listed.len() > 1).then_some(types))
 }
 
 /// Reports that no type has this path, or that there is no such row if none was given. If several types of the assembly have

@@ -1,4 +1,3 @@
 pub mod Prelude
-pub mod Printings
 pub mod Reporting
 pub mod Running

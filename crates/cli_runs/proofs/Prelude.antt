@@ -18,7 +18,7 @@ pub use Rattle.cli_lines.specs.Printed.{Printed, Prints, Asked}
 pub use Rattle.cli_outline.specs.declared.source.OutlineOptions.{OutlineOptions}
 pub use Rattle.cli_regions.specs.Kept.{seen}
 pub use Rattle.cli_runs.specs.Printing.{HasPrinted, UnlessFailed}
-pub use Rattle.cli_runs.specs.Reports.{AreDeclared, AreSomeDeclared, IsListed, OfModel, AreNamed, HasEnded, IsFaultOut, IsPrinted, IsStopped, everything, lead_of, style_of}
+pub use Rattle.cli_runs.specs.Reports.{AreDeclared, AreSomeDeclared, IsListed, OfModel, AreNamed, HasEnded, IsFaultOut, IsPrinted, IsStopped, entered, everything, lead_of, style_of}
 pub use Rattle.cli_runs.specs.Runs.{AreCut, AreSent, IsReported, AreRun, AreRunAll, AreVisited, EndsAs, IsCutAmong, IsCutIn, IsNext, IsRun, is_input, IsCutAt}
 pub use Rattle.cli_runs.specs.declared.report.Listing.{Listing}
 pub use Rattle.cli_runs.specs.declared.report.Request.{Request}

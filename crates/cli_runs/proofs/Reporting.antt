@@ -1,12 +1,15 @@
 -- What a printer was asked to print of a report, and what went out of it.
-use Rattle.cli_runs.proofs.Prelude.{◌≡◌, ◌≢◌, ℕ, List, [], ◌∷◌, ◌++◌, Option, None, Some, Result, Ok, Err, append-nil, refl, sym, subst, inl, inr, IfErr, IsSome, OnOk, Fault, Token, Metadata, IsOutput, Failure, Input, BareRoot, File, Part, Style, styled_text, Asked, Printed, Prints, Sent, OutlineOptions, HasPrinted, UnlessFailed, AreDeclared, AreNamed, AreSomeDeclared, HasEnded, IsFaultOut, IsListed, IsPrinted, IsStopped, OfModel, everything, lead_of, style_of, AreCut, AreSent, IsReported, Listing, Request}
+use Rattle.cli_runs.proofs.Prelude.{◌≡◌, ◌≢◌, ℕ, List, [], ◌∷◌, ◌++◌, Option, None, Some, Result, Ok, Err, append-nil, refl, sym, subst, inl, inr, IfErr, IsSome, OnOk, Fault, Token, Metadata, IsOutput, Failure, Input, BareRoot, File, Part, Style, styled_text, Asked, Printed, Prints, Sent, OutlineOptions, HasPrinted, UnlessFailed, AreDeclared, AreNamed, AreSomeDeclared, HasEnded, entered, IsFaultOut, IsListed, IsPrinted, IsStopped, OfModel, everything, lead_of, style_of, AreCut, AreSent, IsReported, Listing, Request}
 use Rattle.cli_runs.specs.declared.report.Job.{Job}
 use Rattle.std.specs.Result.{result_and}
 use Rattle.std.specs.Io.KnownBytes.{Appends}
 use Rattle.cli_faults.specs.declared.stop.Stop.{Stop}
+use Rattle.cli_faults.specs.declared.stop.Stop.TheVariants.{BudgetSpent}
+use Rattle.cli_info.specs.Resources.{IsUnlisted}
+use Rattle.cli_outline.specs.Printed.{PrintsRows, PrintsSome}
 use Rattle.cli_regions.specs.Regions.{Region}
 use Rattle.cli_where.specs.Located.{HasContents, where_lines}
-use Rattle.cli_runs.specs.Entries.{entered}
+use Rattle.cli_runs.specs.Reports.{IsRefused}
 use Rattle.cli_runs.specs.declared.report.Ended.{Ended}
 use Rattle.cli_runs.specs.declared.report.Ended.TheVariants as ended
 use Rattle.cli_runs.specs.declared.report.Listing.TheVariants as listing
@@ -14,6 +17,25 @@ use Rattle.cli_runs.specs.declared.report.Report.{Report}
 use Rattle.cli_runs.specs.declared.report.Report.TheVariants as report
 use Rattle.cli_runs.specs.declared.report.Verdict.{Verdict}
 use Rattle.cli_runs.specs.declared.report.Verdict.TheVariants as verdict
+
+-- ---- what each report handed to a printer
+
+-- why a report on resources is refused
+pub resources_refused : (request : Request) (bytes : List ℕ) (why : Stop) → IsUnlisted bytes why → IsRefused request bytes report.Resources why
+resources_refused request bytes BudgetSpent is = absurd is
+resources_refused request bytes _ is = is
+
+-- the rows of an outline were handed to a printer
+pub declared : {W : Type 0} (options : OutlineOptions) (old new : Printed W) (model : Metadata) (rows : List Token) → PrintsRows options model old new rows → AreDeclared (Prints old new) (UnlessFailed new) options model rows
+declared options old new model rows out = (out.first, out.later, out.whole, out.lines, out.are, out.printed, out.all)
+
+-- some of these were, or printing failed
+pub some_declared : {W : Type 0} (options : OutlineOptions) (old new : Printed W) (model : Metadata) (Are : List Token → Type 0) → PrintsSome options model Are old new
+    → AreSomeDeclared (Prints old new) (UnlessFailed new) options model Are
+some_declared options old new model Are (inl out) = inl (out.0, out.1, declared options old new model _ out.2)
+some_declared options old new model Are (inr out) = inr (out.1, (λ live. let none = rw out.0 at live in cc))
+
+-- ---- what went out of a report, if each of its lines does
 
 -- what follows from what is true of the lines of structures and of contents
 pub where_weaker : (P Q : List (List Part) → Type 0) → ((lines : List (List Part)) → P lines → Q lines) → (structures : List Region) (input : Input) (bytes : List ℕ) (offset : ℕ)
@@ -23,8 +45,6 @@ where_weaker P Q weaker [] File bytes offset has = weaker _ has
 where_weaker P Q weaker [] BareRoot bytes offset has = weaker _ has
 where_weaker P Q weaker (of ∷ later) File bytes offset has = λ header model file. let is = has header model file in (is.0, is.1, weaker _ is.2)
 where_weaker P Q weaker (of ∷ later) BareRoot bytes offset has = λ model is. weaker _ (has model is)
-
--- ---- what went out of a report, if each of its lines does
 
 module _ (P Q : List (List Part) → Type 0) (L M : Type 0 → Type 0) (weaker : (lines : List (List Part)) → P lines → Q lines) (keeps : (all : Type 0) → L all → M all) where
   declared_weaker : (options : OutlineOptions) (model : Metadata) (rows : List Token) → AreDeclared P L options model rows → AreDeclared Q M options model rows

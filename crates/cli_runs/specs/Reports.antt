@@ -1,5 +1,5 @@
 -- What each report prints of the bytes of a file, and when it prints nothing.
-use Rattle.std.specs.Prelude.{◌≡◌, ◌≢◌, ◌⊎◌, ℕ, Bool, true, false, List, [], ◌∷◌, ◌++◌, flat_map, map, Option, None, Some}
+use Rattle.std.specs.Prelude.{◌≡◌, ◌≢◌, ◌⊎◌, ℕ, Bool, true, false, List, [], ◌∷◌, ◌++◌, flat_map, map, MatchOption, Option, None, Some}
 use Rattle.std.specs.List.{All}
 use Rattle.hex.specs.Hex.{encode_lower}
 use Rattle.sha2.specs.Sha256.{sha256}
@@ -10,19 +10,17 @@ use Rattle.packed.specs.Rule.{FirstBroken}
 use Rattle.table_schema.specs.declared.table.TableId.{TableId}
 use Rattle.table_schema.specs.declared.token.Token.{Token}
 use Rattle.table_schema.specs.Tables.{tables}
+use Rattle.table_schema.specs.Tokens.{IsToken}
 use Rattle.cli_header.specs.declared.header.CliHeader.{CliHeader}
 use Rattle.root.specs.Streams.{RootRead}
 use Rattle.metadata.specs.Metadata.{Metadata}
-use Rattle.metadata.specs.Model.{IsModelOfFile}
-use Rattle.metadata.specs.Rules.{rules_of_file}
+use Rattle.metadata.specs.Model.{IsModelOfFile, has_native_entry_point}
 use Rattle.file_ranges.specs.Resources.{Where}
-use Rattle.cli_info.specs.ResourceLines.{AreLocations, resource_lines}
-use Rattle.cli_info.specs.Unfound.{AreAllLocated, IsUnlisted}
-use Rattle.cli_info.specs.declared.opened.Unfound.{Unfound}
-use Rattle.cli_info.specs.declared.opened.Unfound.TheVariants as unfound
+use Rattle.cli_info.specs.Resources.{AreLocations, resource_lines}
+use Rattle.cli_info.specs.Resources.{AreAllLocated, IsUnlisted}
 use Rattle.cli_faults.specs.declared.failure.Failure.TheVariants.{Fault, NoSuchRow, OutOfMemory}
 use Rattle.cli_faults.specs.declared.stop.Stop.{Stop}
-use Rattle.cli_faults.specs.declared.stop.Stop.TheVariants.{Broken, BudgetSpent, Failed, NoSuchResource, NoSuchType, NothingAt, ResourceElsewhere, ResourceOutside}
+use Rattle.cli_faults.specs.declared.stop.Stop.TheVariants.{Broken, BudgetSpent, Failed, NoSuchType, NothingAt}
 use Rattle.cli_lines.specs.declared.parts.Form.{Form}
 use Rattle.cli_lines.specs.declared.parts.Form.TheVariants.{Text}
 use Rattle.cli_lines.specs.Lines.{Part, Style, style}
@@ -63,7 +61,6 @@ use Rattle.cli_where.specs.declared.report.Found.TheVariants.{Nothing, Something
 use Rattle.cli_where.specs.declared.walk.Reach.TheVariants.{Cells, Entries}
 use Rattle.cli_roots.specs.Budget.{IsSpent}
 use Rattle.cli_roots.specs.Rewritten.{IsRewritten, ReportsUnwritten}
-use Rattle.cli_runs.specs.Entries.{OfEntered, entered}
 use Rattle.cli_runs.specs.declared.report.Ended.{Ended}
 use Rattle.cli_runs.specs.declared.report.Ended.TheVariants.{Printed, Refused, Stopped}
 use Rattle.cli_runs.specs.declared.report.Listing.{Listing}
@@ -75,13 +72,6 @@ use Rattle.cli_runs.specs.declared.report.Report.TheVariants as report
 use Rattle.cli_runs.specs.declared.report.Request.{Request}
 use Rattle.cli_runs.specs.declared.report.Verdict.{Verdict}
 use Rattle.cli_runs.specs.declared.report.Verdict.TheVariants.{Explained, Line, Quiet}
-
--- why a run stopped that found no resource
-abbrev pub stop_of : Unfound → Stop
-stop_of (unfound.Fault found) = Failed (Fault found)
-stop_of unfound.NoSuchResource = NoSuchResource
-stop_of (unfound.Elsewhere row) = ResourceElsewhere row
-stop_of (unfound.Outside row) = ResourceOutside row
 
 -- the tables of `show`: one, or all
 abbrev pub tables_of : Option TableId → List TableId
@@ -125,6 +115,26 @@ AreSaid input bytes structures found lines =
 abbrev pub OfModel : Input → List ℕ → (Metadata → Type 0) → Type 0
 OfModel input bytes P = IsWhole input bytes × ((model : Metadata) → IsModelOf input bytes model → P model)
 
+-- the token with this number; a native entry point has none (II.25.3.3.1)
+abbrev pub IsEntry : Bool → ℕ → Option Token → Type 0
+IsEntry true number entry = entry ≡ None
+IsEntry false number entry = MatchOption entry ((token : Token) → ¬ IsToken number token) (IsToken number)
+
+-- the entry point that a CLI header names (II.25.3.3.2); a bare root has no CLI header
+abbrev pub IsEntryOf : Option CliHeader → Option Token → Type 0
+IsEntryOf None entry = entry ≡ None
+IsEntryOf (Some header) entry = IsEntry (has_native_entry_point header) header.entry_point_token entry
+
+-- options of an outline in which the entry point is marked
+abbrev pub entered : OutlineOptions → Option Token → OutlineOptions
+entered options entry = record options { entry = entry }
+
+-- the bytes have a model, and this is true of it and of the entry point
+abbrev pub OfEntered : Input → List ℕ → (Option Token → Metadata → Type 0) → Type 0
+OfEntered input bytes P =
+    IsWhole input bytes
+    × ((header : Option CliHeader) (model : Metadata) → AreFacts input bytes header model → (entry : Option Token) × IsEntryOf header entry × P entry model)
+
 -- why nothing of a report is printed
 abbrev pub IsRefused : Request → List ℕ → Report → Stop → Type 0
 IsRefused request bytes of BudgetSpent = IsSpent request.budget request.input bytes
@@ -138,8 +148,7 @@ IsRefused request bytes (report.RefsOf subject) NoSuchType = OfModel request.inp
 IsRefused request bytes (report.RefsOf subject) (Failed OutOfMemory) = IsWhole request.input bytes
 IsRefused request bytes (report.Check Explained) (Failed OutOfMemory) = Unit {0}
 IsRefused request bytes report.Strings (Failed OutOfMemory) = Unit {0}
-IsRefused request bytes report.Resources (Failed (Fault found)) = FirstBroken (rules_of_file bytes) found
-IsRefused request bytes report.Resources (ResourceOutside of) = IsUnlisted bytes (unfound.Outside of)
+IsRefused request bytes report.Resources stop = IsUnlisted bytes stop
 IsRefused request bytes (report.Where offset) (Failed failure) = failure ≡ OutOfMemory
 IsRefused request bytes (report.Tokens numbers) (Failed OutOfMemory) = IsWhole request.input bytes
 IsRefused request bytes report.Digest (Failed failure) = ReportsUnwritten request.input bytes failure

@@ -1,5 +1,5 @@
 -- What a run prints of the bytes of one file, and of several files.
-use Rattle.std.specs.Prelude.{◌≡◌, ◌≤◌, ℕ, ◌-◌, ◌==◌, ◌⊎◌, ◌&&◌, ◌||◌, Bool, true, false, List, [], ◌∷◌, codes, drop, length, take, max, if◌then◌else◌, Option, Result, Ok, Err, IfErr, MatchResult}
+use Rattle.std.specs.Prelude.{◌≡◌, ◌≤◌, ℕ, ◌-◌, ◌==◌, ◌⊎◌, ◌&&◌, ◌||◌, Bool, true, false, List, [], ◌∷◌, codes, drop, length, take, max, if◌then◌else◌, Option, Result, Ok, Err, IfErr, MatchResult, OnOk}
 use Rattle.std.specs.Io.KnownBytes.{Appends}
 use Rattle.std.specs.List.{slice_split}
 use Rattle.std.specs.Str.{bytes_eq}
@@ -7,7 +7,13 @@ use Rattle.packed.specs.declared.code.FaultCode.{FaultCode}
 use Rattle.cli_faults.specs.Status.{IsOutput, status_of}
 use Rattle.cli_faults.specs.Stops.{status_of_stop}
 use Rattle.cli_faults.specs.declared.failure.Failure.{Failure}
+use Rattle.cli_faults.specs.declared.stop.Stop.{Stop}
+use Rattle.cli_faults.specs.declared.stop.Stop.TheVariants.{Failed}
+use Rattle.cli_files.specs.Hints.{hint_for}
 use Rattle.cli_files.specs.Read.{IsRefused}
+use Rattle.cli_files.specs.Stopped.{Outcome}
+use Rattle.cli_files.specs.declared.opened.Input.TheVariants.{File}
+use Rattle.cli_info.specs.Resources.{IsContentOf, IsUnfound}
 use Rattle.cli_lines.specs.declared.parts.Form.{Form}
 use Rattle.cli_lines.specs.Lines.{Part, report_text, styled_text}
 use Rattle.cli_sending.specs.Sent.{SendsPrefix, Sent}
@@ -53,6 +59,20 @@ abbrev pub IsExplained : Form → List FaultCode → Option (List ℕ) → Optio
 IsExplained form rules before after result =
     ((lines : List (List Part)) × AreExplanations rules lines × Sent before after result (report_text form lines))
     × IfErr result IsOutput
+
+module _ {W : Type 0} (contents : W → Option (List ℕ)) (before after : W) (bytes name : List ℕ) where
+  -- there is no such content, and nothing is written; or the output failed after a prefix of it
+  abbrev pub IsUnextracted : Stop → Type 0
+  IsUnextracted stop =
+      (IsUnfound bytes name stop × (after ≡ before))
+      ⊎ ((failure : Failure) × (content : List ℕ) × (stop ≡ Failed failure) × IsOutput failure × IsContentOf bytes name content
+      × SendsPrefix (contents before) (contents after) content)
+
+  -- the content of the first resource with this name was written (ECMA-335 II.22.24); or it stopped, with a hint if there is one
+  pub record IsExtracting (outcome : Outcome) : Type 0 where
+    pub done : OnOk outcome ((content : List ℕ) × IsContentOf bytes name content × Appends (contents before) (contents after) content)
+    pub stopped : IfErr outcome (λ stopped. IsUnextracted stopped.stop)
+    pub hint : IfErr outcome (λ stopped. stopped.hint ≡ hint_for File bytes stopped.stop)
 
 module _ (request : Request) {W : Type 0} (contents : W → Option (List ℕ)) where
   -- these lines of a report on the file with this name went out

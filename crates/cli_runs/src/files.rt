@@ -1,17 +1,25 @@
-//! Reads files and reports on each.
+//! Reads files and reports on each, or writes the content of a resource of one.
 ghost use Rattle.std.specs.Prelude.{◌≡◌, ◌≤◌, ◌⊎◌, ◌&&◌, IfOk, IsTrue, false, map};
 ghost use Rattle.cli_faults.specs.Status.{status_of};
 ghost use Rattle.cli_faults.specs.Stops.{status_of_stop};
-ghost use Rattle.cli_runs.specs.Runs.{AreRun, EndsAs, IsCutAt, IsCutIn, IsNext, IsRun, IsRunOn, is_input};
+ghost use Rattle.cli_files.specs.declared.opened.Input.TheVariants.{File};
+ghost use Rattle.cli_roots.specs.Runs.{IsFileRun, IsWithin};
+ghost use Rattle.cli_runs.specs.Runs.{AreRun, EndsAs, IsCutAt, IsCutIn, IsExtracting, IsNext, IsRun, IsRunOn, is_input};
 ghost use Rattle.cli_runs.specs.declared.report.Directories.TheVariants.{Walked};
 
 use crate::printed::report_on;
 use crate::report::{Directories, Ended, Naming, Report, Request};
 use crate::tree::{report_others, run_tree};
 use cli_faults::{Failure, Stop};
-use cli_files::{STANDARD_INPUT, Stopped, Unread, out_of_memory, read_into, refuse, status};
+use cli_files::{
+    Input as Given, STANDARD_INPUT, Stopped, Unread, out_of_memory, read_file, read_into, refuse,
+    status,
+};
+use cli_info::resource_named;
 use cli_nearest::{Types, report_missing_row, report_missing_type};
 use cli_outline::Subject;
+use cli_roots::is_spent;
+use cli_sending::finish;
 use std::alloc::{AllocError, Global};
 use std::fs;
 use std::io::Write;
@@ -232,4 +240,37 @@ pub(crate) fn report_unread<E: Write>(
         hint: None,
     };
     status(alloc, Err(stopped), err)
+}
+
+/// Writes the content of the first resource with this name in a PE file, as it is there.
+///
+/// # Errors
+///
+/// The file cannot be read or breaks a rule, or has no such resource; the budget is spent; out of memory; or the output cannot
+/// be written.
+pub fn extract_file<'a, R: Files + Input + AllocGlobal, W: Write>(
+    rt: &R,
+    file: &'a str,
+    name: &str,
+    budget: Option<u64>,
+    out: &mut W,
+) -> Result<(), Stopped<'a>>
+    ensures { IsFileRun out.old out.new file.now
+        (λ bytes. IsWithin out.old out.new budget File bytes (IsExtracting W.contents out.old out.new bytes name.now)) result }
+{
+    let bytes = read_file(rt, file)?;
+    let bytes = bytes.as_slice();
+    if is_spent(bytes, Given::File, budget) {
+        return Err(Stopped::from(Stop::BudgetSpent));
+    }
+    match resource_named(bytes, name) {
+        Ok(content) => match finish(content, out) {
+            Ok(()) => Ok(()),
+            Err(error) => {
+                let stop = Stop::Failed(Failure::of_printing(&error));
+                Err(Stopped::at(stop, None, Given::File, bytes))
+            }
+        },
+        Err(stop) => Err(Stopped::at(stop, None, Given::File, bytes)),
+    }
 }

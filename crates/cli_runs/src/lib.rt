@@ -10,9 +10,6 @@
 //! ```
 #![tactic(auto)]
 
-mod entry;
-mod explain;
-mod extract;
 mod files;
 mod listed;
 mod print_check;
@@ -21,9 +18,7 @@ mod printed;
 mod report;
 mod tree;
 
-pub use explain::explain_rules;
-pub use extract::extract_file;
-pub use files::run_files;
+pub use files::{extract_file, run_files};
 pub use listed::{Separator, run_listed};
-pub use printed::report_on;
+pub use printed::{explain_rules, report_on};
 pub use report::{Directories, Ended, Listing, Naming, Report, Request, Verdict};

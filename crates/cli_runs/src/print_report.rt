@@ -1,19 +1,23 @@
 //! The lines of each report.
-ghost use Rattle.std.specs.Prelude.{◌≡◌};
+ghost use Rattle.std.specs.Prelude.{◌≡◌, IfErr, IfOk, Option};
+ghost use Rattle.cli_header.specs.declared.header.CliHeader.{CliHeader as Header};
+ghost use Rattle.cli_files.specs.Checked.{IsWhole, rules_of};
+ghost use Rattle.cli_info.specs.InfoLines.{AreFacts};
 ghost use Rattle.cli_lines.specs.Printed.{Prints};
 ghost use Rattle.cli_runs.specs.Printing.{HasPrinted, UnlessFailed};
-ghost use Rattle.cli_runs.specs.Reports.{IsListed, tables_of};
+ghost use Rattle.cli_runs.specs.Reports.{IsEntryOf, IsListed, tables_of};
 ghost use Rattle.cli_runs.specs.declared.report.Report.TheVariants as report;
 ghost use Rattle.metadata.specs.Metadata.{Metadata};
 ghost use Rattle.metadata.specs.Model.{IsModel};
+ghost use Rattle.packed.specs.Rule.{FirstBroken};
 
-use crate::entry::open_entered;
 use crate::print_check::print_check;
-use crate::report::{Ended, Job, Listing, Report, stop_of};
+use crate::report::{Ended, Job, Listing, Report};
 use cli_cells::{Names, print_show, print_tokens, print_until_fault};
 use cli_faults::{Failure, Stop};
 use cli_files::open;
-use cli_info::{print_info, print_resources};
+use cli_header::CliHeader;
+use cli_info::{open_facts, print_info, print_resources};
 use cli_lines::Printer;
 use cli_outline::{
     Outcome, OutlineOptions, Rows, Sorting, Subject, Tokens, print_outline, print_outline_of,
@@ -23,7 +27,8 @@ use cli_print::{print_digest, print_root, print_root_until_fault, print_types};
 use cli_roots::canonical_root;
 use cli_where::{Found, print_strings, print_where};
 use comparison::digest;
-use opening::View;
+use opening::{Token, View};
+use packed::Fault;
 use std::alloc::Global;
 use std::io::Write;
 use std::slice;
@@ -58,7 +63,7 @@ pub(crate) fn print_report<'a, W: Write>(job: &Job<'_>, out: &mut Printer<'_, W>
         Report::Strings => print_user_strings(job, out),
         Report::Resources => match print_resources(bytes, out) {
             Ok(()) => Ended::Printed,
-            Err(unfound) => Ended::Refused(stop_of(unfound)),
+            Err(stop) => Ended::Refused(stop),
         },
         Report::Listing(listing) => print_listing(job, *listing, out),
         Report::Check(verdict) => print_check(job, *verdict, out),
@@ -137,8 +142,35 @@ fn print_first_rows<'a, W: Write>(
     }
 }
 
+/// The flag of a native entry point, which is no token (II.25.3.3.1).
+const NATIVE_ENTRY_POINT: u32 = 0x10;
+
+/// The entry point that a CLI header names, unless it is native.
+fn entry_in(header: &Option<CliHeader>) -> Option<Token>
+    ensures { IsEntryOf header.now result }
+{
+    let Some(header) = header else {
+        return None;
+    };
+    if header.flags / NATIVE_ENTRY_POINT % 2 == 1 {
+        return None;
+    }
+    Token::from_u32(header.entry_point_token)
+}
+
+/// Opens the metadata of the bytes, and finds the entry point that their CLI header names.
+fn open_entered<'a>(job: &Job<'a>) -> Result<(Option<Token>, View<'a>), Fault>
+    ensures whole { IfOk result (λ _. IsWhole job.now.request.now.input job.now.bytes.now) }
+    ensures entered { IfOk result (λ opened. (header : Option Header) (model : Metadata) → AreFacts job.now.request.now.input job.now.bytes.now header model
+        → IsEntryOf header opened.0 × IsModel opened.1 model) }
+    ensures first_error { IfErr result (FirstBroken (rules_of job.now.request.now.input job.now.bytes.now)) }
+{
+    let (header, view) = open_facts(job.bytes, job.request.input)?;
+    Ok((entry_in(&header), view))
+}
+
 /// Prints the declarations.
-#[tactic(auto, using(crate::proofs::Printings::model_of_facts, crate::proofs::Printings::some_declared))]
+#[tactic(auto, using(crate::proofs::Reporting::some_declared))]
 fn print_all<'a, W: Write>(
     job: &Job<'_>,
     options: OutlineOptions,
@@ -146,7 +178,7 @@ fn print_all<'a, W: Write>(
 ) -> Ended<'a>
     ensures { HasPrinted job.now out.old out.new (report.Outline options) result }
 {
-    match open_entered(job.bytes, job.request.input) {
+    match open_entered(job) {
         Ok((entry, view)) => {
             print_outline(job.alloc, &view, OutlineOptions { entry, ..options }, out);
             Ended::Printed
@@ -164,7 +196,7 @@ fn print_row<'a, W: Write>(
 ) -> Ended<'a>
     ensures { HasPrinted job.now out.old out.new (report.OutlineOf subject.entry options) result }
 {
-    match open_entered(job.bytes, job.request.input) {
+    match open_entered(job) {
         Ok((entry, view)) => {
             let options = OutlineOptions { entry, ..options };
             match print_outline_of(job.alloc, &view, subject, options, out) {
@@ -178,7 +210,7 @@ fn print_row<'a, W: Write>(
 }
 
 /// Prints what is referred to of one type of other modules.
-#[tactic(auto, using(crate::proofs::Printings::declared))]
+#[tactic(auto, using(crate::proofs::Reporting::declared))]
 fn print_type_refs<'a, W: Write>(
     job: &Job<'_>,
     subject: Subject<'_>,

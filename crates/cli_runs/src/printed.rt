@@ -1,16 +1,18 @@
-//! Prints a report on the bytes of a file.
+//! Prints a report on the bytes of a file, and what rules say.
 ghost use Rattle.std.specs.Prelude.{◌≡◌};
 ghost use Rattle.std.specs.Option.{option_map};
 ghost use Rattle.cli_runs.specs.Reports.{label, lead_of};
-ghost use Rattle.cli_runs.specs.Runs.{IsReported};
+ghost use Rattle.cli_runs.specs.Runs.{IsExplained, IsReported};
 
 use crate::print_check::label_of;
 use crate::print_report::print_report;
 use crate::report::{Ended, Job, Report, Request, Verdict};
 use cli_faults::{Failure, Stop};
-use cli_lines::Printer;
+use cli_lines::{Form, Printer};
+use cli_print::print_explanations;
 use cli_roots::{check_within, is_spent};
 use opening::BoundedError;
+use packed::FaultCode;
 use std::alloc::Global;
 use std::io::Write;
 
@@ -81,4 +83,24 @@ fn send_report<'a, W: Write>(job: &Job<'_>, out: &mut W) -> Result<Ended<'a>, Fa
             sent.and(Ok(ended))
         }
     }
+}
+
+/// Explains rules, or lists all if there is none.
+///
+/// # Errors
+///
+/// The output could not be written, or memory ran out.
+pub fn explain_rules<'a, W: Write>(
+    alloc: Global,
+    rules: &[FaultCode],
+    form: Form,
+    out: &mut W,
+) -> Result<(), Failure<'a>>
+    ensures { IsExplained form rules.now (W.contents out.old) (W.contents out.new) result }
+{
+    let mut printer = Printer::new(alloc, form, out);
+    print_explanations(rules, &mut printer);
+    let (writer, sent) = printer.finish();
+    let _ = writer;
+    sent
 }

@@ -1,11 +1,7 @@
 //! What to print of a file, and how printing it ends.
-ghost use Rattle.std.specs.Prelude.{◌≡◌};
-ghost use Rattle.cli_runs.specs.Reports.{stop_of};
-
 use cli_cells::Names;
-use cli_faults::{Failure, Stop};
+use cli_faults::Stop;
 use cli_files::Input;
-use cli_info::Unfound;
 use cli_lines::Form;
 use cli_outline::{OutlineOptions, Subject};
 use std::alloc::Global;
@@ -119,16 +115,4 @@ pub enum Ended<'a> {
     Stopped(Stop<'a>),
     /// It stopped before a line was printed.
     Refused(Stop<'a>),
-}
-
-/// Why a run stopped that found no resource.
-pub(crate) fn stop_of<'a>(unfound: Unfound) -> Stop<'a>
-    ensures { result ≡ stop_of unfound }
-{
-    match unfound {
-        Unfound::Fault(fault) => Stop::Failed(Failure::Fault(fault)),
-        Unfound::NoSuchResource => Stop::NoSuchResource,
-        Unfound::Elsewhere(row) => Stop::ResourceElsewhere(row),
-        Unfound::Outside(row) => Stop::ResourceOutside(row),
-    }
 }

@@ -2,7 +2,7 @@
 ghost use Rattle.std.specs.Prelude.{◌≡◌, ◌⊎◌};
 ghost use Rattle.cli_runs.specs.Runs.{AreVisited, EndsAs, IsCutAmong};
 ghost use Rattle.cli_runs.specs.declared.report.Directories.TheVariants.{Walked};
-ghost use Rattle.cli_files.specs.Walks.{IsVisit};
+ghost use Rattle.cli_files.specs.Read.{IsVisit};
 
 use crate::files::{OutputFailed, Room, report_unread, run_on_bytes};
 use crate::report::{Directories, Report, Request, Verdict};

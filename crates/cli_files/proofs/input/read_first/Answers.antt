@@ -1,6 +1,6 @@
 use Rattle.std.proofs.Common.{◌∙◌}
 use Rattle.std.proofs.lemmas.Result.{on_ok_weaker}
-use Rattle.cli_files.proofs.Reading.{read_whole}
+use Rattle.cli_files.proofs.Beginning.{read_whole}
 use Rattle.cli_files.proofs.input.read_first.Goals as goal
 
 pub returns : goal.returns

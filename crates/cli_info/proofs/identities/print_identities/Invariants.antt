@@ -1,8 +1,5 @@
-use Rattle.cli_info.proofs.Prelude.{Metadata, IsModel, Printed, Prints, rows_after, identity_line, identity_lines}
+use Rattle.cli_info.proofs.Prelude.{map, range_with_len, Metadata, IsModel, Prints, identity_line}
 use Rattle.cli_info.proofs.identities.print_identities.Given as goal
 
--- the lines of the rows that are left complete those of all
 abbrev pub invariant-loop-earlier : goal.invariant-loop-earlier
-invariant-loop-earlier g l =
-    (model : Metadata) (later : Printed _) → IsModel l.view model
-    → Prints l.out later (rows_after (identity_line l.kind model) l.earlier l.count) → Prints l.initial.out later (identity_lines l.kind model)
+invariant-loop-earlier g l = (model : Metadata) → IsModel l.view model → Prints l.initial.out l.out (map (identity_line l.kind model) (range_with_len 1 l.earlier))

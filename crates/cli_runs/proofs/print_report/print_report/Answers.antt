@@ -1,5 +1,5 @@
 use Rattle.std.proofs.Common.{refl}
-use Rattle.cli_runs.proofs.Printings.{resources_refused}
+use Rattle.cli_runs.proofs.Reporting.{resources_refused}
 use Rattle.cli_runs.proofs.print_report.print_report.Goals as goal
 
 pub returns-in-Err-print_root_until_fault : goal.returns-in-Err-print_root_until_fault
@@ -15,4 +15,4 @@ returns-in-Ok-print_resources g c =
 pub returns-in-Err-print_resources : goal.returns-in-Err-print_resources
 returns-in-Err-print_resources g c =
     let refused = c.in-Err-print_resources.ensures in
-    rw (c.in-Resources.is, c.stop_of.ensures) (resources_refused c.args.job.now.request.now c.args.job.now.bytes.now c.in-Err-print_resources.unfound refused.first_error, refused.untouched)
+    rw c.in-Resources.is (resources_refused c.args.job.now.request.now c.args.job.now.bytes.now c.in-Err-print_resources.stop refused.first_error, refused.untouched)

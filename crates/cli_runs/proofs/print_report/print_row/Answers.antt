@@ -1,13 +1,12 @@
-use Rattle.cli_runs.specs.Entries.{entered}
-use Rattle.cli_runs.proofs.Printings.{model_of_facts, some_declared}
+use Rattle.cli_runs.specs.Reports.{entered}
+use Rattle.cli_runs.proofs.Reporting.{some_declared}
 use Rattle.cli_runs.proofs.print_report.print_row.Goals as goal
 
 pub returns-in-Printed : goal.returns-in-Printed
 returns-in-Printed g c = (
-  c.in-Ok.ensures.sound,
+  c.in-Ok.ensures.whole,
   (λ header model are.
-      let options = entered c.args.options c.in-Ok.entry in
-      let is = c.in-Ok.ensures.models model (model_of_facts c.args.job.now.request.now.input c.args.job.now.bytes.now header model are) in
-      let out = c.in-Printed.ensures.printed model is in
-      (c.in-Ok.entry, c.in-Ok.ensures.entry header model are, (out.0, out.1, out.2, some_declared options c.args.out.now c.print_outline_of.new.out model _ out.3))),
+      let opened = c.in-Ok.ensures.entered header model are in
+      let out = c.in-Printed.ensures.printed model opened.1 in
+      (c.in-Ok.entry, opened.0, (out.0, out.1, out.2, some_declared (entered c.args.options c.in-Ok.entry) c.args.out.now c.print_outline_of.new.out model _ out.3))),
 )

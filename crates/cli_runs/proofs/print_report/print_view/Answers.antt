@@ -1,5 +1,5 @@
 use Rattle.cli_runs.specs.Reports.{everything}
-use Rattle.cli_runs.proofs.Printings.{declared}
+use Rattle.cli_runs.proofs.Reporting.{declared}
 use Rattle.cli_runs.proofs.print_report.print_view.Goals as goal
 
 pub returns-in-Show : goal.returns-in-Show

@@ -1,5 +1,5 @@
 use Rattle.cli_runs.proofs.Prelude.{[], arith, refl, subst, OutOfMemory}
-use Rattle.cli_files.specs.Walks.{IsVisit}
+use Rattle.cli_files.specs.Read.{IsVisit}
 use Rattle.cli_runs.proofs.Running.{ends_weaker, one_visited, unread_refused, unread_visited}
 use Rattle.cli_runs.proofs.tree.run_visit.Goals as goal
 
