@@ -1,7 +1,7 @@
 -- A check of one file by `clim_check` is a run of `clim`.
 use Rattle.std.proofs.Common.{◌≡◌, ℕ, false, List, [], ◌∷◌, Option, None, Ok, Err, refl, sym, subst, inl, inr}
 use Rattle.std.specs.Io.KnownBytes.{Appends}
-use Rattle.cli_check.specs.Checked.{IsCheckOfBytes, IsCheckOfFile, ok_line}
+use Rattle.cli_files.specs.Checks.{IsCheckOfBytes, IsCheckOfFile, ok_line}
 use Rattle.cli_faults.specs.Status.{status_of}
 use Rattle.cli_faults.specs.declared.failure.Failure.{Failure}
 use Rattle.cli_faults.specs.declared.failure.Failure.TheVariants as failed

@@ -1,6 +1,6 @@
 //! The check of one file.
 ghost use Rattle.std.specs.Prelude.{◌∷◌, [], ℕ, List, false};
-ghost use Rattle.cli_check.specs.Checked.{IsCheckOfFile};
+ghost use Rattle.cli_files.specs.Checks.{IsCheckOfFile};
 ghost use Rattle.cli.specs.Tasks.{check_of_one};
 ghost use Rattle.cli_runs.specs.Runs.{IsRunOn};
 

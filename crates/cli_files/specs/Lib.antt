@@ -1,4 +1,5 @@
 pub mod Checked
+pub mod Checks
 pub mod Heads
 pub mod Hints
 pub mod Read

@@ -23,14 +23,23 @@
 //! let view = open(&bytes, Input::File)?;
 //! let (header, root) = heads_of(&bytes, Input::BareRoot)?; // no CLI header
 //! ```
+//!
+//! [`go`] is a run of `clim check FILE` from its arguments to the exit code, and [`check_one`] the check of a file. What they print is
+//! what `clim` prints, by the same functions. But they stand on few crates, so they are proved long before all of `clim`.
+//!
+//! ```text
+//! let status = go(&rt, &["clim", "check", "one_module.dll"], &mut out, &mut err); // `out` holds "ok\n", and `status` is 0
+//! ```
 #![tactic(auto)]
 
+mod check;
 mod hint;
 mod input;
 mod opened;
 mod stopped;
 mod walk;
 
+pub use check::{check_one, go};
 pub use hint::{Hint, signature_of};
 pub use input::{LIMIT, STANDARD_INPUT, read_file, read_into};
 pub use opened::{Input, heads_of, open, open_within, root_of, rows_of};

@@ -1,9 +1,8 @@
-//! The program `clim_check`: `clim check FILE`, and nothing else of `clim`. It collects the arguments; [`cli_check::go`] does
+//! The program `clim_check`: `clim check FILE`, and nothing else of `clim`. It collects the arguments; [`cli_files::go`] does
 //! everything else.
 #![tactic(auto)]
 
-use cli_check::go;
-use cli_files::refuse_words;
+use cli_files::{go, refuse_words};
 use std::process::ExitCode;
 use std::{env, io};
 

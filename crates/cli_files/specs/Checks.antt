@@ -1,6 +1,7 @@
 -- What a check of one file prints, and its exit code.
-use Rattle.std.specs.Prelude.{◌≡◌, ℕ, ◌⊎◌, List, [], ◌∷◌, ◌++◌, Option}
+use Rattle.std.specs.Prelude.{◌≡◌, ◌==◌, ◌&&◌, ℕ, ◌⊎◌, Bool, false, not, List, [], ◌∷◌, ◌++◌, codes, Option, None, Some, MatchOption, if◌then◌else◌}
 use Rattle.std.specs.Io.KnownBytes.{Appends}
+use Rattle.std.specs.Str.{bytes_eq}
 use Rattle.packed.specs.declared.fault.Fault.{Fault}
 use Rattle.packed.specs.Rule.{FirstBroken}
 use Rattle.cli_faults.specs.Texts.{ok_text}
@@ -28,3 +29,18 @@ module _ {W : Type 0} (contents : W → Option (List ℕ)) (before after : W) wh
   IsCheckOfFile of_file of_input file status =
       ((bytes : List ℕ) × IsRead of_file of_input file bytes × IsCheckOfBytes bytes status)
       ⊎ (((failure : Failure) × IsRefused file failure) × (after ≡ before) × (status ≡ 3))
+
+-- an option begins with a dash, whose ASCII code is 45; the dash alone is the standard input
+abbrev pub is_option : List ℕ → Bool
+is_option (first ∷ next ∷ more) = first == 45
+is_option word = false
+
+-- the file that these arguments ask to check, the program name first
+abbrev pub file_in : List (List ℕ) → Option (List ℕ)
+file_in (program ∷ subcommand ∷ file ∷ []) = if bytes_eq subcommand (codes "check") && not (is_option file) then Some file else None
+file_in words = None
+
+-- the run on these arguments ended with this exit code: the check of the file; or 2 if they ask for none, and nothing went out
+abbrev pub IsRunOf : {W F I : Type 0} → (W → Option (List ℕ)) → W → W → (F → Option (List ℕ)) → (I → Option (List ℕ)) → List (List ℕ) → ℕ → Type 0
+IsRunOf contents before after of_file of_input words status =
+    MatchOption (file_in words) ((after ≡ before) × (status ≡ 2)) (λ file. IsCheckOfFile contents before after of_file of_input file status)

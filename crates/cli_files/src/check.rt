@@ -1,12 +1,15 @@
-//! Checks a file.
-ghost use Rattle.std.specs.Prelude.{◌≡◌, ◌≤◌, IfErr};
-ghost use Rattle.cli_check.specs.Checked.{IsCheckOfBytes, IsCheckOfFile, ok_line};
+//! Checks a file, and nothing else of the program.
+ghost use Rattle.std.specs.Prelude.{◌≡◌, ◌≤◌, IfErr, map};
+ghost use Rattle.std.specs.Option.{option_map};
 ghost use Rattle.cli_faults.specs.Status.{IsOutput};
+ghost use Rattle.cli_files.specs.Checks.{IsCheckOfBytes, IsCheckOfFile, IsRunOf, file_in, is_option, ok_line};
 ghost use Rattle.cli_files.specs.Stopped.{status_of_outcome};
 ghost use Rattle.cli_sending.specs.Sent.{Sent};
 
+use crate::input::read_into;
+use crate::opened::{Input as Given, open};
+use crate::stopped::{Stopped, status};
 use cli_faults::{Failure, OK, Stop, printed};
-use cli_files::{Input as Given, Stopped, open, read_into, status};
 use cli_sending::finish;
 use std::alloc::{AllocError, Global};
 use std::io::Write;
@@ -63,4 +66,47 @@ fn print_ok<'a, W: Write>(alloc: Global, out: &mut W) -> Result<(), Failure<'a>>
         Ok(line) => printed(finish(line.as_bytes(), out)),
         Err(AllocError) => Err(Failure::OutOfMemory),
     }
+}
+
+/// The subcommand whose file is checked.
+const CHECK: &str = "check";
+
+/// Runs the program on its arguments, the program name first, and returns the exit code: that of [`check_one`] for the
+/// arguments `check FILE`, and 2 for others. FILE is a path, or `-` for the standard input.
+pub fn go<R: Files + Input + AllocGlobal, W: Write, E: Write>(
+    rt: &R,
+    words: &[&str],
+    out: &mut W,
+    err: &mut E,
+) -> u8
+    ensures limit { result ≤ 3 }
+    ensures run { IsRunOf W.contents out.old out.new R.File.remaining R.Reader.remaining (map (λ word. word.now) words.now) result }
+    ensures quiet { result ≡ 0 → err.new ≡ err.old }
+{
+    match file_in(words) {
+        Some(file) => check_one(rt, file, out, err),
+        None => {
+            let _ = err.write_all(
+                b"usage: clim_check check FILE, where '-' is the standard input\n",
+            );
+            2
+        }
+    }
+}
+
+/// The file that these arguments ask to check, if they ask for that alone.
+fn file_in<'a>(words: &[&'a str]) -> Option<&'a str>
+    ensures { option_map (λ file. file.now) result ≡ file_in (map (λ word. word.now) words.now) }
+{
+    match words {
+        [_, subcommand, file] if *subcommand == CHECK && !is_option(file) => Some(file),
+        _ => None,
+    }
+}
+
+/// Whether an argument is an option: it begins with a dash, and is not the dash alone, which is the standard input.
+fn is_option(word: &str) -> bool
+    ensures { result ≡ is_option word.now }
+{
+    word.len() > 1 && word.starts_with('-')
 }
