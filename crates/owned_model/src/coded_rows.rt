@@ -9,7 +9,7 @@ use type_records::{CodedRow, lists};
 
 /// The record of a row that exists, of a table that its coded index lists.
 fn coded_row_at<'m, R: CodedRow<'m, S::Form>, S: ReadRows<'m>>(source: &S, token: Token) -> R
-    requires listed { IsOneOf (tables_of R.index) token.table }
+    requires listed { IsOneOf (tables_of R.CODED) token.table }
     requires first { 1 ≤ token.row }
     requires last { token.row ≤ S.row_count source.now token.table }
     ensures table { R.table_of result ≡ token.table }
@@ -24,11 +24,11 @@ pub fn resolve<'m, R: CodedRow<'m, S::Form>, S: ReadRows<'m> + Copy>(
     source: S,
     token: Token,
 ) -> Option<R>
-    ensures there { IsSome result ↔ (Contains (tables_of R.index) (Some token.table) × ((1 ≤ token.row) × (token.row ≤ S.row_count source token.table))) }
+    ensures there { IsSome result ↔ (Contains (tables_of R.CODED) (Some token.table) × ((1 ≤ token.row) × (token.row ≤ S.row_count source token.table))) }
     ensures table { IfSome result (λ it. R.table_of it ≡ token.table) }
     ensures fields { (model : Metadata) → S.shows source model → IfSome result (λ it. R.fields it ≡ row_of model token.table token.row) }
 {
-    if !lists(R::coded_id(), token.table) {
+    if !lists(R::CODED, token.table) {
         return None;
     }
     if token.row == 0 || token.row > source.count_rows(token.table) {

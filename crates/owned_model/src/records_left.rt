@@ -10,18 +10,18 @@ use type_records::FromRow;
 /// The record of a row that exists.
 fn record_at<'m, R: FromRow<'m, S::Form>, S: ReadRows<'m>>(source: &S, row: u32) -> R
     requires first { 1 ≤ row }
-    requires last { row ≤ S.row_count source.now R.table }
-    ensures { (model : Metadata) → S.shows source.now model → R.fields result ≡ row_of model R.table row }
+    requires last { row ≤ S.row_count source.now R.TABLE }
+    ensures { (model : Metadata) → S.shows source.now model → R.fields result ≡ row_of model R.TABLE row }
 {
-    R::from_row(&source.row_at(R::table_id(), row))
+    R::from_row(&source.row_at(R::TABLE, row))
 }
 
 /// The record of a row, counted from 1; `None` if the table has no such row.
 pub fn row<'m, R: FromRow<'m, S::Form>, S: ReadRows<'m> + Copy>(source: S, row: u32) -> Option<R>
-    ensures there { IsSome result ↔ ((1 ≤ row) × (row ≤ S.row_count source R.table)) }
-    ensures fields { (model : Metadata) → S.shows source model → IfSome result (λ it. R.fields it ≡ row_of model R.table row) }
+    ensures there { IsSome result ↔ ((1 ≤ row) × (row ≤ S.row_count source R.TABLE)) }
+    ensures fields { (model : Metadata) → S.shows source model → IfSome result (λ it. R.fields it ≡ row_of model R.TABLE row) }
 {
-    if row == 0 || row > source.count_rows(R::table_id()) {
+    if row == 0 || row > source.count_rows(R::TABLE) {
         return None;
     }
     Some(record_at(&source, row))
@@ -50,9 +50,9 @@ impl<'m, S, R> Model for Records<'m, S, R> {
 impl<'m, R: FromRow<'m, S::Form>, S: ReadRows<'m> + Copy> Iterator for Records<'m, S, R> {
     type Item = R;
 
-    ghost can_next = { λ left. left.last ≤ S.row_count left.source R.table };
+    ghost can_next = { λ left. left.last ≤ S.row_count left.source R.TABLE };
 
-    ghost next_gives = { YieldsRow S.shows R.fields R.table };
+    ghost next_gives = { YieldsRow S.shows R.fields R.TABLE };
 
     ghost remaining = { λ left. at_most ((left.last + 1) - left.next) };
 
@@ -82,15 +82,15 @@ impl<'m, R: FromRow<'m, S::Form>, S: ReadRows<'m> + Copy> ExactSizeIterator for 
 /// The records of a table's rows, in order.
 #[tactic(auto, using(crate::proofs::RowsLeftLemmas::all_rows))]
 pub fn rows<'m, R: FromRow<'m, S::Form>, S: ReadRows<'m> + Copy>(source: S) -> Records<'m, S, R>
-    ensures left { result ≡ record { source = source; next = 1; last = S.row_count source R.table } }
+    ensures left { result ≡ record { source = source; next = 1; last = S.row_count source R.TABLE } }
     // They are the rows of the table, of every model that is shown.
-    ensures rows { (model : Metadata) → S.shows source model → rows_between model R.table result.next result.last ≡ rows_of model R.table }
+    ensures rows { (model : Metadata) → S.shows source model → rows_between model R.TABLE result.next result.last ≡ rows_of model R.TABLE }
 {
     source.holds_rows();
     Records {
         source,
         next: 1,
-        last: source.count_rows(R::table_id()),
+        last: source.count_rows(R::TABLE),
         of: PhantomData,
     }
 }

@@ -4,6 +4,16 @@ use opening::{CellRef, TableId, Token};
 use table_schema::SigKind;
 use type_records::Row;
 
+// What the value of a cell of a kind gives.
+macro_rules! value_of {
+    ($cell:expr, $kind:ident($value:ident) => $content:expr) => {
+        match $cell {
+            Some(CellRef::$kind($value)) => $content,
+            _ => unreachable!(),
+        }
+    };
+}
+
 /// The cells of a row. They borrow from the bytes that were opened.
 #[derive(Clone, Copy, Debug)]
 pub struct RefRow<'a> {
@@ -20,51 +30,30 @@ impl<'a> Row<'a> for RefRow<'a> {
     ghost says = { SaysAt };
 
     fn number(&self, cell_index: usize) -> u32 {
-        match self.values.get(cell_index) {
-            Some(CellRef::Number(number)) => *number,
-            _ => unreachable!(),
-        }
+        value_of!(self.values.get(cell_index), Number(number) => *number)
     }
 
     fn text(&self, cell_index: usize) -> &'a str {
-        match self.values.get(cell_index) {
-            Some(CellRef::Text(text)) => *text,
-            _ => unreachable!(),
-        }
+        value_of!(self.values.get(cell_index), Text(text) => *text)
     }
 
     fn bytes(&self, cell_index: usize) -> &'a [u8] {
-        match self.values.get(cell_index) {
-            Some(CellRef::Bytes(bytes)) => *bytes,
-            _ => unreachable!(),
-        }
+        value_of!(self.values.get(cell_index), Bytes(bytes) => *bytes)
     }
 
     fn guid(&self, cell_index: usize) -> Option<[u8; 16]> {
-        match self.values.get(cell_index) {
-            Some(CellRef::Guid(guid)) => *guid,
-            _ => unreachable!(),
-        }
+        value_of!(self.values.get(cell_index), Guid(guid) => *guid)
     }
 
     fn reference(&self, cell_index: usize) -> Option<Token> {
-        match self.values.get(cell_index) {
-            Some(CellRef::Ref(reference)) => *reference,
-            _ => unreachable!(),
-        }
+        value_of!(self.values.get(cell_index), Ref(reference) => *reference)
     }
 
     fn start(&self, cell_index: usize) -> u32 {
-        match self.values.get(cell_index) {
-            Some(CellRef::Start(row)) => *row,
-            _ => unreachable!(),
-        }
+        value_of!(self.values.get(cell_index), Start(row) => *row)
     }
 
     fn signature(&self, cell_index: usize, _column: SigKind) -> &'a [u8] {
-        match self.values.get(cell_index) {
-            Some(CellRef::Sig(blob)) => *blob,
-            _ => unreachable!(),
-        }
+        value_of!(self.values.get(cell_index), Sig(blob) => *blob)
     }
 }

@@ -37,9 +37,7 @@ pub fn cells_of<'a>(view: &View<'a>, table: TableId, row: u32) -> RefRow<'a>
 {
     metadata::laws::models_are_read();
     metadata::laws::models_of_roots_are_valid();
-    type_records::laws::valid_rows_are_of_kinds();
-    type_records::laws::cells_have_kinds();
-    type_records::laws::blobs_say_signatures();
+    sig_grammar::laws::signatures_are_read();
     // The root has a model.
     let _root = view.root();
     RefRow {

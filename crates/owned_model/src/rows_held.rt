@@ -23,8 +23,6 @@ impl<'m> ReadRows<'m> for &'m Model {
     }
 
     fn row_at(&self, table: TableId, row: u32) -> CellRow<'m> {
-        type_records::laws::valid_rows_are_of_kinds();
-        type_records::laws::owned_cells_are_rows();
         // The cells are those of a valid model.
         let _tables = self.tables();
         CellRow {
@@ -36,17 +34,17 @@ impl<'m> ReadRows<'m> for &'m Model {
 impl Model {
     /// The record of a row, counted from 1; `None` if the table has no such row.
     pub fn row<'m, R: FromRow<'m, CellRow<'m>>>(&'m self, row: u32) -> Option<R>
-        ensures there { IsSome result ↔ HasRow self.now R.table row }
-        ensures fields { IfSome result (λ it. R.fields it ≡ row_of self.now R.table row) }
+        ensures there { IsSome result ↔ HasRow self.now R.TABLE row }
+        ensures fields { IfSome result (λ it. R.fields it ≡ row_of self.now R.TABLE row) }
     {
         crate::row(self, row)
     }
 
     /// The records of a table's rows, in order.
     pub fn rows<'m, R: FromRow<'m, CellRow<'m>>>(&'m self) -> Records<'m, &'m Model, R>
-        ensures left { result ≡ record { source = self.entry; next = 1; last = count_in self.now R.table } }
+        ensures left { result ≡ record { source = self.entry; next = 1; last = count_in self.now R.TABLE } }
         // They are the rows of the table.
-        ensures rows { rows_between self.now R.table result.next result.last ≡ rows_of self.now R.table }
+        ensures rows { rows_between self.now R.TABLE result.next result.last ≡ rows_of self.now R.TABLE }
     {
         crate::rows(self)
     }
@@ -54,7 +52,7 @@ impl Model {
     /// The record of the row that a token names, in the variant of its table; `None` if the coded index does
     /// not list that table (II.24.2.6), or the table has no such row.
     pub fn resolve<'m, R: CodedRow<'m, CellRow<'m>>>(&'m self, token: Token) -> Option<R>
-        ensures there { IsSome result ↔ (Contains (tables_of R.index) (Some token.table) × HasRow self.now token.table token.row) }
+        ensures there { IsSome result ↔ (Contains (tables_of R.CODED) (Some token.table) × HasRow self.now token.table token.row) }
         ensures table { IfSome result (λ it. R.table_of it ≡ token.table) }
         ensures fields { IfSome result (λ it. R.fields it ≡ row_of self.now token.table token.row) }
     {

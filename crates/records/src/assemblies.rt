@@ -4,7 +4,7 @@ ghost use Rattle.metadata.specs.Cell.{Number, Text, Bytes};
 ghost use Rattle.tables.specs.Said.{all_said};
 
 use std::alloc::{AllocError, Global};
-use type_records::{Cell, FromRow, Record, Row, TableId, owned_row};
+use type_records::{Cell, FromRow, Record, Row, TableId, owned_row, read_row};
 
 /// This assembly, in at most one row (II.22.2).
 #[derive(Clone, Copy, Debug, PartialEq, Eq)]
@@ -30,27 +30,20 @@ pub struct Assembly<'m> {
 }
 
 impl<'m, W: Row<'m>> FromRow<'m, W> for Assembly<'m> {
-    ghost table = { table.Assembly };
+    ghost TABLE = { table.Assembly };
 
     ghost fields = { λ r. Number r.hash_alg_id ∷ Number r.major_version ∷ Number r.minor_version
         ∷ Number r.build_number ∷ Number r.revision_number ∷ Number r.flags ∷ Bytes r.public_key.now ∷ Text r.name.now
         ∷ Text r.culture.now ∷ [] };
 
-    fn table_id() -> TableId {
-        TableId::Assembly
-    }
+    const TABLE: TableId = TableId::Assembly;
 
     fn from_row(row: &W) -> Assembly<'m> {
-        Assembly {
-            hash_alg_id: row.number(0),
-            major_version: row.number(1),
-            minor_version: row.number(2),
-            build_number: row.number(3),
-            revision_number: row.number(4),
-            flags: row.number(5),
-            public_key: row.bytes(6),
-            name: row.text(7),
-            culture: row.text(8),
+        read_row! {
+            row => Assembly;
+            hash_alg_id: number(0), major_version: number(1), minor_version: number(2),
+            build_number: number(3), revision_number: number(4), flags: number(5),
+            public_key: bytes(6), name: text(7), culture: text(8),
         }
     }
 }
@@ -74,18 +67,14 @@ pub struct AssemblyProcessor {
 }
 
 impl<'m, W: Row<'m>> FromRow<'m, W> for AssemblyProcessor {
-    ghost table = { table.AssemblyProcessor };
+    ghost TABLE = { table.AssemblyProcessor };
 
     ghost fields = { λ r. Number r.processor ∷ [] };
 
-    fn table_id() -> TableId {
-        TableId::AssemblyProcessor
-    }
+    const TABLE: TableId = TableId::AssemblyProcessor;
 
     fn from_row(row: &W) -> AssemblyProcessor {
-        AssemblyProcessor {
-            processor: row.number(0),
-        }
+        read_row!(row => AssemblyProcessor; processor: number(0))
     }
 }
 
@@ -109,19 +98,16 @@ pub struct AssemblyOS {
 }
 
 impl<'m, W: Row<'m>> FromRow<'m, W> for AssemblyOS {
-    ghost table = { table.AssemblyOS };
+    ghost TABLE = { table.AssemblyOS };
 
     ghost fields = { λ r. Number r.os_platform_id ∷ Number r.os_major_version ∷ Number r.os_minor_version ∷ [] };
 
-    fn table_id() -> TableId {
-        TableId::AssemblyOS
-    }
+    const TABLE: TableId = TableId::AssemblyOS;
 
     fn from_row(row: &W) -> AssemblyOS {
-        AssemblyOS {
-            os_platform_id: row.number(0),
-            os_major_version: row.number(1),
-            os_minor_version: row.number(2),
+        read_row! {
+            row => AssemblyOS;
+            os_platform_id: number(0), os_major_version: number(1), os_minor_version: number(2),
         }
     }
 }

@@ -3,7 +3,7 @@ ghost use Rattle.table_schema.specs.declared.table.TableId.TheVariants as table;
 ghost use Rattle.metadata.specs.Cell.{Number, Bytes, Ref};
 
 use std::alloc::{AllocError, Global};
-use type_records::{Cell, FromRow, Record, Row, TableId, Token, owned_row};
+use type_records::{Cell, FromRow, Record, Row, TableId, Token, owned_row, read_row};
 
 /// The constant value of a field, parameter or property (II.22.9).
 #[derive(Clone, Copy, Debug, PartialEq, Eq)]
@@ -17,20 +17,14 @@ pub struct Constant<'m> {
 }
 
 impl<'m, W: Row<'m>> FromRow<'m, W> for Constant<'m> {
-    ghost table = { table.Constant };
+    ghost TABLE = { table.Constant };
 
     ghost fields = { λ r. Number r.kind ∷ Ref r.parent ∷ Bytes r.value.now ∷ [] };
 
-    fn table_id() -> TableId {
-        TableId::Constant
-    }
+    const TABLE: TableId = TableId::Constant;
 
     fn from_row(row: &W) -> Constant<'m> {
-        Constant {
-            kind: row.number(0),
-            parent: row.reference(1),
-            value: row.bytes(2),
-        }
+        read_row!(row => Constant; kind: number(0), parent: reference(1), value: bytes(2))
     }
 }
 
@@ -53,20 +47,14 @@ pub struct CustomAttribute<'m> {
 }
 
 impl<'m, W: Row<'m>> FromRow<'m, W> for CustomAttribute<'m> {
-    ghost table = { table.CustomAttribute };
+    ghost TABLE = { table.CustomAttribute };
 
     ghost fields = { λ r. Ref r.parent ∷ Ref r.kind ∷ Bytes r.value.now ∷ [] };
 
-    fn table_id() -> TableId {
-        TableId::CustomAttribute
-    }
+    const TABLE: TableId = TableId::CustomAttribute;
 
     fn from_row(row: &W) -> CustomAttribute<'m> {
-        CustomAttribute {
-            parent: row.reference(0),
-            kind: row.reference(1),
-            value: row.bytes(2),
-        }
+        read_row!(row => CustomAttribute; parent: reference(0), kind: reference(1), value: bytes(2))
     }
 }
 
@@ -88,19 +76,16 @@ pub struct DeclSecurity<'m> {
 }
 
 impl<'m, W: Row<'m>> FromRow<'m, W> for DeclSecurity<'m> {
-    ghost table = { table.DeclSecurity };
+    ghost TABLE = { table.DeclSecurity };
 
     ghost fields = { λ r. Number r.action ∷ Ref r.parent ∷ Bytes r.permission_set.now ∷ [] };
 
-    fn table_id() -> TableId {
-        TableId::DeclSecurity
-    }
+    const TABLE: TableId = TableId::DeclSecurity;
 
     fn from_row(row: &W) -> DeclSecurity<'m> {
-        DeclSecurity {
-            action: row.number(0),
-            parent: row.reference(1),
-            permission_set: row.bytes(2),
+        read_row! {
+            row => DeclSecurity;
+            action: number(0), parent: reference(1), permission_set: bytes(2),
         }
     }
 }

@@ -4,7 +4,7 @@ ghost use Rattle.metadata.specs.Cell.{Number, Text, Ref, Start};
 ghost use Rattle.tables.specs.Said.{all_said};
 
 use std::alloc::{AllocError, Global};
-use type_records::{Cell, FromRow, Record, Row, TableId, Token, owned_row};
+use type_records::{Cell, FromRow, Record, Row, TableId, Token, owned_row, read_row};
 
 /// A type that has events (II.22.12).
 #[derive(Clone, Copy, Debug, PartialEq, Eq)]
@@ -16,19 +16,14 @@ pub struct EventMap {
 }
 
 impl<'m, W: Row<'m>> FromRow<'m, W> for EventMap {
-    ghost table = { table.EventMap };
+    ghost TABLE = { table.EventMap };
 
     ghost fields = { λ r. Ref r.parent ∷ Start r.event_list ∷ [] };
 
-    fn table_id() -> TableId {
-        TableId::EventMap
-    }
+    const TABLE: TableId = TableId::EventMap;
 
     fn from_row(row: &W) -> EventMap {
-        EventMap {
-            parent: row.reference(0),
-            event_list: row.start(1),
-        }
+        read_row!(row => EventMap; parent: reference(0), event_list: start(1))
     }
 }
 
@@ -52,20 +47,14 @@ pub struct Event<'m> {
 }
 
 impl<'m, W: Row<'m>> FromRow<'m, W> for Event<'m> {
-    ghost table = { table.Event };
+    ghost TABLE = { table.Event };
 
     ghost fields = { λ r. Number r.event_flags ∷ Text r.name.now ∷ Ref r.event_type ∷ [] };
 
-    fn table_id() -> TableId {
-        TableId::Event
-    }
+    const TABLE: TableId = TableId::Event;
 
     fn from_row(row: &W) -> Event<'m> {
-        Event {
-            event_flags: row.number(0),
-            name: row.text(1),
-            event_type: row.reference(2),
-        }
+        read_row!(row => Event; event_flags: number(0), name: text(1), event_type: reference(2))
     }
 }
 

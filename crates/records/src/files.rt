@@ -5,7 +5,7 @@ ghost use Rattle.metadata.specs.Names.{full_name};
 
 use std::alloc::{AllocError, Global};
 use std::fmt;
-use type_records::{Cell, FromRow, Record, Row, TableId, Token, owned_row};
+use type_records::{Cell, FromRow, FullName, Record, Row, TableId, Token, owned_row, read_row};
 
 /// Another file of this assembly (II.22.19).
 #[derive(Clone, Copy, Debug, PartialEq, Eq)]
@@ -19,20 +19,14 @@ pub struct File<'m> {
 }
 
 impl<'m, W: Row<'m>> FromRow<'m, W> for File<'m> {
-    ghost table = { table.File };
+    ghost TABLE = { table.File };
 
     ghost fields = { λ r. Number r.flags ∷ Text r.name.now ∷ Bytes r.hash_value.now ∷ [] };
 
-    fn table_id() -> TableId {
-        TableId::File
-    }
+    const TABLE: TableId = TableId::File;
 
     fn from_row(row: &W) -> File<'m> {
-        File {
-            flags: row.number(0),
-            name: row.text(1),
-            hash_value: row.bytes(2),
-        }
+        read_row!(row => File; flags: number(0), name: text(1), hash_value: bytes(2))
     }
 }
 
@@ -59,22 +53,18 @@ pub struct ExportedType<'m> {
 }
 
 impl<'m, W: Row<'m>> FromRow<'m, W> for ExportedType<'m> {
-    ghost table = { table.ExportedType };
+    ghost TABLE = { table.ExportedType };
 
     ghost fields = { λ r. Number r.flags ∷ Number r.type_def_id ∷ Text r.type_name.now ∷ Text r.type_namespace.now
         ∷ Ref r.implementation ∷ [] };
 
-    fn table_id() -> TableId {
-        TableId::ExportedType
-    }
+    const TABLE: TableId = TableId::ExportedType;
 
     fn from_row(row: &W) -> ExportedType<'m> {
-        ExportedType {
-            flags: row.number(0),
-            type_def_id: row.number(1),
-            type_name: row.text(2),
-            type_namespace: row.text(3),
-            implementation: row.reference(4),
+        read_row! {
+            row => ExportedType;
+            flags: number(0), type_def_id: number(1), type_name: text(2), type_namespace: text(3),
+            implementation: reference(4),
         }
     }
 }
@@ -94,11 +84,7 @@ impl fmt::Display for ExportedType<'_> {
     ghost output = { λ r. Some (full_name r.type_namespace.now r.type_name.now) };
 
     fn fmt<W: fmt::Write>(&self, f: &mut fmt::Formatter<W>) -> fmt::Result {
-        let (namespace, name) = (self.type_namespace, self.type_name);
-        if namespace.is_empty() {
-            return write!(f, "{name}");
-        }
-        write!(f, "{namespace}.{name}")
+        FullName(self.type_namespace, self.type_name).fmt(f)
     }
 }
 
@@ -116,20 +102,16 @@ pub struct ManifestResource<'m> {
 }
 
 impl<'m, W: Row<'m>> FromRow<'m, W> for ManifestResource<'m> {
-    ghost table = { table.ManifestResource };
+    ghost TABLE = { table.ManifestResource };
 
     ghost fields = { λ r. Number r.offset ∷ Number r.flags ∷ Text r.name.now ∷ Ref r.implementation ∷ [] };
 
-    fn table_id() -> TableId {
-        TableId::ManifestResource
-    }
+    const TABLE: TableId = TableId::ManifestResource;
 
     fn from_row(row: &W) -> ManifestResource<'m> {
-        ManifestResource {
-            offset: row.number(0),
-            flags: row.number(1),
-            name: row.text(2),
-            implementation: row.reference(3),
+        read_row! {
+            row => ManifestResource;
+            offset: number(0), flags: number(1), name: text(2), implementation: reference(3),
         }
     }
 }

@@ -38,7 +38,7 @@ impl<'m, S: Clone> Clone for MemberRefParent<'m, S> {
 impl<'m, S: IsSignature, W: Row<'m, Signature = S>> CodedRow<'m, W> for MemberRefParent<'m, S> {
     ghost use Rattle.records.specs.declared.named_members.MemberRefParent.TheVariants as a_parent;
 
-    ghost index = { coded.MemberRefParent };
+    ghost CODED = { coded.MemberRefParent };
 
     ghost table_of = { elim [ a_parent.TypeDef r ↦ table.TypeDef | a_parent.TypeRef r ↦ table.TypeRef | a_parent.ModuleRef r ↦ table.ModuleRef | a_parent.MethodDef r ↦ table.MethodDef | a_parent.TypeSpec r ↦ table.TypeSpec ] };
 
@@ -50,9 +50,7 @@ impl<'m, S: IsSignature, W: Row<'m, Signature = S>> CodedRow<'m, W> for MemberRe
       | a_parent.TypeSpec r ↦ ⟦<TypeSpec<S> as FromRow<'m, W>>⟧.fields r
     ] };
 
-    fn coded_id() -> Coded {
-        Coded::MemberRefParent
-    }
+    const CODED: Coded = Coded::MemberRefParent;
 
     fn from_row_of(table: TableId, row: &W) -> MemberRefParent<'m, S> {
         match table {
@@ -78,7 +76,7 @@ pub enum MethodDefOrRef<'m, S> {
 impl<'m, S: IsSignature, W: Row<'m, Signature = S>> CodedRow<'m, W> for MethodDefOrRef<'m, S> {
     ghost use Rattle.records.specs.declared.named_members.MethodDefOrRef.TheVariants as a_method;
 
-    ghost index = { coded.MethodDefOrRef };
+    ghost CODED = { coded.MethodDefOrRef };
 
     ghost table_of = { elim [ a_method.MethodDef r ↦ table.MethodDef | a_method.MemberRef r ↦ table.MemberRef ] };
 
@@ -87,9 +85,7 @@ impl<'m, S: IsSignature, W: Row<'m, Signature = S>> CodedRow<'m, W> for MethodDe
       | a_method.MemberRef r ↦ ⟦<MemberRef<'m, S> as FromRow<'m, W>>⟧.fields r
     ] };
 
-    fn coded_id() -> Coded {
-        Coded::MethodDefOrRef
-    }
+    const CODED: Coded = Coded::MethodDefOrRef;
 
     fn from_row_of(table: TableId, row: &W) -> MethodDefOrRef<'m, S> {
         match table {
@@ -112,7 +108,7 @@ pub enum CustomAttributeType<'m, S> {
 impl<'m, S: IsSignature, W: Row<'m, Signature = S>> CodedRow<'m, W> for CustomAttributeType<'m, S> {
     ghost use Rattle.records.specs.declared.named_members.CustomAttributeType.TheVariants as a_constructor;
 
-    ghost index = { coded.CustomAttributeType };
+    ghost CODED = { coded.CustomAttributeType };
 
     ghost table_of = { elim [ a_constructor.MethodDef r ↦ table.MethodDef | a_constructor.MemberRef r ↦ table.MemberRef ] };
 
@@ -121,9 +117,7 @@ impl<'m, S: IsSignature, W: Row<'m, Signature = S>> CodedRow<'m, W> for CustomAt
       | a_constructor.MemberRef r ↦ ⟦<MemberRef<'m, S> as FromRow<'m, W>>⟧.fields r
     ] };
 
-    fn coded_id() -> Coded {
-        Coded::CustomAttributeType
-    }
+    const CODED: Coded = Coded::CustomAttributeType;
 
     fn from_row_of(table: TableId, row: &W) -> CustomAttributeType<'m, S> {
         match table {
@@ -155,7 +149,7 @@ impl<'m, S: Clone> Clone for TypeOrMethodDef<'m, S> {
 impl<'m, S: IsSignature, W: Row<'m, Signature = S>> CodedRow<'m, W> for TypeOrMethodDef<'m, S> {
     ghost use Rattle.records.specs.declared.named_members.TypeOrMethodDef.TheVariants as an_owner;
 
-    ghost index = { coded.TypeOrMethodDef };
+    ghost CODED = { coded.TypeOrMethodDef };
 
     ghost table_of = { elim [ an_owner.TypeDef r ↦ table.TypeDef | an_owner.MethodDef r ↦ table.MethodDef ] };
 
@@ -164,9 +158,7 @@ impl<'m, S: IsSignature, W: Row<'m, Signature = S>> CodedRow<'m, W> for TypeOrMe
       | an_owner.MethodDef r ↦ ⟦<MethodDef<'m, S> as FromRow<'m, W>>⟧.fields r
     ] };
 
-    fn coded_id() -> Coded {
-        Coded::TypeOrMethodDef
-    }
+    const CODED: Coded = Coded::TypeOrMethodDef;
 
     fn from_row_of(table: TableId, row: &W) -> TypeOrMethodDef<'m, S> {
         match table {

@@ -33,7 +33,7 @@ impl<'m, S: Clone> Clone for TypeDefOrRef<'m, S> {
 impl<'m, S: IsSignature, W: Row<'m, Signature = S>> CodedRow<'m, W> for TypeDefOrRef<'m, S> {
     ghost use Rattle.records.specs.declared.named_types.TypeDefOrRef.TheVariants as a_type;
 
-    ghost index = { coded.TypeDefOrRef };
+    ghost CODED = { coded.TypeDefOrRef };
 
     ghost table_of = { elim [ a_type.TypeDef r ↦ table.TypeDef | a_type.TypeRef r ↦ table.TypeRef | a_type.TypeSpec r ↦ table.TypeSpec ] };
 
@@ -43,9 +43,7 @@ impl<'m, S: IsSignature, W: Row<'m, Signature = S>> CodedRow<'m, W> for TypeDefO
       | a_type.TypeSpec r ↦ ⟦<TypeSpec<S> as FromRow<'m, W>>⟧.fields r
     ] };
 
-    fn coded_id() -> Coded {
-        Coded::TypeDefOrRef
-    }
+    const CODED: Coded = Coded::TypeDefOrRef;
 
     fn from_row_of(table: TableId, row: &W) -> TypeDefOrRef<'m, S> {
         match table {
@@ -73,7 +71,7 @@ pub enum ResolutionScope<'m> {
 impl<'m, W: Row<'m>> CodedRow<'m, W> for ResolutionScope<'m> {
     ghost use Rattle.records.specs.declared.named_types.ResolutionScope.TheVariants as a_scope;
 
-    ghost index = { coded.ResolutionScope };
+    ghost CODED = { coded.ResolutionScope };
 
     ghost table_of = { elim [ a_scope.Module r ↦ table.Module | a_scope.ModuleRef r ↦ table.ModuleRef | a_scope.AssemblyRef r ↦ table.AssemblyRef | a_scope.TypeRef r ↦ table.TypeRef ] };
 
@@ -84,9 +82,7 @@ impl<'m, W: Row<'m>> CodedRow<'m, W> for ResolutionScope<'m> {
       | a_scope.TypeRef r ↦ ⟦<TypeRef<'m> as FromRow<'m, W>>⟧.fields r
     ] };
 
-    fn coded_id() -> Coded {
-        Coded::ResolutionScope
-    }
+    const CODED: Coded = Coded::ResolutionScope;
 
     fn from_row_of(table: TableId, row: &W) -> ResolutionScope<'m> {
         match table {
@@ -113,7 +109,7 @@ pub enum Implementation<'m> {
 impl<'m, W: Row<'m>> CodedRow<'m, W> for Implementation<'m> {
     ghost use Rattle.records.specs.declared.named_types.Implementation.TheVariants as a_cell_index;
 
-    ghost index = { coded.Implementation };
+    ghost CODED = { coded.Implementation };
 
     ghost table_of = { elim [ a_cell_index.File r ↦ table.File | a_cell_index.AssemblyRef r ↦ table.AssemblyRef | a_cell_index.ExportedType r ↦ table.ExportedType ] };
 
@@ -123,9 +119,7 @@ impl<'m, W: Row<'m>> CodedRow<'m, W> for Implementation<'m> {
       | a_cell_index.ExportedType r ↦ ⟦<ExportedType<'m> as FromRow<'m, W>>⟧.fields r
     ] };
 
-    fn coded_id() -> Coded {
-        Coded::Implementation
-    }
+    const CODED: Coded = Coded::Implementation;
 
     fn from_row_of(table: TableId, row: &W) -> Implementation<'m> {
         match table {

@@ -7,6 +7,7 @@ ghost use Rattle.tables.specs.Said.{all_said};
 use std::alloc::{AllocError, Global};
 use type_records::{
     Cell, FromRow, IsSignature, Record, Row, SigKind, Signature, TableId, Token, owned_row,
+    read_row,
 };
 
 /// A type that has properties (II.22.35).
@@ -19,19 +20,14 @@ pub struct PropertyMap {
 }
 
 impl<'m, W: Row<'m>> FromRow<'m, W> for PropertyMap {
-    ghost table = { table.PropertyMap };
+    ghost TABLE = { table.PropertyMap };
 
     ghost fields = { λ r. Ref r.parent ∷ Start r.property_list ∷ [] };
 
-    fn table_id() -> TableId {
-        TableId::PropertyMap
-    }
+    const TABLE: TableId = TableId::PropertyMap;
 
     fn from_row(row: &W) -> PropertyMap {
-        PropertyMap {
-            parent: row.reference(0),
-            property_list: row.start(1),
-        }
+        read_row!(row => PropertyMap; parent: reference(0), property_list: start(1))
     }
 }
 
@@ -62,19 +58,16 @@ impl<'m, S: Clone> Clone for Property<'m, S> {
 }
 
 impl<'m, S: IsSignature, W: Row<'m, Signature = S>> FromRow<'m, W> for Property<'m, S> {
-    ghost table = { table.Property };
+    ghost TABLE = { table.Property };
 
     ghost fields = { λ r. Number r.flags ∷ Text r.name.now ∷ Sig (S.body column.Property r.kind) ∷ [] };
 
-    fn table_id() -> TableId {
-        TableId::Property
-    }
+    const TABLE: TableId = TableId::Property;
 
     fn from_row(row: &W) -> Property<'m, S> {
-        Property {
-            flags: row.number(0),
-            name: row.text(1),
-            kind: row.signature(2, SigKind::Property),
+        read_row! {
+            row => Property;
+            flags: number(0), name: text(1), kind: signature(2, SigKind::Property),
         }
     }
 }

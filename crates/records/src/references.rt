@@ -4,7 +4,7 @@ ghost use Rattle.metadata.specs.Cell.{Number, Text, Bytes, Ref};
 ghost use Rattle.tables.specs.Said.{all_said};
 
 use std::alloc::{AllocError, Global};
-use type_records::{Cell, FromRow, Record, Row, TableId, Token, owned_row};
+use type_records::{Cell, FromRow, Record, Row, TableId, Token, owned_row, read_row};
 
 /// Another assembly (II.22.5).
 #[derive(Clone, Copy, Debug, PartialEq, Eq)]
@@ -30,27 +30,20 @@ pub struct AssemblyRef<'m> {
 }
 
 impl<'m, W: Row<'m>> FromRow<'m, W> for AssemblyRef<'m> {
-    ghost table = { table.AssemblyRef };
+    ghost TABLE = { table.AssemblyRef };
 
     ghost fields = { λ r. Number r.major_version ∷ Number r.minor_version ∷ Number r.build_number
         ∷ Number r.revision_number ∷ Number r.flags ∷ Bytes r.public_key_or_token.now ∷ Text r.name.now
         ∷ Text r.culture.now ∷ Bytes r.hash_value.now ∷ [] };
 
-    fn table_id() -> TableId {
-        TableId::AssemblyRef
-    }
+    const TABLE: TableId = TableId::AssemblyRef;
 
     fn from_row(row: &W) -> AssemblyRef<'m> {
-        AssemblyRef {
-            major_version: row.number(0),
-            minor_version: row.number(1),
-            build_number: row.number(2),
-            revision_number: row.number(3),
-            flags: row.number(4),
-            public_key_or_token: row.bytes(5),
-            name: row.text(6),
-            culture: row.text(7),
-            hash_value: row.bytes(8),
+        read_row! {
+            row => AssemblyRef;
+            major_version: number(0), minor_version: number(1), build_number: number(2),
+            revision_number: number(3), flags: number(4), public_key_or_token: bytes(5),
+            name: text(6), culture: text(7), hash_value: bytes(8),
         }
     }
 }
@@ -76,19 +69,14 @@ pub struct AssemblyRefProcessor {
 }
 
 impl<'m, W: Row<'m>> FromRow<'m, W> for AssemblyRefProcessor {
-    ghost table = { table.AssemblyRefProcessor };
+    ghost TABLE = { table.AssemblyRefProcessor };
 
     ghost fields = { λ r. Number r.processor ∷ Ref r.assembly_ref ∷ [] };
 
-    fn table_id() -> TableId {
-        TableId::AssemblyRefProcessor
-    }
+    const TABLE: TableId = TableId::AssemblyRefProcessor;
 
     fn from_row(row: &W) -> AssemblyRefProcessor {
-        AssemblyRefProcessor {
-            processor: row.number(0),
-            assembly_ref: row.reference(1),
-        }
+        read_row!(row => AssemblyRefProcessor; processor: number(0), assembly_ref: reference(1))
     }
 }
 
@@ -114,21 +102,18 @@ pub struct AssemblyRefOS {
 }
 
 impl<'m, W: Row<'m>> FromRow<'m, W> for AssemblyRefOS {
-    ghost table = { table.AssemblyRefOS };
+    ghost TABLE = { table.AssemblyRefOS };
 
     ghost fields = { λ r. Number r.os_platform_id ∷ Number r.os_major_version ∷ Number r.os_minor_version
         ∷ Ref r.assembly_ref ∷ [] };
 
-    fn table_id() -> TableId {
-        TableId::AssemblyRefOS
-    }
+    const TABLE: TableId = TableId::AssemblyRefOS;
 
     fn from_row(row: &W) -> AssemblyRefOS {
-        AssemblyRefOS {
-            os_platform_id: row.number(0),
-            os_major_version: row.number(1),
-            os_minor_version: row.number(2),
-            assembly_ref: row.reference(3),
+        read_row! {
+            row => AssemblyRefOS;
+            os_platform_id: number(0), os_major_version: number(1), os_minor_version: number(2),
+            assembly_ref: reference(3),
         }
     }
 }
@@ -153,16 +138,14 @@ pub struct ModuleRef<'m> {
 }
 
 impl<'m, W: Row<'m>> FromRow<'m, W> for ModuleRef<'m> {
-    ghost table = { table.ModuleRef };
+    ghost TABLE = { table.ModuleRef };
 
     ghost fields = { λ r. Text r.name.now ∷ [] };
 
-    fn table_id() -> TableId {
-        TableId::ModuleRef
-    }
+    const TABLE: TableId = TableId::ModuleRef;
 
     fn from_row(row: &W) -> ModuleRef<'m> {
-        ModuleRef { name: row.text(0) }
+        read_row!(row => ModuleRef; name: text(0))
     }
 }
 
@@ -186,21 +169,18 @@ pub struct ImplMap<'m> {
 }
 
 impl<'m, W: Row<'m>> FromRow<'m, W> for ImplMap<'m> {
-    ghost table = { table.ImplMap };
+    ghost TABLE = { table.ImplMap };
 
     ghost fields = { λ r. Number r.mapping_flags ∷ Ref r.member_forwarded ∷ Text r.import_name.now
         ∷ Ref r.import_scope ∷ [] };
 
-    fn table_id() -> TableId {
-        TableId::ImplMap
-    }
+    const TABLE: TableId = TableId::ImplMap;
 
     fn from_row(row: &W) -> ImplMap<'m> {
-        ImplMap {
-            mapping_flags: row.number(0),
-            member_forwarded: row.reference(1),
-            import_name: row.text(2),
-            import_scope: row.reference(3),
+        read_row! {
+            row => ImplMap;
+            mapping_flags: number(0), member_forwarded: reference(1), import_name: text(2),
+            import_scope: reference(3),
         }
     }
 }

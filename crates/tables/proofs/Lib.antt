@@ -1,9 +1,4 @@
-pub mod CellLemmas
 pub mod Prelude
 pub mod PushLemmas
 pub mod SaidLemmas
 pub mod CellCheckLemmas
-pub mod CountLemmas
-pub mod KeyLemmas
-pub mod TokenLemmas
-pub mod WholeLemmas

@@ -10,7 +10,7 @@ use crate::tables::Tables;
 pub fn equality_is_tested()
     ensures { (first second : Metadata) → IsTrue (⟦<Tables as PartialEq>⟧.eq first second) ↔ (first ≡ second) }
 {
-    crate::cell_laws::equality_is_tested();
+    signatures::laws::equality_is_tested();
 }
 
 /// A row that is added follows the other rows of its table, and no other table changes.

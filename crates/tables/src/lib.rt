@@ -24,7 +24,6 @@
 mod bytes;
 mod cell;
 mod cell_checks;
-mod cell_laws;
 mod column;
 mod counted;
 mod heads;

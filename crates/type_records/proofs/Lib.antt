@@ -1,3 +1,2 @@
-pub mod KindLemmas
 pub mod ListedLemmas
 pub mod RowLemmas

@@ -6,6 +6,16 @@ use crate::row::Row;
 use table_schema::SigKind;
 use tables::{Cell, Signature, Token};
 
+// What the value of a cell of a kind gives.
+macro_rules! value_of {
+    ($cell:expr, $kind:ident($value:ident) => $content:expr) => {
+        match $cell {
+            Cell::$kind($value) => $content,
+            _ => unreachable!(),
+        }
+    };
+}
+
 /// A row of owned cells.
 #[derive(Clone, Copy, Debug)]
 pub struct CellRow<'m> {
@@ -21,51 +31,30 @@ impl<'m> Row<'m> for CellRow<'m> {
     ghost says = { λ row cell_index cell. option_map said (slice_get row.cells.now cell_index) ≡ Some cell };
 
     fn number(&self, cell_index: usize) -> u32 {
-        match &self.cells[cell_index] {
-            Cell::Number(number) => *number,
-            _ => unreachable!(),
-        }
+        value_of!(&self.cells[cell_index], Number(number) => *number)
     }
 
     fn text(&self, cell_index: usize) -> &'m str {
-        match &self.cells[cell_index] {
-            Cell::Text(text) => text.as_str(),
-            _ => unreachable!(),
-        }
+        value_of!(&self.cells[cell_index], Text(text) => text.as_str())
     }
 
     fn bytes(&self, cell_index: usize) -> &'m [u8] {
-        match &self.cells[cell_index] {
-            Cell::Bytes(bytes) => bytes.as_slice(),
-            _ => unreachable!(),
-        }
+        value_of!(&self.cells[cell_index], Bytes(bytes) => bytes.as_slice())
     }
 
     fn guid(&self, cell_index: usize) -> Option<[u8; 16]> {
-        match &self.cells[cell_index] {
-            Cell::Guid(guid) => *guid,
-            _ => unreachable!(),
-        }
+        value_of!(&self.cells[cell_index], Guid(guid) => *guid)
     }
 
     fn reference(&self, cell_index: usize) -> Option<Token> {
-        match &self.cells[cell_index] {
-            Cell::Ref(reference) => *reference,
-            _ => unreachable!(),
-        }
+        value_of!(&self.cells[cell_index], Ref(reference) => *reference)
     }
 
     fn start(&self, cell_index: usize) -> u32 {
-        match &self.cells[cell_index] {
-            Cell::Start(row) => *row,
-            _ => unreachable!(),
-        }
+        value_of!(&self.cells[cell_index], Start(row) => *row)
     }
 
     fn signature(&self, cell_index: usize, _column: SigKind) -> &'m Signature {
-        match &self.cells[cell_index] {
-            Cell::Sig(signature) => signature,
-            _ => unreachable!(),
-        }
+        value_of!(&self.cells[cell_index], Sig(signature) => signature)
     }
 }

@@ -17,7 +17,7 @@ use tables::Cell;
 /// A row that a coded index names, as a record of one of the tables that the index lists (II.24.2.6).
 pub trait CodedRow<'m, W: Row<'m>>: Sized {
     // the coded index
-    ghost index: { Index };
+    ghost CODED: { Index };
 
     // the table of the row
     ghost table_of: { Self → Table };
@@ -26,15 +26,21 @@ pub trait CodedRow<'m, W: Row<'m>>: Sized {
     ghost fields: { Self → List TheCell };
 
     /// The coded index.
-    fn coded_id() -> Coded
-        ensures { result ≡ index };
+    const CODED: Coded;
 
     /// The record of a row of a table that the index lists.
     fn from_row_of(table: TableId, row: &W) -> Self
-        requires listed { IsOneOf (tables_of index) table }
+        requires listed { IsOneOf (tables_of CODED) table }
         requires held { AreHeld (W.holds row.now) 0 (kinds_of table) }
         ensures table { table_of result ≡ table }
         ensures said { AreSaid (W.says row.now) 0 (kinds_of table) (fields result) };
+
+    /// The coded index.
+    final fn coded_id() -> Coded
+        ensures { result ≡ CODED }
+    {
+        Self::CODED
+    }
 }
 
 /// Whether the list contains the table.
@@ -60,11 +66,11 @@ pub fn coded_row_of<'m, R: CodedRow<'m, CellRow<'m>>>(
     table: TableId,
     cells: &'m [Cell],
 ) -> Option<R>
-    ensures there { IsSome result ↔ (Contains (tables_of R.index) (Some table) × AreOfKinds (kinds_of table) (all_said cells.now)) }
+    ensures there { IsSome result ↔ (Contains (tables_of R.CODED) (Some table) × AreOfKinds (kinds_of table) (all_said cells.now)) }
     ensures table { IfSome result (λ it. R.table_of it ≡ table) }
     ensures fields { IfSome result (λ it. R.fields it ≡ all_said cells.now) }
 {
-    if !lists(R::coded_id(), table) || !is_row_of(table, cells) {
+    if !lists(R::CODED, table) || !is_row_of(table, cells) {
         return None;
     }
     Some(R::from_row_of(table, &CellRow { cells }))

@@ -4,10 +4,10 @@ ghost use Rattle.table_schema.specs.declared.column.SigKind.TheVariants as colum
 ghost use Rattle.metadata.specs.Cell.{Number, Text, Bytes, Ref, Sig};
 ghost use Rattle.tables.specs.Said.{all_said};
 
-use crate::owned_row;
 use crate::record::{FromRow, Record};
 use crate::row::Row;
 use crate::signature::IsSignature;
+use crate::{owned_row, read_row};
 use std::alloc::{AllocError, Global};
 use table_schema::{SigKind, TableId};
 use tables::{Cell, Signature, Token};
@@ -31,19 +31,16 @@ impl<'m, S: Clone> Clone for Field<'m, S> {
 }
 
 impl<'m, S: IsSignature, W: Row<'m, Signature = S>> FromRow<'m, W> for Field<'m, S> {
-    ghost table = { table.Field };
+    ghost TABLE = { table.Field };
 
     ghost fields = { λ r. Number r.flags ∷ Text r.name.now ∷ Sig (S.body column.Field r.signature) ∷ [] };
 
-    fn table_id() -> TableId {
-        TableId::Field
-    }
+    const TABLE: TableId = TableId::Field;
 
     fn from_row(row: &W) -> Field<'m, S> {
-        Field {
-            flags: row.number(0),
-            name: row.text(1),
-            signature: row.signature(2, SigKind::Field),
+        read_row! {
+            row => Field;
+            flags: number(0), name: text(1), signature: signature(2, SigKind::Field),
         }
     }
 }
@@ -64,19 +61,14 @@ pub struct FieldLayout {
 }
 
 impl<'m, W: Row<'m>> FromRow<'m, W> for FieldLayout {
-    ghost table = { table.FieldLayout };
+    ghost TABLE = { table.FieldLayout };
 
     ghost fields = { λ r. Number r.offset ∷ Ref r.field ∷ [] };
 
-    fn table_id() -> TableId {
-        TableId::FieldLayout
-    }
+    const TABLE: TableId = TableId::FieldLayout;
 
     fn from_row(row: &W) -> FieldLayout {
-        FieldLayout {
-            offset: row.number(0),
-            field: row.reference(1),
-        }
+        read_row!(row => FieldLayout; offset: number(0), field: reference(1))
     }
 }
 
@@ -98,19 +90,14 @@ pub struct FieldMarshal<'m> {
 }
 
 impl<'m, W: Row<'m>> FromRow<'m, W> for FieldMarshal<'m> {
-    ghost table = { table.FieldMarshal };
+    ghost TABLE = { table.FieldMarshal };
 
     ghost fields = { λ r. Ref r.parent ∷ Bytes r.native_type.now ∷ [] };
 
-    fn table_id() -> TableId {
-        TableId::FieldMarshal
-    }
+    const TABLE: TableId = TableId::FieldMarshal;
 
     fn from_row(row: &W) -> FieldMarshal<'m> {
-        FieldMarshal {
-            parent: row.reference(0),
-            native_type: row.bytes(1),
-        }
+        read_row!(row => FieldMarshal; parent: reference(0), native_type: bytes(1))
     }
 }
 
@@ -130,19 +117,14 @@ pub struct FieldRVA {
 }
 
 impl<'m, W: Row<'m>> FromRow<'m, W> for FieldRVA {
-    ghost table = { table.FieldRVA };
+    ghost TABLE = { table.FieldRVA };
 
     ghost fields = { λ r. Number r.rva ∷ Ref r.field ∷ [] };
 
-    fn table_id() -> TableId {
-        TableId::FieldRVA
-    }
+    const TABLE: TableId = TableId::FieldRVA;
 
     fn from_row(row: &W) -> FieldRVA {
-        FieldRVA {
-            rva: row.number(0),
-            field: row.reference(1),
-        }
+        read_row!(row => FieldRVA; rva: number(0), field: reference(1))
     }
 }
 
@@ -173,19 +155,16 @@ impl<'m, S: Clone> Clone for MemberRef<'m, S> {
 }
 
 impl<'m, S: IsSignature, W: Row<'m, Signature = S>> FromRow<'m, W> for MemberRef<'m, S> {
-    ghost table = { table.MemberRef };
+    ghost TABLE = { table.MemberRef };
 
     ghost fields = { λ r. Ref r.class ∷ Text r.name.now ∷ Sig (S.body column.MemberRef r.signature) ∷ [] };
 
-    fn table_id() -> TableId {
-        TableId::MemberRef
-    }
+    const TABLE: TableId = TableId::MemberRef;
 
     fn from_row(row: &W) -> MemberRef<'m, S> {
-        MemberRef {
-            class: row.reference(0),
-            name: row.text(1),
-            signature: row.signature(2, SigKind::MemberRef),
+        read_row! {
+            row => MemberRef;
+            class: reference(0), name: text(1), signature: signature(2, SigKind::MemberRef),
         }
     }
 }

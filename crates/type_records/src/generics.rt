@@ -4,10 +4,10 @@ ghost use Rattle.table_schema.specs.declared.column.SigKind.TheVariants as colum
 ghost use Rattle.metadata.specs.Cell.{Number, Text, Ref, Sig};
 ghost use Rattle.tables.specs.Said.{all_said};
 
-use crate::owned_row;
 use crate::record::{FromRow, Record};
 use crate::row::Row;
 use crate::signature::IsSignature;
+use crate::{owned_row, read_row};
 use std::alloc::{AllocError, Global};
 use table_schema::{SigKind, TableId};
 use tables::{Cell, Signature, Token};
@@ -26,20 +26,16 @@ pub struct GenericParam<'m> {
 }
 
 impl<'m, W: Row<'m>> FromRow<'m, W> for GenericParam<'m> {
-    ghost table = { table.GenericParam };
+    ghost TABLE = { table.GenericParam };
 
     ghost fields = { λ r. Number r.number ∷ Number r.flags ∷ Ref r.owner ∷ Text r.name.now ∷ [] };
 
-    fn table_id() -> TableId {
-        TableId::GenericParam
-    }
+    const TABLE: TableId = TableId::GenericParam;
 
     fn from_row(row: &W) -> GenericParam<'m> {
-        GenericParam {
-            number: row.number(0),
-            flags: row.number(1),
-            owner: row.reference(2),
-            name: row.text(3),
+        read_row! {
+            row => GenericParam;
+            number: number(0), flags: number(1), owner: reference(2), name: text(3),
         }
     }
 }
@@ -60,19 +56,14 @@ pub struct GenericParamConstraint {
 }
 
 impl<'m, W: Row<'m>> FromRow<'m, W> for GenericParamConstraint {
-    ghost table = { table.GenericParamConstraint };
+    ghost TABLE = { table.GenericParamConstraint };
 
     ghost fields = { λ r. Ref r.owner ∷ Ref r.constraint ∷ [] };
 
-    fn table_id() -> TableId {
-        TableId::GenericParamConstraint
-    }
+    const TABLE: TableId = TableId::GenericParamConstraint;
 
     fn from_row(row: &W) -> GenericParamConstraint {
-        GenericParamConstraint {
-            owner: row.reference(0),
-            constraint: row.reference(1),
-        }
+        read_row!(row => GenericParamConstraint; owner: reference(0), constraint: reference(1))
     }
 }
 
@@ -94,18 +85,16 @@ pub struct MethodSpec<S> {
 }
 
 impl<'m, S: IsSignature, W: Row<'m, Signature = S>> FromRow<'m, W> for MethodSpec<S> {
-    ghost table = { table.MethodSpec };
+    ghost TABLE = { table.MethodSpec };
 
     ghost fields = { λ r. Ref r.method ∷ Sig (S.body column.Instance r.instantiation) ∷ [] };
 
-    fn table_id() -> TableId {
-        TableId::MethodSpec
-    }
+    const TABLE: TableId = TableId::MethodSpec;
 
     fn from_row(row: &W) -> MethodSpec<S> {
-        MethodSpec {
-            method: row.reference(0),
-            instantiation: row.signature(1, SigKind::Instance),
+        read_row! {
+            row => MethodSpec;
+            method: reference(0), instantiation: signature(1, SigKind::Instance),
         }
     }
 }

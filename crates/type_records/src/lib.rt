@@ -18,7 +18,6 @@ mod field_value;
 mod fields;
 mod generics;
 mod kinds;
-pub mod laws;
 mod methods;
 mod record;
 mod row;
@@ -37,4 +36,6 @@ pub use row::Row;
 pub use signature::IsSignature;
 pub use table_schema::{SigKind, TableId};
 pub use tables::{Bytes, Cell, Signature, Text, Token};
-pub use types::{ClassLayout, InterfaceImpl, Module, NestedClass, TypeDef, TypeRef, TypeSpec};
+pub use types::{
+    ClassLayout, FullName, InterfaceImpl, Module, NestedClass, TypeDef, TypeRef, TypeSpec,
+};

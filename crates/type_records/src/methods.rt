@@ -4,10 +4,10 @@ ghost use Rattle.table_schema.specs.declared.column.SigKind.TheVariants as colum
 ghost use Rattle.metadata.specs.Cell.{Number, Text, Ref, Start, Sig};
 ghost use Rattle.tables.specs.Said.{all_said};
 
-use crate::owned_row;
 use crate::record::{FromRow, Record};
 use crate::row::Row;
 use crate::signature::IsSignature;
+use crate::{owned_row, read_row};
 use std::alloc::{AllocError, Global};
 use table_schema::{SigKind, TableId};
 use tables::{Cell, Signature, Token};
@@ -37,23 +37,18 @@ impl<'m, S: Clone> Clone for MethodDef<'m, S> {
 }
 
 impl<'m, S: IsSignature, W: Row<'m, Signature = S>> FromRow<'m, W> for MethodDef<'m, S> {
-    ghost table = { table.MethodDef };
+    ghost TABLE = { table.MethodDef };
 
     ghost fields = { λ r. Number r.rva ∷ Number r.impl_flags ∷ Number r.flags ∷ Text r.name.now
         ∷ Sig (S.body column.MethodDef r.signature) ∷ Start r.param_list ∷ [] };
 
-    fn table_id() -> TableId {
-        TableId::MethodDef
-    }
+    const TABLE: TableId = TableId::MethodDef;
 
     fn from_row(row: &W) -> MethodDef<'m, S> {
-        MethodDef {
-            rva: row.number(0),
-            impl_flags: row.number(1),
-            flags: row.number(2),
-            name: row.text(3),
-            signature: row.signature(4, SigKind::MethodDef),
-            param_list: row.start(5),
+        read_row! {
+            row => MethodDef;
+            rva: number(0), impl_flags: number(1), flags: number(2), name: text(3),
+            signature: signature(4, SigKind::MethodDef), param_list: start(5),
         }
     }
 }
@@ -80,20 +75,14 @@ pub struct Param<'m> {
 }
 
 impl<'m, W: Row<'m>> FromRow<'m, W> for Param<'m> {
-    ghost table = { table.Param };
+    ghost TABLE = { table.Param };
 
     ghost fields = { λ r. Number r.flags ∷ Number r.sequence ∷ Text r.name.now ∷ [] };
 
-    fn table_id() -> TableId {
-        TableId::Param
-    }
+    const TABLE: TableId = TableId::Param;
 
     fn from_row(row: &W) -> Param<'m> {
-        Param {
-            flags: row.number(0),
-            sequence: row.number(1),
-            name: row.text(2),
-        }
+        read_row!(row => Param; flags: number(0), sequence: number(1), name: text(2))
     }
 }
 
@@ -115,19 +104,16 @@ pub struct MethodImpl {
 }
 
 impl<'m, W: Row<'m>> FromRow<'m, W> for MethodImpl {
-    ghost table = { table.MethodImpl };
+    ghost TABLE = { table.MethodImpl };
 
     ghost fields = { λ r. Ref r.class ∷ Ref r.method_body ∷ Ref r.method_declaration ∷ [] };
 
-    fn table_id() -> TableId {
-        TableId::MethodImpl
-    }
+    const TABLE: TableId = TableId::MethodImpl;
 
     fn from_row(row: &W) -> MethodImpl {
-        MethodImpl {
-            class: row.reference(0),
-            method_body: row.reference(1),
-            method_declaration: row.reference(2),
+        read_row! {
+            row => MethodImpl;
+            class: reference(0), method_body: reference(1), method_declaration: reference(2),
         }
     }
 }
@@ -152,19 +138,16 @@ pub struct MethodSemantics {
 }
 
 impl<'m, W: Row<'m>> FromRow<'m, W> for MethodSemantics {
-    ghost table = { table.MethodSemantics };
+    ghost TABLE = { table.MethodSemantics };
 
     ghost fields = { λ r. Number r.semantics ∷ Ref r.method ∷ Ref r.association ∷ [] };
 
-    fn table_id() -> TableId {
-        TableId::MethodSemantics
-    }
+    const TABLE: TableId = TableId::MethodSemantics;
 
     fn from_row(row: &W) -> MethodSemantics {
-        MethodSemantics {
-            semantics: row.number(0),
-            method: row.reference(1),
-            association: row.reference(2),
+        read_row! {
+            row => MethodSemantics;
+            semantics: number(0), method: reference(1), association: reference(2),
         }
     }
 }
@@ -186,18 +169,14 @@ pub struct StandAloneSig<S> {
 }
 
 impl<'m, S: IsSignature, W: Row<'m, Signature = S>> FromRow<'m, W> for StandAloneSig<S> {
-    ghost table = { table.StandAloneSig };
+    ghost TABLE = { table.StandAloneSig };
 
     ghost fields = { λ r. Sig (S.body column.StandAlone r.signature) ∷ [] };
 
-    fn table_id() -> TableId {
-        TableId::StandAloneSig
-    }
+    const TABLE: TableId = TableId::StandAloneSig;
 
     fn from_row(row: &W) -> StandAloneSig<S> {
-        StandAloneSig {
-            signature: row.signature(0, SigKind::StandAlone),
-        }
+        read_row!(row => StandAloneSig; signature: signature(0, SigKind::StandAlone))
     }
 }
 

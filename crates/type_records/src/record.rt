@@ -15,19 +15,25 @@ use tables::Cell;
 /// A record that can be read from any kind of row.
 pub trait FromRow<'m, W: Row<'m>>: Sized {
     // the table of the row
-    ghost table: { Table };
+    ghost TABLE: { Table };
 
     // the content of the record: its fields in the order of the columns
     ghost fields: { Self → List TheCell };
 
     /// The table of the row.
-    fn table_id() -> TableId
-        ensures { result ≡ table };
+    const TABLE: TableId;
 
     /// The record of a row.
     fn from_row(row: &W) -> Self
-        requires { AreHeld (W.holds row.now) 0 (kinds_of table) }
-        ensures { AreSaid (W.says row.now) 0 (kinds_of table) (fields result) };
+        requires { AreHeld (W.holds row.now) 0 (kinds_of TABLE) }
+        ensures { AreSaid (W.says row.now) 0 (kinds_of TABLE) (fields result) };
+
+    /// The table of the row.
+    final fn table_id() -> TableId
+        ensures { result ≡ TABLE }
+    {
+        Self::TABLE
+    }
 }
 
 /// A row of a table as a record, whose fields have the names of the columns (II.22).
@@ -36,7 +42,7 @@ pub trait Record<'m>: FromRow<'m, CellRow<'m>> {
     ///
     /// It borrows from the cells and does not allocate.
     final fn from_cells(cells: &'m [Cell]) -> Option<Self>
-        ensures kinds { IsSome result ↔ AreOfKinds (kinds_of Self.table) (all_said cells.now) }
+        ensures kinds { IsSome result ↔ AreOfKinds (kinds_of Self.TABLE) (all_said cells.now) }
         ensures fields { IfSome result (λ it. Self.fields it ≡ all_said cells.now) }
     {
         record_of(cells)
@@ -50,10 +56,10 @@ pub trait Record<'m>: FromRow<'m, CellRow<'m>> {
 /// The record of these cells; `None` if they do not have the number and kinds of its table's rows.
 #[tactic(auto, using(crate::proofs::RowLemmas::cells_are_held))]
 pub fn record_of<'m, R: FromRow<'m, CellRow<'m>>>(cells: &'m [Cell]) -> Option<R>
-    ensures kinds { IsSome result ↔ AreOfKinds (kinds_of R.table) (all_said cells.now) }
+    ensures kinds { IsSome result ↔ AreOfKinds (kinds_of R.TABLE) (all_said cells.now) }
     ensures fields { IfSome result (λ it. R.fields it ≡ all_said cells.now) }
 {
-    if !is_row_of(R::table_id(), cells) {
+    if !is_row_of(R::TABLE, cells) {
         return None;
     }
     Some(R::from_row(&CellRow { cells }))

@@ -6,6 +6,14 @@ ghost use Rattle.type_records.specs.Shapes as shape;
 use crate::signature::IsSignature;
 use table_schema::{SigKind, Token};
 
+/// A record of a row: each field is read from the cell with an index.
+#[macro_export]
+macro_rules! read_row {
+    ($row:ident => $record:ident; $($field:ident: $kind:ident($($cell:expr),+)),+ $(,)?) => {
+        $record { $($field: $row.$kind($($cell),+)),+ }
+    };
+}
+
 /// A row of a table, which is read cell by cell. Cell indexes count from 0. A padding column has no cell.
 pub trait Row<'m> {
     /// The type of the value of a signature cell.

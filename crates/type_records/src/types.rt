@@ -5,18 +5,19 @@ ghost use Rattle.metadata.specs.Cell.{Number, Text, Guid, Ref, Start, Sig};
 ghost use Rattle.tables.specs.Said.{all_said};
 ghost use Rattle.metadata.specs.Names.{full_name};
 
-use crate::owned_row;
 use crate::record::{FromRow, Record};
 use crate::row::Row;
 use crate::signature::IsSignature;
+use crate::{owned_row, read_row};
 use std::alloc::{AllocError, Global};
 use std::fmt;
 use table_schema::{SigKind, TableId};
 use tables::{Cell, Signature, Token};
 
-/// The namespace and the name of a type.
+/// The namespace and the name of a type. It is shown as its full name: the namespace and a dot, unless the namespace is
+/// empty, then the name.
 #[derive(Clone, Copy)]
-struct FullName<'m>(&'m str, &'m str);
+pub struct FullName<'m>(pub &'m str, pub &'m str);
 
 impl fmt::Display for FullName<'_> {
     ghost output = { λ r. Some (full_name r.0.now r.1.now) };
@@ -46,22 +47,18 @@ pub struct Module<'m> {
 }
 
 impl<'m, W: Row<'m>> FromRow<'m, W> for Module<'m> {
-    ghost table = { table.Module };
+    ghost TABLE = { table.Module };
 
     ghost fields = { λ r. Number r.generation ∷ Text r.name.now ∷ Guid r.mvid ∷ Guid r.enc_id ∷ Guid r.enc_base_id
         ∷ [] };
 
-    fn table_id() -> TableId {
-        TableId::Module
-    }
+    const TABLE: TableId = TableId::Module;
 
     fn from_row(row: &W) -> Module<'m> {
-        Module {
-            generation: row.number(0),
-            name: row.text(1),
-            mvid: row.guid(2),
-            enc_id: row.guid(3),
-            enc_base_id: row.guid(4),
+        read_row! {
+            row => Module;
+            generation: number(0), name: text(1), mvid: guid(2), enc_id: guid(3),
+            enc_base_id: guid(4),
         }
     }
 }
@@ -89,19 +86,16 @@ pub struct TypeRef<'m> {
 }
 
 impl<'m, W: Row<'m>> FromRow<'m, W> for TypeRef<'m> {
-    ghost table = { table.TypeRef };
+    ghost TABLE = { table.TypeRef };
 
     ghost fields = { λ r. Ref r.resolution_scope ∷ Text r.type_name.now ∷ Text r.type_namespace.now ∷ [] };
 
-    fn table_id() -> TableId {
-        TableId::TypeRef
-    }
+    const TABLE: TableId = TableId::TypeRef;
 
     fn from_row(row: &W) -> TypeRef<'m> {
-        TypeRef {
-            resolution_scope: row.reference(0),
-            type_name: row.text(1),
-            type_namespace: row.text(2),
+        read_row! {
+            row => TypeRef;
+            resolution_scope: reference(0), type_name: text(1), type_namespace: text(2),
         }
     }
 }
@@ -139,23 +133,18 @@ pub struct TypeDef<'m> {
 }
 
 impl<'m, W: Row<'m>> FromRow<'m, W> for TypeDef<'m> {
-    ghost table = { table.TypeDef };
+    ghost TABLE = { table.TypeDef };
 
     ghost fields = { λ r. Number r.flags ∷ Text r.type_name.now ∷ Text r.type_namespace.now ∷ Ref r.extends
         ∷ Start r.field_list ∷ Start r.method_list ∷ [] };
 
-    fn table_id() -> TableId {
-        TableId::TypeDef
-    }
+    const TABLE: TableId = TableId::TypeDef;
 
     fn from_row(row: &W) -> TypeDef<'m> {
-        TypeDef {
-            flags: row.number(0),
-            type_name: row.text(1),
-            type_namespace: row.text(2),
-            extends: row.reference(3),
-            field_list: row.start(4),
-            method_list: row.start(5),
+        read_row! {
+            row => TypeDef;
+            flags: number(0), type_name: text(1), type_namespace: text(2), extends: reference(3),
+            field_list: start(4), method_list: start(5),
         }
     }
 }
@@ -189,19 +178,14 @@ pub struct InterfaceImpl {
 }
 
 impl<'m, W: Row<'m>> FromRow<'m, W> for InterfaceImpl {
-    ghost table = { table.InterfaceImpl };
+    ghost TABLE = { table.InterfaceImpl };
 
     ghost fields = { λ r. Ref r.class ∷ Ref r.interface ∷ [] };
 
-    fn table_id() -> TableId {
-        TableId::InterfaceImpl
-    }
+    const TABLE: TableId = TableId::InterfaceImpl;
 
     fn from_row(row: &W) -> InterfaceImpl {
-        InterfaceImpl {
-            class: row.reference(0),
-            interface: row.reference(1),
-        }
+        read_row!(row => InterfaceImpl; class: reference(0), interface: reference(1))
     }
 }
 
@@ -223,19 +207,14 @@ pub struct NestedClass {
 }
 
 impl<'m, W: Row<'m>> FromRow<'m, W> for NestedClass {
-    ghost table = { table.NestedClass };
+    ghost TABLE = { table.NestedClass };
 
     ghost fields = { λ r. Ref r.nested_class ∷ Ref r.enclosing_class ∷ [] };
 
-    fn table_id() -> TableId {
-        TableId::NestedClass
-    }
+    const TABLE: TableId = TableId::NestedClass;
 
     fn from_row(row: &W) -> NestedClass {
-        NestedClass {
-            nested_class: row.reference(0),
-            enclosing_class: row.reference(1),
-        }
+        read_row!(row => NestedClass; nested_class: reference(0), enclosing_class: reference(1))
     }
 }
 
@@ -259,19 +238,16 @@ pub struct ClassLayout {
 }
 
 impl<'m, W: Row<'m>> FromRow<'m, W> for ClassLayout {
-    ghost table = { table.ClassLayout };
+    ghost TABLE = { table.ClassLayout };
 
     ghost fields = { λ r. Number r.packing_size ∷ Number r.class_size ∷ Ref r.parent ∷ [] };
 
-    fn table_id() -> TableId {
-        TableId::ClassLayout
-    }
+    const TABLE: TableId = TableId::ClassLayout;
 
     fn from_row(row: &W) -> ClassLayout {
-        ClassLayout {
-            packing_size: row.number(0),
-            class_size: row.number(1),
-            parent: row.reference(2),
+        read_row! {
+            row => ClassLayout;
+            packing_size: number(0), class_size: number(1), parent: reference(2),
         }
     }
 }
@@ -292,18 +268,14 @@ pub struct TypeSpec<S> {
 }
 
 impl<'m, S: IsSignature, W: Row<'m, Signature = S>> FromRow<'m, W> for TypeSpec<S> {
-    ghost table = { table.TypeSpec };
+    ghost TABLE = { table.TypeSpec };
 
     ghost fields = { λ r. Sig (S.body column.TypeSpec r.signature) ∷ [] };
 
-    fn table_id() -> TableId {
-        TableId::TypeSpec
-    }
+    const TABLE: TableId = TableId::TypeSpec;
 
     fn from_row(row: &W) -> TypeSpec<S> {
-        TypeSpec {
-            signature: row.signature(0, SigKind::TypeSpec),
-        }
+        read_row!(row => TypeSpec; signature: signature(0, SigKind::TypeSpec))
     }
 }
 

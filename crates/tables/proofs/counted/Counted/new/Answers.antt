@@ -1,7 +1,15 @@
-use Rattle.tables.proofs.Prelude.{◌≡◌, ℕ, List, slice_index_or, ap, arith, ◌∙◌, length-set, before_more, TableId, Module, count_in, refusals_of_count}
+use Rattle.tables.proofs.Prelude.{ℕ, ◌≤◌, subst, arith, HoldBefore, TableId, table_index_of, Metadata, count_in, refusals_of_count, ◌≡◌, List, slice_index_or, ap, ◌∙◌, length-set, before_more, Module}
+use Rattle.table_schema.proofs.TableFacts.{table_at_index, table_index_below}
 use Rattle.metadata.proofs.ByNumber.{known_more}
-use Rattle.tables.proofs.CountLemmas.{few_rows}
 use Rattle.tables.proofs.counted.Counted.new.Goals as goal
+
+-- each table is within the limit of rows
+few_rows : (model : Metadata) (end : ℕ) → 38 ≤ end → HoldBefore (refusals_of_count model) 0 end → (table : TableId) → count_in model table ≤ 0xFFFFFF
+unfolding refusals_of_count
+few_rows model end far hold table =
+    let P : TableId → Type 0 = λ t. count_in model t ≤ 0xFFFFFF in
+    let within = table_index_below table in
+    subst P (table_at_index table) (hold.each (table_index_of table) (omega arith) (omega arith)).0
 
 pub loop-table_index-preserved : goal.loop-table_index-preserved
 loop-table_index-preserved c =
