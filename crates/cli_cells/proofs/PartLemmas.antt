@@ -1,6 +1,5 @@
 -- Parts of lines.
-use Rattle.cli_cells.proofs.Prelude.{◌≡◌, ◌∙◌, ℕ, zero, suc, ◌+◌, List, [], ◌∷◌, ◌++◌, Option, Some, None, ◌⊎◌, inl, inr, ap, subst, sym, refl, arith, flat_map_more, Part, form_from, line_feed, line_from, part_letters, part_text, Adds, AwaitsOrFails, Printed, cell_part, Hidden, Shown}
-use Rattle.std.specs.List.{flat_map, range_with_len}
+use Rattle.cli_cells.proofs.Prelude.{◌≡◌, ◌∙◌, ℕ, zero, suc, ◌+◌, List, [], ◌∷◌, ◌++◌, Option, Some, None, ◌⊎◌, inl, inr, ap, subst, sym, refl, arith, flat_map_more, Part, form_from, line_feed, line_from, part_letters, part_text, Adds, AwaitsOrFails, Printed, cell_part, Hidden, Shown, flat_map, range_with_len}
 use Rattle.cli_lines.specs.declared.line.Before.{Before}
 use Rattle.cli_lines.specs.declared.parts.Form.{Form}
 use Rattle.cli_lines.specs.declared.parts.Form.TheVariants.{Text, Letters, JsonLines}

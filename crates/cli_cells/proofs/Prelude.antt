@@ -3,32 +3,19 @@ pub use Rattle.std.proofs.Common.{◌≡◌, ◌∙◌, ℕ, ◌-◌, ◌<◌, �
 pub use Rattle.std.proofs.lemmas.Bool.{eqb-true, ltb-true, ne_eqb, eq-eqb}
 pub use Rattle.std.proofs.lemmas.List.{flat_map_more, take_all, take_more, drop_more, take-append-drop}
 pub use Rattle.std.proofs.lemmas.List.Elements.{All-head, All-tail, All-more, All-nil}
-pub use Rattle.std.specs.List.{range_with_len}
+pub use Rattle.std.specs.List.{range_with_len, flat_map}
 pub use Rattle.std.specs.Prelude.{slice_index_or, is_some}
 pub use Rattle.packed.proofs.RuleLemmas.{each_holds, none_fails}
-pub use Rattle.packed.specs.Rule.{AllHold}
-pub use Rattle.table_schema.specs.CellColumns.{is_padding, column_of, cell_count}
-pub use Rattle.table_schema.specs.Columns.{columns_of, column_at}
-pub use Rattle.table_schema.specs.declared.column.ColumnKind.{ColumnKind}
-pub use Rattle.table_schema.specs.declared.table.TableId.{TableId}
+pub use Rattle.cli_cells.specs.Words.{AllHold, is_padding, column_of, cell_count, columns_of, column_at, ColumnKind, TableId, Metadata, count_in, IsModel, rows_in, Source, SourceAt, IsBroken, IsBrokenRow, IsFirstBroken, BrokenRow, source_in, rules_before, Part, form_from, line_feed, part_letters, part_text, Adds, AwaitsOrFails, Printed, Prints}
 pub use Rattle.table_schema.specs.declared.table.TableId.TheVariants.{Module}
-pub use Rattle.metadata.specs.Metadata.{Metadata, count_in}
-pub use Rattle.metadata.specs.Model.{IsModel}
 pub use Rattle.metadata.specs.Rows.{table_at, StandsIn}
 pub use Rattle.metadata.specs.Rules.{MayRefer, rules_of_number}
 unfoldable pub use Rattle.metadata.specs.Rules.{rules_of_cells, rules_of_table, rules_of_table_at, rules_of_row, rules_of_cell}
-pub use Rattle.metadata.specs.Source.{rows_in, Source}
 unfoldable pub use Rattle.metadata.specs.Source.{number_of}
-pub use Rattle.metadata.specs.SourceAt.{SourceAt}
 unfoldable pub use Rattle.metadata.specs.SourceAt.{cell_offset}
 unfoldable pub use Rattle.metadata.specs.Starts.{start_of}
-pub use Rattle.checks.specs.Broken.{IsBroken, IsBrokenRow, IsFirstBroken}
-pub use Rattle.checks.specs.declared.cell_checks.BrokenRow.{BrokenRow}
 unfoldable pub use Rattle.opening.specs.Views.{row_count, user_of}
-pub use Rattle.cli_files.specs.Checked.{source_in, rules_before}
-pub use Rattle.cli_lines.specs.Lines.{Part, form_from, line_feed, part_letters, part_text}
 unfoldable pub use Rattle.cli_lines.specs.Lines.{line_from}
-pub use Rattle.cli_lines.specs.Printed.{Adds, AwaitsOrFails, Printed, Prints}
 pub use Rattle.cli_cells.specs.Before.{lines_before}
 pub use Rattle.cli_cells.specs.MetRows.{rows_before}
 pub use Rattle.cli_cells.specs.RowLines.{cell_part, cell_parts, row_line}

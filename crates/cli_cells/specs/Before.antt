@@ -1,13 +1,7 @@
 -- What `clim show --until-fault` prints of bytes that break a rule: the rows before the first broken one (ECMA-335 II.22).
 use Rattle.std.specs.Prelude.{◌≡◌, ℕ, ◌⊎◌, List, [], flat_map, Option}
-use Rattle.packed.specs.Rule.{AllHold}
-use Rattle.table_schema.specs.declared.table.TableId.{TableId}
-use Rattle.metadata.specs.Source.{Source}
-use Rattle.checks.specs.Broken.{IsFirstBroken}
-use Rattle.checks.specs.declared.cell_checks.BrokenRow.{BrokenRow}
-use Rattle.cli_files.specs.Checked.{rules_before, source_in}
+use Rattle.cli_cells.specs.Words.{AllHold, TableId, Source, IsFirstBroken, BrokenRow, rules_before, source_in, Part}
 use Rattle.cli_files.specs.declared.opened.Input.{Input}
-use Rattle.cli_lines.specs.Lines.{Part}
 use Rattle.cli_cells.specs.MetRows.{rows_before}
 use Rattle.cli_cells.specs.RowLines.{first_lines}
 use Rattle.cli_cells.specs.Shown.{content_at}

@@ -1,3 +1,4 @@
+pub mod Words
 pub mod SignatureText
 pub mod RowLines
 pub mod TokenLines

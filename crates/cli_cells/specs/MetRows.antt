@@ -1,14 +1,9 @@
 -- The rows of a root before the first that breaks a rule for cells, and what they are read with (ECMA-335 II.22).
 use Rattle.std.specs.Prelude.{ℕ, ◌-◌, ◌==◌, nat_lt, if◌then◌else◌, Option, Some, None}
-use Rattle.table_schema.specs.declared.table.TableId.{TableId}
-use Rattle.table_schema.specs.Tables.{table_index_of}
-use Rattle.metadata.specs.Source.{Source, rows_in}
-use Rattle.metadata.specs.SourceAt.{SourceAt}
+use Rattle.cli_cells.specs.Words.{TableId, table_index_of, Source, rows_in, SourceAt, IsFirstBroken, BrokenRow}
 use Rattle.reading.specs.KnownStarts.{AreKnown}
 use Rattle.reading.specs.Cursors.{AreCursors}
-use Rattle.checks.specs.Broken.{IsFirstBroken}
-use Rattle.checks.specs.declared.cell_checks.BrokenRow.{BrokenRow}
-use Rattle.cli_cells.specs.declared.met_rows.MetRows.TheInside.{Inside}
+use Rattle.cli_cells.specs.declared.until_fault.MetRows.TheInside.{Inside}
 
 -- the number of rows of a table that come before a broken row; all of them if no row is broken
 abbrev pub rows_before : Source → Option BrokenRow → TableId → ℕ

@@ -1,16 +1,8 @@
 -- What `clim show` prints: the rows of a model's tables, one on a line (ECMA-335 II.22).
 use Rattle.std.specs.Prelude.{◌==◌, ℕ, if◌then◌else◌, List, [], ◌∷◌, ◌++◌, codes, flat_map, map}
 use Rattle.std.specs.List.{range_with_len}
-use Rattle.table_schema.specs.declared.table.TableId.{TableId}
-use Rattle.table_schema.specs.declared.token.Token.{Token}
-use Rattle.table_schema.specs.Tables.{table_number, table_name}
-use Rattle.table_schema.specs.CellColumns.{cell_count}
-use Rattle.sig_grammar.specs.Encodes.{short}
-use Rattle.metadata.specs.Cell.{Cell, Number, Text, Bytes, Guid, Ref, Start, Sig}
-use Rattle.metadata.specs.Metadata.{Metadata}
+use Rattle.cli_cells.specs.Words.{TableId, Token, table_number, table_name, cell_count, short, Cell, Number, Text, Bytes, Guid, Ref, Start, Sig, Metadata, Part, Value, word, field, note, row_number, row_token, spaced, label_text, name_text}
 use Rattle.cli_lines.specs.Lines as line
-use Rattle.cli_lines.specs.Lines.{Part, Value, word, field, note, row_number, row_token, spaced}
-use Rattle.cli_lines.specs.Names.{label_text, name_text}
 use Rattle.cli_lines.specs.declared.names.Name.{Name}
 use Rattle.cli_lines.specs.declared.names.Name.TheVariants as name
 use Rattle.cli_cells.specs.Shown.{Content, content_of}

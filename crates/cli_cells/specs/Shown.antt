@@ -1,21 +1,13 @@
 -- The cells that are read for the numbers of rows, whether or not the later rules hold (ECMA-335 II.22).
 use Rattle.std.specs.Prelude.{◌≡◌, ◌==◌, ℕ, zero, suc, ◌*◌, ◌/◌, ◌%◌, ◌^◌, if◌then◌else◌, List, [], ◌∷◌, take, drop, Option, Some, None, slice_get}
 use Rattle.packed.specs.Prefix.{unsigned_at}
-use Rattle.table_schema.specs.declared.table.TableId.{TableId}
+use Rattle.cli_cells.specs.Words.{TableId, ColumnKind, column_at, column_of, Body, Cell, Number, Text, Bytes, Guid, Ref, Start, Sig, Metadata, count_in, cell_in, IsModel, Source, rows_in, number_of}
 use Rattle.table_schema.specs.declared.coded.Coded.{Coded}
 use Rattle.table_schema.specs.declared.column.SigKind.{SigKind}
-use Rattle.table_schema.specs.declared.column.ColumnKind.{ColumnKind}
 use Rattle.table_schema.specs.declared.column.ColumnKind.TheVariants as kind
 use Rattle.table_schema.specs.CodedIndexes.{tables_of, tag_bits}
-use Rattle.table_schema.specs.Columns.{column_at}
-use Rattle.table_schema.specs.CellColumns.{column_of}
-use Rattle.sig_grammar.specs.Syntax.{Body}
 use Rattle.sig_grammar.specs.Reading.{core_at}
 use Rattle.sig_grammar.specs.Columns.{body_at}
-use Rattle.metadata.specs.Cell.{Cell, Number, Text, Bytes, Guid, Ref, Start, Sig}
-use Rattle.metadata.specs.Metadata.{Metadata, count_in, cell_in}
-use Rattle.metadata.specs.Model.{IsModel}
-use Rattle.metadata.specs.Source.{Source, rows_in, number_of}
 use Rattle.metadata.specs.Starts.{start_of}
 
 -- the text at an index (II.24.2.3): the bytes up to the first NUL; at index 0 none

@@ -1,7 +1,6 @@
 -- The text of a signature, in which a type is named by its token (ECMA-335 II.15.3).
 use Rattle.std.specs.Prelude.{ℕ, List, [], flat_map, Some, unwrap_or}
-use Rattle.table_schema.specs.Tokens.{token_text}
-use Rattle.sig_grammar.specs.Syntax.{Body}
+use Rattle.cli_cells.specs.Words.{token_text, Body}
 use Rattle.sig_text.specs.SignatureText.{Piece}
 use Rattle.sig_text.specs.SignatureText as pieces
 use Rattle.sig_text.specs.PieceText.{piece_text}

@@ -2,18 +2,11 @@
 use Rattle.std.specs.Prelude.{◌≡◌, ◌≢◌, ◌≤◌, ℕ, ◌/◌, ◌%◌, ◌^◌, ◌⊎◌, List, [], ◌∷◌, ◌++◌, codes, Option, None, Some}
 use Rattle.std.specs.List.{All}
 use Rattle.heap_entries.specs.Entries.{IsUserString, UserText}
-use Rattle.heap_entries.specs.Padding.{zero_padded}
-use Rattle.table_schema.specs.declared.token.Token.{Token}
-use Rattle.table_schema.specs.Tokens.{IsToken}
+use Rattle.cli_cells.specs.Words.{zero_padded, Token, IsToken, Metadata, IsModel, row_count, user_of, Part, word, field, member, units, Printed, Prints}
 use Rattle.metadata.specs.Lookups.{HasRow}
-use Rattle.metadata.specs.Metadata.{Metadata}
-use Rattle.metadata.specs.Model.{IsModel}
-use Rattle.opening.specs.Views.{row_count, user_of}
 use Rattle.cli_faults.specs.declared.failure.Failure.{Failure}
 use Rattle.cli_faults.specs.declared.failure.Failure.TheVariants as failed
 use Rattle.cli_lines.specs.Lines as line
-use Rattle.cli_lines.specs.Lines.{Part, word, field, member, units}
-use Rattle.cli_lines.specs.Printed.{Printed, Prints}
 use Rattle.cli_lines.specs.declared.names.Name.TheVariants as name
 use Rattle.cli_cells.specs.RowLines.{row_line}
 use Rattle.cli_cells.specs.Shown.{content_of}

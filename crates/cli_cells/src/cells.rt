@@ -1,31 +1,27 @@
-//! The values of cells, and the names of columns.
-ghost use Rattle.std.specs.Prelude.{◌≡◌, ◌≢◌, ◌≤◌, ◌<◌, ◌∷◌, []};
-ghost use Rattle.table_schema.specs.CellColumns.{cell_count};
-ghost use Rattle.sig_grammar.specs.Syntax.{Body};
-ghost use Rattle.sig_grammar.specs.Encodes.{Encodes, short};
-ghost use Rattle.metadata.specs.Cell.{Cell};
-ghost use Rattle.reading.specs.Shown.{Shows};
+//! The values of cells, the texts of signatures (II.15.3), and the names of columns.
+ghost use Rattle.std.specs.Prelude.{◌≡◌, ◌≢◌, ◌≤◌, ◌<◌, ◌∷◌, [], IfOk, is_some, is_ok};
+ghost use Rattle.cli_cells.specs.Words.{cell_count, Body, Encodes, short, Cell, Shows, column_name, Adds};
 ghost use Rattle.reading.specs.declared.cell_ref.CellRef.TheVariants as seen;
 ghost use Rattle.table_schema.specs.declared.column.ColumnKind.{ColumnKind as Kind};
 ghost use Rattle.cli_lines.specs.Shown.{shown_value};
 ghost use Rattle.cli_lines.specs.Lines as line;
-ghost use Rattle.cli_lines.specs.Names.{column_name};
-ghost use Rattle.cli_lines.specs.Printed.{Adds};
 ghost use Rattle.cli_cells.specs.RowLines.{cell_part, cell_value};
 ghost use Rattle.cli_cells.specs.Shown.{Content};
 ghost use Rattle.cli_cells.specs.SignatureText.{signature_text};
+ghost use Rattle.sig_text.specs.Refused.{refused_after};
 
 use crate::row_lines::Names;
 use crate::shown_rows::ShownRows;
-use crate::signature_text::signature_text;
 use cli_lines::Part::{Field, Spaced};
 use cli_lines::Value::{self, Bytes, Guid, Number, Quoted, Reference, Signature, Start};
-use cli_lines::{Form, Name, Printer};
+use cli_lines::{Form, Name, Printer, push_token};
+use itoa::Buffer;
 use metadata_source::kind_of;
 use opening::{CellRef, TableId};
 use schema::column_names;
+use sig_text::{TextSink, Token, write_encoded};
 use signatures::{canonical_encoding, is_plainly_canonical};
-use std::alloc::Global;
+use std::alloc::{AllocError, Global};
 use std::io::Write;
 use table_schema::{ColumnKind, SigKind, column_of_cell};
 
@@ -38,20 +34,20 @@ pub fn print_cell<'a, R: ShownRows<'a>, W: Write>(
     names: Names,
     name: Name,
     rows: &mut R,
-    table: TableId,
-    row: u32,
+    row: Token,
     cell_index: usize,
     out: &mut Printer<'_, W>,
 )
-    requires first { 1 ≤ row }
-    requires last { row ≤ R.ready_rows rows.old table }
-    requires cell_index { cell_index < cell_count table }
+    requires first { 1 ≤ row.row }
+    requires last { row.row ≤ R.ready_rows rows.old row.table }
+    requires cell_index { cell_index < cell_count row.table }
     ensures same { rows.new ≡ rows.old }
     ensures part { (content : Content) → R.shows rows.old content
-        → Adds out.old out.new (cell_part names name (cell_value (content.cell table row cell_index)) ∷ []) }
+        → Adds out.old out.new (cell_part names name (cell_value (content.cell row.table row.row cell_index)) ∷ []) }
 {
-    let value = rows.cell(table, row, cell_index);
-    print_value(alloc, names, name, kind_of(table, cell_index), value, out);
+    let value = rows.cell(row.table, row.row, cell_index);
+    let kind = kind_of(row.table, cell_index);
+    print_value(alloc, names, name, kind, value, out);
 }
 
 /// Adds the value of a cell in a column of a kind.
@@ -153,4 +149,83 @@ pub fn column_name(table: TableId, cell_index: usize) -> &'static str
 {
     table_schema::laws::cells_have_columns();
     column_names(table)[column_of_cell(table, cell_index)]
+}
+
+/// The room for the text of a signature that is taken at once, in bytes. Most texts are shorter.
+const ROOM: usize = 128;
+
+/// A sink that keeps the text of a signature. A type is named by its token.
+#[derive(Drop)]
+struct SignatureText {
+    /// For the digits of tokens.
+    alloc: Global,
+    /// The text so far.
+    text: Vec<u8>,
+    /// Whether memory ran out.
+    refused: bool,
+}
+
+/// The result of a sink's call from that of its text. It records whether memory ran out.
+fn answer(refused: &mut bool, pushed: Result<(), AllocError>) -> Option<()>
+    ensures words { refused.new ≡ refused_after result refused.old }
+    ensures taken { is_some result ≡ is_ok pushed }
+{
+    if pushed.is_err() {
+        *refused = true;
+        return None;
+    }
+    Some(())
+}
+
+impl TextSink for SignatureText {
+    ghost use Rattle.std.specs.Prelude.{◌≡◌, ◌++◌, true};
+    ghost use Rattle.cli_cells.specs.SignatureText.{piece_bytes};
+
+    ghost refused = { λ s. s.refused };
+
+    ghost gives = { λ s piece taken t. taken ≡ true → t.text.items ≡ s.text.items ++ piece_bytes piece };
+
+    fn text(&mut self, text: &str) -> Option<()> {
+        let pushed = self.text.extend_from_slice(text.as_bytes());
+        answer(&mut self.refused, pushed)
+    }
+
+    fn number(&mut self, number: u32) -> Option<()> {
+        let mut digits = Buffer::new();
+        self.text(digits.format(number))
+    }
+
+    fn signed(&mut self, value: i64) -> Option<()> {
+        let mut digits = Buffer::new();
+        self.text(digits.format(value))
+    }
+
+    fn name(&mut self, token: Token) -> Option<()> {
+        let pushed = push_token(self.alloc, token, &mut self.text);
+        answer(&mut self.refused, pushed)
+    }
+}
+
+/// The text of the signature in a blob.
+///
+/// # Errors
+///
+/// Out of memory.
+pub(crate) fn signature_text(
+    alloc: Global,
+    kind: SigKind,
+    blob: &[u8],
+) -> Result<Vec<u8>, AllocError>
+    ensures { (signature : Body) → Encodes kind signature blob.now → IfOk result (λ text. text.items ≡ signature_text signature) }
+{
+    let text = Vec::with_capacity(alloc, ROOM)?;
+    let mut sink = SignatureText {
+        alloc,
+        text,
+        refused: false,
+    };
+    match write_encoded(&mut sink, blob, kind) {
+        Some(()) => Ok(sink.text),
+        None => Err(AllocError),
+    }
 }

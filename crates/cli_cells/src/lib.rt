@@ -12,17 +12,13 @@
 #![tactic(auto)]
 
 mod cells;
-mod met_rows;
 mod row_lines;
 mod shown_rows;
-mod signature_text;
-mod table_lines;
 mod tokens;
 mod until_fault;
 
 pub use cells::{column_name, print_cell};
-pub use row_lines::Names;
+pub use row_lines::{Names, print_show};
 pub use shown_rows::ShownRows;
-pub use table_lines::print_show;
 pub use tokens::{padded_copy, print_tokens};
 pub use until_fault::print_until_fault;

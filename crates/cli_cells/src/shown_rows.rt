@@ -1,5 +1,5 @@
 //! Rows that can be printed.
-ghost use Rattle.opening.specs.Views.{row_count};
+ghost use Rattle.cli_cells.specs.Words.{row_count};
 ghost use Rattle.cli_cells.specs.Shown.{IsContent};
 
 use opening::{CellCursor, CellRef, TableId};

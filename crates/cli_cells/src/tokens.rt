@@ -1,12 +1,6 @@
 //! `clim token`: the rows and user strings that tokens name (ECMA-335 III.1.9 and II.24.2.4).
 ghost use Rattle.std.specs.Prelude.{◌≡◌, ◌≤◌, ◌∷◌, [], List, IfErr, IfNone, IfOk, IfSome, OnOk, OnSome, All};
-ghost use Rattle.heap_entries.specs.Padding.{zero_padded};
-ghost use Rattle.table_schema.specs.Tokens.{IsToken};
-ghost use Rattle.metadata.specs.Metadata.{Metadata};
-ghost use Rattle.metadata.specs.Model.{IsModel};
-ghost use Rattle.opening.specs.Views.{row_count, user_of};
-ghost use Rattle.cli_lines.specs.Lines.{Part};
-ghost use Rattle.cli_lines.specs.Printed.{Prints};
+ghost use Rattle.cli_cells.specs.Words.{zero_padded, IsToken, Metadata, IsModel, row_count, user_of, Part, Prints};
 ghost use Rattle.cli_cells.specs.TokenLines.{ArePrinted, HasTokenRow, IsNamed, IsTokenLine, Reports, user_line};
 
 use crate::row_lines::{Names, print_row};
@@ -107,14 +101,7 @@ fn print_named<W: Write>(
     }
     let token = existing_row(view, number)?;
     let mut cells = CellCursor::new(view);
-    print_row(
-        alloc,
-        Names::Hidden,
-        &mut cells,
-        token.table,
-        token.row,
-        out,
-    );
+    print_row(alloc, Names::Hidden, &mut cells, token, out);
     Some(())
 }
 

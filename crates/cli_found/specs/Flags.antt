@@ -1,11 +1,7 @@
 -- The words of the flags in a cell (ECMA-335 II.22 and II.23.1).
 use Rattle.std.specs.Prelude.{ℕ, ◌&&◌, ◌==◌, if◌then◌else◌, bit_and, find, List, [], ◌∷◌, ◌++◌, codes, fold, Option}
-use Rattle.table_schema.specs.declared.table.TableId.{TableId}
-use Rattle.table_schema.specs.Tables.{table_number}
-use Rattle.type_heads.specs.FlagWords.{Word, words_of}
+use Rattle.cli_found.specs.Words.{TableId, table_number, Word, words_of, Name, Part, plain, spaced}
 use Rattle.type_heads.specs.declared.flag_words.FlagTable.{FlagTable}
-use Rattle.cli_lines.specs.declared.names.Name.{Name}
-use Rattle.cli_lines.specs.Lines.{Part, plain, spaced}
 use Rattle.cli_found.specs.declared.flags.TheConstants.{FLAG_COLUMNS}
 
 -- the table, the number and the kind of the flags of a column, if it has flags: `src/flags.rt` lists these columns

@@ -1,32 +1,23 @@
 -- The line of the offset of a fault: the number there, and what its rule compares it with (ECMA-335 II.22 to II.25).
-use Rattle.std.specs.Prelude.{◌≡◌, ◌⊎◌, ◌&&◌, ◌-◌, ◌+◌, ◌/◌, ◌%◌, ◌^◌, ◌==◌, ℕ, Bool, nat_le, nat_lt, if◌then◌else◌, List, [], ◌∷◌, ◌++◌, codes, decimal, length, Option, None, Some, option_and_then, slice_get}
+use Rattle.std.specs.Prelude.{◌≡◌, ◌⊎◌, ◌&&◌, ◌-◌, ◌+◌, ◌/◌, ◌%◌, ◌^◌, ◌==◌, ℕ, Bool, not, nat_le, nat_lt, if◌then◌else◌, List, [], ◌∷◌, ◌++◌, codes, count_by, decimal, length, take, Option, None, Some, option_and_then, slice_get}
 use Rattle.std.specs.List.{list_any}
 use Rattle.std.specs.Option.{option_map}
 use Rattle.packed.specs.Codes.{number_of_code}
 use Rattle.packed.specs.declared.code.FaultCode.{FaultCode}
 use Rattle.packed.specs.declared.code.FaultCode.TheVariants.{DosHeader, PeSignature, OptionalHeader, Pe32PlusSize, Magic, Directories, Sections, NoCliHeader, CliAddress, CliSize, MetadataAddress, RootSignature, Version, NoTables, TablesVersion, HeapSizes, UnknownTable, RowCount, NotSorted, BadRun, NoOwner, NestedOrder, EntryPoint}
-use Rattle.packed.specs.Number.{little_endian}
-use Rattle.packed.specs.Offsets.{part}
+use Rattle.cli_found.specs.Words.{little_endian, part, TableId, Coded, ColumnKind, is_padding, tables_of, tag_bits, table_name, TableCell, Name, Part, Value, field, member, number, plain, word, Region, What, cell}
 use Rattle.packed.specs.Rule.{AllHold}
 use Rattle.root.specs.declared.kind.Kind.{Kind}
 use Rattle.root.specs.declared.kind.Kind.TheVariants.{Strings, Guids, Blobs}
 use Rattle.root.specs.Streams.{stream_name}
-use Rattle.table_schema.specs.declared.table.TableId.{TableId}
-use Rattle.table_schema.specs.declared.coded.Coded.{Coded}
-use Rattle.table_schema.specs.declared.column.ColumnKind.{ColumnKind}
+use Rattle.table_schema.specs.declared.column.Column.{Column}
 use Rattle.table_schema.specs.declared.column.ColumnKind.TheVariants as kind
-use Rattle.table_schema.specs.CodedIndexes.{tables_of, tag_bits}
 use Rattle.table_schema.specs.Columns.{column_at, columns_of}
-use Rattle.table_schema.specs.Tables.{table_name}
 use Rattle.table_schema.specs.Tokens.{hexadecimal}
-use Rattle.schema.specs.declared.located_cells.TableCell.{TableCell}
 use Rattle.metadata.specs.Source.{Source, number_of, rows_in}
 use Rattle.cli_files.specs.Checked.{rules_before, source_in}
 use Rattle.cli_files.specs.declared.opened.Input.{Input}
-use Rattle.cli_lines.specs.declared.names.Name.{Name}
 use Rattle.cli_lines.specs.declared.names.Name.TheVariants as name
-use Rattle.cli_lines.specs.Lines.{Part, Value, field, member, number, plain, word}
-use Rattle.cli_regions.specs.Regions.{Region, What, cell}
 use Rattle.cli_found.specs.declared.lines.Lead.{Lead}
 
 -- ---- what a line says
@@ -78,6 +69,14 @@ kind_limit source (kind.Row table) of = rows_limit source table
 kind_limit source (kind.List table) of = rows_limit source table
 kind_limit source (kind.Coded coded) of = tagged_limit source (slice_get (tables_of coded) (of % 2 ^ tag_bits coded))
 kind_limit source _ of = []
+
+-- a column is one of the standard's, and no padding (II.22.9)
+abbrev pub is_counted : Column → Bool
+is_counted column = not (is_padding column.kind)
+
+-- the number of a column, from 0: that of the columns before it, without padding
+abbrev pub column_number : TableCell → ℕ
+column_number of = count_by is_counted (take of.column (columns_of of.table))
 
 abbrev pub kind_of : TableCell → ColumnKind
 kind_of at = (column_at at.table at.column).kind

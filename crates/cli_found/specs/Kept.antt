@@ -1,7 +1,6 @@
 -- What a program keeps of a line, for private clauses.
 use Rattle.std.specs.Prelude.{◌≡◌, ◌⊎◌, ◌==◌, ◌||◌, ℕ, if◌then◌else◌, List, [], Option, None, Some}
-use Rattle.table_schema.specs.declared.coded.Coded.{Coded}
-use Rattle.cli_lines.specs.Lines.{Part}
+use Rattle.cli_found.specs.Words.{Coded, Part}
 use Rattle.cli_lines.specs.Shown.{shown_value}
 use Rattle.cli_found.specs.Found.{lead_at, limit_parts, value_text}
 use Rattle.cli_found.specs.declared.limits.Limit.{Limit}

@@ -1,4 +1,4 @@
-pub mod Columns
+pub mod Words
 pub mod Found
 pub mod Kept
 pub mod Flags

@@ -1,20 +1,14 @@
 -- The line of the number that a structure is, and of a cell what the number means (ECMA-335 II.22, II.24.2.6 and II.25).
 use Rattle.std.specs.Prelude.{ℕ, ◌&&◌, nat_le, nat_lt, Bool, true, false, if◌then◌else◌, List, [], ◌∷◌, ◌++◌, Option, None}
 use Rattle.std.specs.Option.{option_map_or}
-use Rattle.table_schema.specs.declared.column.ColumnKind.{ColumnKind}
+use Rattle.cli_found.specs.Words.{ColumnKind, cell_count, TableCell, Metadata, cell_in, count_in, Part, spaced, Region, What, cell, scalar}
 use Rattle.table_schema.specs.declared.column.ColumnKind.TheVariants as kind
-use Rattle.table_schema.specs.CellColumns.{cell_count}
-use Rattle.schema.specs.declared.located_cells.TableCell.{TableCell}
-use Rattle.metadata.specs.Metadata.{Metadata, cell_in, count_in}
 use Rattle.cli_lines.specs.declared.names.Name.TheVariants as name
-use Rattle.cli_lines.specs.Lines.{Part, spaced}
 use Rattle.cli_cells.specs.RowLines.{cell_value}
-use Rattle.cli_regions.specs.Regions.{Region, What, cell, scalar}
-use Rattle.cli_found.specs.Found.{coded_of, kind_of, last_of, value_line}
+use Rattle.cli_found.specs.Found.{coded_of, column_number, kind_of, last_of, value_line}
 use Rattle.cli_found.specs.Kept.{lead_of}
 use Rattle.cli_found.specs.declared.lines.Lead.{Lead}
 use Rattle.cli_found.specs.Flags.{flag_parts, flags_at}
-use Rattle.cli_found.specs.Columns.{column_number}
 
 -- a cell whose number stands for something else
 abbrev pub refers : ColumnKind → Bool

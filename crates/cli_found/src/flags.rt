@@ -1,7 +1,6 @@
 //! The words of the flags in a cell (II.23.1).
 ghost use Rattle.std.specs.Prelude.{◌≡◌, string_bytes, OnOk, IfOk};
-ghost use Rattle.type_heads.specs.FlagWords.{shown_word};
-ghost use Rattle.cli_lines.specs.Printed.{Adds};
+ghost use Rattle.cli_found.specs.Words.{shown_word, Adds};
 ghost use Rattle.cli_found.specs.Flags.{flag_parts, flag_text, flags_at, text_parts, with_word};
 
 use cli_lines::Part::Spaced;
@@ -12,23 +11,19 @@ use std::io::Write;
 use table_schema::TableId;
 use type_heads::{FlagTable, FlagWord, words_of};
 
-/// The columns of flags (II.22): the table, the number of the column, and the kind of the flags.
-const FLAG_COLUMNS: [(TableId, usize, FlagTable); 15] = [
-    (TableId::TypeDef, 0, FlagTable::Type),
-    (TableId::Field, 0, FlagTable::Field),
-    (TableId::MethodDef, 1, FlagTable::Implementation),
-    (TableId::MethodDef, 2, FlagTable::Method),
-    (TableId::Param, 0, FlagTable::Param),
-    (TableId::Event, 0, FlagTable::Mapped),
-    (TableId::Property, 0, FlagTable::Mapped),
-    (TableId::MethodSemantics, 0, FlagTable::Semantics),
-    (TableId::ImplMap, 0, FlagTable::Import),
-    (TableId::Assembly, 5, FlagTable::Assembly),
-    (TableId::AssemblyRef, 4, FlagTable::Assembly),
-    (TableId::File, 0, FlagTable::File),
-    (TableId::ExportedType, 0, FlagTable::Type),
-    (TableId::ManifestResource, 1, FlagTable::Resource),
-    (TableId::GenericParam, 1, FlagTable::Generic),
+/// Columns by their table, their number, and the kind of their flags.
+macro_rules! flag_columns {
+    ($($table:ident $column:literal $of:ident;)*) => {
+        [$((TableId::$table, $column, FlagTable::$of)),*]
+    };
+}
+
+/// The columns of flags (II.22).
+const FLAG_COLUMNS: [(TableId, usize, FlagTable); 15] = flag_columns![
+    TypeDef 0 Type; Field 0 Field; MethodDef 1 Implementation; MethodDef 2 Method; Param 0 Param;
+    Event 0 Mapped; Property 0 Mapped; MethodSemantics 0 Semantics; ImplMap 0 Import;
+    Assembly 5 Assembly; AssemblyRef 4 Assembly; File 0 File; ExportedType 0 Type;
+    ManifestResource 1 Resource; GenericParam 1 Generic;
 ];
 
 /// The column of flags with this table and number, if the column has flags (II.22).

@@ -12,12 +12,11 @@
 //! ```
 #![tactic(auto)]
 
-mod columns;
 mod flags;
 mod limits;
 mod lines;
 mod values;
 
-pub use columns::{column_number, is_counted};
+pub use limits::{column_number, kind_of};
 pub use lines::print_found;
 pub use values::print_value;

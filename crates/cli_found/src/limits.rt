@@ -1,7 +1,7 @@
-//! The numbers in cells, and what rules compare them with (II.22).
+//! The columns and the numbers of cells, and what rules compare these with (II.22).
 ghost use Rattle.std.specs.Prelude.{◌≡◌, ◌-◌, ◌/◌, ◌%◌, ◌^◌, Option};
-ghost use Rattle.table_schema.specs.CodedIndexes.{tag_bits};
-ghost use Rattle.cli_found.specs.Found.{coded_of, earlier_limit, heap_limit, kind_limit, kind_of, limit_of, nested_limit, number_in, rows_limit};
+ghost use Rattle.cli_found.specs.Words.{tag_bits};
+ghost use Rattle.cli_found.specs.Found.{coded_of, column_number, earlier_limit, heap_limit, is_counted, kind_limit, kind_of, limit_of, nested_limit, number_in, rows_limit};
 ghost use Rattle.cli_found.specs.Kept.{shown_limit};
 
 use cli_faults::FaultCode;
@@ -10,7 +10,7 @@ use cli_lines::Value::{self, Number, Plain};
 use reading::Source;
 use root::Kind;
 use schema::TableCell;
-use table_schema::{Coded, ColumnKind, TableId, columns};
+use table_schema::{Coded, Column, ColumnKind, TableId, columns};
 
 /// The number of bytes of a GUID.
 const GUID_SIZE: usize = 16;
@@ -30,8 +30,15 @@ pub(crate) struct Limit<'a> {
     pub unit: &'a str,
 }
 
+/// What comes before a value, its member and itself, its limit, and what that counts.
+macro_rules! limit {
+    ($before:literal; $name:ident; $of:expr; $limit:expr; $unit:expr) => {
+        Some(Limit { before: $before, name: Name::$name, of: $of, limit: $limit, unit: $unit })
+    };
+}
+
 /// The kind of the column of a cell.
-pub(crate) fn kind_of(cell: TableCell) -> ColumnKind
+pub fn kind_of(cell: TableCell) -> ColumnKind
     ensures { result ≡ kind_of cell }
 {
     columns(cell.table)
@@ -66,26 +73,14 @@ pub(crate) fn number_in(source: &Source<'_>, cell: TableCell) -> Option<u32>
 fn heap_limit(heap: Kind, size: usize, unit: &'static str) -> Option<Limit<'static>>
     ensures { shown_limit result ≡ heap_limit heap size unit.now }
 {
-    Some(Limit {
-        before: "",
-        name: Name::Stream,
-        of: Plain(heap.name()),
-        limit: size as u64,
-        unit,
-    })
+    limit![""; Stream; Plain(heap.name()); size as u64; unit]
 }
 
 /// The number of rows of a table.
 fn rows_limit(source: &Source<'_>, table: TableId) -> Option<Limit<'static>>
     ensures { shown_limit result ≡ rows_limit source.now.source table }
 {
-    Some(Limit {
-        before: "",
-        name: Name::Table,
-        of: Plain(table.name()),
-        limit: u64::from(source.count(table)),
-        unit: " rows",
-    })
+    limit![""; Table; Plain(table.name()); u64::from(source.count(table)); " rows"]
 }
 
 /// The tag of a coded index: its low bits (II.24.2.6).
@@ -130,13 +125,7 @@ fn earlier_limit(source: &Source<'_>, cell: TableCell) -> Option<Limit<'static>>
 {
     let row = cell.row.saturating_sub(1);
     let number = number_in(source, TableCell { row, ..cell })?;
-    Some(Limit {
-        before: "row ",
-        name: Name::Row,
-        of: Number(u64::from(row)),
-        limit: u64::from(number),
-        unit: "",
-    })
+    limit!["row "; Row; Number(u64::from(row)); u64::from(number); ""]
 }
 
 /// The number in the column NestedClass of the same row (II.22.32).
@@ -144,13 +133,7 @@ fn nested_limit(source: &Source<'_>, cell: TableCell) -> Option<Limit<'static>>
     ensures { shown_limit result ≡ nested_limit source.now.source cell }
 {
     let number = number_in(source, TableCell { column: 0, ..cell })?;
-    Some(Limit {
-        before: "",
-        name: Name::Column,
-        of: Plain("NestedClass"),
-        limit: u64::from(number),
-        unit: "",
-    })
+    limit![""; Column; Plain("NestedClass"); u64::from(number); ""]
 }
 
 /// What a rule compares the number in a cell with.
@@ -168,4 +151,21 @@ pub(crate) fn limit_of(
         FaultCode::NoOwner => rows_limit(source, cell.table),
         _ => kind_limit(source, kind_of(cell), number),
     }
+}
+
+/// Whether a column is one of the standard's, and no padding (II.22.9).
+fn is_counted(column: &Column) -> bool
+    ensures { result ≡ is_counted column.now }
+{
+    !matches!(column.kind, ColumnKind::Padding)
+}
+
+/// The number of the column of a cell, from 0. Padding has none, and is not counted.
+#[tactic(auto, using(std::proofs::lemmas::List::take_min))]
+pub fn column_number(cell: TableCell) -> usize
+    ensures { result ≡ column_number cell }
+{
+    let columns = columns(cell.table);
+    let (before, _) = columns.split_at(cell.column.min(columns.len()));
+    before.iter().filter(|column| is_counted(column)).count()
 }

@@ -1,11 +1,8 @@
 //! Prints the line of the offset of a fault.
 ghost use Rattle.std.specs.Prelude.{◌≡◌, ◌∷◌, ◌+◌, ◌≤◌, [], IfSome, length, List, map, Some};
 ghost use Rattle.std.specs.Option.{option_map};
-ghost use Rattle.packed.specs.Number.{little_endian};
-ghost use Rattle.packed.specs.Offsets.{part};
+ghost use Rattle.cli_found.specs.Words.{little_endian, part, Prints, seen, seen_what};
 ghost use Rattle.cli_lines.specs.Lines.{Part as ThePart};
-ghost use Rattle.cli_lines.specs.Printed.{Prints};
-ghost use Rattle.cli_regions.specs.Kept.{seen, seen_what};
 ghost use Rattle.cli_found.specs.Found.{AreFound, IsFound, cell_of, field_size, last_of, lead_at, number_of_cell, offset_line, value_line};
 ghost use Rattle.cli_found.specs.Kept.{IsFieldSize, lead_of, lead_text, shown_found, shown_limit};
 
@@ -52,7 +49,6 @@ impl fmt::Display for Lead {
 }
 
 /// Prints the line of an offset at which there is no number to print.
-#[tactic(auto, unfolding(crate::specs::Found::offset_line))]
 fn print_offset<W: Write>(alloc: Global, offset: u64, out: &mut Printer<'_, W>)
     ensures { Prints out.old out.new (offset_line offset ∷ []) }
 {

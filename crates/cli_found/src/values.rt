@@ -1,24 +1,20 @@
 //! Prints the number that a structure is, and what it means.
 ghost use Rattle.std.specs.Prelude.{◌≡◌, ◌≤◌, ◌<◌, IsTrue, map};
-ghost use Rattle.table_schema.specs.CellColumns.{cell_count};
-ghost use Rattle.metadata.specs.Metadata.{Metadata};
+ghost use Rattle.cli_found.specs.Words.{cell_count, Metadata, Adds, Prints, seen, seen_what};
 ghost use Rattle.metadata.specs.Model.{IsModel};
-ghost use Rattle.cli_lines.specs.Printed.{Adds, Prints};
-ghost use Rattle.cli_regions.specs.Kept.{seen, seen_what};
 ghost use Rattle.opening.specs.Views.{row_count};
-ghost use Rattle.cli_found.specs.Columns.{column_number};
+ghost use Rattle.cli_found.specs.Found.{column_number};
 ghost use Rattle.cli_found.specs.Values.{cell_lead, is_reference, lead_in, meaning_in, reference, refers, value_lines};
 
-use crate::columns::column_number;
 use crate::flags::{flags_at, print_flags};
-use crate::limits::{coded_of, kind_of};
+use crate::limits::{coded_of, column_number, kind_of};
 use crate::lines::{Lead, last_of, number_of};
 use cli_cells::{Names, print_cell};
 use cli_lines::Part::{Member, Word};
 use cli_lines::Value::Number;
 use cli_lines::{Name, Printer};
 use cli_regions::{Structure, What};
-use opening::{CellCursor, View};
+use opening::{CellCursor, Token, View};
 use schema::TableCell;
 use std::alloc::Global;
 use std::io::Write;
@@ -58,17 +54,11 @@ fn print_reference<W: Write>(
     if !is_reference(view, cell) {
         return;
     }
+    let TableCell { table, row, .. } = cell;
     let cell_index = column_number(cell);
-    print_cell(
-        alloc,
-        Names::Hidden,
-        Name::Cell(cell.table, cell_index),
-        &mut CellCursor::new(view),
-        cell.table,
-        cell.row,
-        cell_index,
-        out,
-    );
+    let (name, row) = (Name::Cell(table, cell_index), Token { table, row });
+    let mut cells = CellCursor::new(view);
+    print_cell(alloc, Names::Hidden, name, &mut cells, row, cell_index, out);
 }
 
 /// Adds what the number that a structure is means, if it is a cell: the words of flags, or what it refers to.
@@ -120,7 +110,6 @@ fn lead_in(bytes: &[u8], of: Structure<'_>) -> Option<Lead>
 /// field of at most four bytes has no line.
 ///
 /// In JSON it is `{"offset":674,"value":17,"TypeName":"A"}`.
-#[tactic(auto, unfolding(crate::specs::Found::value_line))]
 pub fn print_value<W: Write>(
     alloc: Global,
     bytes: &[u8],

@@ -1,7 +1,6 @@
 -- The first offset at which two lists differ.
-use Rattle.cli_roots.proofs.Prelude.{◌≡◌, ◌≢◌, ◌+◌, ◌<◌, ℕ, inl, inr, List, [], ◌∷◌, arith, drop, get_or, length, min, refl, drop_all, drop_more, same_bytes}
+use Rattle.cli_roots.proofs.Prelude.{◌≡◌, ◌≢◌, ◌+◌, ◌<◌, ℕ, inl, inr, List, [], ◌∷◌, arith, drop, get_or, length, min, refl, drop_all, drop_more, same_bytes, nat_tests}
 use Rattle.std.proofs.lemmas.Bool.{cases_lt}
-use Rattle.std.proofs.lemmas.Bool.Decides.{nat_tests}
 
 pub next_same : (left right : List ℕ) (offset : ℕ) → offset < length left → offset < length right → get_or left offset 0 ≡ get_or right offset 0
     → offset + same_bytes (drop offset left) (drop offset right) ≡ offset + 1 + same_bytes (drop (offset + 1) left) (drop (offset + 1) right)

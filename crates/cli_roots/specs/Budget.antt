@@ -1,10 +1,8 @@
 -- The budget of a check, and when it is spent.
 use Rattle.std.specs.Prelude.{ℕ, List, Option, None, Some}
-use Rattle.packed.specs.Rule.{FirstBroken}
+use Rattle.cli_roots.specs.Words.{FirstBroken, IsSpentOf, rules_of, Input}
 use Rattle.checks.specs.declared.budget.BoundedError.{BoundedError}
 use Rattle.checks.specs.declared.budget.BoundedError.TheVariants.{BudgetSpent, Fault}
-use Rattle.cli_files.specs.Checked.{IsSpentOf, rules_of}
-use Rattle.cli_files.specs.declared.opened.Input.{Input}
 
 -- texts or signatures spend the budget
 abbrev pub IsSpent : Option ℕ → Input → List ℕ → Type 0

@@ -2,29 +2,16 @@
 use Rattle.std.specs.Prelude.{◌≡◌, ◌<◌, ℕ, false, List, [], ◌⊎◌, IfErr, IsErrAnd, MatchOption, OnOk, Option}
 use Rattle.std.specs.Io.KnownBytes.{Appends}
 use Rattle.packed.specs.declared.fault.Fault.{Fault}
-use Rattle.packed.specs.Rule.{FirstBroken}
+use Rattle.cli_roots.specs.Words.{FirstBroken, Metadata, Difference, first_differences_but, Failure, IsOutput, Different, Failed, hint_for, Outcome, Stopped, IsModelOf, IsWhole, rules_of, Input, report_text, SendsPrefix}
 use Rattle.table_schema.specs.declared.table.TableId.{TableId}
 use Rattle.table_schema.specs.CellColumns.{cell_count}
-use Rattle.metadata.specs.Metadata.{Metadata}
-use Rattle.comparison.specs.declared.difference.Difference.{Difference}
-use Rattle.comparison.specs.Differences.{first_differences_but}
 use Rattle.comparison.specs.EqualBut.{AreEqualBut}
 use Rattle.comparison.specs.Ignored.{is_ignored}
 use Rattle.comparison.specs.declared.ignored.IgnoredColumns.{IgnoredColumns}
-use Rattle.cli_faults.specs.declared.failure.Failure.{Failure}
 use Rattle.cli_faults.specs.declared.failure.Failure.TheVariants as failed
-use Rattle.cli_faults.specs.Status.{IsOutput}
-use Rattle.cli_faults.specs.declared.stop.Stop.TheVariants.{Different, Failed}
 use Rattle.cli_roots.specs.ComparedLines.{compared_lines}
-use Rattle.cli_files.specs.Hints.{hint_for}
-use Rattle.cli_files.specs.Stopped.{Outcome}
-use Rattle.cli_files.specs.declared.stopped.Stopped.{Stopped}
-use Rattle.cli_files.specs.Checked.{IsModelOf, IsWhole, rules_of}
-use Rattle.cli_files.specs.declared.opened.Input.{Input}
-use Rattle.cli_lines.specs.Lines.{report_text}
 use Rattle.cli_roots.specs.declared.compare.Output.{Output}
 use Rattle.cli_roots.specs.declared.compare.Output.TheVariants.{Lines, Quiet}
-use Rattle.cli_sending.specs.Sent.{SendsPrefix}
 
 -- no column is ignored
 abbrev pub IgnoresNone : IgnoredColumns → Type 0

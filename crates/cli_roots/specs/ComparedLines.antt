@@ -1,11 +1,8 @@
 -- What `clim compare` prints of two models (ECMA-335 II.22 and II.24.2).
 use Rattle.std.specs.Prelude.{◌==◌, if◌then◌else◌, ℕ, suc, List, [], ◌∷◌, codes, length, map}
 use Rattle.table_schema.specs.Tables.{table_number, table_name}
-use Rattle.metadata.specs.Metadata.{Metadata, cell_in, count_in}
-use Rattle.comparison.specs.declared.difference.Difference.{Difference}
-use Rattle.comparison.specs.declared.difference.Difference.TheVariants.{Version, UserStrings, RowCount, Cell}
+use Rattle.cli_roots.specs.Words.{Metadata, cell_in, count_in, Difference, Version, UserStrings, RowCount, Cell, Part, word, field, note, member}
 use Rattle.cli_lines.specs.Lines as line
-use Rattle.cli_lines.specs.Lines.{Part, word, field, note, member}
 use Rattle.cli_lines.specs.Names.{column_name}
 use Rattle.cli_lines.specs.declared.names.Name.TheVariants as name
 use Rattle.cli_cells.specs.RowLines.{cell_value}

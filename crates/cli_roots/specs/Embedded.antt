@@ -2,27 +2,20 @@
 use Rattle.std.specs.Prelude.{◌≡◌, ◌⊎◌, ℕ, List, [], ◌∷◌, codes, length, Option, None, Some, IfErr, OnOk}
 use Rattle.std.specs.Io.KnownBytes.{Appends}
 use Rattle.packed.specs.Offsets.{part}
-use Rattle.packed.specs.Rule.{FirstBroken}
+use Rattle.cli_roots.specs.Words.{FirstBroken, HasCertificate, HasStaleName, Planned, result_of, Failure, IsOutput, IsUnwritten, Outcome, Part, field, member, number, report_text, word, SendsPrefix}
 use Rattle.metadata.specs.Rules.{rules_of_file, rules_of_metadata}
 use Rattle.embedding.specs.declared.error.EmbedError.{EmbedError}
 use Rattle.embedding.specs.declared.error.EmbedError.TheVariants as error
 use Rattle.embedding.specs.declared.strong_name.StrongName.{StrongName}
 use Rattle.embedding.specs.Embedded.{IsEmbedded}
 use Rattle.embedding.specs.Errors.{IsReason, MatchFault}
-use Rattle.embedding.specs.Planned.{HasCertificate, HasStaleName, Planned, result_of}
-use Rattle.cli_faults.specs.declared.failure.Failure.{Failure}
 use Rattle.cli_faults.specs.declared.failure.Failure.TheVariants as failed
 use Rattle.cli_faults.specs.declared.misfit.Misfit.TheVariants as misfit
-use Rattle.cli_faults.specs.Status.{IsOutput, IsUnwritten}
-use Rattle.cli_files.specs.Stopped.{Outcome}
-use Rattle.cli_roots.specs.Written.{IsGiven}
 use Rattle.cli_files.specs.declared.opened.Input.TheVariants.{File}
 use Rattle.cli_lines.specs.declared.names.Name.TheVariants as name
 use Rattle.cli_lines.specs.declared.parts.Form.{Form}
-use Rattle.cli_lines.specs.Lines.{Part, field, member, number, report_text, word}
-use Rattle.cli_sending.specs.Sent.{SendsPrefix}
 use Rattle.cli_roots.specs.Rewritten.{IsRewritten, ReportsUnwritten}
-use Rattle.cli_roots.specs.Runs.{IsFileRun, StopsBy}
+use Rattle.cli_roots.specs.Runs.{IsFileRun, IsGiven, StopsBy}
 
 -- the root that is embedded: the given one, or else the canonical root of the file
 abbrev pub IsRootFor : List ℕ → Option (List ℕ) → List ℕ → Type 0

@@ -1,23 +1,12 @@
 -- The canonical root that is written for a file (ECMA-335 II.24.2).
 use Rattle.std.specs.Prelude.{◌≡◌, ◌<◌, ◌^◌, ◌⊎◌, ℕ, List, [], ◌∷◌, codes, length, Option, IfErr, OnOk}
 use Rattle.packed.specs.declared.code.FaultCode.TheVariants.{TooLarge}
-use Rattle.packed.specs.Rule.{FirstBroken, fault}
-use Rattle.metadata.specs.Metadata.{Metadata}
-use Rattle.metadata.specs.Model.{IsModel}
+use Rattle.cli_roots.specs.Words.{FirstBroken, fault, Metadata, IsModel, Failure, IsOutput, IsUnwritten, Failed, hint_for, Outcome, IsOpened, IsWhole, rules_of, Input, word, note, number, report_text, SendsPrefix}
 use Rattle.root_writer.specs.Canonical.{canonical}
-use Rattle.cli_faults.specs.declared.failure.Failure.{Failure}
 use Rattle.cli_faults.specs.declared.failure.Failure.TheVariants as failed
 use Rattle.std.specs.Io.KnownBytes.{Appends}
-use Rattle.cli_faults.specs.Status.{IsOutput, IsUnwritten}
-use Rattle.cli_faults.specs.declared.stop.Stop.TheVariants.{Failed}
-use Rattle.cli_files.specs.Hints.{hint_for}
-use Rattle.cli_files.specs.Stopped.{Outcome}
-use Rattle.cli_roots.specs.Written.{IsGiven}
-use Rattle.cli_files.specs.Checked.{IsOpened, IsWhole, rules_of}
-use Rattle.cli_files.specs.declared.opened.Input.{Input}
+use Rattle.cli_roots.specs.Runs.{IsGiven}
 use Rattle.cli_lines.specs.declared.parts.Form.TheVariants.{Text}
-use Rattle.cli_lines.specs.Lines.{word, note, number, report_text}
-use Rattle.cli_sending.specs.Sent.{SendsPrefix}
 
 -- the bytes have a model with this property
 abbrev HasModelWith : Input → List ℕ → (Metadata → Type 0) → Type 0

@@ -1,12 +1,8 @@
--- What a run does with what reading a file gave.
+-- What a run does with what reading a file gave, and what a file that it writes was given.
 use Rattle.std.specs.Prelude.{◌≡◌, ◌⊎◌, ℕ, List, Option, None, Result, IsErrAnd, MatchResult}
-use Rattle.cli_faults.specs.Status.{IsUnwritten}
-use Rattle.cli_faults.specs.declared.failure.Failure.{Failure}
-use Rattle.cli_faults.specs.declared.stop.Stop.TheVariants.{BudgetSpent, Failed}
-use Rattle.cli_files.specs.declared.stopped.Stopped.{Stopped}
+use Rattle.std.specs.Io.KnownBytes.{Appends}
+use Rattle.cli_roots.specs.Words.{IsUnwritten, Failure, BudgetSpent, Failed, Stopped, Outcome, Input}
 use Rattle.cli_files.specs.Read.{IsRefused}
-use Rattle.cli_files.specs.Stopped.{Outcome}
-use Rattle.cli_files.specs.declared.opened.Input.{Input}
 use Rattle.cli_roots.specs.Budget.{IsSpent}
 
 -- it stopped by this failure, without a hint
@@ -28,3 +24,11 @@ module _ {W : Type 0} (before after : W) where
   -- OUT is the standard output: nothing is read or printed
   abbrev pub IsMixed : List ℕ → Outcome → Type 0
   IsMixed path outcome = IsErrAnd outcome (λ stopped. (failure : Failure) × StopsBy failure stopped × IsUnwritten path failure) × (after ≡ before)
+
+-- this file was given all of these bytes: if what it holds is known, they follow what it held when it was opened
+abbrev pub WasGiven : {F : Type 0} → (F → Option (List ℕ)) → List ℕ → F → Type 0
+WasGiven {F} file_contents given file = (opened : F) × Appends (file_contents opened) (file_contents file) given
+
+-- a file of the file system was given all of these bytes
+abbrev pub IsGiven : {F : Type 0} → (F → Option (List ℕ)) → List ℕ → Type 0
+IsGiven {F} file_contents given = (file : F) × WasGiven file_contents given file

@@ -1,6 +1,6 @@
 //! The budget of a check.
 ghost use Rattle.std.specs.Prelude.{IfErr, IsTrue, OnOk};
-ghost use Rattle.cli_files.specs.Checked.{IsWhole};
+ghost use Rattle.cli_roots.specs.Words.{IsWhole};
 ghost use Rattle.cli_roots.specs.Budget.{IsSpent, StopsWithin};
 
 use cli_files::{Input, open, open_within};

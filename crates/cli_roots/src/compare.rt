@@ -1,11 +1,6 @@
 //! `clim compare`: what differs between the metadata of two files.
 ghost use Rattle.std.specs.Prelude.{All, IfErr, IfOk};
-ghost use Rattle.metadata.specs.Metadata.{Metadata};
-ghost use Rattle.metadata.specs.Model.{IsModel};
-ghost use Rattle.comparison.specs.Differences.{IsThere};
-ghost use Rattle.cli_faults.specs.Status.{IsOutput};
-ghost use Rattle.cli_files.specs.Checked.{IsModelOf, IsWhole};
-ghost use Rattle.cli_sending.specs.Sent.{Sent};
+ghost use Rattle.cli_roots.specs.Words.{Metadata, IsModel, IsThere, IsOutput, IsModelOf, IsWhole, Sent};
 ghost use Rattle.cli_roots.specs.Compared.{IsComparing, IsRefusal, IsShown, output_text};
 ghost use Rattle.cli_roots.specs.Runs.{IsFileRun, IsWithin};
 
@@ -45,15 +40,6 @@ pub struct CompareOptions {
     pub budget: Option<u64>,
 }
 
-/// A file that was read.
-#[derive(Clone, Copy)]
-pub(crate) struct ReadFile<'a, 'b> {
-    /// The path that was given.
-    pub path: &'a str,
-    /// The bytes of the file.
-    pub bytes: &'b [u8],
-}
-
 /// Prints what differs between a file and another besides the cells of ignored columns.
 ///
 /// # Errors
@@ -72,41 +58,37 @@ pub fn compare_files<'a, R: Files + Input + AllocGlobal, W: Write>(
 {
     let left = read_file(rt, file)?;
     let right = read_file(rt, other)?;
-    let left = ReadFile {
-        path: file,
-        bytes: &left,
-    };
-    let right = ReadFile {
-        path: other,
-        bytes: &right,
-    };
-    if is_spent(left.bytes, options.input, options.budget) {
+    let left: &[u8] = &left;
+    let right: &[u8] = &right;
+    if is_spent(left, options.input, options.budget) {
         return Err(Stopped::from(Stop::BudgetSpent));
     }
-    if is_spent(right.bytes, options.input, options.budget) {
+    if is_spent(right, options.input, options.budget) {
         return Err(Stopped::from(Stop::BudgetSpent));
     }
-    compare(rt.alloc(), left, right, options, out)
+    compare(rt.alloc(), file, other, left, right, options, out)
 }
 
 /// Prints what differs between two files besides the cells of ignored columns, or that nothing does. It stops with
 /// `Different` if something differs.
 ///
 /// Bytes that are the same are opened once.
-pub(crate) fn compare<'a, W: Write>(
+fn compare<'a, W: Write>(
     alloc: Global,
-    left: ReadFile<'a, '_>,
-    right: ReadFile<'a, '_>,
+    file: &'a str,
+    other: &'a str,
+    left: &[u8],
+    right: &[u8],
     options: &CompareOptions,
     out: &mut W,
 ) -> Result<(), Stopped<'a>>
-    ensures { IsComparing W.contents out.old out.new options.now.output options.now.ignored options.now.input left.entry.bytes.now right.entry.bytes.now left.entry.path.now right.entry.path.now result }
+    ensures { IsComparing W.contents out.old out.new options.now.output options.now.ignored options.now.input left.now right.now file.now other.now result }
 {
-    let left_view = open_of(left, options.input)?;
-    if left.bytes == right.bytes {
+    let left_view = open_of(file, left, options.input)?;
+    if left == right {
         return compare_views(alloc, &left_view, &left_view, options, out);
     }
-    let right_view = open_of(right, options.input)?;
+    let right_view = open_of(other, right, options.input)?;
     compare_views(alloc, &left_view, &right_view, options, out)
 }
 
@@ -161,16 +143,16 @@ fn print_found<'a, W: Write>(
 }
 
 /// Opens the bytes of a file. A fault is reported with its path.
-fn open_of<'a, 'b>(file: ReadFile<'a, 'b>, input: Given) -> Result<View<'b>, Stopped<'a>>
-    ensures sound { IfOk result (λ _. IsWhole input file.entry.bytes.now) }
-    ensures models { IfOk result (λ view. (model : Metadata) → IsModelOf input file.entry.bytes.now model → IsModel view model) }
-    ensures first_error { IfErr result (IsRefusal file.entry.path.now input file.entry.bytes.now) }
+fn open_of<'a, 'b>(file: &'a str, bytes: &'b [u8], input: Given) -> Result<View<'b>, Stopped<'a>>
+    ensures sound { IfOk result (λ _. IsWhole input bytes.now) }
+    ensures models { IfOk result (λ view. (model : Metadata) → IsModelOf input bytes.now model → IsModel view model) }
+    ensures first_error { IfErr result (IsRefusal file.now input bytes.now) }
 {
-    match open(file.bytes, input) {
+    match open(bytes, input) {
         Ok(view) => Ok(view),
         Err(fault) => {
             let stop = Stop::Failed(Failure::Fault(fault));
-            Err(Stopped::at(stop, Some(file.path), input, file.bytes))
+            Err(Stopped::at(stop, Some(file), input, bytes))
         }
     }
 }

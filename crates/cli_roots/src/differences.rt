@@ -1,11 +1,6 @@
 //! The lines of what differs.
 ghost use Rattle.std.specs.Prelude.{◌≡◌, ◌∷◌, ◌<◌, [], All, length, slice_index};
-ghost use Rattle.heap_entries.specs.Padding.{zero_padded};
-ghost use Rattle.metadata.specs.Metadata.{Metadata};
-ghost use Rattle.metadata.specs.Model.{IsModel};
-ghost use Rattle.comparison.specs.Differences.{IsThere};
-ghost use Rattle.comparison.specs.declared.difference.Difference.TheVariants.{Cell, Version};
-ghost use Rattle.cli_lines.specs.Printed.{Prints};
+ghost use Rattle.cli_roots.specs.Words.{zero_padded, Metadata, IsModel, IsThere, Cell, Version, Prints};
 ghost use Rattle.cli_roots.specs.ComparedLines.{compared_lines, difference_line, same_bytes};
 
 use cli_cells::{Names, column_name, print_cell};
@@ -65,26 +60,18 @@ fn print_difference<W: Write>(
         Difference::UserStrings => {
             let ours = one.user();
             let theirs = other.user();
-            out.line(&[
-                Member(Name::Difference, Plain("UserStrings")),
-                Word("user strings: "),
-                Note(Number(padded_len(ours) as u64)),
-                Word(" | "),
-                Note(Number(padded_len(theirs) as u64)),
-                Word(" at "),
-                Field(Name::Offset, Number(same_bytes(ours, theirs) as u64)),
+            out.line(&parts![
+                Member(Name::Difference, Plain("UserStrings")); Word("user strings: ");
+                Note(Number(padded_len(ours) as u64)); Word(" | ");
+                Note(Number(padded_len(theirs) as u64)); Word(" at ");
+                Field(Name::Offset, Number(same_bytes(ours, theirs) as u64));
             ]);
         }
-        Difference::RowCount { table, .. } => out.line(&[
-            Member(Name::Difference, Plain("RowCount")),
-            Word("rows "),
-            Note(Byte(table.number())),
-            Word(" "),
-            Field(Name::Table, Plain(table.name())),
-            Word(": "),
-            Field(Name::Left, Number(one.count(table) as u64)),
-            Word(" | "),
-            Field(Name::Right, Number(other.count(table) as u64)),
+        Difference::RowCount { table, .. } => out.line(&parts![
+            Member(Name::Difference, Plain("RowCount")); Word("rows ");
+            Note(Byte(table.number())); Word(" "); Field(Name::Table, Plain(table.name()));
+            Word(": "); Field(Name::Left, Number(one.count(table) as u64)); Word(" | ");
+            Field(Name::Right, Number(other.count(table) as u64));
         ]),
         Difference::Cell {
             table,
@@ -99,12 +86,9 @@ fn print_versions<'v, W: Write>(left: &'v str, right: &'v str, out: &mut Printer
     ensures { (model other : Metadata) → left.now ≡ model.version → right.now ≡ other.version
         → Prints out.old out.new (difference_line model other Version ∷ []) }
 {
-    out.line(&[
-        Member(Name::Difference, Plain("Version")),
-        Word("version: "),
-        Field(Name::Left, Text(left)),
-        Word(" | "),
-        Field(Name::Right, Text(right)),
+    out.line(&parts![
+        Member(Name::Difference, Plain("Version")); Word("version: ");
+        Field(Name::Left, Text(left)); Word(" | "); Field(Name::Right, Text(right));
     ]);
 }
 
@@ -124,34 +108,14 @@ fn print_cells<W: Write>(
         → Prints out.old out.new (difference_line model other (Cell row.table row.row cell_index) ∷ []) }
 {
     cli_lines::laws::parts_follow::<W>();
-    out.begin(&[
-        Member(Name::Difference, Plain("Cell")),
-        Field(Name::Token, Value::Token(row)),
-        Word(" "),
-        Field(Name::Column, Plain(column_name(row.table, cell_index))),
-        Word(": "),
+    out.begin(&parts![
+        Member(Name::Difference, Plain("Cell")); Field(Name::Token, Value::Token(row)); Word(" ");
+        Field(Name::Column, Plain(column_name(row.table, cell_index))); Word(": ");
     ]);
-    print_cell(
-        alloc,
-        Names::Shown,
-        Name::Left,
-        left,
-        row.table,
-        row.row,
-        cell_index,
-        out,
-    );
+    let names = Names::Shown;
+    print_cell(alloc, names, Name::Left, left, row, cell_index, out);
     out.part(&Word(" | "));
-    print_cell(
-        alloc,
-        Names::Shown,
-        Name::Right,
-        right,
-        row.table,
-        row.row,
-        cell_index,
-        out,
-    );
+    print_cell(alloc, names, Name::Right, right, row, cell_index, out);
     out.end();
 }
 

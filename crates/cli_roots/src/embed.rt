@@ -1,14 +1,11 @@
 //! `clim embed`: a copy of a file with its canonical root, or with another.
 ghost use Rattle.std.specs.Prelude.{◌≡◌, ◌⊎◌, ℕ, List, Option, IfErr, option_map};
-ghost use Rattle.cli_faults.specs.Status.{IsOutput};
-ghost use Rattle.cli_sending.specs.Sent.{Sent};
+ghost use Rattle.cli_roots.specs.Words.{IsOutput, Sent};
 ghost use Rattle.cli_roots.specs.Embedded.{IsEmbedding, IsLineOf, IsRootFor, IsRootRun, WarnsOf, failure_of};
 ghost use Rattle.cli_roots.specs.Runs.{IsFileRun, IsMixed, StopsBy};
 
-use crate::canonical::canonical_root;
-use crate::compare::ReadFile;
-use crate::one_line::print_one;
 use crate::output_file::{check_path, write_file};
+use crate::rewrite::{canonical_root, print_one};
 use cli_faults::{Failure, Misfit, Stop};
 use cli_files::{Input as Given, Stopped, read_file};
 use cli_lines::Part::{Field, Member, Word};
@@ -60,43 +57,41 @@ pub fn embed_file<'a, R: Files + Input + AllocGlobal, W: Write, E: Write>(
 {
     check_path(rt, options.path)?;
     let bytes = read_file(rt, file)?;
-    let file = ReadFile {
-        path: file,
-        bytes: &bytes,
-    };
+    let bytes: &[u8] = &bytes;
     match options.root {
         None => {
-            let root = canonical_root(rt.alloc(), file.bytes, Given::File)?;
-            put(rt, file, root.bytes(), options, out, err)
+            let root = canonical_root(rt.alloc(), bytes, Given::File)?;
+            put(rt, file, bytes, root.bytes(), options, out, err)
         }
         Some(path) => {
             let root = read_file(rt, path)?;
-            put(rt, file, &root, options, out, err)
+            put(rt, file, bytes, &root, options, out, err)
         }
     }
 }
 
-/// Writes a copy of a file with this root, and prints its length.
+/// Writes a copy of the file that was read from a path with this root, and prints its length.
 fn put<'a, R: Files + AllocGlobal, W: Write, E: Write>(
     rt: &R,
-    file: ReadFile<'a, '_>,
+    path: &'a str,
+    file: &[u8],
     root: &[u8],
     options: &EmbedOptions<'a>,
     out: &mut W,
     err: &mut E,
 ) -> Result<(), Stopped<'a>>
-    ensures run { (given : Option (List ℕ)) → IsRootFor file.entry.bytes.now given root.now
-        → IsEmbedding W.contents R.File.contents out.old out.new options.now.form options.now.strong_name file.entry.bytes.now options.now.path.now given result }
-    ensures quiet { WarnsOf options.now.strong_name file.entry.bytes.now err.old err.new }
+    ensures run { (given : Option (List ℕ)) → IsRootFor file.now given root.now
+        → IsEmbedding W.contents R.File.contents out.old out.new options.now.form options.now.strong_name file.now options.now.path.now given result }
+    ensures quiet { WarnsOf options.now.strong_name file.now err.old err.new }
 {
-    let plan = match plan_embedding(file.bytes, root, options.strong_name) {
+    let plan = match plan_embedding(file, root, options.strong_name) {
         Ok(plan) => plan,
-        Err(error) => return Err(refused(error, file.path, options.root)),
+        Err(error) => return Err(refused(error, path, options.root)),
     };
     let Ok(bytes) = plan.make(rt.alloc()) else {
         return Err(Stopped::from(Failure::OutOfMemory));
     };
-    let read = [file.path, options.root.unwrap_or(file.path)];
+    let read = [path, options.root.unwrap_or(path)];
     write_file(rt, &bytes, &read, options.path)?;
     warn(&plan, err);
     print_length(rt.alloc(), &plan, options.form, out)?;
@@ -104,7 +99,6 @@ fn put<'a, R: Files + AllocGlobal, W: Write, E: Write>(
 }
 
 /// Prints the length of what was written, and in JSON where the root is in it.
-#[tactic(auto, unfolding(crate::specs::Embedded::embed_line))]
 fn print_length<'a, W: Write>(
     alloc: Global,
     plan: &EmbedPlan<'_>,
@@ -118,12 +112,9 @@ fn print_length<'a, W: Write>(
     let length = Number(plan.len() as u64);
     let offset = Number(range.start as u64);
     let size = Number((range.end - range.start) as u64);
-    let line = [
-        Word("wrote "),
-        Field(Name::Length, length),
-        Word(" bytes"),
-        Member(Name::Offset, offset),
-        Member(Name::Size, size),
+    let line = parts![
+        Word("wrote "); Field(Name::Length, length); Word(" bytes");
+        Member(Name::Offset, offset); Member(Name::Size, size);
     ];
     print_one(alloc, form, &line, out)
 }

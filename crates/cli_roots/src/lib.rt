@@ -20,17 +20,21 @@
 //! `rewrite` and `embed` create, truncate or replace the file that they write, and refuse the path of the standard output.
 #![tactic(auto)]
 
+/// Parts of a line, one after another.
+macro_rules! parts {
+    ($($part:expr;)*) => {
+        [$($part),*]
+    };
+}
+
 mod budget;
-mod canonical;
 mod compare;
 mod differences;
 mod embed;
-mod one_line;
 mod output_file;
 mod rewrite;
 
 pub use budget::{check_within, is_spent};
-pub use canonical::canonical_root;
 pub use compare::{CompareOptions, Output, compare_files};
 pub use embed::{EmbedOptions, embed_file};
-pub use rewrite::rewrite_file;
+pub use rewrite::{canonical_root, rewrite_file};

@@ -2,8 +2,8 @@
 ghost use Rattle.std.specs.Prelude.{◌≡◌, ◌<◌, ◌≤◌, ℕ, IfErr, IfOk, length, take};
 ghost use Rattle.std.specs.Io.KnownBytes.{Appends};
 ghost use Rattle.std.specs.Str.{IsCharBoundary};
-ghost use Rattle.cli_faults.specs.Status.{IsUnwritten};
-ghost use Rattle.cli_roots.specs.Written.{WasGiven};
+ghost use Rattle.cli_roots.specs.Words.{IsUnwritten};
+ghost use Rattle.cli_roots.specs.Runs.{WasGiven};
 
 use cli_faults::{Failure, FileError, Reason};
 use cli_files::STANDARD_INPUT;
@@ -203,22 +203,16 @@ fn create_beside<R: Files + AllocGlobal>(rt: &R, target: &str) -> io::Result<(R:
 /// The path of the file with this number beside a file: PATH.clim-new, PATH.clim-new2, PATH.clim-new3 .. If that name is too
 /// long for a file system, it has only the first characters of the file's name: those that fit.
 fn path_beside(alloc: Global, target: &str, number: u32) -> Result<String, AllocError> {
-    let suffix = suffix_of(alloc, number)?;
+    let suffix = match number {
+        1 => String::from_str(alloc, SUFFIX)?,
+        _ => format!(in alloc; "{SUFFIX}{number}")?,
+    };
     let room = NAME_LIMIT.saturating_sub(suffix.len());
     match target.rsplit_once('/') {
         Some((directory, name)) => {
             format!(in alloc; "{directory}/{}{suffix}", prefix_of(name, room))
         }
         None => format!(in alloc; "{}{suffix}", prefix_of(target, room)),
-    }
-}
-
-/// What is appended to the name of the file with this number.
-fn suffix_of(alloc: Global, number: u32) -> Result<String, AllocError> {
-    if number == 1 {
-        String::from_str(alloc, SUFFIX)
-    } else {
-        format!(in alloc; "{SUFFIX}{number}")
     }
 }
 

@@ -1,8 +1,11 @@
 -- The entries of heaps: where they are, and which of them have a byte.
-use Rattle.cli_where.proofs.Prelude.{◌≡◌, ◌≢◌, ◌∙◌, ◌⊎◌, Option, None, Some, ℕ, ◌+◌, ◌-◌, ◌*◌, ◌<◌, ◌≤◌, true, List, ◌∷◌, ◌++◌, length, take, drop, slice_index, inl, inr, refl, sym, ap, subst, arith, length-append, length-drop, take-append-drop, get_or-take, get_or-drop, drop_more, drop_at, get_or_append_left, get_or_at, length-take-le, All-from_get_or, IsCounted, IsEnded, IsGuidEntry, IsRun, IsRunAt, IsRunOf, Heap, has_byte}
+use Rattle.cli_where.proofs.Prelude.{◌≡◌, ◌≢◌, ◌∙◌, ◌⊎◌, Option, None, Some, ℕ, ◌+◌, ◌-◌, ◌*◌, ◌<◌, ◌≤◌, true, List, ◌∷◌, ◌++◌, length, take, drop, slice_index, inl, inr, refl, sym, ap, subst, arith, length-append, length-drop, take-append-drop, get_or-take, get_or-drop, drop_more, drop_at, get_or_append_left, get_or_at, length-take-le, All-from_get_or, IsCounted, IsEnded, IsGuidEntry, IsRun, IsRunAt, IsRunOf, Heap, has_byte, ◌%◌, [], append-nil, replicate, IsBlob, IsUserString, UserText, zero_padded, AreEntries, IsEntry, zero, suc, append_assoc, flat_map, range_with_len, flat_map_more, map-id, Finds, Joins, Searched, Region, joins_more, joins_none, AreEntriesAt, AreFirst, IsEntryOf, all_cells, FindsFirst, NameFirst, heaps_of, finds_joined, map-range_with_len_more}
 use Rattle.std.proofs.lemmas.Bool.Decides.{nat_tests}
 use Rattle.packed.specs.Packed.{IsPacked}
 use Rattle.cli_where.specs.declared.entries.Run.{Run}
+use Rattle.rows.specs.Cells.{Stream}
+use Rattle.schema.specs.declared.located_cells.TableCell.{TableCell}
+use Rattle.cli_where.specs.declared.entries.Target.{Target}
 
 -- a structure has a byte if and only if the byte is from its first one on and before its end
 pub has_from : (start size offset : ℕ) → has_byte start size offset ≡ true → (start ≤ offset) × (offset < start + size)
@@ -109,3 +112,79 @@ module _ (heap : Heap) (offset : ℕ) where
       let within = string_within heap.bytes index is.text is.stands in
       none (index + length is.text) (omega (arith, range.1, at, from, long)) (omega (arith, within)) (nul_after heap.bytes index is.text is.stands)
   run_is byte at (Some run) is = (byte, at, is)
+
+blob_counted : (heap : List ℕ) (index : ℕ) (blob : List ℕ) → 1 ≤ index → IsBlob heap index blob → IsCounted heap index blob
+blob_counted heap index blob some (inl none) = absurd (omega (arith, none.0, some))
+blob_counted heap index blob some (inr is) = is.1
+
+-- a heap of a multiple of four bytes is padded
+pub padded_already : (heap : List ℕ) → length heap % 4 ≡ 0 → heap ≡ zero_padded heap
+padded_already heap even = sym (ap (λ left. heap ++ replicate ((4 - left) % 4) 0) even ∙ append-nil heap)
+
+-- a user string at an index, by the size of its blob
+pub entry_is : (heap : List ℕ) (index read size : ℕ) (string : UserText) → 1 ≤ index → read ≡ index → IsUserString heap read string
+    → ((blob : List ℕ) (stands : IsCounted heap index blob) → size ≡ length stands.count + length blob) → IsEntry heap index string (index + size)
+entry_is heap index read size string some same user long =
+    let at = subst (λ (n : ℕ). IsUserString heap n string) same user in
+    let counted = blob_counted heap index at.blob some at.stands in
+    let is = long at.blob counted in
+    record { blob = at.blob; stands = counted; encodes = at.encodes; follows = omega (arith, is) }
+
+pub user_is : (heap : List ℕ) (index read : ℕ) (string : UserText) (next : ℕ) → 1 ≤ index → read ≡ index → IsEntry heap index string next → IsUserString heap read string
+user_is heap index read string next some same e =
+    subst (λ (n : ℕ). IsUserString heap n string) (sym same) (record { blob = e.blob; stands = inr (some, e.stands); encodes = e.encodes })
+
+-- no entry begins after the heap
+pub no_entry_past : (heap : List ℕ) (index : ℕ) → length heap < index → AreEntries heap index []
+no_entry_past heap index past = inr (λ string next e.
+    let whole = simp length-append at (ap length e.stands.whole) in
+    let at = e.stands.at in
+    absurd (omega (arith, whole, at, past)))
+
+module _ (IsOf : TableCell → Option Region → Type 0) where
+  none_first : (most : ℕ) (cell : TableCell) (cells : List TableCell) (found : List Region) → IsOf cell None → AreFirst IsOf most cells found → AreFirst IsOf most (cell ∷ cells) found
+  none_first zero cell cells found none are = are
+  none_first (suc most) cell cells [] none are = (none, are)
+  none_first (suc most) cell cells (first ∷ later) none are = inr (none, are)
+
+  no_cells : (most : ℕ) → AreFirst IsOf most [] []
+  no_cells zero = refl
+  no_cells (suc most) = refl
+
+module _ {target : Target} {stream : Stream} where
+  -- the entries of some cells, and then those of others
+  pub finds_more : {most left last : ℕ} {first later : List TableCell} {old between new : Searched} → FindsFirst target stream most left first old between
+      → FindsFirst target stream left last later between new → FindsFirst target stream most last (first ++ later) old new
+  finds_more {most} {left} {last} {first} {later} one other = record {
+    found = one.found ++ other.found;
+    first = λ more tail are. simp append_assoc (one.first (later ++ more) (other.found ++ tail) (other.first more tail are));
+    joins = joins_more one.joins other.joins;
+  }
+
+  -- nothing is kept
+  pub finds_same : {most left : ℕ} {cells : List TableCell} {search : Searched} → NameFirst (IsEntryOf (heaps_of target) stream.bytes stream.sizes target.offset) most left cells [] → FindsFirst target stream most left cells search search
+  finds_same {most} {left} {cells} {search} first = record { found = []; first = first; joins = joins_none search }
+
+  -- a cell names an entry that contains the byte, or none
+  pub finds_one : (most : ℕ) (cell : TableCell) (of : Region) (old new : Searched) → most ≢ 0 → IsEntryOf (heaps_of target) stream.bytes stream.sizes target.offset cell (Some of) → Joins old new (of ∷ [])
+      → FindsFirst target stream most (most - 1) (cell ∷ []) old new
+  finds_one most cell of old new some is joins =
+      let next : suc (most - 1) ≡ most = omega (arith, some) in
+      record { found = of ∷ []; first = λ more later are. subst (λ (n : ℕ). AreFirst (IsEntryOf (heaps_of target) stream.bytes stream.sizes target.offset) n (cell ∷ more) (of ∷ later)) next (inl (is, are)); joins = joins }
+
+  pub finds_none_of : (most : ℕ) (cell : TableCell) (search : Searched) → IsEntryOf (heaps_of target) stream.bytes stream.sizes target.offset cell None → FindsFirst target stream most most (cell ∷ []) search search
+  finds_none_of most cell search none = finds_same (λ more later are. none_first (IsEntryOf (heaps_of target) stream.bytes stream.sizes target.offset) most cell more later none are)
+
+  -- all cells
+  pub finds_all : {left : ℕ} {old new : Searched} → target.offset ≡ old.offset → FindsFirst target stream 10 left (all_cells stream.sizes) old new
+      → Finds (AreEntriesAt (heaps_of target) stream.bytes stream.sizes) old new
+  finds_all {left} {old} {new} same finds =
+      let all = finds.first [] [] (no_cells (IsEntryOf (heaps_of target) stream.bytes stream.sizes target.offset) left) in
+      finds_joined {AreFound = AreEntriesAt (heaps_of target) stream.bytes stream.sizes} (rw same at (simp append-nil at all)) finds.joins
+
+-- the cells of one more row
+pub rows_more : {X : Type 0} (f : ℕ → List X) (row : ℕ) → 1 ≤ row → flat_map f (range_with_len 1 (row - 1)) ++ f row ≡ flat_map f (range_with_len 1 (row + 1 - 1))
+rows_more f row some =
+    let next : row - 1 + 1 ≡ row + 1 - 1 = omega (arith, some) in
+    let more = simp map-id at (map-range_with_len_more (λ (k : ℕ). k) 1 (row - 1) row (omega (arith, some))) in
+    flat_map_more f [] (range_with_len 1 (row - 1)) row ∙ ap (flat_map f) (sym more ∙ ap (range_with_len 1) next)

@@ -3,13 +3,9 @@ pub use Rattle.std.proofs.Common.{Option, None, Some, ◌⊎◌, ◌≡◌, ◌�
 pub use Rattle.std.proofs.lemmas.List.{take-append-drop, get_or-take, get_or-drop, drop_more, drop_at, get_or_append_left, get_or_at, length-take-le, flat_map_more, take_all, take_more, drop_all, map-id, nil_from_length}
 pub use Rattle.std.proofs.lemmas.List.Elements.{All-from_get_or}
 pub use Rattle.std.specs.List.{flat_map, range_with_len}
-pub use Rattle.heap_entries.specs.Entries.{IsCounted, IsEnded, IsGuidEntry, IsBlob, IsUserString, UserText}
-pub use Rattle.heap_entries.specs.Padding.{zero_padded}
+pub use Rattle.cli_where.specs.Words.{IsCounted, IsEnded, IsGuidEntry, IsBlob, IsUserString, UserText, zero_padded, Prints, Printed, Completes, Adds, Finds, Joins, Searched, seen, words_text, has_byte, Region, entry}
 pub use Rattle.table_schema.specs.declared.table.TableId.TheVariants.{Module}
-pub use Rattle.cli_lines.specs.Printed.{Prints, Printed, Completes}
 pub use Rattle.cli_regions.proofs.SearchLemmas.{joins_none, joins_more, adds_none, and_then}
-pub use Rattle.cli_regions.specs.Kept.{Adds, Finds, Joins, Searched, seen, words_text}
-pub use Rattle.cli_regions.specs.Regions.{has_byte, Region, entry}
 pub use Rattle.cli_regions.specs.declared.searches.Structure.{Structure}
 pub use Rattle.cli_where.specs.Entries.{Heap, AreEntriesAt, AreFirst, IsEntryOf, table_cells, heap_named, cell_of, row_cells}
 unfoldable pub use Rattle.cli_where.specs.Entries.{all_cells}
@@ -17,5 +13,6 @@ pub use Rattle.cli_where.specs.Kept.{IsRun, IsRunAt, IsRunOf, FindsFirst, NameFi
 pub use Rattle.cli_where.specs.Lines.{structure_line, entry_lines}
 unfoldable pub use Rattle.cli_where.specs.Lines.{line_with}
 pub use Rattle.cli_where.specs.UserStrings.{AreEntries, IsEntry, Entry, user_region, AreUsersAt}
-pub use Rattle.cli_where.specs.Where.{AreInStream}
+pub use Rattle.cli_where.specs.Where.{AreInStream, AreCellsAt}
 pub use Rattle.cli_where.proofs.FindLemmas.{adds_find, broken_layer, finds_joined, finds_none, finds_then, first_of, whole_layer}
+pub use Rattle.std.proofs.lemmas.List.FromFn.{map-range_with_len_more}

@@ -2,20 +2,9 @@
 use Rattle.std.specs.Prelude.{◌≡◌, ℕ, zero, suc, ◌+◌, ◌-◌, ◌*◌, ◌<◌, ◌⊎◌, true, List, [], ◌∷◌, length, map, Option, None, Some, unwrap_or}
 use Rattle.std.specs.List.{flat_map, range_with_len}
 use Rattle.std.specs.Option.{option_map}
-use Rattle.root.specs.declared.kind.Kind.{Kind}
-use Rattle.root.specs.declared.kind.Kind.TheVariants.{Strings, Guids, Blobs}
-use Rattle.root.specs.Streams.{RootRead, range_of, stream_of}
-use Rattle.heap_entries.specs.Entries.{IsCounted, IsEnded, IsGuidEntry}
+use Rattle.cli_where.specs.Words.{Kind, Strings, Guids, Blobs, RootRead, range_of, stream_of, IsCounted, IsEnded, IsGuidEntry, TableId, tables, columns_of, Sizes, count_of, number_at, TableCell, Region, entry, has_byte, kind_of}
 use Rattle.table_schema.specs.declared.column.ColumnKind.{ColumnKind}
 use Rattle.table_schema.specs.declared.column.ColumnKind.TheVariants as kind
-use Rattle.table_schema.specs.declared.table.TableId.{TableId}
-use Rattle.table_schema.specs.Tables.{tables}
-use Rattle.table_schema.specs.Columns.{columns_of}
-use Rattle.schema.specs.Sizes.{Sizes, count_of}
-use Rattle.schema.specs.Cells.{number_at}
-use Rattle.schema.specs.declared.located_cells.TableCell.{TableCell}
-use Rattle.cli_regions.specs.Regions.{Region, entry, has_byte}
-use Rattle.cli_found.specs.Found.{kind_of}
 
 -- a heap: its bytes, and the offset of the first one in the file
 pub record Heap : Type 0 where

@@ -3,11 +3,8 @@ use Rattle.std.specs.Prelude.{◌≡◌, ◌≢◌, ℕ, ◌+◌, ◌-◌, ◌<�
 use Rattle.cli_where.specs.declared.entries.Heap.{Heap as KeptHeap}
 use Rattle.cli_where.specs.declared.entries.Run.{Run}
 use Rattle.cli_where.specs.declared.entries.Target.{Target}
-use Rattle.schema.specs.declared.located_cells.TableCell.{TableCell}
-use Rattle.rows.specs.Cells.{Stream}
+use Rattle.cli_where.specs.Words.{TableCell, Stream, Joins, Searched, Region, has_byte}
 use Rattle.cli_where.specs.Entries.{AreFirst, Heap, Heaps, IsEntryOf, IsStringAt}
-use Rattle.cli_regions.specs.Kept.{Joins, Searched}
-use Rattle.cli_regions.specs.Regions.{Region, has_byte}
 
 abbrev pub heap_of : KeptHeap → Heap
 heap_of heap = record { bytes = heap.bytes.now; start = heap.start }

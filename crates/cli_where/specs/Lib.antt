@@ -1,6 +1,6 @@
+pub mod Words
 pub mod Entries
 pub mod UserStrings
-pub mod Cells
 pub mod Kept
 pub mod Where
 pub mod Lines

@@ -1,18 +1,8 @@
 -- The lines of structures, and those of user strings (ECMA-335 II.22, II.24.2 and III.1.9).
 use Rattle.std.specs.Prelude.{ℕ, Bool, true, false, List, [], ◌∷◌, Option, None, Some, codes, slice_index_or}
-use Rattle.root.specs.declared.kind.Kind.{Kind}
-use Rattle.root.specs.declared.kind.Kind.TheVariants.{Strings, Guids, UserStrings}
-use Rattle.root.specs.Streams.{stream_name}
-use Rattle.heap_entries.specs.Entries.{UserText}
-use Rattle.table_schema.specs.CellColumns.{is_padding}
-use Rattle.table_schema.specs.Tables.{table_name, table_number}
+use Rattle.cli_where.specs.Words.{Kind, Strings, Guids, UserStrings, stream_name, UserText, is_padding, table_name, table_number, TableCell, Part, byte, field, hex, member, note, number, plain, units, word, Region, What, cell, entry, scalar, user_string, words, column_number, kind_of}
 use Rattle.schema.specs.ColumnNames.{column_names_of}
-use Rattle.schema.specs.declared.located_cells.TableCell.{TableCell}
 use Rattle.cli_lines.specs.declared.names.Name.TheVariants as name
-use Rattle.cli_lines.specs.Lines.{Part, byte, field, hex, member, note, number, plain, units, word}
-use Rattle.cli_regions.specs.Regions.{Region, What, cell, entry, scalar, user_string, words}
-use Rattle.cli_found.specs.Columns.{column_number}
-use Rattle.cli_found.specs.Found.{kind_of}
 use Rattle.cli_where.specs.UserStrings.{Entry, user_token}
 
 -- the name of the column of a cell

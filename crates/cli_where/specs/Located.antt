@@ -2,19 +2,11 @@
 use Rattle.std.specs.Prelude.{◌≡◌, ℕ, ◌⊎◌, List, [], ◌∷◌, ◌++◌, codes, map, Result, Ok, Err}
 use Rattle.std.specs.List.{flat_map}
 use Rattle.packed.specs.declared.fault.Fault.{Fault as TheFault}
-use Rattle.packed.specs.Rule.{FirstBroken}
+use Rattle.cli_where.specs.Words.{FirstBroken, Metadata, IsModelOfFile, IsModelOf, IsWhole, rules_of, Input, BareRoot, File, Part, word, Printed, Prints, Region}
 use Rattle.cli_faults.specs.declared.failure.Failure.{Failure}
 use Rattle.cli_faults.specs.declared.failure.Failure.TheVariants.{Fault, OutOfMemory}
-use Rattle.metadata.specs.Metadata.{Metadata}
-use Rattle.metadata.specs.Model.{IsModelOfFile}
-use Rattle.cli_files.specs.Checked.{IsModelOf, IsWhole, rules_of}
-use Rattle.cli_files.specs.declared.opened.Input.{Input}
-use Rattle.cli_files.specs.declared.opened.Input.TheVariants.{BareRoot, File}
 use Rattle.cli_header.specs.declared.header.CliHeader.{CliHeader}
 use Rattle.cli_contents.specs.Lines.{AreOfResources, content_lines}
-use Rattle.cli_lines.specs.Lines.{Part, word}
-use Rattle.cli_lines.specs.Printed.{Printed, Prints}
-use Rattle.cli_regions.specs.Regions.{Region}
 use Rattle.cli_where.specs.Lines.{entry_lines, structure_line}
 use Rattle.cli_where.specs.UserStrings.{AreEntries, Entry}
 use Rattle.cli_found.specs.Values.{value_lines}

@@ -1,8 +1,6 @@
 -- The user strings of a heap, and their tokens (ECMA-335 II.24.2.4 and III.1.9).
 use Rattle.std.specs.Prelude.{◌≡◌, ℕ, ◌+◌, ◌-◌, ◌*◌, ◌^◌, ◌<◌, ◌≤◌, ◌⊎◌, List, [], ◌∷◌, length, map, min}
-use Rattle.heap_entries.specs.Entries.{EncodesUserText, IsCounted, UserText}
-use Rattle.heap_entries.specs.Padding.{zero_padded}
-use Rattle.cli_regions.specs.Regions.{Region, regions_at, user_string}
+use Rattle.cli_where.specs.Words.{EncodesUserText, IsCounted, UserText, zero_padded, Region, regions_at, user_string}
 use Rattle.cli_where.specs.Entries.{Heap}
 
 -- the user string is at this offset of the heap: a packed length, in any of its forms, and its bytes; the next offset

@@ -1,31 +1,41 @@
 -- The structures of a file that contain a byte, outermost first (ECMA-335 II.22 to II.25). A broken file has no model, so only
 -- those of its layers are taken apart whose rules all hold.
-use Rattle.std.specs.Prelude.{◌≡◌, ℕ, List, [], ◌++◌, ◌⊎◌}
+use Rattle.std.specs.Prelude.{◌≡◌, ℕ, ◌+◌, ◌-◌, ◌≤◌, List, [], ◌∷◌, ◌++◌, ◌⊎◌, Option, None, Some}
 use Rattle.packed.specs.declared.fault.Fault.{Fault}
-use Rattle.packed.specs.Rule.{AllHold, Rule}
+use Rattle.cli_where.specs.Words.{AllHold, Rule, Tables, UserStrings, RootRead, TableId, cell_width, cell_start, Sizes, TableCell, Stream, Input, BareRoot, File}
 use Rattle.pe.specs.Headers.{image_of}
 use Rattle.pe.specs.Image.{Image}
 use Rattle.pe.specs.Rules.{rules_of_image}
 use Rattle.cli_header.specs.Rules.{rules_of_cli_header}
 use Rattle.cli_header.specs.Said.{header_of}
-use Rattle.root.specs.declared.kind.Kind.TheVariants.{Tables, UserStrings}
 use Rattle.root.specs.Fields.{root_read}
 use Rattle.root.specs.Rules.{rules_of_root}
-use Rattle.root.specs.Streams.{RootRead}
 use Rattle.schema.specs.Header.{sizes_of}
+use Rattle.schema.specs.LocatedCells.{HasCell}
 use Rattle.schema.specs.Rules.{rules_of_stream}
-use Rattle.rows.specs.Cells.{Stream}
 use Rattle.metadata.specs.Streams.{root_in}
-use Rattle.cli_files.specs.declared.opened.Input.{Input}
-use Rattle.cli_files.specs.declared.opened.Input.TheVariants.{BareRoot, File}
 use Rattle.cli_regions.specs.Files.{cli_regions, image_regions}
 use Rattle.cli_regions.specs.Headers.{root_regions, table_stream_regions}
-use Rattle.cli_regions.specs.Regions.{Region, regions_at}
-use Rattle.cli_where.specs.Cells.{AreCellsAt}
+use Rattle.cli_regions.specs.Regions.{Region, cell as is_cell, regions_at}
 use Rattle.cli_where.specs.Entries.{AreEntriesAt, Heap, heap_at, heaps_at}
 use Rattle.cli_where.specs.UserStrings.{AreUsersAt}
 use Rattle.cli_where.specs.declared.walk.Reach.{Reach}
 use Rattle.cli_where.specs.declared.walk.Reach.TheVariants.{Cells, Entries}
+
+-- the cell of a table stream at this offset of the file contains the byte, or no cell contains it
+abbrev pub IsCellAt : Sizes → ℕ → ℕ → Option TableCell → Type 0
+IsCellAt sizes start offset None = (table : TableId) (row column : ℕ) → start ≤ offset → HasCell sizes table row column (offset - start) → ⊥
+IsCellAt sizes start offset (Some cell) = (start ≤ offset) × HasCell sizes cell.table cell.row cell.column (offset - start)
+
+-- a cell as a list of one structure, if there is one
+abbrev pub cell_regions : Sizes → ℕ → Option TableCell → List Region
+cell_regions sizes start None = []
+cell_regions sizes start (Some cell) =
+    record { start = start + cell_start sizes cell.table cell.row cell.column; size = cell_width sizes cell.table cell.column; what = is_cell cell } ∷ []
+
+-- the cell that contains the byte; nothing if no cell contains it
+abbrev pub AreCellsAt : Sizes → ℕ → ℕ → List Region → Type 0
+AreCellsAt sizes start offset found = (cell : Option TableCell) × IsCellAt sizes start offset cell × (found ≡ cell_regions sizes start cell)
 
 -- structures of one kind, and then those of another
 abbrev pub Then : (ℕ → List Region → Type 0) → (ℕ → List Region → Type 0) → ℕ → List Region → Type 0

@@ -1,17 +1,18 @@
-//! The heap entries that have a byte (II.24.2.3 to II.24.2.5).
-ghost use Rattle.std.specs.Prelude.{◌≡◌, ◌≤◌, ◌<◌, ◌+◌, ℕ, List, [], IfSome, IfNone, IsSomeAnd, length, true, unwrap_or};
+//! The heap entries that have a byte (II.24.2.3 to II.24.2.5), by the cells that refer to them.
+ghost use Rattle.std.specs.Prelude.{◌≡◌, ◌≤◌, ◌<◌, ◌+◌, ℕ, List, [], IfSome, IfNone, IsSomeAnd, length, true, unwrap_or, ◌∷◌};
 ghost use Rattle.std.specs.Option.{option_map};
-ghost use Rattle.heap_entries.specs.Entries.{IsCounted};
-ghost use Rattle.root.specs.Streams.{range_of, stream_of};
-ghost use Rattle.cli_where.specs.Entries.{IsBlobAt, IsGuidAt, IsNamed, IsStringAt, heap_at, heap_named};
-ghost use Rattle.cli_where.specs.Kept.{AreReady, IsLow, IsRunAt, IsRunOf, heap_of, heaps_of};
-ghost use Rattle.cli_regions.specs.Regions.{has_byte};
+ghost use Rattle.cli_where.specs.Words.{IsCounted, range_of, stream_of, has_byte, columns_of, count_of, Finds};
+ghost use Rattle.cli_where.specs.Entries.{IsBlobAt, IsGuidAt, IsNamed, IsStringAt, heap_at, heap_named, AreEntriesAt};
+ghost use Rattle.cli_where.specs.Kept.{AreReady, IsLow, IsRunAt, IsRunOf, heap_of, heaps_of, FindsFirst};
 
-use cli_regions::has_byte;
+use cli_found::kind_of;
+use cli_regions::{Search, Structure, What, has_byte};
 use memchr::{memchr, memrchr};
 use packed::read_unsigned;
 use root::{Kind, Root};
-use table_schema::ColumnKind;
+use rows::Rows;
+use schema::TableCell;
+use table_schema::{ColumnKind, TableId, columns};
 
 /// The number of bytes of a GUID.
 const GUID_SIZE: u64 = 16;
@@ -51,7 +52,7 @@ pub(crate) struct Target<'a> {
 
 /// Where an entry is in the file.
 #[derive(Clone, Copy)]
-pub(crate) struct Span {
+struct Span {
     /// The offset of its first byte.
     pub start: u64,
     /// Its number of bytes.
@@ -190,7 +191,7 @@ fn blob_at(target: &Target<'_>, index: u32) -> Option<Span>
 }
 
 /// The entry that an index in a column of a kind names, if it has the byte. It takes constant time.
-pub(crate) fn entry_at(target: &Target<'_>, kind: ColumnKind, index: u32) -> Option<Span>
+fn entry_at(target: &Target<'_>, kind: ColumnKind, index: u32) -> Option<Span>
     requires { AreReady target.now }
     ensures sound { IfSome result (λ span. IsNamed (heaps_of target.now) kind index span.start span.size × (has_byte span.start span.size target.now.offset ≡ true)) }
     ensures none { IfNone result ((start size : ℕ) → IsNamed (heaps_of target.now) kind index start size → has_byte start size target.now.offset ≡ true → ⊥) }
@@ -204,12 +205,66 @@ pub(crate) fn entry_at(target: &Target<'_>, kind: ColumnKind, index: u32) -> Opt
 }
 
 /// The heap that a column of a kind indexes.
-pub(crate) fn heap_named(kind: ColumnKind) -> Kind
+fn heap_named(kind: ColumnKind) -> Kind
     ensures { result ≡ heap_named kind }
 {
     match kind {
         ColumnKind::Text => Kind::Strings,
         ColumnKind::Guid => Kind::Guids,
         _ => Kind::Blobs,
+    }
+}
+
+/// The greatest number of cells that are listed.
+const MOST_CELLS: usize = 10;
+
+/// Keeps the entry that a cell refers to, if it contains the byte, unless the greatest number of entries is 0.
+/// Returns how many of this number are left.
+fn find_named(
+    rows: &Rows<'_>,
+    target: &Target<'_>,
+    cell: TableCell,
+    most: usize,
+    found: &mut Search<'_>,
+) -> usize
+    requires ready { AreReady target.now }
+    requires first { 1 ≤ cell.row }
+    requires last { cell.row ≤ count_of rows.now.sizes cell.table }
+    requires column { cell.column < length (columns_of cell.table) }
+    ensures { FindsFirst target.now rows.now most result (cell ∷ []) found.old found.new }
+{
+    if most == 0 {
+        return 0;
+    }
+    let kind = kind_of(cell);
+    match entry_at(target, kind, rows.number(cell.table, cell.row, cell.column)) {
+        Some(span) => {
+            found.keep(Structure {
+                start: span.start,
+                size: span.size,
+                what: What::Entry(heap_named(kind), cell),
+            });
+            most - 1
+        }
+        None => most,
+    }
+}
+
+/// Keeps the entries that contain the byte, for the first ten cells that refer to one. It reads all cells.
+pub(crate) fn find_entries(rows: &Rows<'_>, target: &Target<'_>, found: &mut Search<'_>)
+    requires ready { AreReady target.now }
+    requires offset { target.now.offset ≡ found.old.offset }
+    ensures { Finds (AreEntriesAt (heaps_of target.now) rows.now.bytes rows.now.sizes) found.old found.new }
+{
+    let tables = TableId::all();
+    let mut left = MOST_CELLS;
+    for of in tables {
+        let table = *of;
+        for row in 1..rows.layout().count(table) + 1 {
+            for column in 0..columns(table).len() {
+                let cell = TableCell { table, row, column };
+                left = find_named(rows, target, cell, left, found);
+            }
+        }
     }
 }

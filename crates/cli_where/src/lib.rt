@@ -17,15 +17,13 @@
 #![tactic(auto)]
 
 mod entries;
-mod named_entries;
 mod report;
-mod strings;
 mod structure_lines;
 mod user_strings;
 mod walk;
 
 pub use cli_regions::{Structure, What};
 pub use report::{Found, print_where};
-pub use strings::print_strings;
 pub use structure_lines::print_structures;
+pub use user_strings::print_strings;
 pub use walk::{Reach, structures_at};

@@ -1,10 +1,6 @@
 //! Prints what a byte of a file belongs to.
 ghost use Rattle.std.specs.Prelude.{◌≡◌, ◌==◌, ◌++◌, false, length, map};
-ghost use Rattle.cli_lines.specs.Printed.{Prints};
-ghost use Rattle.cli_regions.specs.Kept.{seen};
-ghost use Rattle.cli_files.specs.Checked.{IsModelOf};
-ghost use Rattle.metadata.specs.Metadata.{Metadata};
-ghost use Rattle.metadata.specs.Model.{IsModel};
+ghost use Rattle.cli_where.specs.Words.{Prints, seen, IsModelOf, Metadata, IsModel};
 ghost use Rattle.cli_where.specs.Located.{HasContents, IsLocated, where_lines};
 
 use crate::structure_lines::print_structures;

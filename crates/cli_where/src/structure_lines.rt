@@ -1,13 +1,10 @@
 //! Prints the lines of structures.
 ghost use Rattle.std.specs.Prelude.{◌≡◌, ◌∷◌, [], map};
-ghost use Rattle.cli_lines.specs.Printed.{Prints};
-ghost use Rattle.cli_regions.specs.Kept.{seen, words_text};
+ghost use Rattle.cli_where.specs.Words.{Prints, seen, words_text, is_padding, kind_of};
 ghost use Rattle.cli_regions.specs.Regions.{cell as a_cell, words as some_words};
-ghost use Rattle.table_schema.specs.CellColumns.{is_padding};
-ghost use Rattle.cli_found.specs.Found.{kind_of};
 ghost use Rattle.cli_where.specs.Lines.{column_name, entry_word, line_with, structure_line, what_parts};
 
-use cli_found::{column_number, is_counted};
+use cli_found::{column_number, kind_of};
 use cli_lines::Part::{Field, Member, Note, Word};
 use cli_lines::Value::{Byte, Hex, Number, Plain};
 use cli_lines::{Name, Printer};
@@ -16,17 +13,29 @@ use root::Kind;
 use schema::{TableCell, column_names};
 use std::alloc::Global;
 use std::io::Write;
-use table_schema::columns;
+use table_schema::ColumnKind;
 
-/// A line: the offset and the size of a structure, and parts that say what it is.
+/// A line: the offset and the size of a structure, and parts that say what it is. After `=>` follow the table and the row of a cell,
+/// and its column too if it is no padding.
 macro_rules! line {
-    ($of:expr; $($part:expr),*) => {
+    ($of:expr; $($part:expr;)*) => {
         &[
-            Field(Name::Offset, Number($of.start)),
-            Word(" "),
-            Field(Name::Size, Number($of.size)),
-            Word(" "),
-            $($part),*
+            Field(Name::Offset, Number($of.start)), Word(" "),
+            Field(Name::Size, Number($of.size)), Word(" "), $($part),*
+        ]
+    };
+    ($of:expr; $($part:expr;)* => row $cell:ident; $($last:expr;)*) => {
+        line![
+            $of; $($part;)* Note(Byte($cell.table.number())); Word(" ");
+            Field(Name::Table, Plain($cell.table.name())); Word(" row ");
+            Field(Name::Row, Number($cell.row as u64)); $($last;)*
+        ]
+    };
+    ($of:expr; $($part:expr;)* => cell $cell:ident;) => {
+        line![
+            $of; $($part;)* => row $cell; Word(" column ");
+            Note(Number(column_number($cell) as u64)); Word(" ");
+            Field(Name::Column, Plain(column_name($cell)));
         ]
     };
 }
@@ -45,10 +54,7 @@ fn column_name(cell: TableCell) -> &'static str
 fn is_padding(cell: TableCell) -> bool
     ensures { result ≡ is_padding (kind_of cell) }
 {
-    match columns(cell.table).get(cell.column) {
-        Some(column) => !is_counted(column),
-        None => false,
-    }
+    matches!(kind_of(cell), ColumnKind::Padding)
 }
 
 /// What an entry of a heap is.
@@ -63,7 +69,6 @@ fn entry_word(heap: Kind) -> &'static str
 }
 
 /// Prints the line of a structure with these words.
-#[tactic(auto, unfolding(crate::specs::Lines::line_with))]
 fn print_words<W: Write>(
     alloc: Global,
     of: Structure<'_>,
@@ -73,48 +78,25 @@ fn print_words<W: Write>(
     ensures { Prints out.old out.new (line_with of.entry.start of.entry.size (what_parts (some_words (words_text words.entry))) ∷ []) }
 {
     match words.to_string(alloc) {
-        Ok(text) => out.line(line![of; Field(Name::Structure, Plain(&text))]),
+        Ok(text) => out.line(line![of; Field(Name::Structure, Plain(&text));]),
         Err(_) => out.fail(),
     }
 }
 
 /// Prints the line of a cell, or of the padding of a row.
-#[tactic(auto, unfolding(crate::specs::Lines::line_with))]
 fn print_cell<W: Write>(of: Structure<'_>, cell: TableCell, out: &mut Printer<'_, W>)
     ensures { Prints out.old out.new (line_with of.entry.start of.entry.size (what_parts (a_cell cell)) ∷ []) }
 {
     if is_padding(cell) {
         out.line(line![
-            of;
-            Member(Name::Structure, Plain("padding")),
-            Word("table "),
-            Note(Byte(cell.table.number())),
-            Word(" "),
-            Field(Name::Table, Plain(cell.table.name())),
-            Word(" row "),
-            Field(Name::Row, Number(cell.row as u64)),
-            Word(" padding")
+            of; Member(Name::Structure, Plain("padding")); Word("table "); => row cell; Word(" padding");
         ]);
     } else {
-        out.line(line![
-            of;
-            Member(Name::Structure, Plain("cell")),
-            Word("table "),
-            Note(Byte(cell.table.number())),
-            Word(" "),
-            Field(Name::Table, Plain(cell.table.name())),
-            Word(" row "),
-            Field(Name::Row, Number(cell.row as u64)),
-            Word(" column "),
-            Note(Number(column_number(cell) as u64)),
-            Word(" "),
-            Field(Name::Column, Plain(column_name(cell)))
-        ]);
+        out.line(line![of; Member(Name::Structure, Plain("cell")); Word("table "); => cell cell;]);
     }
 }
 
 /// Prints the line of a structure.
-#[tactic(auto, unfolding(crate::specs::Lines::line_with))]
 fn print_structure<W: Write>(alloc: Global, of: Structure<'_>, out: &mut Printer<'_, W>)
     ensures { Prints out.old out.new (structure_line (seen of.entry) ∷ []) }
 {
@@ -122,26 +104,13 @@ fn print_structure<W: Write>(alloc: Global, of: Structure<'_>, out: &mut Printer
         What::Words(words) | What::Scalar(words) => print_words(alloc, of, words, out),
         What::Cell(cell) => print_cell(of, cell, out),
         What::Entry(heap, cell) => out.line(line![
-            of;
-            Field(Name::Structure, Plain(entry_word(heap))),
-            Member(Name::Stream, Plain(heap.name())),
-            Word(" of table "),
-            Note(Byte(cell.table.number())),
-            Word(" "),
-            Field(Name::Table, Plain(cell.table.name())),
-            Word(" row "),
-            Field(Name::Row, Number(cell.row as u64)),
-            Word(" column "),
-            Note(Number(column_number(cell) as u64)),
-            Word(" "),
-            Field(Name::Column, Plain(column_name(cell)))
+            of; Field(Name::Structure, Plain(entry_word(heap)));
+            Member(Name::Stream, Plain(heap.name())); Word(" of table "); => cell cell;
         ]),
         What::UserString(token) => out.line(line![
-            of;
-            Field(Name::Structure, Plain("user string")),
-            Member(Name::Stream, Plain(Kind::UserStrings.name())),
-            Word(" "),
-            Field(Name::Token, Hex(token))
+            of; Field(Name::Structure, Plain("user string"));
+            Member(Name::Stream, Plain(Kind::UserStrings.name())); Word(" ");
+            Field(Name::Token, Hex(token));
         ]),
     }
 }

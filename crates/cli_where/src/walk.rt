@@ -1,14 +1,10 @@
 //! Walks over a file, entire or broken, down to a byte.
 ghost use Rattle.std.specs.Prelude.{◌≤◌, IfOk, length, map};
-ghost use Rattle.cli_regions.specs.Kept.{Finds, seen};
-ghost use Rattle.root.specs.declared.kind.Kind.TheVariants.{Tables};
-ghost use Rattle.schema.specs.Offsets.{tables_end};
-ghost use Rattle.cli_where.specs.Cells.{AreCellsAt};
+ghost use Rattle.cli_where.specs.Words.{Finds, seen, Tables, tables_end};
 ghost use Rattle.cli_where.specs.Entries.{heap_at};
-ghost use Rattle.cli_where.specs.Where.{AreInFile, AreInHeaps, AreInImage, AreInRoot, AreInStream, AreStructuresAt};
+ghost use Rattle.cli_where.specs.Where.{AreCellsAt, AreInHeaps, AreInImage, AreInRoot, AreInStream, AreStructuresAt};
 
-use crate::entries::{Target, heap_in, run_of};
-use crate::named_entries::find_entries;
+use crate::entries::{Target, find_entries, heap_in, run_of};
 use crate::user_strings::find_user_strings;
 use cli_files::{Input, root_of};
 use cli_header::read_cli;
@@ -95,9 +91,7 @@ fn find_in_root<'a>(bytes: &'a [u8], start: u64, reach: Reach, found: &mut Searc
     requires { start ≤ 0x40000000 }
     ensures { Finds (AreInRoot reach start bytes.now) found.old found.new }
 {
-    let Ok(root) = read_root(bytes) else {
-        return;
-    };
+    let Ok(root) = read_root(bytes) else { return };
     find_root(bytes, &root, start, found);
     find_in_streams(&root, start, reach, found);
 }
@@ -107,32 +101,23 @@ fn find_in_image<'a>(pe: &Pe<'a>, reach: Reach, found: &mut Search<'a>)
     requires { length pe.now.bytes ≤ 0x40000000 }
     ensures { Finds (AreInImage reach pe.now) found.old found.new }
 {
-    let Ok(header) = read_cli(pe) else {
-        return;
-    };
+    let Ok(header) = read_cli(pe) else { return };
     find_cli(pe, &header, found);
     let root = root_of(pe.bytes(), &header);
     find_in_root(root, header.root.start as u64, reach, found);
 }
 
-/// Walks over a file, unless its PE headers break a rule.
-fn find_in_file<'a>(file: &'a [u8], reach: Reach, found: &mut Search<'a>)
-    ensures { Finds (AreInFile reach file.now) found.old found.new }
-{
-    let Ok(pe) = read_pe(file) else {
-        return;
-    };
-    find_pe(&pe, found);
-    find_in_image(&pe, reach, found);
-}
-
-/// Walks over the bytes.
+/// Walks over the bytes: over a file unless its PE headers break a rule, or over a root.
 fn find_all<'a>(bytes: &'a [u8], input: Input, reach: Reach, found: &mut Search<'a>)
     ensures { Finds (AreStructuresAt input reach bytes.now) found.old found.new }
 {
     match input {
         Input::BareRoot => find_in_root(bytes, 0, reach, found),
-        Input::File => find_in_file(bytes, reach, found),
+        Input::File => {
+            let Ok(pe) = read_pe(bytes) else { return };
+            find_pe(&pe, found);
+            find_in_image(&pe, reach, found);
+        }
     }
 }
 

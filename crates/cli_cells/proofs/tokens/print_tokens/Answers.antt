@@ -1,6 +1,12 @@
-use Rattle.cli_cells.proofs.Prelude.{◌+◌, ◌++◌, ◌∷◌, ◌∙◌, [], ℕ, List, ap, drop, get_or, refl, sym, take, drop_more, take-append-drop, take_all, take_more, All-more, All-nil, IsNamed}
-use Rattle.cli_cells.proofs.TokenLemmas.{lines_appended}
+use Rattle.cli_cells.proofs.Prelude.{◌+◌, ◌++◌, ◌∷◌, ◌∙◌, [], ℕ, List, ap, drop, get_or, refl, sym, take, drop_more, take-append-drop, take_all, take_more, All-more, All-nil, IsNamed, Metadata, Part, AreTokenLines, IsTokenLine}
 use Rattle.cli_cells.proofs.tokens.print_tokens.Goals as goal
+
+-- the lines of some numbers and of one more
+lines_appended : (model : Metadata) (numbers : List ℕ) (number : ℕ) (lines : List (List Part)) (parts : List Part) → AreTokenLines model numbers lines
+    → IsTokenLine model number parts → AreTokenLines model (numbers ++ number ∷ []) (lines ++ parts ∷ [])
+lines_appended model [] number lines parts are is = (parts, [], is, refl, ap (λ xs. xs ++ parts ∷ []) are)
+lines_appended model (n ∷ ns) number lines parts are is =
+    (are.0, are.1 ++ parts ∷ [], are.2, lines_appended model ns number are.1 parts are.3 is, ap (λ xs. xs ++ parts ∷ []) are.4)
 
 pub loop-number-init : goal.loop-number-init
 loop-number-init g c = record { there = All-nil _; printed = λ model is. ([], refl, c.lines_follow.ensures.nothing _) }

@@ -1,5 +1,4 @@
-use Rattle.cli_found.proofs.Prelude.{string_bytes, ◌∙◌, ap, fold, map, sym, shown_word, with_word}
-use Rattle.std.proofs.lemmas.List.{drop_all, drop_more}
+use Rattle.cli_found.proofs.Prelude.{string_bytes, ◌∙◌, ap, fold, map, sym, shown_word, with_word, drop_all, drop_more}
 use Rattle.cli_found.proofs.flags.flag_text.Goals as goal
 
 pub loop-word-preserved : goal.loop-word-preserved

@@ -1,8 +1,6 @@
-use Rattle.std.proofs.Common.{◌-◌, ap, length}
 use Rattle.std.specs.Option.{option_map}
-use Rattle.std.proofs.lemmas.List.{length-map}
 use Rattle.std.proofs.lemmas.Option.{slice_get-map}
-use Rattle.cli_found.proofs.Prelude.{seen}
+use Rattle.cli_found.proofs.Prelude.{seen, ◌-◌, ap, length, length-map}
 use Rattle.cli_found.proofs.lines.last_of.Goals as goal
 
 pub returns : goal.returns

@@ -7,5 +7,5 @@ returns-then-not-is_reference g c = λ model is. rw (← c.is_reference.ensures.
 
 pub returns : goal.returns
 returns g c = λ model is.
-    let shows : IsContent c.new.result (content_of model) = (model, rw c.new.ensures is, refl) in
+    let shows : IsContent c.new-cells.result (content_of model) = (model, rw c.new-cells.ensures is, refl) in
     rw (← c.is_reference.ensures.value model is, c.if-not-is_reference.false, ← c.column_number-cell_index.ensures) (c.print_cell.ensures.part (content_of model) shows)

@@ -24,7 +24,7 @@ returns-in_err-left_view g c =
 
 pub returns-then-eq : goal.returns-then-eq
 returns-then-eq g c =
-    let same = (slice_eq-Decides Decides-eqb c.args.left.bytes.now c.args.right.bytes.now c.eq.result c.eq.ensures).0 c.if-eq.true in
+    let same = (slice_eq-Decides Decides-eqb c.args.left.now c.args.right.now c.eq.result c.eq.ensures).0 c.if-eq.true in
     let it = c.in_ok-left_view.ensures in
     record { compared = inl (it.sound, rw same at it.sound, shown_of c.compare_views.result it.models (λ model is. it.models model (rw (sym same) at is)) c.compare_views.ensures) }
 

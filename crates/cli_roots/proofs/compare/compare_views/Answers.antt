@@ -1,6 +1,4 @@
-use Rattle.cli_roots.proofs.Prelude.{◌∙◌, ap, length, sym, arith, inl, inr, Decides-eqb, compare_text, ℕ, List, [], Option, None, Some, append-nil, refl, SendsPrefix}
-use Rattle.std.proofs.lemmas.List.{nil_from_length}
-use Rattle.cli_faults.specs.declared.failure.Failure.TheVariants.{OutOfMemory}
+use Rattle.cli_roots.proofs.Prelude.{◌∙◌, ap, length, sym, arith, inl, inr, Decides-eqb, compare_text, ℕ, List, [], Option, None, Some, append-nil, refl, SendsPrefix, nil_from_length, OutOfMemory}
 use Rattle.cli_roots.proofs.compare.compare_views.Goals as goal
 
 prefix_of_none : (known : Option (List ℕ)) (text : List ℕ) → SendsPrefix known known text

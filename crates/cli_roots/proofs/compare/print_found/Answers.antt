@@ -1,5 +1,4 @@
-use Rattle.cli_roots.proofs.Prelude.{[], rules, subst, report_text, Sent}
-use Rattle.cli_roots.specs.ComparedLines.{compared_lines}
+use Rattle.cli_roots.proofs.Prelude.{[], rules, subst, report_text, Sent, compared_lines}
 use Rattle.cli_roots.proofs.compare.print_found.Goals as goal
 
 pub returns-in-Lines-clause-printed : goal.returns-in-Lines-clause-printed

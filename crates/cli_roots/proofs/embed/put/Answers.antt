@@ -1,12 +1,9 @@
-use Rattle.cli_roots.proofs.Prelude.{◌≡◌, ℕ, List, Option, inl, inr, refl, err_from_is_err_and, failure_of, result_of, SendsPrefix}
+use Rattle.cli_roots.proofs.Prelude.{◌≡◌, ℕ, List, Option, inl, inr, refl, err_from_is_err_and, failure_of, result_of, SendsPrefix, Planned, OutOfMemory, IsLineOf, IsPut}
 use Rattle.std.specs.Io.KnownBytes.{Appends}
 use Rattle.embedding.specs.declared.strong_name.StrongName.{StrongName}
 use Rattle.embedding.specs.Embedded.{IsEmbedded}
-use Rattle.embedding.specs.Planned.{Planned}
-use Rattle.cli_faults.specs.declared.failure.Failure.TheVariants.{OutOfMemory}
 use Rattle.cli_lines.specs.declared.parts.Form.{Form}
-use Rattle.cli_roots.specs.Written.{WasGiven}
-use Rattle.cli_roots.specs.Embedded.{IsLineOf, IsPut}
+use Rattle.cli_roots.specs.Runs.{WasGiven}
 use Rattle.cli_roots.proofs.embed.put.Goals as goal
 
 -- what was planned is put into a file that was given its bytes
@@ -34,7 +31,7 @@ pub returns-in_err-print_length-clause-run : goal.returns-in_err-print_length-cl
 returns-in_err-print_length-clause-run g c = λ given is.
     let p = err_from_is_err_and c.from_residual-in_err-print_length.result c.from_residual-in_err-print_length.ensures.1 in
     let it = c.in_err-print_length in
-    let put = planned_put g.R.File.Write.contents c.args.options.now.form c.args.options.now.strong_name c.args.file.bytes.now c.args.root.now c.deref.result.now c.in-Ok.plan
+    let put = planned_put g.R.File.Write.contents c.args.options.now.form c.args.options.now.strong_name c.args.file.now c.args.root.now c.deref.result.now c.in-Ok.plan
     c.in_ok-write_file.field-0 (λ text. SendsPrefix (g.W.Write.contents c.args.out.now) (g.W.Write.contents c.print_length.new.out) text) c.in-Ok.ensures.given.2 c.in-Ok.ensures.sound
     (cc (c.deref.ensures.value, c.in-Ok-make.ensures)) c.in_ok-write_file.ensures.given it.ensures.sent in
     rw p.1 (record { done = tt; stopped = (it.field-0.0, p.2, inr (c.args.root.now, is, inr (it.ensures.failed, put))) })
@@ -44,7 +41,7 @@ returns-in_err-print_length-clause-quiet g c = rw (c.in-Ok.ensures.given.0, c.in
 
 pub returns-clause-run : goal.returns-clause-run
 returns-clause-run g c = λ given is.
-    let put = planned_put g.R.File.Write.contents c.args.options.now.form c.args.options.now.strong_name c.args.file.bytes.now c.args.root.now c.deref.result.now c.in-Ok.plan
+    let put = planned_put g.R.File.Write.contents c.args.options.now.form c.args.options.now.strong_name c.args.file.now c.args.root.now c.deref.result.now c.in-Ok.plan
     c.in_ok-write_file.field-0 (λ text. Appends (g.W.Write.contents c.args.out.now) (g.W.Write.contents c.print_length.new.out) text) c.in-Ok.ensures.given.2 c.in-Ok.ensures.sound
     (cc (c.deref.ensures.value, c.in-Ok-make.ensures)) c.in_ok-write_file.ensures.given c.in_ok-print_length.ensures.sent in
     record { done = (c.args.root.now, is, put); stopped = tt }

@@ -1,5 +1,4 @@
-use Rattle.std.proofs.Common.{Ok, Err, inl, inr, refl}
-use Rattle.cli_roots.proofs.Prelude.{err_from_is_err_and}
+use Rattle.cli_roots.proofs.Prelude.{err_from_is_err_and, Ok, Err, inl, inr, refl}
 use Rattle.cli_roots.proofs.rewrite.rewrite_file.Goals as goal
 
 pub returns-in_err-check_path : goal.returns-in_err-check_path

@@ -1,5 +1,5 @@
 use Rattle.cli_where.proofs.Prelude.{[], ◌∷◌, arith, refl, adds_none, and_then}
-use Rattle.cli_where.proofs.UserLemmas.{no_entry_past}
+use Rattle.cli_where.proofs.EntryLemmas.{no_entry_past}
 use Rattle.cli_where.proofs.user_strings.find_in_padded.Goals as goal
 
 pub loop-turn-preserved : goal.loop-turn-preserved

@@ -1,5 +1,5 @@
 use Rattle.cli_where.proofs.Prelude.{◌≡◌, List, ℕ, refl, rules, subst, zero_padded, AreEntries, AreUsersAt, finds_joined, heap_of}
-use Rattle.cli_where.proofs.UserLemmas.{padded_already}
+use Rattle.cli_where.proofs.EntryLemmas.{padded_already}
 use Rattle.cli_where.proofs.user_strings.find_user_strings.Goals as goal
 
 pub returns-then-heap-eq0 : goal.returns-then-heap-eq0

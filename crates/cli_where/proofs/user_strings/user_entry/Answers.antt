@@ -1,5 +1,5 @@
 use Rattle.std.proofs.Common.{arith, inr}
-use Rattle.cli_where.proofs.UserLemmas.{entry_is, user_is}
+use Rattle.cli_where.proofs.EntryLemmas.{entry_is, user_is}
 use Rattle.cli_where.proofs.user_strings.user_entry.Goals as goal
 
 pub returns-in_err-size-clause-none : goal.returns-in_err-size-clause-none

@@ -1,7 +1,5 @@
-use Rattle.cli_where.proofs.Prelude.{finds_joined, finds_none}
-use Rattle.std.proofs.Common.{◌+◌, ◌≤◌, ◌∷◌, [], None, Some, arith, refl}
+use Rattle.cli_where.proofs.Prelude.{finds_joined, finds_none, ◌+◌, ◌≤◌, ◌∷◌, [], None, Some, arith, refl, AreCellsAt}
 use Rattle.cli_regions.specs.Regions.{cell as is_cell}
-use Rattle.cli_where.specs.Cells.{AreCellsAt}
 use Rattle.cli_where.proofs.walk.find_cell.Goals as goal
 
 pub returns-then-offset-start : goal.returns-then-offset-start

@@ -1,4 +1,0 @@
-use Rattle.cli_cells.proofs.met_rows.MetRowsShownRows.count.Goals as goal
-
-pub returns : goal.returns
-returns c = λ content is. rw (is, ← c.self.view_is) c.count.ensures.value

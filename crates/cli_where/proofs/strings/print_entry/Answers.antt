@@ -1,4 +1,0 @@
-use Rattle.cli_where.proofs.strings.print_entry.Goals as goal
-
-pub returns-in-None : goal.returns-in-None
-returns-in-None g c = rw (← c.in-None.ensures) (c.lines_follow.ensures.nothing c.args.out.now)
