@@ -6,7 +6,7 @@ use Rattle.clap.specs.Walk.{Row, Text, answers_to, nothing_held, stop_after}
 use Rattle.clap.specs.Simple.{Shape, argument_words, built, entered, is_simple, label_of, names_of, rows_at, subcommand_of}
 use Rattle.clap.specs.Faults.{fault_of, is_simple_and_free}
 use Rattle.clap.proofs.WalkLemmas.{both}
-use Rattle.cli_arguments.proofs.NoHelp.{StopsElsewhere, first_none, is_help, stops_elsewhere}
+use Rattle.cli_arguments.proofs.NoHelp.{StopsElsewhere, both_none, is_help, stops_elsewhere}
 
 -- a subcommand has one name: that of a subcommand of the program, or `help`
 abbrev is_known_label : Text → List Text → Bool
@@ -76,4 +76,4 @@ pub is_known : (words : List Text) (name : Text) (rows : List Row) → fault_of 
     → IsSome (subcommand_named name)
 is_known words name rows none is =
     entered_known (stop_in words) name rows
-    (stops_elsewhere (built clim).top (names_of (built clim)) has_help nothing_held (argument_words clim words) (first_none _ _ none)) is
+    (stops_elsewhere (built clim).top (names_of (built clim)) has_help nothing_held (argument_words clim words) (both_none _ _ none).0) is

@@ -8,13 +8,9 @@ use Rattle.clap.specs.Kinds.{Kinds, or_else}
 use Rattle.clap.specs.Faults.{other_fault, step_fault, turn_fault, walk_fault, word_fault}
 use Rattle.clap.specs.declared.error.ErrorKind.TheVariants as kind
 
-pub first_none : (a b : Kinds) → or_else a b ≡ [] → a ≡ []
-first_none [] b e = refl
-first_none (k ∷ ks) b e = e
-
-pub second_none : (a b : Kinds) → or_else a b ≡ [] → b ≡ []
-second_none [] b e = e
-second_none (k ∷ ks) b e = cc
+pub both_none : (a b : Kinds) → or_else a b ≡ [] → (a ≡ []) × (b ≡ [])
+both_none [] b e = (refl, e)
+both_none (k ∷ ks) b e = cc
 
 abbrev pub is_help : Text → Bool
 is_help name = bytes_eq name (codes "help")
@@ -93,7 +89,7 @@ module _ (s : Shape) (names : Names) (helps : s.disable_help_subcommand ≡ fals
       go None none f =
           step_stops s.rules word w (word_met s.rules names w.is_trailing w.waiting w.position word w.held).0
           (word_met s.rules names w.is_trailing w.waiting w.position word w.held).1
-          (word_enters w.is_trailing w.waiting w.position word w.held (first_none _ _ none)) stops
+          (word_enters w.is_trailing w.waiting w.position word w.held (both_none _ _ none).0) stops
       go (Some p) none f = f
 
   walk_stops : (w : Walk) (words : List Text) → walk_fault s names w words ≡ [] → StopsElsewhere w.stopped
@@ -101,7 +97,7 @@ module _ (s : Shape) (names : Names) (helps : s.disable_help_subcommand ≡ fals
   unfolding walk_fault
   walk_stops w [] e stops = stops
   walk_stops w (word ∷ tail) e stops =
-      walk_stops (walked s.rules names w word) tail (second_none (turn_fault s names w word) _ e) (turn_stops w word (first_none _ _ e) stops)
+      let none = both_none (turn_fault s names w word) _ e in walk_stops (walked s.rules names w word) tail none.1 (turn_stops w word none.0 stops)
 
   -- the walk over the arguments does not stop at `help`
   pub stops_elsewhere : (h : Held) (words : List Text) → walk_fault s names (walk_from h) words ≡ [] → StopsElsewhere (walk s.rules names h words).stopped

@@ -11,7 +11,7 @@ unfoldable pub use Rattle.clap.proofs.OnLiterals.{clap_on_literals}
 pub use Rattle.clap.proofs.WalkLemmas.{first_value-rows, one_text-rows, raw_values-rows}
 pub use Rattle.clap.specs.Simple.{app_of_fields, on_top}
 pub use Rattle.clap.specs.Words.{app_of, new_app, with_subcommand, App, found_of, one_of, rows_of}
-pub use Rattle.cli_arguments.specs.Asked.{subcommand_named, AreParts, IsPart, IsPartLast, IsCountOf, TakesList}
+pub use Rattle.cli_arguments.specs.Asked.{subcommand_named, AreParts, IsCountOf}
 pub use Rattle.cli_arguments.specs.CommandLine.{name_of, subcommands}
 unfoldable pub use Rattle.cli_arguments.specs.CommandLine.{clim}
 pub use Rattle.cli_arguments.specs.declared.asked.Subcommand.{Subcommand}

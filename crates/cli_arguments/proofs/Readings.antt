@@ -1,6 +1,8 @@
 -- What the getters of `clap`'s matches return, if the matches are those of the arguments.
-use Rattle.std.proofs.Common.{◌≡◌, ◌↔◌, ◌∙◌, ℕ, Result, Ok, Err, Bool, true, false, IsTrue, List, [], ap, ap₂, sym, Option, Some, None, refl, codes}
+use Rattle.std.proofs.Common.{◌≡◌, ◌∙◌, ℕ, Result, Ok, Err, Bool, true, false, List, [], ap, ap₂, sym, Option, Some, None, refl, codes}
 use Rattle.std.specs.Prelude.{map, option_map, unwrap_or}
+use Rattle.std.proofs.lemmas.Bool.{false_from_ne_true}
+use Rattle.cli_arguments.specs.Asked.{is_true}
 use Rattle.cli_arguments.proofs.Prelude.{Bor, bytes_eq, ParsesBool, ParsesUnsigned, bytes_eq-Decides, IsCountOf, subcommand_named, name_of, subcommands, Subcommand}
 use Rattle.clap.specs.Words.{Row, Text, ReadsOne, subcommand_name_of, subcommand_rows_of}
 use Rattle.clap.specs.declared.ArgMatches.{ArgMatches}
@@ -29,13 +31,12 @@ named_back word s e = (bytes_eq-Decides word (name_of s)).0 (found_passes (λ of
 
 -- a flag is read as true if and only if its text is `true`
 pub flag_is : (E : Type 0) (o : Option Text) (r : Option Bool) → (o ≡ None → r ≡ None) → ((t : Text) → o ≡ Some t → ReadsOne {E = E} ParsesBool t r)
-    → IsTrue (unwrap_or r false) ↔ (o ≡ Some (codes "true"))
-flag_is E None None none value = ((λ is. cc), (λ is. cc))
-flag_is E None (Some read) none value = ((λ is. let nothing = none refl in cc), (λ is. cc))
-flag_is E (Some t) None none value = ((λ is. cc), (λ is. absurd ((value t refl).1.0 (ap (λ o. unwrap_or o t) is))))
-flag_is E (Some t) (Some true) none value = ((λ _. ap Some (value t refl)), (λ _. refl))
-flag_is E (Some t) (Some false) none value =
-    ((λ is. cc), (λ is. let word = value t refl in let other = ap (λ o. unwrap_or o t) is in cc))
+    → unwrap_or r false ≡ is_true o
+flag_is E None None none value = refl
+flag_is E None (Some read) none value = let nothing = none refl in cc
+flag_is E (Some t) None none value = sym (false_from_ne_true (bytes_eq t (codes "true")) (λ same. (value t refl).1.0 ((bytes_eq-Decides t (codes "true")).0 same)))
+flag_is E (Some t) (Some true) none value = rw (value t refl) refl
+flag_is E (Some t) (Some false) none value = rw (value t refl) refl
 
 -- the number of bytes that a getter returns
 pub count_is : (E : Type 0) (gives : List ℕ → Result ℕ E → Type 0) → ((t : Text) (r : Result ℕ E) → gives t r → ParsesUnsigned 64 10 t r) → (o : Option Text) (r : Option ℕ)

@@ -100,59 +100,39 @@ second = required (value (codes "second"))
 abbrev pub without_subcommands : App
 without_subcommands = on_top (λ s. record s { has_version = true; has_long_version = true; subcommand_required = true }) (new_app (codes "clim"))
 
--- the name of a subcommand
-abbrev pub name_of : Subcommand → Text
-name_of Root = codes "root"
-name_of Info = codes "info"
-name_of Check = codes "check"
-name_of Show = codes "show"
-name_of Types = codes "types"
-name_of Outline = codes "outline"
-name_of Refs = codes "refs"
-name_of Resources = codes "resources"
-name_of Strings = codes "strings"
-name_of Token = codes "token"
-name_of Where = codes "where"
-name_of Rewrite = codes "rewrite"
-name_of Embed = codes "embed"
-name_of Digest = codes "digest"
-name_of Compare = codes "compare"
-name_of Explain = codes "explain"
-
 -- the arguments of a report on files, and others: `[--bare] [--budget N] [--files-from LIST] [-0] [-r] [--json] [FILE]..`
 abbrev pub report : List Rule → List Rule
 report others = files ∷ bare ∷ budget ∷ files_from ∷ null ∷ recursive ∷ json ∷ others
 
--- the arguments of a subcommand; of `show`, `outline`, `refs` and `where` the TABLE, the NAME or the OFFSET is among the values of FILE
-abbrev pub rules_of : Subcommand → List Rule
--- `root [--bare] [--files-from LIST] [-0] [-r] [--json] [--until-fault] [FILE]..`
-rules_of Root = files ∷ bare ∷ files_from ∷ null ∷ recursive ∷ json ∷ flag (codes "until-fault") ∷ []
-rules_of Info = report []
--- `check [--bare] [--budget N] [--files-from LIST] [-0] [-r] [-q] [--json] [--where] [FILE]..`
-rules_of Check = files ∷ bare ∷ budget ∷ files_from ∷ null ∷ recursive ∷ quiet ∷ json ∷ flag (codes "where") ∷ []
-rules_of Show = report (flag (codes "names") ∷ flag (codes "until-fault") ∷ [])
-rules_of Types = report []
-rules_of Outline = report (flag (codes "no-tokens") ∷ flag (codes "public") ∷ flag (codes "sorted") ∷ [])
-rules_of Refs = report []
--- `resources [--budget N] [--files-from LIST] [-0] [-r] [--json] [--extract NAME] [FILE]..`
-rules_of Resources = files ∷ budget ∷ files_from ∷ null ∷ recursive ∷ json ∷ option (codes "extract") ∷ []
-rules_of Strings = report []
--- `token [--bare] [--budget N] [--json] FILE HEX..`
-rules_of Token = file ∷ bare ∷ budget ∷ json ∷ required (values (codes "HEX")) ∷ []
-rules_of Where = report []
--- `rewrite [--bare] [--budget N] FILE OUT`
-rules_of Rewrite = file ∷ bare ∷ budget ∷ second ∷ []
--- `embed [--json] [--root ROOT] [--unsigned] FILE OUT`
-rules_of Embed = file ∷ json ∷ second ∷ option (codes "root") ∷ flag (codes "unsigned") ∷ []
-rules_of Digest = report []
--- `compare [--bare] [--budget N] [-q] [--json] [--ignore TABLE.COLUMN].. FILE OTHER`
-rules_of Compare = file ∷ bare ∷ budget ∷ quiet ∷ json ∷ second ∷ record (option (codes "ignore")) { action = Some Append } ∷ []
--- `explain [--json] [CODE]..`
-rules_of Explain = values (codes "CODE") ∷ json ∷ []
-
--- a subcommand
+-- the name and the arguments of a subcommand; of `show`, `outline`, `refs` and `where` the TABLE, the NAME or the OFFSET is among the values of FILE
 abbrev pub shape_of : Subcommand → Shape
-shape_of of = shape_with (name_of of) (rules_of of)
+-- `root [--bare] [--files-from LIST] [-0] [-r] [--json] [--until-fault] [FILE]..`
+shape_of Root = shape_with (codes "root") (files ∷ bare ∷ files_from ∷ null ∷ recursive ∷ json ∷ flag (codes "until-fault") ∷ [])
+shape_of Info = shape_with (codes "info") (report [])
+-- `check [--bare] [--budget N] [--files-from LIST] [-0] [-r] [-q] [--json] [--where] [FILE]..`
+shape_of Check = shape_with (codes "check") (files ∷ bare ∷ budget ∷ files_from ∷ null ∷ recursive ∷ quiet ∷ json ∷ flag (codes "where") ∷ [])
+shape_of Show = shape_with (codes "show") (report (flag (codes "names") ∷ flag (codes "until-fault") ∷ []))
+shape_of Types = shape_with (codes "types") (report [])
+shape_of Outline = shape_with (codes "outline") (report (flag (codes "no-tokens") ∷ flag (codes "public") ∷ flag (codes "sorted") ∷ []))
+shape_of Refs = shape_with (codes "refs") (report [])
+-- `resources [--budget N] [--files-from LIST] [-0] [-r] [--json] [--extract NAME] [FILE]..`
+shape_of Resources = shape_with (codes "resources") (files ∷ budget ∷ files_from ∷ null ∷ recursive ∷ json ∷ option (codes "extract") ∷ [])
+shape_of Strings = shape_with (codes "strings") (report [])
+-- `token [--bare] [--budget N] [--json] FILE HEX..`
+shape_of Token = shape_with (codes "token") (file ∷ bare ∷ budget ∷ json ∷ required (values (codes "HEX")) ∷ [])
+shape_of Where = shape_with (codes "where") (report [])
+-- `rewrite [--bare] [--budget N] FILE OUT`
+shape_of Rewrite = shape_with (codes "rewrite") (file ∷ bare ∷ budget ∷ second ∷ [])
+-- `embed [--json] [--root ROOT] [--unsigned] FILE OUT`
+shape_of Embed = shape_with (codes "embed") (file ∷ json ∷ second ∷ option (codes "root") ∷ flag (codes "unsigned") ∷ [])
+shape_of Digest = shape_with (codes "digest") (report [])
+-- `compare [--bare] [--budget N] [-q] [--json] [--ignore TABLE.COLUMN].. FILE OTHER`
+shape_of Compare = shape_with (codes "compare") (file ∷ bare ∷ budget ∷ quiet ∷ json ∷ second ∷ record (option (codes "ignore")) { action = Some Append } ∷ [])
+-- `explain [--json] [CODE]..`
+shape_of Explain = shape_with (codes "explain") (values (codes "CODE") ∷ json ∷ [])
+
+abbrev pub name_of : Subcommand → Text
+name_of of = (shape_of of).name
 
 -- the subcommands
 abbrev pub subcommands : List Subcommand

@@ -1,8 +1,8 @@
 //! The command line, and what its arguments ask for.
-ghost use Rattle.std.specs.Prelude.{◌≡◌, ◌↔◌, IfOk, IsTrue, Some, [], codes, false, map, true, unwrap_or};
-ghost use Rattle.clap.specs.Words.{FailsBy, HasMatchesOf, all_of, app_of, fault_of, found_of, has_subcommand, one_of, rows_of, shape_of, subcommand_of};
+ghost use Rattle.std.specs.Prelude.{◌≡◌, IfOk, Some, [], false, map, true, unwrap_or};
+ghost use Rattle.clap.specs.Words.{FailsBy, HasMatchesOf, all_of, app_of, fault_of, found_of, has_subcommand, rows_of, shape_of, subcommand_of};
 ghost use Rattle.clap.specs.declared.Command.TheViews.{out-Command as fields_of};
-ghost use Rattle.cli_arguments.specs.Asked.{Gives};
+ghost use Rattle.cli_arguments.specs.Asked.{Gives, has_flag};
 ghost use Rattle.cli_arguments.specs.CommandLine as line;
 
 use crate::argument::arg_of;
@@ -87,7 +87,7 @@ fn asked<'a>(
 
 /// Whether the flag was given.
 pub(crate) fn flag(given: &ArgMatches<'_>, id: &str) -> bool
-    ensures { IsTrue result ↔ (one_of id.now (rows_of (found_of given.now)) ≡ Some (codes "true")) }
+    ensures { result ≡ has_flag (rows_of (found_of given.now)) id.now }
 {
     given.get_one::<bool>(id).unwrap_or(false)
 }
@@ -103,22 +103,15 @@ fn list<'a>(alloc: Global, given: &ArgMatches<'a>, id: &str) -> Result<Vec<&'a s
 fn command<'a>(alloc: Global) -> Result<Command<'a>, AllocError>
     ensures { IfOk result (λ command. app_of command ≡ line.clim) }
 {
-    let mut program = program(alloc);
+    let mut program = Command::new(alloc, "clim")
+        .version("0.1.0")
+        .long_version(LONG_VERSION)
+        .override_help(HELP)
+        .subcommand_required(true);
     for subcommand in Subcommand::ALL {
         program = program.subcommand(command_of(alloc, *subcommand)?)?;
     }
     Ok(program)
-}
-
-/// The program without its subcommands.
-fn program<'a>(alloc: Global) -> Command<'a>
-    ensures { app_of result ≡ line.without_subcommands }
-{
-    Command::new(alloc, "clim")
-        .version("0.1.0")
-        .long_version(LONG_VERSION)
-        .override_help(HELP)
-        .subcommand_required(true)
 }
 
 /// A subcommand, with its arguments and its help.

@@ -1,7 +1,16 @@
 ghost use Rattle.std.specs.Prelude.{◌≡◌};
+ghost use Rattle.std.specs.Str.{bytes_eq};
 ghost use Rattle.cli_arguments.specs.Asked.{subcommand_named};
+ghost use Rattle.cli_arguments.specs.CommandLine.{name_of};
 
-use crate::subcommands::usage_of;
+use crate::subcommands::{each_subcommand, usage_of};
+
+/// The subcommands.
+macro_rules! variants {
+    ($($variant:ident $module:ident $row:ident,)*) => {
+        &[$(Subcommand::$variant),*]
+    };
+}
 
 /// What the arguments of a command line ask for.
 #[derive(Drop)]
@@ -96,34 +105,22 @@ pub enum Subcommand {
 
 impl Subcommand {
     /// All subcommands, in the order of help.
-    pub(crate) const ALL: &'static [Subcommand] = &[
-        Subcommand::Root,
-        Subcommand::Info,
-        Subcommand::Check,
-        Subcommand::Show,
-        Subcommand::Types,
-        Subcommand::Outline,
-        Subcommand::Refs,
-        Subcommand::Resources,
-        Subcommand::Strings,
-        Subcommand::Token,
-        Subcommand::Where,
-        Subcommand::Rewrite,
-        Subcommand::Embed,
-        Subcommand::Digest,
-        Subcommand::Compare,
-        Subcommand::Explain,
-    ];
+    pub(crate) const ALL: &'static [Subcommand] = each_subcommand!(variants);
 
     /// The subcommand with this name.
     pub fn named(word: &str) -> Option<Subcommand>
         ensures { result ≡ subcommand_named word.now }
     {
-        for subcommand in Subcommand::ALL {
-            if word == usage_of(*subcommand).name {
-                return Some(*subcommand);
-            }
-        }
-        None
+        Subcommand::ALL
+            .iter()
+            .copied()
+            .find(|subcommand| subcommand.has_name(word))
+    }
+
+    /// Whether this is its name.
+    fn has_name(self, word: &str) -> bool
+        ensures { result ≡ bytes_eq word.now (name_of self) }
+    {
+        word == usage_of(self).name
     }
 }

@@ -1,7 +1,7 @@
 //! The files among the arguments, and the last argument if it is none of them.
-ghost use Rattle.std.specs.Prelude.{◌≡◌, ◌≢◌, ◌↔◌, ◌⊎◌, [], IsTrue, map, option_map};
+ghost use Rattle.std.specs.Prelude.{◌≡◌, map, option_map};
 ghost use Rattle.clap.specs.Words.{found_of, rows_of};
-ghost use Rattle.cli_arguments.specs.Asked.{AreParts, IsPart, IsPlainWord, TakesList, ends_in, has_directory, is_assembly, is_path};
+ghost use Rattle.cli_arguments.specs.Asked.{AreParts, ends_in, has_directory, has_files, is_assembly, is_part, is_path, is_plain_word};
 
 use crate::arguments::flag;
 use crate::asked::Subcommand;
@@ -13,7 +13,7 @@ pub(crate) fn take_part<'a>(
     given: &ArgMatches<'a>,
     words: &mut Vec<&'a str>,
 ) -> Option<&'a str>
-    ensures { AreParts subcommand (TakesList (rows_of (found_of given.now))) (map (λ word. word.now) words.old.items)
+    ensures { AreParts subcommand (rows_of (found_of given.now)) (map (λ word. word.now) words.old.items)
         (map (λ word. word.now) words.new.items) (option_map (λ word. word.now) result) }
 {
     let Some((last, before)) = words.as_slice().split_last() else {
@@ -30,7 +30,7 @@ pub(crate) fn take_part<'a>(
 
 /// Whether there are files: these arguments, or those of a list.
 fn has_files(given: &ArgMatches<'_>, words: &[&str]) -> bool
-    ensures { IsTrue result ↔ (TakesList (rows_of (found_of given.now)) ⊎ (map (λ word. word.now) words.now ≢ [])) }
+    ensures { result ≡ has_files (rows_of (found_of given.now)) (map (λ word. word.now) words.now) }
 {
     match given.get_str("files-from") {
         Some(_) => true,
@@ -40,7 +40,7 @@ fn has_files(given: &ArgMatches<'_>, words: &[&str]) -> bool
 
 /// Whether the last argument says what to print of files, if there are any besides.
 fn is_part(subcommand: Subcommand, has_files: bool, word: &str) -> bool
-    ensures { IsTrue result ↔ IsPart subcommand (IsTrue has_files) word.now }
+    ensures { result ≡ is_part subcommand has_files word.now }
 {
     match subcommand {
         Subcommand::Show => has_files && is_plain_word(word),
@@ -52,7 +52,7 @@ fn is_part(subcommand: Subcommand, has_files: bool, word: &str) -> bool
 
 /// Whether a word has no dash, dot or slash.
 fn is_plain_word(word: &str) -> bool
-    ensures { IsTrue result ↔ IsPlainWord word.now }
+    ensures { result ≡ is_plain_word word.now }
 {
     word.as_bytes()
         .iter()

@@ -1,4 +1,4 @@
-//! The subcommands as rows of a table: the arguments of each and its help, one module for each.
+//! The subcommands as rows of a table: the arguments of each and its help, one module for each group of them in help.
 ghost use Rattle.std.specs.Prelude.{◌≡◌};
 ghost use Rattle.cli_arguments.specs.CommandLine as line;
 
@@ -19,35 +19,60 @@ macro_rules! argument {
 /// The arguments of a report on files: those that name the files, what all reports take, and others.
 macro_rules! reports {
     ($files:expr $(, $other:expr)*) => {
-        &[
-            $files,
-            crate::subcommands::BARE,
-            crate::subcommands::BUDGET,
-            crate::subcommands::FILES_FROM,
-            crate::subcommands::NULL,
-            crate::subcommands::RECURSIVE,
-            crate::subcommands::JSON,
-            $($other,)*
-        ]
+        &[$files, BARE, BUDGET, FILES_FROM, NULL, RECURSIVE, JSON $(, $other)*]
     };
 }
 
-pub(crate) mod check_file;
-pub(crate) mod compare_files;
-pub(crate) mod digest_file;
-pub(crate) mod embed_root;
-pub(crate) mod explain_fault;
-pub(crate) mod print_info;
-pub(crate) mod print_outline;
-pub(crate) mod print_refs;
-pub(crate) mod print_resources;
-pub(crate) mod print_root;
-pub(crate) mod print_strings;
-pub(crate) mod print_token;
-pub(crate) mod print_types;
-pub(crate) mod print_where;
-pub(crate) mod rewrite_file;
-pub(crate) mod show_tables;
+/// A row of the table: the name, what it does, the arguments, and what it prints. What a report says of several files is
+/// between two texts.
+macro_rules! usage {
+    ($name:literal $about:literal $arguments:expr, $before:literal $after:literal) => {
+        usage![$name $about $arguments, concat!(
+            $before,
+            "
+For several FILEs each line begins with 'FILE: '. A FILE that breaks a rule or
+cannot be read is reported to standard error with its name, and the next one
+follows. The exit status is the greatest. 'clim check --help' says what '-r',
+'-0' and '--files-from' read.
+
+",
+            $after
+        )]
+    };
+    ($name:literal $about:literal $arguments:expr, $output:expr) => {
+        Usage {
+            name: $name,
+            about: $about,
+            arguments: $arguments,
+            output: $output,
+        }
+    };
+}
+
+mod check;
+mod compare;
+mod look;
+mod write;
+
+/// Each subcommand in the order of the program, as the input of a macro: its variant, and the module and the name of its row.
+macro_rules! each_subcommand {
+    ($then:ident $($by:ident)?) => { $then! { $($by)?
+        Root look ROOT, Info look INFO, Check check CHECK, Show look SHOW, Types look TYPES, Outline look OUTLINE,
+        Refs look REFS, Resources look RESOURCES, Strings look STRINGS, Token look TOKEN, Where look WHERE,
+        Rewrite write REWRITE, Embed write EMBED, Digest compare DIGEST, Compare compare COMPARE, Explain check EXPLAIN,
+    } };
+}
+
+pub(crate) use each_subcommand;
+
+/// The row of a subcommand.
+macro_rules! row_of {
+    ($by:ident $($variant:ident $module:ident $row:ident,)*) => {
+        match $by {
+            $(Subcommand::$variant => $module::$row,)*
+        }
+    };
+}
 
 /// A subcommand: its name, its arguments and its help.
 #[derive(Clone, Copy)]
@@ -66,24 +91,7 @@ pub(crate) struct Usage<'a> {
 pub(crate) fn usage_of<'a>(subcommand: Subcommand) -> Usage<'a>
     ensures { line.shape result ≡ line.shape_of subcommand }
 {
-    match subcommand {
-        Subcommand::Root => print_root::USAGE,
-        Subcommand::Info => print_info::USAGE,
-        Subcommand::Check => check_file::USAGE,
-        Subcommand::Show => show_tables::USAGE,
-        Subcommand::Types => print_types::USAGE,
-        Subcommand::Outline => print_outline::USAGE,
-        Subcommand::Refs => print_refs::USAGE,
-        Subcommand::Resources => print_resources::USAGE,
-        Subcommand::Strings => print_strings::USAGE,
-        Subcommand::Token => print_token::USAGE,
-        Subcommand::Where => print_where::USAGE,
-        Subcommand::Rewrite => rewrite_file::USAGE,
-        Subcommand::Embed => embed_root::USAGE,
-        Subcommand::Digest => digest_file::USAGE,
-        Subcommand::Compare => compare_files::USAGE,
-        Subcommand::Explain => explain_fault::USAGE,
-    }
+    each_subcommand!(row_of subcommand)
 }
 
 /// `[FILE]..`, the paths of the files to read.

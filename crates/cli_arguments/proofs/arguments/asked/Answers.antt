@@ -1,5 +1,5 @@
 use Rattle.std.proofs.Common.{◌∙◌, List, map, option_map, subst, codes}
-use Rattle.cli_arguments.proofs.Prelude.{first_value-rows, one_text-rows, ExplainsUnsignedError, HasUnsignedDigitsIfOk, ParsesUnsigned, AreParts, TakesList}
+use Rattle.cli_arguments.proofs.Prelude.{first_value-rows, one_text-rows, ExplainsUnsignedError, HasUnsignedDigitsIfOk, ParsesUnsigned, AreParts}
 use Rattle.std.specs.declared.num.ParseIntError.{ParseIntError}
 use Rattle.clap.specs.Words.{Row, Text, found_of, one_of, rows_of}
 use Rattle.cli_arguments.proofs.Readings.{count_is}
@@ -21,7 +21,7 @@ returns c = λ words named.
           (λ t r. ParsesUnsigned 64 10 t r × ExplainsUnsignedError 10 t r × HasUnsignedDigitsIfOk t r) (λ t r gives. gives.0) (one_of (codes "budget") rows) c.get_one.result
           (λ none. c.get_one.ensures.none (one_text-rows found (codes "budget") ∙ none))
           (λ t is. c.get_one.ensures.value t (one_text-rows found (codes "budget") ∙ is));
-      parts = subst (λ (words : List Text). AreParts c.args.subcommand (TakesList rows) words (map (λ word. word.now) c.take_part-part.new.words.items) (option_map (λ word. word.now) c.take_part-part.result))
+      parts = subst (λ (words : List Text). AreParts c.args.subcommand rows words (map (λ word. word.now) c.take_part-part.new.words.items) (option_map (λ word. word.now) c.take_part-part.result))
           c.in_ok-files.ensures c.take_part-part.ensures;
       json = c.flag-2.ensures;
       faults = c.in_ok-codes.ensures;

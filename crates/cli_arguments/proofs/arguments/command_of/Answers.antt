@@ -28,4 +28,4 @@ returns-clause-shape c =
     let all = take_all c.loop-argument.argument-index arguments c.loop-argument-test.false in
     ap (λ (a : App). a.top) c.loop-argument.invariant.0
     ∙ ap (λ (given : List Argument). line.shape_with (line.name_of c.args.subcommand) (map line.rule given)) all
-    ∙ ap (λ (s : Shape). line.shape_with (line.name_of c.args.subcommand) s.rules) c.usage_of-usage.ensures
+    ∙ ap (λ (s : Shape). line.shape_with s.name (map line.rule arguments)) (sym c.usage_of-usage.ensures) ∙ c.usage_of-usage.ensures

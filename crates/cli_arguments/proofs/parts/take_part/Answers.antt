@@ -1,9 +1,8 @@
-use Rattle.std.proofs.Common.{◌∷◌, ◌≡◌, ◌∙◌, [], ap, arith, length, refl, sym, take}
+use Rattle.std.proofs.Common.{◌∷◌, ◌≡◌, ◌∙◌, [], ap, arith, length, map, refl, sym, take}
 use Rattle.std.proofs.lemmas.List.{length-map}
 use Rattle.std.proofs.Math.Seq.{take-append_seam}
-use Rattle.cli_arguments.proofs.Prelude.{Bor, length_push, found_of, rows_of, TakesList}
+use Rattle.cli_arguments.proofs.Prelude.{Bor, length_push, map_push, same_from_push}
 use Rattle.clap.specs.Words.{Text}
-use Rattle.cli_arguments.proofs.PartLemmas.{part_taken, part_there}
 use Rattle.cli_arguments.proofs.parts.take_part.Goals as goal
 
 pub returns-in_default : goal.returns-in_default
@@ -14,7 +13,7 @@ returns-in_default c = (
         arith,
         c.in_default.ensures.cases,
         ap length c.as_slice.ensures.value,
-        ap length ends.0,
+        ap length ends,
         length_push before last,
         length-map c.args.words.now.items (λ (word : Bor Text). word.now),
       ))),
@@ -27,15 +26,14 @@ returns-then-is_part c =
     let whole = sym c.as_slice.ensures.value ∙ c.in-Some.ensures.cases.0 in
     let left : c.truncate.new.self.items ≡ before =
     c.truncate.ensures.items ∙ ap (take (length before)) whole ∙ take-append_seam before (last ∷ []) in
-    part_taken c.args.subcommand (TakesList (rows_of (found_of c.args.given.now))) c.args.words.now.items before last whole c.has_files.result c.has_files.ensures
-    c.truncate.new.self.items left (c.is_part.ensures.0 c.if-is_part.true)
+    rw (left, whole) (map_push (λ (word : Bor Text). word.now) before last, rw (← c.has_files.ensures, ← c.is_part.ensures) c.if-is_part.true)
 
 pub returns-else-is_part : goal.returns-else-is_part
 returns-else-is_part c = (
   refl,
   (λ before last ends.
-      let is = c.is_part.ensures.1 (part_there c.args.subcommand (TakesList (rows_of (found_of c.args.given.now))) c.args.words.now.items c.in-Some.before.now c.in-Some.last.now
-      (sym c.as_slice.ensures.value ∙ c.in-Some.ensures.cases.0) c.has_files.result c.has_files.ensures before last ends) in
-      let wrong = sym c.if-is_part.false in
-      cc),
+      let whole = sym c.as_slice.ensures.value ∙ c.in-Some.ensures.cases.0 in
+      let same = same_from_push before (map (λ word. word.now) c.in-Some.before.now) last c.in-Some.last.now.now
+      (sym ends ∙ ap (map (λ word. word.now)) whole ∙ map_push (λ (word : Bor Text). word.now) c.in-Some.before.now c.in-Some.last.now) in
+      rw (same.0, same.1, ← c.has_files.ensures, ← c.is_part.ensures) c.if-is_part.false),
 )

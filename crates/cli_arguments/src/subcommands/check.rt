@@ -1,21 +1,11 @@
-//! `clim check`: checks files against the rules of the standard.
+//! The subcommands that check files and explain faults.
 use crate::subcommands::{BARE, BUDGET, FILES, FILES_FROM, JSON, NULL, RECURSIVE, Usage};
 
-pub(crate) const USAGE: Usage<'static> = Usage {
-    name: "check",
-    about: "Check files against the rules of the standard",
-    arguments: &[
-        FILES,
-        BARE,
-        BUDGET,
-        FILES_FROM,
-        NULL,
-        RECURSIVE,
-        argument!["quiet" EitherFlag('q') "Print no faults; only the exit status reports them"],
-        JSON,
-        argument!["where" Flag "Print what contains the byte at a fault; explain it"],
-    ],
-    output: "\
+pub(crate) const CHECK: Usage<'static> = usage!["check"
+    "Check files against the rules of the standard" &[
+    FILES, BARE, BUDGET, FILES_FROM, NULL, RECURSIVE,
+    argument!["quiet" EitherFlag('q') "Print no faults; only the exit status reports them"], JSON,
+    argument!["where" Flag "Print what contains the byte at a fault; explain it"]], "\
 Prints 'ok' if FILE breaks no rule. Otherwise prints only the first fault, to
 standard error. The rules are those that 'clim explain' lists from 101 to 801,
 except 508 to 510. OFFSET is an offset in FILE. LAYER is one of these, with the
@@ -77,5 +67,25 @@ Examples:
   ok
   $ clim check one_module.dll one_module.dll
   one_module.dll: ok
-  one_module.dll: ok",
-};
+  one_module.dll: ok"];
+
+pub(crate) const EXPLAIN: Usage<'static> = usage!["explain"
+    "Explain faults, or list all" &[
+    argument!["CODE" AnyNumber "The number or the name of a fault; without it, list all faults"], JSON], "\
+The first line has the number of the fault, its name and what is wrong. Then
+come the rule, the section of ECMA-335, what OFFSET points to, and the usual
+cause if it is known. An empty line separates two faults. Without CODE it prints
+one line for each fault.
+
+'--json' prints a JSON object (RFC 8259) on a line for each fault: its 'code',
+'name' and 'summary', and the 'rule', the 'offset' and, if they are known, the
+'section' and the 'cause'.
+
+Examples:
+  $ clim explain BadUtf8
+  502 BadUtf8: a text that is not UTF-8
+
+  - Rule: The bytes from an index into '#Strings' to the next NUL are UTF-8.
+  - Section: II.24.2.3
+  - Offset: The cell with the index.
+  - Usual cause: An obfuscator that uses names which are not text."];
