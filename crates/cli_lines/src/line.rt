@@ -108,7 +108,7 @@ pub(crate) fn push_part(
             push_text_part(alloc, part, line)?;
             Ok(at)
         }
-        // These take copies, so that a part of text needs no place in memory.
+        // These take copies, so that a part of text stays in registers.
         Form::Letters => {
             push_letters_part(alloc, &{ *part }, line)?;
             Ok(at)

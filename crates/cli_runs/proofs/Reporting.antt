@@ -5,6 +5,9 @@ use Rattle.std.specs.Result.{result_and}
 use Rattle.std.specs.Io.KnownBytes.{Appends}
 use Rattle.cli_faults.specs.declared.stop.Stop.{Stop}
 use Rattle.cli_faults.specs.declared.stop.Stop.TheVariants.{BudgetSpent}
+use Rattle.cli_header.specs.declared.header.CliHeader.{CliHeader}
+use Rattle.cli_files.specs.Checked.{IsModelOf}
+use Rattle.cli_info.specs.InfoLines.{AreFacts}
 use Rattle.cli_info.specs.Resources.{IsUnlisted}
 use Rattle.cli_outline.specs.Printed.{PrintsRows, PrintsSome}
 use Rattle.cli_regions.specs.Regions.{Region}
@@ -24,6 +27,11 @@ use Rattle.cli_runs.specs.declared.report.Verdict.TheVariants as verdict
 pub resources_refused : (request : Request) (bytes : List ℕ) (why : Stop) → IsUnlisted bytes why → IsRefused request bytes report.Resources why
 resources_refused request bytes BudgetSpent is = absurd is
 resources_refused request bytes _ is = is
+
+-- the header of bytes with a model
+pub facts_of_model : (input : Input) (bytes : List ℕ) (model : Metadata) → IsModelOf input bytes model → (header : Option CliHeader) × AreFacts input bytes header model
+facts_of_model BareRoot bytes model is = (None, (refl, is))
+facts_of_model File bytes model is = (Some is.0, (is.0, refl, is.1))
 
 -- the rows of an outline were handed to a printer
 pub declared : {W : Type 0} (options : OutlineOptions) (old new : Printed W) (model : Metadata) (rows : List Token) → PrintsRows options model old new rows → AreDeclared (Prints old new) (UnlessFailed new) options model rows

@@ -1,7 +1,7 @@
 //! The lines of each report.
 ghost use Rattle.std.specs.Prelude.{◌≡◌, IfErr, IfOk, Option};
 ghost use Rattle.cli_header.specs.declared.header.CliHeader.{CliHeader as Header};
-ghost use Rattle.cli_files.specs.Checked.{IsWhole, rules_of};
+ghost use Rattle.cli_files.specs.Checked.{IsModelOf, IsWhole, rules_of};
 ghost use Rattle.cli_info.specs.InfoLines.{AreFacts};
 ghost use Rattle.cli_lines.specs.Printed.{Prints};
 ghost use Rattle.cli_runs.specs.Printing.{HasPrinted, UnlessFailed};
@@ -161,6 +161,7 @@ fn entry_in(header: &Option<CliHeader>) -> Option<Token>
 /// Opens the metadata of the bytes, and finds the entry point that their CLI header names.
 fn open_entered<'a>(job: &Job<'a>) -> Result<(Option<Token>, View<'a>), Fault>
     ensures whole { IfOk result (λ _. IsWhole job.now.request.now.input job.now.bytes.now) }
+    ensures models { IfOk result (λ opened. (model : Metadata) → IsModelOf job.now.request.now.input job.now.bytes.now model → IsModel opened.1 model) }
     ensures entered { IfOk result (λ opened. (header : Option Header) (model : Metadata) → AreFacts job.now.request.now.input job.now.bytes.now header model
         → IsEntryOf header opened.0 × IsModel opened.1 model) }
     ensures first_error { IfErr result (FirstBroken (rules_of job.now.request.now.input job.now.bytes.now)) }
