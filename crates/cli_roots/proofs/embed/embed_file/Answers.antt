@@ -26,5 +26,5 @@ returns-in_err-root-in-Some g c =
 
 pub returns : goal.returns
 returns g c =
-    let root = c.deref-in-Some.result.now in
+    let root = c.deref.result.now in
     inl (Ok c.deref-bytes.result.now, rw c.in-Some.is (Ok root, (c.put-in-Some.ensures.run (Some root) refl, c.put-in-Some.ensures.quiet)))
