@@ -22,10 +22,10 @@ use Rattle.cli_files.specs.declared.opened.Input.{Input}
 use Rattle.cli_files.specs.declared.opened.Input.TheVariants.{BareRoot, File}
 use Rattle.cli_lines.specs.declared.parts.Form.{Form}
 use Rattle.cli_lines.specs.declared.parts.Form.TheVariants.{JsonLines, Text}
-use Rattle.cli_outline.specs.declared.source.OutlineOptions.{OutlineOptions}
-use Rattle.cli_outline.specs.declared.source.Rows.TheVariants as shown
-use Rattle.cli_outline.specs.declared.source.Sorting.TheVariants as sorting
-use Rattle.cli_outline.specs.declared.source.Tokens.TheVariants as tokens
+use Rattle.cli_names.specs.declared.source.OutlineOptions.{OutlineOptions}
+use Rattle.cli_names.specs.declared.source.Rows.TheVariants as shown
+use Rattle.cli_names.specs.declared.source.Sorting.TheVariants as sorting
+use Rattle.cli_names.specs.declared.source.Tokens.TheVariants as tokens
 use Rattle.cli_names.specs.declared.subject.Subject.{Subject}
 use Rattle.cli_names.specs.declared.subject.Subject.TheVariants as subject
 use Rattle.cli_roots.specs.declared.compare.Output.TheVariants.{Lines, Quiet as Silent}

@@ -8,12 +8,12 @@ pub use Rattle.std.specs.Prelude.{IsOk, codes, decimal}
 unfoldable pub use Rattle.table_schema.specs.CellColumns.{cell_columns}
 pub use Rattle.table_schema.specs.declared.column.ColumnKind.{ColumnKind}
 pub use Rattle.table_schema.specs.declared.table.TableId.{TableId}
-pub use Rattle.table_schema.specs.declared.table.TableId.TheVariants.{CustomAttribute, MethodDef, Property, Param}
+pub use Rattle.table_schema.specs.declared.table.TableId.TheVariants.{CustomAttribute, Field, MethodDef, Property, Param}
 pub use Rattle.table_schema.specs.declared.token.Token.{Token}
 pub use Rattle.metadata.specs.Cell.{Cell, number_in}
 pub use Rattle.metadata.specs.Lookups.{HasRow}
 pub use Rattle.metadata.specs.Metadata.{Metadata, cell_in, count_in}
-pub use Rattle.reading.specs.Shown.{ShowsSignature, Shows}
+pub use Rattle.reading.specs.Shown.{Shows}
 unfoldable pub use Rattle.opening.specs.Views.{row_count}
 pub use Rattle.full_names.proofs.PieceLemmas.{method_in, property_in}
 pub use Rattle.type_heads.specs.FlagWords.{shown_word, word_text, words_text, words_of}

@@ -56,9 +56,7 @@ pub data Part : Type 0 where
   key : ℕ → ℕ → Part
   -- the first bytes in a cell, in hexadecimal, up to the limit of values
   first_bytes : ℕ → Part
-  -- the signature in a cell, with the full names of types (II.23.2)
-  signature : ℕ → Part
-  -- the declaration of the method (II.15.3) or the property (II.17) that the row is, or the value of the attribute (II.21)
+  -- the signature of the field that the row is (II.23.2), the declaration of the method (II.15.3) or the property (II.17), or the value of the attribute (II.21)
   declaration : Part
   -- what the row is referred to by
   own : Naming → Part
@@ -192,8 +190,9 @@ IsAttributeText model row out =
     let blob = bytes_in (cell_in model CustomAttribute row 2) in
     IsValueText (params_for model row blob) blob out
 
--- what a row is: a method, a property or an attribute; any other has no text
+-- what a row is: a field, a method, a property or an attribute; any other has no text
 abbrev pub IsDeclarationAt : Metadata → TableId → ℕ → List ℕ → Type 0
+IsDeclarationAt model Field row out = IsSignatureOf model (cell_in model Field row 2) out
 IsDeclarationAt model MethodDef row out = IsMethodText model row out
 IsDeclarationAt model Property row out = IsPropertyText model row out
 IsDeclarationAt model CustomAttribute row out = IsAttributeText model row out
@@ -258,7 +257,6 @@ IsPartText model table row (quoted_after before cell) out = out ≡ quoted_text 
 IsPartText model table row (bytes_after before cell) out = out ≡ bytes_text before (bytes_in (cell_in model table row cell))
 IsPartText model table row (key of cell) out = out ≡ key_text (number_in (cell_in model table row of)) (bytes_in (cell_in model table row cell))
 IsPartText model table row (first_bytes cell) out = out ≡ value_bytes_text (bytes_in (cell_in model table row cell))
-IsPartText model table row (signature cell) out = IsSignatureOf model (cell_in model table row cell) out
 IsPartText model table row declaration out = IsDeclarationAt model table row out
 IsPartText model table row (own how) out = IsNaming how model (token_at table row) out
 IsPartText model table row (row_after before how cell) out = IsAfter model before how (reference_in (cell_in model table row cell)) out

@@ -5,7 +5,7 @@ use Rattle.table_schema.specs.CellColumns.{cell_count}
 use Rattle.cli_declarations.specs.Parts as part
 use Rattle.cli_declarations.specs.Parts.{Part}
 use Rattle.cli_declarations.specs.declared.layouts.Piece.{Piece}
-use Rattle.cli_declarations.specs.declared.layouts.Piece.TheVariants.{Word as PlainWord, Flags, Text, Number, QuotedAfter, BytesAfter, Key, FirstBytes, Signature, Declaration, Own, After, EightDigits, GuidComment, Action, Linked, Listed}
+use Rattle.cli_declarations.specs.declared.layouts.Piece.TheVariants.{Word as PlainWord, Flags, Text, Number, QuotedAfter, BytesAfter, Key, FirstBytes, Declaration, Own, After, EightDigits, GuidComment, Action, Linked, Listed}
 
 abbrev pub shown : Piece → Part
 shown (PlainWord of) = part.word of.now
@@ -16,7 +16,6 @@ shown (QuotedAfter of cell) = part.quoted_after of.now cell
 shown (BytesAfter of cell) = part.bytes_after of.now cell
 shown (Key of cell) = part.key of cell
 shown (FirstBytes cell) = part.first_bytes cell
-shown (Signature cell) = part.signature cell
 shown Declaration = part.declaration
 shown (Own how) = part.own how
 shown (After of how cell) = part.row_after of.now how cell
@@ -35,7 +34,6 @@ IsWithin table (part.quoted_after of cell) = cell < cell_count table
 IsWithin table (part.bytes_after of cell) = cell < cell_count table
 IsWithin table (part.key of cell) = (of < cell_count table) × (cell < cell_count table)
 IsWithin table (part.first_bytes cell) = cell < cell_count table
-IsWithin table (part.signature cell) = cell < cell_count table
 IsWithin table (part.row_after of how cell) = cell < cell_count table
 IsWithin table (part.eight_digits cell) = cell < cell_count table
 IsWithin table (part.guid_comment cell) = cell < cell_count table

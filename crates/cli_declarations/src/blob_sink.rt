@@ -1,8 +1,7 @@
-//! Appends what the blob of a row says: the text of a signature (II.7.1), the declaration of a method (II.15.3) or a property (II.17),
+//! Appends what the blob of a row says: the signature of a field (II.7.1), the declaration of a method (II.15.3) or a property (II.17),
 //! with the full names of types, or the value of a custom attribute (II.21, II.22.10).
-ghost use Rattle.std.specs.Prelude.{◌≡◌, ◌≤◌, ◌<◌, ◌++◌, Some, string_bytes, OnOk};
-ghost use Rattle.table_schema.specs.declared.table.TableId.TheVariants.{CustomAttribute};
-ghost use Rattle.table_schema.specs.CellColumns.{cell_count};
+ghost use Rattle.std.specs.Prelude.{◌≡◌, ◌≤◌, ◌++◌, Some, string_bytes, OnOk};
+ghost use Rattle.table_schema.specs.declared.table.TableId.TheVariants.{CustomAttribute, Field};
 ghost use Rattle.attribute_values.specs.Items.{items_of};
 ghost use Rattle.attribute_values.specs.Values.{AttributeValue as TheValue};
 ghost use Rattle.metadata.specs.Metadata.{Metadata, cell_in};
@@ -17,11 +16,13 @@ use attribute_text::write_value;
 use attribute_values::{ArgumentType, Items};
 use cli_values::push_value_bytes;
 use declarations::{write_method_of, write_property_within, write_signature_text};
-use metadata_source::kind_of;
 use navigation::Neighbours;
 use opening::{CellRef, TableId, View, bytes_or_empty};
 use std::alloc::AllocError;
-use table_schema::ColumnKind;
+use table_schema::SigKind;
+
+/// The index of the cell with the signature of a field (II.22.15).
+const SIGNATURE: usize = 2;
 
 /// The index of the cell with the value of an attribute (II.22.10).
 const VALUE: usize = 2;
@@ -29,28 +30,19 @@ const VALUE: usize = 2;
 /// The largest value that is decoded, in bytes.
 const VALUE_LIMIT: usize = 1 << 16;
 
-/// Appends the text of the signature in a cell, or nothing if the cell is none.
-pub(crate) fn push_signature(
-    view: &View<'_>,
-    table: TableId,
-    row: u32,
-    cell: usize,
-    declared: &mut Declared,
-) -> Result<(), AllocError>
+/// Appends the text of the signature of a field.
+#[tactic(auto, unfolding(table_schema::specs::CellColumns::cell_columns))]
+fn push_signature(view: &View<'_>, row: u32, declared: &mut Declared) -> Result<(), AllocError>
     requires first { 1 ≤ row }
-    requires last { row ≤ row_count view.now table }
-    requires cell { cell < cell_count table }
+    requires last { row ≤ row_count view.now Field }
     ensures { (model : Metadata) → IsModel view.now model
-        → OnOk result (Gains (IsSignatureOf model (cell_in model table row cell)) (string_bytes declared.old.text) (string_bytes declared.new.text)) }
+        → OnOk result (Gains (IsSignatureOf model (cell_in model Field row 2)) (string_bytes declared.old.text) (string_bytes declared.new.text)) }
 {
-    let CellRef::Sig(blob) = view.cell(table, row, cell) else {
-        return Ok(());
-    };
-    let ColumnKind::Signature(kind) = kind_of(table, cell) else {
+    let CellRef::Sig(blob) = view.cell(TableId::Field, row, SIGNATURE) else {
         return Ok(());
     };
     begin_text(declared);
-    let alloc = declared.alloc;
+    let (alloc, kind) = (declared.alloc, SigKind::Field);
     let written = write_signature_text(alloc, view, blob, kind, &TextLimit, declared);
     end_text(written, declared)
 }
@@ -122,8 +114,9 @@ fn push_attribute(
     }
 }
 
-/// Appends the declaration of the method that a row is, with its full name, its generic parameters and the names of its parameters;
-/// that of the property, with its full name; or the value of the attribute; nothing if it is of another table.
+/// Appends the signature of the field that a row is; the declaration of the method, with its full name, its generic parameters and
+/// the names of its parameters; that of the property, with its full name; or the value of the attribute; nothing if it is of
+/// another table.
 pub(crate) fn push_declaration(
     source: &Neighbours<'_, '_>,
     table: TableId,
@@ -138,6 +131,7 @@ pub(crate) fn push_declaration(
     metadata::laws::models_are_read();
     metadata::laws::models_of_roots_are_valid();
     match table {
+        TableId::Field => push_signature(source.view, row, declared),
         TableId::MethodDef => {
             begin_text(declared);
             let written = write_method_of(declared.alloc, source, row, &TextLimit, declared);

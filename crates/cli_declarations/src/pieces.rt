@@ -10,7 +10,7 @@ ghost use Rattle.cli_declarations.specs.Parts.{IsAfter, IsNameText, IsNaming, Is
 ghost use Rattle.cli_declarations.specs.Shown.{IsWithin, shown};
 ghost use Rattle.cli_declarations.specs.Texts.{Gains};
 
-use crate::blob_sink::{push_declaration, push_signature};
+use crate::blob_sink::push_declaration;
 use crate::declared::{
     Declared, TextLimit, begin_text, end_text, push_plain, push_string, push_text,
 };
@@ -268,7 +268,6 @@ pub(crate) fn push_piece(
         Piece::FirstBytes(cell) => {
             push_value_bytes(bytes_or_empty(view, table, row, cell), &mut declared.text)
         }
-        Piece::Signature(cell) => push_signature(view, table, row, cell, declared),
         Piece::Declaration => push_declaration(source, table, row, declared),
         Piece::Own(how) => push_row(source, how, token, declared),
         Piece::After(word, how, cell) => {

@@ -1,5 +1,5 @@
 -- What several proofs of this crate name of std, of the crates below, and of its own definitions.
-pub use Rattle.std.proofs.Common.{◌≡◌, ◌∙◌, ℕ, zero, suc, ◌+◌, ◌-◌, ◌/◌, ◌%◌, ◌^◌, ◌<◌, ◌≤◌, false, List, [], ◌∷◌, ◌++◌, length, replicate, refl, ap, sym, subst, append_assoc, append-nil, arith, cond, ◌≢◌, ◌⊎◌, Bool, true, Option, None, Some, map, codes, decimal, ◌==◌, get_or, IsTrue, ◌*◌, ◌&&◌, T, eqb, eqb→eq, eq-zero-or-pos, take, drop, inl, inr, if◌then◌else◌, rules}
+pub use Rattle.std.proofs.Common.{◌≡◌, ◌∙◌, ℕ, zero, suc, ◌+◌, ◌-◌, ◌/◌, ◌%◌, ◌^◌, ◌<◌, ◌≤◌, false, List, [], ◌∷◌, ◌++◌, length, replicate, refl, ap, sym, subst, append_assoc, append-nil, arith, cond, ◌≢◌, ◌⊎◌, Bool, true, Option, None, Some, fold, map, codes, decimal, ◌==◌, get_or, IsTrue, ◌*◌, ◌&&◌, T, eqb, eqb→eq, eq-zero-or-pos, take, drop, inl, inr, if◌then◌else◌, rules}
 pub use Rattle.std.proofs.Math.Logic.{⊎_elim}
 pub use Rattle.std.proofs.lemmas.Bool.{cases_lt, eq-eqb, ne_eqb, lt-ltb, le-ltb}
 pub use Rattle.std.proofs.lemmas.Fmt.{hex_byte, decimal_digit}
@@ -19,8 +19,7 @@ pub use Rattle.table_schema.specs.Tokens.{hexadecimal, token_text}
 pub use Rattle.cli_faults.specs.Escaped.{escaped_text, escaped_unit}
 pub use Rattle.cli_faults.specs.Hexadecimal.{upper_hexadecimal}
 pub use Rattle.cli_sending.proofs.SentLemmas.{prefix_longer, prefix_more, sends_more, nothing_sent, same_printed, prefix_of_nothing}
-pub use Rattle.cli_lines.specs.JsonTexts.{array_json, items_json, plain_string, row_json, value_json}
-pub use Rattle.cli_lines.specs.Lines.{Value, number, hex, byte, text, token, reference, bytes, guid, signature, json_from, line_feed, named_token, part_tokens, units_tokens, value_tokens, Part, part_letters, part_text, style, Style, line_text, lead}
+pub use Rattle.cli_lines.specs.Lines.{Value, number, hex, byte, text, token, reference, bytes, guid, signature, json_from, line_feed, named_token, part_tokens, row_values, items_tokens, units_tokens, value_tokens, Part, part_letters, part_text, style, Style, line_text, lead}
 unfoldable pub use Rattle.cli_lines.specs.Lines.{line_from, styled_text}
 pub use Rattle.cli_lines.specs.Printed.{Adds, AwaitsOrFails, Begins, Completes, Ends, Moves, Printed, Prints, Same, waits, SendsOrFails}
 unfoldable pub use Rattle.cli_lines.specs.Printed.{rows_after}

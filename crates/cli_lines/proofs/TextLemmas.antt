@@ -1,8 +1,9 @@
 -- What is appended to a line, one byte after another.
 use Rattle.cli_lines.proofs.Prelude.{◌≡◌, ◌∙◌, ℕ, zero, suc, ◌+◌, ◌-◌, ◌*◌, ◌/◌, ◌%◌, ◌<◌, Bool, true, false, ◌&&◌, T, eqb, eqb→eq, eq-zero-or-pos, IsTrue, List, [], ◌∷◌, ◌++◌, length, get_or, take, drop, refl, ap, sym, inl, inr, append_assoc, arith, if◌then◌else◌, flat_map, digit_glyph, hex_byte, flat_map_more, take_more, hexadecimal, upper_hexadecimal}
 use lib.Ieee.Fits.{and_l, and_r}
-use Rattle.std.specs.Prelude.{Result, Ok, Err, OnOk, is_ok}
+use Rattle.std.specs.Prelude.{Result, OnOk}
 use Rattle.std.proofs.Math.Seq.{drop-append_seam, take-append_seam}
+use Rattle.std.proofs.lemmas.Result.{on_ok_weaker}
 use Rattle.cli_sending.specs.Letters.{readable}
 use Rattle.cli_lines.specs.declared.texts.TheConstants.{PAIRS}
 
@@ -29,16 +30,6 @@ pair_below (suc count) n are few =
 pub pair_at : (n : ℕ) → n < 256 → get_or PAIRS (n * 2) 0 ∷ get_or PAIRS (n * 2 + 1) 0 ∷ [] ≡ hexadecimal 2 n
 pair_at n small = let digits = pair_below 256 n tt small in (λ i. digits.0 i ∷ digits.1 i ∷ []) ∙ sym (hex_byte false n small)
 
--- a list that was appended, if it is that of another name
-pub appended : {T E : Type 0} (result : Result T E) (before after bytes text : List ℕ) → after ≡ (if is_ok result then before ++ bytes else before) → bytes ≡ text
-    → OnOk result (after ≡ before ++ text)
-appended (Ok done) before after bytes text is same = is ∙ ap (λ ys. before ++ ys) same
-appended (Err error) before after bytes text is same = tt
-
-pub on_ok : {T E P Q : Type 0} (result : Result T E) → OnOk result P → (P → Q) → OnOk result Q
-on_ok (Ok done) is f = f is
-on_ok (Err error) is f = tt
-
 -- the parts of a line, one after another
 pub three_joined : (line a b c : List ℕ) → ((line ++ a) ++ b) ++ c ≡ line ++ (a ++ b ++ c)
 three_joined line a b c = simp append_assoc
@@ -47,4 +38,4 @@ three_joined line a b c = simp append_assoc
 pub letters_shown : {T E : Type 0} (result : Result T E) (line text now new : List ℕ) (start : ℕ) → now ≡ line ++ text → start ≡ length line
     → OnOk result (new ≡ take start now ++ readable (drop start now)) → OnOk result (new ≡ line ++ readable text)
 letters_shown result line text now new start is at shown =
-    on_ok result shown (λ same. same ∙ rw (is, at, take-append_seam line text, drop-append_seam line text) refl)
+    on_ok_weaker result (λ same. same ∙ rw (is, at, take-append_seam line text, drop-append_seam line text) refl) shown

@@ -127,16 +127,22 @@ value_tokens yes = json.boolean true ∷ []
 value_tokens null = json.null ∷ []
 value_tokens digits = json.string (value_text digits) ∷ []
 
+-- numbers, and the end of their array
+abbrev pub items_tokens : List ℕ → List json.Token
+items_tokens of = map (λ unit. json.number (decimal unit)) of ++ json.end_array ∷ []
+
 -- units as a text, or as an array of numbers if a surrogate among them has no partner, because then they are not a text
 abbrev pub units_tokens : List ℕ → List json.Token
 units_tokens of =
-    if has_unpaired_surrogate of then named_token name.Units ∷ json.begin_array ∷ (map (λ unit. json.number (decimal unit)) of ++ json.end_array ∷ [])
+    if has_unpaired_surrogate of then named_token name.Units ∷ json.begin_array ∷ items_tokens of
     else named_token name.Text ∷ json.string (encode_utf8_all (utf16_lossy_chars of)) ∷ []
 
+-- what follows the name of the first member of a row
+abbrev pub row_values : Token → List json.Token
+row_values of = json.string (table_name of.table) ∷ named_token name.Row ∷ json.number (decimal of.row) ∷ named_token name.Token ∷ json.string (token_text of) ∷ []
+
 abbrev pub row_tokens : Token → List json.Token
-row_tokens of =
-    named_token name.Table ∷ json.string (table_name of.table) ∷ named_token name.Row ∷ json.number (decimal of.row)
-    ∷ named_token name.Token ∷ json.string (token_text of) ∷ []
+row_tokens of = named_token name.Table ∷ row_values of
 
 abbrev pub part_tokens : Part → List json.Token
 part_tokens (field named value) = named_token named ∷ value_tokens value

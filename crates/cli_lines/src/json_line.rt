@@ -1,25 +1,26 @@
 //! Appends the parts of a line of JSON.
 ghost use Rattle.std.specs.Prelude.{◌≡◌, ◌++◌, ◌∷◌, List, OnOk, IfOk, Some};
+ghost use Rattle.json.specs.Print.{print};
 ghost use Rattle.json.specs.Token as json;
 ghost use Rattle.cli_lines.specs.declared.line.Before.TheVariants as here;
-ghost use Rattle.cli_lines.specs.Lines.{json_from, named_token, part_tokens, value_tokens};
+ghost use Rattle.cli_lines.specs.Lines.{json_from, named_token, part_tokens, row_values, value_tokens};
 ghost use Rattle.cli_lines.specs.Shown.{shown, shown_file, shown_value};
-ghost use Rattle.cli_lines.specs.JsonTexts.{row_json, value_json};
 
 use crate::json_texts::{push_digit_string, push_signature, push_string};
 use crate::json_units::push_units_member;
 use crate::line::Before;
 use crate::names::{Name, keys_of};
 use crate::parts::{Part, Value};
-use crate::texts::{push_between, push_decimal};
+use crate::texts::{Pushed, push_between, push_decimal};
 use heap_entries::guid_text;
-use std::alloc::{AllocError, Global};
+use std::alloc::AllocError;
 use table_schema::Token;
 
 /// Appends a value.
+#[tactic(auto, using(std::proofs::lemmas::Grind::common_steps, crate::proofs::PlainLemmas::bytes_are_plain, crate::proofs::PlainLemmas::padded_is_plain, crate::proofs::PlainLemmas::token_is_plain), unfolding(json::specs::Print::print_from))]
 #[inline(always)]
-fn push_json_value(alloc: Global, value: &Value<'_>, line: &mut Vec<u8>) -> Result<(), AllocError>
-    ensures { OnOk result (line.new.items ≡ line.old.items ++ value_json (shown_value value.now)) }
+fn push_json_value(value: &Value<'_>, line: &mut Vec<u8>) -> Pushed
+    ensures { OnOk result (line.new.items ≡ line.old.items ++ print (value_tokens (shown_value value.now))) }
 {
     match value {
         Value::Number(number) | Value::Start(number) => push_decimal(*number, line),
@@ -27,10 +28,10 @@ fn push_json_value(alloc: Global, value: &Value<'_>, line: &mut Vec<u8>) -> Resu
             push_string(text.as_bytes(), line)
         }
         Value::Hex(_) | Value::Byte(_) | Value::Token(_) | Value::Reference(Some(_)) => {
-            push_digit_string(alloc, value, line)
+            push_digit_string(value, line)
         }
         Value::Bytes(bytes) => push_between(b'"', bytes, b'"', line),
-        Value::Guid(Some(guid)) => push_string(guid_text(alloc, guid)?.as_bytes(), line),
+        Value::Guid(Some(of)) => push_string(guid_text(*line.allocator(), of)?.as_bytes(), line),
         Value::Signature(blob, text) => push_signature(blob, text, line),
         Value::Yes => line.extend_from_slice(b"true"),
         Value::Reference(None) | Value::Guid(None) | Value::Null => line.extend_from_slice(b"null"),
@@ -40,7 +41,7 @@ fn push_json_value(alloc: Global, value: &Value<'_>, line: &mut Vec<u8>) -> Resu
 /// Begins a line with the name of a file. What follows is after a value.
 #[tactic(auto, unfolding(json::specs::Print::print_from, json::specs::Print::escape_byte))]
 #[inline(never)]
-fn push_file(file: &str, line: &mut Vec<u8>) -> Result<(), AllocError>
+fn push_file(file: &str, line: &mut Vec<u8>) -> Pushed
     ensures { OnOk result ((next : json.Token) (more : List json.Token) → line.new.items ++ json_from (Some file.now) here.Value (next ∷ more)
         ≡ line.old.items ++ json_from (Some file.now) here.Line (next ∷ more)) }
 {
@@ -51,12 +52,7 @@ fn push_file(file: &str, line: &mut Vec<u8>) -> Result<(), AllocError>
 /// Appends the name of a member, with what is before and after it.
 #[tactic(auto, unfolding(json::specs::Print::print_from))]
 #[inline(always)]
-pub(crate) fn push_name(
-    file: Option<&str>,
-    at: Before,
-    name: Name,
-    line: &mut Vec<u8>,
-) -> Result<(), AllocError>
+pub(crate) fn push_name(file: Option<&str>, at: Before, name: Name, line: &mut Vec<u8>) -> Pushed
     ensures { OnOk result ((more : List json.Token) → line.new.items ++ json_from (shown_file file.entry) here.Brace more
         ≡ line.old.items ++ json_from (shown_file file.entry) at (named_token name ∷ more)) }
 {
@@ -77,36 +73,36 @@ pub(crate) fn push_name(
 }
 
 /// Appends the table, the number and the token of a row.
+#[tactic(auto, using(std::proofs::lemmas::Grind::common_steps, crate::proofs::PlainLemmas::token_is_plain), unfolding(json::specs::Print::print_from, json::specs::Print::escape_byte))]
 #[inline(never)]
-fn push_row(alloc: Global, row: Token, line: &mut Vec<u8>) -> Result<(), AllocError>
-    ensures { OnOk result (line.new.items ≡ line.old.items ++ row_json row) }
+fn push_row(row: Token, line: &mut Vec<u8>) -> Pushed
+    ensures { OnOk result (line.new.items ≡ line.old.items ++ print (row_values row)) }
 {
     line.extend_from_slice(keys_of(row.table).row.as_bytes())?;
     push_decimal(row.row as u64, line)?;
     line.extend_from_slice(b",\"token\":")?;
-    push_digit_string(alloc, &Value::Token(row), line)
+    push_digit_string(&Value::Token(row), line)
 }
 
 /// Appends a member.
 #[inline(always)]
 pub(crate) fn push_member(
-    alloc: Global,
     file: Option<&str>,
     at: Before,
     name: Name,
     value: &Value<'_>,
     line: &mut Vec<u8>,
-) -> Result<(), AllocError>
+) -> Pushed
     ensures { OnOk result ((more : List json.Token) → line.new.items ++ json_from (shown_file file.entry) here.Value more
         ≡ line.old.items ++ json_from (shown_file file.entry) at (named_token name ∷ (value_tokens (shown_value value.now) ++ more))) }
 {
     push_name(file, at, name, line)?;
-    push_json_value(alloc, value, line)
+    push_json_value(value, line)
 }
 
 /// Appends the brace that closes an object.
 #[tactic(auto, unfolding(json::specs::Print::print_from))]
-fn push_close(file: Option<&str>, at: Before, line: &mut Vec<u8>) -> Result<(), AllocError>
+fn push_close(file: Option<&str>, at: Before, line: &mut Vec<u8>) -> Pushed
     ensures { OnOk result ((more : List json.Token) → line.new.items ++ json_from (shown_file file.entry) here.Value more
         ≡ line.old.items ++ json_from (shown_file file.entry) at (json.end_object ∷ more)) }
 {
@@ -120,12 +116,10 @@ fn push_close(file: Option<&str>, at: Before, line: &mut Vec<u8>) -> Result<(), 
     }
 }
 
-/// Appends a part of a line of JSON. The name of the file, if there is one, comes before the first member. Returns where the
-/// printer is then.
+/// Appends a part of a line of JSON, and before the first member that of the file. Returns where the printer is then.
 #[tactic(auto, unfolding(json::specs::Print::print_from))]
 #[inline(always)]
 pub(crate) fn push_json_part(
-    alloc: Global,
     file: Option<&str>,
     at: Before,
     part: &Part<'_>,
@@ -137,16 +131,16 @@ pub(crate) fn push_json_part(
     match part {
         Part::Word(_) | Part::Note(_) => Ok(at),
         Part::Field(name, value) | Part::Member(name, value) | Part::Spaced(name, value) => {
-            push_member(alloc, file, at, *name, value, line)?;
+            push_member(file, at, *name, value, line)?;
             Ok(Before::Value)
         }
         Part::RowNumber(row) | Part::RowToken(row) => {
             push_name(file, at, Name::Table, line)?;
-            push_row(alloc, *row, line)?;
+            push_row(*row, line)?;
             Ok(Before::Value)
         }
         Part::Units(string) => {
-            push_units_member(alloc, file, at, string.units(), line)?;
+            push_units_member(file, at, string.units(), line)?;
             Ok(Before::Value)
         }
         Part::Open(name) => {

@@ -1,16 +1,14 @@
 //! Appends texts of JSON to a line.
-ghost use Rattle.std.specs.Prelude.{◌≡◌, ◌++◌, IsTrue, OnOk};
-ghost use Rattle.json.specs.Print.{escape, escape_byte, quoted};
+ghost use Rattle.std.specs.Prelude.{◌≡◌, ◌++◌, ◌∷◌, [], IsTrue, OnOk};
+ghost use Rattle.json.specs.Print.{escape, escape_byte, print, quoted};
 ghost use Rattle.json.specs.Run.{is_plain};
 ghost use Rattle.cli_lines.specs.Lines as shown;
-ghost use Rattle.cli_lines.specs.Lines.{value_text};
-ghost use Rattle.cli_lines.specs.JsonTexts.{plain_string, value_json};
+ghost use Rattle.cli_lines.specs.Lines.{value_text, value_tokens};
 ghost use Rattle.cli_lines.specs.Shown.{shown_value};
 
 use crate::line::push_text_value;
 use crate::parts::Value;
-use crate::texts::{push_between, push_hexadecimal};
-use std::alloc::{AllocError, Global};
+use crate::texts::{Pushed, push_between, push_hexadecimal};
 
 /// Whether a byte stands for itself in a string (RFC 8259, section 7): it is no quote, backslash or control character.
 fn is_plain(byte: u8) -> bool
@@ -33,7 +31,7 @@ fn are_plain(text: &[u8]) -> bool
 
 /// Appends a byte of a string, escaped if needed.
 #[tactic(auto, using(std::proofs::lemmas::Grind::common_steps, crate::proofs::PlainLemmas::long_escape, json::proofs::Printed::Strings::escape_byte_plain), unfolding(json::specs::Print::escape_byte))]
-fn push_byte(byte: u8, line: &mut Vec<u8>) -> Result<(), AllocError>
+fn push_byte(byte: u8, line: &mut Vec<u8>) -> Pushed
     ensures { OnOk result (line.new.items ≡ line.old.items ++ escape_byte byte) }
 {
     match byte {
@@ -51,9 +49,8 @@ fn push_byte(byte: u8, line: &mut Vec<u8>) -> Result<(), AllocError>
     }
 }
 
-/// Appends the content of a string: a quote, a backslash and a control character escaped, any other byte as it is (RFC
-/// 8259, section 7).
-pub(crate) fn push_escaped(text: &[u8], line: &mut Vec<u8>) -> Result<(), AllocError>
+/// Appends the content of a string, with quotes, backslashes and control characters escaped (RFC 8259, section 7).
+pub(crate) fn push_escaped(text: &[u8], line: &mut Vec<u8>) -> Pushed
     ensures { OnOk result (line.new.items ≡ line.old.items ++ escape text.now) }
 {
     if are_plain(text) {
@@ -66,7 +63,7 @@ pub(crate) fn push_escaped(text: &[u8], line: &mut Vec<u8>) -> Result<(), AllocE
 }
 
 /// Appends a string, with its quotes.
-pub(crate) fn push_string(text: &[u8], line: &mut Vec<u8>) -> Result<(), AllocError>
+pub(crate) fn push_string(text: &[u8], line: &mut Vec<u8>) -> Pushed
     ensures { OnOk result (line.new.items ≡ line.old.items ++ quoted text.now) }
 {
     line.push(b'"')?;
@@ -75,21 +72,18 @@ pub(crate) fn push_string(text: &[u8], line: &mut Vec<u8>) -> Result<(), AllocEr
 }
 
 /// Appends as a string what a value is in a line of text: digits, which stand for themselves.
-pub(crate) fn push_digit_string(
-    alloc: Global,
-    value: &Value<'_>,
-    line: &mut Vec<u8>,
-) -> Result<(), AllocError>
-    ensures { OnOk result (line.new.items ≡ line.old.items ++ plain_string (value_text (shown_value value.now))) }
+pub(crate) fn push_digit_string(value: &Value<'_>, line: &mut Vec<u8>) -> Pushed
+    ensures { OnOk result (line.new.items ≡ line.old.items ++ 34 ∷ (value_text (shown_value value.now) ++ 34 ∷ [])) }
 {
     line.push(b'"')?;
-    push_text_value(alloc, value, line)?;
+    push_text_value(value, line)?;
     Ok(line.push(b'"')?)
 }
 
 /// Appends an object of the bytes and the text of a signature.
-pub(crate) fn push_signature(blob: &[u8], text: &[u8], line: &mut Vec<u8>) -> Result<(), AllocError>
-    ensures { OnOk result (line.new.items ≡ line.old.items ++ value_json (shown.signature blob.now text.now)) }
+#[tactic(auto, using(std::proofs::lemmas::Grind::common_steps, crate::proofs::PlainLemmas::bytes_are_plain), unfolding(json::specs::Print::print_from, json::specs::Print::escape_byte))]
+pub(crate) fn push_signature(blob: &[u8], text: &[u8], line: &mut Vec<u8>) -> Pushed
+    ensures { OnOk result (line.new.items ≡ line.old.items ++ print (value_tokens (shown.signature blob.now text.now))) }
 {
     line.extend_from_slice(b"{\"blob\":")?;
     push_between(b'"', blob, b'"', line)?;

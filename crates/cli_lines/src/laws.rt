@@ -7,12 +7,14 @@ ghost use Rattle.cli_lines.specs.Printed.{Adds, Begins, Completes, Ends, Printed
 use std::io::Write;
 
 /// A printer that takes lines, and then other lines, takes both in this order.
+#[tactic(auto, using(crate::proofs::PrintedLemmas::prints_more, crate::proofs::PrintedLemmas::prints_nothing))]
 pub fn lines_follow<W: Write>()
     ensures nothing { (printer : Printed W) → Prints printer printer [] }
     ensures more { (old between new : Printed W) (first second : List (List Part)) → Prints old between first → Prints between new second → Prints old new (first ++ second) }
 {}
 
 /// A printer that prints what is left prints all in the end.
+#[tactic(auto, using(crate::proofs::PrintedLemmas::completed, crate::proofs::PrintedLemmas::all_completed))]
 pub fn reports_are_completed<W: Write>()
     ensures start { (printer : Printed W) (lines : List (List Part)) → Completes printer printer lines lines }
     ensures more { (old now next : Printed W) (lines left all : List (List Part)) → Completes old now (lines ++ left) all → Prints now next lines → Completes old next left all }
@@ -20,6 +22,7 @@ pub fn reports_are_completed<W: Write>()
 {}
 
 /// A printer takes the lines of rows one after another.
+#[tactic(auto, using(crate::proofs::RowLemmas::rows_all, crate::proofs::RowLemmas::rows_more, crate::proofs::RowLemmas::rows_none))]
 pub fn rows_follow<W: Write>()
     ensures all { (old new : Printed W) (line : ℕ → List Part) (count : ℕ) → Prints old new (rows_after line 0 count) → Prints old new (map line (range_with_len 1 count)) }
     ensures more { (old between new : Printed W) (line : ℕ → List Part) (earlier count : ℕ) → earlier < count → Prints old between (line (earlier + 1) ∷ [])

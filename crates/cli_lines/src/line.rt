@@ -6,12 +6,12 @@ ghost use Rattle.cli_lines.specs.Shown.{shown, shown_file, shown_value};
 use crate::json_line::push_json_part;
 use crate::parts::{Form, Part, Value};
 use crate::texts::{
-    push_between, push_byte_digits, push_decimal, push_escaped, push_plain, push_quoted,
+    Pushed, push_between, push_byte_digits, push_decimal, push_escaped, push_plain, push_quoted,
     push_token, push_units, push_word,
 };
 use cli_sending::show_letters;
 use heap_entries::guid_text;
-use std::alloc::{AllocError, Global};
+use std::alloc::AllocError;
 
 /// Where a printer is in its line of JSON.
 #[derive(Clone, Copy)]
@@ -26,11 +26,7 @@ pub enum Before {
 
 /// Appends a value as in a line of text.
 #[inline(always)]
-pub(crate) fn push_text_value(
-    alloc: Global,
-    value: &Value<'_>,
-    line: &mut Vec<u8>,
-) -> Result<(), AllocError>
+pub(crate) fn push_text_value(value: &Value<'_>, line: &mut Vec<u8>) -> Pushed
     ensures { OnOk result (line.new.items ≡ line.old.items ++ value_text (shown_value value.now)) }
 {
     match value {
@@ -39,11 +35,11 @@ pub(crate) fn push_text_value(
         Value::Byte(number) => push_byte_digits(*number, line),
         Value::Text(text) => push_escaped(text.as_bytes(), line),
         Value::Plain(text) => push_plain(text, line),
-        Value::Token(token) | Value::Reference(Some(token)) => push_token(alloc, *token, line),
+        Value::Token(of) | Value::Reference(Some(of)) => push_token(*line.allocator(), *of, line),
         Value::Quoted(text) => push_quoted(text.as_bytes(), line),
         Value::Bytes(bytes) | Value::Signature(bytes, _) => push_between(b'<', bytes, b'>', line),
         Value::Guid(Some(guid)) => {
-            let text = guid_text(alloc, &{ *guid })?;
+            let text = guid_text(*line.allocator(), guid)?;
             line.push(b'{')?;
             line.extend_from_slice(text.as_bytes())?;
             Ok(line.push(b'}')?)
@@ -59,21 +55,21 @@ pub(crate) fn push_text_value(
 
 /// Appends a part of a line of text.
 #[inline(always)]
-fn push_text_part(alloc: Global, part: &Part<'_>, line: &mut Vec<u8>) -> Result<(), AllocError>
+fn push_text_part(part: &Part<'_>, line: &mut Vec<u8>) -> Pushed
     ensures { OnOk result (line.new.items ≡ line.old.items ++ part_text (shown part.now)) }
 {
     match part {
         Part::Word(word) => push_plain(word, line),
-        Part::Field(_, value) | Part::Note(value) => push_text_value(alloc, value, line),
+        Part::Field(_, value) | Part::Note(value) => push_text_value(value, line),
         Part::Spaced(_, value) => {
             line.push(b' ')?;
-            push_text_value(alloc, value, line)
+            push_text_value(value, line)
         }
         Part::RowNumber(row) => {
             push_decimal(row.row as u64, line)?;
             Ok(line.push(b':')?)
         }
-        Part::RowToken(row) => push_token(alloc, *row, line),
+        Part::RowToken(row) => push_token(*line.allocator(), *row, line),
         Part::Units(string) => push_units(string.units(), line),
         Part::Member(_, _) | Part::Open(_) | Part::Close => Ok(()),
     }
@@ -82,18 +78,17 @@ fn push_text_part(alloc: Global, part: &Part<'_>, line: &mut Vec<u8>) -> Result<
 /// Appends a part of a line of text, with letters beyond ASCII as they are.
 #[tactic(auto, using(crate::proofs::TextLemmas::letters_shown))]
 #[inline(never)]
-fn push_letters_part(alloc: Global, part: &Part<'_>, line: &mut Vec<u8>) -> Result<(), AllocError>
+fn push_letters_part(part: &Part<'_>, line: &mut Vec<u8>) -> Pushed
     ensures { OnOk result (line.new.items ≡ line.old.items ++ part_letters (shown part.now)) }
 {
     let start = line.len();
-    push_text_part(alloc, part, line)?;
+    push_text_part(part, line)?;
     show_letters(start, line)
 }
 
 /// Appends a part of a line. Returns where the printer is then.
 #[inline(always)]
 pub(crate) fn push_part(
-    alloc: Global,
     form: Form,
     file: Option<&str>,
     at: Before,
@@ -105,25 +100,19 @@ pub(crate) fn push_part(
 {
     match form {
         Form::Text => {
-            push_text_part(alloc, part, line)?;
+            push_text_part(part, line)?;
             Ok(at)
         }
-        // These take copies, so that a part of text stays in registers.
         Form::Letters => {
-            push_letters_part(alloc, &{ *part }, line)?;
+            push_letters_part(part, line)?;
             Ok(at)
         }
-        Form::JsonLines => push_json_part(alloc, file, at, &{ *part }, line),
+        Form::JsonLines => push_json_part(file, at, part, line),
     }
 }
 
 /// Appends what a line of text begins with: the name of the file, if there is one.
-pub(crate) fn push_lead(
-    alloc: Global,
-    form: Form,
-    file: Option<&str>,
-    line: &mut Vec<u8>,
-) -> Result<(), AllocError>
+pub(crate) fn push_lead(form: Form, file: Option<&str>, line: &mut Vec<u8>) -> Pushed
     ensures { OnOk result (line.new.items ≡ line.old.items ++ lead form (shown_file file.entry)) }
 {
     match (form, file) {
@@ -132,7 +121,7 @@ pub(crate) fn push_lead(
             line.extend_from_slice(b": ")
         }
         (Form::Letters, Some(file)) => {
-            push_letters_part(alloc, &Part::Note(Value::Text(file)), line)?;
+            push_letters_part(&Part::Note(Value::Text(file)), line)?;
             line.extend_from_slice(b": ")
         }
         _ => Ok(()),
@@ -141,7 +130,7 @@ pub(crate) fn push_lead(
 
 /// Appends the end of a line. In JSON a line without members is no line.
 #[tactic(auto, unfolding(crate::specs::Lines::line_from, json::specs::Print::print_from))]
-pub(crate) fn push_end(form: Form, at: Before, line: &mut Vec<u8>) -> Result<(), AllocError>
+pub(crate) fn push_end(form: Form, at: Before, line: &mut Vec<u8>) -> Pushed
     ensures { OnOk result ((file : Option (List ℕ)) → line.new.items ≡ line.old.items ++ line_from (style form file) at []) }
 {
     match (form, at) {

@@ -1,5 +1,5 @@
 //! The names of members.
-ghost use Rattle.std.specs.Prelude.{◌≡◌, [], map, slice_index_or};
+ghost use Rattle.std.specs.Prelude.{◌≡◌, map};
 ghost use Rattle.cli_lines.specs.Names.{cell_names, key_text, label_text, name_text, row_start};
 ghost use Rattle.cli_lines.specs.declared.names.Name.TheVariants as name;
 
@@ -78,14 +78,16 @@ macro_rules! key {
 macro_rules! key_of {
     ($name:expr; $($variant:ident $word:ident,)+) => {
         match $name {
-            Name::Cell(table, index) => cell_key(table, index),
+            Name::Cell(table, index) => match keys_of(table).cells.get(index) {
+                Some(key) => *key,
+                None => ",\"\":",
+            },
             $(Name::$variant => key!($word),)+
         }
     };
 }
 
-/// What the members of a row begin with: its table with the key of its number, and the key of each cell; and the label of
-/// each cell in a line of text.
+/// Texts of a table: its name with the key of a row's number, and the key and the label of each cell.
 #[derive(Clone, Copy)]
 pub(crate) struct Keys {
     pub(crate) row: &'static str,
@@ -125,17 +127,6 @@ impl Name {
             Token token, Type type, Types types, Units units, Value value, Version version,
             Visibility visibility,
         }
-    }
-}
-
-/// The key of a cell.
-#[inline(always)]
-fn cell_key(table: TableId, index: usize) -> &'static str
-    ensures { result.now ≡ key_text (slice_index_or (cell_names table) index []) }
-{
-    match keys_of(table).cells.get(index) {
-        Some(key) => *key,
-        None => ",\"\":",
     }
 }
 

@@ -20,7 +20,6 @@ const FULL: usize = 1 << 16;
 /// Prints lines in a form. It sends them to a writer, many at a time. It keeps its first failure, and takes nothing from
 /// then on. Its memory is that of the longest line, and of the lines that wait to be sent.
 pub struct Printer<'o, W: Write> {
-    alloc: Global,
     form: Form,
     file: Option<&'o str>,
     waiting: Vec<u8>,
@@ -50,8 +49,7 @@ impl<'o, W: Write> Printer<'o, W> {
         Printer::named(alloc, form, None, out)
     }
 
-    /// A printer that has printed nothing, and begins each line with the name of a file, if there is one: `FILE: `, or the
-    /// member `file`.
+    /// A printer that begins each line with the name of a file, if there is one: `FILE: `, or the member `file`.
     pub fn named(alloc: Global, form: Form, file: Option<&'o str>, out: &'o mut W) -> Printer<'o, W>
         ensures style { result.style ≡ style form (shown_file file.entry) }
         ensures borrow { result.borrow ≡ out.entry.ghost_name }
@@ -59,7 +57,6 @@ impl<'o, W: Write> Printer<'o, W> {
         ensures asked { Asked (W.contents out.old) result [] }
     {
         Printer {
-            alloc,
             form,
             file,
             waiting: Vec::new(alloc),
@@ -77,6 +74,7 @@ impl<'o, W: Write> Printer<'o, W> {
     }
 
     /// Prints a line.
+    #[tactic(auto, using(crate::proofs::PrintedLemmas::whole_line))]
     pub fn line(&mut self, parts: &[Part<'_>])
         ensures { Prints self.old self.new (map shown parts.now ∷ []) }
     {
@@ -100,7 +98,7 @@ impl<'o, W: Write> Printer<'o, W> {
     {
         match self.stopped {
             Some(_) => {}
-            None => match push_lead(self.alloc, self.form, self.file, &mut self.waiting) {
+            None => match push_lead(self.form, self.file, &mut self.waiting) {
                 Ok(()) => self.at = Before::Line,
                 Err(_) => self.stopped = Some(ErrorKind::OutOfMemory),
             },
@@ -108,6 +106,7 @@ impl<'o, W: Write> Printer<'o, W> {
     }
 
     /// Adds parts to the line that was begun.
+    #[inline]
     pub fn parts(&mut self, parts: &[Part<'_>])
         ensures { Adds self.old self.new (map shown parts.now) }
     {
@@ -123,14 +122,7 @@ impl<'o, W: Write> Printer<'o, W> {
     {
         match self.stopped {
             Some(_) => {}
-            None => match push_part(
-                self.alloc,
-                self.form,
-                self.file,
-                self.at,
-                part,
-                &mut self.waiting,
-            ) {
+            None => match push_part(self.form, self.file, self.at, part, &mut self.waiting) {
                 Ok(at) => self.at = at,
                 Err(_) => self.stopped = Some(ErrorKind::OutOfMemory),
             },
@@ -156,10 +148,7 @@ impl<'o, W: Write> Printer<'o, W> {
         ensures lines { (lines : List (List ThePart)) → Prints self.old self.new lines }
         ensures stopped { self.new.waiting ≡ None }
     {
-        match self.stopped {
-            Some(_) => {}
-            None => self.stopped = Some(ErrorKind::OutOfMemory),
-        }
+        self.stopped = self.stopped.or(Some(ErrorKind::OutOfMemory));
     }
 
     /// Sends what waits, and flushes the writer. Returns the writer and the first failure: out of memory, or that the
@@ -174,7 +163,6 @@ impl<'o, W: Write> Printer<'o, W> {
         ensures complete { OnOk result.1 (IsSome self.entry.waiting) }
     {
         let Printer {
-            alloc: _,
             form: _,
             file: _,
             waiting,
@@ -192,7 +180,6 @@ impl<'o, W: Write> Printer<'o, W> {
         ensures out { result.now ≡ self.entry.out }
     {
         let Printer {
-            alloc: _,
             form: _,
             file: _,
             waiting: _,

@@ -1,5 +1,7 @@
-mod NumbersRead
+pub mod ChosenLemmas
+pub mod NumbersRead
 mod PathLemmas
 pub mod Prelude
 mod RefLemmas
-mod TypeNames
+mod RunLemmas
+pub mod TypeNames

@@ -1,5 +1,5 @@
 -- The types of other modules that an argument means, and what belongs to them.
-use Rattle.cli_names.proofs.Prelude.{◌≡◌, ◌∙◌, ◌↔◌, ◌==◌, Bool, true, false, cond, IsTrue, ℕ, List, [], ◌∷◌, ◌++◌, Option, None, Some, length, refl, ap, sym, subst, TypeRef, TableId, Token, Ref, HasRow, Metadata, BelongsTo, IsWantedRef, generic_at, generic_of, type_of_ref}
+use Rattle.cli_names.proofs.Prelude.{◌≡◌, ◌∙◌, ◌↔◌, ◌==◌, Bool, true, false, cond, IsTrue, ℕ, List, [], ◌∷◌, ◌++◌, Option, None, Some, length, refl, ap, sym, subst, TypeRef, TableId, Token, Ref, HasRow, Metadata, BelongsTo, IsWantedRef, generic_at, generic_of, type_of_ref, Wanted}
 use Rattle.std.specs.Prelude.{option_map}
 use Rattle.packed.specs.Packed.{IsPacked}
 use Rattle.packed.specs.Prefix.{unsigned_at}
@@ -17,7 +17,6 @@ use Rattle.sig_grammar.specs.Parts.{EncodesParts, IsIndex, Part, byte, index, nu
 use Rattle.sig_grammar.specs.Reading.{index_at, number_at, token_of}
 use Rattle.sig_grammar.specs.Syntax.{Body, Core, instance, plain, simple, slot, some_ret, type_spec, void_ret}
 use Rattle.metadata.specs.Valid.{row_in}
-use Rattle.cli_names.specs.declared.refs.Wanted.{Wanted}
 
 -- ---- the generic type in the bytes of a signature
 

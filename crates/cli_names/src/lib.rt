@@ -18,15 +18,24 @@
 //! let types = wanted_types(alloc, Subject::Path("System.Object"))?;
 //! belongs(&view, &types, member) // whether a MemberRef is one of System.Object
 //! ```
+//!
+//! A [`Source`] finds what is printed of a view: which rows have a line by [`OutlineOptions`], and in which order they stand.
+//! [`is_chosen`] says whether a row is among those of a [`Choice`], and [`run_of`] which the members of an owner are.
 #![tactic(auto)]
 
+mod chosen;
 mod names;
 mod numbers;
+mod orders;
 mod path;
 mod refs;
+mod source;
 mod subject;
 
+pub use chosen::{Choice, is_chosen};
 pub use names::{code_of, names_of_type, table_of};
 pub use numbers::{offset_of, row_of, token_of};
+pub use orders::{TableOrder, run_of};
 pub use refs::{Wanted, belongs, finds, wanted_types};
+pub use source::{OutlineOptions, Rows, Sorting, Source, Tokens};
 pub use subject::{Subject, found_row};

@@ -1,15 +1,8 @@
 -- Rows that are chosen, one after another.
-use Rattle.cli_outline.proofs.Prelude.{◌≡◌, ◌∙◌, Bool, true, false, List, [], ◌∷◌, ◌++◌, Option, None, Some, ⊎_elim, ap, inl, inr, refl, subst, sym, Decides-like, Decides-and, Decides-eqb, TableId, Token, Metadata, Part, Prints, AreChosenBy, IsChosen, IsDescribing, PrintsChosen, PrintsRows, OutlineOptions}
-use Rattle.std.specs.Bool.{Decides}
-use Rattle.std.specs.Option.{option_eq}
-use denote.Enum.Bare.{same_true, true_same}
-use Rattle.table_schema.specs.contracts.table.TableId as table
-use Rattle.table_schema.specs.contracts.table.TableIdPartialEq.TheImpl as tables
-use Rattle.table_schema.specs.contracts.token.TokenPartialEq.TheImpl as tokens
-use Rattle.visible_rows.specs.Declaring.{IsDeclaring}
+use Rattle.cli_outline.proofs.Prelude.{◌≡◌, ◌∙◌, true, false, List, [], ◌∷◌, ◌++◌, ⊎_elim, ap, inl, inr, refl, subst, sym, Token, Metadata, Part, Prints, AreChosenBy, IsChosen, PrintsChosen, PrintsRows, OutlineOptions}
 use Rattle.cli_lines.specs.Printed.{Printed}
-use Rattle.cli_outline.specs.declared.chosen.Choice.{Choice}
-use Rattle.cli_outline.specs.declared.chosen.Choice.TheVariants as choice
+use Rattle.cli_names.specs.declared.chosen.Choice.{Choice}
+use Rattle.cli_names.specs.declared.chosen.Choice.TheVariants as choice
 use Rattle.cli_outline.proofs.PrintedLemmas.{rows_more, rows_nothing}
 
 chosen_append : (Yes No : Token → Type 0) (xs ys a b : List Token) → AreChosenBy Yes No xs a → AreChosenBy Yes No ys b → AreChosenBy Yes No (xs ++ ys) (a ++ b)
@@ -42,21 +35,3 @@ all_chosen model (row ∷ rows) found are = ⊎_elim (λ it. it.1 ∙ ap (λ lat
 
 pub all_printed : {W : Type 0} {options : OutlineOptions} {model : Metadata} {a b : Printed W} {rows : List Token} → PrintsChosen options model choice.All a b rows → PrintsRows options model a b rows
 all_printed {W} {options} {model} {a} {b} {rows} printed = rw (all_chosen model rows printed.0 printed.1) at printed.2
-
--- ---- the test of a declaring type
-
-table_decides : (a b : TableId) → Decides (tables.eq-value.it a b) (a ≡ b)
-table_decides a b = (λ h. same_true table.the_type tt a b h, λ e. true_same table.the_type a b e)
-
-token_decides : (a b : Token) → Decides (tokens.eq-value.it a b) (a ≡ b)
-token_decides a b =
-    Decides-like _ (λ p i. record { table = p.0 i; row = p.1 i }) (λ e. (ap (λ (t : Token). t.table) e, ap (λ (t : Token). t.row) e))
-    (Decides-and _ _ (table_decides a.table b.table) (Decides-eqb a.row b.row))
-
-pub some_decides : (found : Option Token) (class : Token) → Decides (option_eq tokens.eq-value.it found (Some class)) (found ≡ Some class)
-some_decides None class = (λ h. absurd cc, λ k. absurd cc)
-some_decides (Some of) class = Decides-like _ (λ h. ap Some h) (λ k. cc k) (token_decides of class)
-
-pub describes : (model : Metadata) (class of : Token) (found : Option Token) (test : Bool) → Decides test (found ≡ Some class) → IsDeclaring model of found → IsDescribing model class test of
-describes model class of found true decides is = subst (λ (d : Option Token). IsDeclaring model of d) (decides.0 refl) is
-describes model class of found false decides is = (found, is, λ same. let yes = decides.1 same in absurd cc)

@@ -5,7 +5,7 @@ use Rattle.std.proofs.lemmas.List.Sums.{passes_at_first, prefix_len-le-length}
 use Rattle.cli_lines.specs.declared.parts.Form.{Form}
 use Rattle.cli_lines.specs.Printed.{Asked, Printed, Prints}
 use Rattle.cli_sending.specs.Letters.{readable_after}
-use Rattle.cli_outline.specs.declared.source.Tokens.TheVariants.{Shown, Hidden}
+use Rattle.cli_names.specs.declared.source.Tokens.TheVariants.{Shown, Hidden}
 
 -- the byte that ends a word is ASCII
 ends_low : (byte : ℕ) → ends_word byte ≡ true → byte < 128

@@ -10,8 +10,8 @@ use Rattle.metadata.specs.Metadata.{Metadata, cell_in}
 use Rattle.cli_lines.specs.Lines.{Part, member, note, plain, text, token, word}
 use Rattle.cli_lines.specs.declared.names.Name.TheVariants as name
 use Rattle.cli_sending.specs.AsIs.{as_is}
-use Rattle.cli_outline.specs.declared.source.Tokens.{Tokens}
-use Rattle.cli_outline.specs.declared.source.Tokens.TheVariants.{Shown, Hidden}
+use Rattle.cli_names.specs.declared.source.Tokens.{Tokens}
+use Rattle.cli_names.specs.declared.source.Tokens.TheVariants.{Shown, Hidden}
 
 -- a space or a parenthesis: the first word ends before it
 abbrev pub ends_word : ℕ → Bool

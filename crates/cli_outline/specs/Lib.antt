@@ -3,5 +3,4 @@ pub mod Orders
 pub mod Outline
 pub mod Printed
 pub mod References
-pub mod Shown
 pub mod Subjects

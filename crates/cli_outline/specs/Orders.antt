@@ -1,5 +1,5 @@
 -- The order of the rows of an outline: that of the rows in their tables, or that of their names.
-use Rattle.std.specs.Prelude.{◌≡◌, ◌≤◌, ℕ, zero, suc, ◌+◌, ◌-◌, ◌/◌, Bool, true, false, if◌then◌else◌, List, ◌∷◌, ◌++◌, [], All, Option, None, Some, ⊤, map, slice_get, take}
+use Rattle.std.specs.Prelude.{◌≡◌, ℕ, zero, suc, ◌+◌, ◌-◌, ◌/◌, Bool, true, false, if◌then◌else◌, List, ◌∷◌, ◌++◌, [], All, ⊤, map, take}
 use Rattle.std.specs.Cmp.Lexicographic.{slice_cmp}
 use Rattle.std.specs.List.{range_with_len}
 use Rattle.std.specs.List.Sorted.{IsPermutation, IsSorted}
@@ -8,24 +8,22 @@ use Rattle.std.specs.declared.cmp.Ordering.{Ordering}
 use Rattle.table_schema.specs.declared.table.TableId.{TableId}
 use Rattle.table_schema.specs.declared.table.TableId.TheVariants.{Field, MethodDef, Event, Property, MethodSemantics, TypeRef, MemberRef}
 use Rattle.table_schema.specs.declared.token.Token.{Token}
-use Rattle.table_schema.specs.Tables.{table_index_of}
 use Rattle.table_schema.specs.Tokens.{token_at}
 use Rattle.metadata.specs.Metadata.{Metadata, count_in}
 use Rattle.metadata.specs.declared.member_lists.MemberList.TheVariants as list
 use Rattle.metadata.specs.declared.member_lists.MemberList.{MemberList}
 use Rattle.metadata.specs.MemberLists.{member_of, owner_of}
-use Rattle.opening.specs.Views.{row_count}
 use Rattle.cli_declarations.specs.Layouts.{IsDeclared, is_declared_in}
 use Rattle.cli_declarations.specs.Parts.{IsNameText}
 use Rattle.cli_outline.specs.declared.orders.Grouping.{Grouping}
 use Rattle.cli_outline.specs.declared.orders.Grouping.TheVariants.{Members, Nothing, Table}
 use Rattle.cli_outline.specs.declared.orders.Keyed.{Keyed}
-use Rattle.cli_outline.specs.declared.orders.TableOrder.{TableOrder}
-use Rattle.cli_outline.specs.declared.source.OutlineOptions.{OutlineOptions}
-use Rattle.cli_outline.specs.declared.source.Sorting.{Sorting}
-use Rattle.cli_outline.specs.declared.source.Sorting.TheVariants.{ByName, ByRow}
-use Rattle.cli_outline.specs.Outline.{Order, outline_rows, run_start}
-use Rattle.cli_outline.specs.Shown.{is_shown}
+use Rattle.cli_names.specs.declared.source.OutlineOptions.{OutlineOptions}
+use Rattle.cli_names.specs.declared.source.Sorting.{Sorting}
+use Rattle.cli_names.specs.declared.source.Sorting.TheVariants.{ByName, ByRow}
+use Rattle.cli_names.specs.Orders.{Order, run_start}
+use Rattle.cli_names.specs.Shown.{is_shown}
+use Rattle.cli_outline.specs.Outline.{outline_rows}
 
 -- the number of bytes of a key, by the number of rows that are put in order together
 abbrev pub key_limit : ℕ → ℕ
@@ -88,20 +86,3 @@ IsOrder options ByName model order = (table : TableId) → AreGrouped options mo
 -- the rows of the outline, in the order that is asked for
 abbrev pub AreOutlineRows : OutlineOptions → Metadata → List Token → Type 0
 AreOutlineRows options model rows = (order : Order) × IsOrder options options.sorting model order × (rows ≡ outline_rows order model)
-
--- ---- the orders that are known
-
-abbrev pub rows_of : Option TableOrder → List ℕ
-rows_of None = []
-rows_of (Some order) = order.rows.items
-
--- the order that the orders of the first tables make, by their index
-abbrev pub order_in : List TableOrder → Order
-order_in orders table = rows_of (slice_get orders (table_index_of table))
-
--- all of them are rows of the table
-abbrev pub IsRowIn : List ℕ → TableId → ℕ → Type 0
-IsRowIn root table row = (1 ≤ row) × (row ≤ row_count root table)
-
-abbrev pub AreRowsIn : List ℕ → List TableOrder → Type 0
-AreRowsIn root orders = (table : TableId) → All (IsRowIn root table) (order_in orders table)

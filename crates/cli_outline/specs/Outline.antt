@@ -1,29 +1,22 @@
 -- The outline of a model: which rows have a line, and in which order (ECMA-335 II.22).
-use Rattle.std.specs.Prelude.{ℕ, ◌+◌, ◌-◌, nat_le, if◌then◌else◌, List, [], ◌∷◌, ◌++◌, slice_index_or}
+use Rattle.std.specs.Prelude.{ℕ, ◌+◌, ◌-◌, List, [], ◌∷◌, ◌++◌}
 use Rattle.std.specs.List.{flat_map, range_with_len}
 use Rattle.table_schema.specs.declared.table.TableId.{TableId}
 use Rattle.table_schema.specs.declared.table.TableId.TheVariants.{Assembly, AssemblyRef, Module, ModuleRef, File, ManifestResource, ExportedType, TypeDef, InterfaceImpl, GenericParam, GenericParamConstraint, MethodImpl, MethodSemantics, ImplMap, DeclSecurity, CustomAttribute, TypeRef, MemberRef, Param}
 use Rattle.table_schema.specs.declared.token.Token.{Token}
 use Rattle.table_schema.specs.Tokens.{token_at}
-use Rattle.metadata.specs.Cell.{start_in}
-use Rattle.metadata.specs.Metadata.{Metadata, cell_in, count_in}
+use Rattle.metadata.specs.Metadata.{Metadata, count_in}
 use Rattle.metadata.specs.declared.member_lists.MemberList.{MemberList}
 use Rattle.metadata.specs.declared.member_lists.MemberList.TheVariants as list
-use Rattle.metadata.specs.MemberLists.{cell_of, member_of, owner_of}
+use Rattle.metadata.specs.MemberLists.{member_of}
 use Rattle.navigation.specs.declared.links.Link.{Link}
 use Rattle.navigation.specs.declared.links.Link.TheVariants as linked_by
 use Rattle.navigation.specs.Linked.{linked}
+use Rattle.cli_names.specs.Orders.{Order, row_at, run_start}
 
--- the rows of each table in an order; if there are none, the order is that of the rows themselves
-abbrev pub Order : Type 0
-Order = TableId → List ℕ
-
+-- the order of the rows themselves
 abbrev pub by_row : Order
 by_row table = []
-
--- the row at a position of an order; positions begin at one
-abbrev pub row_at : List ℕ → ℕ → ℕ
-row_at rows position = slice_index_or rows (position - 1) position
 
 -- what there is for the row at each position of an order, from one position on and before another
 unfoldable pub each_from : (ℕ → List Token) → List ℕ → ℕ → ℕ → List Token
@@ -36,11 +29,6 @@ row_of table row = token_at table row ∷ []
 -- all rows of a table
 abbrev pub all_rows : Order → Metadata → TableId → List Token
 all_rows order model table = each_from (row_of table) (order table) 1 (count_in model table + 1)
-
--- the first member of an owner; after the last owner, one more than the last member
-abbrev pub run_start : Metadata → MemberList → ℕ → ℕ
-run_start model list row =
-    if nat_le row (count_in model (owner_of list)) then start_in (cell_in model (owner_of list) row (cell_of list)) else count_in model (member_of list) + 1
 
 -- what there is for each member of an owner: its members end before those of the next owner (II.22.37)
 abbrev pub each_member : Order → Metadata → MemberList → (ℕ → List Token) → ℕ → List Token

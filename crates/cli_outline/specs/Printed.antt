@@ -5,9 +5,9 @@ use Rattle.metadata.specs.Metadata.{Metadata}
 use Rattle.full_names.specs.RowNames.{IsMemberOf}
 use Rattle.cli_lines.specs.Lines.{Part}
 use Rattle.cli_lines.specs.Printed.{Printed, Prints}
-use Rattle.cli_outline.specs.declared.source.OutlineOptions.{OutlineOptions}
+use Rattle.cli_names.specs.declared.source.OutlineOptions.{OutlineOptions}
+use Rattle.cli_names.specs.Shown.{shown_rows}
 use Rattle.cli_outline.specs.Declarations.{declaration_line, has_directive}
-use Rattle.cli_outline.specs.Shown.{shown_rows}
 use Rattle.cli_declarations.specs.Layouts.{IsDeclared}
 
 -- the directive of the entry point (II.6.2.3, II.15.4.1.2) follows the declaration of the row that is it

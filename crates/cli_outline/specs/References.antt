@@ -9,8 +9,8 @@ use Rattle.cli_names.specs.declared.subject.Subject.{Subject}
 use Rattle.cli_names.specs.Refs.{BelongsTo, HasSome, IsMeantRef}
 use Rattle.cli_outline.specs.declared.outline.Outcome.{Outcome}
 use Rattle.cli_outline.specs.declared.outline.Outcome.TheVariants.{Printed, NoSuchType, OutOfMemory}
-use Rattle.cli_outline.specs.declared.source.OutlineOptions.{OutlineOptions}
-use Rattle.cli_outline.specs.Subjects.{AreChosenBy}
+use Rattle.cli_names.specs.declared.source.OutlineOptions.{OutlineOptions}
+use Rattle.cli_names.specs.Chosen.{AreChosenBy}
 use Rattle.cli_outline.specs.Outline.{all_rows, by_row}
 use Rattle.cli_outline.specs.Printed.{PrintsRows}
 

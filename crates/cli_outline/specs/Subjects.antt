@@ -1,45 +1,25 @@
 -- What is printed of the type, or of the other row, that is asked for (ECMA-335 II.22). Of a type these are the rows that describe it or what it
 -- declares: parameters with default values, interfaces, generic parameters and their constraints, overrides, imports, permission sets and attributes.
-use Rattle.std.specs.Prelude.{◌≡◌, ◌≢◌, ◌⊎◌, ◌&&◌, ℕ, Bool, true, false, List, [], ◌∷◌, ◌++◌, Option, Some, ⊤}
+use Rattle.std.specs.Prelude.{◌≡◌, ◌≢◌, ◌⊎◌, ◌&&◌, ℕ, Bool, true, false, List, [], ◌∷◌, ◌++◌, ⊤}
 use Rattle.std.specs.List.{flat_map}
 use Rattle.table_schema.specs.declared.table.TableId.TheVariants.{TypeDef}
 use Rattle.table_schema.specs.declared.token.Token.{Token}
 use Rattle.metadata.specs.Metadata.{Metadata}
 use Rattle.navigation.specs.Nesting.{type_token}
-use Rattle.visible_rows.specs.Declaring.{IsDeclaring}
 use Rattle.cli_lines.specs.Printed.{Printed as Printer}
 use Rattle.cli_declarations.specs.Layouts.{is_declared_in}
-use Rattle.cli_names.specs.Refs.{BelongsTo, IsWantedRef}
+use Rattle.cli_names.specs.Chosen.{AreChosenBy, IsChosen, IsDescribing}
+use Rattle.cli_names.specs.Orders.{Order}
+use Rattle.cli_names.specs.Shown.{has_line}
+use Rattle.cli_names.specs.declared.chosen.Choice.{Choice}
+use Rattle.cli_names.specs.declared.source.OutlineOptions.{OutlineOptions}
 use Rattle.cli_names.specs.declared.subject.Subject.{Subject}
 use Rattle.cli_names.specs.Subjects.{IsSubject}
-use Rattle.cli_outline.specs.declared.chosen.Choice.{Choice}
-use Rattle.cli_outline.specs.declared.chosen.Choice.TheVariants as choice
 use Rattle.cli_outline.specs.declared.outline.Outcome.{Outcome}
 use Rattle.cli_outline.specs.declared.outline.Outcome.TheVariants.{Printed, NoSuchType, OutOfMemory}
-use Rattle.cli_outline.specs.declared.source.OutlineOptions.{OutlineOptions}
 use Rattle.cli_outline.specs.Orders.{IsOrder}
-use Rattle.cli_outline.specs.Outline.{Order, all_rows, class_rows, last_tables}
+use Rattle.cli_outline.specs.Outline.{all_rows, class_rows, last_tables}
 use Rattle.cli_outline.specs.Printed.{PrintsRows, PrintsSome}
-use Rattle.cli_outline.specs.Shown.{has_line}
-
--- those of some rows that one property holds of, in the same order; of each of the others the other property holds
-abbrev pub AreChosenBy : (Token → Type 0) → (Token → Type 0) → List Token → List Token → Type 0
-AreChosenBy Yes No [] found = found ≡ []
-AreChosenBy Yes No (row ∷ rows) found =
-    (later : List Token) × AreChosenBy Yes No rows later × ((Yes row × (found ≡ row ∷ later)) ⊎ (No row × (found ≡ later)))
-
--- a row describes a type or what it declares, or it does not
-abbrev pub IsDescribing : Metadata → Token → Bool → Token → Type 0
-IsDescribing model class true row = IsDeclaring model row (Some class)
-IsDescribing model class false row = (declaring : Option Token) × IsDeclaring model row declaring × (declaring ≢ Some class)
-
--- a row is chosen, or it is not; for private clauses
-abbrev pub IsChosen : Metadata → Choice → Bool → Token → Type 0
-IsChosen model choice.All true row = ⊤
-IsChosen model choice.All false row = ⊥
-IsChosen model (choice.Describing class) test row = IsDescribing model class test row
-IsChosen model (choice.Belonging wanted) true row = BelongsTo model (IsWantedRef model wanted.now) row
-IsChosen model (choice.Belonging wanted) false row = ¬ BelongsTo model (IsWantedRef model wanted.now) row
 
 -- the lines of those of some rows that are chosen were printed; for private clauses
 abbrev pub PrintsChosen : {W : Type 0} → OutlineOptions → Metadata → Choice → Printer W → Printer W → List Token → Type 0

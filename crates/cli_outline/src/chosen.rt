@@ -4,43 +4,17 @@ ghost use Rattle.std.specs.List.{flat_map};
 ghost use Rattle.metadata.specs.Metadata.{Metadata};
 ghost use Rattle.metadata.specs.Model.{IsModel};
 ghost use Rattle.opening.specs.Views.{row_count};
-ghost use Rattle.cli_outline.specs.Orders.{order_in};
+ghost use Rattle.cli_names.specs.Orders.{order_in};
 ghost use Rattle.cli_outline.specs.Outline.{all_rows, each_from, row_of};
-ghost use Rattle.cli_outline.specs.Subjects.{IsChosen, PrintsChosen};
+ghost use Rattle.cli_outline.specs.Subjects.{PrintsChosen};
 
 use crate::line::print_row;
-use crate::source::Source;
 use cli_declarations::Declared;
 use cli_lines::Printer;
-use cli_names::{Wanted, belongs};
+use cli_names::{Choice, Source, is_chosen};
 use opening::{TableId, Token};
 use std::io::Write;
 use std::ops::Range;
-use visible_rows::declaring_type;
-
-/// Which rows are printed.
-#[derive(Clone, Copy)]
-pub enum Choice<'w, 'p> {
-    /// All.
-    All,
-    /// Those that describe a type or what it declares.
-    Describing(Token),
-    /// Those that belong to a type of another module that is wanted.
-    Belonging(&'w Wanted<'p>),
-}
-
-/// Whether a row is chosen.
-fn is_chosen(source: &Source<'_, '_>, choice: Choice<'_, '_>, token: Token) -> bool
-    requires first { 1 ≤ token.row }
-    requires last { token.row ≤ row_count source.now.neighbours.view.now token.table }
-    ensures { (model : Metadata) → IsModel source.now.neighbours.view.now model → IsChosen model choice.entry result token }
-{
-    match choice {
-        Choice::All => true,
-        Choice::Describing(class) => declaring_type(&source.neighbours, token) == Some(class),
-        Choice::Belonging(wanted) => belongs(source.neighbours.view, wanted, token),
-    }
-}
 
 /// Prints the lines of the rows at some positions of a table that are chosen.
 pub(crate) fn print_positions<W: Write>(

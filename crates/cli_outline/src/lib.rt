@@ -19,8 +19,6 @@ mod chosen;
 mod line;
 mod orders;
 mod outline;
-mod source;
 
-pub use cli_names::Subject;
+pub use cli_names::{OutlineOptions, Rows, Sorting, Subject, Tokens};
 pub use outline::{Outcome, print_outline, print_outline_of, print_refs, print_refs_of};
-pub use source::{OutlineOptions, Rows, Sorting, Tokens};

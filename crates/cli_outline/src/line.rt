@@ -10,13 +10,13 @@ ghost use Rattle.cli_lines.specs.Shown.{shown};
 ghost use Rattle.cli_outline.specs.Declarations.{declaration_line, directive_part, ends_word, has_directive, json_line, text_line, type_part};
 ghost use Rattle.cli_outline.specs.Outline.{row_of};
 ghost use Rattle.cli_outline.specs.Printed.{IsRowText, PrintsRows};
-ghost use Rattle.cli_outline.specs.declared.source.Tokens.{Tokens as TheTokens};
+ghost use Rattle.cli_names.specs.declared.source.Tokens.{Tokens as TheTokens};
 
-use crate::source::{Source, Tokens};
 use cli_declarations::{Declared, declare};
 use cli_lines::Part::{Member, Note, Word};
 use cli_lines::Value::{self, Plain, Text};
 use cli_lines::{Form, Name, Part, Printer};
+use cli_names::{Source, Tokens};
 use cli_sending::text_as_is;
 use full_names::type_of_member;
 use opening::{TableId, Token, View, number_or_zero};

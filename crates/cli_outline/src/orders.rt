@@ -7,14 +7,14 @@ ghost use Rattle.metadata.specs.declared.member_lists.MemberList.{MemberList as 
 ghost use Rattle.metadata.specs.MemberLists.{member_of};
 ghost use Rattle.opening.specs.Views.{row_count};
 ghost use Rattle.cli_outline.specs.declared.orders.Grouping.TheVariants.{Members};
-ghost use Rattle.cli_outline.specs.declared.source.Sorting.TheVariants.{ByName};
-ghost use Rattle.cli_outline.specs.Orders.{AreGrouped, AreInOrder, AreRowsIn, IsKey, IsKeyed, IsOrder, IsRowIn, grouping_of, key_limit, keyed_cmp, order_in, row_of_keyed};
-ghost use Rattle.cli_outline.specs.Shown.{is_shown};
+ghost use Rattle.cli_names.specs.declared.source.Sorting.TheVariants.{ByName};
+ghost use Rattle.cli_names.specs.Orders.{AreRowsIn, IsRowIn, order_in};
+ghost use Rattle.cli_names.specs.Shown.{is_shown};
+ghost use Rattle.cli_outline.specs.Orders.{AreGrouped, AreInOrder, IsKey, IsKeyed, IsOrder, grouping_of, key_limit, keyed_cmp, row_of_keyed};
 
-use crate::outline::run_of;
-use crate::source::Source;
 use cli_declarations::{Declared, is_declared_in, name_and_declare};
-use opening::{CellCursor, MemberList, TableId, Token};
+use cli_names::{OutlineOptions, Sorting, Source, TableOrder, run_of};
+use opening::{CellCursor, MemberList, TableId, Token, View};
 use std::alloc::{AllocError, Global};
 use std::cmp::Ordering;
 use std::ops::Range;
@@ -32,13 +32,6 @@ pub struct Keyed {
     pub key: Vec<u8>,
     /// The row.
     pub row: u32,
-}
-
-/// The rows of a table, in an order.
-#[derive(Drop)]
-pub struct TableOrder {
-    /// The rows. If there are none, the order is that of the rows.
-    pub rows: Vec<u32>,
 }
 
 /// Which rows of a table are put in order together.
@@ -177,25 +170,12 @@ fn rows_in_order(
     }
 }
 
-/// The rows of a table in the order that is known; none if none is.
-pub(crate) fn rows_of(orders: &[TableOrder], table: TableId) -> &[u32]
-    ensures { result.now ≡ order_in orders.now table }
-{
-    match orders.get(table.table_index()) {
-        Some(order) => &order.rows,
-        None => &[],
-    }
-}
-
 /// The orders of the rows of all tables, by their names.
 ///
 /// # Errors
 ///
 /// Out of memory.
-pub(crate) fn orders_by_name(
-    alloc: Global,
-    source: &Source<'_, '_>,
-) -> Result<Vec<TableOrder>, AllocError>
+fn orders_by_name(alloc: Global, source: &Source<'_, '_>) -> Result<Vec<TableOrder>, AllocError>
     ensures within { IfOk result (λ orders. AreRowsIn source.now.neighbours.view.now orders.items) }
     ensures order { (model : Metadata) → IsModel source.now.neighbours.view.now model → IfOk result (λ orders. IsOrder source.now.options ByName model (order_in orders.items)) }
 {
@@ -207,4 +187,28 @@ pub(crate) fn orders_by_name(
         orders.push(TableOrder { rows })?;
     }
     Ok(orders)
+}
+
+/// What the outline of a view is printed from, in the order that is asked for.
+///
+/// # Errors
+///
+/// Out of memory.
+pub(crate) fn sorted_source<'v, 'a>(
+    alloc: Global,
+    view: &'v View<'a>,
+    options: OutlineOptions,
+) -> Result<Source<'v, 'a>, AllocError>
+    ensures view { IfOk result (λ source. source.neighbours.view.now ≡ view.now) }
+    ensures options { IfOk result (λ source. source.options ≡ options) }
+    ensures order { (model : Metadata) → IsModel view.now model → IfOk result (λ source. IsOrder options options.sorting model (order_in source.orders.items)) }
+{
+    let mut source = Source::new(alloc, view, options)?;
+    match options.sorting {
+        Sorting::ByRow => Ok(source),
+        Sorting::ByName => {
+            source.orders = orders_by_name(alloc, &source)?;
+            Ok(source)
+        }
+    }
 }

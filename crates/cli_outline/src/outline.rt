@@ -4,26 +4,26 @@ ghost use Rattle.table_schema.specs.declared.table.TableId.TheVariants.{TypeDef}
 ghost use Rattle.table_schema.specs.Tokens.{token_at};
 ghost use Rattle.metadata.specs.Metadata.{Metadata, count_in};
 ghost use Rattle.metadata.specs.Model.{IsModel};
-ghost use Rattle.metadata.specs.MemberLists.{member_of, owner_of};
+ghost use Rattle.metadata.specs.MemberLists.{owner_of};
 ghost use Rattle.navigation.specs.Linked.{number_to, table_of};
 ghost use Rattle.opening.specs.Views.{row_count};
-ghost use Rattle.cli_outline.specs.Outline.{accessed_rows, class_rows, each_from, mapped_rows, members, outline_rows, refs_rows, run_start, type_rows};
-ghost use Rattle.cli_outline.specs.Orders.{AreOutlineRows, order_in};
+ghost use Rattle.cli_outline.specs.Outline.{accessed_rows, class_rows, each_from, mapped_rows, members, outline_rows, refs_rows, type_rows};
+ghost use Rattle.cli_names.specs.Orders.{order_in};
+ghost use Rattle.cli_outline.specs.Orders.{AreOutlineRows};
 ghost use Rattle.cli_outline.specs.Printed.{PrintsRows, PrintsSome};
 ghost use Rattle.cli_outline.specs.References.{PrintsRefs};
-ghost use Rattle.cli_outline.specs.Subjects.{AreTypeRows, PrintsNone, PrintsSubject};
+ghost use Rattle.cli_outline.specs.Subjects.{AreTypeRows, PrintsNone, PrintsSubject, is_declared};
 
-use crate::chosen::{Choice, print_chosen, print_positions};
+use crate::chosen::{print_chosen, print_positions};
 use crate::line::print_row;
-use crate::source::{OutlineOptions, Source};
-use cli_declarations::Declared;
+use crate::orders::sorted_source;
+use cli_declarations::{Declared, is_declared_in};
 use cli_lines::Printer;
-use cli_names::{Subject, finds, found_row, wanted_types};
+use cli_names::{Choice, OutlineOptions, Source, Subject, finds, found_row, run_of, wanted_types};
 use navigation::Link;
 use opening::{CellCursor, MemberList, TableId, Token, View};
 use std::alloc::Global;
 use std::io::Write;
-use std::ops::Range;
 
 /// The tables whose rows come before the types, in the order of the lines.
 const FIRST_TABLES: &[TableId] = &[
@@ -60,23 +60,6 @@ pub enum Outcome {
     NoSuchType,
     /// Memory ran out before the row was found. Nothing is printed.
     OutOfMemory,
-}
-
-/// The members of an owner.
-pub(crate) fn run_of(cells: &mut CellCursor<'_, '_>, list: MemberList, row: u32) -> Range<u32>
-    requires first { 1 ≤ row }
-    requires last { row ≤ row_count cells.old (owner_of list) }
-    ensures same { cells.new ≡ cells.old }
-    ensures first { 1 ≤ result.start }
-    ensures last { result.«end» ≤ row_count cells.old (member_of list) + 1 }
-    ensures begin { (model : Metadata) → IsModel cells.old model → result.start ≡ run_start model list row }
-    ensures past { (model : Metadata) → IsModel cells.old model → result.«end» ≡ run_start model list (row + 1) }
-{
-    metadata::laws::models_are_read();
-    metadata::laws::models_of_roots_are_valid();
-    // The root of a view has a model.
-    let _view = cells.view();
-    cells.run(list, row)
 }
 
 /// Prints the lines of a type's members of one kind.
@@ -254,7 +237,7 @@ pub fn print_outline<W: Write>(
 )
     ensures { (model : Metadata) → IsModel view.now model → PrintsSome options model (AreOutlineRows options model) out.old out.new }
 {
-    match Source::sorted(alloc, view, options) {
+    match sorted_source(alloc, view, options) {
         Ok(source) => print_all(&source, &mut Declared::new(alloc), out),
         Err(_) => out.fail(),
     }
@@ -327,7 +310,7 @@ fn print_type<W: Write>(
     ensures { (model : Metadata) → IsModel view.now model → PrintsSome options model (AreTypeRows options model row) out.old out.new }
 {
     cli_lines::laws::lines_follow::<W>();
-    match Source::sorted(alloc, view, options) {
+    match sorted_source(alloc, view, options) {
         Ok(source) => {
             let mut cells = CellCursor::new(source.neighbours.view);
             let mut declared = Declared::new(alloc);
@@ -338,6 +321,14 @@ fn print_type<W: Write>(
         }
         Err(_) => out.fail(),
     }
+}
+
+/// Whether a row has a declaration of its own.
+fn declares(source: &Source<'_, '_>, token: Token) -> bool
+    requires { token.row ≤ row_count source.now.neighbours.view.now token.table }
+    ensures { (model : Metadata) → IsModel source.now.neighbours.view.now model → result ≡ is_declared model token }
+{
+    is_declared_in(token.table) && source.has_line(token)
 }
 
 /// Prints the outline of one type of a view: the line of the type, and below it those of its fields, methods, events and
@@ -366,7 +357,7 @@ pub fn print_outline_of<W: Write>(
     let Ok(source) = Source::new(alloc, view, options) else {
         return Outcome::OutOfMemory;
     };
-    if !source.declares(token) {
+    if !declares(&source, token) {
         return Outcome::NoSuchType;
     }
     print_row(&source, token, &mut Declared::new(alloc), out);

@@ -15,7 +15,7 @@ pub use Rattle.cli_files.specs.declared.opened.Input.TheVariants.{BareRoot, File
 pub use Rattle.cli_lines.specs.Lines.{Part, Style, report_text, style}
 unfoldable pub use Rattle.cli_lines.specs.Lines.{styled_text}
 pub use Rattle.cli_lines.specs.Printed.{Printed, Prints, Asked}
-pub use Rattle.cli_outline.specs.declared.source.OutlineOptions.{OutlineOptions}
+pub use Rattle.cli_names.specs.declared.source.OutlineOptions.{OutlineOptions}
 pub use Rattle.cli_regions.specs.Kept.{seen}
 pub use Rattle.cli_runs.specs.Printing.{HasPrinted, UnlessFailed}
 pub use Rattle.cli_runs.specs.Reports.{AreDeclared, AreSomeDeclared, IsListed, OfModel, AreNamed, HasEnded, IsFaultOut, IsPrinted, IsStopped, entered, everything, lead_of, style_of}

@@ -36,14 +36,14 @@ use Rattle.cli_outline.specs.Orders.{AreOutlineRows}
 use Rattle.cli_outline.specs.Outline.{refs_rows}
 use Rattle.cli_outline.specs.Printed.{AreLines}
 use Rattle.cli_outline.specs.References.{AreRefsOf}
-use Rattle.cli_outline.specs.Shown.{shown_rows}
+use Rattle.cli_names.specs.Shown.{shown_rows}
 use Rattle.cli_outline.specs.Subjects.{AreSubjectRows, is_declared}
 use Rattle.cli_names.specs.Refs.{HasSome, IsMeantRef}
 use Rattle.cli_names.specs.Subjects.{IsSubject}
-use Rattle.cli_outline.specs.declared.source.OutlineOptions.{OutlineOptions}
-use Rattle.cli_outline.specs.declared.source.Rows.TheVariants as rows_of
-use Rattle.cli_outline.specs.declared.source.Sorting.TheVariants.{ByRow}
-use Rattle.cli_outline.specs.declared.source.Tokens.TheVariants.{Shown}
+use Rattle.cli_names.specs.declared.source.OutlineOptions.{OutlineOptions}
+use Rattle.cli_names.specs.declared.source.Rows.TheVariants as rows_of
+use Rattle.cli_names.specs.declared.source.Sorting.TheVariants.{ByRow}
+use Rattle.cli_names.specs.declared.source.Tokens.TheVariants.{Shown}
 use Rattle.cli_print.specs.DigestLines.{digest_line}
 use Rattle.cli_print.specs.Explanations.{IsExplanation}
 use Rattle.cli_print.specs.ReadableLines.{AreReadable}

@@ -6,7 +6,6 @@ ghost use Rattle.heap_entries.specs.UserView.{units_in};
 ghost use Rattle.cli_values.specs.Constants.{string_text, unit_text};
 
 use crate::bytes::{cut_mark, printed};
-use packed::u16_at;
 use std::alloc::AllocError;
 use std::fmt::Write;
 
@@ -43,8 +42,10 @@ fn push_unit(unit: u16, text: &mut String) -> Result<(), AllocError>
 fn push_units(bytes: &[u8], text: &mut String) -> Result<(), AllocError>
     ensures { OnOk result (string_bytes text.new ≡ string_bytes text.old ++ flat_map unit_text (units_in bytes.now)) }
 {
-    for index in 0..bytes.len() / 2 {
-        push_unit(u16_at(bytes, 2 * index), text)?;
+    let mut left = bytes;
+    while let [low, high, later @ ..] = left {
+        push_unit(*low as u16 + 0x100 * *high as u16, text)?;
+        left = later;
     }
     Ok(())
 }

@@ -1,8 +1,8 @@
 -- The equality test of two cells is true if and only if they are equal, and what it says of values in place.
 use Rattle.comparison.proofs.Prelude.{◌≡◌, ◌↔◌, ℕ, Bool, IsTrue, List, Some, None, Result, refl, ap, ap₂, sym, subst, ◌∙◌, Cell, Number, Text, Bytes, Guid, Ref, Start, Sig, same_from_decides, IfOk, IfOk-weaker, Decides, Decides-like, Decides-eqb, bytes_eq-Decides, Token, Body, Encodes, SigKind, ColumnKind, Shows, ShowsSignature, CellRef, AreSignatures, is_same_cell}
 use Rattle.std.specs.Borrow.{Bor}
-use Rattle.sig_comparison.specs.Same.{is_same_body}
-use Rattle.sig_comparison.proofs.SameLemmas.{denied, token_decides}
+use Rattle.sig_encoder.specs.Same.{is_same_body}
+use Rattle.sig_encoder.proofs.SameLemmas.{denied, token_decides}
 use Rattle.table_schema.specs.declared.column.ColumnKind.TheVariants as column_kind
 use Rattle.reading.specs.declared.cell_ref.CellRef.TheVariants as seen
 use Rattle.reading.specs.contracts.cell_ref.CellRefPartialEq.TheImpl as values

@@ -3,7 +3,7 @@ use Rattle.std.specs.Prelude.{◌==◌, Bool, false}
 use Rattle.std.specs.Option.{option_eq}
 use Rattle.std.specs.Str.{bytes_eq}
 use Rattle.table_schema.specs.contracts.token.TokenPartialEq.TheImpl as tokens
-use Rattle.sig_comparison.specs.Same.{is_same_body}
+use Rattle.sig_encoder.specs.Same.{is_same_body}
 use Rattle.reading.specs.declared.cell_ref.CellRef.{CellRef}
 use Rattle.reading.specs.declared.cell_ref.CellRef.TheVariants as seen
 use Rattle.metadata.specs.Cell.{Cell, Number, Text, Bytes, Guid, Ref, Start, Sig}

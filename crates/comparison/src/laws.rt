@@ -16,7 +16,7 @@ ghost use Rattle.comparison.specs.SameCells.{is_same_cell};
 pub fn cells_are_tested()
     ensures { (first second : Cell) → IsTrue (is_same_cell first second) ↔ (first ≡ second) }
 {
-    sig_comparison::laws::equality_is_tested();
+    sig_encoder::laws::equality_is_tested();
 }
 
 /// Two valid models are equal but for the cells of ignored columns if and only if nothing else differs. It is enough to

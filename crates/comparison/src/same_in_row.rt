@@ -81,7 +81,7 @@ fn same_cell(
     ensures { (first second : Cell) → Shows kind left.entry first → Shows kind right.entry second
         → IfOk result (λ same. same ≡ is_same_cell first second) }
 {
-    sig_comparison::laws::equality_is_tested();
+    sig_encoder::laws::equality_is_tested();
     let Some((left_blob, right_blob)) = blobs_of(left, right) else {
         return Ok(left == right);
     };

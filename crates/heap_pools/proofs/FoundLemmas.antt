@@ -1,11 +1,15 @@
 -- A pooled value is found again at its index in the heap.
-use Rattle.std.proofs.Common.{◌≡◌, ℕ, zero, suc, ◌+◌, ◌-◌, ◌*◌, ◌^◌, ◌<◌, ◌≤◌, true, false, not, ◌&&◌, ◌||◌, cond, true≢false, List, [], ◌∷◌, ◌++◌, length, flat_map, All, Contains, IsUtf8, Some, refl, sym, ap, subst, ◌∙◌, ◌⊎◌, inl, inr, ⊎_elim, arith, length-append, append_assoc, nat_lt}
-use Rattle.heap_pools.proofs.Prelude.{list_any, position_or_len, bytes_eq, same_text, and_parts, cases_Bool, cases_lt, false≢true, not-false, not-true, nat_tests, nat_list_eq_equiv, All-head, All-tail, is_among, distinct, ends_with, HasNoNul, IsText, IsBlob, IsGuid, ended, is_holder, holders, text_from, text_heap, text_index}
+use Rattle.std.proofs.Common.{◌≡◌, ℕ, zero, suc, ◌+◌, ◌*◌, ◌^◌, ◌<◌, ◌≤◌, true, false, not, ◌&&◌, true≢false, List, [], ◌∷◌, ◌++◌, length, flat_map, All, Contains, IsUtf8, Some, refl, sym, ap, subst, ◌∙◌, ◌⊎◌, inl, inr, ⊎_elim, arith, length-append, append_assoc, nat_lt}
+use Rattle.std.proofs.lemmas.List.Concat.{flat_map-append}
+use Rattle.heap_pools.proofs.Prelude.{list_any, position_or_len, bytes_eq, same_text, and_parts, cases_Bool, cases_lt, not-false, not-true, nat_tests, nat_list_eq_equiv, All-head, All-tail, All-take, take, take_at, is_among, distinct, ends_with, HasNoNul, IsText, IsBlob, IsGuid, ended, is_holder, holders, text_from, text_heap, text_index}
 use Rattle.packed.specs.Packed.{IsPacked, short_unsigned}
 use Rattle.heap_pools.specs.BlobHeap.{counted, blob_heap, blob_from, blob_index}
 use Rattle.heap_pools.specs.GuidHeap.{guid_heap, guid_index}
 use Rattle.heap_pools.proofs.EndingLemmas.{ends_parts, ends_from}
-use Rattle.heap_pools.proofs.MemberLemmas.{IsIn, in_any, any_in, in_filter, in_distinct, among_in, in_from_contains}
+use Rattle.heap_pools.proofs.GrowLemmas.{blob_from-entry, position-entry}
+use Rattle.heap_pools.proofs.HeapLemmas.{entry_parts, heap_is}
+use Rattle.heap_pools.proofs.MemberLemmas.{IsIn, in_any, any_in, first_of, in_filter, in_distinct, among_in, in_from_contains}
+use Rattle.heap_pools.proofs.PlanLemmas.{text_from-entry}
 use Rattle.heap_pools.proofs.RunLemmas.{ends_trans}
 
 -- texts
@@ -60,53 +64,25 @@ held used text h some =
     let long : 0 < length found.holder = omega (arith, ap length parts.1, length-append parts.0 text) in
     in_any (λ entry. ends_with entry text) found.holder (holders used) (in_filter (is_holder used) found.holder (distinct used) (in_distinct used found.holder found.within long) found.is) found.ends
 
--- a text is the ending of the first entry that ends with it
-record IsFirstText (at : ℕ) (entries : List (List ℕ)) (text : List ℕ) : Type 0 where
-  before : List ℕ
-  after : List ℕ
-  whole : ended entries ≡ before ++ (text ++ 0 ∷ after)
-  index : text_from at entries text ≡ at + length before
-
-first_text : (at : ℕ) (entries : List (List ℕ)) (text : List ℕ) → list_any (λ entry. ends_with entry text) entries ≡ true → IsFirstText at entries text
-first_text at [] text h = absurd (false≢true h)
-first_text at (entry ∷ entries) text h = ⊎_elim
-    (λ (e : ends_with entry text ≡ true).
-    let parts = ends_parts entry text e in
-    let long : length entry ≡ length parts.0 + length text = ap length parts.1 ∙ length-append parts.0 text in
-    record {
-      before = parts.0;
-      after = ended entries;
-      whole = ap (λ (l : List ℕ). l ++ 0 ∷ ended entries) parts.1 ∙ append_assoc parts.0 text (0 ∷ ended entries);
-      index = ap (λ b. cond b (at + length entry - length text) (text_from (at + length entry + 1) entries text)) e ∙ omega arith;
-    })
-    (λ (e : ends_with entry text ≡ false).
-    let next = first_text (at + length entry + 1) entries text (sym (ap (λ b. b || list_any (λ other. ends_with other text) entries) e) ∙ h) in
-    let long = length-append entry (0 ∷ next.before) in
-    record {
-      before = entry ++ 0 ∷ next.before;
-      after = next.after;
-      whole = ap (λ (l : List ℕ). entry ++ 0 ∷ l) next.whole ∙ sym (append_assoc entry (0 ∷ next.before) (text ++ 0 ∷ next.after));
-      index = ap (λ b. cond b (at + length entry - length text) (text_from (at + length entry + 1) entries text)) e ∙ next.index ∙ omega arith;
-    })
-    (cases_Bool (ends_with entry text))
-
-text_heap_is : (entries : List (List ℕ)) (text : List ℕ) → list_any (λ entry. ends_with entry text) entries ≡ true → text_heap entries ≡ 0 ∷ ended entries
-text_heap_is [] text h = absurd (false≢true h)
-text_heap_is (entry ∷ entries) text h = refl
+-- bytes in a heap stay where they are before a tail
+with_tail : (before middle after tail : List ℕ) → (before ++ (middle ++ after)) ++ tail ≡ before ++ (middle ++ (after ++ tail))
+with_tail before middle after tail = append_assoc before (middle ++ after) tail ∙ ap (λ (l : List ℕ). before ++ l) (append_assoc middle after tail)
 
 pub text_found : (used : List (List ℕ)) (text tail : List ℕ) → Contains used text → HasNoNul text → IsUtf8 text → IsText (text_heap (holders used) ++ tail) (text_index (holders used) text) text
 text_found used [] tail h no_nul utf8 = inl (refl, refl)
 text_found used (byte ∷ bytes) tail h no_nul utf8 =
     let text = byte ∷ bytes in
-    let some = held used text (in_from_contains used text h) (omega arith) in
-    let first = first_text 1 (holders used) text some in
-    let index = first.index in
+    let f = first_of (λ entry. ends_with entry text) (holders used) (held used text (in_from_contains used text h) (omega arith)) in
+    let parts = ends_parts f.found text f.passes in
+    let index = ap (λ l. text_from 1 l text) f.whole ∙ text_from-entry 1 f.before f.found f.after text f.none f.passes in
+    let long = ap length parts.1 ∙ length-append parts.0 text in
+    let both = length-append (0 ∷ ended f.before) parts.0 in
     inr (
       omega arith,
       record {
-        before = 0 ∷ first.before;
-        after = first.after ++ tail;
-        whole = ap (λ (l : List ℕ). l ++ tail) (text_heap_is (holders used) text some ∙ ap (λ (l : List ℕ). 0 ∷ l) first.whole) ∙ simp append_assoc;
+        before = (0 ∷ ended f.before) ++ parts.0;
+        after = ended f.after ++ tail;
+        whole = ap (λ (l : List ℕ). l ++ tail) (ap text_heap f.whole ∙ heap_is f.before f.found f.after ∙ entry_parts f.before f.found f.after parts.0 text parts.1) ∙ with_tail ((0 ∷ ended f.before) ++ parts.0) text (0 ∷ ended f.after) tail;
         at = omega arith;
         no_nul = no_nul;
       },
@@ -124,37 +100,9 @@ short_packed n limit = ⊎_elim
     (cases_lt n (2 ^ 14)))
     (cases_lt n (2 ^ 7))
 
-record IsFirstBlob (at : ℕ) (entries : List (List ℕ)) (blob : List ℕ) : Type 0 where
-  before : List ℕ
-  after : List ℕ
-  whole : flat_map counted entries ≡ before ++ (counted blob ++ after)
-  index : blob_from at entries blob ≡ at + length before
-
-first_blob : (at : ℕ) (entries : List (List ℕ)) (blob : List ℕ) → is_among entries blob ≡ true → IsFirstBlob at entries blob
-first_blob at [] blob h = absurd (false≢true h)
-first_blob at (entry ∷ entries) blob h = ⊎_elim
-    (λ (e : bytes_eq blob entry ≡ true).
-    let same = same_text blob entry (sym e) in
-    record {
-      before = [];
-      after = flat_map counted entries;
-      whole = ap (λ (l : List ℕ). counted l ++ flat_map counted entries) (sym same);
-      index = ap (λ b. cond b at (blob_from (at + length (counted entry)) entries blob)) e ∙ omega arith;
-    })
-    (λ (e : bytes_eq blob entry ≡ false).
-    let next = first_blob (at + length (counted entry)) entries blob (sym (ap (λ b. b || is_among entries blob) e) ∙ h) in
-    let long = length-append (counted entry) next.before in
-    record {
-      before = counted entry ++ next.before;
-      after = next.after;
-      whole = ap (λ (l : List ℕ). counted entry ++ l) next.whole ∙ sym (append_assoc (counted entry) next.before (counted blob ++ next.after));
-      index = ap (λ b. cond b at (blob_from (at + length (counted entry)) entries blob)) e ∙ next.index ∙ omega arith;
-    })
-    (cases_Bool (bytes_eq blob entry))
-
-blob_heap_is : (entries : List (List ℕ)) (blob : List ℕ) → is_among entries blob ≡ true → blob_heap entries ≡ 0 ∷ flat_map counted entries
-blob_heap_is [] blob h = absurd (false≢true h)
-blob_heap_is (entry ∷ entries) blob h = refl
+blob_heap_is : (before : List (List ℕ)) (entry : List ℕ) (after : List (List ℕ)) → blob_heap (before ++ entry ∷ after) ≡ (0 ∷ flat_map counted before) ++ (counted entry ++ flat_map counted after)
+blob_heap_is [] entry after = refl
+blob_heap_is (first ∷ before) entry after = ap (λ (l : List ℕ). 0 ∷ l) (flat_map-append counted (first ∷ before) (entry ∷ after))
 
 pub blob_found : (entries : List (List ℕ)) (blob tail : List ℕ) → (blob ≡ []) ⊎ Contains entries blob → length blob < 2 ^ 29 → IsBlob (blob_heap entries ++ tail) (blob_index entries blob) blob
 unfolding counted
@@ -162,15 +110,19 @@ blob_found entries [] tail h short = inl (refl, refl)
 blob_found entries (byte ∷ bytes) tail h short =
     let blob = byte ∷ bytes in
     let there : is_among entries blob ≡ true = ⊎_elim (λ (none : blob ≡ []). cc) (λ (is : Contains entries blob). among_in entries blob (in_from_contains entries blob is)) h in
-    let first = first_blob 1 entries blob there in
-    let index = first.index in
+    let f = first_of (bytes_eq blob) entries there in
+    let index = ap (λ l. blob_from 1 l blob) f.whole ∙ blob_from-entry 1 f.before f.found f.after blob f.none f.passes in
+    let before = 0 ∷ flat_map counted f.before in
+    let rest = flat_map counted f.after in
     inr (
       omega arith,
       record {
-        before = 0 ∷ first.before;
+        before = before;
         count = short_unsigned (length blob);
-        after = first.after ++ tail;
-        whole = ap (λ (l : List ℕ). l ++ tail) (blob_heap_is entries blob there ∙ ap (λ (l : List ℕ). 0 ∷ l) first.whole) ∙ simp append_assoc;
+        after = rest ++ tail;
+        whole = ap (λ (l : List ℕ). l ++ tail) (ap blob_heap f.whole ∙ blob_heap_is f.before f.found f.after
+            ∙ ap (λ (l : List ℕ). before ++ (counted l ++ rest)) (sym (same_text blob f.found (sym f.passes)))) ∙ with_tail before (counted blob) rest tail
+            ∙ ap (λ (l : List ℕ). before ++ l) (append_assoc (short_unsigned (length blob)) blob (rest ++ tail));
         at = omega arith;
         counts = short_packed (length blob) short;
       },
@@ -178,48 +130,25 @@ blob_found entries (byte ∷ bytes) tail h short =
 
 -- GUIDs
 
-record IsFirstGuid (entries : List (List ℕ)) (guid : List ℕ) : Type 0 where
-  before : List ℕ
-  after : List ℕ
-  whole : guid_heap entries ≡ before ++ (guid ++ after)
-  long : length before ≡ 16 * position_or_len (bytes_eq guid) entries
-
-first_guid : (entries : List (List ℕ)) (guid : List ℕ) → is_among entries guid ≡ true → All (λ g. length g ≡ 16) entries → IsFirstGuid entries guid
-first_guid [] guid h sixteen = absurd (false≢true h)
-first_guid (entry ∷ entries) guid h sixteen = ⊎_elim
-    (λ (e : bytes_eq guid entry ≡ true).
-    let same = same_text guid entry (sym e) in
-    record {
-      before = [];
-      after = guid_heap entries;
-      whole = ap (λ (g : List ℕ). g ++ guid_heap entries) (sym same);
-      long = ap (λ b. 16 * cond (not b) (1 + position_or_len (bytes_eq guid) entries) 0) (sym e);
-    })
-    (λ (e : bytes_eq guid entry ≡ false).
-    let next = first_guid entries guid (sym (ap (λ b. b || is_among entries guid) e) ∙ h) (All-tail (λ g. length g ≡ 16) entry entries sixteen) in
-    let here = All-head (λ g. length g ≡ 16) entry entries sixteen in
-    let both = length-append entry next.before in
-    let behind = next.long in
-    let later : position_or_len (bytes_eq guid) (entry ∷ entries) ≡ 1 + position_or_len (bytes_eq guid) entries =
-    ap (λ b. cond (not b) (1 + position_or_len (bytes_eq guid) entries) 0) e in
-    record {
-      before = entry ++ next.before;
-      after = next.after;
-      whole = ap (λ (l : List ℕ). entry ++ l) next.whole ∙ sym (append_assoc entry next.before (guid ++ next.after));
-      long = omega arith;
-    })
-    (cases_Bool (bytes_eq guid entry))
+-- the length of a heap of GUIDs
+pub length-guid_heap : (guids : List (List ℕ)) → All (λ guid. length guid ≡ 16) guids → length (guid_heap guids) ≡ 16 * length guids
+length-guid_heap [] h = refl
+length-guid_heap (guid ∷ guids) h =
+    let tail = length-guid_heap guids (All-tail (λ g. length g ≡ 16) guid guids h) in
+    omega (arith, tail, All-head (λ g. length g ≡ 16) guid guids h, length-append guid (guid_heap guids))
 
 pub guid_found : (entries : List (List ℕ)) (guid tail : List ℕ) → Contains entries guid → All (λ g. length g ≡ 16) entries → IsGuid (guid_heap entries ++ tail) (guid_index entries (Some guid)) (Some guid)
 guid_found entries guid tail h sixteen =
-    let there = among_in entries guid (in_from_contains entries guid h) in
-    let first = first_guid entries guid there sixteen in
-    let at = first.long in (
+    let f = first_of (bytes_eq guid) entries (among_in entries guid (in_from_contains entries guid h)) in
+    let index = ap (position_or_len (bytes_eq guid)) f.whole ∙ position-entry f.before f.found f.after guid f.none f.passes in
+    let long = length-guid_heap f.before (subst (All (λ g. length g ≡ 16)) (ap (take (length f.before)) f.whole ∙ take_at f.before (f.found ∷ f.after) (length f.before) refl)
+    (All-take (λ g. length g ≡ 16) (length f.before) entries sixteen)) in (
       omega arith,
       record {
-        before = first.before;
-        after = first.after ++ tail;
-        whole = ap (λ (l : List ℕ). l ++ tail) first.whole ∙ simp append_assoc;
+        before = guid_heap f.before;
+        after = guid_heap f.after ++ tail;
+        whole = ap (λ (l : List ℕ). l ++ tail) (ap guid_heap f.whole ∙ flat_map-append (λ (g : List ℕ). g) f.before (f.found ∷ f.after)
+            ∙ ap (λ (l : List ℕ). guid_heap f.before ++ (l ++ guid_heap f.after)) (sym (same_text guid f.found (sym f.passes)))) ∙ simp append_assoc;
         at = omega arith;
         long = subst (λ (g : List ℕ). length g ≡ 16) h.2 (sixteen h.0 guid h.1);
       },

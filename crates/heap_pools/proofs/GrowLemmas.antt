@@ -1,11 +1,11 @@
 -- Growing pools: entries stay, and so do their offsets.
-use Rattle.std.proofs.Common.{◌≡◌, ℕ, ◌+◌, ◌≤◌, Bool, true, false, ◌||◌, cond, List, [], ◌∷◌, ◌++◌, length, flat_map, Contains, Option, Some, None, ◌⊎◌, inl, inr, refl, sym, ap, ◌∙◌, ⊎_elim, arith, append_assoc, length-append}
-use Rattle.heap_pools.proofs.Prelude.{position_or_len, bytes_eq, cases_Bool, false≢true, append-nil, is_among, first_uses, distinct, pooled}
+use Rattle.std.proofs.Common.{◌≡◌, ℕ, ◌+◌, ◌≤◌, Bool, true, false, cond, List, [], ◌∷◌, ◌++◌, length, flat_map, Contains, Some, ◌⊎◌, inl, inr, refl, sym, ap, ◌∙◌, arith, append_assoc, length-append}
+use Rattle.heap_pools.proofs.Prelude.{position_or_len, bytes_eq, or_parts, append-nil, is_among, first_uses, distinct, pooled}
 use Rattle.std.proofs.lemmas.List.Concat.{flat_map-append}
 use Rattle.heap_pools.specs.BlobHeap.{blob_from, blob_heap, blob_index, counted}
-use Rattle.heap_pools.specs.GuidHeap.{given, guid_heap, guid_index, pooled_guid}
+use Rattle.heap_pools.specs.GuidHeap.{guid_heap, guid_index}
 use Rattle.heap_pools.proofs.DistinctLemmas.{pooled_there}
-use Rattle.heap_pools.proofs.MemberLemmas.{among_in, in_distinct, in_from_contains, distinct-push}
+use Rattle.heap_pools.proofs.MemberLemmas.{among_in, first_of, in_distinct, in_from_contains}
 
 -- the first uses of more values are appended
 first_uses-append : (before used more : List (List ℕ)) → first_uses before (used ++ more) ≡ first_uses before used ++ first_uses (before ++ used) more
@@ -29,37 +29,38 @@ pooled_again used (byte ∷ bytes) there =
     let value = byte ∷ bytes in
     pooled_there (distinct used) value (among_in (distinct used) value (in_distinct used value (in_from_contains used value there) (omega arith)))
 
-pub distinct_given : (used : List (List ℕ)) (guid : Option (List ℕ)) → distinct (used ++ given guid) ≡ pooled_guid (distinct used) guid
-distinct_given used None = ap distinct (append-nil used)
-distinct_given used (Some guid) = distinct-push used guid
+-- the index of an entry depends only on the entries before it
+pub blob_from-entry : (at : ℕ) (before : List (List ℕ)) (entry : List ℕ) (after : List (List ℕ)) (blob : List ℕ) → is_among before blob ≡ false → bytes_eq blob entry ≡ true → blob_from at (before ++ entry ∷ after) blob ≡ at + length (flat_map counted before)
+blob_from-entry at [] entry after blob none is = rw is (omega arith)
+blob_from-entry at (first ∷ before) entry after blob none is =
+    let apart = or_parts (bytes_eq blob first) (is_among before blob) none in
+    rw apart.0 (blob_from-entry (at + length (counted first)) before entry after blob apart.1 is ∙ omega (arith, length-append (counted first) (flat_map counted before)))
 
--- the offset of an entry does not depend on later entries
-blob_from-append : (at : ℕ) (entries more : List (List ℕ)) (blob : List ℕ) → is_among entries blob ≡ true → blob_from at (entries ++ more) blob ≡ blob_from at entries blob
-blob_from-append at [] more blob there = absurd (false≢true there)
-blob_from-append at (entry ∷ entries) more blob there = ⊎_elim
-    (λ (e : bytes_eq blob entry ≡ true). rw e refl)
-    (λ (e : bytes_eq blob entry ≡ false).
-    let tail = blob_from-append (at + length (counted entry)) entries more blob (sym (ap (λ b. b || is_among entries blob) e) ∙ there) in
-    rw e tail)
-    (cases_Bool (bytes_eq blob entry))
+pub position-entry : (before : List (List ℕ)) (entry : List ℕ) (after : List (List ℕ)) (guid : List ℕ) → is_among before guid ≡ false → bytes_eq guid entry ≡ true → position_or_len (bytes_eq guid) (before ++ entry ∷ after) ≡ length before
+position-entry [] entry after guid none is = rw is refl
+position-entry (first ∷ before) entry after guid none is =
+    let apart = or_parts (bytes_eq guid first) (is_among before guid) none in
+    rw apart.0 (ap (λ n. 1 + n) (position-entry before entry after guid apart.1 is) ∙ omega arith)
+
+-- so it stays
+entry_stays : (index position : List (List ℕ) → ℕ) (value : List ℕ)
+    → ((before : List (List ℕ)) (entry : List ℕ) (after : List (List ℕ)) → is_among before value ≡ false → bytes_eq value entry ≡ true → index (before ++ entry ∷ after) ≡ position before)
+    → (entries more : List (List ℕ)) → Contains entries value → index (entries ++ more) ≡ index entries
+entry_stays index position value at entries more there =
+    let f = first_of (bytes_eq value) entries (among_in entries value (in_from_contains entries value there)) in
+    ap index (ap (λ (l : List (List ℕ)). l ++ more) f.whole ∙ append_assoc f.before (f.found ∷ f.after) more) ∙ at f.before f.found (f.after ++ more) f.none f.passes
+    ∙ sym (ap index f.whole ∙ at f.before f.found f.after f.none f.passes)
 
 pub blob_index-append : (entries more : List (List ℕ)) (blob : List ℕ) → (blob ≡ []) ⊎ Contains entries blob → blob_index (entries ++ more) blob ≡ blob_index entries blob
 blob_index-append entries more [] there = refl
 blob_index-append entries more (byte ∷ bytes) (inl none) = cc
 blob_index-append entries more (byte ∷ bytes) (inr there) =
-    blob_from-append 1 entries more (byte ∷ bytes) (among_in entries (byte ∷ bytes) (in_from_contains entries (byte ∷ bytes) there))
-
-position-append : (entries more : List (List ℕ)) (guid : List ℕ) → is_among entries guid ≡ true → position_or_len (bytes_eq guid) (entries ++ more) ≡ position_or_len (bytes_eq guid) entries
-position-append [] more guid there = absurd (false≢true there)
-position-append (entry ∷ entries) more guid there = ⊎_elim
-    (λ (e : bytes_eq guid entry ≡ true). rw e refl)
-    (λ (e : bytes_eq guid entry ≡ false).
-    let tail = position-append entries more guid (sym (ap (λ b. b || is_among entries guid) e) ∙ there) in
-    rw e (ap (λ n. 1 + n) tail))
-    (cases_Bool (bytes_eq guid entry))
+    let blob = byte ∷ bytes in
+    entry_stays (λ l. blob_from 1 l blob) (λ before. 1 + length (flat_map counted before)) blob (λ before entry after. blob_from-entry 1 before entry after blob) entries more there
 
 pub guid_index-append : (entries more : List (List ℕ)) (guid : List ℕ) → Contains entries guid → guid_index (entries ++ more) (Some guid) ≡ guid_index entries (Some guid)
-guid_index-append entries more guid there = ap (λ n. n + 1) (position-append entries more guid (among_in entries guid (in_from_contains entries guid there)))
+guid_index-append entries more guid there =
+    ap (λ n. n + 1) (entry_stays (position_or_len (bytes_eq guid)) (λ before. length before) guid (λ before entry after. position-entry before entry after guid) entries more there)
 
 -- heaps with more entries
 blob_heap-longer : (entries more : List (List ℕ)) → length (blob_heap entries) ≤ length (blob_heap (entries ++ more))

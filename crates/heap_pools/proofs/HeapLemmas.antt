@@ -26,10 +26,10 @@ flagged_no (t ∷ ts) (false ∷ fs) zero h k e = refl
 flagged_no (t ∷ ts) (true ∷ fs) (suc p) h k e = ap (λ l. t ∷ l) (flagged_no ts fs p (omega arith) (omega arith) e)
 flagged_no (t ∷ ts) (false ∷ fs) (suc p) h k e = flagged_no ts fs p (omega arith) (omega arith) e
 
--- a heap with one more entry; and where that entry begins
-pub heap_push : (es : List (List ℕ)) (t : List ℕ) → text_heap (es ++ t ∷ []) ≡ 0 ∷ ended (es ++ t ∷ [])
-heap_push [] t = refl
-heap_push (e ∷ es) t = refl
+-- a heap that has an entry; and where the next one begins
+pub heap_is : (before : List (List ℕ)) (entry : List ℕ) (after : List (List ℕ)) → text_heap (before ++ entry ∷ after) ≡ 0 ∷ ended (before ++ entry ∷ after)
+heap_is [] entry after = refl
+heap_is (first ∷ before) entry after = refl
 
 pub heap_begun : (es : List (List ℕ)) → max (length (text_heap es)) 1 ≡ 1 + length (ended es)
 heap_begun [] = omega arith
@@ -44,7 +44,7 @@ heap_none [] h = refl
 heap_none (e ∷ es) h = absurd (omega arith)
 
 pub length_push : (es : List (List ℕ)) (t : List ℕ) → length (text_heap (es ++ t ∷ [])) ≡ max (length (text_heap es)) 1 + length t + 1
-length_push es t = ap length (heap_push es t ∙ ap (λ l. 0 ∷ l) (ended_push es t)) ∙ omega (arith, heap_begun es, length-append (ended es ++ t) (0 ∷ []), length-append (ended es) t)
+length_push es t = ap length (heap_is es t [] ∙ ap (λ l. 0 ∷ l) (ended_push es t)) ∙ omega (arith, heap_begun es, length-append (ended es ++ t) (0 ∷ []), length-append (ended es) t)
 
 module _ (texts : List (List ℕ)) (flags : List Bool) (p : ℕ) (in_texts : p < length texts) where
   pub more_flagged : slice_index_or flags p false ≡ true → flagged (take (p + 1) texts) (take (p + 1) flags) ≡ flagged (take p texts) (take p flags) ++ used_at texts p ∷ []
@@ -69,14 +69,16 @@ module _ (texts : List (List ℕ)) (flags : List Bool) (p : ℕ) (in_texts : p <
 pub values_more : (f : ℕ → ℕ) (xs : List ℕ) (i x : ℕ) → length xs ≡ i → x ≡ f i → ((k : ℕ) → k < i → get_or xs k 0 ≡ f k) → (k : ℕ) → k < i + 1 → get_or (xs ++ x ∷ []) k 0 ≡ f k
 values_more f xs i x long new old = one_more (λ (k y : ℕ). y ≡ f k) xs x 0 i long new old
 
--- a text at the end of an entry is at its index in the heap
+-- a text at the end of an entry, and that it is at its index
+pub entry_parts : (before : List (List ℕ)) (entry : List ℕ) (after : List (List ℕ)) (prefix text : List ℕ) → entry ≡ prefix ++ text
+    → 0 ∷ ended (before ++ entry ∷ after) ≡ ((0 ∷ ended before) ++ prefix) ++ (text ++ 0 ∷ ended after)
+entry_parts before entry after prefix text e =
+    ap (λ l. 0 ∷ l) (ended-append before (entry ∷ after)) ∙ ap (λ l. 0 ∷ (ended before ++ (l ++ 0 ∷ ended after))) e ∙ simp append_assoc
+
 pub stands_in : (before : List (List ℕ)) (entry : List ℕ) (after : List (List ℕ)) (prefix text : List ℕ) → entry ≡ prefix ++ text
     → take (length text) (drop (1 + length (ended before) + length prefix) (0 ∷ ended (before ++ entry ∷ after))) ≡ text
 stands_in before entry after prefix text e =
-    let parts : 0 ∷ ended (before ++ entry ∷ after) ≡ ((0 ∷ ended before) ++ prefix) ++ (text ++ 0 ∷ ended after) =
-    ap (λ l. 0 ∷ l) (ended-append before (entry ∷ after)) ∙ ap (λ l. 0 ∷ (ended before ++ (l ++ 0 ∷ ended after))) e
-    ∙ ap (λ l. 0 ∷ (ended before ++ l)) (append_assoc prefix text (0 ∷ ended after)) ∙ sym (append_assoc (0 ∷ ended before) prefix (text ++ 0 ∷ ended after)) in
-    let long : length ((0 ∷ ended before) ++ prefix) ≡ 1 + length (ended before) + length prefix = omega (arith, length-append (0 ∷ ended before) prefix) in
-    ap (λ l. take (length text) (drop (1 + length (ended before) + length prefix) l)) parts
-    ∙ ap (take (length text)) (drop_at ((0 ∷ ended before) ++ prefix) (text ++ 0 ∷ ended after) (1 + length (ended before) + length prefix) long)
+    let at = 1 + length (ended before) + length prefix in
+    ap (λ l. take (length text) (drop at l)) (entry_parts before entry after prefix text e)
+    ∙ ap (take (length text)) (drop_at ((0 ∷ ended before) ++ prefix) (text ++ 0 ∷ ended after) at (omega (arith, length-append (0 ∷ ended before) prefix)))
     ∙ take_at text (0 ∷ ended after) (length text) refl

@@ -1,31 +1,28 @@
 -- The texts of a strings heap: the bytes before a NUL.
-use Rattle.heap_pools.proofs.Prelude.{◌≡◌, ◌≢◌, ℕ, zero, suc, ◌+◌, ◌-◌, ◌<◌, ◌≤◌, cond, List, [], ◌∷◌, ◌++◌, length, take, drop, slice_index, slice_index_or, inl, inr, refl, sym, ap, subst, ◌∙◌, ⊎_elim, arith, length-drop, eqb_tells, drop_at, drop-drop, nil_from_length, ext_get_or, get_or-map, length-map, All-head, All-tail, All-cons, All-nil, HasNoNul, IsText}
+use Rattle.heap_pools.proofs.Prelude.{◌≡◌, ◌==◌, ◌≢◌, ℕ, zero, suc, ◌+◌, ◌-◌, ◌<◌, ◌≤◌, cond, List, [], ◌∷◌, ◌++◌, length, take, drop, slice_index, slice_index_or, inl, inr, refl, sym, ap, ◌∙◌, ⊎_elim, arith, length-drop, cases_eq, eqb-true, false_from_ne_true, drop_at, drop-drop, nil_from_length, ext_get_or, get_or-map, length-map, All-head, All-tail, All-cons, All-nil, HasNoNul, IsText}
 use Rattle.heap_pools.specs.HeapTexts.{before_nul, heap_text, texts_at}
 
 at_nul : (byte : ℕ) (bytes : List ℕ) → byte ≡ 0 → before_nul (byte ∷ bytes) ≡ []
 at_nul byte bytes e = ap (λ b. before_nul (b ∷ bytes)) e
 
 past_byte : (byte : ℕ) (bytes : List ℕ) → byte ≢ 0 → before_nul (byte ∷ bytes) ≡ byte ∷ before_nul bytes
-past_byte byte bytes apart = ⊎_elim
-    (λ p. absurd (apart p.1))
-    (λ p. ap (λ b. cond b [] (byte ∷ before_nul bytes)) p.0)
-    (eqb_tells byte 0)
+past_byte byte bytes apart = ap (λ b. cond b [] (byte ∷ before_nul bytes)) (false_from_ne_true (byte == 0) (λ nul. apart (eqb-true byte 0 nul)))
 
 -- the bytes before a NUL, from a later one on
 pub before_nul_drop : (bytes : List ℕ) (k : ℕ) → k ≤ length (before_nul bytes) → drop k (before_nul bytes) ≡ before_nul (drop k bytes)
 before_nul_drop bytes zero h = refl
 before_nul_drop [] (suc k) h = absurd (omega (arith, h))
 before_nul_drop (byte ∷ bytes) (suc k) h = ⊎_elim
-    (λ p. absurd (omega (arith, h, ap length (at_nul byte bytes p.1))))
-    (λ p. ap (drop (suc k)) (past_byte byte bytes p.1) ∙ before_nul_drop bytes k (omega (arith, h, ap length (past_byte byte bytes p.1))))
-    (eqb_tells byte 0)
+    (λ (nul : byte ≡ 0). absurd (omega (arith, h, ap length (at_nul byte bytes nul))))
+    (λ (some : byte ≢ 0). ap (drop (suc k)) (past_byte byte bytes some) ∙ before_nul_drop bytes k (omega (arith, h, ap length (past_byte byte bytes some))))
+    (cases_eq byte 0)
 
 pub before_nul_plain : (bytes : List ℕ) → HasNoNul (before_nul bytes)
 before_nul_plain [] = All-nil (λ byte. byte ≢ 0)
 before_nul_plain (byte ∷ bytes) = ⊎_elim
-    (λ p. subst HasNoNul (sym (at_nul byte bytes p.1)) (All-nil (λ byte. byte ≢ 0)))
-    (λ p. subst HasNoNul (sym (past_byte byte bytes p.1)) (All-cons (λ byte. byte ≢ 0) byte (before_nul bytes) p.1 (before_nul_plain bytes)))
-    (eqb_tells byte 0)
+    (λ (nul : byte ≡ 0). rw (at_nul byte bytes nul) (All-nil (λ byte. byte ≢ 0)))
+    (λ (some : byte ≢ 0). rw (past_byte byte bytes some) (All-cons (λ byte. byte ≢ 0) byte (before_nul bytes) some (before_nul_plain bytes)))
+    (cases_eq byte 0)
 
 pub before_nul_is : (bytes after : List ℕ) → HasNoNul bytes → before_nul (bytes ++ 0 ∷ after) ≡ bytes
 before_nul_is [] after h = refl

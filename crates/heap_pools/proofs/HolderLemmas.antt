@@ -6,7 +6,7 @@ use Rattle.std.proofs.lemmas.List.Elements.{All-contains, All-contains_itself, f
 use Rattle.heap_pools.proofs.EndingLemmas.{ends_parts, ends_from, ends_length}
 use Rattle.heap_pools.proofs.FoundLemmas.{held}
 use Rattle.heap_pools.proofs.HeapLemmas.{ended-append}
-use Rattle.heap_pools.proofs.MemberLemmas.{IsIn, in_any, any_in, among_push, contains_from_in, in_from_contains}
+use Rattle.heap_pools.proofs.MemberLemmas.{IsIn, in_any, any_in, first_of, among_in, among_push, contains_from_in, in_from_contains}
 
 -- of two endings of one text, one ends with the other
 ends_either : (p q a b : List ℕ) → p ++ a ≡ q ++ b → (ends_with a b ≡ true) ⊎ (ends_with b a ≡ true)
@@ -84,17 +84,6 @@ module _ (used : List (List ℕ)) where
       ))
       (λ _. more))
 
--- a list split at an element
-record IsSplit (x : List ℕ) (xs : List (List ℕ)) : Type 0 where
-  before : List (List ℕ)
-  after : List (List ℕ)
-  whole : xs ≡ before ++ x ∷ after
-
-split_in : (x : List ℕ) (xs : List (List ℕ)) → IsIn x xs → IsSplit x xs
-split_in x [] h = absurd h
-split_in x (y ∷ ys) (inl e) = record { before = []; after = ys; whole = ap (λ z. z ∷ ys) e }
-split_in x (y ∷ ys) (inr h) = let tail = split_in x ys h in record { before = y ∷ tail.before; after = tail.after; whole = ap (λ l. y ∷ l) tail.whole }
-
 in_tail : (before after : List (List ℕ)) (x y : List ℕ) → IsIn y (before ++ x ∷ after) → (x ≡ y → ⊥) → IsIn y (before ++ after)
 in_tail [] after x y (inl e) apart = absurd (apart e)
 in_tail [] after x y (inr h) apart = h
@@ -106,12 +95,13 @@ ended_longer : (xs ys : List (List ℕ)) → AreApart xs → ((x : List ℕ) →
 ended_longer [] ys apart each = omega arith
 ended_longer (x ∷ xs) ys apart each =
     let found = each x (inl refl) in
-    let split = split_in found.0 ys found.1 in
+    let split = first_of (bytes_eq found.0) ys (among_in ys found.0 found.1) in
+    let whole = split.whole ∙ ap (λ y. split.before ++ y ∷ split.after) (sym (same_text found.0 split.found (sym split.passes))) in
     let tail : length (ended xs) ≤ length (ended (split.before ++ split.after)) = ended_longer xs (split.before ++ split.after) apart.1 (λ other h.
     let more = each other (inr h) in
-    (more.0, in_tail split.before split.after found.0 more.0 (subst (IsIn more.0) split.whole more.1) (λ same. apart.0 other found.0 h found.2 (ap (λ t. ends_with t other) same ∙ more.2)), more.2)) in
+    (more.0, in_tail split.before split.after found.0 more.0 (subst (IsIn more.0) whole more.1) (λ same. apart.0 other found.0 h found.2 (ap (λ t. ends_with t other) same ∙ more.2)), more.2)) in
     let longer = ends_length found.0 x found.2 in
-    let all = ap (λ l. length (ended l)) split.whole in
+    let all = ap (λ l. length (ended l)) whole in
     let parts = ap length (ended-append split.before (found.0 ∷ split.after)) in
     let others = ap length (ended-append split.before split.after) in
     omega (arith, tail, longer, all, parts, others, length-append x (0 ∷ ended xs), length-append (ended split.before) (ended (found.0 ∷ split.after)), length-append (ended split.before) (ended split.after), length-append found.0 (0 ∷ ended split.after))

@@ -30,6 +30,24 @@ any_in test (z ∷ zs) h = ⊎_elim
     (λ (e : test z ≡ false). let tail = any_in test zs (sym (ap (λ b. b || list_any test zs) e) ∙ h) in (tail.0, inr tail.1, tail.2))
     (cases_Bool (test z))
 
+-- a list at its first value that passes a test
+pub record IsFirst (test : List ℕ → Bool) (values : List (List ℕ)) : Type 0 where
+  pub before : List (List ℕ)
+  pub found : List ℕ
+  pub after : List (List ℕ)
+  pub whole : values ≡ before ++ found ∷ after
+  pub none : list_any test before ≡ false
+  pub passes : test found ≡ true
+
+pub first_of : (test : List ℕ → Bool) (values : List (List ℕ)) → list_any test values ≡ true → IsFirst test values
+first_of test [] h = absurd (false≢true h)
+first_of test (value ∷ values) h = ⊎_elim
+    (λ (e : test value ≡ true). record { before = []; found = value; after = values; whole = refl; none = refl; passes = e })
+    (λ (e : test value ≡ false).
+    let f = first_of test values (sym (ap (λ b. b || list_any test values) e) ∙ h) in
+    record { before = value ∷ f.before; found = f.found; after = f.after; whole = ap (λ l. value ∷ l) f.whole; none = ap (λ b. b || list_any test f.before) e ∙ f.none; passes = f.passes })
+    (cases_Bool (test value))
+
 pub in_filter : {X : Type 0} (test : X → Bool) (x : X) (xs : List X) → IsIn x xs → test x ≡ true → IsIn x (filter test xs)
 in_filter test x [] h t = absurd h
 in_filter test x (z ∷ zs) (inl e) t = subst (λ b. IsIn x (cond b (z ∷ filter test zs) (filter test zs))) (sym (ap test e ∙ t)) (inl e)

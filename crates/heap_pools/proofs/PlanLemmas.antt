@@ -1,5 +1,5 @@
 -- From the first uses to the heap of the holders.
-use Rattle.heap_pools.proofs.Prelude.{◌≡◌, ℕ, zero, suc, ◌+◌, ◌-◌, ◌<◌, ◌≤◌, Bool, true, false, not, ◌&&◌, ◌||◌, cond, List, [], ◌∷◌, ◌++◌, length, take, get_or, filter, slice_index_or, refl, sym, ap, subst, ◌∙◌, ⊎_elim, true≢false, arith, length-append, list_any, bytes_eq, same_text, Less, and_parts, and_right, cases_Bool, cases_lt, false_from_ne_true, false≢true, not-true, nat_list_eq_equiv, append_assoc, append-nil, get_or_default, Any-from_list_any, list_any_at, ends_with, ending_cmp, is_among, first_uses, is_holder, ended, text_from, TextUse, text_at, use_index_at, used_at, AreFirstUses, IsTop, IsRun, FindsHolder, flagged}
+use Rattle.heap_pools.proofs.Prelude.{◌≡◌, ℕ, zero, suc, ◌+◌, ◌-◌, ◌<◌, ◌≤◌, Bool, true, false, not, ◌&&◌, ◌||◌, cond, List, [], ◌∷◌, ◌++◌, length, take, get_or, filter, slice_index_or, refl, sym, ap, subst, ◌∙◌, ⊎_elim, true≢false, arith, length-append, list_any, bytes_eq, same_text, Less, and_parts, or_parts, and_right, cases_Bool, cases_lt, false_from_ne_true, false≢true, not-true, nat_list_eq_equiv, append_assoc, append-nil, get_or_default, Any-from_list_any, list_any_at, ends_with, ending_cmp, is_among, first_uses, is_holder, ended, text_from, Use, no_use, text_at, use_index_at, used_at, AreFirstUses, IsTop, IsRun, FindsHolder, flagged}
 use Rattle.heap_pools.proofs.EndingLemmas.{ends_from, ends_length, ends_itself, ends_cases, ends_between, not_both, not_itself}
 
 -- the index of an element that passes a test
@@ -15,7 +15,7 @@ pub false_from_differ : (x y : List ℕ) → (x ≡ y → ⊥) → bytes_eq x y 
 false_from_differ x y apart = false_from_ne_true (bytes_eq x y) (λ e. apart (same_text x y (sym e)))
 
 -- the texts of sorted uses
-module _ (used : List (List ℕ)) (ranked : List TextUse) (f : AreFirstUses used ranked) where
+module _ (used : List (List ℕ)) (ranked : List Use) (f : AreFirstUses used ranked) where
   -- a text comes after its endings
   pub ends_after : (i j : ℕ) → i < length ranked → j < length ranked → ends_with (text_at ranked j) (text_at ranked i) ≡ true → i ≤ j
   ends_after i j hi hj h = ⊎_elim
@@ -41,7 +41,7 @@ module _ (used : List (List ℕ)) (ranked : List TextUse) (f : AreFirstUses used
 
   -- a used text that ends with a use's text has a use
   use_of_used : (p k : ℕ) → p < length used → k < length ranked → ends_with (used_at used p) (text_at ranked k) ≡ true → (j : ℕ) × (j < length ranked) × (text_at ranked j ≡ used_at used p) × (use_index_at ranked j ≤ p)
-  use_of_used p k hp hk h = f.firsts p hp (omega (arith, ends_length (used_at used p) (text_at ranked k) h, f.nonempty k hk))
+  use_of_used p k hp hk h = f.firsts p hp (omega (arith, ends_length (used_at used p) (text_at ranked k) h, (f.uses_are k no_use hk).nonempty))
 
   -- a top is a text that no other used text ends with
   no_other : (k : ℕ) → k < length ranked → IsTop ranked k → list_any (λ other. ends_with other (text_at ranked k) && not (bytes_eq other (text_at ranked k))) used ≡ true → ⊥
@@ -71,9 +71,9 @@ module _ (used : List (List ℕ)) (ranked : List TextUse) (f : AreFirstUses used
       by : ends_with (text_at ranked (k + 1)) (text_at ranked k) ≡ true → list_any (λ other. ends_with other (text_at ranked k) && not (bytes_eq other (text_at ranked k))) used ≡ true
       by ends =
           let apart : text_at ranked (k + 1) ≡ text_at ranked k → ⊥ = λ e. not_itself (text_at ranked k) (subst (λ t. ending_cmp (text_at ranked k) t ≡ Less) e (f.rises k (k + 1) (omega arith) next)) in
-          let here : text_at ranked (k + 1) ≡ used_at used (use_index_at ranked (k + 1)) = f.texts (k + 1) next in
+          let here : text_at ranked (k + 1) ≡ used_at used (use_index_at ranked (k + 1)) = (f.uses_are (k + 1) no_use next).text in
           let passes : ends_with (text_at ranked (k + 1)) (text_at ranked k) && not (bytes_eq (text_at ranked (k + 1)) (text_at ranked k)) ≡ true = ap (λ b. b && not (bytes_eq (text_at ranked (k + 1)) (text_at ranked k))) ends ∙ ap not (false_from_differ (text_at ranked (k + 1)) (text_at ranked k) apart) in
-          list_any_at (λ other. ends_with other (text_at ranked k) && not (bytes_eq other (text_at ranked k))) used (use_index_at ranked (k + 1)) [] (f.use_indexes (k + 1) next)
+          list_any_at (λ other. ends_with other (text_at ranked k) && not (bytes_eq other (text_at ranked k))) used (use_index_at ranked (k + 1)) [] (f.uses_are (k + 1) no_use next).within
           (subst (λ t. ends_with t (text_at ranked k) && not (bytes_eq t (text_at ranked k)) ≡ true) here passes)
 
 -- the use index of the first use of the first holder that ends with a text
@@ -84,21 +84,21 @@ pub record IsFirstHolder (used : List (List ℕ)) (text : List ℕ) (use_index :
   pub fresh : (p : ℕ) → p < use_index → used_at used p ≡ used_at used use_index → ⊥
   pub least : (p : ℕ) → p < length used → is_holder used (used_at used p) ≡ true → ends_with (used_at used p) text ≡ true → use_index ≤ p
 
-module _ (used : List (List ℕ)) (ranked : List TextUse) (f : AreFirstUses used ranked) where
+module _ (used : List (List ℕ)) (ranked : List Use) (f : AreFirstUses used ranked) where
   pub first_holder : (k use_index : ℕ) → k < length ranked → FindsHolder ranked k use_index → IsFirstHolder used (text_at ranked k) use_index
   first_holder k use_index hk h =
       let rank = h.first.rank in
       let in_ranked : rank < length ranked = omega (arith, h.first.high, h.run.high) in
-      let here : text_at ranked rank ≡ used_at used use_index = f.texts rank in_ranked ∙ ap (used_at used) h.first.is in
+      let here : text_at ranked rank ≡ used_at used use_index = (f.uses_are rank no_use in_ranked).text ∙ ap (used_at used) h.first.is in
       record {
-        within = subst (λ p. p < length used) h.first.is (f.use_indexes rank in_ranked);
-        holder = subst (λ t. is_holder used t ≡ true) here (holder_from_top used ranked f rank in_ranked h.first.top);
+        within = subst (λ p. p < length used) h.first.is (f.uses_are rank no_use in_ranked).within;
+        holder = subst (λ t. is_holder used t ≡ true) here (holder_from_top used ranked f rank in_ranked h.first.has);
         ends = subst (λ t. ends_with t (text_at ranked k) ≡ true) here (⊎_elim
             (λ (lt : k < rank). h.run.inside rank lt h.first.high)
             (λ (ge : rank ≤ k). let e : k ≡ rank = omega (arith, h.first.low) in subst (λ j. ends_with (text_at ranked rank) (text_at ranked j) ≡ true) (sym e) (ends_itself (text_at ranked rank)))
             (cases_lt k rank));
         fresh = λ p lt e.
-            let r = f.firsts p (omega (arith, f.use_indexes rank in_ranked, h.first.is)) (subst (λ t. 0 < length t) (here ∙ sym e) (f.nonempty rank in_ranked)) in
+            let r = f.firsts p (omega (arith, (f.uses_are rank no_use in_ranked).within, h.first.is)) (subst (λ t. 0 < length t) (here ∙ sym e) (f.uses_are rank no_use in_ranked).nonempty) in
             let one : r.0 ≡ rank = one_use used ranked f r.0 rank r.1 in_ranked (r.2 ∙ e ∙ sym here) in
             omega (arith, r.3, ap (use_index_at ranked) one, h.first.is);
         least = λ p hp holds ends.
@@ -135,14 +135,10 @@ flagged_at test (t ∷ ts) (true ∷ fs) (suc n) h = ⊎_elim
 pub text_from-entry : (at : ℕ) (before : List (List ℕ)) (entry : List ℕ) (tail : List (List ℕ)) (text : List ℕ) → list_any (λ other. ends_with other text) before ≡ false → ends_with entry text ≡ true
     → text_from at (before ++ entry ∷ tail) text ≡ at + length (ended before) + length entry - length text
 text_from-entry at [] entry tail text none ends = ap (λ b. cond b (at + length entry - length text) (text_from (at + length entry + 1) tail text)) ends ∙ ap (λ n. n + length entry - length text) (omega arith)
-text_from-entry at (first ∷ before) entry tail text none ends = ⊎_elim
-    (λ (e : ends_with first text ≡ true). absurd (true≢false (sym (ap (λ b. b || list_any (λ other. ends_with other text) before) e) ∙ none)))
-    (λ e. ap (λ b. cond b (at + length first - length text) (text_from (at + length first + 1) (before ++ entry ∷ tail) text)) e
-    ∙ text_from-entry (at + length first + 1) before entry tail text (sym (ap (λ b. b || list_any (λ other. ends_with other text) before) e) ∙ none) ends
-    ∙ (let long : length (ended (first ∷ before)) ≡ length first + (1 + length (ended before)) = length-append first (0 ∷ ended before) ∙ ap (λ n. length first + n) (omega arith) in
-    let sums : at + length first + 1 + length (ended before) ≡ at + length (ended (first ∷ before)) = omega arith in
-    ap (λ n. n + length entry - length text) sums))
-    (cases_Bool (ends_with first text))
+text_from-entry at (first ∷ before) entry tail text none ends =
+    let apart = or_parts (ends_with first text) (list_any (λ other. ends_with other text) before) none in
+    let sums : at + length first + 1 + length (ended before) ≡ at + length (ended (first ∷ before)) = omega (arith, length-append first (0 ∷ ended before)) in
+    rw apart.0 (text_from-entry (at + length first + 1) before entry tail text apart.1 ends ∙ ap (λ n. n + length entry - length text) sums)
 
 -- the holders are the flagged texts
 pub holders-flagged : (test : List ℕ → Bool) (before texts : List (List ℕ)) (flags : List Bool) → length flags ≡ length texts

@@ -1,5 +1,5 @@
 -- StartUses in a strings heap: the texts at them, and the first use index of each start.
-use Rattle.heap_pools.proofs.Prelude.{◌≡◌, ◌≢◌, ℕ, ◌+◌, ◌<◌, List, [], ◌∷◌, ◌++◌, All, length, set, slice_index, sym, ap, subst, ◌∙◌, ⊎_elim, arith, Bor, IsPermutation, cases_eq, length-map, length-set, ext_get_or, get_or-map, get_or_push, get_or_append_left, get_or_default, get_or-set_same, get_or-set_other, All-from_get_or, Contains-get_or, All-permutation, Contains-permutation, HasNoNul, start_use_at, AreStartUses, IsEarlierUse, used_at, bytes_of}
+use Rattle.heap_pools.proofs.Prelude.{◌≡◌, ◌≢◌, ℕ, ◌+◌, ◌<◌, List, [], All, length, set, slice_index, sym, ap, subst, ◌∙◌, ⊎_elim, arith, Bor, IsPermutation, cases_eq, length-map, length-set, ext_get_or, get_or-map, get_or_default, get_or-set_same, get_or-set_other, All-from_get_or, Contains-get_or, All-permutation, Contains-permutation, HasNoNul, start_use_at, AreStartUses, IsEarlierUse, used_at, bytes_of}
 use Rattle.heap_pools.specs.declared.heap_texts.StartUse.{StartUse}
 use Rattle.heap_pools.specs.HeapTexts.{heap_text, texts_at}
 use Rattle.heap_pools.specs.Ranking.{AreSources}
@@ -13,13 +13,6 @@ no_start_use = record { start = 0; use_index = 0 }
 -- the start_use of a use index
 abbrev pub IsStartUse : List ℕ → ℕ → StartUse → Type 0
 IsStartUse starts use_index start_use = (start_use.use_index ≡ use_index) × (start_use.start ≡ slice_index starts use_index)
-
--- one more start_use
-pub start_use_more : (starts : List ℕ) (start_uses : List StartUse) (n : ℕ) (start_use : StartUse) → length start_uses ≡ n → IsStartUse starts n start_use → ((k : ℕ) → k < n → IsStartUse starts k (start_use_at start_uses k)) → (k : ℕ) → k < n + 1 → IsStartUse starts k (start_use_at (start_uses ++ start_use ∷ []) k)
-start_use_more starts start_uses n start_use long new old k h = ⊎_elim
-    (λ (lt : k < n). subst (IsStartUse starts k) (sym (get_or_append_left start_uses (start_use ∷ []) no_start_use k (omega (arith, lt, long)))) (old k lt))
-    (λ (e : k ≡ n). subst (λ i. IsStartUse starts i (start_use_at (start_uses ++ start_use ∷ []) i)) (sym e) (subst (IsStartUse starts n) (sym (get_or_push start_uses start_use no_start_use n long)) new))
-    (last_cases k n h)
 
 -- the start_uses in another order
 pub start_uses_sorted : (starts : List ℕ) (old new : List StartUse) → length old ≡ length starts → ((k : ℕ) → k < length starts → IsStartUse starts k (start_use_at old k)) → IsPermutation old new → AreStartUses starts new

@@ -6,14 +6,6 @@ use Rattle.std.specs.Borrow.{Bor}
 use Rattle.heap_pools.specs.declared.text_plan.Use.{Use}
 use Rattle.heap_pools.specs.declared.text_plan.Span.{Span}
 use Rattle.heap_pools.specs.EndingOrder.{ending_cmp, last_number}
-use Rattle.heap_pools.specs.Ranking.{TextUse}
-
--- a use as a value: the bytes of its text, without their address
-abbrev pub use_of : Use → TextUse
-use_of item = (item.text.now, item.use_index)
-
-abbrev pub uses_of : List Use → List TextUse
-uses_of uses = map use_of uses
 
 -- the bytes of each text
 abbrev pub bytes_of : List (Bor (List ℕ)) → List (List ℕ)

@@ -1,8 +1,8 @@
-ghost use Rattle.std.specs.Prelude.{◌≡◌, ◌<◌, ◌≤◌, ◌^◌, ◌++◌, ◌∷◌, [], ◌⊎◌, ℕ, List, length, All, Contains, IsUtf8, Option, Some, slice_index, slice_index_or};
+ghost use Rattle.std.specs.Prelude.{◌≡◌, ◌<◌, ◌≤◌, ◌^◌, ◌++◌, [], ◌⊎◌, ℕ, List, length, All, Contains, IsUtf8, Some, slice_index, slice_index_or};
 ghost use Rattle.heap_pools.specs.BlobHeap.{blob_heap, blob_index};
-ghost use Rattle.heap_pools.specs.Distinct.{distinct, pooled};
+ghost use Rattle.heap_pools.specs.Distinct.{distinct};
 ghost use Rattle.heap_entries.specs.Entries.{HasNoNul, IsBlob, IsGuid, IsText};
-ghost use Rattle.heap_pools.specs.GuidHeap.{given, guid_heap, guid_index, pooled_guid};
+ghost use Rattle.heap_pools.specs.GuidHeap.{guid_heap, guid_index};
 ghost use Rattle.heap_pools.specs.HeapTexts.{heap_text, texts_at};
 ghost use Rattle.heap_pools.specs.TextHeap.{holders, text_heap, text_index};
 
@@ -33,24 +33,6 @@ pub fn pooled_blob_is_found()
 pub fn pooled_guid_is_found()
     ensures { (entries : List (List ℕ)) (guid tail : List ℕ) → Contains entries guid → All (λ entry. length entry ≡ 16) entries
         → IsGuid (guid_heap entries ++ tail) (guid_index entries (Some guid)) (Some guid) }
-{}
-
-/// Adding values one after another gives the distinct ones; more uses only append entries. Each non-empty
-/// value is among them, and adding it again changes nothing. Null GUIDs have no entry.
-pub fn pooled_are_distinct()
-    ensures more { (used : List (List ℕ)) (value : List ℕ) → distinct (used ++ value ∷ []) ≡ pooled (distinct used) value }
-    ensures guid { (used : List (List ℕ)) (guid : Option (List ℕ)) → distinct (used ++ given guid) ≡ pooled_guid (distinct used) guid }
-    ensures each { (used : List (List ℕ)) (value : List ℕ) → Contains used value → 0 < length value → Contains (distinct used) value }
-    ensures again { (used : List (List ℕ)) (value : List ℕ) → Contains used value → pooled (distinct used) value ≡ distinct used }
-    ensures prefix { (used more : List (List ℕ)) → (tail : List (List ℕ)) × (distinct (used ++ more) ≡ distinct used ++ tail) }
-{}
-
-/// The index of a blob or a GUID does not change when its pool grows.
-pub fn indexes_stay()
-    ensures blob { (entries more : List (List ℕ)) (blob : List ℕ) → (blob ≡ []) ⊎ Contains entries blob
-        → blob_index (entries ++ more) blob ≡ blob_index entries blob }
-    ensures guid { (entries more : List (List ℕ)) (guid : List ℕ) → Contains entries guid
-        → guid_index (entries ++ more) (Some guid) ≡ guid_index entries (Some guid) }
 {}
 
 /// The heap of the first uses is not longer than the heap of all uses.

@@ -1,5 +1,6 @@
 -- The offset of a blob in its heap.
 use Rattle.heaps.proofs.Prelude.{◌≡◌, ℕ, ◌+◌, ◌<◌, max, true, false, ◌||◌, cond, true≢false, ◌↔◌, nat_eq, List, [], ◌∷◌, ◌++◌, length, map, flat_map, Vec, Option, Some, None, IfSome, IfNone, refl, sym, ap, ◌∙◌, ⊎_elim, arith, length-append, cases_Bool, nat_list_eq_equiv, append-nil, flat_map-append, pointwise, keys_of, values_of, lookup, bytes_eq, short_unsigned, blob_from, blob_heap, blob_index, counted, starts_from, is_among, pooled, begun, pooled_new}
+use Rattle.heap_pools.proofs.GrowLemmas.{blob_from-entry}
 use Rattle.heaps.proofs.BytesLemmas.{length-begun}
 
 -- the heap with one more blob
@@ -16,16 +17,6 @@ length-counted blob = length-append (short_unsigned (length blob)) blob
 pub begun_is : (entries : List (List ℕ)) → length (begun (blob_heap entries)) ≡ 1 + length (flat_map counted entries)
 begun_is [] = refl
 begun_is (entry ∷ entries) = omega arith
-
--- a new blob gets the offset after the entries
-pub blob_from-new : (at : ℕ) (entries : List (List ℕ)) (blob : List ℕ) → is_among entries blob ≡ false → blob_from at (entries ++ blob ∷ []) blob ≡ at + length (flat_map counted entries)
-blob_from-new at [] blob new = ap (λ b. cond b at 0) (nat_list_eq_equiv.refl blob) ∙ omega arith
-blob_from-new at (entry ∷ entries) blob new = ⊎_elim
-    (λ (e : bytes_eq blob entry ≡ true). absurd (true≢false (sym (ap (λ b. b || is_among entries blob) e) ∙ new)))
-    (λ (e : bytes_eq blob entry ≡ false).
-    let tail = blob_from-new (at + length (counted entry)) entries blob (sym (ap (λ b. b || is_among entries blob) e) ∙ new) in
-    ap (λ b. cond b at (blob_from (at + length (counted entry)) (entries ++ blob ∷ []) blob)) e ∙ tail ∙ omega (arith, length-append (counted entry) (flat_map counted entries)))
-    (cases_Bool (bytes_eq blob entry))
 
 pub starts_from-push : (at : ℕ) (entries : List (List ℕ)) (blob : List ℕ) → starts_from at (entries ++ blob ∷ []) ≡ starts_from at entries ++ (at + length (flat_map counted entries)) ∷ []
 starts_from-push at [] blob = ap (λ n. n ∷ []) (omega arith)
@@ -101,4 +92,4 @@ length-pooled entries blob some new = ap (λ (l : List (List ℕ)). length (blob
 pub blob_index-push : (entries : List (List ℕ)) (blob : List ℕ) → 0 < length blob → is_among entries blob ≡ false → blob_index (entries ++ blob ∷ []) blob ≡ max (length (blob_heap entries)) 1
 blob_index-push entries [] some new = absurd (omega arith)
 blob_index-push entries (byte ∷ bytes) some new =
-    blob_from-new 1 entries (byte ∷ bytes) new ∙ sym (begun_is entries) ∙ length-begun (blob_heap entries)
+    blob_from-entry 1 entries (byte ∷ bytes) [] (byte ∷ bytes) new (nat_list_eq_equiv.refl (byte ∷ bytes)) ∙ sym (begun_is entries) ∙ length-begun (blob_heap entries)

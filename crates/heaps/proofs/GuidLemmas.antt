@@ -1,14 +1,7 @@
 -- The offset of a GUID in its heap.
 use Rattle.heaps.proofs.Prelude.{◌≡◌, ℕ, ◌+◌, ◌*◌, ◌^◌, ◌<◌, ◌≤◌, Bool, true, false, not, true≢false, ◌↔◌, IsTrue, nat_eq, All, List, [], ◌∷◌, ◌++◌, length, refl, sym, arith, ⊎_elim, length-append, subst, All-push, All-head, All-tail, cases_Bool, cases_lt, pointwise, is_among, pooled, guid_heap, pooled_there, pooled_new}
 use Rattle.indexmap.specs.IndexSet.{insert_key}
-
--- the length of a heap of GUIDs
-pub length-guid_heap : (guids : List (List ℕ)) → All (λ guid. length guid ≡ 16) guids → length (guid_heap guids) ≡ 16 * length guids
-length-guid_heap [] h = refl
-length-guid_heap (guid ∷ guids) h =
-    let sixteen = All-head (λ g. length g ≡ 16) guid guids h in
-    let tail = length-guid_heap guids (All-tail (λ g. length g ≡ 16) guid guids h) in
-    omega (arith, length-append guid (guid_heap guids))
+use Rattle.heap_pools.proofs.FoundLemmas.{length-guid_heap}
 
 -- the heap with a GUID is longer than 2^30 bytes if and only if the GUID is new and there are 2^26 already
 pub fits_there : (guids : List (List ℕ)) (guid : List ℕ) → All (λ g. length g ≡ 16) guids → length guids ≤ 2 ^ 26 → is_among guids guid ≡ true → length (guid_heap (pooled guids guid)) ≤ 2 ^ 30

@@ -6,3 +6,6 @@ pub mod Says
 pub mod Indexes
 pub mod Measured
 pub mod Padded
+pub mod Found
+pub mod SameLemmas
+pub mod TestLaws

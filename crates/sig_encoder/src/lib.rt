@@ -14,6 +14,15 @@
 //! encode_body(alloc, &field_of_int)? // 06 08
 //! visit_body(&mut sink, &field_of_int, 128)? // sink.byte(0x06)?, then sink.byte(0x08)?
 //! ```
+//!
+//! It also compares signatures, and finds the first type index whose row does not exist. A [`SigBody`](sig_grammar::SigBody) contains boxes and vectors. So two values with the same content lie at
+//! different addresses. [`is_same`] compares the content of two values. [`first_bad`] checks the type indexes of
+//! one in encoded order. Each makes one pass, with a recursion as deep as the types nest, and does not allocate.
+//!
+//! ```text
+//! // 1F 09 12 05: the class that is row 1 of TypeRef, after a required modifier, row 2 of TypeRef
+//! first_bad(&body, &counts) // row 2 if TypeRef has one row; None if it has two
+//! ```
 #![tactic(auto)]
 
 mod bodies;
@@ -22,6 +31,10 @@ mod items;
 pub mod laws;
 mod length;
 mod measurer;
+mod row_checker;
+mod same_body;
+mod same_parts;
+mod same_types;
 mod sink;
 mod types;
 mod writer;
@@ -29,5 +42,7 @@ mod writer;
 pub use bodies::visit_body;
 pub use encode::{encode_body, encode_into};
 pub use length::encoded_len;
+pub use row_checker::first_bad;
+pub use same_body::is_same;
 pub use sig_grammar::SigBody;
 pub use sink::PartSink;

@@ -21,5 +21,5 @@ pub fn encoded_is_decoded()
 pub fn equality_is_tested()
     ensures { (first second : Body) → IsTrue (⟦<Signature as PartialEq>⟧.eq first second) ↔ (first ≡ second) }
 {
-    sig_comparison::laws::equality_is_tested();
+    sig_encoder::laws::equality_is_tested();
 }

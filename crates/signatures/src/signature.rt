@@ -4,14 +4,13 @@ ghost use Rattle.sig_grammar.specs.Syntax.{Body};
 ghost use Rattle.sig_grammar.specs.Views.{body_of};
 ghost use Rattle.sig_grammar.specs.Encodes.{Holds, Encodes, IsEncodable, short, tokens, first_bad as first_bad_of};
 ghost use Rattle.signatures.specs.declared.error.SigError.TheVariants.{Bad};
-ghost use Rattle.sig_comparison.specs.Same.{is_same_body};
-ghost use Rattle.sig_comparison.proofs.TestLaws.{same_bodies_equiv};
+ghost use Rattle.sig_encoder.specs.Same.{is_same_body};
+ghost use Rattle.sig_encoder.proofs.TestLaws.{same_bodies_equiv};
 
 use crate::columns::{column_of, holds};
 use crate::error::SigError;
 use crate::whole::decode_body;
-use sig_comparison::{first_bad, is_same};
-use sig_encoder::{encode_body, encoded_len};
+use sig_encoder::{encode_body, encoded_len, first_bad, is_same};
 use sig_grammar::SigBody;
 use std::alloc::{AllocError, Global};
 use std::marker::Model;

@@ -1,6 +1,6 @@
 //! Tests of the crates that read and make the parts of a file, by their public calls: headers, heaps, tables and
 //! signatures, and the cells and tables in memory of which models are made. The tests of a crate are in the module of
-//! its name; `signatures` has those of `sig_encoder` and `sig_comparison` too.
+//! its name; `signatures` has those of `sig_encoder` too.
 
 #[cfg(test)]
 mod cli_header;

@@ -1,12 +1,16 @@
-use Rattle.cli_declarations.proofs.Prelude.{string_bytes, ◌≡◌, [], ℕ, refl, sym, append-nil, arith, TableId, CustomAttribute, MethodDef, Property, cell_columns, HasRow, Metadata, cell_in, row_count, method_in, property_in, IsDeclarationAt}
+use Rattle.cli_declarations.proofs.Prelude.{string_bytes, ◌≡◌, [], ℕ, refl, sym, append-nil, arith, TableId, CustomAttribute, Field, MethodDef, Property, cell_columns, HasRow, Metadata, cell_in, row_count, method_in, property_in, IsDeclarationAt}
 use Rattle.cli_declarations.proofs.PieceLemmas.{on_ok, some_gained}
 use Rattle.cli_declarations.proofs.blob_sink.push_declaration.Goals as goal
 
-other_table : (model : Metadata) (table : TableId) (row : ℕ) → (table ≡ MethodDef → ⊥) → (table ≡ Property → ⊥) → (table ≡ CustomAttribute → ⊥) → IsDeclarationAt model table row []
-other_table model MethodDef row method property attribute = absurd (method refl)
-other_table model Property row method property attribute = absurd (property refl)
-other_table model CustomAttribute row method property attribute = absurd (attribute refl)
-other_table model _ row method property attribute = refl
+other_table : (model : Metadata) (table : TableId) (row : ℕ) → (table ≡ Field → ⊥) → (table ≡ MethodDef → ⊥) → (table ≡ Property → ⊥) → (table ≡ CustomAttribute → ⊥) → IsDeclarationAt model table row []
+other_table model Field row field method property attribute = absurd (field refl)
+other_table model MethodDef row field method property attribute = absurd (method refl)
+other_table model Property row field method property attribute = absurd (property refl)
+other_table model CustomAttribute row field method property attribute = absurd (attribute refl)
+other_table model _ row field method property attribute = refl
+
+pub returns-in-Field : goal.returns-in-Field
+returns-in-Field c = λ model is. rw c.in-Field.is (c.push_signature.ensures model is)
 
 pub returns-in-MethodDef : goal.returns-in-MethodDef
 unfolding row_count cell_columns
@@ -35,4 +39,4 @@ returns-in-CustomAttribute c = λ model is. rw c.in-CustomAttribute.is (c.push_a
 
 pub returns-in_default : goal.returns-in_default
 returns-in_default c = λ model is.
-    ([], other_table model c.args.table c.args.row c.in_default.not-MethodDef c.in_default.not-Property c.in_default.not-CustomAttribute, sym (append-nil (string_bytes c.args.declared.now.text)))
+    ([], other_table model c.args.table c.args.row c.in_default.not-Field c.in_default.not-MethodDef c.in_default.not-Property c.in_default.not-CustomAttribute, sym (append-nil (string_bytes c.args.declared.now.text)))

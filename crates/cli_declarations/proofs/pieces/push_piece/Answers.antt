@@ -46,9 +46,6 @@ returns-in-Action c = λ model is. words_gained model c.args.table c.args.row c.
 pub returns-in-Own : goal.returns-in-Own
 returns-in-Own c = λ model is. part_gained model c.args.table c.args.row c.args.piece _ _ c.push_row.result (ap shown c.in-Own.is) (c.push_row.ensures model is)
 
-pub returns-in-Signature : goal.returns-in-Signature
-returns-in-Signature c = λ model is. part_gained model c.args.table c.args.row c.args.piece _ _ c.push_signature.result (ap shown c.in-Signature.is) (c.push_signature.ensures model is)
-
 pub returns-in-Declaration : goal.returns-in-Declaration
 returns-in-Declaration c = λ model is. part_gained model c.args.table c.args.row c.args.piece _ _ c.push_declaration.result (ap shown c.in-Declaration.is) (c.push_declaration.ensures model is)
 

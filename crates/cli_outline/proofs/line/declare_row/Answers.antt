@@ -1,5 +1,5 @@
 use Rattle.cli_outline.proofs.Prelude.{[], append-nil, codes, inl, inr, refl, sym, string_bytes, Decides-at}
-use Rattle.cli_outline.proofs.ChosenLemmas.{some_decides}
+use Rattle.cli_names.proofs.ChosenLemmas.{some_decides}
 use Rattle.cli_outline.proofs.line.declare_row.Goals as goal
 
 pub returns-in_ok-push_str : goal.returns-in_ok-push_str

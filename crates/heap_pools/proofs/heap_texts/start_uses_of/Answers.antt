@@ -1,5 +1,6 @@
-use Rattle.heap_pools.proofs.Prelude.{◌≡◌, length, slice_index, refl, sym, subst, arith, start_use_at}
-use Rattle.heap_pools.proofs.StartUseLemmas.{IsStartUse, start_use_more, start_uses_sorted}
+use Rattle.heap_pools.proofs.Prelude.{◌≡◌, length, slice_index, refl, arith}
+use Rattle.heap_pools.proofs.StartUseLemmas.{IsStartUse, no_start_use, start_uses_sorted}
+use Rattle.heap_pools.proofs.UseLemmas.{one_more}
 use Rattle.heap_pools.proofs.heap_texts.start_uses_of.Goals as goal
 
 pub loop-use_index-preserved : goal.loop-use_index-preserved
@@ -11,8 +12,7 @@ loop-use_index-preserved c =
     let long : length old ≡ n = omega (arith, kept.len, c.loop-use_index.start_uses.ok.0) in
     record {
       len = omega (arith, c.in_ok-push.ensures.len, kept.len);
-      each = λ k h. subst (λ l. IsStartUse starts k (start_use_at l k)) (sym c.in_ok-push.ensures.items)
-          (start_use_more starts old n (record { start = slice_index starts n; use_index = n }) long (refl, refl) kept.each k h);
+      each = rw c.in_ok-push.ensures.items (one_more (IsStartUse starts) old (record { start = slice_index starts n; use_index = n }) no_start_use n long (refl, refl) kept.each);
     }
 
 pub returns : goal.returns

@@ -1,6 +1,6 @@
 use crate::signatures::blobs::{BODIES, CORES};
 use schema::SigKind;
-use sig_comparison::is_same;
+use sig_encoder::is_same;
 use sig_encoder::{encode_body, encoded_len};
 use sig_recogniser::recognise;
 use signatures::{decode, encode};

@@ -1,5 +1,0 @@
-use Rattle.sig_comparison.proofs.SameLemmas.{of_another_form}
-use Rattle.sig_comparison.proofs.same_parts.is_void_pointer.Goals as goal
-
-pub returns-in_default : goal.returns-in_default
-returns-in_default c = of_another_form c.args.core.now _ c.in_default.not-Pointer

@@ -1,6 +1,0 @@
-use Rattle.std.proofs.lemmas.Slice.Eq.{slice_eq-Decides}
-use Rattle.sig_comparison.proofs.SameLemmas.{modifier_decides}
-use Rattle.sig_comparison.proofs.same_parts.same_modifiers.Goals as goal
-
-pub returns : goal.returns
-returns c = slice_eq-Decides modifier_decides _ _ _ c.eq.ensures

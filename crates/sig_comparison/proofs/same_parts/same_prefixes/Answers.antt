@@ -1,6 +1,0 @@
-use Rattle.std.proofs.lemmas.Slice.Eq.{slice_eq-Decides}
-use Rattle.sig_comparison.proofs.SameLemmas.{prefix_decides}
-use Rattle.sig_comparison.proofs.same_parts.same_prefixes.Goals as goal
-
-pub returns : goal.returns
-returns c = slice_eq-Decides prefix_decides _ _ _ c.eq.ensures
