@@ -1,13 +1,15 @@
 -- The parts of a line of JSON, one after another.
-use Rattle.cli_lines.proofs.Prelude.{◌≡◌, ◌∙◌, ◌⊎◌, ℕ, Bool, true, false, List, [], ◌∷◌, ◌++◌, Option, None, Some, fold, map, refl, ap, append_assoc, decimal, has_unpaired_surrogate, utf16_lossy_chars, ⊎_elim, Value, reference, guid, json_from, named_token, part_tokens, row_values, items_tokens, units_tokens, value_tokens, shown, shown_value, Brace}
+use Rattle.cli_lines.proofs.Prelude.{◌≡◌, ◌∙◌, ◌⊎◌, ℕ, Bool, true, false, List, [], ◌∷◌, ◌++◌, Option, None, Some, fold, map, refl, ap, sym, append_assoc, append-nil, codes, decimal, table_name, token_text, has_unpaired_surrogate, utf16_lossy_chars, ⊎_elim, Value, reference, guid, json_from, named_token, part_tokens, row_values, items_tokens, units_tokens, value_tokens, shown, shown_value, Brace}
 use Rattle.std.specs.Str.{encode_utf8_all}
-use Rattle.json.specs.Print.{ends, ends_value, print, print_from}
+use Rattle.json.specs.Print.{ends, ends_value, escape, escape_byte, print, print_from, quoted}
 use Rattle.json.proofs.Printed.Tokens.{print_from-append}
 use Rattle.json.specs.Token as json
 use Rattle.table_schema.specs.declared.token.Token.{Token}
 use Rattle.cli_lines.specs.declared.parts.Part.{Part as KeptPart}
 use Rattle.cli_lines.specs.declared.parts.Part.TheVariants.{Field, Member, Spaced, RowNumber, RowToken}
 use Rattle.cli_lines.specs.declared.parts.Value.{Value as KeptValue}
+use Rattle.cli_lines.specs.Names.{row_start}
+use Rattle.cli_lines.proofs.PlainLemmas.{token_is_plain}
 use Rattle.cli_lines.specs.declared.line.Before.TheVariants as at
 use Rattle.cli_lines.specs.declared.names.Name.{Name}
 use Rattle.cli_lines.specs.declared.names.Name.TheVariants as name
@@ -24,6 +26,16 @@ value_ends (reference (Some of)) = refl
 value_ends (guid None) = refl
 value_ends (guid (Some of)) = refl
 value_ends _ = refl
+
+-- the text of a row after the name of its first member
+pub row_prints : (row : Token) → row_start row.table ++ (decimal row.row ++ (codes ",\"token\":" ++ (34 ∷ (token_text row ++ 34 ∷ [])))) ≡ print (row_values row)
+unfolding print_from escape_byte
+row_prints row =
+    let table = quoted (table_name row.table) in
+    let digits = decimal row.row in
+    append_assoc table (codes ",\"row\":") (digits ++ (codes ",\"token\":" ++ (34 ∷ (token_text row ++ 34 ∷ []))))
+    ∙ ap (λ (of : List ℕ). table ++ (codes ",\"row\":" ++ (digits ++ (codes ",\"token\":" ++ (34 ∷ (of ++ 34 ∷ [])))))) (sym (token_is_plain row))
+    ∙ ap (λ (of : List ℕ). table ++ (codes ",\"row\":" ++ (digits ++ (codes ",\"token\":" ++ (34 ∷ of))))) (sym (append-nil (escape (token_text row) ++ 34 ∷ [])))
 
 -- the tokens of a part that is a row, and of one that is a member
 pub row_tokens_are : (part : KeptPart) (row : Token) → (part ≡ RowNumber row) ⊎ (part ≡ RowToken row) → part_tokens (shown part) ≡ named_token name.Table ∷ row_values row

@@ -6,4 +6,3 @@ pub mod NameLemmas
 pub mod JsonLemmas
 pub mod LineLemmas
 pub mod PrintedLemmas
-pub mod RowLemmas

@@ -10,7 +10,7 @@ pub use Rattle.std.specs.Borrow.{Bor, GName}
 pub use Rattle.std.specs.Char.Utf16.{has_unpaired_surrogate, utf16_lossy_chars}
 pub use Rattle.std.specs.Fmt.{digit_glyph, digits_onto, format_spec}
 unfoldable pub use Rattle.std.specs.Fmt.{char_count, digits, padded_integral}
-pub use Rattle.std.specs.List.{flat_map, range_with_len}
+pub use Rattle.std.specs.List.{flat_map}
 pub use Rattle.std.specs.Prelude.{IfOk, IsErr, IsOk, OnOk, ◌↔◌}
 pub use Rattle.json.specs.Print.{escape}
 unfoldable pub use Rattle.json.specs.Print.{escape_byte}
@@ -22,7 +22,6 @@ pub use Rattle.cli_sending.proofs.SentLemmas.{prefix_longer, prefix_more, sends_
 pub use Rattle.cli_lines.specs.Lines.{Value, number, hex, byte, text, token, reference, bytes, guid, signature, json_from, line_feed, named_token, part_tokens, row_values, items_tokens, units_tokens, value_tokens, Part, part_letters, part_text, style, Style, line_text, lead}
 unfoldable pub use Rattle.cli_lines.specs.Lines.{line_from, styled_text}
 pub use Rattle.cli_lines.specs.Printed.{Adds, AwaitsOrFails, Begins, Completes, Ends, Moves, Printed, Prints, Same, waits, SendsOrFails}
-unfoldable pub use Rattle.cli_lines.specs.Printed.{rows_after}
 pub use Rattle.cli_lines.specs.Shown.{shown, shown_value, shown_file}
 pub use Rattle.cli_lines.specs.Texts.{escaped_bytes}
 pub use Rattle.cli_lines.specs.declared.line.Before.{Before}

@@ -1,8 +1,6 @@
 -- What a printer was asked to print.
 use Rattle.std.proofs.Common.{◌≡◌, ◌∙◌, ℕ, List, [], ◌∷◌, ◌++◌, Option, None, Some, refl, ap, sym, subst, append_assoc, append-nil}
-use Rattle.cli_lines.proofs.Prelude.{GName, flat_map-append, Before, Line, Part, Style, lead, line_from, line_text, style, styled_text, Adds, AwaitsOrFails, Begins, Completes, Ends, Printed, Prints, Same, SendsOrFails, waits, prefix_longer, prefix_more, sends_more}
-use Rattle.std.specs.Option.{option_or}
-use Rattle.std.specs.declared.io.ErrorKind.{ErrorKind}
+use Rattle.cli_lines.proofs.Prelude.{GName, flat_map-append, Before, Line, Part, Style, lead, line_from, line_text, style, styled_text, Adds, AwaitsOrFails, Begins, Completes, Ends, Printed, Prints, Same, SendsOrFails, prefix_longer, prefix_more, sends_more}
 use Rattle.cli_sending.specs.Sent.{Sends, SendsPrefix}
 
 report_of_line : (look : Style) (line : List Part) → styled_text look (line ∷ []) ≡ line_text look line
@@ -38,11 +36,6 @@ prints_more a b c xs ys first second = record {
 -- the bytes that went out come first
 moved_on : (sent waiting left x y prefix whole : List ℕ) → prefix ≡ sent ++ waiting → left ++ x ≡ waiting ++ y → prefix ++ y ≡ whole → (sent ++ left) ++ x ≡ whole
 moved_on sent waiting left x y prefix whole prefix_is same is = rw (append_assoc sent left x, same, ← append_assoc sent waiting y, ← prefix_is) is
-
--- nothing waits if printing failed
-pub never_waits : (waiting : List ℕ) (stopped : Option ErrorKind) (kind : ErrorKind) → waits waiting (option_or stopped (Some kind)) ≡ None
-never_waits waiting None kind = refl
-never_waits waiting (Some other) kind = refl
 
 -- what was to be printed went out in part, or not at all
 asked_cut : (start contents unsent : Option (List ℕ)) (text more : List ℕ) → SendsOrFails start contents text unsent → SendsPrefix start contents (text ++ more)

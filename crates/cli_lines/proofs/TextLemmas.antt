@@ -1,7 +1,7 @@
 -- What is appended to a line, one byte after another.
 use Rattle.cli_lines.proofs.Prelude.{◌≡◌, ◌∙◌, ℕ, zero, suc, ◌+◌, ◌-◌, ◌*◌, ◌/◌, ◌%◌, ◌<◌, Bool, true, false, ◌&&◌, T, eqb, eqb→eq, eq-zero-or-pos, IsTrue, List, [], ◌∷◌, ◌++◌, length, get_or, take, drop, refl, ap, sym, inl, inr, append_assoc, arith, if◌then◌else◌, flat_map, digit_glyph, hex_byte, flat_map_more, take_more, hexadecimal, upper_hexadecimal}
 use lib.Ieee.Fits.{and_l, and_r}
-use Rattle.std.specs.Prelude.{Result, OnOk}
+use Rattle.std.specs.Prelude.{Result, Ok, Err, OnOk, is_ok}
 use Rattle.std.proofs.Math.Seq.{drop-append_seam, take-append_seam}
 use Rattle.std.proofs.lemmas.Result.{on_ok_weaker}
 use Rattle.cli_sending.specs.Letters.{readable}
@@ -29,6 +29,12 @@ pair_below (suc count) n are few =
 
 pub pair_at : (n : ℕ) → n < 256 → get_or PAIRS (n * 2) 0 ∷ get_or PAIRS (n * 2 + 1) 0 ∷ [] ≡ hexadecimal 2 n
 pair_at n small = let digits = pair_below 256 n tt small in (λ i. digits.0 i ∷ digits.1 i ∷ []) ∙ sym (hex_byte false n small)
+
+-- a list that was appended, if it is that of another name
+pub appended : {T E : Type 0} (result : Result T E) (before after bytes text : List ℕ) → after ≡ (if is_ok result then before ++ bytes else before) → bytes ≡ text
+    → OnOk result (after ≡ before ++ text)
+appended (Ok done) before after bytes text is same = is ∙ ap (λ ys. before ++ ys) same
+appended (Err error) before after bytes text is same = tt
 
 -- the parts of a line, one after another
 pub three_joined : (line a b c : List ℕ) → ((line ++ a) ++ b) ++ c ≡ line ++ (a ++ b ++ c)

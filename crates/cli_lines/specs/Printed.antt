@@ -1,6 +1,5 @@
 -- What a printer was asked to print, and what went out to its writer, if the writer's bytes are known.
 use Rattle.std.specs.Prelude.{◌≡◌, ℕ, ◌+◌, ◌-◌, List, [], ◌++◌, map, Option, None, Some, Result, MatchResult}
-use Rattle.std.specs.List.{range_with_len}
 use Rattle.std.specs.Borrow.{GName}
 use Rattle.std.specs.declared.io.ErrorKind.{ErrorKind}
 use Rattle.cli_sending.specs.Sent.{Sends, SendsPrefix}
@@ -73,7 +72,3 @@ module _ {W : Type 0} where
   -- If the printer is asked to print what is left, then since the old one it was asked to print all
   abbrev pub Completes : Printed W → Printed W → List (List Part) → List (List Part) → Type 0
   Completes old now left all = (later : Printed W) → Prints now later left → Prints old later all
-
--- the lines of the rows after the first `earlier` ones
-unfoldable pub rows_after : (ℕ → List Part) → ℕ → ℕ → List (List Part)
-rows_after line earlier count = map line (range_with_len (earlier + 1) (count - earlier))

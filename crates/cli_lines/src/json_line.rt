@@ -73,7 +73,6 @@ pub(crate) fn push_name(file: Option<&str>, at: Before, name: Name, line: &mut V
 }
 
 /// Appends the table, the number and the token of a row.
-#[tactic(auto, using(std::proofs::lemmas::Grind::common_steps, crate::proofs::PlainLemmas::token_is_plain), unfolding(json::specs::Print::print_from, json::specs::Print::escape_byte))]
 #[inline(never)]
 fn push_row(row: Token, line: &mut Vec<u8>) -> Pushed
     ensures { OnOk result (line.new.items ≡ line.old.items ++ print (row_values row)) }

@@ -1,33 +1,21 @@
 //! How lines follow one another.
-ghost use Rattle.std.specs.Prelude.{◌≤◌, ◌++◌, ◌∷◌, ◌+◌, ◌<◌, [], ℕ, List, map};
-ghost use Rattle.std.specs.List.{range_with_len};
+ghost use Rattle.std.specs.Prelude.{◌++◌, ◌∷◌, [], List};
 ghost use Rattle.cli_lines.specs.Lines.{Part};
-ghost use Rattle.cli_lines.specs.Printed.{Adds, Begins, Completes, Ends, Printed, Prints, rows_after};
+ghost use Rattle.cli_lines.specs.Printed.{Adds, Begins, Completes, Ends, Printed, Prints};
 
 use std::io::Write;
 
 /// A printer that takes lines, and then other lines, takes both in this order.
-#[tactic(auto, using(crate::proofs::PrintedLemmas::prints_more, crate::proofs::PrintedLemmas::prints_nothing))]
 pub fn lines_follow<W: Write>()
     ensures nothing { (printer : Printed W) → Prints printer printer [] }
     ensures more { (old between new : Printed W) (first second : List (List Part)) → Prints old between first → Prints between new second → Prints old new (first ++ second) }
 {}
 
 /// A printer that prints what is left prints all in the end.
-#[tactic(auto, using(crate::proofs::PrintedLemmas::completed, crate::proofs::PrintedLemmas::all_completed))]
 pub fn reports_are_completed<W: Write>()
     ensures start { (printer : Printed W) (lines : List (List Part)) → Completes printer printer lines lines }
     ensures more { (old now next : Printed W) (lines left all : List (List Part)) → Completes old now (lines ++ left) all → Prints now next lines → Completes old next left all }
     ensures all { (old new : Printed W) (all : List (List Part)) → Completes old new [] all → Prints old new all }
-{}
-
-/// A printer takes the lines of rows one after another.
-#[tactic(auto, using(crate::proofs::RowLemmas::rows_all, crate::proofs::RowLemmas::rows_more, crate::proofs::RowLemmas::rows_none))]
-pub fn rows_follow<W: Write>()
-    ensures all { (old new : Printed W) (line : ℕ → List Part) (count : ℕ) → Prints old new (rows_after line 0 count) → Prints old new (map line (range_with_len 1 count)) }
-    ensures more { (old between new : Printed W) (line : ℕ → List Part) (earlier count : ℕ) → earlier < count → Prints old between (line (earlier + 1) ∷ [])
-        → Prints between new (rows_after line (earlier + 1) count) → Prints old new (rows_after line earlier count) }
-    ensures none { (printer : Printed W) (line : ℕ → List Part) (earlier count : ℕ) → count ≤ earlier → Prints printer printer (rows_after line earlier count) }
 {}
 
 /// A line has the parts that it was begun with, and those that were added.

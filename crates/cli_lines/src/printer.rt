@@ -74,7 +74,6 @@ impl<'o, W: Write> Printer<'o, W> {
     }
 
     /// Prints a line.
-    #[tactic(auto, using(crate::proofs::PrintedLemmas::whole_line))]
     pub fn line(&mut self, parts: &[Part<'_>])
         ensures { Prints self.old self.new (map shown parts.now ∷ []) }
     {
@@ -148,7 +147,10 @@ impl<'o, W: Write> Printer<'o, W> {
         ensures lines { (lines : List (List ThePart)) → Prints self.old self.new lines }
         ensures stopped { self.new.waiting ≡ None }
     {
-        self.stopped = self.stopped.or(Some(ErrorKind::OutOfMemory));
+        match self.stopped {
+            Some(_) => {}
+            None => self.stopped = Some(ErrorKind::OutOfMemory),
+        }
     }
 
     /// Sends what waits, and flushes the writer. Returns the writer and the first failure: out of memory, or that the
