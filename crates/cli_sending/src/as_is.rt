@@ -13,10 +13,7 @@ use std::str;
 fn text_or<'t>(bytes: &'t [u8], other: &'t str) -> &'t str
     ensures { result.now ≡ (if is_utf8 bytes.now then bytes.now else other.now) }
 {
-    match str::from_utf8(bytes) {
-        Ok(text) => text,
-        Err(_) => other,
-    }
+    str::from_utf8(bytes).unwrap_or(other)
 }
 
 /// A text whose escapes are read back, unless that is no UTF-8. Then, and if it has no escapes, it is the same text. What

@@ -51,10 +51,7 @@ fn char_len(first: u8) -> usize
 fn first_char(bytes: &[u8]) -> Option<char>
     ensures { result ≡ first_char bytes.now }
 {
-    match str::from_utf8(bytes) {
-        Ok(text) => text.chars().next(),
-        Err(_) => None,
-    }
+    str::from_utf8(bytes).ok()?.chars().next()
 }
 
 /// The bytes of the letter whose escapes are at the start of a text, by the first of them; empty if there is no letter.
@@ -66,8 +63,8 @@ fn letter_from<'r>(first: u8, text: &[u8], room: &'r mut [u8; MOST]) -> &'r [u8]
     let count = read_start(text, start);
     let bytes = start.split_at(count).0;
     match first_char(bytes) {
-        Some(letter) => if is_letter(letter) { bytes } else { &[] },
-        None => &[],
+        Some(letter) if is_letter(letter) => bytes,
+        _ => &[],
     }
 }
 

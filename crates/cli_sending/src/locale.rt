@@ -8,10 +8,7 @@ ghost use Rattle.cli_sending.specs.Locale.{is_utf8_locale, is_utf8_name, set_or}
 fn set_or<'a>(value: Option<&'a str>, other: &'a str) -> &'a str
     ensures { result.now ≡ set_or (option_map (λ text. text.now) value.entry) other.now }
 {
-    match value {
-        Some(text) if !text.is_empty() => text,
-        _ => other,
-    }
+    value.filter(|text| !text.is_empty()).unwrap_or(other)
 }
 
 /// Whether a codeset is UTF-8.
@@ -25,10 +22,7 @@ fn is_utf8_name(name: &str) -> bool
 fn without_modifier(name: &str) -> &str
     ensures { result.now ≡ before_first (λ byte. byte == 64) name.now }
 {
-    match name.split_once('@') {
-        Some((codeset, _)) => codeset,
-        None => name,
-    }
+    name.split_once('@').map_or(name, |(codeset, _)| codeset)
 }
 
 /// Whether the characters of a locale are UTF-8, by the variables `LC_ALL`, `LC_CTYPE` and `LANG`: the first that is set and not
@@ -37,8 +31,7 @@ pub fn is_utf8_locale(lc_all: Option<&str>, lc_ctype: Option<&str>, lang: Option
     ensures { result ≡ is_utf8_locale (option_map (λ text. text.now) lc_all.entry) (option_map (λ text. text.now) lc_ctype.entry) (option_map (λ text. text.now) lang.entry) }
 {
     let locale = set_or(lc_all, set_or(lc_ctype, set_or(lang, "")));
-    match locale.split_once('.') {
-        Some((_, codeset)) => is_utf8_name(without_modifier(codeset)),
-        None => false,
-    }
+    locale
+        .split_once('.')
+        .is_some_and(|(_, codeset)| is_utf8_name(without_modifier(codeset)))
 }
