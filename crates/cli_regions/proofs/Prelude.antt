@@ -13,10 +13,10 @@ pub use Rattle.root.specs.Views.{view}
 pub use Rattle.pe.specs.Headers.{directory_count, lfanew, sections_offset, wider, optional_header_size, section_at, section_count}
 pub use Rattle.cli_regions.specs.Headers.{counts_from, table_words}
 unfoldable pub use Rattle.cli_regions.specs.Headers.{other_stream_regions, stream_header_regions, stream_regions, root_header_regions, table_stream_regions}
-pub use Rattle.cli_regions.specs.Kept.{part_regions, stream_part_regions}
+pub use Rattle.cli_regions.specs.Kept.{Adds, part_regions, stream_part_regions}
 pub use Rattle.cli_regions.specs.Files.{directories_offset, whole_directories, optional_fields, numbered, section_bytes, section_offset, named_at}
 unfoldable pub use Rattle.cli_regions.specs.Files.{dos_header_regions, file_header_regions, image_regions, directories_regions, optional_header_regions, section_header_regions, section_regions, named_regions, cli_regions}
 pub use Rattle.cli_regions.specs.Regions.{region, field_region, fields_from, seen_field, header_regions}
 unfoldable pub use Rattle.cli_regions.specs.Regions.{regions_at}
 pub use Rattle.cli_regions.specs.declared.fields.TheConstants.{DIRECTORIES, DIRECTORY_FIELDS, SECTION_HEADER}
-pub use Rattle.cli_regions.proofs.SearchLemmas.{Completes, adds_none, and_then, joins_none, more_left, none_left, said_as}
+pub use Rattle.cli_regions.proofs.SearchLemmas.{Completes, adds_none, and_then, joins_none, more_left, none_left, numbered_more, said_as}

@@ -1,5 +1,8 @@
 -- What a search keeps.
-use Rattle.std.proofs.Common.{◌≡◌, ◌∙◌, ℕ, List, [], ◌++◌, refl, ap, subst, sym, append_assoc, append-nil}
+use Rattle.std.proofs.Common.{◌≡◌, ◌∙◌, ◌+◌, ℕ, List, [], ◌++◌, refl, ap, arith, subst, sym, append_assoc, append-nil}
+use Rattle.std.proofs.lemmas.List.{flat_map_more, map-id}
+use Rattle.std.proofs.lemmas.List.FromFn.{map-range_with_len_more}
+use Rattle.std.specs.List.{flat_map, range_with_len}
 use Rattle.std.proofs.lemmas.List.Elements.{filter-append}
 use Rattle.cli_regions.specs.Kept.{Adds, Joins, Searched}
 use Rattle.cli_regions.specs.Regions.{Region, has_byte, regions_at}
@@ -26,6 +29,11 @@ unfolding regions_at
 and_then {old} {between} {new} {xs} {ys} first later =
     let there = subst (λ (offset : ℕ). Joins between new (regions_at offset ys)) first.joins.offset later.joins in
     record { joins = rw (filter-append (λ (of : Region). has_byte of.start of.size old.offset) xs ys) (joins_more first.joins there) }
+
+-- those of one more number
+pub numbered_more : (f : ℕ → List Region) (n : ℕ) → flat_map f (range_with_len 0 n) ++ f n ≡ flat_map f (range_with_len 0 (n + 1))
+numbered_more f n =
+    flat_map_more f [] (range_with_len 0 n) n ∙ ap (flat_map f) (sym (simp map-id at (map-range_with_len_more (λ (k : ℕ). k) 0 n n (omega arith))))
 
 -- the same structures by another name
 pub said_as : {old new : Searched} {xs ys : List Region} → Adds old new xs → xs ≡ ys → Adds old new ys
