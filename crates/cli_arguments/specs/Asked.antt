@@ -33,17 +33,15 @@ begins_with prefix word = bytes_eq prefix (take (length prefix) word)
 abbrev pub ends_in : Text → Text → Bool
 ends_in ending word = str_eq_ignore_ascii_case (drop (length word - length ending) word) ending
 
--- the word begins at the root, in this directory or in the one that contains it
-abbrev pub has_directory : Text → Bool
-has_directory word = begins_with (codes "/") word || begins_with (codes "./") word || begins_with (codes "../") word
-
 -- the word ends like the name of an assembly
 abbrev pub is_assembly : Text → Bool
 is_assembly word = ends_in (codes ".dll") word || ends_in (codes ".exe") word || ends_in (codes ".winmd") word || ends_in (codes ".netmodule") word
 
--- the word has the form of a path: it is `-`, the standard input, or one of these
+-- the word has the form of a path: it is `-`, the standard input; it begins at the root, in this directory or in the one that
+-- contains it; or it ends like the name of an assembly
 abbrev pub is_path : Text → Bool
-is_path word = bytes_eq word (codes "-") || has_directory word || is_assembly word
+is_path word =
+    bytes_eq word (codes "-") || begins_with (codes "/") word || begins_with (codes "./") word || begins_with (codes "../") word || is_assembly word
 
 -- the argument has the value `true`, which `clap` gives to a flag
 abbrev pub is_true : Option Text → Bool

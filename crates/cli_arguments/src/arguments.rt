@@ -54,20 +54,17 @@ fn asked<'a>(
 {
     let mut files = list(alloc, given, "FILE")?;
     let part = take_part(subcommand, given, &mut files);
-    let tokens = list(alloc, given, "HEX")?;
-    let ignored = list(alloc, given, "ignore")?;
-    let codes = list(alloc, given, "CODE")?;
     Ok(Ask {
         subcommand,
         bare: flag(given, "bare"),
         file: given.get_str("FILE"),
         second: given.get_str("second"),
-        tokens,
-        ignored,
+        tokens: list(alloc, given, "HEX")?,
+        ignored: list(alloc, given, "ignore")?,
         budget: given.get_one::<u64>("budget"),
         part,
         json: flag(given, "json"),
-        codes,
+        codes: list(alloc, given, "CODE")?,
         files,
         files_from: given.get_str("files-from"),
         null: flag(given, "null"),

@@ -1,7 +1,7 @@
 //! The files among the arguments, and the last argument if it is none of them.
 ghost use Rattle.std.specs.Prelude.{◌≡◌, map, option_map};
 ghost use Rattle.clap.specs.Words.{found_of, rows_of};
-ghost use Rattle.cli_arguments.specs.Asked.{AreParts, ends_in, has_directory, has_files, is_assembly, is_part, is_path, is_plain_word};
+ghost use Rattle.cli_arguments.specs.Asked.{AreParts, ends_in, has_files, is_assembly, is_part, is_path, is_plain_word};
 
 use crate::arguments::flag;
 use crate::asked::Subcommand;
@@ -19,23 +19,19 @@ pub(crate) fn take_part<'a>(
     let Some((last, before)) = words.as_slice().split_last() else {
         return None;
     };
-    if is_part(subcommand, has_files(given, before), last) {
-        let (part, count) = (*last, before.len());
-        words.truncate(count);
-        Some(part)
-    } else {
-        None
+    if !is_part(subcommand, has_files(given, before), last) {
+        return None;
     }
+    let (part, count) = (*last, before.len());
+    words.truncate(count);
+    Some(part)
 }
 
 /// Whether there are files: these arguments, or those of a list.
 fn has_files(given: &ArgMatches<'_>, words: &[&str]) -> bool
     ensures { result ≡ has_files (rows_of (found_of given.now)) (map (λ word. word.now) words.now) }
 {
-    match given.get_str("files-from") {
-        Some(_) => true,
-        None => flag(given, "null") || !words.is_empty(),
-    }
+    given.get_str("files-from").is_some() | flag(given, "null") | !words.is_empty()
 }
 
 /// Whether the last argument says what to print of files, if there are any besides.
@@ -54,24 +50,20 @@ fn is_part(subcommand: Subcommand, has_files: bool, word: &str) -> bool
 fn is_plain_word(word: &str) -> bool
     ensures { result ≡ is_plain_word word.now }
 {
-    word.as_bytes()
-        .iter()
-        .all(|byte| *byte != b'-' && *byte != b'.' && *byte != b'/')
+    let word = word.as_bytes();
+    word.iter().all(|byte| !matches!(byte, b'-' | b'.' | b'/'))
 }
 
-/// Whether a word has the form of a path: that of the standard input, of a directory, or of an assembly.
+/// Whether a word has the form of a path: that of the standard input, one that begins in a directory, or an assembly's.
 fn is_path(word: &str) -> bool
     ensures { result ≡ is_path word.now }
 {
     let word = word.as_bytes();
-    word == b"-".as_slice() || has_directory(word) || is_assembly(word)
-}
-
-/// Whether a word begins at the root, in this directory or in the one that contains it.
-fn has_directory(word: &[u8]) -> bool
-    ensures { result ≡ has_directory word.now }
-{
-    word.starts_with(b"/") || word.starts_with(b"./") || word.starts_with(b"../")
+    word == b"-".as_slice()
+        || word.starts_with(b"/")
+        || word.starts_with(b"./")
+        || word.starts_with(b"../")
+        || is_assembly(word)
 }
 
 /// Whether a word ends like the name of an assembly.

@@ -24,20 +24,25 @@ macro_rules! reports {
 }
 
 /// A row of the table: the name, what it does, the arguments, and what it prints. What a report says of several files is
-/// between two texts.
+/// between two texts; it may be that a file has no such type.
 macro_rules! usage {
     ($name:literal $about:literal $arguments:expr, $before:literal $after:literal) => {
-        usage![$name $about $arguments, concat!(
-            $before,
-            "
+        usage![$name $about $arguments, concat!($before, "
 For several FILEs each line begins with 'FILE: '. A FILE that breaks a rule or
 cannot be read is reported to standard error with its name, and the next one
 follows. The exit status is the greatest. 'clim check --help' says what '-r',
 '-0' and '--files-from' read.
 
-",
-            $after
-        )]
+", $after)]
+    };
+    ($name:literal $about:literal $arguments:expr, $before:literal or_no_type $after:literal) => {
+        usage![$name $about $arguments, concat!($before, "
+For several FILEs each line begins with 'FILE: '. A FILE that breaks a rule, has
+no such type or cannot be read is reported to standard error with its name, and
+the next one follows. The exit status is the greatest. 'clim check --help' says
+what '-r', '-0' and '--files-from' read.
+
+", $after)]
     };
     ($name:literal $about:literal $arguments:expr, $output:expr) => {
         Usage {

@@ -226,12 +226,7 @@ are known, and its bytes otherwise. Names, signatures and values longer than
 
 In a UTF-8 locale (LC_ALL, LC_CTYPE or LANG), visible characters beyond ASCII
 are printed as they are; all else that is not printable ASCII is escaped.
-
-For several FILEs each line begins with 'FILE: '. A FILE that breaks a rule, has
-no such type or cannot be read is reported to standard error with its name, and
-the next one follows. The exit status is the greatest. 'clim check --help' says
-what '-r', '-0' and '--files-from' read.
-
+" or_no_type "\
 The last argument after a FILE is NAME, unless it has the form of a path: it is
 '-', begins with '/', './' or '../', or ends in .dll, .exe, .winmd or
 .netmodule, in any case.
@@ -308,12 +303,7 @@ to, in the order of the rows of ModuleRef, TypeRef and MemberRef (ECMA-335,
 II.22.31, II.22.38, II.22.25). A line ends with the token of its row in a
 comment. A type has its scope in brackets before its name (II.7.3). Names are
 quoted and cut as by 'clim outline'. FILE is checked first, as by 'clim check'.
-
-For several FILEs each line begins with 'FILE: '. A FILE that breaks a rule, has
-no such type or cannot be read is reported to standard error with its name, and
-the next one follows. The exit status is the greatest. 'clim check --help' says
-what '-r', '-0' and '--files-from' read.
-
+" or_no_type "\
 The last argument after a FILE is NAME, unless it has the form of a path, as for
 'clim outline'. NAME is the full name of a type of another module, without its
 scope: its namespace, a dot and its name. A nested type follows the type that

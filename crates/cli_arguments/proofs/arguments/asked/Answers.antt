@@ -15,8 +15,8 @@ returns c = λ words named.
       bare = c.flag.ensures;
       file = c.get_str.ensures ∙ first_value-rows found (codes "FILE");
       second = c.get_str-2.ensures ∙ first_value-rows found (codes "second");
-      tokens = c.in_ok-tokens.ensures;
-      ignored = c.in_ok-ignored.ensures;
+      tokens = c.in_ok-list.ensures;
+      ignored = c.in_ok-list-2.ensures;
       budget = count_is ParseIntError
           (λ t r. ParsesUnsigned 64 10 t r × ExplainsUnsignedError 10 t r × HasUnsignedDigitsIfOk t r) (λ t r gives. gives.0) (one_of (codes "budget") rows) c.get_one.result
           (λ none. c.get_one.ensures.none (one_text-rows found (codes "budget") ∙ none))
@@ -24,7 +24,7 @@ returns c = λ words named.
       parts = subst (λ (words : List Text). AreParts c.args.subcommand rows words (map (λ word. word.now) c.take_part-part.new.words.items) (option_map (λ word. word.now) c.take_part-part.result))
           c.in_ok-files.ensures c.take_part-part.ensures;
       json = c.flag-2.ensures;
-      faults = c.in_ok-codes.ensures;
+      faults = c.in_ok-list-3.ensures;
       files_from = c.get_str-3.ensures ∙ first_value-rows found (codes "files-from");
       null = c.flag-3.ensures;
       quiet = c.flag-4.ensures;

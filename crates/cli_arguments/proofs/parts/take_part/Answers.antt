@@ -19,21 +19,21 @@ returns-in_default c = (
       ))),
 )
 
-pub returns-then-is_part : goal.returns-then-is_part
-returns-then-is_part c =
+pub returns : goal.returns
+returns c =
     let before = c.in-Some.before.now in
     let last = c.in-Some.last.now in
     let whole = sym c.as_slice.ensures.value ∙ c.in-Some.ensures.cases.0 in
     let left : c.truncate.new.self.items ≡ before =
     c.truncate.ensures.items ∙ ap (take (length before)) whole ∙ take-append_seam before (last ∷ []) in
-    rw (left, whole) (map_push (λ (word : Bor Text). word.now) before last, rw (← c.has_files.ensures, ← c.is_part.ensures) c.if-is_part.true)
+    rw (left, whole) (map_push (λ (word : Bor Text). word.now) before last, rw (← c.has_files.ensures, ← c.is_part.ensures) c.if-not-is_part.false)
 
-pub returns-else-is_part : goal.returns-else-is_part
-returns-else-is_part c = (
+pub returns-then-not-is_part : goal.returns-then-not-is_part
+returns-then-not-is_part c = (
   refl,
   (λ before last ends.
       let whole = sym c.as_slice.ensures.value ∙ c.in-Some.ensures.cases.0 in
       let same = same_from_push before (map (λ word. word.now) c.in-Some.before.now) last c.in-Some.last.now.now
       (sym ends ∙ ap (map (λ word. word.now)) whole ∙ map_push (λ (word : Bor Text). word.now) c.in-Some.before.now c.in-Some.last.now) in
-      rw (same.0, same.1, ← c.has_files.ensures, ← c.is_part.ensures) c.if-is_part.false),
+      rw (same.0, same.1, ← c.has_files.ensures, ← c.is_part.ensures) c.if-not-is_part.true),
 )
