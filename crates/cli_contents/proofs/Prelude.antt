@@ -1,9 +1,8 @@
 -- What several proofs of this crate name of std, of the crates below, and of its own definitions.
-pub use Rattle.std.proofs.Common.{◌≡◌, ℕ, zero, suc, ◌+◌, ◌-◌, ◌<◌, ◌≤◌, List, [], ◌∷◌, ◌++◌, arith, nat_le, Option, None, Some, length, map, refl, take}
-pub use Rattle.std.proofs.lemmas.Bool.{false_from_ne_true, le-leb, leb-true, lt-leb}
+pub use Rattle.std.proofs.Common.{◌≡◌, ℕ, suc, ◌+◌, ◌-◌, ◌<◌, ◌≤◌, List, [], ◌∷◌, ◌++◌, arith, None, length, map, refl, take}
+pub use Rattle.std.proofs.lemmas.Bool.{le-leb, lt-leb}
 pub use Rattle.std.proofs.lemmas.List.{take_all}
 pub use Rattle.std.specs.Option.{option_to_list}
-pub use Rattle.std.specs.Prelude.{option_and_then}
 pub use Rattle.pe.specs.Image.{Image}
 pub use Rattle.table_schema.specs.declared.table.TableId.TheVariants.{Field}
 pub use Rattle.metadata.specs.Metadata.{Metadata, cell_in}
@@ -12,7 +11,7 @@ pub use Rattle.file_ranges.specs.Resources.{here}
 pub use Rattle.cli_lines.specs.Printed.{Printed, Prints}
 pub use Rattle.cli_contents.specs.Contents.{content_with, contents_at}
 unfoldable pub use Rattle.cli_contents.specs.Contents.{contents_from}
-pub use Rattle.cli_contents.specs.FieldData.{data_from, data_in, field_type}
+pub use Rattle.cli_contents.specs.FieldData.{field_type}
 pub use Rattle.cli_contents.specs.Lines.{content_limit, row_line, resource_line}
 pub use Rattle.cli_contents.specs.declared.bodies.Body.{Body}
 pub use Rattle.cli_contents.specs.declared.lines.Kind.{Kind}

@@ -128,14 +128,12 @@ fn data_in(pe: &Pe<'_>, field: u32, rva: u32, size: u32) -> Option<Body>
     ensures of { result ≡ data_in pe.now field rva size }
     ensures row { IfSome result (λ of. of.row ≡ field) }
 {
-    match pe.range(rva, 1) {
-        Some(range) => Some(Body {
-            row: field,
-            start: range.start,
-            size: size as usize,
-        }),
-        None => None,
-    }
+    let range = pe.range(rva, 1)?;
+    Some(Body {
+        row: field,
+        start: range.start,
+        size: size as usize,
+    })
 }
 
 /// The data of a field, if it has data in the file. If it has more than one row of FieldRVA, it is that of the first.
