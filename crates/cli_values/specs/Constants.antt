@@ -1,6 +1,5 @@
 -- The values of constants in the notation of ILAsm (ECMA-335 II.16.2, II.22.9).
-use Rattle.std.specs.Prelude.{ℕ, ◌-◌, ◌%◌, ◌^◌, ◌==◌, ◌&&◌, ◌||◌, Bool, not, nat_lt, if◌then◌else◌, List, [], ◌∷◌, ◌++◌, length, take, codes, decimal, Option, None, Some}
-use Rattle.std.specs.List.{flat_map}
+use Rattle.std.specs.Prelude.{ℕ, ◌-◌, ◌%◌, ◌^◌, ◌==◌, ◌&&◌, ◌||◌, Bool, not, nat_lt, if◌then◌else◌, List, [], ◌∷◌, ◌++◌, length, take, codes, decimal, Option, None, Some, flat_map}
 use Rattle.packed.specs.Number.{little_endian}
 use Rattle.table_schema.specs.Tokens.{hexadecimal}
 use Rattle.sig_grammar.specs.declared.element.Element.{Element}

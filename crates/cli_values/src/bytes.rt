@@ -1,7 +1,6 @@
 //! Appends bytes in hexadecimal.
-ghost use Rattle.std.specs.Prelude.{◌≡◌, ◌<◌, ◌++◌, false, OnOk, length, string_bytes, take};
+ghost use Rattle.std.specs.Prelude.{◌≡◌, ◌<◌, ◌++◌, false, OnOk, length, string_bytes, take, flat_map};
 ghost use Rattle.std.specs.Fmt.{digit_glyph};
-ghost use Rattle.std.specs.List.{flat_map};
 ghost use Rattle.table_schema.specs.Tokens.{hexadecimal};
 ghost use Rattle.cli_values.specs.Constants.{bytes_text, cut_mark, value_limit};
 

@@ -1,6 +1,5 @@
 //! Appends a text of UTF-16 units.
-ghost use Rattle.std.specs.Prelude.{◌≡◌, ◌<◌, ◌++◌, IsTrue, OnOk, string_bytes};
-ghost use Rattle.std.specs.List.{flat_map};
+ghost use Rattle.std.specs.Prelude.{◌≡◌, ◌<◌, ◌++◌, IsTrue, OnOk, string_bytes, flat_map};
 ghost use Rattle.cli_faults.specs.Escaped.{escaped_unit, is_printable};
 ghost use Rattle.heap_entries.specs.UserView.{units_in};
 ghost use Rattle.cli_values.specs.Constants.{string_text, unit_text};
@@ -39,6 +38,7 @@ fn push_unit(unit: u16, text: &mut String) -> Result<(), AllocError>
 }
 
 /// Appends the units in pairs of bytes.
+#[tactic(auto, using(crate::proofs::ByteLemmas::units_none))]
 fn push_units(bytes: &[u8], text: &mut String) -> Result<(), AllocError>
     ensures { OnOk result (string_bytes text.new ≡ string_bytes text.old ++ flat_map unit_text (units_in bytes.now)) }
 {

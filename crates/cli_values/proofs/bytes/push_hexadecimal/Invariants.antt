@@ -1,5 +1,4 @@
-use Rattle.std.proofs.Common.{◌≡◌, ◌++◌, string_bytes, take}
-use Rattle.std.specs.List.{flat_map}
+use Rattle.std.proofs.Common.{◌≡◌, ◌++◌, string_bytes, take, flat_map}
 use Rattle.table_schema.specs.Tokens.{hexadecimal}
 use Rattle.cli_values.proofs.bytes.push_hexadecimal.Given as goal
 

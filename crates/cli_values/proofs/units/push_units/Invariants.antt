@@ -1,5 +1,4 @@
-use Rattle.std.proofs.Common.{◌≡◌, ◌++◌, length, string_bytes}
-use Rattle.std.specs.List.{flat_map}
+use Rattle.std.proofs.Common.{◌≡◌, ◌++◌, length, string_bytes, flat_map}
 use Rattle.heap_entries.specs.UserView.{units_in}
 use Rattle.cli_values.specs.Constants.{unit_text}
 use Rattle.cli_values.proofs.units.push_units.Given as goal
