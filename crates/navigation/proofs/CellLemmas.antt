@@ -1,10 +1,17 @@
 -- Cells of a valid model that are references or texts.
-use Rattle.navigation.proofs.Prelude.{◌≡◌, ℕ, zero, suc, ◌<◌, ◌≤◌, Bool, false, List, [], ◌∷◌, Option, Some, None, refl, sym, ap, subst, arith, Bor, ∥∥₁_elim, le_prop, TableId, Token, ColumnKind, cell_count, Cell, Number, Text, Ref, Sig, IsOfKind, Metadata, cell_in, count_in, HasRow, IsValid, MayRefer, kind_at, nullable_at, Shows}
+use Rattle.navigation.proofs.Prelude.{◌≡◌, ℕ, zero, suc, ◌<◌, ◌≤◌, Bool, false, List, [], ◌∷◌, Option, Some, None, refl, sym, ap, subst, arith, Bor, ∥∥₁_elim, le_prop, TableId, Token, ColumnKind, cell_count, Cell, Number, Text, Ref, Sig, IsOfKind, Metadata, cell_in, count_in, HasRow, IsValid, MayRefer, kind_at, nullable_at, Shows, ⊤, Contains, IfSome}
 use Rattle.std.proofs.lemmas.Option.{same_Some}
-use Rattle.std.specs.Prelude.{⊤, Contains, IfSome}
 use Rattle.table_schema.specs.declared.column.ColumnKind.TheVariants as kind
 use Rattle.reading.specs.declared.cell_ref.CellRef.{CellRef}
 use Rattle.reading.specs.declared.cell_ref.CellRef.TheVariants as seen
+
+-- a row of a source is a row of its model, and its cells are of the kinds of their columns
+pub row_there : (model : Metadata) (table : TableId) (row count : ℕ) → count_in model table ≡ count → 1 ≤ row → row ≤ count → HasRow model table row
+row_there model table row count counted first last = (first, rw counted last)
+
+pub of_kind : (model : Metadata) → IsValid model → (table : TableId) (row cell count : ℕ) → count_in model table ≡ count → 1 ≤ row → row ≤ count → cell < cell_count table
+    → IsOfKind (kind_at table cell) (cell_in model table row cell)
+of_kind model valid table row cell count counted first last within = (valid.cells table row cell (row_there model table row count counted first last) within).of_kind
 
 -- a reference to a row of a table, which is not null
 abbrev pub IsTo : Metadata → TableId → Option Token → Type 0
@@ -22,11 +29,11 @@ is_to model of (Some token) of_kind refers =
     (ap (λ (t : TableId). record { table = t; row = token.row }) same, subst (λ (t : TableId). HasRow model t token.row) same refers)
 
 -- in a column of rows of a table that allows no null, a reference is to a row of the table
-pub to_row : (model : Metadata) → IsValid model → (of table : TableId) (row cell : ℕ) → HasRow model table row → cell < cell_count table
+pub to_row : (model : Metadata) → IsValid model → (of table : TableId) (row cell count : ℕ) → count_in model table ≡ count → 1 ≤ row → row ≤ count → cell < cell_count table
     → kind_at table cell ≡ kind.Row of → nullable_at table cell ≡ false
     → (reference found : Option Token) → cell_in model table row cell ≡ Ref reference → reference ≡ found → IsTo model of found
-to_row model valid of table row cell there within is_row not_null reference found is same =
-    let held = valid.cells table row cell there within in
+to_row model valid of table row cell count counted first last within is_row not_null reference found is same =
+    let held = valid.cells table row cell (row_there model table row count counted first last) within in
     let P : ColumnKind → Type 0 = λ k. IsOfKind k (Ref reference) in
     let Q : Cell → Type 0 = λ c. IsOfKind (kind_at table cell) c in
     let R : Bool → Type 0 = λ b. MayRefer model b (Ref reference) in
@@ -37,8 +44,7 @@ to_row model valid of table row cell there within is_row not_null reference foun
 pub refers_to : (model : Metadata) → IsValid model → (table : TableId) (row cell : ℕ) → HasRow model table row → cell < cell_count table
     → (token : Token) → cell_in model table row cell ≡ Ref (Some token) → HasRow model token.table token.row
 refers_to model valid table row cell there within token is =
-    let P : Cell → Type 0 = λ c. MayRefer model (nullable_at table cell) c in
-    subst P is (valid.cells table row cell there within).refers
+    rw is at (valid.cells table row cell there within).refers
 
 -- a reference is to a row that exists, if it is so in some model with these numbers of rows
 pub referred : (rows : TableId → ℕ) (reference : Option Token)

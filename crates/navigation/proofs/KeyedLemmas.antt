@@ -1,6 +1,5 @@
 -- Rows in the order of their numbers.
-use Rattle.navigation.proofs.Prelude.{◌≡◌, ◌∙◌, ℕ, zero, suc, ◌+◌, ◌<◌, ◌≤◌, ◌==◌, ◌&&◌, Bool, true, false, cond, List, [], ◌∷◌, ◌++◌, length, get_or, map, append-nil, refl, sym, ap, subst, arith, tests, All, filter, IsNonDecreasingBy, ties, eq-eqb, ne_eqb, get_or-map, length-map, All-cons, All-nil, All-weaker, filter-append, filter_agree, rows_that, KeyedRow, AreByKey, has_key, key_of, keyed_row, keyed_rows, row_of}
-use Rattle.std.specs.Prelude.{not}
+use Rattle.navigation.proofs.Prelude.{◌≡◌, ◌∙◌, ℕ, zero, suc, ◌+◌, ◌<◌, ◌≤◌, ◌==◌, ◌&&◌, Bool, true, false, cond, List, [], ◌∷◌, ◌++◌, length, get_or, map, append-nil, refl, sym, ap, subst, arith, tests, All, filter, IsNonDecreasingBy, ties, eq-eqb, ne_eqb, get_or-map, length-map, All-cons, All-nil, All-weaker, filter-append, filter_agree, rows_that, KeyedRow, AreByKey, has_key, key_of, keyed_row, keyed_rows, row_of, not}
 use Rattle.std.specs.Ordering.{is_lt, nat_cmp}
 
 module _ {X : Type 0} (test : X → Bool) where

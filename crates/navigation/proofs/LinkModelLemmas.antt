@@ -1,12 +1,12 @@
 -- The references of a root and of its model have the same numbers.
-use Rattle.navigation.proofs.Prelude.{◌≡◌, ◌∙◌, ℕ, ◌<◌, ◌≤◌, ◌==◌, inl, inr, Bool, false, List, refl, sym, ap, arith, TableId, TypeDef, EventMap, PropertyMap, Token, cell_columns, cell_count, column_of, Cell, IsKeyCell, Metadata, cell_in, count_in, Source, number_of, rows_in, source_of, rows_that}
+use Rattle.navigation.proofs.Prelude.{◌≡◌, ◌∙◌, ℕ, ◌<◌, ◌≤◌, ◌==◌, inl, inr, Bool, false, List, refl, sym, ap, arith, TableId, TypeDef, EventMap, PropertyMap, Token, cell_columns, cell_count, column_of, Cell, IsKeyCell, Metadata, cell_in, count_in, Source, number_of, rows_in, source_of, rows_that, cell_of, link_in, number_in, number_to, table_of}
 use Rattle.table_schema.specs.declared.column.ColumnKind.TheVariants as kind
 use Rattle.metadata.specs.KeyOrder.{key_in, key_number}
 use Rattle.metadata.specs.Rows.{IsCell}
 use Rattle.metadata.specs.Stands.{Refers}
 use Rattle.navigation.specs.declared.links.Link.{Link}
 use Rattle.navigation.specs.declared.links.Link.TheVariants as link_of
-use Rattle.navigation.specs.Linked.{cell_of, link_in, linked, number_in, number_to, table_of}
+use Rattle.navigation.specs.Linked.{linked}
 use Rattle.navigation.proofs.LinkLemmas.{rows_same}
 
 -- a number in a column of types is that of the reference

@@ -1,7 +1,5 @@
 -- The rows of NestedClass with a key are those of a nested type, and the first row of an ascending list is the least.
-use Rattle.std.proofs.Common.{◌≡◌, ℕ, zero, suc, ◌≤◌, ◌↔◌, List, [], ◌∷◌, Option, Some, None, IfSome, IfNone, MatchOption, refl, sym, ◌∙◌, ap, subst, arith}
-use Rattle.navigation.proofs.Prelude.{∥∥₁_elim, le_prop, IsStrictlyIncreasing, NestedClass, cell_columns, Metadata, count_in, cell_in, HasRow, HasKey, IsKeyCell}
-use Rattle.std.specs.List.{Contains}
+use Rattle.navigation.proofs.Prelude.{∥∥₁_elim, le_prop, IsStrictlyIncreasing, NestedClass, cell_columns, Metadata, count_in, cell_in, HasRow, HasKey, IsKeyCell, ◌≡◌, ℕ, zero, suc, ◌≤◌, ◌↔◌, List, [], ◌∷◌, Option, Some, None, IfSome, IfNone, MatchOption, refl, sym, ◌∙◌, ap, subst, arith, Contains}
 use Rattle.std.proofs.lemmas.List.Kept.{AllPairs-from_increasing}
 use Rattle.navigation.specs.Nesting.{type_token, IsNesting, IsFirstNesting}
 

@@ -11,6 +11,10 @@ starts : (member : TableId) (cell : Cell) → IsOfKind (kind.List member) cell �
 starts member (Start start) is = refl
 starts member _ is = absurd is
 
+-- a row owns a member, and no other row does
+abbrev pub OwnsAlone : Metadata → MemberList → ℕ → ℕ → Type 0
+OwnsAlone model list low member = Owns model list low member × ((row : ℕ) → Owns model list row member → row ≡ low)
+
 -- where the run of an owner begins
 abbrev pub start_of : Metadata → MemberList → ℕ → ℕ
 start_of model list row = start_in (cell_in model (owner_of list) row (cell_of list))
@@ -59,7 +63,7 @@ module _ (model : Metadata) (valid : IsValid model) where
     module _ (low member : ℕ) (first : 1 ≤ low) (last : low ≤ count_in model (owner_of list)) (some : member ≤ count_in model (member_of list))
         (from : start_of model list low ≤ member) (to : low + 1 ≤ count_in model (owner_of list) → member < start_of model list (low + 1)) where
       -- the last row whose run begins at the member or before it owns the member
-      pub owns : Owns model list low member
+      owns : Owns model list low member
       owns = elim (cases_lt low (count_in model (owner_of list))) [
         | inl more ↦ record {
           there = (first, last);
@@ -87,9 +91,8 @@ module _ (model : Metadata) (valid : IsValid model) where
         }
       ]
 
-      -- and no other row does
-      pub owns_alone : (row : ℕ) → Owns model list row member → row ≡ low
-      owns_alone row other = elim (cases_lt row low) [
+      no_other : (row : ℕ) → Owns model list row member → row ≡ low
+      no_other row other = elim (cases_lt row low) [
         | inl before ↦
             let next = ap start_in (other.run.next (omega arith)) in
             let here = other.there in
@@ -109,3 +112,6 @@ module _ (model : Metadata) (valid : IsValid model) where
           | inr same ↦ omega arith
         ]
       ]
+
+      pub owns_alone : OwnsAlone model list low member
+      owns_alone = (owns, no_other)

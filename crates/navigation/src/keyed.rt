@@ -1,6 +1,5 @@
 //! Rows in the order of a number that each of them has, such as the number of a reference.
-ghost use Rattle.std.specs.Prelude.{◌≡◌, ℕ, OnOk};
-ghost use Rattle.std.specs.List.{filter};
+ghost use Rattle.std.specs.Prelude.{◌≡◌, ℕ, OnOk, filter};
 ghost use Rattle.std.specs.List.Sorted.{IsNonDecreasingBy};
 ghost use Rattle.navigation.specs.Keyed.{has_key, key_of};
 

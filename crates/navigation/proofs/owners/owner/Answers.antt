@@ -1,5 +1,5 @@
-use Rattle.navigation.proofs.Prelude.{◌≡◌, ℕ, ◌≤◌, ◌<◌, ◌+◌, subst, arith, ∥∥₁_elim, le_prop, TableId, count_in, owner_of, member_of}
-use Rattle.navigation.proofs.OwnerLemmas.{start_of, some_owner, from_one, owns, owns_alone}
+use Rattle.navigation.proofs.Prelude.{◌≡◌, ℕ, ◌≤◌, ◌+◌, subst, arith, ∥∥₁_elim, le_prop, TableId, Metadata, owner_of, member_of}
+use Rattle.navigation.proofs.OwnerLemmas.{OwnsAlone, some_owner, from_one, owns_alone}
 use Rattle.navigation.proofs.owners.owner.Goals as goal
 
 pub loop-past-init : goal.loop-past-init
@@ -28,30 +28,17 @@ loop-past-init g c =
           absurd (omega arith);
     }
 
-pub returns-clause-sound : goal.returns-clause-sound
-returns-clause-sound g c = λ model shown.
-    let there = c.holds_one.ensures.rows model shown (owner_of c.args.list) in
-    let members = c.holds_one.ensures.rows model shown (member_of c.args.list) in
-    let last = c.requires.last in
+pub returns : goal.returns
+returns g c =
+    let low = c.loop-past.low in
     let ordered = c.loop-past.invariant.ordered in
     let within = c.loop-past.invariant.within in
     let ends = c.loop-past-test.false in
-    let low = c.loop-past.low in
     let next : c.loop-past.past ≡ low + 1 = omega arith in
-    let Q : ℕ → Type 0 = λ past. past ≤ count_in model (owner_of c.args.list) → c.args.member < start_of model c.args.list past in
-    owns model (c.holds_one.ensures.valid model shown) c.args.list low c.args.member c.loop-past.invariant.first (omega arith) (omega arith)
-    (c.loop-past.invariant.from model shown) (subst Q next (c.loop-past.invariant.to model shown))
-
-pub returns-clause-one : goal.returns-clause-one
-returns-clause-one g c = λ model shown.
+    let alone : (model : Metadata) → g.S.ReadMetadata.shows c.args.source.now model → OwnsAlone model c.args.list low c.args.member = λ model shown.
     let there = c.holds_one.ensures.rows model shown (owner_of c.args.list) in
     let members = c.holds_one.ensures.rows model shown (member_of c.args.list) in
     let last = c.requires.last in
-    let ordered = c.loop-past.invariant.ordered in
-    let within = c.loop-past.invariant.within in
-    let ends = c.loop-past-test.false in
-    let low = c.loop-past.low in
-    let next : c.loop-past.past ≡ low + 1 = omega arith in
-    let Q : ℕ → Type 0 = λ past. past ≤ count_in model (owner_of c.args.list) → c.args.member < start_of model c.args.list past in
     owns_alone model (c.holds_one.ensures.valid model shown) c.args.list low c.args.member c.loop-past.invariant.first (omega arith) (omega arith)
-    (c.loop-past.invariant.from model shown) (subst Q next (c.loop-past.invariant.to model shown))
+    (c.loop-past.invariant.from model shown) (rw next at (c.loop-past.invariant.to model shown)) in
+    record { sound = λ model shown. (alone model shown).0; one = λ model shown. (alone model shown).1; first = c.loop-past.invariant.first; last = omega arith }

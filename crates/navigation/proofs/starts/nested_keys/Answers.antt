@@ -1,4 +1,4 @@
-use Rattle.navigation.proofs.Prelude.{◌∙◌, ℕ, ◌+◌, List, length, ap, sym, subst, arith, length_push, NestedClass, column_of, number_of, source_of, AreNestedKeys}
+use Rattle.navigation.proofs.Prelude.{◌∙◌, ◌+◌, length, ap, sym, arith, length_push, NestedClass, column_of, number_of, source_of}
 use Rattle.navigation.proofs.StartLemmas.{one_more}
 use Rattle.navigation.proofs.starts.nested_keys.Goals as goal
 
@@ -15,6 +15,5 @@ loop-earlier-preserved c =
     let pushed = c.in_ok-push.ensures.items in
     record {
       long = ap length pushed ∙ length_push keys key ∙ ap (λ n. n + 1) c.loop-earlier.invariant.long;
-      are = subst (λ (xs : List ℕ). AreNestedKeys c.args.view.now xs) (sym pushed)
-          (one_more (λ k. number_of (source_of c.args.view.now) NestedClass (k + 1) (column_of NestedClass 0)) keys key c.loop-earlier.earlier c.loop-earlier.invariant.long c.loop-earlier.invariant.are (sym c.key.ensures));
+      are = rw pushed (one_more (λ k. number_of (source_of c.args.view.now) NestedClass (k + 1) (column_of NestedClass 0)) keys key c.loop-earlier.earlier c.loop-earlier.invariant.long c.loop-earlier.invariant.are (sym c.key.ensures));
     }
