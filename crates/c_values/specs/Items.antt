@@ -1,11 +1,11 @@
 -- The items of the value of a custom attribute, for a C caller (ECMA-335 II.23.3).
 use Rattle.std.specs.Prelude.{◌≡◌, ℕ, Bool, true, false, None, Some, unwrap_or, is_some, not, List, [], length, map, take}
 use Rattle.std.specs.List.{SameFrom}
-use Rattle.attribute_values.specs.declared.item.Member.{Member}
-use Rattle.attribute_values.specs.declared.item.Member.TheVariants.{Field, Property}
-use Rattle.attribute_values.specs.Values.{Scalar, number, text, type_name, Elem, plain, boxed, scalar_type}
-use Rattle.attribute_values.specs.Parts.{code_of}
-use Rattle.attribute_values.specs.Items.{Head, element, array, Item, fixed, entry, named_count, named}
+use Rattle.blob_values.specs.declared.item.Member.{Member}
+use Rattle.blob_values.specs.declared.item.Member.TheVariants.{Field, Property}
+use Rattle.blob_values.specs.Values.{Scalar, number, text, type_name, Elem, plain, boxed, scalar_type}
+use Rattle.blob_values.specs.Parts.{code_of}
+use Rattle.blob_values.specs.Items.{Head, element, array, Item, fixed, entry, named_count, named}
 use Rattle.c_values.specs.declared.item.ClimAttributeItem.{ClimAttributeItem}
 
 -- the fields of an item for C

@@ -3,10 +3,10 @@ use Rattle.std.specs.Prelude.{◌≡◌, ℕ, List, Option, Some, option_and_the
 use Rattle.table_schema.specs.declared.table.TableId.TheVariants.{CustomAttribute}
 use Rattle.metadata.specs.Cell.{bytes_in, reference_in}
 use Rattle.metadata.specs.Metadata.{Metadata, cell_in}
-use Rattle.attribute_values.specs.declared.types.ArgumentType.{ArgumentType}
-use Rattle.attribute_values.specs.Values.{AttributeValue}
-use Rattle.attribute_values.specs.Parts.{IsAttributeValue}
-use Rattle.attribute_constructors.specs.Params.{params_of_constructor}
+use Rattle.blob_values.specs.declared.types.ArgumentType.{ArgumentType}
+use Rattle.blob_values.specs.Values.{AttributeValue}
+use Rattle.blob_values.specs.Parts.{IsAttributeValue}
+use Rattle.custom_attributes.specs.Params.{params_of_constructor}
 
 -- the types of the parameters of the attribute's constructor
 abbrev pub params_at : Metadata → ℕ → Option (List ArgumentType)

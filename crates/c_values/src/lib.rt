@@ -14,8 +14,8 @@
 //! The values of custom attributes for a C caller (ECMA-335 II.22.10 and II.23.3).
 //!
 //! [`write_value`] reads the value of an attribute by the types of its constructor's parameters, and writes its items into
-//! the caller's array, in the order of the blob: a [`ClimAttributeItem`] for each item of `attribute_values`. Texts are
-//! borrowed from the view. Nothing here allocates. The time is linear in the blob; `attribute_constructors` says what finding
+//! the caller's array, in the order of the blob: a [`ClimAttributeItem`] for each item of `blob_values`. Texts are
+//! borrowed from the view. Nothing here allocates. The time is linear in the blob; `custom_attributes` says what finding
 //! the types takes.
 //!
 //! ```text

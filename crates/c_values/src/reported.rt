@@ -1,12 +1,12 @@
 //! Items as a C caller receives them.
 ghost use Rattle.std.specs.Prelude.{◌≡◌};
-ghost use Rattle.attribute_values.specs.Parts.{code_of};
-ghost use Rattle.attribute_values.specs.Views.{element_view, head_view, scalar_view, view};
-ghost use Rattle.attribute_values.specs.Values.{scalar_type};
+ghost use Rattle.blob_values.specs.Parts.{code_of};
+ghost use Rattle.blob_values.specs.Views.{element_view, head_view, scalar_view, view};
+ghost use Rattle.blob_values.specs.Values.{scalar_type};
 ghost use Rattle.c_values.specs.Items.{element_fields, fields_of, head_fields, is_null, item_fields, member_kind, number_in, scalar_fields, text_in};
 
 use crate::item::ClimAttributeItem;
-use attribute_values::{Argument, Element, ElementType, Item, Member, Scalar, Value};
+use blob_values::{Argument, Element, ElementType, Item, Member, Scalar, Value};
 
 /// The kinds of items: `CLIM_FIXED_ARGUMENT` to `CLIM_PROPERTY_ARGUMENT` of `clim.h`.
 const FIXED: u8 = 1;

@@ -4,15 +4,15 @@ ghost use Rattle.table_schema.specs.declared.table.TableId.TheVariants.{CustomAt
 ghost use Rattle.metadata.specs.Metadata.{Metadata};
 ghost use Rattle.metadata.specs.Model.{IsModel};
 ghost use Rattle.opening.specs.Views.{row_count};
-ghost use Rattle.attribute_values.specs.Items.{items_of};
-ghost use Rattle.attribute_values.specs.Values.{AttributeValue};
+ghost use Rattle.blob_values.specs.Items.{items_of};
+ghost use Rattle.blob_values.specs.Values.{AttributeValue};
 ghost use Rattle.c_values.specs.Items.{AreItems};
 ghost use Rattle.c_values.specs.Values.{IsValueAt, params_at};
 
 use crate::item::ClimAttributeItem;
 use crate::reported::reported;
-use attribute_constructors::{Params, constructor, params_of};
-use attribute_values::Items;
+use blob_values::Items;
+use custom_attributes::{Params, constructor, params_of};
 use opening::{TableId, View, bytes_or_empty};
 
 /// `CLIM_NOT_DECODED`: the value of the attribute is not decoded.

@@ -11,7 +11,7 @@ use Rattle.metadata.specs.Cell.{number_in}
 use Rattle.metadata.specs.Metadata.{Metadata, cell_in, count_in}
 use Rattle.navigation.specs.Linked.{first_linked}
 use Rattle.navigation.specs.declared.links.Link.TheVariants as link_of
-use Rattle.attribute_constructors.specs.Signatures.{items_in}
+use Rattle.custom_attributes.specs.Signatures.{items_in}
 use Rattle.cli_values.specs.Constants.{size_of}
 use Rattle.cli_contents.specs.declared.bodies.Body.{Body}
 

@@ -4,7 +4,7 @@ ghost use Rattle.table_schema.specs.declared.table.TableId.TheVariants.{ClassLay
 ghost use Rattle.metadata.specs.Metadata.{Metadata, cell_in};
 ghost use Rattle.metadata.specs.Model.{IsModel};
 ghost use Rattle.opening.specs.Views.{row_count};
-ghost use Rattle.attribute_constructors.specs.Signatures.{items_in};
+ghost use Rattle.custom_attributes.specs.Signatures.{items_in};
 ghost use Rattle.cli_values.specs.Constants.{size_of};
 ghost use Rattle.cli_contents.specs.FieldData.{class_size, data_in, data_of, data_size, field_type, layout_size, type_size};
 

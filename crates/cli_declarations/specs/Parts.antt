@@ -8,13 +8,13 @@ use Rattle.sig_grammar.specs.Syntax.{Method, Slot, method_body, property}
 use Rattle.sig_text.specs.Declares.{as_method}
 use Rattle.sig_text.specs.SignatureText.{text_of as pieces_of_signature}
 use Rattle.metadata.specs.Cell.{Cell, Sig, number_in, text_in, bytes_in, guid_in, reference_in}
-use Rattle.attribute_values.specs.declared.types.ArgumentType.{ArgumentType}
-use Rattle.attribute_values.specs.Values.{AttributeValue}
-use Rattle.attribute_values.specs.Parts.{IsAttributeValue}
+use Rattle.blob_values.specs.declared.types.ArgumentType.{ArgumentType}
+use Rattle.blob_values.specs.Values.{AttributeValue}
+use Rattle.blob_values.specs.Parts.{IsAttributeValue}
 use Rattle.metadata.specs.declared.member_lists.MemberList.TheVariants as list
 use Rattle.navigation.specs.Owners.{Owns}
-use Rattle.attribute_constructors.specs.Params.{params_of_constructor}
-use Rattle.attribute_text.specs.Texts.{value_text as attribute_value_text}
+use Rattle.custom_attributes.specs.Params.{params_of_constructor}
+use Rattle.custom_attributes.specs.Texts.{value_text as attribute_value_text}
 use Rattle.metadata.specs.Lookups.{HasRow}
 use Rattle.metadata.specs.Metadata.{Metadata, cell_in}
 use Rattle.full_names.specs.declared.limit.Scopes.TheVariants.{Written}
@@ -23,7 +23,7 @@ use Rattle.full_names.specs.Quoted.{name_text, quoted_bytes}
 use Rattle.full_names.specs.RowNames.{IsRowNameBy}
 use Rattle.full_names.specs.Texts.{ArePiecesText, IsFullNameBy, IsPieceText}
 use Rattle.declarations.specs.Descriptors.{descriptor_in, descriptor_text}
-use Rattle.marshal_descriptors.specs.Values.{Descriptor}
+use Rattle.blob_values.specs.DescriptorValues.{Descriptor}
 use Rattle.declarations.specs.Declarations.{IsMethodHead, IsPropertyDeclarationBy, IsReference}
 use Rattle.navigation.specs.declared.links.Link.{Link}
 use Rattle.navigation.specs.Linked.{first_linked, linked, table_of}

@@ -2,8 +2,8 @@
 //! with the full names of types, or the value of a custom attribute (II.21, II.22.10).
 ghost use Rattle.std.specs.Prelude.{◌≡◌, ◌≤◌, ◌++◌, Some, string_bytes, OnOk};
 ghost use Rattle.table_schema.specs.declared.table.TableId.TheVariants.{CustomAttribute, Field};
-ghost use Rattle.attribute_values.specs.Items.{items_of};
-ghost use Rattle.attribute_values.specs.Values.{AttributeValue as TheValue};
+ghost use Rattle.blob_values.specs.Items.{items_of};
+ghost use Rattle.blob_values.specs.Values.{AttributeValue as TheValue};
 ghost use Rattle.metadata.specs.Metadata.{Metadata, cell_in};
 ghost use Rattle.metadata.specs.Model.{IsModel};
 ghost use Rattle.opening.specs.Views.{row_count};
@@ -11,10 +11,9 @@ ghost use Rattle.cli_declarations.specs.Parts.{IsAttributeText, IsDeclarationAt,
 ghost use Rattle.cli_declarations.specs.Texts.{Gains};
 
 use crate::declared::{Declared, TextLimit, begin_text, end_text, push_plain};
-use attribute_constructors::{Params, constructor, params_of};
-use attribute_text::write_value;
-use attribute_values::{ArgumentType, Items};
+use blob_values::{ArgumentType, Items};
 use cli_values::push_value_bytes;
+use custom_attributes::{Params, constructor, params_of, write_value};
 use declarations::{write_method_of, write_property_within, write_signature_text};
 use navigation::Neighbours;
 use opening::{CellRef, TableId, View, bytes_or_empty};

@@ -3,16 +3,16 @@ ghost use Rattle.std.specs.Prelude.{◌≡◌, ◌≤◌, ◌++◌, string_bytes
 ghost use Rattle.metadata.specs.Metadata.{Metadata};
 ghost use Rattle.metadata.specs.Model.{IsModel};
 ghost use Rattle.declarations.specs.Descriptors.{descriptor_in, descriptor_text};
-ghost use Rattle.marshal_descriptors.specs.Views.{view};
+ghost use Rattle.blob_values.specs.DescriptorViews.{view};
 ghost use Rattle.navigation.specs.Linked.{first_linked, linked};
 ghost use Rattle.opening.specs.Views.{row_count};
 ghost use Rattle.cli_declarations.specs.Parts.{IsHeadList, address_text, cut_text, layout_text, linked_text, marshal_content, marshal_text, offset_text, referring_text, value_text};
 ghost use Rattle.cli_declarations.specs.Texts.{Gains};
 
 use crate::declared::{Declared, TextLimit, begin_text, end_text, push_plain};
+use blob_values::Descriptor;
 use cli_values::{push_constant, push_decimal, push_eight_digits, push_value_bytes};
 use declarations::{descriptor_in, write_descriptor};
-use marshal_descriptors::Descriptor;
 use navigation::{Link, Neighbours};
 use opening::{TableId, Token, View, bytes_or_empty, number_or_zero};
 use std::alloc::AllocError;

@@ -7,7 +7,7 @@ pub use Rattle.std.specs.List.{list_all, range_with_len}
 pub use Rattle.std.specs.Prelude.{flat_map}
 pub use Rattle.table_schema.specs.declared.table.TableId.TheVariants.{Module, AssemblyRef, CustomAttribute, ExportedType, File, ManifestResource}
 pub use Rattle.table_schema.specs.declared.token.Token.{Token}
-pub use Rattle.attribute_values.specs.Views.{view}
+pub use Rattle.blob_values.specs.Views.{view}
 pub use Rattle.metadata.specs.Metadata.{Metadata, count_in}
 pub use Rattle.metadata.specs.Model.{IsModel}
 pub use Rattle.cli_lines.specs.Lines.{Part, field, text}

@@ -5,12 +5,12 @@ use Rattle.table_schema.specs.declared.table.TableId.{TableId}
 use Rattle.table_schema.specs.declared.table.TableId.TheVariants.{CustomAttribute, TypeDef, TypeRef}
 use Rattle.table_schema.specs.declared.token.Token.{Token}
 use Rattle.table_schema.specs.Tables.{table_number}
-use Rattle.attribute_values.specs.declared.types.ArgumentType.{ArgumentType}
-use Rattle.attribute_values.specs.Items.{Head, element, Item, fixed, entry, named_count, named}
-use Rattle.attribute_values.specs.Steps.{value_items}
-use Rattle.attribute_values.specs.Values as value
-use Rattle.attribute_constructors.specs.Constructors.{type_of}
-use Rattle.attribute_constructors.specs.Params.{params_of_constructor}
+use Rattle.blob_values.specs.declared.types.ArgumentType.{ArgumentType}
+use Rattle.blob_values.specs.Items.{Head, element, Item, fixed, entry, named_count, named}
+use Rattle.blob_values.specs.Steps.{value_items}
+use Rattle.blob_values.specs.Values as value
+use Rattle.custom_attributes.specs.Constructors.{type_of}
+use Rattle.custom_attributes.specs.Params.{params_of_constructor}
 use Rattle.metadata.specs.Cell.{reference_in, text_in, bytes_in}
 use Rattle.metadata.specs.Metadata.{Metadata, cell_in, count_in}
 use Rattle.cli_lines.specs.declared.names.Name.TheVariants as name

@@ -2,8 +2,8 @@
 ghost use Rattle.std.specs.Prelude.{◌≡◌, ◌≤◌, ◌<◌, ◌∷◌, [], IsTrue, option_map};
 ghost use Rattle.table_schema.specs.declared.table.TableId.TheVariants.{CustomAttribute};
 ghost use Rattle.table_schema.specs.CellColumns.{cell_count};
-ghost use Rattle.attribute_values.specs.Steps.{value_items};
-ghost use Rattle.attribute_values.specs.Views.{head_view, view};
+ghost use Rattle.blob_values.specs.Steps.{value_items};
+ghost use Rattle.blob_values.specs.Views.{head_view, view};
 ghost use Rattle.metadata.specs.Metadata.{Metadata};
 ghost use Rattle.metadata.specs.Model.{IsModel};
 ghost use Rattle.opening.specs.Views.{row_count};
@@ -12,8 +12,8 @@ ghost use Rattle.cli_lines.specs.Printed.{Adds, Prints};
 ghost use Rattle.cli_lines.specs.Shown.{shown_value};
 ghost use Rattle.cli_info.specs.Attributes.{are_texts, argument_parts, attribute_lines, attributes_lines, first_parts, has_types, is_assembly, is_own, is_text, item_parts, items_parts, lines_of_type, more_lines, string_in, texts_in};
 
-use attribute_constructors::{constructor, params_of, type_of};
-use attribute_values::{Argument, ArgumentType, Item, Items, Scalar, Value as Given};
+use custom_attributes::{constructor, params_of, type_of};
+use blob_values::{Argument, ArgumentType, Item, Items, Scalar, Value as Given};
 use cli_lines::Part::{Field, Member, Note, Word};
 use cli_lines::Value::{Null, Number, Plain, Quoted, Text};
 use cli_lines::{Name, Printer, Value};

@@ -21,8 +21,8 @@ pub use Rattle.table_schema.specs.declared.table.TableId.{TableId as Table}
 pub use Rattle.table_schema.specs.declared.table.TableId.TheVariants.{TypeDef}
 pub use Rattle.schema.specs.ColumnNames.{column_names_of}
 pub use Rattle.sig_grammar.specs.Syntax.{Body}
-pub use Rattle.attribute_values.specs.Items.{items_of}
-pub use Rattle.attribute_values.specs.Values.{AttributeValue}
+pub use Rattle.blob_values.specs.Items.{items_of}
+pub use Rattle.blob_values.specs.Values.{AttributeValue}
 pub use Rattle.metadata.specs.Cell.{Sig}
 pub use Rattle.metadata.specs.Lookups.{HasNames, HasRow, IsFirstType}
 pub use Rattle.metadata.specs.Metadata.{Metadata, cell_in, count_in}

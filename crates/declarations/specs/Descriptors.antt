@@ -2,12 +2,12 @@
 use Rattle.std.specs.Prelude.{ℕ, ◌%◌, ◌==◌, nat_le, if◌then◌else◌, Option, None, Some, List, [], ◌∷◌, ◌++◌, length, codes, decimal, flat_map}
 use Rattle.table_schema.specs.Tokens.{hexadecimal}
 use Rattle.full_names.specs.Quoted.{quoted_bytes}
-use Rattle.marshal_descriptors.specs.declared.native.Native.{Native}
-use Rattle.marshal_descriptors.specs.declared.descriptor.ArraySize.{ArraySize}
-use Rattle.marshal_descriptors.specs.declared.descriptor.ArraySize.TheVariants.{Unknown, Param, ParamAndCount, WithFlags}
-use Rattle.marshal_descriptors.specs.Reading.{descriptor_of}
-use Rattle.marshal_descriptors.specs.Values.{Custom, Descriptor, native, array, interface_of, fixed_string, fixed_array, safe_array, safe_array_of, safe_array_named, custom}
-use Rattle.marshal_descriptors.specs.Words.{native_word, variant_word}
+use Rattle.blob_values.specs.declared.native.Native.{Native}
+use Rattle.blob_values.specs.declared.descriptor.ArraySize.{ArraySize}
+use Rattle.blob_values.specs.declared.descriptor.ArraySize.TheVariants.{Unknown, Param, ParamAndCount, WithFlags}
+use Rattle.blob_values.specs.DescriptorReading.{descriptor_of}
+use Rattle.blob_values.specs.DescriptorValues.{Custom, Descriptor, native, array, interface_of, fixed_string, fixed_array, safe_array, safe_array_of, safe_array_named, custom}
+use Rattle.blob_values.specs.Words.{native_word, variant_word}
 
 -- the word for the type of elements, if it is known
 abbrev pub element_word : Option Native → List ℕ

@@ -2,12 +2,12 @@
 ghost use Rattle.std.specs.Prelude.{◌≡◌, ◌++◌, OnOk, option_map};
 ghost use Rattle.std.specs.Fmt.{WritesInCalls};
 ghost use Rattle.table_schema.specs.Tokens.{hexadecimal};
-ghost use Rattle.marshal_descriptors.specs.Views.{custom_view, view};
+ghost use Rattle.blob_values.specs.DescriptorViews.{custom_view, view};
 ghost use Rattle.declarations.specs.Declarations.{after_space, before_space, marshalled};
 ghost use Rattle.declarations.specs.Descriptors.{bytes_text, content_text, custom_text, descriptor_in, descriptor_text, element_word, fixed_text, library_text, marshal_text, quoted_text, safe_text, size_text, sum_text, type_after, variant_text};
 
+use blob_values::{ArraySize, Custom, Descriptor, Native, read_descriptor, variant_word};
 use full_names::{Limit, write_quoted, write_text};
-use marshal_descriptors::{ArraySize, Custom, Descriptor, Native, read_descriptor, variant_word};
 use std::fmt;
 
 /// The largest blob that is decoded, in bytes.

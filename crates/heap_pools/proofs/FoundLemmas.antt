@@ -113,16 +113,16 @@ blob_found entries (byte ∷ bytes) tail h short =
     let f = first_of (bytes_eq blob) entries there in
     let index = ap (λ l. blob_from 1 l blob) f.whole ∙ blob_from-entry 1 f.before f.found f.after blob f.none f.passes in
     let before = 0 ∷ flat_map counted f.before in
-    let rest = flat_map counted f.after in
+    let remainder = flat_map counted f.after in
     inr (
       omega arith,
       record {
         before = before;
         count = short_unsigned (length blob);
-        after = rest ++ tail;
+        after = remainder ++ tail;
         whole = ap (λ (l : List ℕ). l ++ tail) (ap blob_heap f.whole ∙ blob_heap_is f.before f.found f.after
-            ∙ ap (λ (l : List ℕ). before ++ (counted l ++ rest)) (sym (same_text blob f.found (sym f.passes)))) ∙ with_tail before (counted blob) rest tail
-            ∙ ap (λ (l : List ℕ). before ++ l) (append_assoc (short_unsigned (length blob)) blob (rest ++ tail));
+            ∙ ap (λ (l : List ℕ). before ++ (counted l ++ remainder)) (sym (same_text blob f.found (sym f.passes)))) ∙ with_tail before (counted blob) remainder tail
+            ∙ ap (λ (l : List ℕ). before ++ l) (append_assoc (short_unsigned (length blob)) blob (remainder ++ tail));
         at = omega arith;
         counts = short_packed (length blob) short;
       },

@@ -92,7 +92,7 @@ pub use sig_items::{CallingConvention, Item, Items, MethodHead};
 pub use sig_text::{NamedText, TextSink, TokenNames, write_signature};
 
 // The values of custom attributes, item by item.
-pub use attribute_values::{
+pub use blob_values::{
     Argument, ArgumentType, ElementType, Item as AttributeItem, Items as AttributeItems, Member,
     Scalar, Value as AttributeValue,
 };

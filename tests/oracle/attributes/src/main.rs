@@ -3,7 +3,7 @@
 #![tactic(auto)]
 
 use anyhow::{Context, Result};
-use attribute_values::{Argument, ArgumentType, Element, ElementType, Item, Items, Member, Scalar, Value};
+use blob_values::{Argument, ArgumentType, Element, ElementType, Item, Items, Member, Scalar, Value};
 use std::alloc::Global;
 use std::io::Read;
 

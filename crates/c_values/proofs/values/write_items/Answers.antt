@@ -1,4 +1,4 @@
-use Rattle.attribute_values.specs.Views.{view}
+use Rattle.blob_values.specs.Views.{view}
 use Rattle.c_values.specs.Items.{fields_of, item_fields}
 use Rattle.c_values.proofs.ItemLemmas.{all_written, one_more, past_room}
 use Rattle.c_values.proofs.values.write_items.Goals.{else-count-items, then-count-items}

@@ -5,8 +5,8 @@ use Rattle.sig_items.specs.ItemsOf.{items_of}
 use Rattle.sig_items.specs.declared.item.Item.{Item}
 use Rattle.sig_items.specs.declared.item.Item.TheVariants as item
 use Rattle.metadata.specs.Valid.{kind_at}
-use Rattle.attribute_constructors.proofs.LengthLemmas.{short_encoding}
-use Rattle.attribute_constructors.proofs.TypeLemmas.{no_signature}
+use Rattle.custom_attributes.proofs.LengthLemmas.{short_encoding}
+use Rattle.custom_attributes.proofs.TypeLemmas.{no_signature}
 use Rattle.cli_contents.proofs.field_data.type_of_field.Goals as goal
 
 -- more items than the two of a field

@@ -1,5 +1,5 @@
 use Rattle.cli_declarations.proofs.Prelude.{append_assoc}
-use Rattle.attribute_text.specs.Texts.{value_text}
+use Rattle.custom_attributes.specs.Texts.{value_text}
 use Rattle.cli_declarations.proofs.PieceLemmas.{cut, was_ok}
 use Rattle.cli_declarations.proofs.blob_sink.push_decoded.Goals as goal
 

@@ -1,5 +1,5 @@
 use Rattle.cli_info.proofs.Prelude.{◌≡◌, list_all, are_texts, is_text}
-use Rattle.attribute_values.specs.Steps.{value_items}
+use Rattle.blob_values.specs.Steps.{value_items}
 use Rattle.cli_info.proofs.attributes.are_texts.Given as goal
 
 abbrev pub invariant-loop-item : goal.invariant-loop-item

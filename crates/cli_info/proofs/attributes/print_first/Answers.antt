@@ -1,7 +1,7 @@
 use Rattle.cli_info.proofs.Prelude.{[], ◌≡◌, refl, view, first_parts}
-use Rattle.attribute_values.specs.declared.item.Item.{Item}
-use Rattle.attribute_values.specs.declared.item.Item.TheVariants.{Fixed}
-use Rattle.attribute_values.specs.declared.item.Argument.{Argument}
+use Rattle.blob_values.specs.declared.item.Item.{Item}
+use Rattle.blob_values.specs.declared.item.Item.TheVariants.{Fixed}
+use Rattle.blob_values.specs.declared.item.Argument.{Argument}
 use Rattle.cli_info.proofs.attributes.print_first.Goals as goal
 
 other_item : (item : Item) → ((argument : Argument) → item ≡ Fixed argument → ⊥) → [] ≡ first_parts (view item)

@@ -1,5 +1,0 @@
-pub mod LengthLemmas
-pub mod Prelude
-pub mod TypeLemmas
-pub mod ParamLemmas
-pub mod OwnerLemmas

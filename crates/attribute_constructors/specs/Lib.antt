@@ -1,4 +1,0 @@
-pub mod Constructors
-pub mod Signatures
-pub mod Types
-pub mod Params

@@ -1,6 +1,0 @@
-mod PartLemmas
-mod ElementLemmas
-mod Prelude
-mod WalkLemmas
-mod StepLemmas
-mod LengthLemmas

@@ -1,0 +1,12 @@
+pub mod Values
+pub mod Parts
+pub mod Items
+pub mod Views
+pub mod Reading
+pub mod Steps
+pub mod DescriptorValues
+pub mod Codes
+pub mod Words
+pub mod DescriptorParts
+pub mod DescriptorReading
+pub mod DescriptorViews

@@ -1,0 +1,6 @@
+pub mod Constructors
+pub mod Signatures
+pub mod Types
+pub mod Params
+pub mod Texts
+pub mod ItemTexts

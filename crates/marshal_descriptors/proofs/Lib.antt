@@ -1,4 +1,0 @@
-pub mod PartLemmas
-pub mod FormLemmas
-pub mod AgainLemmas
-pub mod Prelude

@@ -1,6 +1,0 @@
-pub mod Values
-pub mod Codes
-pub mod Words
-pub mod Parts
-pub mod Reading
-pub mod Views
