@@ -67,6 +67,7 @@ fn after_property(bytes: &[u8], here: Position, depth: u8, counts: &[u32; 45]) -
 }
 
 /// The position after the signature at the start, in a column of a kind.
+#[inline(always)]
 #[tactic(auto, using(crate::proofs::Loops::skip_body_end), unfolding(crate::specs::Skips::skip_body))]
 pub fn after_body(
     bytes: &[u8],

@@ -17,6 +17,7 @@ const NO_ROWS: [u32; 45] = [0; 45];
 ///
 /// `counts` gives the number of rows of each table by table number. One pass, and it does not allocate. It
 /// returns what [`recognise`] and [`index_of_first_bad`] return in two passes.
+#[inline(always)]
 pub fn recognise_first_bad(bytes: &[u8], kind: SigKind, counts: &[u32; 45]) -> Option<Option<Token>>
     ensures sound { IfSome result (λ bad. (signature : Body) × Encodes kind signature bytes.now × (bad ≡ first_bad counts.now (tokens signature))) }
     ensures complete { (signature : Body) → Encodes kind signature bytes.now → result ≡ Some (first_bad counts.now (tokens signature)) }
