@@ -43,13 +43,7 @@ impl<'a> Blobs<'a> {
     pub fn has(&self, index: u32) -> bool
         ensures { IsTrue result ↔ ((blob : List ℕ) × IsBlob self.now index blob) }
     {
-        if has_low_byte(self.near, index as usize) {
-            return true;
-        }
-        match blob(self.heap, index) {
-            Ok(_) => true,
-            Err(_) => false,
-        }
+        has_low_byte(self.near, index as usize) || has_blob(self.heap, index)
     }
 }
 
@@ -60,4 +54,16 @@ fn has_low_byte(bytes: &[u8], offset: usize) -> bool
     ensures low { IsTrue result → slice_index bytes.now offset < 128 }
 {
     offset < bytes.len() && bytes[offset] < 128
+}
+
+/// Whether a blob is at an index of a heap, by its packed length. It is rarely called, so it is kept out of the loops.
+#[cold]
+#[inline(never)]
+fn has_blob(heap: &[u8], index: u32) -> bool
+    ensures { IsTrue result ↔ ((blob : List ℕ) × IsBlob heap.now index blob) }
+{
+    match blob(heap, index) {
+        Ok(_) => true,
+        Err(_) => false,
+    }
 }

@@ -208,6 +208,7 @@ fn check_signature_at(source: &Source, column: SigKind, number: u32) -> Result<(
 }
 
 /// Checks that a blob encodes a signature, and that the rows of its type indexes exist.
+#[inline(always)]
 fn check_blob(source: &Source, column: SigKind, blob: &[u8]) -> Result<(), FaultCode>
     ensures { (number : ℕ) → IsBlob source.now.source.blobs number blob.now → IsEncoded source.now.source (kind.Signature column) number result }
 {

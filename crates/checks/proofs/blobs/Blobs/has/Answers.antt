@@ -1,4 +1,4 @@
-use Rattle.checks.proofs.Prelude.{ℕ, List, slice_index, refl, sym, subst, false≢true, IsBlob}
+use Rattle.checks.proofs.Prelude.{ℕ, List, slice_index, refl, subst, IsBlob}
 use Rattle.checks.proofs.BlobLemmas.{near_blob}
 use Rattle.checks.proofs.blobs.Blobs.has.Goals as goal
 
@@ -8,11 +8,5 @@ returns-then-has_low_byte c =
       λ yes. subst (λ heap. (blob : List ℕ) × IsBlob heap c.args.index blob) c.self.view_is
           (near_blob blobs.heap.now blobs.near.now c.args.index (slice_index blobs.near.now c.args.index) c.self.invariant
           (c.has_low_byte.ensures.within c.if-has_low_byte.true) refl (c.has_low_byte.ensures.low c.if-has_low_byte.true)),
-      λ found. refl,
+      λ found. c.if-has_low_byte.true,
     )
-
-pub returns-in-Err : goal.returns-in-Err
-returns-in-Err c = (
-  λ no. absurd (false≢true no),
-  λ found. absurd (c.in-Err.ensures.complete found.0 (subst (λ heap. IsBlob heap c.args.index found.0) (sym c.self.view_is) found.1)),
-)
