@@ -1,10 +1,10 @@
-ghost use Rattle.std.specs.Prelude.{◌≡◌, ◌≤◌, ◌↔◌, IsTrue, IfSome, IfNone, Some, Contains};
+ghost use Rattle.std.specs.Prelude.{◌≡◌, ◌≤◌, ◌↔◌, IsTrue, IfSome, IfNone, Some};
 ghost use Rattle.metadata.specs.Cell.{Ref};
 ghost use Rattle.metadata.specs.Kinds.{IsOfKind};
 ghost use Rattle.metadata.specs.KeyOrder.{row_number as number_of_row};
 
 use metadata::row_number;
-use table_schema::{ColumnKind, TableId, Token};
+use table_schema::{ColumnKind, Token, lists};
 
 /// The number by which a column of a kind refers to a row (II.24.2.6), `None` if it takes no reference
 /// to the row's table.
@@ -30,11 +30,4 @@ fn takes(kind: ColumnKind, token: Token) -> bool
         ColumnKind::Coded(coded) => lists(coded.tables(), token.table),
         _ => false,
     }
-}
-
-/// Whether a list of tables has one.
-fn lists(listed: &[Option<TableId>], table: TableId) -> bool
-    ensures { IsTrue result ↔ Contains listed.now (Some table) }
-{
-    listed.contains(&Some(table))
 }

@@ -1,3 +1,5 @@
+ghost use Rattle.std.specs.Prelude.{◌↔◌, Some, IsTrue, Contains};
+
 use crate::table::TableId;
 
 /// A coded index: an index into one of several tables, with a tag that selects the table (II.24.2.6).
@@ -113,4 +115,11 @@ impl Coded {
             Coded::HasCustomAttribute => 5,
         }
     }
+}
+
+/// Whether a list of tables contains a table.
+pub fn lists(listed: &[Option<TableId>], table: TableId) -> bool
+    ensures { IsTrue result ↔ Contains listed.now (Some table) }
+{
+    listed.contains(&Some(table))
 }

@@ -20,7 +20,7 @@ mod table;
 mod token;
 
 pub use cell_columns::{cell_count, column_of_cell};
-pub use coded::Coded;
+pub use coded::{Coded, lists};
 pub use coded_index::{join, split};
 pub use column::{Column, ColumnKind, SigKind};
 pub use column_lists::{columns, key};

@@ -1,20 +1,13 @@
-ghost use Rattle.std.specs.Prelude.{◌≡◌, ◌↔◌, IsTrue, Some, Contains};
+ghost use Rattle.std.specs.Prelude.{◌≡◌, ◌↔◌, IsTrue};
 ghost use Rattle.metadata.specs.Kinds.{IsTo, IsOfKind, IsStorable, IsHeld};
 ghost use Rattle.tables.specs.Said.{said};
 
 use crate::cell::Cell;
 use packed::BLOB_LIMIT;
-use table_schema::{Coded, ColumnKind, TableId, Token};
+use table_schema::{Coded, ColumnKind, TableId, Token, lists};
 
 /// The number of bytes of a GUID (II.24.2.5).
 const GUID_SIZE: usize = 16;
-
-/// Whether the list contains the table.
-fn lists(listed: &[Option<TableId>], table: TableId) -> bool
-    ensures { IsTrue result ↔ Contains listed.now (Some table) }
-{
-    listed.contains(&Some(table))
-}
 
 /// Whether a reference is null or names a row of one of the tables.
 fn is_to(listed: &[Option<TableId>], reference: Option<Token>) -> bool

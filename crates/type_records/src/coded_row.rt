@@ -43,20 +43,13 @@ pub trait CodedRow<'m, W: Row<'m>>: Sized {
     }
 }
 
-/// Whether the list contains the table.
-fn has(listed: &[Option<TableId>], table: TableId) -> bool
-    ensures { IsTrue result ↔ Contains listed.now (Some table) }
-{
-    listed.contains(&Some(table))
-}
-
 /// Whether a coded index lists a table (II.24.2.6).
 #[tactic(auto, using(crate::proofs::ListedLemmas::is_one_of))]
 pub fn lists(coded: Coded, table: TableId) -> bool
     ensures listed { IsTrue result ↔ Contains (tables_of coded) (Some table) }
     ensures one { IsTrue result → IsOneOf (tables_of coded) table }
 {
-    has(coded.tables(), table)
+    table_schema::lists(coded.tables(), table)
 }
 
 /// The record of the cells of a row of a table. `None` if the coded index does not list the table, or the
