@@ -5,7 +5,6 @@ pub mod GrowthLemmas
 pub mod Prelude
 pub mod SignatureLemmas
 pub mod CellSteps
-pub mod PaddingLemmas
 pub mod OutlineLemmas
 pub mod EqualLemmas
 pub mod IgnoredLemmas

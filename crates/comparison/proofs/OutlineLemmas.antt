@@ -1,6 +1,13 @@
 -- The first thing besides cells that differs.
-use Rattle.comparison.proofs.Prelude.{refl, ◌≡◌, ◌≢◌, ◌∙◌, ◌<◌, ℕ, ◌+◌, true, false, List, [], ◌∷◌, ◌++◌, length, take, drop, get_or, ap, sym, same_from_decides, bytes_eq, flat_map, eq-eqb, ne_eqb, flat_map-append, take-append-drop, bytes_eq-Decides, TableId, tables, Metadata, count_in, Difference, Version, UserStrings, RowCount, count_difference, outline_differences}
+use Rattle.comparison.proofs.Prelude.{refl, Bool, not, eqb, not-false, Decides-eqb, ◌≡◌, ◌≢◌, ◌∙◌, ◌<◌, ℕ, ◌+◌, true, false, List, [], ◌∷◌, ◌++◌, length, take, drop, get_or, ap, sym, same_from_decides, bytes_eq, flat_map, eq-eqb, ne_eqb, flat_map-append, take-append-drop, bytes_eq-Decides, TableId, tables, Metadata, count_in, Difference, Version, UserStrings, RowCount, count_difference, outline_differences}
 use Rattle.comparison.proofs.GrowthLemmas.{item_more}
+use Rattle.std.specs.Cmp.Lexicographic.{pointwise, pointwise_decides}
+
+pub parts_differ : (xs ys : List ℕ) (other : Bool) → other ≡ not (pointwise eqb xs ys) → other ≡ true → xs ≡ ys → ⊥
+parts_differ xs ys other tested is same = let equal = ap not ((pointwise_decides Decides-eqb xs ys).1 same) in cc
+
+pub parts_same : (xs ys : List ℕ) (other : Bool) → other ≡ not (pointwise eqb xs ys) → other ≡ false → xs ≡ ys
+parts_same xs ys other tested is = (pointwise_decides Decides-eqb xs ys).0 (not-false _ (sym tested ∙ is))
 
 same_bytes : (xs ys : List ℕ) → xs ≡ ys → bytes_eq xs ys ≡ true
 same_bytes xs ys is = (bytes_eq-Decides xs ys).1 is

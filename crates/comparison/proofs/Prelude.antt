@@ -1,10 +1,9 @@
 -- What several proofs of this crate name of std, of the crates below, and of its own definitions.
-pub use Rattle.std.proofs.Common.{◌≡◌, ◌/◌, ◌≤◌, length, take, ◌∙◌, ap, sym, arith, refl, ℕ, ◌<◌, ◌≢◌, get_or, ◌+◌, subst, ◌↔◌, inl, inr, zero, suc, ◌-◌, ◌*◌, ◌==◌, Bool, true, false, IsTrue, List, [], ◌∷◌, ap₂, cond, ◌||◌, ◌++◌, All, length-append, min, Some, None, Result, Option, append_assoc, append-nil, ◌⊎◌, lit≤, set, replicate, drop, take_at, drop_at, not, eqb, ◌%◌, slice_index, length-drop, below_more}
-pub use Rattle.std.proofs.Math.Seq.{take-append_seam, drop-append_seam}
+pub use Rattle.std.proofs.Common.{◌≡◌, ◌≤◌, length, take, ◌∙◌, ap, sym, arith, refl, ℕ, ◌<◌, ◌≢◌, get_or, ◌+◌, subst, ◌↔◌, inl, inr, zero, suc, ◌-◌, ◌*◌, ◌==◌, Bool, true, false, IsTrue, List, [], ◌∷◌, ap₂, cond, ◌||◌, ◌++◌, All, length-append, min, Some, None, Result, Option, append_assoc, append-nil, ◌⊎◌, lit≤, set, replicate, drop, take_at, drop_at, not, eqb, slice_index, length-drop, below_more}
 pub use Rattle.std.proofs.lemmas.Bool.{both_ways, cases_eq, cases_lt, cond-true, eq-eqb, ne_eqb, not-false}
 pub use Rattle.std.proofs.lemmas.Bool.Decides.{Decides-eqb, Decides-like, same_from_decides}
 pub use Rattle.std.proofs.lemmas.Grind.{flat_map-append}
-pub use Rattle.std.proofs.lemmas.List.{take_all, take-append-le, take-replicate, drop-append-le, get_or-set_other, take-append-drop, length-replicate, replicate-append-replicate, drop-drop, drop-take, get_or-drop, nil_from_length, take_more, flat_map_more, map-id}
+pub use Rattle.std.proofs.lemmas.List.{take_all, take-append-le, get_or-set_other, take-append-drop, drop-drop, drop-take, get_or-drop, nil_from_length, take_more, flat_map_more, map-id}
 pub use Rattle.std.proofs.lemmas.List.FromFn.{map-range_with_len_more, get_or-range_with_len, length-range_with_len}
 pub use Rattle.std.proofs.lemmas.Option.{IfSome_then}
 pub use Rattle.std.proofs.lemmas.Result.{IfOk-weaker, on_ok_weaker}

@@ -1,7 +1,6 @@
 //! What differs between two views, up to a limit, and whether anything does.
-ghost use Rattle.std.specs.Prelude.{◌≡◌, ◌↔◌, ◌∷◌, [], All, IfNone, IfOk, IfSome, IsTrue, take, ◌≤◌, length, replicate};
+ghost use Rattle.std.specs.Prelude.{◌≡◌, ◌↔◌, ◌∷◌, [], All, IfNone, IfOk, IfSome, IsTrue, take};
 ghost use Rattle.std.specs.List.{flat_map};
-ghost use Rattle.heap_entries.specs.Padding.{zero_padded};
 ghost use Rattle.table_schema.specs.Tables.{tables};
 ghost use Rattle.metadata.specs.Metadata.{Metadata};
 ghost use Rattle.metadata.specs.Model.{IsModel};
@@ -11,6 +10,7 @@ use crate::cells::{differing_cells, differing_cells_but};
 use crate::difference::Difference;
 use crate::ignored::IgnoredColumns;
 use crate::laws;
+use heap_entries::same_padded;
 use opening::{TableId, View};
 use std::alloc::{AllocError, Global};
 
@@ -121,36 +121,4 @@ fn count_difference(left: &View<'_>, right: &View<'_>) -> Option<Difference>
         }
     }
     None
-}
-
-/// Whether bytes are equal once each is padded with zeros to a multiple of four (II.24.2.2). It does not allocate.
-fn same_padded(left: &[u8], right: &[u8]) -> bool
-    ensures { IsTrue result ↔ (zero_padded left.now ≡ zero_padded right.now) }
-{
-    if left.len() < right.len() {
-        return has_more_zeros(right, left);
-    }
-    has_more_zeros(left, right)
-}
-
-/// Whether longer bytes are the shorter ones with zeros after them, no more than these are padded with.
-fn has_more_zeros(longer: &[u8], shorter: &[u8]) -> bool
-    requires { length shorter.now ≤ length longer.now }
-    ensures { IsTrue result ↔ (zero_padded longer.now ≡ zero_padded shorter.now) }
-{
-    if longer.len().div_ceil(4) != shorter.len().div_ceil(4) {
-        return false;
-    }
-    let (prefix, tail) = longer.split_at(shorter.len());
-    if prefix != shorter {
-        return false;
-    }
-    are_zeros(tail)
-}
-
-/// Whether all bytes are zero.
-fn are_zeros(bytes: &[u8]) -> bool
-    ensures { IsTrue result ↔ (bytes.now ≡ replicate (length bytes.now) 0) }
-{
-    bytes.iter().all(|byte| *byte == 0)
 }

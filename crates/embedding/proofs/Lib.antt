@@ -2,7 +2,6 @@ pub mod Parts
 pub mod Kept
 pub mod Misfits
 pub mod Headers
-pub mod Padded
 pub mod Prelude
 pub mod Room
 pub mod Opens

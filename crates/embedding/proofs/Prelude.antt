@@ -1,10 +1,10 @@
 -- What several proofs of this crate name of std, of the crates below, and of its own definitions.
-pub use Rattle.std.proofs.Common.{◌≡◌, ap₂, ℕ, ◌<◌, ◌≤◌, List, sym, ◌∙◌, arith, lit<, ◌%◌, ◌/◌, ◌⊎◌, inl, inr, refl, ap, suc, ◌+◌, ◌*◌, ◌^◌, ◌==◌, false, [], ◌∷◌, length, take, drop, subst, zero, ◌-◌, cond, true, replicate, max, ◌++◌, Some, Result, Ok, Err, IfErr, append_assoc, Bool, Option, None, min, vec_len, eq-eqb, below_more}
+pub use Rattle.std.proofs.Common.{◌≡◌, ℕ, ◌<◌, ◌≤◌, List, sym, ◌∙◌, arith, lit<, ◌%◌, ◌/◌, ◌⊎◌, inl, inr, refl, ap, suc, ◌+◌, ◌*◌, ◌^◌, ◌==◌, false, [], ◌∷◌, length, take, drop, subst, zero, ◌-◌, cond, true, replicate, max, ◌++◌, Some, Result, Ok, Err, IfErr, append_assoc, Bool, Option, None, vec_len, eq-eqb, below_more}
 pub use Rattle.std.proofs.Math.Logic.{∥∥₁_elim, ∥∥₁_map}
-pub use Rattle.std.proofs.Math.Seq.{take-append_seam, drop-append_seam, drop-append-add}
-pub use Rattle.std.proofs.lemmas.Bool.{cases_eq, cases_lt, false≢true, not-false}
-pub use Rattle.std.proofs.lemmas.Bool.Decides.{nat_tests, Decides-eqb}
-pub use Rattle.std.proofs.lemmas.List.{take-take, drop-take, drop-drop, append-nil, take-append-drop, take-append-le, take-replicate, drop-append-le, length-drop, length-take, length-replicate, replicate-append-replicate, take_all, length-append, drop_at, take_at}
+pub use Rattle.std.proofs.Math.Seq.{drop-append-add}
+pub use Rattle.std.proofs.lemmas.Bool.{cases_eq, cases_lt, false≢true}
+pub use Rattle.std.proofs.lemmas.Bool.Decides.{nat_tests}
+pub use Rattle.std.proofs.lemmas.List.{take-take, drop-take, drop-drop, append-nil, take-append-le, length-drop, length-take, length-replicate, take_all, length-append, drop_at, take_at}
 pub use Rattle.std.proofs.lemmas.Result.{err_from_is_err_and}
 pub use Rattle.std.specs.Coded.{Coded-set, coded_list, coded_ℕ, le_prop}
 pub use Rattle.packed.specs.Limit.{byte_limit}

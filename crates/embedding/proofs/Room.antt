@@ -1,5 +1,5 @@
 -- Where the parts of a result are: the headers, the root, and the end.
-use Rattle.embedding.proofs.Prelude.{length-append, length-replicate, ◌≡◌, ℕ, ◌+◌, ◌-◌, ◌<◌, ◌≤◌, ◌⊎◌, ◌==◌, inl, inr, cond, List, ◌++◌, length, replicate, ap, ◌∙◌, arith, byte_limit, AllHold, lfanew, wider, optional_header_size, sections_offset, rules_of_image, CliHeader, Source, FileAlignment, aligned, field_of, full_size, raw_size, raw_end, section_offset, last, headers_end, Slot, Reused, Appended, Extended, StrongName, Keep, Clear, IsHeaderOf, AreHeadersApart, header_changes, target_of, root_bytes, FitsAt}
+use Rattle.embedding.proofs.Prelude.{length-append, length-drop, length-replicate, length-take, drop, part, take, ◌≡◌, ℕ, ◌+◌, ◌-◌, ◌<◌, ◌≤◌, ◌⊎◌, ◌==◌, inl, inr, cond, List, ◌++◌, length, replicate, ap, ◌∙◌, arith, byte_limit, AllHold, lfanew, wider, optional_header_size, sections_offset, rules_of_image, CliHeader, Source, FileAlignment, aligned, field_of, full_size, raw_size, raw_end, section_offset, last, headers_end, Slot, Reused, Appended, Extended, StrongName, Keep, Clear, IsHeaderOf, AreHeadersApart, header_changes, target_of, root_bytes, FitsAt}
 use Rattle.embedding.proofs.Parts.{AllWithin, AllApart}
 
 pub above : (alignment number : ℕ) → 0 < alignment → number ≤ aligned alignment number
@@ -138,3 +138,11 @@ pub unchanged : (name : StrongName) (file : List ℕ) (header : CliHeader) (root
 unchanged Keep file header root source Reused at count of apart fits gap = let wide = directories_end file of.image in search arith
 unchanged Clear file header root source Reused at count of apart fits gap = let wide = directories_end file of.image in search arith
 unchanged _ file header root source _ at count of apart fits gap = let wide = directories_end file of.image in search arith
+
+-- bytes that are zeros, by their begin and end
+pub zeros_at : (file : List ℕ) (start stop count : ℕ) → count ≡ stop - start → start + count ≤ length file
+    → take (stop - start) (drop start file) ≡ replicate (length (take (stop - start) (drop start file))) 0 → part file start count ≡ replicate count 0
+zeros_at file start stop count size within zeros =
+    ap (λ (n : ℕ). part file start n) size
+    ∙ zeros
+    ∙ ap (λ (n : ℕ). replicate n 0) (omega (arith, length-take (stop - start) (drop start file), length-drop start file))

@@ -1,9 +1,9 @@
 //! Whether a root leads to the code and the data of a file.
-ghost use Rattle.std.specs.Prelude.{◌≡◌, ◌≤◌, ◌⊎◌, ◌↔◌, IsTrue, length, replicate};
+ghost use Rattle.std.specs.Prelude.{◌≡◌, ◌⊎◌, ◌↔◌, IsTrue};
 ghost use Rattle.table_schema.specs.declared.table.TableId.TheVariants.{MethodDef, FieldRVA};
-ghost use Rattle.heap_entries.specs.Padding.{zero_padded};
 ghost use Rattle.embedding.specs.Matching.{HaveSameAddresses, LeadsAlike};
 
+use heap_entries::same_padded;
 use opening::{TableId, View};
 
 /// Whether a root leads to what the other leads to (II.22.18, II.22.26, II.24.2.4).
@@ -13,7 +13,7 @@ pub fn leads_alike(root: &View, other: &View) -> bool
     have_same_addresses(root, other, TableId::MethodDef)
         && have_same_addresses(root, other, TableId::FieldRVA)
         && other.count(TableId::File) <= root.count(TableId::File)
-        && are_padded_alike(root.user(), other.user())
+        && same_padded(root.user(), other.user())
 }
 
 /// Whether two roots have the same rows in a table of addresses, with the same RVAs.
@@ -30,36 +30,4 @@ fn have_same_addresses(root: &View, other: &View, table: TableId) -> bool
         }
     }
     true
-}
-
-/// Whether two heaps are the same once they are padded with zeros to a multiple of four.
-fn are_padded_alike(left: &[u8], right: &[u8]) -> bool
-    ensures { IsTrue result ↔ zero_padded left.now ≡ zero_padded right.now }
-{
-    if left.len() < right.len() {
-        return has_more_zeros(right, left);
-    }
-    has_more_zeros(left, right)
-}
-
-/// Whether a longer heap is the shorter one with zeros after it, no more than that is padded with.
-fn has_more_zeros(longer: &[u8], shorter: &[u8]) -> bool
-    requires { length shorter.now ≤ length longer.now }
-    ensures { IsTrue result ↔ zero_padded longer.now ≡ zero_padded shorter.now }
-{
-    if longer.len().div_ceil(4) != shorter.len().div_ceil(4) {
-        return false;
-    }
-    let (prefix, tail) = longer.split_at(shorter.len());
-    if prefix != shorter {
-        return false;
-    }
-    are_zeros(tail)
-}
-
-/// Whether all bytes are 0.
-pub fn are_zeros(bytes: &[u8]) -> bool
-    ensures { IsTrue result ↔ (bytes.now ≡ replicate (length bytes.now) 0) }
-{
-    bytes.iter().all(|byte| *byte == 0)
 }

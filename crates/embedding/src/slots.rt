@@ -8,10 +8,10 @@ ghost use Rattle.embedding.specs.Errors.{IsMisfit};
 ghost use Rattle.embedding.specs.Planned.{IsOpened};
 
 use crate::error::EmbedError;
-use crate::matching::are_zeros;
 use crate::slot::{Slot, Target};
 use cli_header::{CliHeader, Pe};
 use file_ranges::{Field, Headers, SECTION_HEADER, aligned, is_free};
+use heap_entries::are_zeros;
 use opening::View;
 use packed::BYTE_LIMIT;
 

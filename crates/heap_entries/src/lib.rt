@@ -3,7 +3,7 @@
 //! [`text`], [`blob`], [`user_string`] and [`guid`] read the entry at an index, in the bytes of the heap, and do not
 //! allocate. If there is none they return a [`HeapFault`], which says what is missing. An absent heap is no bytes.
 //! [`Strings`] checks an index in constant time, after one look at a heap that is UTF-8. [`guid_text`] writes a GUID
-//! as text.
+//! as text, and [`same_padded`] compares heaps without their padding.
 //!
 //! ```text
 //! text(b"\0a.dll\0", 1) == Ok("a.dll")
@@ -16,6 +16,7 @@ mod fault;
 mod guid_format;
 mod guids;
 pub mod laws;
+mod padding;
 mod strings;
 mod user_strings;
 
@@ -23,5 +24,6 @@ pub use blobs::blob;
 pub use fault::HeapFault;
 pub use guid_format::guid_text;
 pub use guids::guid;
+pub use padding::{are_zeros, same_padded};
 pub use strings::{Strings, text};
 pub use user_strings::{Units, UserString, user_string};

@@ -1,6 +1,5 @@
 use Rattle.comparison.proofs.Prelude.{both_ways, ◌∙◌, sym}
-use Rattle.comparison.proofs.OutlineLemmas.{outline_counts, outline_user, outline_version}
-use Rattle.comparison.proofs.PaddingLemmas.{parts_differ, parts_same}
+use Rattle.comparison.proofs.OutlineLemmas.{outline_counts, outline_user, outline_version, parts_differ, parts_same}
 use Rattle.comparison.proofs.all.outline_difference.Goals as goal
 
 pub returns-then-ne-clause-first : goal.returns-then-ne-clause-first

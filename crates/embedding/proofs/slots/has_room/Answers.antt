@@ -1,5 +1,5 @@
 use Rattle.embedding.proofs.Prelude.{◌≡◌, ◌+◌, length, replicate, ap, arith, part, headers_end}
-use Rattle.embedding.proofs.Padded.{zeros_at}
+use Rattle.embedding.proofs.Room.{zeros_at}
 use Rattle.embedding.proofs.slots.has_room.Goals as goal
 
 pub returns : goal.returns

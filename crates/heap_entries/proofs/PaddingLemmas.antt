@@ -1,5 +1,8 @@
--- Heaps that differ in zeros at their ends.
-use Rattle.embedding.proofs.Prelude.{◌≡◌, ap₂, drop-append_seam, ℕ, ◌+◌, ◌-◌, ◌%◌, ◌/◌, ◌≤◌, min, List, ◌++◌, length, take, drop, replicate, sym, ap, ◌∙◌, arith, append_assoc, length-append, take-append_seam, take-append-drop, take-append-le, take-replicate, drop-append-le, length-drop, length-take, length-replicate, replicate-append-replicate, part, zero_padded}
+-- Bytes that are equal once they are padded with zeros.
+use Rattle.std.proofs.Common.{◌≡◌, ◌≤◌, ◌∙◌, ℕ, ◌+◌, ◌-◌, ◌%◌, ◌/◌, List, ◌++◌, length, take, drop, min, replicate, ap, ap₂, sym, append_assoc, arith, length-append, length-drop}
+use Rattle.std.proofs.Math.Seq.{take-append_seam, drop-append_seam}
+use Rattle.std.proofs.lemmas.List.{take-append-le, take-replicate, drop-append-le, take-append-drop, length-replicate, replicate-append-replicate}
+use Rattle.heap_entries.specs.Padding.{zero_padded}
 
 module _ (longer shorter : List ℕ) (long : length shorter ≤ length longer) where
   -- bytes with zeros after them, no more than they are padded with, are padded to the same bytes
@@ -30,11 +33,3 @@ module _ (longer shorter : List ℕ) (long : length shorter ≤ length longer) w
         sym (take-append-le (length shorter) longer zeros long) ∙ ap (take (length shorter)) same ∙ take-append_seam shorter (replicate pad 0),
         sym (take-append_seam tail zeros) ∙ ap (take (length tail)) ends ∙ take-replicate (length tail) pad 0 (omega (arith, lengths, length-drop (length shorter) longer)),
       )
-
--- bytes that are zeros, by their begin and end
-pub zeros_at : (file : List ℕ) (start stop count : ℕ) → count ≡ stop - start → start + count ≤ length file
-    → take (stop - start) (drop start file) ≡ replicate (length (take (stop - start) (drop start file))) 0 → part file start count ≡ replicate count 0
-zeros_at file start stop count size within zeros =
-    ap (λ (n : ℕ). part file start n) size
-    ∙ zeros
-    ∙ ap (λ (n : ℕ). replicate n 0) (omega (arith, length-take (stop - start) (drop start file), length-drop start file))

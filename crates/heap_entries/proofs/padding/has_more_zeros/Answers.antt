@@ -1,8 +1,9 @@
-use Rattle.embedding.proofs.Prelude.{refl, sym, ap, ◌∙◌, arith, not-false, Decides-eqb}
-use mathlib.Core.Bool.{not}
+use Rattle.std.proofs.Common.{refl, sym, ap, ◌∙◌, arith, not}
+use Rattle.std.proofs.lemmas.Bool.{not-false}
+use Rattle.std.proofs.lemmas.Bool.Decides.{Decides-eqb}
 use Rattle.std.proofs.lemmas.Slice.Eq.{slice_eq-Decides}
-use Rattle.embedding.proofs.Padded.{padded_alike, parts_alike}
-use Rattle.embedding.proofs.matching.has_more_zeros.Goals as goal
+use Rattle.heap_entries.proofs.PaddingLemmas.{padded_alike, parts_alike}
+use Rattle.heap_entries.proofs.padding.has_more_zeros.Goals as goal
 
 pub returns-then-div_ceil : goal.returns-then-div_ceil
 returns-then-div_ceil c = (

@@ -1,5 +1,5 @@
-use Rattle.comparison.proofs.Prelude.{sym}
-use Rattle.comparison.proofs.all.same_padded.Goals as goal
+use Rattle.std.proofs.Common.{sym}
+use Rattle.heap_entries.proofs.padding.same_padded.Goals as goal
 
 pub returns-then-left-right : goal.returns-then-left-right
 returns-then-left-right c = ((λ yes. sym (c.has_more_zeros.ensures.0 yes)), (λ same. c.has_more_zeros.ensures.1 (sym same)))

@@ -1,5 +1,0 @@
-use Rattle.embedding.proofs.Prelude.{sym}
-use Rattle.embedding.proofs.matching.are_padded_alike.Goals as goal
-
-pub returns-then-left-right : goal.returns-then-left-right
-returns-then-left-right c = ((λ yes. sym (c.has_more_zeros.ensures.0 yes)), (λ same. c.has_more_zeros.ensures.1 (sym same)))
