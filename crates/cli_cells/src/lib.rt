@@ -20,5 +20,5 @@ mod until_fault;
 pub use cells::{column_name, print_cell};
 pub use row_lines::{Names, print_show};
 pub use shown_rows::ShownRows;
-pub use tokens::{padded_copy, print_tokens};
+pub use tokens::print_tokens;
 pub use until_fault::print_until_fault;

@@ -1,5 +1,5 @@
 //! `clim token`: the rows and user strings that tokens name (ECMA-335 III.1.9 and II.24.2.4).
-ghost use Rattle.std.specs.Prelude.{◌≡◌, ◌≤◌, ◌∷◌, [], List, IfErr, IfNone, IfOk, IfSome, OnOk, OnSome, All};
+ghost use Rattle.std.specs.Prelude.{◌≡◌, ◌≤◌, ◌∷◌, [], List, IfErr, IfNone, IfSome, OnOk, OnSome, All};
 ghost use Rattle.cli_cells.specs.Words.{zero_padded, IsToken, Metadata, IsModel, row_count, user_of, Part, Prints};
 ghost use Rattle.cli_cells.specs.TokenLines.{ArePrinted, HasTokenRow, IsNamed, IsTokenLine, Reports, user_line};
 
@@ -8,7 +8,7 @@ use cli_faults::Failure;
 use cli_lines::Part::{Field, Member, Units, Word};
 use cli_lines::Value::{Hex, Null, Number};
 use cli_lines::{Name, Printer};
-use heap_entries::{UserString, user_string};
+use heap_entries::{UserString, copy_padded, user_string};
 use opening::{CellCursor, Token, View};
 use std::alloc::{AllocError, Global};
 use std::io::Write;
@@ -33,21 +33,6 @@ fn existing_row(view: &View<'_>, number: u32) -> Option<Token>
     }
 }
 
-/// A copy of bytes, padded with zeros to a multiple of four.
-///
-/// # Errors
-///
-/// Out of memory.
-pub fn padded_copy(alloc: Global, bytes: &[u8]) -> Result<Vec<u8>, AllocError>
-    ensures { IfOk result (λ copy. copy.items ≡ zero_padded bytes.now) }
-{
-    let padding = (4 - bytes.len() % 4) % 4;
-    let mut copy = Vec::with_capacity(alloc, bytes.len() + padding)?;
-    copy.extend_from_slice(bytes)?;
-    copy.resize(bytes.len() + padding, 0)?;
-    Ok(copy)
-}
-
 /// Prints a line for what each of these tokens names in a view, in their order: a row as in `clim show`, or a user string.
 ///
 /// # Errors
@@ -64,7 +49,7 @@ pub fn print_tokens<W: Write>(
     ensures stopped { IfErr result (Reports view.now out.old out.new numbers.now) }
 {
     cli_lines::laws::lines_follow::<W>();
-    let Ok(user) = padded_copy(alloc, view.user()) else {
+    let Ok(user) = copy_padded(alloc, view.user()) else {
         return Err(Failure::OutOfMemory);
     };
     for number in numbers {

@@ -7,14 +7,13 @@ ghost use Rattle.cli_where.specs.Lines.{entry_lines, string_lines};
 ghost use Rattle.cli_where.specs.Located.{AreListed};
 
 use crate::entries::{Heap, blob_size};
-use cli_cells::padded_copy;
 use cli_faults::Failure;
 use cli_files::{Input, open};
 use cli_lines::Part::{Field, Units, Word};
 use cli_lines::Value::Hex;
 use cli_lines::{Name, Printer};
 use cli_regions::{Search, Structure, What};
-use heap_entries::{UserString, user_string};
+use heap_entries::{UserString, copy_padded, user_string};
 use std::alloc::Global;
 use std::io::Write;
 
@@ -64,7 +63,7 @@ pub(crate) fn find_user_strings(alloc: Global, heap: &Heap<'_>, found: &mut Sear
         find_in_padded(heap, heap.bytes, found);
         return;
     }
-    match padded_copy(alloc, heap.bytes) {
+    match copy_padded(alloc, heap.bytes) {
         Ok(padded) => find_in_padded(heap, &padded, found),
         Err(_) => found.fail(),
     }
@@ -105,7 +104,7 @@ pub fn print_strings<W: Write>(
     ensures { AreListed input bytes.now out.old out.new result }
 {
     let view = open(bytes, input)?;
-    let Ok(heap) = padded_copy(alloc, view.user()) else {
+    let Ok(heap) = copy_padded(alloc, view.user()) else {
         return Err(Failure::OutOfMemory);
     };
     print_entries(&heap, out);

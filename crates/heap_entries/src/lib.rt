@@ -24,6 +24,6 @@ pub use blobs::blob;
 pub use fault::HeapFault;
 pub use guid_format::guid_text;
 pub use guids::guid;
-pub use padding::{are_zeros, same_padded};
+pub use padding::{are_zeros, copy_padded, same_padded};
 pub use strings::{Strings, text};
 pub use user_strings::{Units, UserString, user_string};

@@ -35,7 +35,6 @@ pub mod laws;
 mod load;
 mod lookups;
 mod metadata_held;
-mod padding;
 mod records_left;
 mod ref_row;
 mod row_values;

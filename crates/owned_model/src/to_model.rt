@@ -4,9 +4,9 @@ ghost use Rattle.metadata.specs.Model.{IsModel};
 ghost use Rattle.metadata.specs.Valid.{IsValid};
 ghost use Rattle.owned_model.specs.Models.{ReportsOrder};
 
-use crate::padding::copy_padded;
 use crate::table_rows::load_tables;
 use crate::valid_model::Model;
+use heap_entries::copy_padded;
 use opening::View;
 use std::alloc::{AllocError, Global};
 use tables::Tables;
