@@ -1,13 +1,15 @@
 """Suites that are compiled together: what is below them, of which the standard library alone takes half a minute, only once.
 
-Programs become libraries of one program: it runs that one whose name it is called by. A suite that is not joined, or is the
-only one of its kind, is compiled alone.
+The tests of crates become modules of one crate. Programs become libraries of one program: it runs that one whose name it is
+called by. A suite that is not joined, or is the only one of its kind, is compiled alone.
 """
 
 import os
+import re
 
 import crates
 import suites
+from processes import Ran
 
 # The program, with an arm for each that it holds.
 PROGRAM = """use anyhow::Result;
@@ -61,6 +63,34 @@ class Alone:
     def run(self, workspace, processes):
         """Runs the suites, and returns the result of each and the processor seconds that it took."""
         return {name: suites.run_suite(name, entry, workspace, processes) for name, entry in self.entries.items()}
+
+
+class Tests(Alone):
+    """The #[test] functions of crates, as those of one crate."""
+
+    name = "joined_tests"
+
+    def write(self, folder):
+        top = f"{folder}/crates/{self.name}/src"
+        for name, entry in self.entries.items():
+            crates.copy_crate(f"{crates.TESTS}/{entry['folder']}/src", f"{top}/{name}", (r"\bcrate::", f"crate::{name}::"))
+            os.rename(f"{top}/{name}/lib.rt", f"{top}/{name}.rt")
+        write(f"{top}/lib.rt", "".join(f"mod {name};\n" for name in self.entries))
+        return crates.list_line(self.name, dict.fromkeys(it for entry in self.entries.values() for it in entry["uses"]))
+
+    def run(self, workspace, processes):
+        ran = workspace.run(self.name, {"run": "tests"}, processes)
+        return {name: (suites.judge_crate(entry, of_module(name, ran), None), ran.seconds) for name, entry in self.entries.items()}
+
+
+def of_module(name, ran):
+    """A run of tests, without the lines about those of other modules."""
+    lines, is_own = [], True
+    for it in ran.printed.splitlines():
+        if it.startswith("test "):
+            is_own = it.startswith(("test result", f"test {name}::"))
+        lines += [it] * is_own
+    return Ran(ran.status, "\n".join(lines), ran.log, ran.seconds)
 
 
 class Programs(Alone):
@@ -124,7 +154,7 @@ def judge_count(_, runs):
     return suites.Result(int(counts[1]), int(counts[2]), failures if int(counts[2]) else [])
 
 
-KINDS = {"cases": Programs, "count": Programs}
+KINDS = {"tests": Tests, "cases": Programs, "count": Programs}
 
 
 def jobs(chosen):
