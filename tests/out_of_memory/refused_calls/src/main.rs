@@ -1,11 +1,16 @@
-//! Every call of `tables`, `owned_model`, `writer`, `full_names`, `declarations`, `comparison` and the crates of records
-//! that can run out of memory, once and, if it does, once more.
+//! Every call of `packed`, `heaps`, `rows`, `signatures`, `tables`, `owned_model`, `writer`, `full_names`, `declarations`,
+//! `comparison` and the crates of records that can run out of memory, once and, if it does, once more.
 
 mod compared;
 mod errors;
 mod loaded_models;
+mod module_row;
 mod names_written;
+mod numbers;
+mod pools;
 mod record_cells;
+mod signature_blobs;
+mod signature_calls;
 mod written;
 
 use one_refusal::{Run, Stop, started, reported};
@@ -45,6 +50,19 @@ fn calls_of(run: &Run, section: u32) -> Result<(), Stop> {
         17 => written::is_written_within(run, &ONE_MODULE),
         18 => names_written::are_named(run),
         19 => compared::are_compared(run),
+        20 => numbers::encoded(run),
+        21 => pools::texts(run),
+        22 => pools::blobs(run),
+        23 => pools::guids(run),
+        24 => pools::user_strings(run),
+        25 => pools::guid(run),
+        26 => module_row::module_after_a_byte(run),
+        27 => signature_calls::all_bad(run),
+        28 => signature_calls::all_encoded(run),
+        29 => pools::first_byte(run),
+        30 => pools::planned_blobs(run),
+        31 => pools::planned_guids(run),
+        32 => pools::texts_at_starts(run),
         _ => Err(Stop::Broken("there is such a section")),
     }
 }
