@@ -1,10 +1,8 @@
 -- What several proofs of this crate name of std, of the crates below, and of its own definitions.
-pub use Rattle.std.proofs.Common.{◌≡◌, ◌∙◌, ℕ, ◌-◌, ◌<◌, ◌≤◌, ◌==◌, Bool, true, false, Option, Some, None, refl, sym, ap, subst, arith, nat_lt, if◌then◌else◌, zero, suc, ◌+◌, List, [], ◌∷◌, ◌++◌, ◌⊎◌, inl, inr, ◌≢◌, ◌*◌, ◌/◌, ◌%◌, ◌^◌, length, take, drop, append_assoc, append-nil, map, get_or, All}
-pub use Rattle.std.proofs.lemmas.Bool.{eqb-true, ltb-true, ne_eqb, eq-eqb}
+pub use Rattle.std.proofs.Common.{◌≡◌, ◌∙◌, ℕ, ◌-◌, ◌<◌, ◌≤◌, ◌==◌, Bool, true, false, Option, Some, None, refl, sym, ap, subst, arith, nat_lt, if◌then◌else◌, zero, suc, ◌+◌, List, [], ◌∷◌, ◌++◌, ◌⊎◌, inl, inr, ◌≢◌, ◌*◌, ◌/◌, ◌%◌, ◌^◌, length, take, drop, append_assoc, append-nil, map, get_or, All, eqb-true, ltb-true, ne_eqb, eq-eqb, slice_index_or, is_some}
 pub use Rattle.std.proofs.lemmas.List.{flat_map_more, take_all, take_more, drop_more, take-append-drop}
 pub use Rattle.std.proofs.lemmas.List.Elements.{All-head, All-tail, All-more, All-nil}
 pub use Rattle.std.specs.List.{range_with_len, flat_map}
-pub use Rattle.std.specs.Prelude.{slice_index_or, is_some}
 pub use Rattle.packed.proofs.RuleLemmas.{each_holds, none_fails}
 pub use Rattle.cli_cells.specs.Words.{AllHold, is_padding, column_of, cell_count, columns_of, column_at, ColumnKind, TableId, Metadata, count_in, IsModel, rows_in, Source, SourceAt, IsBroken, IsBrokenRow, IsFirstBroken, BrokenRow, source_in, rules_before, Part, form_from, line_feed, part_letters, part_text, Adds, AwaitsOrFails, Printed, Prints}
 pub use Rattle.table_schema.specs.declared.table.TableId.TheVariants.{Module}

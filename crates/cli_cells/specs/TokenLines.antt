@@ -1,6 +1,5 @@
 -- What `clim token` prints: the rows and user strings that numbers name (ECMA-335 III.1.9 and II.24.2.4).
-use Rattle.std.specs.Prelude.{◌≡◌, ◌≢◌, ◌≤◌, ℕ, ◌/◌, ◌%◌, ◌^◌, ◌⊎◌, List, [], ◌∷◌, ◌++◌, codes, Option, None, Some}
-use Rattle.std.specs.List.{All}
+use Rattle.std.specs.Prelude.{◌≡◌, ◌≢◌, ◌≤◌, ℕ, ◌/◌, ◌%◌, ◌^◌, ◌⊎◌, List, [], ◌∷◌, ◌++◌, codes, Option, None, Some, All}
 use Rattle.heap_entries.specs.Entries.{IsUserString, UserText}
 use Rattle.cli_cells.specs.Words.{zero_padded, Token, IsToken, Metadata, IsModel, row_count, user_of, Part, word, field, member, units, Printed, Prints}
 use Rattle.metadata.specs.Lookups.{HasRow}

@@ -1,6 +1,5 @@
 -- The test of a declaring type.
-use Rattle.cli_names.proofs.Prelude.{◌≡◌, Bool, true, false, Option, None, Some, ap, refl, subst, Decides, Decides-like, Decides-and, Decides-eqb, TableId, Token, Metadata, IsDescribing}
-use Rattle.std.specs.Option.{option_eq}
+use Rattle.cli_names.proofs.Prelude.{◌≡◌, Bool, true, false, Option, None, Some, ap, refl, subst, Decides, Decides-like, Decides-and, Decides-eqb, TableId, Token, Metadata, IsDescribing, option_eq}
 use denote.Enum.Bare.{same_true, true_same}
 use Rattle.table_schema.specs.contracts.table.TableId as table
 use Rattle.table_schema.specs.contracts.table.TableIdPartialEq.TheImpl as tables

@@ -1,6 +1,5 @@
 -- The number that digits denote, for an argument without a leading plus sign.
-use Rattle.cli_names.proofs.Prelude.{◌≡◌, ◌≢◌, ◌∙◌, ◌==◌, ℕ, ◌^◌, ◌<◌, ◌≤◌, ◌++◌, Bool, true, false, cond, List, [], ◌∷◌, codes, drop, length, take, Result, Ok, Err, Option, None, Some, ap, arith, eqb-true, inl, inr, refl, subst, sym, ⊎_elim, slice_index, MatchOption, Decides, digit_value, bytes_eq, take-append-drop, bytes_eq-Decides}
-use Rattle.std.specs.Option.{SomeIff}
+use Rattle.cli_names.proofs.Prelude.{◌≡◌, ◌≢◌, ◌∙◌, ◌==◌, ℕ, ◌^◌, ◌<◌, ◌≤◌, ◌++◌, Bool, true, false, cond, List, [], ◌∷◌, codes, drop, length, take, Result, Ok, Err, Option, None, Some, ap, arith, eqb-true, inl, inr, refl, subst, sym, ⊎_elim, slice_index, MatchOption, Decides, digit_value, bytes_eq, take-append-drop, bytes_eq-Decides, SomeIff}
 use Rattle.std.specs.Result.{result_ok}
 use Rattle.std.specs.Str.Parse.{IsNumeral, ParsesUnsigned, digits_value}
 use Rattle.std.proofs.Math.Nat.{pow-le-pow_right}

@@ -1,7 +1,6 @@
 -- The type that a path means.
-use Rattle.cli_names.proofs.Prelude.{◌≡◌, ◌≢◌, ◌∙◌, ◌↔◌, All, Bool, false, IsTrue, ℕ, suc, List, [], ◌∷◌, ◌++◌, Option, None, Some, IfNone, IfSome, refl, ap, sym, subst, inl, inr, arith, slice_index_or, TableId, Text, NestedClass, TypeDef, TypeRef, Metadata, cell_in, IsEnclosed, IsNesting, IsOuter, IsFullName, HasOwnName, HasParts, IsAround, IsOutside}
+use Rattle.cli_names.proofs.Prelude.{◌≡◌, ◌≢◌, ◌∙◌, ◌↔◌, All, Bool, false, IsTrue, ℕ, suc, List, [], ◌∷◌, ◌++◌, Option, None, Some, IfNone, IfSome, refl, ap, sym, subst, inl, inr, arith, slice_index_or, TableId, Text, NestedClass, TypeDef, TypeRef, Metadata, cell_in, IsEnclosed, IsNesting, IsOuter, IsFullName, HasOwnName, HasParts, IsAround, IsOutside, row_in}
 use Rattle.metadata.specs.KeyOrder.{IsKeyOrdered}
-use Rattle.metadata.specs.Valid.{row_in}
 
 -- at most one row is outside of another
 one_outer : (model : Metadata) (row a b : ℕ) → IsOuter model row a → IsOuter model row b → a ≡ b

@@ -1,5 +1,5 @@
 -- The types of other modules that an argument means, and what belongs to them.
-use Rattle.cli_names.proofs.Prelude.{◌≡◌, ◌∙◌, ◌↔◌, ◌==◌, Bool, true, false, cond, IsTrue, ℕ, List, [], ◌∷◌, ◌++◌, Option, None, Some, length, refl, ap, sym, subst, TypeRef, TableId, Token, Ref, HasRow, Metadata, BelongsTo, IsWantedRef, generic_at, generic_of, type_of_ref, Wanted}
+use Rattle.cli_names.proofs.Prelude.{◌≡◌, ◌∙◌, ◌↔◌, ◌==◌, Bool, true, false, cond, IsTrue, ℕ, List, [], ◌∷◌, ◌++◌, Option, None, Some, length, refl, ap, sym, subst, TypeRef, TableId, Token, Ref, HasRow, Metadata, BelongsTo, IsWantedRef, generic_at, generic_of, type_of_ref, Wanted, row_in}
 use Rattle.std.specs.Prelude.{option_map}
 use Rattle.packed.specs.Packed.{IsPacked}
 use Rattle.packed.specs.Prefix.{unsigned_at}
@@ -16,7 +16,6 @@ use Rattle.sig_grammar.specs.Grammar.{content_parts, core_parts, count_types, mo
 use Rattle.sig_grammar.specs.Parts.{EncodesParts, IsIndex, Part, byte, index, number}
 use Rattle.sig_grammar.specs.Reading.{index_at, number_at, token_of}
 use Rattle.sig_grammar.specs.Syntax.{Body, Core, instance, plain, simple, slot, some_ret, type_spec, void_ret}
-use Rattle.metadata.specs.Valid.{row_in}
 
 -- ---- the generic type in the bytes of a signature
 

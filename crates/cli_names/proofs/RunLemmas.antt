@@ -1,9 +1,7 @@
 -- The run of an owner's members (ECMA-335 II.22.12, II.22.26, II.22.35 and II.22.37).
-use Rattle.cli_names.proofs.Prelude.{◌≡◌, ℕ, zero, suc, ◌+◌, ◌-◌, ◌<◌, ◌≤◌, arith, ⊎_elim, cases_lt, le-leb, lt-leb, subst, HasRow, IsRun, Metadata, cell_in, count_in, MemberList, cell_of, member_of, owner_of, run_start}
+use Rattle.cli_names.proofs.Prelude.{◌≡◌, ℕ, zero, suc, ◌+◌, ◌-◌, ◌<◌, ◌≤◌, arith, ⊎_elim, cases_lt, le-leb, lt-leb, subst, HasRow, IsRun, Metadata, cell_in, count_in, MemberList, cell_of, member_of, owner_of, run_start, IsValid, IsWithinMembers, links_of, start_in}
 use Rattle.table_schema.specs.declared.column.ColumnKind.TheVariants as kind
-use Rattle.metadata.specs.Cell.{start_in}
 use Rattle.metadata.specs.Links.{IsOwned}
-use Rattle.metadata.specs.Valid.{IsValid, IsWithinMembers, links_of}
 use Rattle.metadata.proofs.ListLemmas.{list_within, list_kind}
 
 -- a start is at most one past the last member

@@ -1,6 +1,5 @@
 -- The parts of the full name of a type.
-use Rattle.cli_names.proofs.Prelude.{◌≡◌, ◌≢◌, ◌==◌, ◌∙◌, ◌++◌, ◌∷◌, ℕ, List, [], All, Option, None, Some, ap, sym, subst, drop, inl, inr, lit<, MatchOption, unwrap_or, NoCharPasses, get_or_default, take-append-drop, IsFullName}
-use Rattle.std.specs.Borrow.{Bor}
+use Rattle.cli_names.proofs.Prelude.{◌≡◌, ◌≢◌, ◌==◌, ◌∙◌, ◌++◌, ◌∷◌, ℕ, List, [], All, Option, None, Some, ap, sym, subst, drop, inl, inr, lit<, MatchOption, unwrap_or, NoCharPasses, get_or_default, take-append-drop, IsFullName, Bor}
 use Rattle.std.specs.Str.Pattern.{RFindsChar, SplitsAroundMatch}
 use Rattle.std.proofs.lemmas.Str.Pattern.{NoCharPasses-char, drop_at_char}
 

@@ -1,6 +1,5 @@
 -- Which rows have a line.
-use Rattle.std.specs.Prelude.{◌&&◌, ℕ, Bool, true, List, Option, None, Some, is_some}
-use Rattle.std.specs.List.{filter}
+use Rattle.std.specs.Prelude.{◌&&◌, ℕ, Bool, true, List, Option, None, Some, is_some, filter}
 use Rattle.table_schema.specs.declared.table.TableId.{TableId}
 use Rattle.table_schema.specs.declared.table.TableId.TheVariants.{Param}
 use Rattle.table_schema.specs.declared.token.Token.{Token}

@@ -1,6 +1,5 @@
 -- Rows that are chosen, one after another.
-use Rattle.cli_outline.proofs.Prelude.{◌≡◌, ◌∙◌, true, false, List, [], ◌∷◌, ◌++◌, ⊎_elim, ap, inl, inr, refl, subst, sym, Token, Metadata, Part, Prints, AreChosenBy, IsChosen, PrintsChosen, PrintsRows, OutlineOptions}
-use Rattle.cli_lines.specs.Printed.{Printed}
+use Rattle.cli_outline.proofs.Prelude.{◌≡◌, ◌∙◌, true, false, List, [], ◌∷◌, ◌++◌, ⊎_elim, ap, inl, inr, refl, subst, sym, Token, Metadata, Part, Prints, AreChosenBy, IsChosen, PrintsChosen, PrintsRows, OutlineOptions, Printed}
 use Rattle.cli_names.specs.declared.chosen.Choice.{Choice}
 use Rattle.cli_names.specs.declared.chosen.Choice.TheVariants as choice
 use Rattle.cli_outline.proofs.PrintedLemmas.{rows_more, rows_nothing}

@@ -1,9 +1,8 @@
 -- The first word of a declaration, and its line in each form.
-use Rattle.cli_outline.proofs.Prelude.{◌≡◌, ◌<◌, Bool, true, false, not, ℕ, List, None, Some, sym, arith, [], ◌∷◌, ◌++◌, Option, refl, subst, inl, inr, get_or, length, ltb, lt-ltb, le-ltb, cases_lt, unwrap_or, position, position_or_len, nat_tests, Token, Text, Letters, JsonLines, Part, line_from, style, styled_text, as_is, Tokens, declaration_line, ends_word, json_line, text_line, unindented}
+use Rattle.cli_outline.proofs.Prelude.{◌≡◌, ◌<◌, Bool, true, false, not, ℕ, List, None, Some, sym, arith, [], ◌∷◌, ◌++◌, Option, refl, subst, inl, inr, get_or, length, ltb, lt-ltb, le-ltb, cases_lt, unwrap_or, position, position_or_len, nat_tests, Token, Text, Letters, JsonLines, Part, line_from, style, styled_text, as_is, Tokens, declaration_line, ends_word, json_line, text_line, unindented, Asked, Printed, Prints}
 use Rattle.std.specs.Str.{IsCharBoundary}
 use Rattle.std.proofs.lemmas.List.Sums.{passes_at_first, prefix_len-le-length}
 use Rattle.cli_lines.specs.declared.parts.Form.{Form}
-use Rattle.cli_lines.specs.Printed.{Asked, Printed, Prints}
 use Rattle.cli_sending.specs.Letters.{readable_after}
 use Rattle.cli_names.specs.declared.source.Tokens.TheVariants.{Shown, Hidden}
 

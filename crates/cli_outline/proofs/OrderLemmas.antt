@@ -1,8 +1,7 @@
 -- Rows in the order of their keys.
-use Rattle.cli_outline.proofs.Prelude.{◌≡◌, ◌∙◌, ℕ, zero, suc, ◌+◌, ◌-◌, ◌<◌, ◌≤◌, List, [], ◌∷◌, ◌++◌, All, ap, arith, length, refl, subst, sym, slice_get, range_with_len, IsPermutation, All-permutation, TableId, Metadata, IsModel, member_of, MemberList, Keyed, TableOrder, OutlineOptions, AreGrouped, AreInOrder, AreMembers, IsRowIn, grouping_of, keyed_cmp, rows_of, run_start}
+use Rattle.cli_outline.proofs.Prelude.{◌≡◌, ◌∙◌, ℕ, zero, suc, ◌+◌, ◌-◌, ◌<◌, ◌≤◌, List, [], ◌∷◌, ◌++◌, All, ap, arith, length, refl, subst, sym, slice_get, range_with_len, IsPermutation, All-permutation, TableId, Metadata, IsModel, member_of, MemberList, Keyed, TableOrder, OutlineOptions, AreGrouped, AreInOrder, AreMembers, IsRowIn, grouping_of, keyed_cmp, rows_of, run_start, map-id}
 use Rattle.std.specs.Cmp.{IsTotalOrder}
 use Rattle.std.proofs.lemmas.Cmp.{nat_cmp_total, nat_list_cmp_total, on_total, then_total}
-use Rattle.std.proofs.lemmas.List.{map-id}
 use Rattle.std.proofs.lemmas.List.FromFn.{get_or-range_with_len, length-range_with_len, map-range_with_len_more}
 
 pub keyed_cmp_total : IsTotalOrder keyed_cmp

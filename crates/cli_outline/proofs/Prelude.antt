@@ -1,14 +1,12 @@
 -- What several proofs of this crate name of std, of the crates below, and of its own definitions.
-pub use Rattle.std.proofs.Common.{◌≡◌, ◌∙◌, ℕ, Bool, true, false, List, [], ◌∷◌, ◌++◌, Option, None, Some, ⊎_elim, ap, inl, inr, refl, subst, sym, ◌<◌, ◌≤◌, get_or, length, ltb, lt-ltb, arith, zero, suc, ◌+◌, ◌-◌, All, length-append, map, cond, append_assoc, append-nil, drop, ◌≢◌, codes, take, not, rules}
+pub use Rattle.std.proofs.Common.{◌≡◌, ◌∙◌, ℕ, Bool, true, false, List, [], ◌∷◌, ◌++◌, Option, None, Some, ⊎_elim, ap, inl, inr, refl, subst, sym, ◌<◌, ◌≤◌, get_or, length, ltb, lt-ltb, arith, zero, suc, ◌+◌, ◌-◌, All, length-append, map, cond, append_assoc, append-nil, drop, ◌≢◌, codes, take, not, rules, IsPermutation, slice_get, unwrap_or, IsSome, string_bytes, slice_index_or}
 pub use Rattle.std.proofs.lemmas.Bool.{cases_lt, le-ltb}
 pub use Rattle.std.proofs.lemmas.Bool.Decides.{nat_tests, Decides-at}
 pub use Rattle.std.proofs.lemmas.Result.{IfOk-weaker}
-pub use Rattle.std.proofs.lemmas.List.{drop_more, drop_all, take_all, take_min, map-append}
+pub use Rattle.std.proofs.lemmas.List.{drop_more, drop_all, take_all, take_min, map-append, map-id}
 pub use Rattle.std.proofs.lemmas.List.Elements.{filter-append, All-push, All-append}
 pub use Rattle.std.proofs.lemmas.List.Sorted.{All-permutation, IsPermutation-map, answers_always, ranks_by}
 pub use Rattle.std.specs.List.{position, position_or_len, range_with_len, flat_map}
-pub use Rattle.std.specs.List.Sorted.{IsPermutation}
-pub use Rattle.std.specs.Prelude.{slice_get, unwrap_or, IsSome, string_bytes, slice_index_or}
 pub use Rattle.table_schema.specs.Tables.{table_index_of}
 unfoldable pub use Rattle.table_schema.specs.Tables.{tables}
 pub use Rattle.table_schema.specs.declared.table.TableId.{TableId}
@@ -22,7 +20,7 @@ pub use Rattle.metadata.specs.declared.member_lists.MemberList.{MemberList}
 pub use Rattle.cli_sending.specs.AsIs.{as_is}
 pub use Rattle.cli_lines.specs.Lines.{Part, style}
 unfoldable pub use Rattle.cli_lines.specs.Lines.{line_from, styled_text}
-pub use Rattle.cli_lines.specs.Printed.{Prints}
+pub use Rattle.cli_lines.specs.Printed.{Prints, Printed, Asked}
 pub use Rattle.cli_lines.specs.declared.parts.Form.TheVariants.{Text, Letters, JsonLines}
 pub use Rattle.cli_names.specs.Chosen.{AreChosenBy, IsChosen}
 pub use Rattle.cli_names.specs.Orders.{order_in, row_at, rows_of, run_start, IsRowIn}

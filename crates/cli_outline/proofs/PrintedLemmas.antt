@@ -1,6 +1,5 @@
 -- The lines of rows, one after another.
-use Rattle.cli_outline.proofs.Prelude.{◌≡◌, Bool, true, false, cond, ℕ, suc, ◌+◌, ◌-◌, ◌<◌, ◌≤◌, List, [], ◌∷◌, ◌++◌, Option, None, Some, refl, ap, sym, subst, append_assoc, append-nil, arith, IsSome, filter-append, flat_map, range_with_len, Token, Metadata, Part, OutlineOptions, each_from, row_at, AreLines, IsLine, PrintsRows, is_shown, shown_rows}
-use Rattle.cli_lines.specs.Printed.{Printed, Prints}
+use Rattle.cli_outline.proofs.Prelude.{◌≡◌, Bool, true, false, cond, ℕ, suc, ◌+◌, ◌-◌, ◌<◌, ◌≤◌, List, [], ◌∷◌, ◌++◌, Option, None, Some, refl, ap, sym, subst, append_assoc, append-nil, arith, IsSome, filter-append, flat_map, range_with_len, Token, Metadata, Part, OutlineOptions, each_from, row_at, AreLines, IsLine, PrintsRows, is_shown, shown_rows, Printed, Prints}
 
 lines_append : (options : OutlineOptions) (model : Metadata) (xs ys : List Token) (a b : List (List Part)) → AreLines options model xs a → AreLines options model ys b → AreLines options model (xs ++ ys) (a ++ b)
 lines_append options model [] ys a b are more = subst (λ (lines : List (List Part)). AreLines options model ys (lines ++ b)) (sym are) more

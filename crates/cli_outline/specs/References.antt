@@ -1,6 +1,5 @@
 -- What is printed of the types of other modules that are asked for (ECMA-335 II.22.25 and II.22.38).
-use Rattle.std.specs.Prelude.{List, [], ◌∷◌, ⊤}
-use Rattle.std.specs.List.{flat_map}
+use Rattle.std.specs.Prelude.{List, [], ◌∷◌, ⊤, flat_map}
 use Rattle.table_schema.specs.declared.table.TableId.TheVariants.{MemberRef, TypeRef}
 use Rattle.table_schema.specs.declared.token.Token.{Token}
 use Rattle.metadata.specs.Metadata.{Metadata}

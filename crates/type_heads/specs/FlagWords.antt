@@ -1,6 +1,5 @@
 -- The words that stand for bits of flags (ECMA-335 II.23.1).
-use Rattle.std.specs.Prelude.{ℕ, ◌==◌, if◌then◌else◌, bit_and, List, [], ◌∷◌, ◌++◌, codes}
-use Rattle.std.specs.List.{flat_map}
+use Rattle.std.specs.Prelude.{ℕ, ◌==◌, if◌then◌else◌, bit_and, List, [], ◌∷◌, ◌++◌, codes, flat_map}
 use Rattle.type_heads.specs.declared.flag_words.FlagTable.{FlagTable}
 use Rattle.type_heads.specs.declared.flag_words.FlagTable.TheVariants as table
 use Rattle.type_heads.specs.declared.flag_words.FlagWord.{FlagWord}

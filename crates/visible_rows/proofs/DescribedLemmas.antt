@@ -1,8 +1,5 @@
 -- Rows of tables that describe nothing, and of tables that are no parts of types.
-use Rattle.visible_rows.proofs.Prelude.{◌≡◌, ℕ, Option, None, refl, TableId, Token, IsMemberOf, IsPartOf, subject_of}
-use Rattle.table_schema.specs.declared.table.TableId.TheVariants.{TypeDef, Param, InterfaceImpl, GenericParam, GenericParamConstraint, MethodImpl, ImplMap, DeclSecurity, CustomAttribute}
-use Rattle.metadata.specs.Metadata.{Metadata}
-use Rattle.metadata.specs.Cell.{Cell, Ref, reference_in}
+use Rattle.visible_rows.proofs.Prelude.{◌≡◌, ℕ, Option, None, refl, TableId, Token, IsMemberOf, IsPartOf, subject_of, TypeDef, Param, InterfaceImpl, GenericParam, GenericParamConstraint, MethodImpl, ImplMap, DeclSecurity, CustomAttribute, Metadata, Cell, Ref, reference_in}
 
 -- the row that a cell refers to
 pub referred : (cell : Cell) (row : Option Token) → cell ≡ Ref row → row ≡ reference_in cell

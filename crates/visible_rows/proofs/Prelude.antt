@@ -5,8 +5,8 @@ pub use Rattle.std.proofs.lemmas.List.{get_or-set_other, get_or-set_same, get_or
 pub use Rattle.std.proofs.lemmas.List.FromFn.{get_or-map-range_with_len, map-range_with_len_more}
 pub use Rattle.std.specs.List.{list_any, range_with_len}
 pub use Rattle.table_schema.specs.declared.table.TableId.{TableId}
-pub use Rattle.table_schema.specs.declared.table.TableId.TheVariants.{NestedClass, TypeDef, Field, MethodDef, Event, Property}
-pub use Rattle.metadata.specs.Cell.{start_in}
+pub use Rattle.table_schema.specs.declared.table.TableId.TheVariants.{NestedClass, TypeDef, Field, MethodDef, Event, Property, Param, InterfaceImpl, GenericParam, GenericParamConstraint, MethodImpl, ImplMap, DeclSecurity, CustomAttribute}
+pub use Rattle.metadata.specs.Cell.{start_in, Cell, Ref, reference_in}
 pub use Rattle.metadata.specs.Metadata.{Metadata, cell_in, count_in}
 pub use Rattle.metadata.specs.Model.{IsModel}
 pub use Rattle.metadata.specs.Valid.{row_in, links_of, IsValid}

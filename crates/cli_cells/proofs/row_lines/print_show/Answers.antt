@@ -1,5 +1,4 @@
-use Rattle.std.proofs.Common.{◌≡◌, List, ℕ, flat_map, refl, subst, sym}
-use Rattle.cli_cells.proofs.Prelude.{TableId, count_in, IsModel, row_count, Part, Prints, first_lines, content_of}
+use Rattle.cli_cells.proofs.Prelude.{TableId, count_in, IsModel, row_count, Part, Prints, first_lines, content_of, ◌≡◌, List, ℕ, flat_map, refl, subst, sym}
 use Rattle.cli_cells.proofs.row_lines.print_show.Goals as goal
 
 pub returns : goal.returns

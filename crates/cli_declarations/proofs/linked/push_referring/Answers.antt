@@ -1,5 +1,4 @@
-use Rattle.cli_declarations.proofs.Prelude.{◌≡◌, ◌∙◌, ◌++◌, ℕ, List, OnOk, Result, ap, sym, TableId, Metadata}
-use Rattle.cli_declarations.specs.Parts.{address_text, layout_text, marshal_text, offset_text, referring_text, value_text}
+use Rattle.cli_declarations.proofs.Prelude.{◌≡◌, ◌∙◌, ◌++◌, ℕ, List, OnOk, Result, ap, sym, TableId, Metadata, address_text, layout_text, marshal_text, offset_text, referring_text, value_text}
 use Rattle.cli_declarations.proofs.PieceLemmas.{on_ok}
 use Rattle.cli_declarations.proofs.linked.push_referring.Goals as goal
 

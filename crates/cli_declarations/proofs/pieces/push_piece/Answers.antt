@@ -1,5 +1,4 @@
-use Rattle.cli_declarations.proofs.Prelude.{refl, ap, decimal, bytes_text, cut_text, guid_text_in_comment, key_text, quoted_text, shown, words_of, words_text}
-use Rattle.table_schema.specs.Tokens.{hexadecimal}
+use Rattle.cli_declarations.proofs.Prelude.{refl, ap, decimal, bytes_text, cut_text, guid_text_in_comment, key_text, quoted_text, shown, words_of, words_text, hexadecimal}
 use Rattle.full_names.specs.declared.quoted.NameKind.TheVariants.{Dotted}
 use Rattle.full_names.specs.Quoted.{name_text}
 use Rattle.cli_values.specs.Actions.{action_text}

@@ -1,5 +1,4 @@
-use Rattle.cli_declarations.proofs.Prelude.{refl}
-use Rattle.table_schema.specs.Tokens.{token_text}
+use Rattle.cli_declarations.proofs.Prelude.{refl, token_text}
 use Rattle.cli_declarations.proofs.PieceLemmas.{on_ok}
 use Rattle.cli_declarations.proofs.pieces.push_row.Goals as goal
 

@@ -1,5 +1,4 @@
-use Rattle.cli_names.proofs.Prelude.{Bool, true, false, refl, ◌↔◌, IsTrue, Decides-at, Token, Metadata, Wanted, BelongsTo, IsWantedRef, IsChosen}
-use Rattle.std.specs.Borrow.{Bor}
+use Rattle.cli_names.proofs.Prelude.{Bool, true, false, refl, ◌↔◌, IsTrue, Decides-at, Token, Metadata, Wanted, BelongsTo, IsWantedRef, IsChosen, Bor}
 use Rattle.cli_names.specs.declared.chosen.Choice.TheVariants as choice
 use Rattle.cli_names.proofs.ChosenLemmas.{describes, some_decides}
 use Rattle.cli_names.proofs.chosen.is_chosen.Goals as goal

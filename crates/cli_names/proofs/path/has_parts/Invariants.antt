@@ -1,5 +1,4 @@
-use Rattle.cli_names.proofs.Prelude.{◌-◌, ◌≤◌, ◌↔◌, IfSome, length, map, Metadata, IsModel, HasAllParts, HasParts}
-use Rattle.opening.specs.Views.{row_count}
+use Rattle.cli_names.proofs.Prelude.{◌-◌, ◌≤◌, ◌↔◌, IfSome, length, map, Metadata, IsModel, HasAllParts, HasParts, row_count}
 use Rattle.cli_names.proofs.path.has_parts.Given as goal
 
 -- the last parts are the names of the row and of those outside of it, up to this one

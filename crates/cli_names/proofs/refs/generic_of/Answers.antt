@@ -1,6 +1,5 @@
-use Rattle.cli_names.proofs.Prelude.{◌∙◌, ap, sym}
+use Rattle.cli_names.proofs.Prelude.{◌∙◌, ap, sym, generic_in}
 use Rattle.table_schema.specs.CellColumns.{cell_columns}
-use Rattle.cli_names.specs.Refs.{generic_in}
 use Rattle.cli_names.proofs.RefLemmas.{generic_read}
 use Rattle.cli_names.proofs.refs.generic_of.Goals as goal
 

@@ -1,5 +1,4 @@
-use Rattle.cli_outline.proofs.Prelude.{drop, flat_map, Metadata, IsModel, PrintsChosen, order_in, all_rows}
-use Rattle.cli_lines.specs.Printed.{Printed}
+use Rattle.cli_outline.proofs.Prelude.{drop, flat_map, Metadata, IsModel, PrintsChosen, order_in, all_rows, Printed}
 use Rattle.cli_outline.proofs.chosen.print_chosen.Given as goal
 
 -- the tables that are left complete the tables

@@ -1,5 +1,4 @@
-use Rattle.cli_outline.proofs.Prelude.{Metadata, IsModel, PrintsChosen, order_in, each_from, row_of}
-use Rattle.cli_lines.specs.Printed.{Printed}
+use Rattle.cli_outline.proofs.Prelude.{Metadata, IsModel, PrintsChosen, order_in, each_from, row_of, Printed}
 use Rattle.cli_outline.proofs.chosen.print_positions.Given as goal
 
 -- the rows that are left complete them

@@ -1,6 +1,5 @@
-use Rattle.cli_outline.proofs.Prelude.{drop, map, flat_map, MethodSemantics, Metadata, IsModel, PrintsRows, row_of}
+use Rattle.cli_outline.proofs.Prelude.{drop, map, flat_map, MethodSemantics, Metadata, IsModel, PrintsRows, row_of, Printed}
 use Rattle.navigation.specs.Keyed.{row_of as row_in}
-use Rattle.cli_lines.specs.Printed.{Printed}
 use Rattle.cli_outline.proofs.outline.print_accessed.Given as goal
 
 -- the accessors that are left complete them

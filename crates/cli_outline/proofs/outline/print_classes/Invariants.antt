@@ -1,5 +1,4 @@
-use Rattle.cli_outline.proofs.Prelude.{◌≡◌, ◌+◌, TypeDef, Metadata, count_in, IsModel, order_in, class_rows, each_from, PrintsRows}
-use Rattle.cli_lines.specs.Printed.{Printed}
+use Rattle.cli_outline.proofs.Prelude.{◌≡◌, ◌+◌, TypeDef, Metadata, count_in, IsModel, order_in, class_rows, each_from, PrintsRows, Printed}
 use Rattle.cli_outline.proofs.outline.print_classes.Given as goal
 
 -- the types that are left complete the types

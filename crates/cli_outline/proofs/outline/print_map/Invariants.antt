@@ -1,5 +1,4 @@
-use Rattle.cli_outline.proofs.Prelude.{Metadata, IsModel, order_in, accessed_rows, each_from, mapped_rows, PrintsRows}
-use Rattle.cli_lines.specs.Printed.{Printed}
+use Rattle.cli_outline.proofs.Prelude.{Metadata, IsModel, order_in, accessed_rows, each_from, mapped_rows, PrintsRows, Printed}
 use Rattle.cli_outline.proofs.outline.print_map.Given as goal
 
 -- the rows that are left complete those of the map

@@ -1,6 +1,5 @@
-use Rattle.cli_outline.proofs.Prelude.{◌≡◌, drop, map, flat_map, Metadata, IsModel, order_in, mapped_rows, PrintsRows}
+use Rattle.cli_outline.proofs.Prelude.{◌≡◌, drop, map, flat_map, Metadata, IsModel, order_in, mapped_rows, PrintsRows, Printed}
 use Rattle.navigation.specs.Keyed.{row_of}
-use Rattle.cli_lines.specs.Printed.{Printed}
 use Rattle.cli_outline.proofs.outline.print_mapped.Given as goal
 
 -- the rows of the map that are left complete them

@@ -1,6 +1,4 @@
-use denote.Shadow.{shadow}
-use denote.Text.{Utf8}
-use Rattle.type_heads.proofs.Prelude.{[], map, Metadata, IsModel, Wrote, row_of, AreListed, IsGenericParam}
+use Rattle.type_heads.proofs.Prelude.{[], map, Metadata, IsModel, Wrote, row_of, AreListed, IsGenericParam, shadow, Utf8}
 use Rattle.type_heads.proofs.HeadLemmas.{WroteFrom}
 use Rattle.type_heads.proofs.heads.write_params.Given as goal
 

@@ -1,6 +1,4 @@
-use denote.Shadow.{shadow}
-use denote.Text.{Utf8}
-use Rattle.type_heads.proofs.Prelude.{[], map, Metadata, IsModel, Wrote, row_of, AreListed, IsTypeOf}
+use Rattle.type_heads.proofs.Prelude.{[], map, Metadata, IsModel, Wrote, row_of, AreListed, IsTypeOf, shadow, Utf8}
 use Rattle.type_heads.proofs.HeadLemmas.{WroteFrom}
 use Rattle.type_heads.proofs.heads.write_types.Given as goal
 

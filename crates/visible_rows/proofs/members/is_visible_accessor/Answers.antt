@@ -1,5 +1,4 @@
-use Rattle.visible_rows.proofs.Prelude.{◌∙◌, ap, sym, row_in, is_visible_method}
-use Rattle.metadata.specs.Cell.{Cell}
+use Rattle.visible_rows.proofs.Prelude.{◌∙◌, ap, sym, row_in, is_visible_method, Cell}
 use Rattle.visible_rows.proofs.members.is_visible_accessor.Goals as goal
 
 pub returns : goal.returns
