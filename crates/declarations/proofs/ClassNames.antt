@@ -1,7 +1,5 @@
 -- The type or the module before the name of a member has a name.
-use Rattle.std.proofs.Common.{◌≡◌, ℕ, List, [], ◌∷◌, Option, Some, None, false, refl, subst, arith}
-use Rattle.std.specs.Prelude.{⊤, All, Contains}
-use Rattle.declarations.proofs.Prelude.{All-cons, All-contains, All-nil, cell_columns, TableId, TypeDef, TypeRef, TypeSpec, MethodDef, MemberRef, ModuleRef, Token, Cell, IsOfKind, HasRow, Metadata, cell_in, IsValid, MayRefer, Scopes, Dotted, name_text, IsNameIn, IsParent, IsRowNameBy, IsFullNameBy, HasText, any_name, is_text, IsClassUnder}
+use Rattle.declarations.proofs.Prelude.{All-cons, All-contains, All-nil, cell_columns, TableId, TypeDef, TypeRef, TypeSpec, MethodDef, MemberRef, ModuleRef, Token, Cell, IsOfKind, HasRow, Metadata, cell_in, IsValid, MayRefer, Scopes, Dotted, name_text, IsNameIn, IsParent, IsRowNameBy, IsFullNameBy, HasText, any_name, is_text, IsClassUnder, ◌≡◌, ℕ, List, [], ◌∷◌, Option, Some, None, false, refl, subst, arith, ⊤, All, Contains}
 use Rattle.table_schema.specs.CodedIndexes.{tables_of}
 use Rattle.table_schema.specs.declared.coded.Coded.TheVariants as coded
 use Rattle.table_schema.specs.declared.column.ColumnKind.TheVariants as kind

@@ -1,7 +1,5 @@
 -- What a writer took in several calls, and the texts of a descriptor that are there.
-use Rattle.std.proofs.Common.{◌+◌, ◌≡◌, ℕ, List, [], ◌∷◌, ◌++◌, ◌⊎◌, inl, inr, false, length, OnOk, Ok, Err, Result, refl, subst}
-use Rattle.std.specs.Prelude.{codes, ◌==◌}
-use Rattle.declarations.proofs.Prelude.{WritesInCalls, writes_append, library_text, quoted_text, type_after}
+use Rattle.declarations.proofs.Prelude.{WritesInCalls, writes_append, library_text, quoted_text, type_after, ◌+◌, ◌≡◌, ℕ, List, [], ◌∷◌, ◌++◌, ◌⊎◌, inl, inr, false, length, OnOk, Ok, Err, Result, refl, subst, codes, ◌==◌}
 use Rattle.std.specs.declared.fmt.Error.{Error}
 
 -- what was written before the last call, by another name for it, and by the last call

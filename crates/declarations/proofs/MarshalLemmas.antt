@@ -1,10 +1,7 @@
 -- The first row of FieldMarshal that refers to a parameter.
-use Rattle.std.proofs.Common.{◌≡◌, ◌∙◌, ℕ, zero, suc, ◌+◌, ◌<◌, ◌≤◌, ◌↔◌, inl, inr, Bool, true, false, List, [], ◌∷◌, Option, Some, None, IfSome, MatchOption, refl, sym, ap, subst, arith}
-use Rattle.std.specs.Prelude.{◌==◌, slice_get}
-use Rattle.std.specs.List.{Contains}
 use Rattle.std.specs.List.Sorted.{IsStrictlyIncreasing}
 use Rattle.std.proofs.lemmas.List.Kept.{AllPairs-from_increasing}
-use Rattle.declarations.proofs.Prelude.{cases_Bool, cases_eq, eqb-true, eq-eqb, ∥∥₁_elim, TableId, FieldMarshal, Token, cell_columns, Cell, Ref, IsOfKind, HasKey, HasRow, IsKeyCell, Metadata, cell_in, count_in, IsValid, kind_at, first_linked, link_in, linked, number_to, param_token}
+use Rattle.declarations.proofs.Prelude.{cases_Bool, cases_eq, eqb-true, eq-eqb, ∥∥₁_elim, TableId, FieldMarshal, Token, cell_columns, Cell, Ref, IsOfKind, HasKey, HasRow, IsKeyCell, Metadata, cell_in, count_in, IsValid, kind_at, first_linked, link_in, linked, number_to, param_token, ◌≡◌, ◌∙◌, ℕ, zero, suc, ◌+◌, ◌<◌, ◌≤◌, ◌↔◌, inl, inr, Bool, true, false, List, [], ◌∷◌, Option, Some, None, IfSome, MatchOption, refl, sym, ap, subst, arith, ◌==◌, slice_get, Contains}
 use Rattle.std.specs.Coded.{le_prop}
 use Rattle.metadata.specs.KeyOrder.{key_number, row_number}
 use Rattle.reading.specs.KeyRows.{rows_that}
@@ -26,16 +23,29 @@ some_that test row (suc left) x from to passes before = elim (cases_eq row x) [
       rw fails (some_that test (row + 1) left x (omega (arith, from, other)) (omega (arith, to)) passes (λ r low high. before r (omega (arith, low)) high))
 ]
 
-within_that : (test : ℕ → Bool) (row left : ℕ) → IfSome (slice_get (rows_that test row left) 0) (λ x. (row ≤ x) × (x < row + left))
-within_that test row zero = tt
-within_that test row (suc left) = elim (cases_Bool (test row)) [
-  | inl passes ↦ rw passes (omega arith, omega arith)
-  | inr fails ↦ rw fails (wider (slice_get (rows_that test (row + 1) left) 0) (within_that test (row + 1) left))
+-- it is in the range and passes, and no earlier one does; or none passes
+abbrev pub IsFirstThat : (ℕ → Bool) → ℕ → ℕ → Option ℕ → Type 0
+IsFirstThat test from past None = (row : ℕ) → from ≤ row → row < past → test row ≡ false
+IsFirstThat test from past (Some row) = (from ≤ row) × (row < past) × (test row ≡ true) × ((earlier : ℕ) → from ≤ earlier → earlier < row → test earlier ≡ false)
+
+one_sooner : (test : ℕ → Bool) (from past : ℕ) (found : Option ℕ) → test from ≡ false → IsFirstThat test (from + 1) past found → IsFirstThat test from past found
+one_sooner test from past None fails none = λ row low high. elim (cases_eq row from) [
+  | inl same ↦ ap test same ∙ fails
+  | inr other ↦ none row (omega (arith, low, other)) high
 ]
-  where
-    wider : (found : Option ℕ) → IfSome found (λ x. (row + 1 ≤ x) × (x < row + 1 + left)) → IfSome found (λ x. (row ≤ x) × (x < row + suc left))
-    wider None h = tt
-    wider (Some x) h = (omega (arith, h.0), omega (arith, h.1))
+one_sooner test from past (Some row) fails is = (omega (arith, is.0), is.1, is.2, λ earlier low less. elim (cases_eq earlier from) [
+  | inl same ↦ ap test same ∙ fails
+  | inr other ↦ is.3 earlier (omega (arith, low, other)) less
+])
+
+pub first_that : (test : ℕ → Bool) (from left : ℕ) → IsFirstThat test from (from + left) (slice_get (rows_that test from left) 0)
+first_that test from zero = λ row low high. absurd (omega (arith, low, high))
+first_that test from (suc left) = elim (cases_Bool (test from)) [
+  | inl passes ↦ rw passes (omega arith, omega arith, passes, λ earlier low less. absurd (omega (arith, low, less)))
+  | inr fails ↦
+      let past : from + 1 + left ≡ from + suc left = omega arith in
+      rw fails (one_sooner test from (from + suc left) (slice_get (rows_that test (from + 1) left) 0) fails (rw past at (first_that test (from + 1) left)))
+]
 
 -- the first of an ascending list is its least
 least : (x : ℕ) (tail : List ℕ) → IsStrictlyIncreasing (x ∷ tail) → (row : ℕ) → Contains (x ∷ tail) row → x ≤ row
@@ -102,26 +112,17 @@ module _ (keys : KeysAreOne) (model : Metadata) (valid : IsValid model) (param :
         (λ r from to. fails r (from, omega (arith, to, last)) (λ also. let R : List ℕ → Type 0 = λ l. Contains l r in
         let low = least x left (subst Q yields ascending) r (subst R yields also) in absurd (omega (arith, low, to)))))
 
--- the first row that refers to a parameter exists
-pub first_within : (model : Metadata) (param : ℕ) → IfSome (first_linked model link.Marshalling (param_token param)) (λ row. (1 ≤ row) × (row ≤ count_in model FieldMarshal))
+-- the first row that refers to a parameter is a row of the table, in this source too
+first_within : (model : Metadata) (param row : ℕ) → Some row ≡ first_linked model link.Marshalling (param_token param) → (1 ≤ row) × (row < 1 + count_in model FieldMarshal)
 unfolding linked
-first_within model param =
-    let count = count_in model FieldMarshal in
-    let test : ℕ → Bool = λ row. link_in model link.Marshalling row == number_to link.Marshalling (param_token param) in
-    weaker (slice_get (rows_that test 1 count) 0) (within_that test 1 count)
-  where
-    weaker : (found : Option ℕ) → IfSome found (λ x. (1 ≤ x) × (x < 1 + count_in model FieldMarshal)) → IfSome found (λ x. (1 ≤ x) × (x ≤ count_in model FieldMarshal))
-    weaker None h = tt
-    weaker (Some x) h = (h.0, omega (arith, h.1))
+first_within model param row is =
+    let test : ℕ → Bool = λ r. link_in model link.Marshalling r == number_to link.Marshalling (param_token param) in
+    let first = subst (IsFirstThat test 1 (1 + count_in model FieldMarshal)) (sym is) (first_that test 1 (count_in model FieldMarshal)) in (first.0, first.1)
 
--- so it is a row of the table in this source
 pub first_there : (count : ℕ) (param : ℕ) (found : Option ℕ) → ∥ ((model : Metadata) × ((count_in model FieldMarshal ≡ count) × (found ≡ first_linked model link.Marshalling (param_token param)))) ∥₁
     → IfSome found (λ row. (1 ≤ row) × (row ≤ count))
 first_there count param None some = tt
 first_there count param (Some row) some = (
-  ∥∥₁_elim some le_prop (λ it. (there it.0 it.1.1).0),
-  ∥∥₁_elim some le_prop (λ it. let same = it.1.0 in let last = (there it.0 it.1.1).1 in omega (arith, same, last)),
+  ∥∥₁_elim some le_prop (λ it. (first_within it.0 param row it.1.1).0),
+  ∥∥₁_elim some le_prop (λ it. let last = (first_within it.0 param row it.1.1).1 in omega (arith, it.1.0, last)),
 )
-  where
-    there : (model : Metadata) → Some row ≡ first_linked model link.Marshalling (param_token param) → (1 ≤ row) × (row ≤ count_in model FieldMarshal)
-    there model is = subst (λ (o : Option ℕ). IfSome o (λ x. (1 ≤ x) × (x ≤ count_in model FieldMarshal))) (sym is) (first_within model param)

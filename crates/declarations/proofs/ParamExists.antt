@@ -1,5 +1,7 @@
 -- Each parameter has a name and flags, and each piece of a declaration has a text.
-use Rattle.declarations.proofs.Prelude.{◌≡◌, ℕ, ◌<◌, ◌≤◌, List, [], ◌∷◌, ◌++◌, ◌⊎◌, inl, inr, Option, Some, None, refl, ap, ◌∙◌, arith, codes, decimal, signed_decimal, cases_eq, cases_lt, Param, cell_columns, Token, Cell, Number, Text, IsOfKind, HasRow, Metadata, cell_in, count_in, IsValid, Scopes, Member, name_text, IsRowNameBy, ArePiecesText, HasText, any_name, first_row, is_text, first_linked, leading_words, words_of, generics_text, IsDeclaredPiece, IsFlagsOf, IsGenerics, IsMarshalOf, IsNameOf, IsParamAt, IsParamRow, IsParamText, after_space, arity_text, before_space, marshal_by, param_token, position_in, number_in, spaced}
+use Rattle.declarations.proofs.Prelude.{◌≡◌, ℕ, ◌<◌, ◌≤◌, ◌+◌, ◌-◌, ◌==◌, ◌↔◌, min, max, List, [], ◌∷◌, ◌++◌, inl, inr, Bool, false, Option, Some, None, slice_get, refl, ap, ◌∙◌, arith, codes, decimal, signed_decimal, cases_lt, eq-eqb, eqb-true, Param, cell_columns, Token, Cell, Number, Text, IsOfKind, HasRow, Metadata, cell_in, count_in, IsValid, Scopes, Member, name_text, IsRowNameBy, ArePiecesText, HasText, any_name, is_text, first_linked, leading_words, words_of, generics_text, IsDeclaredPiece, IsFlagsOf, IsGenerics, IsMarshalOf, IsNameOf, IsParamRow, IsParamText, after_space, arity_text, before_space, marshal_by, param_token, position_in, number_in, spaced}
+use Rattle.reading.specs.KeyRows.{rows_that}
+use Rattle.declarations.proofs.MarshalLemmas.{IsFirstThat, first_that}
 use Rattle.table_schema.specs.declared.column.ColumnKind.TheVariants as kind
 use Rattle.sig_text.specs.SignatureText.{Piece, word, number, signed, name, method_name, generic_params, param_flags, param_name}
 use Rattle.navigation.specs.declared.links.Link.TheVariants as link
@@ -22,41 +24,44 @@ module _ (model : Metadata) (valid : IsValid model) (first past position : ℕ) 
   unfolding cell_columns
   param_own row there = is_text (cell_in model Param row 2) (valid.cells Param row 2 there (omega arith)).of_kind
 
-  abbrev is_at : ℕ → Type 0
-  is_at row = (first ≤ row) × (row < past) × (position_in model row ≡ position)
+  abbrev has_position : ℕ → Bool
+  has_position row = position_in model row == position
 
-  at_or_not : (row : ℕ) → is_at row ⊎ ¬ is_at row
-  at_or_not row = elim (cases_lt row first) [
-    | inl before ↦ inr (λ is. let from = is.0 in absurd (omega (arith, before, from)))
-    | inr from ↦ elim (cases_lt row past) [
-      | inr after ↦ inr (λ is. let to = is.1 in absurd (omega (arith, after, to)))
-      | inl to ↦ elim (cases_eq (position_in model row) position) [
-        | inl same ↦ inl (from, to, same)
-        | inr differs ↦ inr (λ is. differs is.2)
-      ]
-    ]
-  ]
-
-  pub param_at : (row : ℕ) → HasRow model Param row → is_at row → ((earlier : ℕ) → HasRow model Param earlier → earlier < row → ¬ is_at earlier) → IsParamAt model first past position row
-  param_at row there at none = record {
-    there = there;
-    from = at.0;
-    to = at.1;
-    sequence = param_number row there ∙ ap (λ (n : ℕ). Number n) at.2;
-    before = λ earlier before from same. elim (cases_lt earlier row) [
-      | inl less ↦ let to = at.1 in absurd (none earlier before less (from, omega (arith, less, to), ap number_in same))
-      | inr least ↦ least
-    ];
-  }
-
-  pub no_param : ((row : ℕ) → HasRow model Param row → ¬ is_at row) → IsParamRow model first past position None
-  no_param none row at = none row at.there (at.from, at.to, ap number_in at.sequence)
+  -- the first row with the position, among those from one on and before another that exist
+  pub param_first : (from left : ℕ) → ((row : ℕ) → (HasRow model Param row × (first ≤ row) × (row < past)) ↔ ((from ≤ row) × (row < from + left)))
+      → (row : Option ℕ) → IsFirstThat has_position from (from + left) row → IsParamRow model first past position row
+  param_first from left same None none = λ row at.
+      let within = (same row).0 (at.there, at.from, at.to) in
+      let yes = eq-eqb (position_in model row) position (ap number_in at.sequence) in
+      let no : (position_in model row == position) ≡ false = none row within.0 within.1 in
+      absurd cc
+  param_first from left same (Some row) is =
+      let there = (same row).1 (is.0, is.1) in
+      record {
+        there = there.0;
+        from = there.1;
+        to = there.2;
+        sequence = param_number row there.0 ∙ ap (λ (n : ℕ). Number n) (eqb-true (position_in model row) position is.2);
+        before = λ earlier exists begin sequence. elim (cases_lt earlier row) [
+          | inl less ↦
+              let within = (same earlier).0 (exists, begin, omega (arith, less, there.2)) in
+              let yes = eq-eqb (position_in model earlier) position (ap number_in sequence) in
+              let no : (position_in model earlier == position) ≡ false = is.3 earlier within.0 less in
+              absurd cc
+          | inr least ↦ least
+        ];
+      }
 
   param_row : (row : Option ℕ) × IsParamRow model first past position row
-  param_row = elim (first_row is_at at_or_not (count_in model Param)) [
-    | inl found ↦ (Some found.0, param_at found.0 found.1.0 found.1.1 (λ earlier there less. found.1.2 earlier there.0 less))
-    | inr none ↦ (None, no_param (λ row there. none row there.0 there.1))
-  ]
+  param_row =
+      let from = max 1 first in
+      let left = min past (count_in model Param + 1) - from in (
+        slice_get (rows_that has_position from left) 0,
+        param_first from left (λ row. (
+          λ is. (omega (arith, is.0.0, is.1), omega (arith, is.0.0, is.0.1, is.1, is.2)),
+          λ is. ((omega (arith, is.0), omega (arith, is.0, is.1)), omega (arith, is.0), omega (arith, is.0, is.1)),
+        )) _ (first_that has_position from left),
+      )
 
   name_in : (row : Option ℕ) → IsParamRow model first past position row → HasText (IsParamText IsNameOf model first past position)
   name_in None none = ([], (None, none, refl))

@@ -1,6 +1,5 @@
 -- A name after a space.
-use Rattle.declarations.proofs.Prelude.{◌≡◌, length, ℕ, List, [], ◌∷◌, ◌++◌, refl, arith, Identifier, name_text, spaced}
-use Rattle.std.specs.Prelude.{codes, ◌==◌, false}
+use Rattle.declarations.proofs.Prelude.{◌≡◌, length, ℕ, List, [], ◌∷◌, ◌++◌, refl, arith, Identifier, name_text, spaced, codes, ◌==◌, false}
 
 pub spaced_alone : (name : List ℕ) → length name ≡ 0 → spaced name ≡ []
 spaced_alone [] none = refl

@@ -1,11 +1,10 @@
 -- What several proofs of this crate name of std, of the crates below, and of its own definitions.
-pub use Rattle.std.proofs.Common.{ℕ, ◌≡◌, ◌<◌, List, [], ◌∷◌, ◌++◌, length, map, refl, arith, ◌≤◌, ◌⊎◌, inl, inr, Option, Some, None, ap, ◌∙◌, zero, suc, ◌+◌, Bool, cond, get_or, sym, subst, take, rules, w64, ◌-◌, ltb-false, ltb-true}
+pub use Rattle.std.proofs.Common.{ℕ, ◌≡◌, ◌<◌, List, [], ◌∷◌, ◌++◌, length, map, refl, arith, ◌≤◌, ◌⊎◌, inl, inr, Option, Some, None, ap, ◌∙◌, zero, suc, ◌+◌, Bool, cond, get_or, sym, subst, take, rules, w64, ◌-◌, ltb-false, ltb-true, filter, false, OnOk, Ok, Err, Result, ◌==◌, ◌↔◌, true, IfSome, MatchOption, slice_get, Contains, min, max}
 pub use Rattle.std.proofs.Math.Logic.{∥∥₁_elim, ∥∥₁_map}
 pub use Rattle.std.proofs.lemmas.Bool.{cases_Bool, cases_eq, eqb-true, eq-eqb, cases_lt, ne_eqb}
 pub use Rattle.std.proofs.lemmas.List.Elements.{All-cons, All-contains, All-nil, All-filter, All-same, All-append}
 pub use Rattle.std.specs.Fmt.{WritesInCalls, decimal, signed_decimal}
-pub use Rattle.std.specs.List.{filter}
-pub use Rattle.std.specs.Prelude.{codes, option_map, ⊤}
+pub use Rattle.std.specs.Prelude.{codes, option_map, ⊤, All}
 unfoldable pub use Rattle.table_schema.specs.CellColumns.{cell_columns}
 pub use Rattle.table_schema.specs.declared.table.TableId.{TableId}
 pub use Rattle.table_schema.specs.declared.table.TableId.TheVariants.{TypeDef, TypeRef, TypeSpec, MethodDef, MemberRef, ModuleRef, FieldMarshal, Param, Property}
@@ -22,7 +21,7 @@ pub use Rattle.navigation.specs.Keyed.{row_of, has_key, keyed_row, keyed_rows}
 pub use Rattle.navigation.specs.Linked.{first_linked, link_in, number_to}
 unfoldable pub use Rattle.navigation.specs.Linked.{linked}
 pub use Rattle.navigation.specs.declared.keyed.KeyedRow.{KeyedRow}
-pub use Rattle.full_names.proofs.NameExists.{HasText, any_name, is_text, first_row}
+pub use Rattle.full_names.proofs.NameExists.{HasText, any_name, is_text}
 pub use Rattle.full_names.proofs.PieceLemmas.{on_taken, ok_then, encoded_by, on_wrote, signature_of}
 pub use Rattle.full_names.proofs.TextLemmas.{writes_append, writes_same, all_bytes, one_byte_more, other_bytes_passed, writes_nothing, writes_last}
 pub use Rattle.full_names.specs.Names.{Wrote}

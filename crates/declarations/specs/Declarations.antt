@@ -1,7 +1,5 @@
 -- The declarations of methods and properties, and references to methods and fields (ECMA-335 II.15.3, II.17, II.22.25, II.22.33).
-use Rattle.std.specs.Prelude.{◌≡◌, ◌≢◌, ℕ, ◌+◌, ◌≤◌, ◌<◌, ◌↔◌, ◌⊎◌, ⊤, List, [], ◌∷◌, ◌++◌, map, Option, None, Some, codes}
-use Rattle.std.specs.Fmt.{decimal}
-use Rattle.std.specs.List.{filter}
+use Rattle.std.specs.Prelude.{◌≡◌, ◌≢◌, ℕ, ◌+◌, ◌≤◌, ◌<◌, ◌↔◌, ◌⊎◌, ⊤, List, [], ◌∷◌, ◌++◌, map, Option, None, Some, codes, decimal, filter}
 use Rattle.table_schema.specs.declared.table.TableId.TheVariants.{TypeDef, MethodDef, MemberRef, Param, Property, FieldMarshal}
 use Rattle.table_schema.specs.declared.table.TableId.{TableId}
 use Rattle.table_schema.specs.declared.token.Token.{Token}

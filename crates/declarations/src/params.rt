@@ -1,7 +1,6 @@
 //! The flags, the names and the marshalling of the parameters of a method, by their positions (II.22.17, II.22.33).
-ghost use Rattle.std.specs.Prelude.{◌≡◌, ℕ, ◌+◌, ◌-◌, ◌≤◌, All, IfOk, IfSome, OnOk};
+ghost use Rattle.std.specs.Prelude.{◌≡◌, ℕ, ◌+◌, ◌-◌, ◌≤◌, All, IfOk, IfSome, OnOk, filter};
 ghost use Rattle.std.specs.Fmt.{WritesInCalls};
-ghost use Rattle.std.specs.List.{filter};
 ghost use Rattle.std.specs.List.Sorted.{IsNonDecreasingBy};
 ghost use Rattle.table_schema.specs.declared.table.TableId.TheVariants.{FieldMarshal, Param};
 ghost use Rattle.metadata.specs.Cell.{bytes_in};

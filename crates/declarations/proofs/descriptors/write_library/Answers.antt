@@ -1,6 +1,4 @@
-use Rattle.std.proofs.Common.{◌≡◌, ◌∙◌, ◌++◌, ◌⊎◌, inl, inr, false, length, refl, sym}
-use Rattle.std.specs.Prelude.{codes, ◌==◌}
-use Rattle.declarations.proofs.Prelude.{writes_same, library_text, quoted_text}
+use Rattle.declarations.proofs.Prelude.{writes_same, library_text, quoted_text, ◌≡◌, ◌∙◌, ◌++◌, ◌⊎◌, inl, inr, false, length, refl, sym, codes, ◌==◌}
 use Rattle.declarations.proofs.DescriptorLemmas.{library_there, writes_then}
 use Rattle.declarations.proofs.descriptors.write_library.Goals as goal
 use Rattle.declarations.proofs.descriptors.write_library.Goals.{else-is_empty-via-then-is_empty+else-is_empty-2, else-is_empty-via-else-is_empty}

@@ -1,6 +1,4 @@
-use Rattle.std.proofs.Common.{◌≡◌, ◌∙◌, ◌++◌, false, length, refl, sym}
-use Rattle.std.specs.Prelude.{codes, ◌==◌}
-use Rattle.declarations.proofs.Prelude.{writes_same, quoted_text, type_after}
+use Rattle.declarations.proofs.Prelude.{writes_same, quoted_text, type_after, ◌≡◌, ◌∙◌, ◌++◌, false, length, refl, sym, codes, ◌==◌}
 use Rattle.declarations.proofs.DescriptorLemmas.{type_there, writes_then}
 use Rattle.declarations.proofs.descriptors.write_type_after.Goals as goal
 

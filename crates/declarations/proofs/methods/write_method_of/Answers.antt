@@ -1,6 +1,5 @@
-use Rattle.declarations.proofs.Prelude.{List, ℕ, subst, sym, Wrote, IsDeclarationWith}
+use Rattle.declarations.proofs.Prelude.{List, ℕ, subst, sym, Wrote, IsDeclarationWith, OnOk}
 use Rattle.metadata.specs.Model.{IsModel}
-use Rattle.std.specs.Prelude.{OnOk}
 use Rattle.declarations.proofs.methods.write_method_of.Goals as goal
 
 pub returns : goal.returns

@@ -1,5 +1,4 @@
-use Rattle.declarations.proofs.Prelude.{◌≡◌, ◌-◌, ◌≤◌, Param, Metadata, keyed_rows, position_in}
-use Rattle.std.specs.List.{All}
+use Rattle.declarations.proofs.Prelude.{◌≡◌, ◌-◌, ◌≤◌, Param, Metadata, keyed_rows, position_in, All}
 use Rattle.declarations.proofs.params.read_positions.Given as goal
 
 -- the rows before this one are read

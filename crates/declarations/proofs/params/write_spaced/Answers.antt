@@ -1,5 +1,4 @@
-use Rattle.std.proofs.Common.{rules, ◌≡◌, ◌∙◌, ◌==◌, ◌++◌, List, ℕ, true, false, length, subst, sym}
-use Rattle.declarations.proofs.Prelude.{codes, WritesInCalls, Identifier, name_text, writes_last, writes_nothing, writes_same, spaced}
+use Rattle.declarations.proofs.Prelude.{codes, WritesInCalls, Identifier, name_text, writes_last, writes_nothing, writes_same, spaced, rules, ◌≡◌, ◌∙◌, ◌==◌, ◌++◌, List, ℕ, true, false, length, subst, sym}
 use Rattle.declarations.proofs.ParamLemmas.{spaced_after, spaced_alone}
 use Rattle.declarations.proofs.params.write_spaced.Goals as goal
 

@@ -13,18 +13,8 @@ returns-clause-rows g c = λ model shown.
       c.max-past.result - c.min-first.result,
       λ position. c.in_ok-sort_by_key.ensures.stable position ∙ ap (λ (rows : List KeyedRow). filter (has_key position) rows) (c.in_ok-found.ensures.rows model shown),
       λ row. (
-        λ is.
-            let there = is.0.0 in
-            let last = is.0.1 in
-            let from = is.1 in
-            let to = is.2 in (omega (arith, there, last, from, to, rows, count, least, end, most, begin), omega (arith, there, last, from, to, rows, count, least, end, most, begin)),
-        λ is.
-            let low = is.0 in
-            let high = is.1 in (
-              (omega (arith, low, high, rows, count, least, end, most, begin), omega (arith, low, high, rows, count, least, end, most, begin)),
-              omega (arith, low, high, rows, count, least, end, most, begin),
-              omega (arith, low, high, rows, count, least, end, most, begin),
-            ),
+        λ is. (omega (arith, is.0.0, is.0.1, is.1, is.2, rows, count, least, end, most, begin), omega (arith, is.0.0, is.0.1, is.1, is.2, rows, count, least, end, most, begin)),
+        λ is. ((omega (arith, is.0, is.1, rows, count, least, end, most, begin), omega (arith, is.0, is.1, rows, count, least, end, most, begin)), omega (arith, is.0, is.1, rows, count, least, end, most, begin), omega (arith, is.0, is.1, rows, count, least, end, most, begin)),
       ),
     )
 
