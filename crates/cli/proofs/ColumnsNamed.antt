@@ -1,6 +1,6 @@
 -- The columns that arguments name, one after another.
-use Rattle.cli.proofs.Prelude.{◌≡◌, ◌≢◌, ◌∙◌, ◌+◌, ◌<◌, ℕ, true, List, [], ◌∷◌, ◌++◌, All, drop, take, get_or, length, ap, sym, subst, arith, inl, inr, ◌⊎◌, Any, to_ascii_lowercase, Bor, drop-append_seam, take-append_seam, get_or_append_left, length-append, length-map, take_more, All-get_or, All-more, All-weaker, TableId, cell_count, table_index_of, table_name, tables, AreOthersSame, is_ignored, AreNamed, NamesColumn, NamesIgnored}
-use Rattle.std.specs.Prelude.{Option, None, Some, IfNone, slice_index_or}
+use Rattle.cli.proofs.Prelude.{◌≡◌, ◌≢◌, ◌∙◌, ◌+◌, ◌<◌, ℕ, true, List, [], ◌∷◌, ◌++◌, take, get_or, length, ap, sym, arith, inl, inr, ◌⊎◌, Any, Bor, get_or_append_left, length-append, take_more, All-more, All-weaker, TableId, cell_count, table_index_of, tables, AreOthersSame, is_ignored, AreNamed, NamesColumn, NamesIgnored}
+use Rattle.std.specs.Prelude.{slice_index_or}
 use Rattle.std.proofs.lemmas.Bool.{cases_eq}
 use Rattle.std.proofs.lemmas.List.Quantifiers.{Any-push}
 use Rattle.table_schema.specs.declared.table.TableId.TheVariants.{Module}
@@ -10,27 +10,6 @@ use Rattle.comparison.specs.declared.ignored.IgnoredColumns.{IgnoredColumns}
 any_longer : {X : Type 0} (P : X → Type 0) (xs ys : List X) → Any P xs → Any P (xs ++ ys)
 any_longer P xs ys any =
     (any.0, any.1, omega (arith, any.2, length-append xs ys), get_or_append_left xs ys any.1 any.0 any.2 ∙ any.3, any.4)
-
--- what holds if there is no value
-pub when_none : (P : Type 0) (found : Option ℕ) → P → IfNone found P
-when_none P None holds = holds
-when_none P (Some value) holds = tt
-
--- of an argument that names a column, the part that is as long as the name of the table, and what follows it
-pub halves : (word : List ℕ) (table : TableId) (cell_index : ℕ) (named : NamesColumn word table cell_index)
-    → (take (length (table_name table)) word ≡ named.1) × (drop (length (table_name table)) word ≡ 46 ∷ named.2)
-halves word table cell_index named =
-    let same : length (table_name table) ≡ length named.1 =
-    sym (length-map (table_name table) to_ascii_lowercase) ∙ sym (ap length named.4) ∙ length-map named.1 to_ascii_lowercase in (
-      (λ k. take (same k) (named.3 k)) ∙ take-append_seam named.1 (46 ∷ named.2),
-      (λ k. drop (same k) (named.3 k)) ∙ drop-append_seam named.1 (46 ∷ named.2),
-    )
-
--- what is true of all tables of the list is true of each
-pub of_each_table : (P : TableId → Type 0) → ((table : TableId) → slice_index_or tables (table_index_of table) Module ≡ table)
-    → ((table : TableId) → table_index_of table < 38) → length tables ≡ 38 → All P tables → (table : TableId) → P table
-of_each_table P stand within count all table =
-    subst P (stand table) (All-get_or P tables (table_index_of table) Module (subst (λ (n : ℕ). table_index_of table < n) (sym count) (within table)) all)
 
 module _ (stand : (table : TableId) → slice_index_or tables (table_index_of table) Module ≡ table) where
   same_table : (left right : TableId) → (left ≡ right) ⊎ (left ≢ right)

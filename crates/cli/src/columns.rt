@@ -5,6 +5,7 @@ ghost use Rattle.cli.specs.Columns.{AreNamed, NamesColumn, NamesSome};
 ghost use Rattle.cli.specs.Tasks.{IsFirstUnknown};
 
 use cli_cells::column_name;
+use cli_names::table_named;
 use comparison::IgnoredColumns;
 use table_schema::{TableId, cell_count};
 
@@ -21,7 +22,7 @@ pub(crate) fn columns_of<'a>(words: &[&'a str]) -> Result<IgnoredColumns, &'a st
     comparison::laws::models_equal_but_for_no_columns_are_equal();
     let mut ignored = IgnoredColumns::none();
     for word in words {
-        let Some((table, cell_index)) = column_named(word.as_bytes()) else {
+        let Some((table, cell_index)) = column_named(word) else {
             return Err(word);
         };
         ignored.insert(table, cell_index);
@@ -30,32 +31,19 @@ pub(crate) fn columns_of<'a>(words: &[&'a str]) -> Result<IgnoredColumns, &'a st
 }
 
 /// The column that an argument names: its table, and the index of its cell in a row, from 0.
-fn column_named(word: &[u8]) -> Option<(TableId, usize)>
+fn column_named(word: &str) -> Option<(TableId, usize)>
     ensures sound { IfSome result (λ column. NamesColumn word.now column.0 column.1) }
     ensures complete { IfNone result ((table : Table) (cell_index : ℕ) → ¬ NamesColumn word.now table cell_index) }
 {
-    table_schema::laws::tables_stand();
-    for table in TableId::all() {
-        if let Some(cell_index) = cell_in(*table, word) {
-            return Some((*table, cell_index));
-        }
-    }
-    None
-}
-
-/// The index of the cell whose column in a table an argument names.
-fn cell_in(table: TableId, word: &[u8]) -> Option<usize>
-    ensures sound { IfSome result (NamesColumn word.now table) }
-    ensures complete { IfNone result ((cell_index : ℕ) → ¬ NamesColumn word.now table cell_index) }
-{
-    let (first, tail) = word.split_at_checked(table.name().len())?;
-    let name = tail.strip_prefix(b".")?;
-    if !first.eq_ignore_ascii_case(table.name().as_bytes()) {
+    let Some((first, name)) = word.split_once('.') else {
         return None;
-    }
+    };
+    let Some(table) = table_named(first) else {
+        return None;
+    };
     for cell_index in 0..cell_count(table) {
-        if name.eq_ignore_ascii_case(column_name(table, cell_index).as_bytes()) {
-            return Some(cell_index);
+        if name.eq_ignore_ascii_case(column_name(table, cell_index)) {
+            return Some((table, cell_index));
         }
     }
     None

@@ -33,7 +33,7 @@ mod source;
 mod subject;
 
 pub use chosen::{Choice, is_chosen};
-pub use names::{code_of, names_of_type, table_of};
+pub use names::{code_of, names_of_type, table_named, table_of};
 pub use numbers::{offset_of, row_of, token_of};
 pub use orders::{TableOrder, run_of};
 pub use refs::{Wanted, belongs, finds, wanted_types};

@@ -57,7 +57,7 @@ pub fn table_of(word: &str) -> Option<TableId>
 }
 
 /// The table with a name, in any case.
-fn table_named(name: &str) -> Option<TableId>
+pub fn table_named(name: &str) -> Option<TableId>
     ensures { result ≡ table_named name.now }
 {
     TableId::all()

@@ -76,19 +76,14 @@ pub enum Types {
     Referred,
 }
 
-impl Types {
-    ghost use Rattle.std.specs.Prelude.{◌<◌};
-    ghost use Rattle.table_schema.specs.CellColumns.{cell_count};
-
-    /// Their table. The cells of the names have the same indexes in both.
-    #[tactic(auto, unfolding(table_schema::specs::CellColumns::cell_columns))]
-    fn table(self) -> TableId
-        ensures { 2 < cell_count result }
-    {
-        match self {
-            Types::Declared => TableId::TypeDef,
-            Types::Referred => TableId::TypeRef,
-        }
+/// Their table. The cells of the names have the same indexes in both.
+#[tactic(auto, unfolding(table_schema::specs::CellColumns::cell_columns))]
+fn table_of(types: Types) -> TableId
+    ensures { 2 < cell_count result }
+{
+    match types {
+        Types::Declared => TableId::TypeDef,
+        Types::Referred => TableId::TypeRef,
     }
 }
 
@@ -145,7 +140,7 @@ fn nearest_type<'a>(
 ) -> Option<TypeName<'a>>
     requires model { HasModel view.now }
 {
-    let table = types.table();
+    let table = table_of(types);
     let mut limit = limit_of(wanted.name, wanted.namespace.len());
     let mut pairs = MOST_PAIRS;
     let mut nearest = None;

@@ -31,10 +31,6 @@ unfolding AreEach
 each_none IsOf rules index printer past nothing =
     subst (λ (left : List FaultCode). PrintsEach IsOf left printer printer) (sym (drop_all index rules past)) ([], refl, nothing)
 
-module _ {W : Type 0} (nothing : (printer : Printed W) → Prints printer printer []) where
-  pub words_begun : (old new : Printed W) (parts : List Part) → list_all is_word parts ≡ true → Begins old new parts → BeginsWords old new
-  words_begun old new parts words begun = (old, parts, ([], refl, nothing old), words, begun)
-
 module _ {W : Type 0} (begun : (old between new : Printed W) (first second : List Part) → Begins old between first → Adds between new second → Begins old new (first ++ second)) where
   pub begins_more : (before old new : Printed W) (parts : List Part) → BeginsWords before old → list_all is_word parts ≡ true → Adds old new parts → BeginsWords before new
   begins_more before old new parts first words added =

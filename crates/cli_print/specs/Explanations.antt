@@ -20,17 +20,13 @@ abbrev pub known_parts : Name → Option (Bor (List ℕ)) → List Part
 known_parts key None = []
 known_parts key (Some known) = member key (plain known.now) ∷ []
 
--- what the line of a rule begins with: its number, its name, what is wrong and, in JSON, its other texts
-unfoldable pub summary_parts : ℕ → List ℕ → Explanation → List Part
-summary_parts rule title it =
-    field name.Code (number rule) ∷ word (space_before title) ∷ field name.Name (plain title) ∷ word (codes ": ")
-    ∷ field name.Summary (plain it.summary.now) ∷ member name.Rule (plain it.rule.now) ∷ member name.Offset (plain it.offset.now) ∷ []
-
--- the line of a rule
+-- the line of a rule: its number, its name, what is wrong and, in JSON, its other texts
 unfoldable pub rule_line : Explanation → List Part
 rule_line it =
-    summary_parts (number_of_code it.code) (name_of (number_of_code it.code)) it
-    ++ (known_parts name.Section it.section ++ known_parts name.Cause it.cause)
+    field name.Code (number (number_of_code it.code)) ∷ word (space_before (name_of (number_of_code it.code)))
+    ∷ field name.Name (plain (name_of (number_of_code it.code))) ∷ word (codes ": ") ∷ field name.Summary (plain it.summary.now)
+    ∷ member name.Rule (plain it.rule.now) ∷ member name.Offset (plain it.offset.now)
+    ∷ (known_parts name.Section it.section ++ known_parts name.Cause it.cause)
 
 -- a part that only a line of text has
 abbrev pub is_word : Part → Bool

@@ -2,7 +2,7 @@
 ghost use Rattle.std.specs.Prelude.{◌∷◌, []};
 ghost use Rattle.std.specs.Option.{option_map};
 ghost use Rattle.cli_lines.specs.Printed.{Adds, Begins, Prints};
-ghost use Rattle.cli_print.specs.Verdicts.{fault_parts, file_parts, outcome_parts, verdict_line};
+ghost use Rattle.cli_print.specs.Verdicts.{file_parts, outcome_parts, verdict_line};
 
 use cli_faults::OK;
 use cli_lines::Part::{Field, Member, Word};
@@ -31,28 +31,21 @@ fn begin_with<W: Write>(file: Option<&str>, out: &mut Printer<'_, W>)
     }
 }
 
-/// Adds that no rule is broken, or the first broken one.
+/// Adds that no rule is broken, or the first broken one: its layer, the number of its rule, its offset and the name of the rule.
 fn add_outcome<W: Write>(fault: Option<Fault>, out: &mut Printer<'_, W>)
     ensures { Adds out.old out.new (outcome_parts fault) }
 {
     match fault {
-        Some(fault) => add_fault(fault, out),
+        Some(fault) => out.parts(&[
+            Word("fault "),
+            Field(Name::Layer, Number(fault.layer as u64)),
+            Word(" "),
+            Field(Name::Code, Number(fault.code as u64)),
+            Word(" at "),
+            Field(Name::Offset, Number(fault.offset)),
+            Word(": "),
+            Field(Name::Name, Plain(fault.name())),
+        ]),
         None => out.parts(&[Word(OK), Member(Name::Ok, Yes)]),
     }
-}
-
-/// Adds a fault: its layer, the number of its rule, its offset and the name of the rule.
-fn add_fault<W: Write>(fault: Fault, out: &mut Printer<'_, W>)
-    ensures { Adds out.old out.new (fault_parts fault) }
-{
-    out.parts(&[
-        Word("fault "),
-        Field(Name::Layer, Number(fault.layer as u64)),
-        Word(" "),
-        Field(Name::Code, Number(fault.code as u64)),
-        Word(" at "),
-        Field(Name::Offset, Number(fault.offset)),
-        Word(": "),
-        Field(Name::Name, Plain(fault.name())),
-    ]);
 }

@@ -1,5 +1,5 @@
 -- What `clim compare` does with the bytes of two files.
-use Rattle.std.specs.Prelude.{◌≡◌, ◌<◌, ℕ, false, List, [], ◌⊎◌, IfErr, IsErrAnd, MatchOption, OnOk, Option}
+use Rattle.std.specs.Prelude.{◌≡◌, ◌<◌, ℕ, false, List, [], ◌⊎◌, IsErrAnd, MatchOption, MatchResult, Option}
 use Rattle.std.specs.Io.KnownBytes.{Appends}
 use Rattle.packed.specs.declared.fault.Fault.{Fault}
 use Rattle.cli_roots.specs.Words.{FirstBroken, Metadata, Difference, first_differences_but, Failure, IsOutput, Different, Failed, hint_for, Outcome, Stopped, IsModelOf, IsWhole, rules_of, Input, report_text, SendsPrefix}
@@ -64,8 +64,7 @@ module _ {W : Type 0} (contents : W → Option (List ℕ)) (before after : W) (o
 
     -- the comparison of the models was printed, or a prefix of it
     pub record IsShown (outcome : Outcome) : Type 0 where
-      pub same : OnOk outcome IsSame
-      pub stopped : IfErr outcome (λ stopped. IsDifferent stopped ⊎ IsCut stopped)
+      pub shown : MatchResult outcome (λ done. IsSame) (λ stopped. IsDifferent stopped ⊎ IsCut stopped)
 
   module _ (input : Input) (left right : List ℕ) where
     -- one of the files breaks a rule, and nothing was printed

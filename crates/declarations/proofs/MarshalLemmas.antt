@@ -33,10 +33,15 @@ one_sooner test from past None fails none = λ row low high. elim (cases_eq row 
   | inl same ↦ ap test same ∙ fails
   | inr other ↦ none row (omega (arith, low, other)) high
 ]
-one_sooner test from past (Some row) fails is = (omega (arith, is.0), is.1, is.2, λ earlier low less. elim (cases_eq earlier from) [
-  | inl same ↦ ap test same ∙ fails
-  | inr other ↦ is.3 earlier (omega (arith, low, other)) less
-])
+one_sooner test from past (Some row) fails is = (
+  omega (arith, is.0),
+  is.1,
+  is.2,
+  λ earlier low less. elim (cases_eq earlier from) [
+    | inl same ↦ ap test same ∙ fails
+    | inr other ↦ is.3 earlier (omega (arith, low, other)) less
+  ],
+)
 
 pub first_that : (test : ℕ → Bool) (from left : ℕ) → IsFirstThat test from (from + left) (slice_get (rows_that test from left) 0)
 first_that test from zero = λ row low high. absurd (omega (arith, low, high))

@@ -16,13 +16,13 @@ returns-in_default-clause-unknown c =
       drop (suc index) words,
       split_at words index _ c.loop-word-test.true,
       All-weaker (NamesIgnored c.loop-word.ignored) NamesSome (λ word is. (is.0, is.1, is.2)) (take index words) c.loop-word.invariant.all,
-      (λ named. c.in_default.ensures.complete named.0 named.1 (rw c.as_bytes.ensures.value named.2)),
+      (λ named. c.in_default.ensures.complete named.0 named.1 named.2),
     )
 
 pub loop-word-preserved : goal.loop-word-preserved
 loop-word-preserved c =
     named_more c.tables_stand.ensures.stand c.args.words.now c.loop-word.word-index _ c.loop-word-test.true c.loop-word.ignored c.insert.new.self c.in-Some.table c.in-Some.cell_index
-    (rw c.as_bytes.ensures.value at c.in-Some.ensures.sound) c.insert.ensures.added c.insert.ensures.others c.loop-word.invariant
+    c.in-Some.ensures.sound c.insert.ensures.added c.insert.ensures.others c.loop-word.invariant
 
 pub returns-clause-named : goal.returns-clause-named
 returns-clause-named c =

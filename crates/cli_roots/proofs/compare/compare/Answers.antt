@@ -8,10 +8,9 @@ use Rattle.cli_roots.proofs.compare.compare.Goals as goal
 module _ {W : Type 0} {contents : W → Option (List ℕ)} {before after : W} {output : Output} {ignored : IgnoredColumns} {IsLeft IsRight IsFirst IsSecond : Metadata → Type 0} where
   shown_of : (outcome : Outcome) → ((model : Metadata) → IsFirst model → IsLeft model) → ((model : Metadata) → IsSecond model → IsRight model)
       → IsShown contents before after output ignored IsLeft IsRight outcome → IsShown contents before after output ignored IsFirst IsSecond outcome
-  shown_of (Ok done) first second shown = record { same = λ model another is too. shown.same model another (first model is) (second another too); stopped = tt }
-  shown_of (Err stopped) first second shown = record {
-    same = tt;
-    stopped = elim shown.stopped [
+  shown_of (Ok done) first second it = record { shown = λ model another is too. it.shown model another (first model is) (second another too) }
+  shown_of (Err stopped) first second it = record {
+    shown = elim it.shown [
       | inl differs ↦ inl (differs.0, (λ model another is too. differs.1 model another (first model is) (second another too)))
       | inr cut ↦ inr (cut.0, cut.1, cut.2, (λ model another is too. cut.3 model another (first model is) (second another too)))
     ];

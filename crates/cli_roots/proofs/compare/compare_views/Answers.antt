@@ -1,15 +1,9 @@
-use Rattle.cli_roots.proofs.Prelude.{◌∙◌, ap, length, sym, arith, inl, inr, Decides-eqb, compare_text, ℕ, List, [], Option, None, Some, append-nil, refl, SendsPrefix, nil_from_length, OutOfMemory}
+use Rattle.cli_roots.proofs.Prelude.{◌∙◌, ap, length, sym, arith, inl, inr, Decides-eqb, compare_text, nil_from_length, OutOfMemory}
+use Rattle.cli_sending.proofs.SentLemmas.{prefix_of_nothing}
 use Rattle.cli_roots.proofs.compare.compare_views.Goals as goal
 
-prefix_of_none : (known : Option (List ℕ)) (text : List ℕ) → SendsPrefix known known text
-prefix_of_none None text = (text, ([], refl, tt))
-prefix_of_none (Some bytes) text = (text, ([], refl, sym (append-nil bytes)))
-
 pub returns-in_default : goal.returns-in_default
-returns-in_default g c = record {
-  same = tt;
-  stopped = inr (OutOfMemory, c.from.ensures.0, tt, λ model another is also. prefix_of_none _ _);
-}
+returns-in_default g c = record { shown = inr (OutOfMemory, c.from.ensures.0, tt, λ model another is also. prefix_of_nothing _ _) }
 
 pub print_found-requires : goal.print_found-requires
 print_found-requires g c = rw c.deref.ensures.value c.in-Ok.ensures.there
@@ -17,8 +11,7 @@ print_found-requires g c = rw c.deref.ensures.value c.in-Ok.ensures.there
 pub returns-in-Err : goal.returns-in-Err
 unfolding compare_text
 returns-in-Err g c = record {
-  same = tt;
-  stopped = inr (
+  shown = inr (
     c.in-Err.failure,
     c.from-in-Err.ensures.0,
     c.in-Err.ensures.failed,
@@ -29,7 +22,7 @@ returns-in-Err g c = record {
 pub returns-in-Ok-print_found : goal.returns-in-Ok-print_found
 unfolding compare_text
 returns-in-Ok-print_found g c = record {
-  same = λ model another is also.
+  shown = λ model another is also.
       let ignored = c.args.options.now.ignored in
       let found = c.in-Ok.ensures.sound model another is also in
       let valid = c.models_of_roots_are_valid.ensures c.args.left.now model is in
@@ -40,14 +33,12 @@ returns-in-Ok-print_found g c = record {
         (equal, λ nothing. (c.models_equal_but_for_no_columns_are_equal.ensures.equal ignored model another valid also_valid nothing).0 equal),
         rw (← found, ← c.deref.ensures.value) (c.in-Ok-print_found.ensures.printed model another is also),
       );
-  stopped = tt;
 }
 
 pub returns : goal.returns
 unfolding compare_text
 returns g c = record {
-  same = tt;
-  stopped = inl (
+  shown = inl (
     c.from-in-Ok-2.ensures.0,
     λ model another is also.
         let found = c.in-Ok.ensures.sound model another is also in

@@ -1,10 +1,11 @@
 use Rattle.std.proofs.Common.{◌∙◌}
-use Rattle.cli_where.proofs.EntryLemmas.{counted_after, counted_stands}
+use Rattle.heap_entries.proofs.BlobLemmas.{counted_behind}
+use Rattle.cli_where.proofs.EntryLemmas.{counted_stands}
 use Rattle.cli_where.proofs.entries.blob_size.Goals as goal
 
 pub returns-in_err-count-clause-complete : goal.returns-in_err-count-clause-complete
 returns-in_err-count-clause-complete c = rw c.from_residual.ensures (λ blob stands.
-    c.in_err-count.ensures.complete _ stands.count _ (c.split_at.ensures.back ∙ counted_after c.args.heap.now c.args.start blob stands) stands.counts)
+    c.in_err-count.ensures.complete _ stands.count _ (c.split_at.ensures.back ∙ counted_behind c.args.heap.now c.args.start blob stands) stands.counts)
 
 pub returns-clause-sound : goal.returns-clause-sound
 returns-clause-sound c =

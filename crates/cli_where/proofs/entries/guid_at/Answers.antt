@@ -1,5 +1,6 @@
 use Rattle.std.proofs.Common.{arith, ◌*◌, drop, refl, rules, take}
-use Rattle.cli_where.proofs.EntryLemmas.{guid_stands}
+use Rattle.std.proofs.lemmas.List.{length-drop}
+use Rattle.heap_entries.proofs.GuidLemmas.{guid_stands}
 use Rattle.cli_where.proofs.entries.guid_at.Goals as goal
 
 pub returns-clause-sound : goal.returns-clause-sound
@@ -10,7 +11,8 @@ returns-clause-sound c =
       record {
         some = omega (arith, c.in_ok-checked_sub.ensures.0);
         guid = take 16 (drop start heap);
-        stands = guid_stands heap number start (omega (arith, c.in_ok-checked_sub.ensures, c.from-before.ensures)) (omega (arith, c.if-before-target.false));
+        stands = guid_stands heap number start (drop start heap) (take 16 (drop start heap)) (omega (arith, c.in_ok-checked_sub.ensures, c.from-before.ensures))
+            (omega (arith, c.if-before-target.false)) refl (omega (arith, c.if-before-target.false, length-drop start heap)) refl;
         from = omega (arith, c.in_ok-checked_sub.ensures, c.from-before.ensures);
         long = refl;
       },

@@ -1,4 +1,4 @@
-use Rattle.declarations.proofs.Prelude.{◌≡◌, None, refl, ◌∙◌, IsDeclaredPiece, generic_rows}
+use Rattle.declarations.proofs.Prelude.{◌≡◌, None, refl, ◌∙◌, ⊤, IsDeclaredPiece, generic_rows}
 use Rattle.full_names.specs.TextEnd.{IsWhole}
 use Rattle.full_names.proofs.SinkLemmas.{received}
 use Rattle.declarations.proofs.ParamExists.{declared_texts}
@@ -13,8 +13,8 @@ returns g c = λ model shown links signature declares params text named none who
     received _ g.W.Write.write_str_gives (λ s. s.writer.now)
     (λ s. (s.ended ≡ None) × (s.params.now ≡ sink.params.now) × (s.of ≡ of) × (s.writer.ghost_name ≡ sink.writer.ghost_name))
     (λ s. s.writer.ghost_name ≡ sink.writer.ghost_name) (λ s. IsWhole s.ended) (IsDeclaredPiece g.L.Limit.scopes model of.class of.name.now of.first of.past generics)
-    (declared_texts g.L.Limit.scopes model valid of.class (text, named) of.name.now of.first of.past generics) (λ s kept. kept.3)
+    (λ ps. ⊤) (λ p ps fit. tt) (λ ps fit. declared_texts g.L.Limit.scopes model valid of.class (text, named) of.name.now of.first of.past generics ps) (λ s kept. kept.3)
     (λ s p t call kept. let gave = call.0 refl in
     ((gave.0 ∙ kept.0, gave.1 ∙ kept.1, gave.2 ∙ kept.2, gave.3 ∙ kept.3), (rw (kept.1, kept.2) at (gave.4 model)) shown links params))
     (λ s p t call kept done. let gave = call.1 refl done in (gave.0 ∙ kept.3, gave.1))
-    (c.write_declaration.ensures.text signature declares) (none, refl, refl, refl) whole
+    (c.write_declaration.ensures.text signature declares) tt (none, refl, refl, refl) whole
