@@ -24,7 +24,7 @@ module _ (model : Metadata) (valid : IsValid model) (first past position : ℕ) 
   unfolding cell_columns
   param_own row there = is_text (cell_in model Param row 2) (valid.cells Param row 2 there (omega arith)).of_kind
 
-  abbrev has_position : ℕ → Bool
+  abbrev pub has_position : ℕ → Bool
   has_position row = position_in model row == position
 
   -- the first row with the position, among those from one on and before another that exist
