@@ -12,12 +12,12 @@ ghost use Rattle.cli_lines.specs.Printed.{Adds, Prints};
 ghost use Rattle.cli_lines.specs.Shown.{shown_value};
 ghost use Rattle.cli_info.specs.Attributes.{are_texts, argument_parts, attribute_lines, attributes_lines, first_parts, has_types, is_assembly, is_own, is_text, item_parts, items_parts, lines_of_type, more_lines, string_in, texts_in};
 
-use custom_attributes::{constructor, params_of, type_of};
 use blob_values::{Argument, ArgumentType, Item, Items, Scalar, Value as Given};
 use cli_lines::Part::{Field, Member, Note, Word};
 use cli_lines::Value::{Null, Number, Plain, Quoted, Text};
 use cli_lines::{Name, Printer, Value};
 use cli_print::{NAME, NAMESPACE};
+use custom_attributes::{constructor, params_of, type_of};
 use navigation::{Neighbours, cells};
 use opening::{TableId, Token, View, bytes_or_empty, text_or_empty};
 use std::alloc::Global;
