@@ -51,9 +51,11 @@ pub(crate) fn print_row<'a, R: ShownRows<'a>, W: Write>(
 fn begin_row<W: Write>(names: Names, row: Token, out: &mut Printer<'_, W>)
     ensures { Begins out.old out.new (row_head names row ∷ []) }
 {
+    cli_lines::laws::parts_follow::<W>();
+    out.start();
     match names {
-        Names::Hidden => out.begin(&[RowNumber(row)]),
-        Names::Shown => out.begin(&[RowToken(row)]),
+        Names::Hidden => out.part(&RowNumber(row)),
+        Names::Shown => out.part(&RowToken(row)),
     }
 }
 

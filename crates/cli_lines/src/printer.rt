@@ -90,9 +90,9 @@ impl<'o, W: Write> Printer<'o, W> {
         self.parts(parts);
     }
 
-    /// Begins a line, with the name of the file if there is one.
+    /// Begins a line that has no parts yet: with the name of the file, if there is one.
     #[inline]
-    fn start(&mut self)
+    pub fn start(&mut self)
         ensures { Begins self.old self.new [] }
     {
         match self.stopped {
@@ -105,7 +105,7 @@ impl<'o, W: Write> Printer<'o, W> {
     }
 
     /// Adds parts to the line that was begun.
-    #[inline]
+    #[inline(always)]
     pub fn parts(&mut self, parts: &[Part<'_>])
         ensures { Adds self.old self.new (map shown parts.now) }
     {
