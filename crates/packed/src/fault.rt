@@ -6,15 +6,28 @@ use crate::code::{FaultCode, each_named};
 use std::error::Error;
 use std::fmt;
 
-/// The name of the rule with a number, which is that of its code.
+/// The number of each rule, as a constant.
+struct Number;
+
+macro_rules! numbers {
+    ($of:ident $($code:ident)*) => {
+        impl $of {
+            $(const $code: u16 = FaultCode::$code as u16;)*
+        }
+    };
+}
+
+/// The name of the rule with a number.
 macro_rules! name_by {
     ($by:ident $($code:ident)*) => {
         match $by {
-            $(number if number == FaultCode::$code as u16 => stringify!($code),)*
+            $(Number::$code => stringify!($code),)*
             _ => "",
         }
     };
 }
+
+each_named!(numbers Number);
 
 /// The first rule that some bytes break, and the offset at which they break it.
 #[derive(Clone, Copy, Debug, PartialEq, Eq)]
