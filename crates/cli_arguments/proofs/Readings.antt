@@ -1,9 +1,9 @@
 -- What the getters of `clap`'s matches return, if the matches are those of the arguments.
-use Rattle.std.proofs.Common.{◌≡◌, ◌∙◌, ℕ, Result, Ok, Err, Bool, true, false, List, [], ap, ap₂, sym, Option, Some, None, refl, codes}
-use Rattle.std.specs.Prelude.{map, option_map, unwrap_or}
+use Rattle.std.proofs.Common.{◌≡◌, ◌∙◌, ℕ, Result, Ok, Err, Bool, true, false, List, ap, ap₂, sym, Option, Some, None, refl, codes}
+use Rattle.std.specs.Prelude.{option_map, unwrap_or}
 use Rattle.std.proofs.lemmas.Bool.{false_from_ne_true}
 use Rattle.cli_arguments.specs.Asked.{is_true}
-use Rattle.cli_arguments.proofs.Prelude.{Bor, bytes_eq, ParsesBool, ParsesUnsigned, bytes_eq-Decides, IsCountOf, subcommand_named, name_of, subcommands, Subcommand}
+use Rattle.cli_arguments.proofs.Prelude.{bytes_eq, ParsesBool, ParsesUnsigned, bytes_eq-Decides, IsCountOf, subcommand_named, name_of, subcommands, Subcommand}
 use Rattle.clap.specs.Words.{Row, Text, ReadsOne, subcommand_name_of, subcommand_rows_of}
 use Rattle.clap.specs.declared.ArgMatches.{ArgMatches}
 use Rattle.clap.specs.declared.ArgMatches.TheViews.{out-ArgMatches}
@@ -44,9 +44,3 @@ pub count_is : (E : Type 0) (gives : List ℕ → Result ℕ E → Type 0) → (
 count_is E gives parses None r none value = none refl
 count_is E gives parses (Some t) (Some number) none value = parses t (Ok number) (value t refl)
 count_is E gives parses (Some t) None none value = let e = value t refl in parses t (Err e.0) e.1
-
--- the files are all values of their argument; none if it was not used
-pub files_read : (o : Option (Bor (List (Bor Text)))) (default : Bor (List (Bor Text))) → default.now ≡ []
-    → map (λ word. word.now) (unwrap_or o default).now ≡ unwrap_or (option_map (λ s. map (λ word. word.now) s.now) o) []
-files_read None default empty = ap (λ (s : List (Bor Text)). map (λ word. word.now) s) empty
-files_read (Some s) default empty = refl

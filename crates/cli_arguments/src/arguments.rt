@@ -9,7 +9,7 @@ use crate::argument::arg_of;
 use crate::asked::{Ask, Subcommand};
 use crate::help::HELP;
 use crate::parts::take_part;
-use crate::subcommands::usage_of;
+use crate::subcommands::{output_of, usage_of};
 use clap::{ArgMatches, Command, Error};
 use std::alloc::{AllocError, Global};
 
@@ -93,7 +93,10 @@ pub(crate) fn flag(given: &ArgMatches<'_>, id: &str) -> bool
 fn list<'a>(alloc: Global, given: &ArgMatches<'a>, id: &str) -> Result<Vec<&'a str>, AllocError>
     ensures { IfOk result (λ values. map (λ word. word.now) values.items ≡ unwrap_or (all_of id.now (rows_of (found_of given.now))) []) }
 {
-    Vec::from_slice(alloc, given.get_raw(id).unwrap_or(&[]))
+    match given.get_raw(id) {
+        Some(values) => Vec::from_slice(alloc, values),
+        None => Ok(Vec::new(alloc)),
+    }
 }
 
 /// The command line as `clap` parses it and shows it in help.
@@ -119,7 +122,7 @@ fn command_of<'a>(alloc: Global, subcommand: Subcommand) -> Result<Command<'a>, 
     let usage = usage_of(subcommand);
     let mut command = Command::new(alloc, usage.name)
         .about(usage.about)
-        .after_long_help(usage.output);
+        .after_long_help(output_of(subcommand));
     for argument in usage.arguments {
         command = command.arg(arg_of(alloc, argument))?;
     }

@@ -45,12 +45,7 @@ what '-r', '-0' and '--files-from' read.
 ", $after)]
     };
     ($name:literal $about:literal $arguments:expr, $output:expr) => {
-        Usage {
-            name: $name,
-            about: $about,
-            arguments: $arguments,
-            output: $output,
-        }
+        (Usage { name: $name, about: $about, arguments: $arguments }, $output)
     };
 }
 
@@ -61,7 +56,7 @@ mod write;
 
 /// Each subcommand in the order of the program, as the input of a macro: its variant, and the module and the name of its row.
 macro_rules! each_subcommand {
-    ($then:ident $($by:ident)?) => { $then! { $($by)?
+    ($then:ident $($by:tt)*) => { $then! { $($by)*
         Root look ROOT, Info look INFO, Check check CHECK, Show look SHOW, Types look TYPES, Outline look OUTLINE,
         Refs look REFS, Resources look RESOURCES, Strings look STRINGS, Token look TOKEN, Where look WHERE,
         Rewrite write REWRITE, Embed write EMBED, Digest compare DIGEST, Compare compare COMPARE, Explain check EXPLAIN,
@@ -70,14 +65,17 @@ macro_rules! each_subcommand {
 
 pub(crate) use each_subcommand;
 
-/// The row of a subcommand.
-macro_rules! row_of {
-    ($by:ident $($variant:ident $module:ident $row:ident,)*) => {
+/// A part of the row of a subcommand.
+macro_rules! part_of {
+    ($by:ident $part:tt $($variant:ident $module:ident $row:ident,)*) => {
         match $by {
-            $(Subcommand::$variant => $module::$row,)*
+            $(Subcommand::$variant => $module::$row.$part,)*
         }
     };
 }
+
+/// A subcommand, and what it prints, with examples.
+type Row = (Usage<'static>, &'static str);
 
 /// A subcommand: its name, its arguments and its help.
 #[derive(Clone, Copy)]
@@ -88,15 +86,18 @@ pub(crate) struct Usage<'a> {
     pub(crate) about: &'a str,
     /// Its arguments. Help shows them in this order.
     pub(crate) arguments: &'a [Argument<'a>],
-    /// What it prints, with examples.
-    pub(crate) output: &'a str,
 }
 
 /// The arguments of a subcommand, and its help.
 pub(crate) fn usage_of<'a>(subcommand: Subcommand) -> Usage<'a>
     ensures { line.shape result ≡ line.shape_of subcommand }
 {
-    each_subcommand!(row_of subcommand)
+    each_subcommand!(part_of subcommand 0)
+}
+
+/// What a subcommand prints, with examples.
+pub(crate) fn output_of(subcommand: Subcommand) -> &'static str {
+    each_subcommand!(part_of subcommand 1)
 }
 
 /// `[FILE]..`, the paths of the files to read.

@@ -1,7 +1,7 @@
 //! The subcommands that check files and explain faults.
-use crate::subcommands::{BARE, BUDGET, FILES, FILES_FROM, JSON, NULL, RECURSIVE, Usage};
+use crate::subcommands::{BARE, BUDGET, FILES, FILES_FROM, JSON, NULL, RECURSIVE, Row, Usage};
 
-pub(crate) const CHECK: Usage<'static> = usage!["check"
+pub(crate) const CHECK: Row = usage!["check"
     "Check files against the rules of the standard" &[
     FILES, BARE, BUDGET, FILES_FROM, NULL, RECURSIVE,
     argument!["quiet" EitherFlag('q') "Print no faults; only the exit status reports them"], JSON,
@@ -69,7 +69,7 @@ Examples:
   one_module.dll: ok
   one_module.dll: ok"];
 
-pub(crate) const EXPLAIN: Usage<'static> = usage!["explain"
+pub(crate) const EXPLAIN: Row = usage!["explain"
     "Explain faults, or list all" &[
     argument!["CODE" AnyNumber "The number or the name of a fault; without it, list all faults"], JSON], "\
 The first line has the number of the fault, its name and what is wrong. Then

@@ -1,7 +1,9 @@
 //! The subcommands that compare files, and their digests.
-use crate::subcommands::{BARE, BUDGET, FILE, FILES, FILES_FROM, JSON, NULL, RECURSIVE, Usage};
+use crate::subcommands::{
+    BARE, BUDGET, FILE, FILES, FILES_FROM, JSON, NULL, RECURSIVE, Row, Usage,
+};
 
-pub(crate) const COMPARE: Usage<'static> = usage!["compare"
+pub(crate) const COMPARE: Row = usage!["compare"
     "Compare the metadata of two files" &[
     FILE, BARE, BUDGET, argument!["quiet" EitherFlag('q') "Print nothing; the exit status is the answer"], JSON,
     argument!["second" Required("OTHER") "The file to compare it with"],
@@ -41,7 +43,7 @@ Examples:
   $ clim compare --json --bare one_module.root one_module.root
   {\"equal\":true}"];
 
-pub(crate) const DIGEST: Usage<'static> = usage!["digest"
+pub(crate) const DIGEST: Row = usage!["digest"
     "Print the SHA-256 digest of the canonical root of each file" reports![FILES], "\
 Prints the 64 hexadecimal digits of the digest, two spaces and FILE, like
 sha256sum. The digest is that of the bytes that 'clim rewrite' writes:

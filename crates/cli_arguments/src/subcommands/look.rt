@@ -1,7 +1,9 @@
 //! The subcommands that print what a file contains.
-use crate::subcommands::{BARE, BUDGET, FILE, FILES, FILES_FROM, JSON, NULL, RECURSIVE, Usage};
+use crate::subcommands::{
+    BARE, BUDGET, FILE, FILES, FILES_FROM, JSON, NULL, RECURSIVE, Row, Usage,
+};
 
-pub(crate) const INFO: Usage<'static> = usage!["info"
+pub(crate) const INFO: Row = usage!["info"
     "Print what an assembly is: its identity, headers and references" reports![FILES], "\
 Each line begins with a word for what follows it:
   assembly   the identity of the assembly, as .NET writes it; a module alone has
@@ -48,7 +50,7 @@ Examples:
   {\"version\":\"v4.0.30319\"}
   {\"types\":2,\"methods\":1,\"fields\":2,\"resources\":0}"];
 
-pub(crate) const ROOT: Usage<'static> = usage!["root"
+pub(crate) const ROOT: Row = usage!["root"
     "Print the CLI header, the version and the stream headers" &[
     FILES, BARE, FILES_FROM, NULL, RECURSIVE, JSON,
     argument!["until-fault" Flag "Print what can be read before a fault, then the fault"]], "\
@@ -87,7 +89,7 @@ Examples:
   {\"stream\":{\"offset\":120,\"size\":8,\"name\":\"#Strings\"}}
   {\"stream\":{\"offset\":128,\"size\":16,\"name\":\"#GUID\"}}"];
 
-pub(crate) const SHOW: Usage<'static> = usage!["show"
+pub(crate) const SHOW: Row = usage!["show"
     "Print the rows of all tables, or of one" reports![
     argument!["FILE" AnyNumber "The files to read, then the TABLE to print alone, if it is one"],
     argument!["names" Flag "Print the name of each column before its cell"],
@@ -179,7 +181,7 @@ Examples:
   04000001 Flags=1 Name=\"a\" Signature=<0608>
   04000002 Flags=1 Name=\"b\" Signature=<0608>"];
 
-pub(crate) const TYPES: Usage<'static> = usage!["types"
+pub(crate) const TYPES: Row = usage!["types"
     "Print the types, with the number of their fields and methods" reports![FILES], "\
 Prints a line 'TOKEN NAME FIELDS METHODS' for each row of TypeDef (ECMA-335,
 II.22.37). NAME begins with the namespace and a dot, if there is a namespace,
@@ -202,7 +204,7 @@ Examples:
   two_types.root: 02000001 <Module> 0 0
   two_types.root: 02000002 N.C 2 1"];
 
-pub(crate) const OUTLINE: Usage<'static> = usage!["outline"
+pub(crate) const OUTLINE: Row = usage!["outline"
     "Print the declarations of the assembly, or of one type" reports![
     argument!["FILE" AnyNumber "The files to read, then the type or the row to print alone, if any"],
     argument!["no-tokens" Flag "Leave the comment with the token away"],
@@ -295,7 +297,7 @@ Examples:
   $ clim outline --bare two_types.root 04000002
     .field private int32 N.C::b  // 04000002"];
 
-pub(crate) const REFS: Usage<'static> = usage!["refs"
+pub(crate) const REFS: Row = usage!["refs"
     "Print what the assembly refers to in other modules" reports![
     argument!["FILE" AnyNumber "The files to read, then the type to print alone, if it is one"]], "\
 Prints a line for each module, type, method and field that the assembly refers
@@ -324,7 +326,7 @@ Examples:
   .typeref [mscorlib]System.Object  // 01000001
   .memberref instance void [mscorlib]System.Object::.ctor()  // 0a000001"];
 
-pub(crate) const RESOURCES: Usage<'static> = usage!["resources"
+pub(crate) const RESOURCES: Row = usage!["resources"
     "Print where the resources are, or write the content of one" &[
     FILES, BUDGET, FILES_FROM, NULL, RECURSIVE, JSON,
     argument!["extract" Option("NAME") "Write the content of this resource alone"]], "\
@@ -350,7 +352,7 @@ Examples:
   $ clim resources --extract notes.txt shapes.dll
   a note"];
 
-pub(crate) const STRINGS: Usage<'static> = usage!["strings"
+pub(crate) const STRINGS: Row = usage!["strings"
     "Print the user strings, with their tokens" reports![FILES], "\
 Prints a line 'TOKEN TEXT' for each entry of '#US' that is not empty (ECMA-335,
 II.24.2.4), in the order of their offsets. 'clim token' prints the entry of a
@@ -369,7 +371,7 @@ Examples:
   70000001 Hello
   7000000d a\\u005cb"];
 
-pub(crate) const TOKEN: Usage<'static> = usage!["token"
+pub(crate) const TOKEN: Row = usage!["token"
     "Print the row or the user string of each token" &[
     FILE, BARE, BUDGET, JSON, argument!["HEX" Several "The tokens: one to eight hexadecimal digits each"]], "\
 The high byte of HEX is the number of a table, and the other bytes are a row
@@ -398,7 +400,7 @@ Examples:
   $ clim token --json --bare one_module.root 70000000
   {\"token\":\"70000000\",\"text\":\"\",\"flag\":null}"];
 
-pub(crate) const WHERE: Usage<'static> = usage!["where"
+pub(crate) const WHERE: Row = usage!["where"
     "Print which header, stream or cell contains the byte at an offset" reports![
     argument!["FILE" AnyNumber "The files to read, then the OFFSET of a byte"]], "\
 Prints a line 'START SIZE WHAT' for each structure that contains the byte, the

@@ -1,7 +1,7 @@
 //! The subcommands that write a file.
-use crate::subcommands::{BARE, BUDGET, FILE, JSON, Usage};
+use crate::subcommands::{BARE, BUDGET, FILE, JSON, Row, Usage};
 
-pub(crate) const REWRITE: Usage<'static> = usage!["rewrite"
+pub(crate) const REWRITE: Row = usage!["rewrite"
     "Write the canonical metadata root of a file" &[
     FILE, BARE, BUDGET, argument!["second" Required("OUT") "The file to write"]], "\
 OUT becomes a metadata root without a PE file, which '--bare' reads. The
@@ -24,7 +24,7 @@ Examples:
   $ clim check --bare out.root
   ok"];
 
-pub(crate) const EMBED: Usage<'static> = usage!["embed"
+pub(crate) const EMBED: Row = usage!["embed"
     "Write a copy of a file with its canonical root, or with another" &[
     FILE, JSON, argument!["second" Required("OUT") "The file to write"],
     argument!["root" Option("ROOT") "A metadata root to take instead of the canonical one"],
