@@ -5,6 +5,7 @@ pub use Rattle.std.proofs.lemmas.Bool.Decides.{nat_tests, Decides-at}
 pub use Rattle.std.proofs.lemmas.Result.{IfOk-weaker}
 pub use Rattle.std.proofs.lemmas.List.{drop_more, drop_all, take_all, take_min, map-append, map-id}
 pub use Rattle.std.proofs.lemmas.List.Elements.{filter-append, All-push, All-append}
+pub use Rattle.std.proofs.lemmas.List.Folds.{flat_map-map}
 pub use Rattle.std.proofs.lemmas.List.Sorted.{All-permutation, IsPermutation-map, answers_always, ranks_by}
 pub use Rattle.std.specs.List.{position, position_or_len, range_with_len, flat_map}
 pub use Rattle.table_schema.specs.Tables.{table_index_of}
@@ -17,6 +18,7 @@ pub use Rattle.metadata.specs.Metadata.{Metadata, count_in}
 pub use Rattle.metadata.specs.Model.{IsModel}
 pub use Rattle.metadata.specs.MemberLists.{member_of, owner_of}
 pub use Rattle.metadata.specs.declared.member_lists.MemberList.{MemberList}
+pub use Rattle.navigation.specs.declared.keyed.KeyedRow.{KeyedRow}
 pub use Rattle.cli_sending.specs.AsIs.{as_is}
 pub use Rattle.cli_lines.specs.Lines.{Part, style}
 unfoldable pub use Rattle.cli_lines.specs.Lines.{line_from, styled_text}
@@ -30,11 +32,11 @@ pub use Rattle.cli_names.specs.declared.orders.TableOrder.{TableOrder}
 pub use Rattle.cli_names.specs.declared.refs.Wanted.{Wanted}
 pub use Rattle.cli_names.specs.declared.source.OutlineOptions.{OutlineOptions}
 pub use Rattle.cli_names.specs.declared.source.Tokens.{Tokens}
-pub use Rattle.cli_outline.specs.Declarations.{ends_word, json_line, text_line, unindented, has_directive}
+pub use Rattle.cli_outline.specs.Declarations.{directive_part, ends_word, text_line, type_part, unindented, has_directive}
 unfoldable pub use Rattle.cli_outline.specs.Declarations.{declaration_line}
 pub use Rattle.cli_outline.specs.Orders.{AreInOrder, AreMembers, keyed_cmp, IsKeyed, key_limit, row_of_keyed, AreGrouped, grouping_of}
-pub use Rattle.cli_outline.specs.Outline.{all_rows, mapped_rows, refs_rows, row_of}
-unfoldable pub use Rattle.cli_outline.specs.Outline.{accessed_rows, each_from, first_tables, last_tables, ref_tables, type_rows, outline_rows, class_rows}
+pub use Rattle.cli_outline.specs.Outline.{all_rows, members, refs_rows, row_of}
+unfoldable pub use Rattle.cli_outline.specs.Outline.{each_from, own_rows, first_tables, last_tables, ref_tables, type_rows, outline_rows, class_rows}
 pub use Rattle.cli_outline.specs.Printed.{PrintsRows, AreLines, IsLine}
 pub use Rattle.cli_outline.specs.Subjects.{PrintsChosen}
 pub use Rattle.cli_outline.specs.declared.orders.Keyed.{Keyed}

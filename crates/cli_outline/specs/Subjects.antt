@@ -21,9 +21,10 @@ use Rattle.cli_outline.specs.Outline.{all_rows, class_rows, last_tables}
 use Rattle.cli_outline.specs.Printed.{PrintsRows, PrintsSome}
 
 -- the lines of those of some rows that are chosen were printed; for private clauses
-abbrev pub PrintsChosen : {W : Type 0} → OutlineOptions → Metadata → Choice → Printer W → Printer W → List Token → Type 0
-PrintsChosen options model of old new rows =
-    (found : List Token) × AreChosenBy (IsChosen model of true) (IsChosen model of false) rows found × PrintsRows options model old new found
+pub record PrintsChosen {W : Type 0} (options : OutlineOptions) (model : Metadata) (of : Choice) (old new : Printer W) (rows : List Token) : Type 0 where
+  pub found : List Token
+  pub chosen : AreChosenBy (IsChosen model of true) (IsChosen model of false) rows found
+  pub printed : PrintsRows options model old new found
 
 -- those of some rows that describe a type or what it declares, in the same order
 abbrev pub AreDescribing : Metadata → Token → List Token → List Token → Type 0

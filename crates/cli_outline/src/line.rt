@@ -7,16 +7,17 @@ ghost use Rattle.opening.specs.Views.{row_count};
 ghost use Rattle.cli_lines.specs.declared.parts.Form.TheVariants.{JsonLines};
 ghost use Rattle.cli_lines.specs.Printed.{Prints};
 ghost use Rattle.cli_lines.specs.Shown.{shown};
-ghost use Rattle.cli_outline.specs.Declarations.{declaration_line, directive_part, ends_word, has_directive, json_line, text_line, type_part};
+ghost use Rattle.cli_outline.specs.Declarations.{declaration_line, directive_part, ends_word, has_directive, text_line, type_part};
 ghost use Rattle.cli_outline.specs.Outline.{row_of};
-ghost use Rattle.cli_outline.specs.Printed.{IsRowText, PrintsRows};
+ghost use Rattle.cli_outline.specs.Printed.{IsRowText};
+ghost use Rattle.cli_outline.specs.Subjects.{PrintsChosen};
 ghost use Rattle.cli_names.specs.declared.source.Tokens.{Tokens as TheTokens};
 
 use cli_declarations::{Declared, declare};
 use cli_lines::Part::{Member, Note, Word};
 use cli_lines::Value::{self, Plain, Text};
 use cli_lines::{Form, Name, Part, Printer};
-use cli_names::{Source, Tokens};
+use cli_names::{Choice, Source, Tokens, is_chosen};
 use cli_sending::text_as_is;
 use full_names::type_of_member;
 use opening::{TableId, Token, View, number_or_zero};
@@ -93,27 +94,8 @@ fn print_text<W: Write>(tokens: Tokens, of: Token, text: &str, out: &mut Printer
     }
 }
 
-/// Prints the line of a declaration as JSON. Its text is `named`.
-fn print_json<'t, W: Write>(
-    of: Token,
-    class: Option<Token>,
-    has_directive: bool,
-    text: &'t str,
-    named: &'t str,
-    out: &mut Printer<'_, W>,
-)
-    ensures { Prints out.old out.new (json_line of class has_directive text.now named.now ∷ []) }
-{
-    out.line(&[
-        Member(Name::Token, Value::Token(of)),
-        type_part(class),
-        directive_part(has_directive, text),
-        Member(Name::Text, Plain(named)),
-    ]);
-}
-
 /// Prints the line of a declaration as JSON, with the names as they are in the file.
-fn print_named<W: Write>(
+fn print_json<W: Write>(
     of: Token,
     class: Option<Token>,
     has_directive: bool,
@@ -125,7 +107,12 @@ fn print_named<W: Write>(
     let text = declared.text.trim_ascii_start();
     let mut room = Vec::new(declared.alloc);
     match text_as_is(text, &mut room) {
-        Ok(named) => print_json(of, class, has_directive, text, named, out),
+        Ok(named) => out.line(&[
+            Member(Name::Token, Value::Token(of)),
+            type_part(class),
+            directive_part(has_directive, text),
+            Member(Name::Text, Plain(named)),
+        ]),
         Err(_) => out.fail(),
     }
 }
@@ -151,18 +138,21 @@ fn declare_row(
     Ok(())
 }
 
-/// Prints the line of a row, if it has one. The type of a member is found by binary search.
+/// Prints the line of a row, if it has one and is chosen. The type of a member is found by binary search.
 pub(crate) fn print_row<W: Write>(
     source: &Source<'_, '_>,
+    choice: Choice<'_, '_>,
     token: Token,
     declared: &mut Declared,
     out: &mut Printer<'_, W>,
 )
     requires first { 1 ≤ token.row }
     requires last { token.row ≤ row_count source.now.neighbours.view.now token.table }
-    ensures { (model : Metadata) → IsModel source.now.neighbours.view.now model → PrintsRows source.now.options model out.old out.new (row_of token.table token.row) }
+    ensures { (model : Metadata) → IsModel source.now.neighbours.view.now model → PrintsChosen source.now.options model choice.entry out.old out.new (row_of token.table token.row) }
 {
-    cli_lines::laws::lines_follow::<W>();
+    if !is_chosen(source, choice, token) {
+        return;
+    }
     if !source.shows(token) {
         return;
     }
@@ -174,7 +164,7 @@ pub(crate) fn print_row<W: Write>(
             }
             Form::JsonLines => {
                 let has_directive = has_directive(source.neighbours.view, token);
-                print_named(token, class, has_directive, declared, out)
+                print_json(token, class, has_directive, declared, out)
             }
         },
         Err(_) => out.fail(),
