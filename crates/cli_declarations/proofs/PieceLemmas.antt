@@ -1,6 +1,5 @@
 -- The program's pieces and words are the parts and words of specs/.
-use Rattle.cli_declarations.proofs.Prelude.{◌≡◌, ◌∙◌, ℕ, List, ◌++◌, OnOk, Result, Ok, Err, length, ap, refl, subst, sym, string_bytes, IsOk, WritesInCalls, TableId, Metadata, IsPartText, Part, cut_text, shown, Begins, Ends, Gains, Piece}
-use Rattle.cli_declarations.specs.declared.declared.Declared.{Declared}
+use Rattle.cli_declarations.proofs.Prelude.{◌≡◌, ◌∙◌, ℕ, List, ◌++◌, OnOk, Result, Ok, Err, length, ap, refl, subst, sym, string_bytes, IsOk, WritesInCalls, TableId, Metadata, IsPartText, Part, cut_text, shown, Begins, Declared, Ends, Gains, Piece}
 use Rattle.cli_declarations.proofs.TextLemmas.{Takes, text_cut}
 
 pub on_ok : {T E P Q : Type 0} (result : Result T E) → OnOk result P → (P → Q) → OnOk result Q
@@ -26,14 +25,14 @@ module _ {T U E F : Type 0} (old begun out new : Declared) (written : Result T E
   text_gained text wrote = on_ok result ends (λ e. cut old begun out new text begins (was_ok written e.0 wrote) e.1)
 
   pub some_gained : (Is : List ℕ → Type 0) → OnOk written ((text : List ℕ) × Is text × WritesText begun text out)
-      → OnOk result (Gains (λ whole. (text : List ℕ) × Is text × (whole ≡ cut_text text)) (string_bytes old.text) (string_bytes new.text))
+      → OnOk result (Gains (λ whole. (text : List ℕ) × Is text × (whole ≡ cut_text text)) old new)
   some_gained Is wrote = on_ok result ends (λ e. let it = was_ok written e.0 wrote in (cut_text it.0, (it.0, it.1, refl), cut old begun out new it.0 begins it.2 e.1))
 
 -- the text of a piece is that of its part
-module _ {T E : Type 0} (model : Metadata) (table : TableId) (row : ℕ) (piece : Piece) {part : Part} (before after : List ℕ) (result : Result T E) (is : shown piece ≡ part) where
+module _ {T E : Type 0} (model : Metadata) (table : TableId) (row : ℕ) (piece : Piece) {part : Part} {before after : Declared} (result : Result T E) (is : shown piece ≡ part) where
   pub part_gained : OnOk result (Gains (IsPartText model table row part) before after) → OnOk result (Gains (IsPartText model table row (shown piece)) before after)
   part_gained gained = subst (λ (p : Part). OnOk result (Gains (IsPartText model table row p) before after)) (sym is) gained
 
-  pub words_gained : {text own : List ℕ} → text ≡ own → IsPartText model table row part own → OnOk result (after ≡ before ++ text)
+  pub words_gained : {text own : List ℕ} → text ≡ own → IsPartText model table row part own → OnOk result (string_bytes after.text ≡ string_bytes before.text ++ text)
       → OnOk result (Gains (IsPartText model table row (shown piece)) before after)
-  words_gained {text} {own} same of gained = part_gained (on_ok result gained (λ e. (own, of, e ∙ ap (λ (t : List ℕ). before ++ t) same)))
+  words_gained {text} {own} same of gained = part_gained (on_ok result gained (λ e. (own, of, e ∙ ap (λ (t : List ℕ). string_bytes before.text ++ t) same)))
