@@ -1,5 +1,5 @@
 -- Texts one after another, and what a writer that escapes took.
-use Rattle.cli_declarations.proofs.Prelude.{◌≡◌, ◌∙◌, ℕ, zero, suc, ◌+◌, ◌-◌, ◌<◌, cond, eqb, ltb, List, [], ◌∷◌, ◌++◌, length, get_or, drop, map, take, refl, ap, sym, subst, string_bytes, append_assoc, append-nil, length-append, arith, nat_tests, flat_map, flat_map_more, map_more, take_all, WritesInCalls, cut_mark, cut_text, text_limit, AreTexts, Declared, Gains}
+use Rattle.cli_declarations.proofs.Prelude.{◌≡◌, ◌∙◌, ℕ, zero, suc, ◌+◌, ◌-◌, ◌<◌, eqb, ltb, List, [], ◌∷◌, ◌++◌, length, get_or, drop, map, take, refl, ap, sym, subst, string_bytes, append_assoc, append-nil, length-append, arith, nat_tests, flat_map, flat_map_more, map_more, take_all, WritesInCalls, cut_text, text_limit, AreTexts, Begins, Declared, Ends, Gains}
 use Rattle.std.proofs.Math.Seq.{drop-append_seam}
 use Rattle.std.specs.List.{FoldsTo, concat}
 
@@ -35,36 +35,33 @@ take_parts (suc n) (x ∷ a) b = let less : n - length a ≡ suc n - suc (length
 longer : (left : ℕ) (text : List ℕ) → left ≡ text_limit + 1 - length text → eqb left 0 ≡ ltb text_limit (length text)
 longer left text is = grind (arith, nat_tests)
 
--- a writer that takes the first bytes of what it is given has the first bytes of the whole text
-module _ {W : Type 0} (bytes : W → List ℕ) (left begun : W → ℕ) where
-  abbrev pub Takes : W → List ℕ → W → Type 0
-  Takes before text after = (bytes after ≡ bytes before ++ take (left before - 1) text) × (left after ≡ left before - length text) × (begun after ≡ begun before)
+-- a declaration takes the first bytes of what it is given
+abbrev pub Takes : Declared → List ℕ → Declared → Type 0
+Takes old text new = (string_bytes new.text ≡ string_bytes old.text ++ take (old.left - 1) text) × (new.left ≡ old.left - length text) × (new.begun ≡ old.begun)
 
-  folds_cut : (before : W) (parts : List (List ℕ)) (after : W) → FoldsTo Takes before parts after → Takes before (concat parts) after
-  folds_cut before [] after is =
-      let all : left before ≡ left before - 0 = omega arith in
-      (ap bytes (sym is) ∙ sym (append-nil (bytes before)) ∙ ap (λ (t : List ℕ). bytes before ++ t) (sym (take_all (left before - 1) [] (omega arith))), ap left (sym is) ∙ all, ap begun (sym is))
-  folds_cut before (part ∷ parts) after (between, one, more) =
-      let later = folds_cut between parts after more in
-      let room : left between - 1 ≡ left before - 1 - length part = omega (arith, one.1) in (
-        later.0 ∙ ap (λ (t : List ℕ). t ++ take (left between - 1) (concat parts)) one.0
-            ∙ append_assoc (bytes before) (take (left before - 1) part) (take (left between - 1) (concat parts))
-            ∙ ap (λ (m : ℕ). bytes before ++ (take (left before - 1) part ++ take m (concat parts))) room
-            ∙ ap (λ (t : List ℕ). bytes before ++ t) (sym (take_parts (left before - 1) part (concat parts))),
-        omega (arith, later.1, one.1, length-append part (concat parts)),
-        later.2 ∙ one.2,
-      )
+folds_cut : (old : Declared) (parts : List (List ℕ)) (new : Declared) → FoldsTo Takes old parts new → Takes old (concat parts) new
+folds_cut old [] new is =
+    let none : take (old.left - 1) [] ≡ [] = take_all (old.left - 1) [] (omega arith) in
+    let all : old.left ≡ old.left - 0 = omega arith in
+    subst (λ (last : Declared). Takes old [] last) is (rw none (sym (append-nil (string_bytes old.text))), all, refl)
+folds_cut old (part ∷ parts) new (between, one, more) =
+    let later = folds_cut between parts new more in
+    let room : between.left - 1 ≡ old.left - 1 - length part = omega (arith, one.1) in (
+      rw (take_parts (old.left - 1) part (concat parts), ← room, ← append_assoc (string_bytes old.text) (take (old.left - 1) part) (take (between.left - 1) (concat parts)), ← one.0) later.0,
+      omega (arith, later.1, one.1, length-append part (concat parts)),
+      later.2 ∙ one.2,
+    )
 
-  -- with a mark after it if it was cut
-  pub text_cut : (before : W) (text : List ℕ) (after : W) (marked : List ℕ) → left before ≡ text_limit + 1 → begun before ≡ length (bytes before) → WritesInCalls Takes before text after
-      → marked ≡ bytes after ++ cond (eqb (left after) 0) (cut_mark (drop (begun after) (bytes after))) [] → marked ≡ bytes before ++ cut_text text
-  unfolding cut_text
-  text_cut before text after marked full begins calls is =
-      let takes : Takes before text after = subst (λ (t : List ℕ). Takes before t after) calls.whole (folds_cut before calls.parts after calls.calls) in
-      let room : left before - 1 ≡ text_limit = omega (arith, full) in
-      let gone : left after ≡ text_limit + 1 - length text = omega (arith, full, takes.1) in
-      let first = take text_limit text in
-      let whole : bytes after ≡ bytes before ++ first = takes.0 ∙ ap (λ (m : ℕ). bytes before ++ take m text) room in
-      let mine : drop (begun after) (bytes after) ≡ first =
-      ap (λ (m : ℕ). drop m (bytes after)) (takes.2 ∙ begins) ∙ ap (drop (length (bytes before))) whole ∙ drop-append_seam (bytes before) first in
-      is ∙ rw (mine, whole, longer (left after) text gone) (append_assoc (bytes before) first _)
+-- a text of the file that was written between its beginning and its end has its first bytes, and a mark if it was cut
+pub cut : (old begun out new : Declared) (text : List ℕ) → Begins old begun → WritesInCalls Takes begun text out → Ends out new → string_bytes new.text ≡ string_bytes old.text ++ cut_text text
+unfolding cut_text
+cut old begun out new text begins calls ends =
+    let takes : Takes begun text out = subst (λ (t : List ℕ). Takes begun t out) calls.whole (folds_cut begun calls.parts out calls.calls) in
+    let room : begun.left - 1 ≡ text_limit = omega (arith, begins.1) in
+    let gone : out.left ≡ text_limit + 1 - length text = omega (arith, begins.1, takes.1) in
+    let first = take text_limit text in
+    let whole : string_bytes out.text ≡ string_bytes old.text ++ first =
+    takes.0 ∙ ap (λ (m : ℕ). string_bytes begun.text ++ take m text) room ∙ ap (λ (b : List ℕ). b ++ first) begins.0 in
+    let mine : drop out.begun (string_bytes out.text) ≡ first =
+    ap (λ (m : ℕ). drop m (string_bytes out.text)) (takes.2 ∙ begins.2) ∙ ap (drop (length (string_bytes old.text))) whole ∙ drop-append_seam (string_bytes old.text) first in
+    ends ∙ rw (mine, whole, longer out.left text gone) (append_assoc (string_bytes old.text) first _)
