@@ -10,28 +10,11 @@ pub use Rattle.std.proofs.lemmas.List.Sorted.{All-permutation, IsPermutation-map
 pub use Rattle.std.specs.List.{position, position_or_len, range_with_len, flat_map}
 pub use Rattle.table_schema.specs.Tables.{table_index_of}
 unfoldable pub use Rattle.table_schema.specs.Tables.{tables}
-pub use Rattle.table_schema.specs.declared.table.TableId.{TableId}
-pub use Rattle.table_schema.specs.declared.table.TableId.TheVariants.{TypeDef, Module, MethodSemantics}
-pub use Rattle.table_schema.specs.declared.token.Token.{Token}
-pub use Rattle.table_schema.specs.Tokens.{token_at}
-pub use Rattle.metadata.specs.Metadata.{Metadata, count_in}
-pub use Rattle.metadata.specs.Model.{IsModel}
-pub use Rattle.metadata.specs.MemberLists.{member_of, owner_of}
-pub use Rattle.metadata.specs.declared.member_lists.MemberList.{MemberList}
+pub use Rattle.cli_outline.specs.Words.{TableId, TypeDef, Module, MethodSemantics, Token, token_at, Metadata, count_in, IsModel, member_of, owner_of, MemberList, as_is, Part, style, Prints, Printed, Asked, Text, Letters, JsonLines, AreChosenBy, IsChosen, order_in, row_at, rows_of, run_start, IsRowIn, BelongsTo, IsMeantRef, IsWantedRef, Wants, is_shown, shown_rows, OutlineOptions, Tokens}
 pub use Rattle.navigation.specs.declared.keyed.KeyedRow.{KeyedRow}
-pub use Rattle.cli_sending.specs.AsIs.{as_is}
-pub use Rattle.cli_lines.specs.Lines.{Part, style}
 unfoldable pub use Rattle.cli_lines.specs.Lines.{line_from, styled_text}
-pub use Rattle.cli_lines.specs.Printed.{Prints, Printed, Asked}
-pub use Rattle.cli_lines.specs.declared.parts.Form.TheVariants.{Text, Letters, JsonLines}
-pub use Rattle.cli_names.specs.Chosen.{AreChosenBy, IsChosen}
-pub use Rattle.cli_names.specs.Orders.{order_in, row_at, rows_of, run_start, IsRowIn}
-pub use Rattle.cli_names.specs.Refs.{BelongsTo, IsMeantRef, IsWantedRef, Wants}
-pub use Rattle.cli_names.specs.Shown.{is_shown, shown_rows}
 pub use Rattle.cli_names.specs.declared.orders.TableOrder.{TableOrder}
 pub use Rattle.cli_names.specs.declared.refs.Wanted.{Wanted}
-pub use Rattle.cli_names.specs.declared.source.OutlineOptions.{OutlineOptions}
-pub use Rattle.cli_names.specs.declared.source.Tokens.{Tokens}
 pub use Rattle.cli_outline.specs.Declarations.{directive_part, ends_word, text_line, type_part, unindented, has_directive}
 unfoldable pub use Rattle.cli_outline.specs.Declarations.{declaration_line}
 pub use Rattle.cli_outline.specs.Orders.{AreInOrder, AreMembers, keyed_cmp, IsKeyed, key_limit, row_of_keyed, AreGrouped, grouping_of}

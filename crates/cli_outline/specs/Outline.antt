@@ -1,18 +1,10 @@
 -- The outline of a model: which rows have a line, and in which order (ECMA-335 II.22).
 use Rattle.std.specs.Prelude.{ℕ, ◌+◌, ◌-◌, Bool, true, false, if◌then◌else◌, List, [], ◌∷◌, ◌++◌}
 use Rattle.std.specs.List.{flat_map, range_with_len}
-use Rattle.table_schema.specs.declared.table.TableId.{TableId}
-use Rattle.table_schema.specs.declared.table.TableId.TheVariants.{Assembly, AssemblyRef, Module, ModuleRef, File, ManifestResource, ExportedType, TypeDef, InterfaceImpl, GenericParam, GenericParamConstraint, MethodImpl, MethodSemantics, Event, Property, ImplMap, DeclSecurity, CustomAttribute, TypeRef, MemberRef, Param}
-use Rattle.table_schema.specs.declared.token.Token.{Token}
-use Rattle.table_schema.specs.Tokens.{token_at}
-use Rattle.metadata.specs.Metadata.{Metadata, count_in}
-use Rattle.metadata.specs.declared.member_lists.MemberList.{MemberList}
+use Rattle.cli_outline.specs.Words.{TableId, Assembly, AssemblyRef, Module, ModuleRef, File, ManifestResource, ExportedType, TypeDef, InterfaceImpl, GenericParam, GenericParamConstraint, MethodImpl, MethodSemantics, Event, Property, ImplMap, DeclSecurity, CustomAttribute, TypeRef, MemberRef, Param, Token, token_at, Metadata, count_in, MemberList, member_of, linked, Order, row_at, run_start}
 use Rattle.metadata.specs.declared.member_lists.MemberList.TheVariants as list
-use Rattle.metadata.specs.MemberLists.{member_of}
 use Rattle.navigation.specs.declared.links.Link.{Link}
 use Rattle.navigation.specs.declared.links.Link.TheVariants as linked_by
-use Rattle.navigation.specs.Linked.{linked}
-use Rattle.cli_names.specs.Orders.{Order, row_at, run_start}
 
 -- the order of the rows themselves
 abbrev pub by_row : Order

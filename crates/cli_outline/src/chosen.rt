@@ -1,9 +1,6 @@
 //! Prints the rows of some tables: all, or those that are chosen.
 ghost use Rattle.std.specs.Prelude.{◌≡◌, ◌≤◌, ◌+◌, flat_map};
-ghost use Rattle.metadata.specs.Metadata.{Metadata};
-ghost use Rattle.metadata.specs.Model.{IsModel};
-ghost use Rattle.opening.specs.Views.{row_count};
-ghost use Rattle.cli_names.specs.Orders.{order_in};
+ghost use Rattle.cli_outline.specs.Words.{Metadata, IsModel, row_count, order_in};
 ghost use Rattle.cli_outline.specs.Outline.{all_rows, each_from, has_accessors, own_rows};
 ghost use Rattle.cli_outline.specs.Subjects.{PrintsChosen};
 

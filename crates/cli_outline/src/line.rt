@@ -1,17 +1,12 @@
 //! The line of a declaration.
 ghost use Rattle.std.specs.Prelude.{◌≡◌, ◌≤◌, ◌∷◌, [], OnOk, string_bytes};
 ghost use Rattle.std.specs.List.{before_first, position};
-ghost use Rattle.metadata.specs.Metadata.{Metadata};
-ghost use Rattle.metadata.specs.Model.{IsModel};
-ghost use Rattle.opening.specs.Views.{row_count};
-ghost use Rattle.cli_lines.specs.declared.parts.Form.TheVariants.{JsonLines};
-ghost use Rattle.cli_lines.specs.Printed.{Prints};
+ghost use Rattle.cli_outline.specs.Words.{Metadata, IsModel, row_count, JsonLines, Prints, Tokens as TheTokens};
 ghost use Rattle.cli_lines.specs.Shown.{shown};
 ghost use Rattle.cli_outline.specs.Declarations.{declaration_line, directive_part, ends_word, has_directive, text_line, type_part};
 ghost use Rattle.cli_outline.specs.Outline.{row_of};
 ghost use Rattle.cli_outline.specs.Printed.{IsRowText};
 ghost use Rattle.cli_outline.specs.Subjects.{PrintsChosen};
-ghost use Rattle.cli_names.specs.declared.source.Tokens.{Tokens as TheTokens};
 
 use cli_declarations::{Declared, declare};
 use cli_lines::Part::{Member, Note, Word};

@@ -1,15 +1,8 @@
 //! Prints the outline of a view.
 ghost use Rattle.std.specs.Prelude.{◌≡◌, ◌≤◌, ◌+◌};
-ghost use Rattle.table_schema.specs.declared.table.TableId.TheVariants.{TypeDef};
-ghost use Rattle.table_schema.specs.Tokens.{token_at};
-ghost use Rattle.metadata.specs.Metadata.{Metadata, count_in};
-ghost use Rattle.metadata.specs.Model.{IsModel};
-ghost use Rattle.metadata.specs.MemberLists.{owner_of};
-ghost use Rattle.navigation.specs.Linked.{number_to, table_of};
-ghost use Rattle.opening.specs.Views.{row_count};
+ghost use Rattle.cli_outline.specs.Words.{TypeDef, token_at, Metadata, count_in, IsModel, owner_of, number_to, table_of, row_count, order_in};
 ghost use Rattle.cli_outline.specs.Outline.{class_rows, each_from, members, outline_rows, refs_rows, type_rows};
 ghost use Rattle.cli_names.specs.declared.chosen.Choice.TheVariants.{All};
-ghost use Rattle.cli_names.specs.Orders.{order_in};
 ghost use Rattle.cli_outline.specs.Orders.{AreOutlineRows};
 ghost use Rattle.cli_outline.specs.Printed.{PrintsRows, PrintsSome};
 ghost use Rattle.cli_outline.specs.References.{PrintsRefs};
