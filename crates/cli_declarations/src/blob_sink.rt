@@ -1,12 +1,8 @@
 //! Appends what the blob of a row says: the signature of a field (II.7.1), the declaration of a method (II.15.3) or a property (II.17),
 //! with the full names of types, or the value of a custom attribute (II.21, II.22.10).
 ghost use Rattle.std.specs.Prelude.{◌≡◌, ◌≤◌, ◌++◌, Some, string_bytes, OnOk};
-ghost use Rattle.table_schema.specs.declared.table.TableId.TheVariants.{CustomAttribute, Field};
+ghost use Rattle.cli_declarations.specs.Words.{CustomAttribute, Field, AttributeValue as TheValue, Metadata, cell_in, IsModel, row_count};
 ghost use Rattle.blob_values.specs.Items.{items_of};
-ghost use Rattle.blob_values.specs.Values.{AttributeValue as TheValue};
-ghost use Rattle.metadata.specs.Metadata.{Metadata, cell_in};
-ghost use Rattle.metadata.specs.Model.{IsModel};
-ghost use Rattle.opening.specs.Views.{row_count};
 ghost use Rattle.cli_declarations.specs.Parts.{IsAttributeText, IsDeclarationAt, IsSignatureOf, IsValueText, bytes_value, decoded_value, params_for};
 ghost use Rattle.cli_declarations.specs.Texts.{Gains};
 

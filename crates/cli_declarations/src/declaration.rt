@@ -1,8 +1,6 @@
 //! The declaration of a row.
 ghost use Rattle.std.specs.Prelude.{◌≡◌, ◌≤◌, ◌∷◌, ◌++◌, ℕ, List, string_bytes, OnOk};
-ghost use Rattle.metadata.specs.Metadata.{Metadata};
-ghost use Rattle.metadata.specs.Model.{IsModel};
-ghost use Rattle.opening.specs.Views.{row_count};
+ghost use Rattle.cli_declarations.specs.Words.{Metadata, IsModel, row_count};
 ghost use Rattle.cli_declarations.specs.Layouts.{IsDeclared, is_declared_in};
 ghost use Rattle.cli_declarations.specs.Parts.{IsNameText};
 ghost use Rattle.cli_declarations.specs.Texts.{Gains};

@@ -1,7 +1,6 @@
 //! The text of a declaration.
 ghost use Rattle.std.specs.Prelude.{◌≡◌, ◌++◌, take, string_bytes, IsOk, OnOk};
-ghost use Rattle.full_names.specs.declared.quoted.NameKind.TheVariants.{Dotted};
-ghost use Rattle.full_names.specs.Quoted.{name_text, quoted_bytes};
+ghost use Rattle.cli_declarations.specs.Words.{Dotted, name_text, quoted_bytes};
 ghost use Rattle.cli_declarations.specs.Parts.{cut_mark, cut_text, is_open};
 ghost use Rattle.cli_declarations.specs.Texts.{Begins, Ends};
 

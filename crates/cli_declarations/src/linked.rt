@@ -1,11 +1,7 @@
 //! Appends what rows add to the row that they refer to: the first of them, or all in the head of a type (II.10.1.7, II.12.2).
 ghost use Rattle.std.specs.Prelude.{◌≡◌, ◌≤◌, ◌++◌, string_bytes, OnOk};
-ghost use Rattle.metadata.specs.Metadata.{Metadata};
-ghost use Rattle.metadata.specs.Model.{IsModel};
-ghost use Rattle.declarations.specs.Descriptors.{descriptor_in, descriptor_text};
+ghost use Rattle.cli_declarations.specs.Words.{Metadata, IsModel, descriptor_in, descriptor_text, first_linked, linked, row_count};
 ghost use Rattle.blob_values.specs.DescriptorViews.{view};
-ghost use Rattle.navigation.specs.Linked.{first_linked, linked};
-ghost use Rattle.opening.specs.Views.{row_count};
 ghost use Rattle.cli_declarations.specs.Parts.{IsHeadList, address_text, cut_text, layout_text, linked_text, marshal_content, marshal_text, offset_text, referring_text, value_text};
 ghost use Rattle.cli_declarations.specs.Texts.{Gains};
 

@@ -1,11 +1,6 @@
 //! Appends the pieces of a line.
 ghost use Rattle.std.specs.Prelude.{◌≡◌, ◌≤◌, ◌<◌, ◌++◌, true, string_bytes, OnOk};
-ghost use Rattle.table_schema.specs.declared.table.TableId.TheVariants.{Param};
-ghost use Rattle.metadata.specs.Metadata.{Metadata};
-ghost use Rattle.metadata.specs.Model.{IsModel};
-ghost use Rattle.type_heads.specs.FlagWords.{shown_word, word_text, words_of, words_text};
-ghost use Rattle.opening.specs.Views.{row_count};
-ghost use Rattle.table_schema.specs.Tokens.{token_text};
+ghost use Rattle.cli_declarations.specs.Words.{Param, Metadata, IsModel, shown_word, word_text, words_of, words_text, row_count, token_text};
 ghost use Rattle.cli_declarations.specs.Parts.{IsAfter, IsNameText, IsNaming, IsPartText, IsReferenceIn, IsReferred, bytes_text, guid_text_in_comment, has_reference, key_text, quoted_text};
 ghost use Rattle.cli_declarations.specs.Shown.{IsWithin, shown};
 ghost use Rattle.cli_declarations.specs.Texts.{Gains};
