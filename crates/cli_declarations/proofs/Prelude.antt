@@ -13,6 +13,6 @@ pub use Rattle.full_names.proofs.PieceLemmas.{method_in, property_in}
 pub use Rattle.cli_declarations.specs.Parts.{Part, IsPartText, text_limit, bytes_value, decoded_value, bytes_text, guid_text_in_comment, key_text, quoted_text, IsReferenceIn, IsReferred, has_reference, IsDeclarationAt, IsSignatureOf, address_text, layout_text, marshal_text, offset_text, referring_text, value_text}
 unfoldable pub use Rattle.cli_declarations.specs.Parts.{cut_text}
 pub use Rattle.cli_declarations.specs.Shown.{AreWithin, IsWithin, shown}
-pub use Rattle.cli_declarations.specs.Texts.{AreTexts, Begins, Ends, Gains}
+pub use Rattle.cli_declarations.specs.Texts.{AreTexts, Begins, Ends, Follows, Gains}
 pub use Rattle.cli_declarations.specs.declared.declared.Declared.{Declared}
 pub use Rattle.cli_declarations.specs.declared.layouts.Piece.{Piece}

@@ -1,5 +1,5 @@
 -- Texts one after another, and what a writer that escapes took.
-use Rattle.cli_declarations.proofs.Prelude.{◌≡◌, ◌∙◌, ℕ, zero, suc, ◌+◌, ◌-◌, ◌<◌, eqb, ltb, List, [], ◌∷◌, ◌++◌, length, get_or, drop, map, take, refl, ap, sym, subst, string_bytes, append_assoc, append-nil, length-append, arith, nat_tests, flat_map, flat_map_more, map_more, take_all, WritesInCalls, cut_text, text_limit, AreTexts, Begins, Declared, Ends, Gains}
+use Rattle.cli_declarations.proofs.Prelude.{◌≡◌, ◌∙◌, ℕ, zero, suc, ◌+◌, ◌-◌, ◌<◌, eqb, ltb, List, [], ◌∷◌, ◌++◌, length, get_or, drop, map, take, refl, ap, sym, subst, string_bytes, append_assoc, append-nil, length-append, arith, nat_tests, flat_map, flat_map_more, map_more, take_all, WritesInCalls, cut_text, text_limit, AreTexts, Begins, Declared, Ends, Follows}
 use Rattle.std.proofs.Math.Seq.{drop-append_seam}
 use Rattle.std.specs.List.{FoldsTo, concat}
 
@@ -10,12 +10,12 @@ module _ {X : Type 0} (is_text : X → List ℕ → Type 0) where
   texts_more (y ∷ ys) x a b are one = (are.0, are.1, are.2 ++ b, texts_more ys x are.2 b are.3 one, ap (λ t. t ++ b) are.4 ∙ append_assoc are.0 are.2 b)
 
   -- one more item of a list
-  pub gains_more : {Y : Type 0} (f : Y → X) (ys : List Y) (i : ℕ) (d : Y) (first between after : Declared) → i < length ys → Gains (AreTexts is_text (map f (take i ys))) first between
-      → Gains (is_text (f (get_or ys i d))) between after → Gains (AreTexts is_text (map f (take (i + 1) ys))) first after
+  pub gains_more : {Y : Type 0} (f : Y → X) (ys : List Y) (i : ℕ) (d : Y) (first between after : List ℕ) → i < length ys → Follows (AreTexts is_text (map f (take i ys))) first between
+      → Follows (is_text (f (get_or ys i d))) between after → Follows (AreTexts is_text (map f (take (i + 1) ys))) first after
   gains_more f ys i d first between after lt before one = (
     before.0 ++ one.0,
     rw (map_more f ys i d lt) (texts_more (map f (take i ys)) (f (get_or ys i d)) before.0 one.0 before.1 one.1),
-    one.2 ∙ ap (λ (t : List ℕ). t ++ one.0) before.2 ∙ append_assoc (string_bytes first.text) before.0 one.0,
+    one.2 ∙ ap (λ (t : List ℕ). t ++ one.0) before.2 ∙ append_assoc first before.0 one.0,
   )
 
 -- one more item of a list whose texts are appended
