@@ -1,5 +1,5 @@
--- The program's pieces and words are the parts and words of specs/.
-use Rattle.cli_declarations.proofs.Prelude.{◌≡◌, ◌∙◌, ℕ, List, ◌++◌, OnOk, Result, Ok, Err, ap, refl, subst, sym, string_bytes, IsOk, WritesInCalls, TableId, Metadata, IsPartText, Part, cut_text, shown, Begins, Declared, Ends, Follows, Gains, Piece}
+-- What was appended.
+use Rattle.cli_declarations.proofs.Prelude.{◌≡◌, ℕ, List, ◌++◌, OnOk, Result, Ok, Err, refl, string_bytes, IsOk, WritesInCalls, cut_text, Begins, Declared, Ends, Gains}
 use Rattle.cli_declarations.proofs.TextLemmas.{Takes, cut}
 
 pub on_ok : {T E P Q : Type 0} (result : Result T E) → OnOk result P → (P → Q) → OnOk result Q
@@ -18,12 +18,3 @@ module _ {T U E F : Type 0} (old begun out new : Declared) (written : Result T E
   pub some_gained : (Is : List ℕ → Type 0) → OnOk written ((text : List ℕ) × Is text × WritesInCalls Takes begun text out)
       → OnOk result (Gains (λ whole. (text : List ℕ) × Is text × (whole ≡ cut_text text)) old new)
   some_gained Is wrote = on_ok result ends (λ e. let it = was_ok written e.0 wrote in (cut_text it.0, (it.0, it.1, refl), cut old begun out new it.0 begins it.2 e.1))
-
--- the text of a piece is that of its part
-module _ {T E : Type 0} (model : Metadata) (table : TableId) (row : ℕ) (piece : Piece) {part : Part} (before after : List ℕ) (result : Result T E) (is : shown piece ≡ part) where
-  pub part_gained : OnOk result (Follows (IsPartText model table row part) before after) → OnOk result (Follows (IsPartText model table row (shown piece)) before after)
-  part_gained gained = subst (λ (p : Part). OnOk result (Follows (IsPartText model table row p) before after)) (sym is) gained
-
-  pub words_gained : {text own : List ℕ} → text ≡ own → IsPartText model table row part own → OnOk result (after ≡ before ++ text)
-      → OnOk result (Follows (IsPartText model table row (shown piece)) before after)
-  words_gained {text} {own} same of gained = part_gained (on_ok result gained (λ e. (own, of, e ∙ ap (λ (t : List ℕ). before ++ t) same)))

@@ -6,11 +6,11 @@ pub use Rattle.std.proofs.lemmas.List.{flat_map_more, map_more, take_all}
 pub use Rattle.std.specs.Fmt.{WritesInCalls}
 unfoldable pub use Rattle.table_schema.specs.CellColumns.{cell_columns}
 pub use Rattle.table_schema.specs.declared.column.ColumnKind.{ColumnKind}
-pub use Rattle.cli_declarations.specs.Words.{TableId, CustomAttribute, Field, MethodDef, Property, Param, Token, Cell, number_in, HasRow, Metadata, cell_in, count_in, shown_word, words_text, words_of, token_text, hexadecimal}
+pub use Rattle.cli_declarations.specs.Words.{TableId, CustomAttribute, Field, MethodDef, Property, Param, Token, Cell, number_in, HasRow, Metadata, cell_in, count_in, shown_word, words_text, token_text}
 pub use Rattle.reading.specs.Shown.{Shows}
 unfoldable pub use Rattle.opening.specs.Views.{row_count}
 pub use Rattle.full_names.proofs.PieceLemmas.{method_in, property_in}
-pub use Rattle.cli_declarations.specs.Parts.{Part, IsPartText, text_limit, bytes_value, decoded_value, bytes_text, guid_text_in_comment, key_text, quoted_text, IsReferenceIn, IsReferred, has_reference, IsDeclarationAt, IsSignatureOf, address_text, layout_text, marshal_text, offset_text, referring_text, value_text}
+pub use Rattle.cli_declarations.specs.Parts.{IsPartText, text_limit, bytes_value, decoded_value, IsReferenceIn, IsReferred, has_reference, IsDeclarationAt, IsSignatureOf, address_text, layout_text, marshal_text, offset_text, referring_text, value_text}
 unfoldable pub use Rattle.cli_declarations.specs.Parts.{cut_text}
 pub use Rattle.cli_declarations.specs.Shown.{AreWithin, IsWithin, shown}
 pub use Rattle.cli_declarations.specs.Texts.{AreTexts, Begins, Ends, Follows, Gains}

@@ -7,10 +7,12 @@ ghost use Rattle.cli_declarations.specs.Texts.{Gains};
 
 use crate::declared::{Declared, Pushed, TextLimit, begin_text, end_text, push_plain};
 use blob_values::Descriptor;
-use cli_values::{push_constant, push_decimal, push_eight_digits, push_value_bytes};
+use cli_values::{push_constant, push_value_bytes};
 use declarations::{descriptor_in, write_descriptor};
 use navigation::{Link, Neighbours};
 use opening::{TableId, Token, View, bytes_or_empty, number_or_zero};
+use std::alloc::AllocError;
+use std::fmt::Write;
 use type_heads::write_items;
 
 /// Appends the value of a constant.
@@ -25,28 +27,21 @@ fn push_value(code: u32, value: &[u8], declared: &mut Declared) -> Pushed
 fn push_layout(packing: u32, size: u32, declared: &mut Declared) -> Pushed
     ensures { OnOk result (string_bytes declared.new.text ≡ string_bytes declared.old.text ++ layout_text packing size) }
 {
-    push_plain(" { .pack ", declared)?;
-    push_decimal(packing as u64, &mut declared.text)?;
-    push_plain(" .size ", declared)?;
-    push_decimal(size as u64, &mut declared.text)?;
-    push_plain(" }", declared)
+    write!(declared.text, " {{ .pack {packing} .size {size} }}").map_err(|_| AllocError)
 }
 
 /// Appends the offset of a field.
 fn push_offset(offset: u32, declared: &mut Declared) -> Pushed
     ensures { OnOk result (string_bytes declared.new.text ≡ string_bytes declared.old.text ++ offset_text offset) }
 {
-    push_plain(" [", declared)?;
-    push_decimal(offset as u64, &mut declared.text)?;
-    push_plain("]", declared)
+    write!(declared.text, " [{offset}]").map_err(|_| AllocError)
 }
 
 /// Appends the address of the data of a field.
 fn push_address(address: u32, declared: &mut Declared) -> Pushed
     ensures { OnOk result (string_bytes declared.new.text ≡ string_bytes declared.old.text ++ address_text address) }
 {
-    push_plain(" at D_", declared)?;
-    push_eight_digits(address as u64, &mut declared.text)
+    write!(declared.text, " at D_{address:08x}").map_err(|_| AllocError)
 }
 
 /// Appends a descriptor, up to the limit.
