@@ -134,8 +134,8 @@ fn members_in_order(
 {
     let mut order = Vec::new(declared.alloc);
     let mut cells = CellCursor::new(source.neighbours.view);
-    for owner in 1..source.neighbours.view.count(list.owner()) + 1 {
-        let rows = run_of(&mut cells, list, owner);
+    for earlier in 0..source.neighbours.view.count(list.owner()) {
+        let rows = run_of(&mut cells, list, earlier + 1);
         push_in_order(source, list.member(), rows, declared, &mut order)?;
     }
     Ok(order)

@@ -301,7 +301,6 @@ pub fn print_outline_of<W: Write>(
     if !declares(&source, token) {
         return Outcome::NoSuchType;
     }
-    let mut declared = Declared::new(alloc);
-    print_row(&source, Choice::All, token, &mut declared, out);
+    print_row(&source, Choice::All, token, &mut Declared::new(alloc), out);
     Outcome::Printed
 }
