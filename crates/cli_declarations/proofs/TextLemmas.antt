@@ -41,7 +41,7 @@ Takes old text new = (string_bytes new.text ≡ string_bytes old.text ++ take (o
 
 folds_cut : (old : Declared) (parts : List (List ℕ)) (new : Declared) → FoldsTo Takes old parts new → Takes old (concat parts) new
 folds_cut old [] new is =
-    let none : take (old.left - 1) [] ≡ [] = take_all (old.left - 1) [] (omega arith) in
+    let none : take {A = ℕ} (old.left - 1) [] ≡ [] = take_all (old.left - 1) [] (omega arith) in
     let all : old.left ≡ old.left - 0 = omega arith in
     subst (λ (last : Declared). Takes old [] last) is (rw none (sym (append-nil (string_bytes old.text))), all, refl)
 folds_cut old (part ∷ parts) new (between, one, more) =
