@@ -25,10 +25,10 @@ module _ {W : Type 0} {options : OutlineOptions} {model : Metadata} {of : Choice
 
   -- a row that is not chosen, and one that is
   pub row_passed : {a : Printed W} {row : Token} → IsChosen model of false row → PrintsChosen options model of a a (row ∷ [])
-  row_passed {a} no = record { found = []; chosen = ([], refl, inr (no, refl)); printed = rows_nothing options model a }
+  row_passed {a} passed = record { found = []; chosen = ([], refl, inr (passed, refl)); printed = rows_nothing options model a }
 
   pub row_chosen : {a b : Printed W} {row : Token} → IsChosen model of true row → PrintsRows options model a b (row ∷ []) → PrintsChosen options model of a b (row ∷ [])
-  row_chosen {row = row} yes printed = record { found = row ∷ []; chosen = ([], refl, inl (yes, refl)); printed = printed }
+  row_chosen {row = row} chosen printed = record { found = row ∷ []; chosen = ([], refl, inl (chosen, refl)); printed = printed }
 
   pub chosen_more : {a b c : Printed W} {xs ys : List Token} → PrintsChosen options model of a b xs → PrintsChosen options model of b c ys → PrintsChosen options model of a c (xs ++ ys)
   chosen_more {a} {b} {c} {xs} {ys} first second = record {

@@ -1,10 +1,8 @@
 -- The first word of a declaration, and its line in each form.
-use Rattle.cli_outline.proofs.Prelude.{◌≡◌, ◌<◌, Bool, true, false, not, ℕ, List, None, Some, sym, arith, [], ◌∷◌, ◌++◌, Option, refl, subst, get_or, length, unwrap_or, position, position_or_len, nat_tests, Token, Text, Letters, JsonLines, Part, line_from, style, styled_text, as_is, Tokens, declaration_line, directive_part, ends_word, text_line, type_part, unindented, Asked, Printed, Prints}
+use Rattle.cli_outline.proofs.Prelude.{◌≡◌, ◌<◌, Bool, true, false, not, ℕ, List, None, Some, sym, arith, [], ◌∷◌, ◌++◌, Option, refl, subst, get_or, length, unwrap_or, position, position_or_len, nat_tests, Token, Text, Letters, JsonLines, Part, line_from, style, styled_text, as_is, Tokens, declaration_line, ends_word, json_line, text_line, unindented, Asked, Printed, Prints}
 use Rattle.std.specs.Str.{IsCharBoundary}
 use Rattle.std.proofs.lemmas.List.Sums.{passes_at_first, prefix_len-le-length}
 use Rattle.cli_lines.specs.declared.parts.Form.{Form}
-use Rattle.cli_lines.specs.declared.names.Name.TheVariants as name
-use Rattle.cli_lines.specs.Lines.{member, plain, token}
 use Rattle.cli_sending.specs.Letters.{readable_after}
 use Rattle.cli_names.specs.declared.source.Tokens.TheVariants.{Shown, Hidden}
 
@@ -40,8 +38,7 @@ same_text JsonLines file tokens of class directive declared is = absurd (is refl
 
 -- a line of JSON has nothing else
 pub same_json : (file : Option (List ℕ)) (tokens : Tokens) (of : Token) (class : Option Token) (directive : Bool) (declared : List ℕ)
-    → styled_text (style JsonLines file)
-    ((member name.Token (token of) ∷ type_part class ∷ directive_part directive (unindented declared) ∷ member name.Text (plain (as_is (unindented declared))) ∷ []) ∷ [])
+    → styled_text (style JsonLines file) (json_line of class directive (unindented declared) (as_is (unindented declared)) ∷ [])
     ≡ styled_text (style JsonLines file) (declaration_line tokens of class directive declared ∷ [])
 unfolding declaration_line styled_text line_from
 same_json file Shown of class directive declared = refl

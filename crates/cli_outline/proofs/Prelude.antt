@@ -14,7 +14,7 @@ pub use Rattle.navigation.specs.declared.keyed.KeyedRow.{KeyedRow}
 unfoldable pub use Rattle.cli_lines.specs.Lines.{line_from, styled_text}
 pub use Rattle.cli_names.specs.declared.orders.TableOrder.{TableOrder}
 pub use Rattle.cli_names.specs.declared.refs.Wanted.{Wanted}
-pub use Rattle.cli_outline.specs.Declarations.{directive_part, ends_word, text_line, type_part, unindented, has_directive}
+pub use Rattle.cli_outline.specs.Declarations.{ends_word, json_line, text_line, unindented, has_directive}
 unfoldable pub use Rattle.cli_outline.specs.Declarations.{declaration_line}
 pub use Rattle.cli_outline.specs.Orders.{AreMembers, keyed_cmp, IsKeyed, key_limit, row_of_keyed, AreGrouped, grouping_of}
 pub use Rattle.cli_outline.specs.Outline.{all_rows, members, refs_rows, row_of}

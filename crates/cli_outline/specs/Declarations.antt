@@ -48,6 +48,10 @@ declaration_line tokens of class directive declared =
     member name.Token (token of) ∷ type_part class ∷ directive_part directive (unindented declared)
     ∷ note (plain declared) ∷ member name.Text (plain (as_is (unindented declared))) ∷ comment tokens of
 
--- the parts that are in a line of text
+-- the parts that are in a line of text, and those that are in a line of JSON, whose text is `named`
 abbrev pub text_line : Tokens → Token → List ℕ → List Part
 text_line tokens of declared = note (plain declared) ∷ comment tokens of
+
+abbrev pub json_line : Token → Option Token → Bool → List ℕ → List ℕ → List Part
+json_line of class directive declared named =
+    member name.Token (token of) ∷ type_part class ∷ directive_part directive declared ∷ member name.Text (plain named) ∷ []

@@ -3,7 +3,7 @@ ghost use Rattle.std.specs.Prelude.{◌≡◌, ◌≤◌, ◌∷◌, [], OnOk, s
 ghost use Rattle.std.specs.List.{before_first, position};
 ghost use Rattle.cli_outline.specs.Words.{Metadata, IsModel, row_count, JsonLines, Prints, Tokens as TheTokens};
 ghost use Rattle.cli_lines.specs.Shown.{shown};
-ghost use Rattle.cli_outline.specs.Declarations.{declaration_line, directive_part, ends_word, has_directive, text_line, type_part};
+ghost use Rattle.cli_outline.specs.Declarations.{declaration_line, directive_part, ends_word, has_directive, json_line, text_line, type_part};
 ghost use Rattle.cli_outline.specs.Outline.{row_of};
 ghost use Rattle.cli_outline.specs.Printed.{IsRowText};
 ghost use Rattle.cli_outline.specs.Subjects.{PrintsChosen};
@@ -89,8 +89,27 @@ fn print_text<W: Write>(tokens: Tokens, of: Token, text: &str, out: &mut Printer
     }
 }
 
+/// Prints the line of a declaration as JSON. Its text is `named`.
+fn print_json<'t, W: Write>(
+    of: Token,
+    class: Option<Token>,
+    has_directive: bool,
+    text: &'t str,
+    named: &'t str,
+    out: &mut Printer<'_, W>,
+)
+    ensures { Prints out.old out.new (json_line of class has_directive text.now named.now ∷ []) }
+{
+    out.line(&[
+        Member(Name::Token, Value::Token(of)),
+        type_part(class),
+        directive_part(has_directive, text),
+        Member(Name::Text, Plain(named)),
+    ]);
+}
+
 /// Prints the line of a declaration as JSON, with the names as they are in the file.
-fn print_json<W: Write>(
+fn print_named<W: Write>(
     of: Token,
     class: Option<Token>,
     has_directive: bool,
@@ -102,12 +121,7 @@ fn print_json<W: Write>(
     let text = declared.text.trim_ascii_start();
     let mut room = Vec::new(declared.alloc);
     match text_as_is(text, &mut room) {
-        Ok(named) => out.line(&[
-            Member(Name::Token, Value::Token(of)),
-            type_part(class),
-            directive_part(has_directive, text),
-            Member(Name::Text, Plain(named)),
-        ]),
+        Ok(named) => print_json(of, class, has_directive, text, named, out),
         Err(_) => out.fail(),
     }
 }
@@ -159,7 +173,7 @@ pub(crate) fn print_row<W: Write>(
             }
             Form::JsonLines => {
                 let has_directive = has_directive(source.neighbours.view, token);
-                print_json(token, class, has_directive, declared, out)
+                print_named(token, class, has_directive, declared, out)
             }
         },
         Err(_) => out.fail(),

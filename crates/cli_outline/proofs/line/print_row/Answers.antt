@@ -35,8 +35,8 @@ returns-in-JsonLines g c = λ model is.
     let class = c.type_of_member-class.result in
     let text = string_bytes c.declare_row.new.declared.text in
     row_chosen (rw c.if-not-is_chosen.false at (c.is_chosen.ensures model is))
-    (row_printed options model c.args.out.now c.print_json.new.out of _ (sym (c.shows.ensures model is) ∙ c.if-not-shows.false) (text, c.in-Ok.ensures model is, class, c.type_of_member-class.ensures.member model is, refl)
-    (rw (c.has_directive-has_directive.ensures model is) at (c.print_json.ensures (sym c.form.ensures ∙ c.in-JsonLines.is) options.tokens)))
+    (row_printed options model c.args.out.now c.print_named.new.out of _ (sym (c.shows.ensures model is) ∙ c.if-not-shows.false) (text, c.in-Ok.ensures model is, class, c.type_of_member-class.ensures.member model is, refl)
+    (rw (c.has_directive-has_directive.ensures model is) at (c.print_named.ensures (sym c.form.ensures ∙ c.in-JsonLines.is) options.tokens)))
 
 pub returns-in-Err : goal.returns-in-Err
 returns-in-Err g c = λ model is.
